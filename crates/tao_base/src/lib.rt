@@ -1,0 +1,24 @@
+//! The values of the graph store: ids, keys, objects, edges, the entries of a shard's log, writes,
+//! queries and answers.
+//!
+//! Contracts see each type over a vector as a list, a text as the list of its bytes, an id as its
+//! number, and every other type as the record or the variant that it is.
+#![tactic(auto)]
+
+pub mod data;
+pub mod edge;
+pub mod entry;
+pub mod id;
+pub mod memory;
+pub mod query;
+pub mod text;
+pub mod write;
+
+pub use data::{Data, Pair};
+pub use edge::{Edge, EdgeState, Edges, Object, Stamp, Time};
+pub use entry::{Change, Entry, Kind, Origin, Touch, Touches};
+pub use id::{AType, Id, Key, OType, StoreName};
+pub use memory::OutOfMemory;
+pub use query::{Answer, IdSet, Query};
+pub use text::{Bytes, Text};
+pub use write::Write;

@@ -1,0 +1,73 @@
+//! Queries and their answers.
+ghost use Rattle.std.specs.Prelude.{◌≡◌};
+
+use super::edge::{Edges, Object, Time};
+use super::id::{AType, Id};
+use std::marker::Model;
+
+/// Ids, each once, in rising order.
+#[derive(Clone, Debug, Drop)]
+pub struct IdSet {
+    ids: Vec<Id>,
+}
+
+impl Model for IdSet {
+    ghost use Rattle.std.specs.Prelude.{List, ℕ};
+    ghost use Rattle.tao_base.specs.Ids.{IsRising};
+
+    ghost Value = { List ℕ };
+
+    ghost view = { λ s. s.ids.items };
+
+    ghost invariant = { λ s. IsRising s.ids.items };
+}
+
+impl IdSet {
+    /// The ids, in rising order.
+    pub fn as_slice(&self) -> &[Id]
+        ensures { result.now ≡ self.now }
+    {
+        self.ids.as_slice()
+    }
+}
+
+/// What a client asks to be read: an object, or of an association list the edges to some ids, its
+/// length, the edges at some places, or the newest edges of some times.
+#[derive(Clone, Debug, Drop)]
+pub enum Query {
+    ObjGet {
+        id: Id,
+    },
+    AssocGet {
+        id1: Id,
+        atype: AType,
+        ids: IdSet,
+        high: Option<Time>,
+        low: Option<Time>,
+    },
+    AssocCount {
+        id1: Id,
+        atype: AType,
+    },
+    AssocRange {
+        id1: Id,
+        atype: AType,
+        pos: u32,
+        limit: u32,
+    },
+    AssocTimeRange {
+        id1: Id,
+        atype: AType,
+        high: Time,
+        low: Time,
+        limit: u32,
+    },
+}
+
+/// What a query is answered with.
+#[derive(Clone, Debug, Drop)]
+pub enum Answer {
+    Object(Option<Object>),
+    Edges(Edges),
+    Count(u64),
+}

@@ -23,10 +23,10 @@ use Rattle.tao_base.specs.declared.entry.Touch.{Touch}
 use Rattle.tao_base.specs.declared.write.Write.{Write}
 use Rattle.tao_base.specs.declared.write.Write.TheVariants.{ObjAdd, ObjUpdate, ObjDelete, AssocAdd, AssocDelete, AssocChangeType}
 use Rattle.graph_model.proofs.Members.{IsIn, all_in}
-use Rattle.graph_model.proofs.NearEnds.{IsOneWrite, both_written, near_ends}
+use Rattle.graph_model.proofs.BothEnds.{IsOneWrite, both_written, near_ends}
 use Rattle.graph_model.proofs.Sound.{sound_grows}
 use Rattle.graph_model.proofs.Touches.{touch_follows, next_is_news}
-use Rattle.graph_model.proofs.Updates.{entry_of, updates_follow, updates_keep_ends}
+use Rattle.graph_model.proofs.Written.{entry_of, updates_follow, updates_keep_ends}
 use Rattle.graph_model.specs.Edges.{edge_record}
 use Rattle.graph_model.specs.Keys.{key_shard}
 use Rattle.graph_model.specs.Log.{object}

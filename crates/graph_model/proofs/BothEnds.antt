@@ -12,11 +12,12 @@ use Rattle.tao_base.specs.declared.edge.EdgeState.{EdgeState}
 use Rattle.tao_base.specs.declared.entry.Entry.{Entry}
 use Rattle.tao_base.specs.declared.entry.Origin.{Origin}
 use Rattle.graph_model.proofs.Members.{IsIn, PairsByRecursion, if_some, in_any, in_append_cases, in_append_left, in_append_right, in_filter, in_filter_map, in_filter_map_parts, in_filter_parts, none_in, pairs_append, pairs_filter, pairs_filter_map, pairs_weaker}
+use Rattle.graph_model.proofs.NearEnds.{near_ends_are_paired}
 use Rattle.graph_model.proofs.Written.{AreApart, AreWritten, CutBefore, IsCutThenLive}
 use Rattle.graph_model.specs.Edges.{edge_record}
 use Rattle.graph_model.specs.Merges.{is_news}
-use Rattle.graph_model.specs.Soundness.{EdgeUpdate, other_end}
-use Rattle.graph_model.specs.WriteLaws.{InversesMatch, NearEndsAgree}
+use Rattle.graph_model.specs.Soundness.{EdgeUpdate, IsSoundOf, other_end}
+use Rattle.graph_model.specs.EndLaws.{InversesMatch}
 use Rattle.graph_model.specs.Writes.{is_near, same_edge, when}
 
 pub update_same : (u v : EdgeUpdate) → u.0 ≡ v.0 → u.1 ≡ v.1 → u.2 ≡ v.2 → u.3 ≡ v.3 → u ≡ v
@@ -108,7 +109,7 @@ same_edge-parts u v h =
     (eqb-true u.0 v.0 inner.0, (λ i. record { 0 = number i }), eqb-true u.2 v.2 outer.1)
 
 module _ (types : EdgeTypes) (shard : ℕ) (log : List Entry) (id1 id2 : ℕ) (us : List EdgeUpdate)
-    (match : InversesMatch types) (agree : NearEndsAgree types shard log) (here : shard_of id1 ≡ shard) (w : IsOneWrite types log id1 id2 us) where
+    (match : InversesMatch types) (sound : IsSoundOf types shard log) (here : shard_of id1 ≡ shard) (w : IsOneWrite types log id1 id2 us) where
   own_here : (u : EdgeUpdate) → IsIn u us → shard_of u.0 ≡ shard
   own_here u h = ap shard_of (w.ids u h).0 ∙ here
 
@@ -118,7 +119,7 @@ module _ (types : EdgeTypes) (shard : ℕ) (log : List Entry) (id1 id2 : ℕ) (u
   near_news : (v : EdgeUpdate) → IsNearEnd types us v → is_news log v ≡ true
   near_news v n =
       let u : EdgeUpdate = n.of in
-      let there : edge_record log u.0 u.1 u.2 ≡ edge_record log u.2 v.1 u.0 = agree u.0 u.1 v.1 u.2 (own_here u n.is_in) (n.near ∙ own_here u n.is_in) n.other.inverse in
+      let there : edge_record log u.0 u.1 u.2 ≡ edge_record log u.2 v.1 u.0 = near_ends_are_paired shard log types match sound u.0 u.1 v.1 u.2 n.other.inverse (own_here u n.is_in) (n.near ∙ own_here u n.is_in) in
       let at : edge_record log v.0 v.1 v.2 ≡ edge_record log u.2 v.1 u.0 = λ i. edge_record log (n.other.id1 i) v.1 (n.other.id2 i) in
       same_news log u v n.other.state (at ∙ sym there) ∙ w.news u n.is_in
 

@@ -28,11 +28,12 @@ use Rattle.graph_model.proofs.Sound.{sound_grows}
 use Rattle.graph_model.proofs.Touches.{touch_follows, next_is_news}
 use Rattle.graph_model.proofs.Written.{entry_of, updates_follow, updates_keep_ends}
 use Rattle.graph_model.specs.Edges.{edge_record}
+use Rattle.graph_model.specs.EndLaws.{InversesMatch}
 use Rattle.graph_model.specs.Keys.{key_shard}
 use Rattle.graph_model.specs.Log.{object}
 use Rattle.graph_model.specs.Merges.{is_news}
 use Rattle.graph_model.specs.Soundness.{EdgeUpdate, TouchFollows, CanFollow, AreInOrder, IsSoundOf, KeepsEnds}
-use Rattle.graph_model.specs.WriteLaws.{ForwardFollows, InversesMatch, IsNewOrigin, IsAdmitted, NearEndsAgree, PlainAddFollows, StaysSound}
+use Rattle.graph_model.specs.WriteLaws.{ForwardFollows, IsNewOrigin, IsAdmitted, PlainAddFollows, StaysSound}
 use Rattle.graph_model.specs.Writes.{edge_touch, forward_entry, is_addition, is_near, next_entry, next_id, next_stamp, touch_of, when, with_near_ends}
 
 -- nothing, whatever the test says
@@ -68,12 +69,12 @@ stays_sound types shard log e sound follows ends = record {
 
 -- the entry that writes records at id1 and their near ends
 edges_stay : (types : EdgeTypes) (shard : ℕ) (log : List Entry) (kind : Kind) (origin : Origin) (id1 id2 : ℕ) (us : List EdgeUpdate) (e : Entry)
-    → InversesMatch types → NearEndsAgree types shard log → IsSoundOf types shard log → IsNewOrigin log origin → shard_of id1 ≡ shard → IsOneWrite types log id1 id2 us
+    → InversesMatch types → IsSoundOf types shard log → IsNewOrigin log origin → shard_of id1 ≡ shard → IsOneWrite types log id1 id2 us
     → next_entry log kind origin (map (edge_touch log) (with_near_ends types us)) ≡ Some e → StaysSound types shard log e
-edges_stay types shard log kind origin id1 id2 [] e match agree sound new here w h = absurd (cc)
-edges_stay types shard log kind origin id1 id2 (u ∷ us) e match agree sound new here w h =
+edges_stay types shard log kind origin id1 id2 [] e match sound new here w h = absurd (cc)
+edges_stay types shard log kind origin id1 id2 (u ∷ us) e match sound new here w h =
     let given = given_entry log kind origin (map (edge_touch log) (with_near_ends types (u ∷ us))) e h in
-    let written = both_written types shard log id1 id2 (u ∷ us) match agree here w origin in
+    let written = both_written types shard log id1 id2 (u ∷ us) match sound here w origin in
     subst (StaysSound types shard log) given.1 (stays_sound types shard log _ sound
     (updates_follow types shard log kind origin (u ∷ us) (near_ends types (u ∷ us)) (omega arith) written new)
     (updates_keep_ends types shard log kind origin (u ∷ us) (near_ends types (u ∷ us)) written))
@@ -173,27 +174,27 @@ found_object_stays types shard log kind origin id change (Some old) e sound new 
 next_id-shard : (shard : ℕ) (log : List Entry) → count_by (λ e. is_addition e.kind) log + 1 < 2 ^ 48 → shard_of (next_id shard log) ≡ shard
 next_id-shard shard log room = omega arith
 
-forward_stays : (types : EdgeTypes) (shard : ℕ) (log : List Entry) (origin : Origin) (write : Write) (e : Entry) → IsAdmitted types shard log origin write → NearEndsAgree types shard log
+forward_stays : (types : EdgeTypes) (shard : ℕ) (log : List Entry) (origin : Origin) (write : Write) (e : Entry) → IsAdmitted types shard log origin write
     → forward_entry types log origin write ≡ Some e → StaysSound types shard log e
-forward_stays types shard log origin (ObjAdd on otype payload) e may agree h =
+forward_stays types shard log origin (ObjAdd on otype payload) e may h =
     let here : shard_of (next_id on log) ≡ shard = next_id-shard on log may.here.1 ∙ may.here.0 in
     found_object_stays types shard log ObjAdded origin (next_id on log) (λ old. PutObject old) (Some (record { otype = otype; payload = payload })) e may.sound may.new here h
-forward_stays types shard log origin (ObjUpdate id payload) e may agree h =
+forward_stays types shard log origin (ObjUpdate id payload) e may h =
     found_object_stays types shard log ObjUpdated origin id (λ old. PutObject (record old { payload = payload })) (object log id) e may.sound may.new may.here h
-forward_stays types shard log origin (ObjDelete id) e may agree h =
+forward_stays types shard log origin (ObjDelete id) e may h =
     found_object_stays types shard log ObjDeleted origin id (λ old. DropObject) (object log id) e may.sound may.new may.here h
-forward_stays types shard log origin (AssocAdd id1 atype id2 time payload) e may agree h =
-    edges_stay types shard log AssocAdded origin id1 id2 _ e may.inverses agree may.sound may.new may.here
+forward_stays types shard log origin (AssocAdd id1 atype id2 time payload) e may h =
+    edges_stay types shard log AssocAdded origin id1 id2 _ e may.inverses may.sound may.new may.here
     (one_record types log id1 atype id2 (Live time payload (next_stamp log id1 atype id2)) refl) h
-forward_stays types shard log origin (AssocDelete id1 atype id2) e may agree h =
-    edges_stay types shard log AssocDeleted origin id1 id2 (cut_where_live log id1 atype id2 (edge_record log id1 atype id2)) e may.inverses agree may.sound may.new may.here
+forward_stays types shard log origin (AssocDelete id1 atype id2) e may h =
+    edges_stay types shard log AssocDeleted origin id1 id2 (cut_where_live log id1 atype id2 (edge_record log id1 atype id2)) e may.inverses may.sound may.new may.here
     (cut_record types log id1 atype id2 (edge_record log id1 atype id2)) h
-forward_stays types shard log origin (AssocChangeType id1 atype id2 newtype) e may agree h =
-    edges_stay types shard log TypeChanged origin id1 id2 (move_where_live log id1 atype id2 newtype (edge_record log id1 atype id2)) e may.inverses agree may.sound may.new may.here
+forward_stays types shard log origin (AssocChangeType id1 atype id2 newtype) e may h =
+    edges_stay types shard log TypeChanged origin id1 id2 (move_where_live log id1 atype id2 newtype (edge_record log id1 atype id2)) e may.inverses may.sound may.new may.here
     (moved_records types log id1 atype id2 newtype (edge_record log id1 atype id2) may.inverses may.changes.0 may.changes.1) h
 
 pub forward_follows : (shard : ℕ) (log : List Entry) (origin : Origin) (write : Write) (e : Entry) → ForwardFollows shard log origin write e
-forward_follows shard log origin write e = record { stays = λ types may agree h. forward_stays types shard log origin write e may agree h }
+forward_follows shard log origin write e = record { stays = λ types may h. forward_stays types shard log origin write e may h }
 
 pub plain_add_follows : (log : List Entry) (origin : Origin) (id1 : Id) (atype : AType) (id2 : Id) (time : ℕ) (payload : List Pair) → PlainAddFollows log origin id1 atype id2 time payload
 plain_add_follows log origin id1 atype id2 time payload =

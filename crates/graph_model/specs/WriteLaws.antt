@@ -13,6 +13,7 @@ use Rattle.tao_base.specs.declared.entry.Origin.{Origin}
 use Rattle.tao_base.specs.declared.write.Write.{Write}
 use Rattle.tao_base.specs.declared.write.Write.TheVariants.{ObjAdd, ObjUpdate, ObjDelete, AssocAdd, AssocDelete, AssocChangeType}
 use Rattle.graph_model.specs.Edges.{edge_record, live_time, number_of}
+use Rattle.graph_model.specs.EndLaws.{InversesMatch}
 use Rattle.graph_model.specs.Log.{version}
 use Rattle.graph_model.specs.Soundness.{CanFollow, IsSoundOf, KeepsEnds}
 use Rattle.graph_model.specs.Writes.{forward_entry, is_addition}
@@ -44,15 +45,6 @@ pub record PlainAddFollows (log : List Entry) (origin : Origin) (id1 : Id) (atyp
   pub entry_is : (types : EdgeTypes) → types.inverse atype ≡ None
       → forward_entry types log origin (AssocAdd id1 atype id2 time payload) ≡ Some (plain_add log origin id1 atype id2 time payload)
   pub follows : IsNewOrigin log origin → CanFollow log (plain_add log origin id1 atype id2 time payload)
-
--- the inverse of a type's inverse is the type
-abbrev pub InversesMatch : EdgeTypes → Type 0
-InversesMatch types = (atype inverse : AType) → types.inverse atype ≡ Some inverse → types.inverse inverse ≡ Some atype
-
--- both ends of an edge on the shard have one record, or none
-abbrev pub NearEndsAgree : EdgeTypes → ℕ → List Entry → Type 0
-NearEndsAgree types shard log = (id1 : Id) (atype inverse : AType) (id2 : Id) → shard_of id1 ≡ shard → shard_of id2 ≡ shard → types.inverse atype ≡ Some inverse
-    → edge_record log id1 atype id2 ≡ edge_record log id2 inverse id1
 
 -- the write is of the shard; an object that is added has room for its serial
 abbrev pub IsOfShard : ℕ → List Entry → Write → Type 0
@@ -88,5 +80,5 @@ pub record IsAdmitted (types : EdgeTypes) (shard : ℕ) (log : List Entry) (orig
 
 -- the entry of such a write keeps the log sound
 pub record ForwardFollows (shard : ℕ) (log : List Entry) (origin : Origin) (write : Write) (e : Entry) : Type 0 where
-  pub stays : (types : EdgeTypes) → IsAdmitted types shard log origin write → NearEndsAgree types shard log
+  pub stays : (types : EdgeTypes) → IsAdmitted types shard log origin write
       → forward_entry types log origin write ≡ Some e → StaysSound types shard log e

@@ -1,5 +1,5 @@
 -- The records of a write at id1, with those of their near ends, are the records of an entry that follows.
-use Rattle.std.proofs.Common.{◌≡◌, ℕ, ◌≢◌, Bool, true, false, List, ◌++◌, inl, inr, refl, sym, ap, ◌∙◌, subst}
+use Rattle.std.proofs.Common.{◌≡◌, ℕ, ◌<◌, ◌≢◌, Bool, true, false, List, ◌++◌, length, inl, inr, refl, sym, ap, ◌∙◌, subst}
 use Rattle.std.proofs.lemmas.Bool.{cases_Bool, true≢false, not-true, not_from_false, eq-eqb, eqb-true, and_from, and_parts}
 use Rattle.std.proofs.lemmas.Option.{same_Some}
 use Rattle.std.specs.List.{list_any}
@@ -40,11 +40,19 @@ found_other types u v (Some inverse) e h =
 pub other_end_is : (types : EdgeTypes) (u v : EdgeUpdate) → other_end types u ≡ Some v → IsOtherEnd types u v
 other_end_is types u v h = found_other types u v (types.inverse u.1) refl h
 
+-- the other ends of a cut and a set
+pub other_mates : (types : EdgeTypes) (x y u v : EdgeUpdate) → IsOtherEnd types x u → IsOtherEnd types y v → CutBefore x y → CutBefore u v
+other_mates types x y u v a b cut = record {
+  states = subst (λ s. IsCutThenLive s v.3) (sym a.state) (subst (λ s. IsCutThenLive x.3 s) (sym b.state) cut.states);
+  id1 = a.id1 ∙ cut.id2 ∙ sym b.id1;
+  id2 = a.id2 ∙ cut.id1 ∙ sym b.id2;
+}
+
 -- one type has one inverse
 pub one_inverse : (types : EdgeTypes) (a b c d : AType) → InversesMatch types → types.inverse a ≡ Some c → types.inverse b ≡ Some d → c ≡ d → a ≡ b
 one_inverse types a b c d match h k e = same_Some a b (sym (match a c h) ∙ ap types.inverse e ∙ match b d k)
 
-when_some : (b : Bool) (o : Option EdgeUpdate) (v : EdgeUpdate) → when b o ≡ Some v → (b ≡ true) × (o ≡ Some v)
+pub when_some : (b : Bool) (o : Option EdgeUpdate) (v : EdgeUpdate) → when b o ≡ Some v → (b ≡ true) × (o ≡ Some v)
 when_some true o v h = (refl, h)
 when_some false o v h = absurd (cc)
 
@@ -138,13 +146,8 @@ module _ (types : EdgeTypes) (shard : ℕ) (log : List Entry) (id1 id2 : ℕ) (u
 
   near_mates : (x y : EdgeUpdate) (u v : EdgeUpdate) → IsMate x y → when (is_near x) (other_end types x) ≡ Some u → when (is_near y) (other_end types y) ≡ Some v → CutBefore u v
   near_mates x y u v m h k =
-      let a = other_end_is types x u (when_some (is_near x) (other_end types x) u h).1 in
-      let b = other_end_is types y v (when_some (is_near y) (other_end types y) v k).1 in
-      record {
-        states = subst (λ s. IsCutThenLive s v.3) (sym a.state) (subst (λ s. IsCutThenLive x.3 s) (sym b.state) m.cut.states);
-        id1 = a.id1 ∙ m.cut.id2 ∙ sym b.id1;
-        id2 = a.id2 ∙ m.cut.id1 ∙ sym b.id2;
-      }
+      other_mates types x y u v (other_end_is types x u (when_some (is_near x) (other_end types x) u h).1)
+      (other_end_is types y v (when_some (is_near y) (other_end types y) v k).1) m.cut
 
   cross_apart : (u v : EdgeUpdate) → IsIn u us → IsNearEnd types us v → AreApart u v
   cross_apart u v h n e =
@@ -194,18 +197,22 @@ module _ (types : EdgeTypes) (shard : ℕ) (log : List Entry) (id1 id2 : ℕ) (u
   of_both : (P : EdgeUpdate → Type 0) → ((u : EdgeUpdate) → IsIn u us → P u) → ((v : EdgeUpdate) → IsNearEnd types us v → P v) → (u : EdgeUpdate) → IsIn u (us ++ near_ends types us) → P u
   of_both P f g u h = elim (in_append_cases us (near_ends types us) u h) [ inl k ↦ f u k | inr k ↦ g u (near_end_of types us u k) ]
 
-  pub both_written : (origin : Origin) → AreWritten types shard log origin us (near_ends types us)
-  both_written origin = record {
-    news = of_both (λ u. is_news log u ≡ true) w.news near_news;
-    own = λ c. of_both (λ u. (stamp_of u.3).shard ≡ shard_of u.0) w.own near_own;
-    here = of_both (λ u. shard_of u.0 ≡ shard) own_here near_here;
-    apart = pairs_append AreApart us (near_ends types us) (pairs_weaker IsMate AreApart us own_apart w.mates)
-        (pairs_filter AreApart (λ v. not (list_any (same_edge v) us)) (filter_map (λ u. when (is_near u) (other_end types u)) us)
-        (pairs_filter_map IsMate AreApart (λ u. when (is_near u) (other_end types u)) us near_apart w.mates))
-        (λ u v h k. cross_apart u v h (near_end_of types us v k));
+  pub both_written : (origin : Origin) → 0 < length us → AreWritten types shard log origin (us ++ near_ends types us)
+  both_written origin some = record {
+    first = us;
+    second = near_ends types us;
+    joined = refl;
+    some = some;
     first_end = pairs_weaker IsMate CutBefore us (λ u v m. m.cut) w.mates;
     second_end = pairs_filter CutBefore (λ v. not (list_any (same_edge v) us)) (filter_map (λ u. when (is_near u) (other_end types u)) us)
         (pairs_filter_map IsMate CutBefore (λ u. when (is_near u) (other_end types u)) us near_mates w.mates);
     opposite = λ u v h k. opposite_ids u v h (near_end_of types us v k);
+    apart = pairs_append AreApart us (near_ends types us) (pairs_weaker IsMate AreApart us own_apart w.mates)
+        (pairs_filter AreApart (λ v. not (list_any (same_edge v) us)) (filter_map (λ u. when (is_near u) (other_end types u)) us)
+        (pairs_filter_map IsMate AreApart (λ u. when (is_near u) (other_end types u)) us near_apart w.mates))
+        (λ u v h k. cross_apart u v h (near_end_of types us v k));
+    news = of_both (λ u. is_news log u ≡ true) w.news near_news;
+    own = λ c. of_both (λ u. (stamp_of u.3).shard ≡ shard_of u.0) w.own near_own;
+    here = of_both (λ u. shard_of u.0 ≡ shard) own_here near_here;
     both = of_both (λ u. shard_of u.2 ≡ shard → IfSome (other_end types u) (λ v. IsIn v (us ++ near_ends types us))) own_both (λ v n near. near_both v n);
   }

@@ -1,7 +1,6 @@
 -- The entry of a write follows the log.
 use Rattle.std.proofs.Common.{◌≡◌, ℕ, ◌+◌, ◌<◌, ◌≢◌, Bool, true, false, List, [], ◌∷◌, ◌++◌, length, map, inl, inr, refl, sym, ap, subst, ◌∙◌, arith}
-use Rattle.std.proofs.lemmas.List.Elements.{All-from_recursion, All-push}
-use Rattle.std.proofs.lemmas.Option.{same_Some}
+use Rattle.std.proofs.lemmas.List.Elements.{All-from_recursion}
 use Rattle.std.specs.Prelude.{Option, Some, None, count_by, ◌^◌}
 use Rattle.tao_base.specs.EdgeTypes.{EdgeTypes}
 use Rattle.tao_base.specs.Ids.{shard_of}
@@ -23,16 +22,15 @@ use Rattle.tao_base.specs.declared.entry.Touch.{Touch}
 use Rattle.tao_base.specs.declared.write.Write.{Write}
 use Rattle.tao_base.specs.declared.write.Write.TheVariants.{ObjAdd, ObjUpdate, ObjDelete, AssocAdd, AssocDelete, AssocChangeType}
 use Rattle.graph_model.proofs.Members.{IsIn, all_in}
-use Rattle.graph_model.proofs.BothEnds.{IsOneWrite, both_written, near_ends}
-use Rattle.graph_model.proofs.Sound.{sound_grows}
+use Rattle.graph_model.proofs.BothEnds.{IsOneWrite, both_written}
 use Rattle.graph_model.proofs.Touches.{touch_follows, next_is_news}
-use Rattle.graph_model.proofs.Written.{entry_of, updates_follow, updates_keep_ends}
+use Rattle.graph_model.proofs.Written.{entry_of, given_entry, stays_sound, written_stays}
 use Rattle.graph_model.specs.Edges.{edge_record}
 use Rattle.graph_model.specs.EndLaws.{InversesMatch}
 use Rattle.graph_model.specs.Keys.{key_shard}
 use Rattle.graph_model.specs.Log.{object}
 use Rattle.graph_model.specs.Merges.{is_news}
-use Rattle.graph_model.specs.Soundness.{EdgeUpdate, TouchFollows, CanFollow, AreInOrder, IsSoundOf, KeepsEnds}
+use Rattle.graph_model.specs.Soundness.{EdgeUpdate, TouchFollows, CanFollow, AreInOrder, IsSoundOf}
 use Rattle.graph_model.specs.WriteLaws.{ForwardFollows, IsNewOrigin, IsAdmitted, PlainAddFollows, StaysSound}
 use Rattle.graph_model.specs.Writes.{edge_touch, forward_entry, is_addition, is_near, next_entry, next_id, next_stamp, touch_of, when, with_near_ends}
 
@@ -55,29 +53,13 @@ one_touch_follows log kind origin t new follows = record {
   new_origin = new;
 }
 
--- what a write gives is an entry with its touches
-given_entry : (log : List Entry) (kind : Kind) (origin : Origin) (touches : List Touch) (e : Entry) → next_entry log kind origin touches ≡ Some e → (0 < length touches) × (entry_of log kind origin touches ≡ e)
-given_entry log kind origin [] e h = absurd (cc)
-given_entry log kind origin (t ∷ ts) e h = (omega arith, same_Some (entry_of log kind origin (t ∷ ts)) e h)
-
-stays_sound : (types : EdgeTypes) (shard : ℕ) (log : List Entry) (e : Entry) → IsSoundOf types shard log → CanFollow log e → KeepsEnds types shard e → StaysSound types shard log e
-stays_sound types shard log e sound follows ends = record {
-  follows = follows;
-  ends = ends;
-  sound = record { sound = (sound_grows log e).grows sound.sound follows; ends = All-push (KeepsEnds types shard) log e sound.ends ends };
-}
-
 -- the entry that writes records at id1 and their near ends
 edges_stay : (types : EdgeTypes) (shard : ℕ) (log : List Entry) (kind : Kind) (origin : Origin) (id1 id2 : ℕ) (us : List EdgeUpdate) (e : Entry)
     → InversesMatch types → IsSoundOf types shard log → IsNewOrigin log origin → shard_of id1 ≡ shard → IsOneWrite types log id1 id2 us
     → next_entry log kind origin (map (edge_touch log) (with_near_ends types us)) ≡ Some e → StaysSound types shard log e
 edges_stay types shard log kind origin id1 id2 [] e match sound new here w h = absurd (cc)
 edges_stay types shard log kind origin id1 id2 (u ∷ us) e match sound new here w h =
-    let given = given_entry log kind origin (map (edge_touch log) (with_near_ends types (u ∷ us))) e h in
-    let written = both_written types shard log id1 id2 (u ∷ us) match sound here w origin in
-    subst (StaysSound types shard log) given.1 (stays_sound types shard log _ sound
-    (updates_follow types shard log kind origin (u ∷ us) (near_ends types (u ∷ us)) (omega arith) written new)
-    (updates_keep_ends types shard log kind origin (u ∷ us) (near_ends types (u ∷ us)) written))
+    written_stays types shard log kind origin (with_near_ends types (u ∷ us)) e sound new (both_written types shard log id1 id2 (u ∷ us) match sound here w origin (omega arith)) h
 
 object_touch_follows : (log : List Entry) (origin : Origin) (id : ℕ) (change : Change) → TouchFollows log origin (touch_of log (Obj id) change)
 object_touch_follows log origin id change = record { version_is = refl; was_is = tt; stamp_rises = tt; own_stamp = λ c. tt }

@@ -108,6 +108,14 @@ module _ {X : Type 0} where
   pairs_weaker R S [] f p = tt
   pairs_weaker R S (x ∷ xs) f p = (all_from_in (S x) xs (λ y k. f x y (all_in (R x) xs y p.0 k)), pairs_weaker R S xs f p.1)
 
+  pub pairs_both : (R S : X → X → Type 0) (xs : List X) → PairsByRecursion R xs → PairsByRecursion S xs → PairsByRecursion (λ x y. R x y × S x y) xs
+  pairs_both R S [] p q = tt
+  pairs_both R S (x ∷ xs) p q = (all_from_in (λ y. R x y × S x y) xs (λ y h. (all_in (R x) xs y p.0 h, all_in (S x) xs y q.0 h)), pairs_both R S xs p.1 q.1)
+
+  pub pairs_from_in : (R : X → X → Type 0) (xs : List X) → ((x y : X) → IsIn x xs → IsIn y xs → R x y) → PairsByRecursion R xs
+  pairs_from_in R [] f = tt
+  pairs_from_in R (x ∷ xs) f = (all_from_in (R x) xs (λ y h. f x y (inl refl) (inr h)), pairs_from_in R xs (λ y z h k. f y z (inr h) (inr k)))
+
   pub AllPairs-from_recursion : (R : X → X → Type 0) (xs : List X) → PairsByRecursion R xs → AllPairs R xs
   AllPairs-from_recursion R [] p i j d lt in' = absurd (omega arith)
   AllPairs-from_recursion R (x ∷ xs) p i zero d lt in' = absurd (omega arith)

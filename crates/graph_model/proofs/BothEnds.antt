@@ -15,7 +15,7 @@ use Rattle.graph_model.proofs.Members.{IsIn, PairsByRecursion, if_some, in_any, 
 use Rattle.graph_model.proofs.NearEnds.{near_ends_are_paired}
 use Rattle.graph_model.proofs.Written.{AreApart, AreWritten, CutBefore, IsCutThenLive}
 use Rattle.graph_model.specs.Edges.{edge_record}
-use Rattle.graph_model.specs.Merges.{is_news}
+use Rattle.graph_model.specs.Merges.{is_later, is_news}
 use Rattle.graph_model.specs.Soundness.{EdgeUpdate, IsSoundOf, other_end}
 use Rattle.graph_model.specs.EndLaws.{InversesMatch}
 use Rattle.graph_model.specs.Writes.{is_near, same_edge, when}
@@ -52,9 +52,9 @@ other_mates types x y u v a b cut = record {
 pub one_inverse : (types : EdgeTypes) (a b c d : AType) → InversesMatch types → types.inverse a ≡ Some c → types.inverse b ≡ Some d → c ≡ d → a ≡ b
 one_inverse types a b c d match h k e = same_Some a b (sym (match a c h) ∙ ap types.inverse e ∙ match b d k)
 
-pub when_some : (b : Bool) (o : Option EdgeUpdate) (v : EdgeUpdate) → when b o ≡ Some v → (b ≡ true) × (o ≡ Some v)
-when_some true o v h = (refl, h)
-when_some false o v h = absurd (cc)
+pub when_some : {X : Type 0} (b : Bool) (o : Option X) (x : X) → when b o ≡ Some x → (b ≡ true) × (o ≡ Some x)
+when_some true o x h = (refl, h)
+when_some false o x h = absurd (cc)
 
 -- a later write to the same edge of another type
 pub record IsMate (u v : EdgeUpdate) : Type 0 where
@@ -94,19 +94,11 @@ near_end_of types us v h =
       alone = not-true (list_any (same_edge v) us) kept.1;
     }
 
--- records of equal stamps at edges with one record are both later
-later_than : EdgeState → Option EdgeState → Bool
-later_than state None = true
-later_than state (Some old) = is_earlier (stamp_of old) (stamp_of state)
-
-is_news-is : (log : List Entry) (u : EdgeUpdate) → is_news log u ≡ later_than u.3 (edge_record log u.0 u.1 u.2)
-unfolding later_than
-is_news-is log u = refl
-
+-- where two edges have one record, it is as much later than one as than the other
 same_news : (log : List Entry) (u v : EdgeUpdate) → v.3 ≡ u.3 → edge_record log v.0 v.1 v.2 ≡ edge_record log u.0 u.1 u.2 → is_news log v ≡ is_news log u
-same_news log u v s e = is_news-is log v ∙ (λ i. later_than (s i) (e i)) ∙ sym (is_news-is log u)
+same_news log u v s e = λ i. is_later (s i) (e i)
 
-same_edge-true : (u v : EdgeUpdate) → u.0 ≡ v.0 → u.1 ≡ v.1 → u.2 ≡ v.2 → same_edge u v ≡ true
+pub same_edge-true : (u v : EdgeUpdate) → u.0 ≡ v.0 → u.1 ≡ v.1 → u.2 ≡ v.2 → same_edge u v ≡ true
 same_edge-true u v a b c = and_from (u.0 == v.0 && u.1.0 == v.1.0) (u.2 == v.2) (and_from (u.0 == v.0) (u.1.0 == v.1.0) (eq-eqb u.0 v.0 a) (eq-eqb u.1.0 v.1.0 (ap (λ x. x.0) b))) (eq-eqb u.2 v.2 c)
 
 pub same_edge-parts : (u v : EdgeUpdate) → same_edge u v ≡ true → (u.0 ≡ v.0) × (u.1 ≡ v.1) × (u.2 ≡ v.2)

@@ -1,9 +1,9 @@
 -- The entry that merges a job follows the log of the other shard.
-use Rattle.std.proofs.Common.{◌≡◌, ℕ, ◌<◌, ◌≢◌, ◌⊎◌, true, List, [], ◌∷◌, append-nil, length, map, inl, inr, refl, sym, ap, ◌∙◌, subst}
+use Rattle.std.proofs.Common.{◌≡◌, ℕ, ◌<◌, ◌≢◌, ◌⊎◌, true, List, [], ◌∷◌, ◌++◌, append-nil, length, map, inl, inr, refl, sym, ap, ◌∙◌, subst}
 use Rattle.std.proofs.lemmas.Bool.{both_ways, cases_Bool, false≢true, eq-eqb, not-true}
 use Rattle.std.proofs.lemmas.List.{length-map}
 use Rattle.std.proofs.lemmas.List.Elements.{All-head, All-tail}
-use Rattle.std.specs.Prelude.{All, Option, Some, None, IfSome, IsSomeAnd, filter, not}
+use Rattle.std.specs.Prelude.{All, Contains, Option, Some, None, IfSome, IsSomeAnd, filter, not}
 use Rattle.tao_base.specs.EdgeTypes.{EdgeTypes}
 use Rattle.tao_base.specs.Ids.{shard_of}
 use Rattle.tao_base.specs.declared.id.Key.{Key}
@@ -17,14 +17,15 @@ use Rattle.tao_base.specs.declared.entry.Origin.{Origin}
 use Rattle.tao_base.specs.declared.entry.Origin.TheVariants.{Merge}
 use Rattle.tao_base.specs.declared.entry.Touch.{Touch}
 use Rattle.graph_model.proofs.BothEnds.{one_inverse, other_end_is, other_mates, when_some}
-use Rattle.graph_model.proofs.Members.{IsIn, PairsByRecursion, All-from_in, All-in, in_filter, in_filter_map_parts, in_filter_parts, pairs_append, pairs_both, pairs_filter, pairs_filter_map, pairs_from_in, pairs_weaker, recursion_from_AllPairs}
+use Rattle.graph_model.proofs.Members.{IsIn, PairsByRecursion, All-from_in, All-in, contains_from_in, in_filter, in_filter_map_parts, in_filter_parts, pairs_append, pairs_both, pairs_filter, pairs_filter_map, pairs_from_in, pairs_weaker, recursion_from_AllPairs}
+use Rattle.graph_model.proofs.Rising.{stamps_stay}
 use Rattle.graph_model.proofs.Updates.{written}
 use Rattle.graph_model.proofs.Written.{AreApart, AreWritten, CutBefore, given_entry, update_of, updates-touches, written_stays}
 use Rattle.graph_model.specs.EndLaws.{InversesMatch}
 use Rattle.graph_model.specs.Keys.{key_shard}
-use Rattle.graph_model.specs.MergeLaws.{IsFarEntry, IsMergeable, IsNewOrDone, MergesNothing}
+use Rattle.graph_model.specs.MergeLaws.{IsFarEntry, IsMergeable, IsNewOrDone, MergeFollows, MergesNothing}
 use Rattle.graph_model.specs.Merges.{HasStamp, is_news, job_of, merge_entry}
-use Rattle.graph_model.specs.Soundness.{AreInOrder, AreOpposite, EdgeUpdate, IsOneEnd, other_end, updates_of}
+use Rattle.graph_model.specs.Soundness.{AreInOrder, AreOpposite, EdgeUpdate, IsOneEnd, IsSound, other_end, updates_of}
 use Rattle.graph_model.specs.WriteLaws.{IsNewOrigin, StaysSound}
 use Rattle.graph_model.specs.Writes.{edge_touch, is_near, next_entry, when}
 
@@ -186,3 +187,21 @@ merge_updates : (types : EdgeTypes) (log : List Entry) (from : ℕ) (e m : Entry
 merge_updates types log from e m h =
     ap updates_of (sym (given_entry log Merged (Merge from e.position) (map (edge_touch log) (filter (is_news log) (job_of types e))) m h).1)
     ∙ updates-touches log (filter (is_news log) (job_of types e))
+
+-- after a merge all of the job is there: what was later is written, and what was there stays
+merge_done : (types : EdgeTypes) (shard : ℕ) (log : List Entry) (from : ℕ) (e m : Entry) → IsMergeable types shard log from e → merge_entry types log from e ≡ Some m
+    → All (HasStamp (log ++ m ∷ [])) (job_of types e)
+merge_done types shard log from e m may h =
+    let sound : IsSound (log ++ m ∷ []) = (merge_stays types shard log from e m may h).sound.sound in
+    All-from_in (HasStamp (log ++ m ∷ [])) (job_of types e) (λ u k. elim (cases_Bool (is_news log u)) [
+      | inl news ↦ (stamps_stay log).reached m u sound
+          (subst (λ us. Contains us u) (sym (merge_updates types log from e m h)) (contains_from_in (filter (is_news log) (job_of types e)) u (in_filter (is_news log) (job_of types e) u k news)))
+      | inr old ↦ (stamps_stay log).stays (m ∷ []) u sound old
+    ])
+
+pub merge_follows : (shard : ℕ) (log : List Entry) (from : ℕ) (e m : Entry) → MergeFollows shard log from e m
+merge_follows shard log from e m = record { merges = λ types may h. record {
+  stays = merge_stays types shard log from e m may h;
+  done = merge_done types shard log from e m may h;
+  nothing = (merges_nothing (log ++ m ∷ []) from e).nothing types (merge_done types shard log from e m may h);
+} }

@@ -15,7 +15,7 @@ use Rattle.tao_base.specs.declared.entry.Kind.{Kind}
 use Rattle.tao_base.specs.declared.entry.Origin.{Origin}
 use Rattle.tao_base.specs.declared.entry.Touch.{Touch}
 use Rattle.graph_model.proofs.Members.{IsIn, PairsByRecursion, if_some, if_some_at, All-from_in, AllPairs-from_recursion, contains_from_in, in_map_parts, pairs_map}
-use Rattle.graph_model.proofs.Sound.{sound_grows}
+use Rattle.graph_model.proofs.Sound.{sound_of_grows}
 use Rattle.graph_model.proofs.Touches.{touch_follows}
 use Rattle.graph_model.specs.Keys.{key_shard}
 use Rattle.graph_model.specs.Merges.{is_news}
@@ -141,7 +141,7 @@ pub stays_sound : (types : EdgeTypes) (shard : ℕ) (log : List Entry) (e : Entr
 stays_sound types shard log e sound follows ends = record {
   follows = follows;
   ends = ends;
-  sound = record { sound = (sound_grows log e).grows sound.sound follows; ends = All-push (KeepsEnds types shard) log e sound.ends ends };
+  sound = (sound_of_grows shard log e).grows types sound follows ends;
 }
 
 -- an entry that writes such records keeps the log sound

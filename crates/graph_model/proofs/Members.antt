@@ -3,7 +3,7 @@ use Rattle.std.proofs.Common.{◌≡◌, zero, suc, Bool, true, false, List, [],
 use Rattle.std.proofs.lemmas.Bool.{cases_Bool, or_parts, or_cases}
 use Rattle.std.proofs.lemmas.List.Elements.{All-from_recursion, recursion_from_All}
 use Rattle.std.specs.List.{AllByRecursion, cons_option, list_any}
-use Rattle.std.specs.Prelude.{All, AllPairs, Contains, Option, Some, None, IfSome, filter, filter_map, ⊤}
+use Rattle.std.specs.Prelude.{All, AllPairs, Contains, Option, Some, None, IfSome, filter, filter_map, flat_map, ⊤}
 
 -- x is one of the elements
 abbrev pub IsIn : {X : Type 0} → X → List X → Type 0
@@ -163,6 +163,18 @@ module _ {X Y : Type 0} where
   in_filter_map_parts g (x ∷ xs) y h = elim (in_cons_option (g x) (filter_map g xs) y h) [
     | inl e ↦ (x, inl refl, e)
     | inr k ↦ (let r = in_filter_map_parts g xs y k in (r.0, inr r.1, r.2))
+  ]
+
+  pub in_flat_map : (f : X → List Y) (xs : List X) (x : X) (y : Y) → IsIn x xs → IsIn y (f x) → IsIn y (flat_map f xs)
+  in_flat_map f [] x y h k = absurd h
+  in_flat_map f (z ∷ zs) x y (inl e) k = in_append_left (f z) (flat_map f zs) y (subst (λ w. IsIn y (f w)) (sym e) k)
+  in_flat_map f (z ∷ zs) x y (inr h) k = in_append_right (f z) (flat_map f zs) y (in_flat_map f zs x y h k)
+
+  pub in_flat_map_parts : (f : X → List Y) (xs : List X) (y : Y) → IsIn y (flat_map f xs) → (x : X) × IsIn x xs × IsIn y (f x)
+  in_flat_map_parts f [] y h = absurd h
+  in_flat_map_parts f (x ∷ xs) y h = elim (in_append_cases (f x) (flat_map f xs) y h) [
+    | inl k ↦ (x, inl refl, k)
+    | inr k ↦ (let r = in_flat_map_parts f xs y k in (r.0, inr r.1, r.2))
   ]
 
   pub pairs_filter_map : (R : X → X → Type 0) (S : Y → Y → Type 0) (g : X → Option Y) (xs : List X)

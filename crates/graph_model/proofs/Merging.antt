@@ -75,7 +75,7 @@ touch_pairs ts o =
 abbrev FarPair : EdgeUpdate → EdgeUpdate → Type 0
 FarPair u v = (CutBefore u v ⊎ (is_near u ≡ true)) × AreApart u v
 
-abbrev JobPair : EdgeUpdate → EdgeUpdate → Type 0
+abbrev pub JobPair : EdgeUpdate → EdgeUpdate → Type 0
 JobPair u v = CutBefore u v × AreApart u v
 
 key_of_record : (from : ℕ) (t : Touch) (u : EdgeUpdate) → key_shard t.key ≡ from → update_of t ≡ Some u → shard_of u.0 ≡ from
@@ -148,7 +148,7 @@ module _ (types : EdgeTypes) (from shard : ℕ) (e : Entry) (far : IsFarEntry ty
       }
 
 -- an entry is made exactly of the records that are later than the log's
-nothing_given : (log : List Entry) (kind : Kind) (origin : Origin) (us : List EdgeUpdate) → next_entry log kind origin (map (edge_touch log) us) ≡ None → us ≡ []
+pub nothing_given : (log : List Entry) (kind : Kind) (origin : Origin) (us : List EdgeUpdate) → next_entry log kind origin (map (edge_touch log) us) ≡ None → us ≡ []
 nothing_given log kind origin [] h = refl
 nothing_given log kind origin (u ∷ us) h = absurd (cc)
 
@@ -177,19 +177,19 @@ new_origin : (types : EdgeTypes) (log : List Entry) (from : ℕ) (e m : Entry) �
 new_origin types log from e m (inl new) h = new
 new_origin types log from e m (inr done) h = let none : merge_entry types log from e ≡ None = (merges_nothing log from e).nothing types done in absurd (cc)
 
-merge_stays : (types : EdgeTypes) (shard : ℕ) (log : List Entry) (from : ℕ) (e m : Entry) → IsMergeable types shard log from e → merge_entry types log from e ≡ Some m → StaysSound types shard log m
+pub merge_stays : (types : EdgeTypes) (shard : ℕ) (log : List Entry) (from : ℕ) (e m : Entry) → IsMergeable types shard log from e → merge_entry types log from e ≡ Some m → StaysSound types shard log m
 merge_stays types shard log from e m may h =
     written_stays types shard log Merged (Merge from e.position) (filter (is_news log) (job_of types e)) m may.sound (new_origin types log from e m may.origin h)
     (news_written types from shard e may.far may.inverses log (some_news types log from e m h)) h
 
 -- the records that the merge writes
-merge_updates : (types : EdgeTypes) (log : List Entry) (from : ℕ) (e m : Entry) → merge_entry types log from e ≡ Some m → updates_of m ≡ filter (is_news log) (job_of types e)
+pub merge_updates : (types : EdgeTypes) (log : List Entry) (from : ℕ) (e m : Entry) → merge_entry types log from e ≡ Some m → updates_of m ≡ filter (is_news log) (job_of types e)
 merge_updates types log from e m h =
     ap updates_of (sym (given_entry log Merged (Merge from e.position) (map (edge_touch log) (filter (is_news log) (job_of types e))) m h).1)
     ∙ updates-touches log (filter (is_news log) (job_of types e))
 
 -- after a merge all of the job is there: what was later is written, and what was there stays
-merge_done : (types : EdgeTypes) (shard : ℕ) (log : List Entry) (from : ℕ) (e m : Entry) → IsMergeable types shard log from e → merge_entry types log from e ≡ Some m
+pub merge_done : (types : EdgeTypes) (shard : ℕ) (log : List Entry) (from : ℕ) (e m : Entry) → IsMergeable types shard log from e → merge_entry types log from e ≡ Some m
     → All (HasStamp (log ++ m ∷ [])) (job_of types e)
 merge_done types shard log from e m may h =
     let sound : IsSound (log ++ m ∷ []) = (merge_stays types shard log from e m may h).sound.sound in
@@ -200,8 +200,10 @@ merge_done types shard log from e m may h =
     ])
 
 pub merge_follows : (shard : ℕ) (log : List Entry) (from : ℕ) (e m : Entry) → MergeFollows shard log from e m
-merge_follows shard log from e m = record { merges = λ types may h. record {
-  stays = merge_stays types shard log from e m may h;
-  done = merge_done types shard log from e m may h;
-  nothing = (merges_nothing (log ++ m ∷ []) from e).nothing types (merge_done types shard log from e m may h);
-} }
+merge_follows shard log from e m = record {
+  merges = λ types may h. record {
+    stays = merge_stays types shard log from e m may h;
+    done = merge_done types shard log from e m may h;
+    nothing = (merges_nothing (log ++ m ∷ []) from e).nothing types (merge_done types shard log from e m may h);
+  };
+}

@@ -1,7 +1,6 @@
 -- Entries whose touches write records of edges.
 use Rattle.std.proofs.Common.{◌≡◌, ℕ, ◌+◌, ◌<◌, ◌≢◌, true, List, [], ◌∷◌, ◌++◌, length, map, refl, ap, ◌∙◌, subst, arith}
 use Rattle.std.proofs.lemmas.List.{length-map, map-append}
-use Rattle.std.proofs.lemmas.List.Elements.{All-push}
 use Rattle.std.proofs.lemmas.Option.{same_Some}
 use Rattle.std.specs.Prelude.{All, AllPairs, Contains, Option, Some, IfSome, IsTrue, filter_map, ⊤}
 use Rattle.tao_base.specs.EdgeTypes.{EdgeTypes}

@@ -1,5 +1,5 @@
 //! What the entries that merge jobs of other shards keep of a log.
-ghost use Rattle.graph_model.specs.MergeLaws.{MergeFollows, MergesNothing};
+ghost use Rattle.graph_model.specs.MergeLaws.{MergeFollows, MergesJoin, MergesNothing, OrderIsFree};
 
 use tao_base::Entry;
 
@@ -19,4 +19,16 @@ pub fn merge_entries_follow(
     _merged: &Entry,
 )
     ensures { MergeFollows _shard _log.now _from _entry.now _merged.now }
+{}
+
+/// Jobs merged one after another are all there, and each record is the join of the one before with theirs.
+#[tactic(auto, using(crate::proofs::MergesInTurn::merges_join))]
+pub fn merges_join(_shard: u16, _log: &[Entry])
+    ensures { MergesJoin _shard _log.now }
+{}
+
+/// The order in which jobs are merged does not matter to the records.
+#[tactic(auto, using(crate::proofs::MergesInTurn::order_is_free))]
+pub fn merge_order_is_free(_shard: u16, _log: &[Entry])
+    ensures { OrderIsFree _shard _log.now }
 {}

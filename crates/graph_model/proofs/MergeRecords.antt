@@ -13,8 +13,9 @@ use Rattle.tao_base.specs.declared.entry.Entry.{Entry}
 use Rattle.tao_base.specs.declared.entry.Kind.TheVariants.{Merge as Merged}
 use Rattle.tao_base.specs.declared.entry.Origin.TheVariants.{Merge}
 use Rattle.graph_model.proofs.BothEnds.{same_edge-parts, same_edge-true, update_same, when_some}
+use Rattle.graph_model.proofs.FarJobs.{JobPair, job_pairs}
 use Rattle.graph_model.proofs.Members.{IsIn, PairsByRecursion, contains_from_in, in_filter, in_filter_map, in_filter_map_parts, in_filter_parts, in_from_contains, pairs_filter, pairs_filter_map, pairs_weaker}
-use Rattle.graph_model.proofs.Merging.{JobPair, job_pairs, merge_updates, nothing_given}
+use Rattle.graph_model.proofs.Merging.{merge_updates, nothing_given}
 use Rattle.graph_model.proofs.Updates.{edge_record-append, record_of_update, update_of_record}
 use Rattle.graph_model.proofs.Written.{AreApart, given_entry, keys_apart}
 use Rattle.graph_model.specs.Edges.{edge_record}
@@ -54,7 +55,7 @@ module _ (types : EdgeTypes) (from shard : ℕ) (e : Entry) (far : IsFarEntry ty
   news = filter (is_news log) (job_of types e)
 
   job_apart : PairsByRecursion AreApart (job_of types e)
-  job_apart = pairs_weaker JobPair AreApart (job_of types e) (λ u v p. p.1) (job_pairs types from shard e far match)
+  job_apart = pairs_weaker JobPair AreApart (job_of types e) (λ u v p. p.1) (job_pairs types from e far.entry match)
 
   once : (m : Entry) → merge_entry types log from e ≡ Some m → AllPairs (λ s t. s.key ≢ t.key) m.touches
   once m h =

@@ -10,17 +10,21 @@ use Rattle.tao_base.specs.declared.entry.Origin.TheVariants.{Merge}
 use Rattle.graph_model.specs.Edges.{edge_record}
 use Rattle.graph_model.specs.EndLaws.{InversesMatch}
 use Rattle.graph_model.specs.Keys.{key_shard}
-use Rattle.graph_model.specs.Merges.{Agree, HasStamp, job_of, join, merge_entry}
+use Rattle.graph_model.specs.Merges.{Agree, AreCovered, HasStamp, IsClientEntry, Stores, job_of, join, log_of, merge_entry}
 use Rattle.graph_model.specs.Soundness.{AreInOrder, EdgeUpdate, IsSoundOf}
 use Rattle.graph_model.specs.WriteLaws.{IsNewOrigin, StaysSound}
 use Rattle.graph_model.specs.Writes.{same_edge, when}
 
--- an entry of one shard, of which all other ends that lie elsewhere lie on another one
-pub record IsFarEntry (types : EdgeTypes) (from shard : ℕ) (e : Entry) : Type 0 where
-  pub away : from ≢ shard
+-- the touches of an entry of the shard: in order, at no key twice, and on the shard
+pub record IsEntryOf (shard : ℕ) (e : Entry) : Type 0 where
   pub ordered : AreInOrder e.touches
   pub once : AllPairs (λ s t. s.key ≢ t.key) e.touches
-  pub here : All (λ t. key_shard t.key ≡ from) e.touches
+  pub here : All (λ t. key_shard t.key ≡ shard) e.touches
+
+-- an entry of one shard, of which all other ends that lie elsewhere lie on another one
+pub record IsFarEntry (types : EdgeTypes) (from shard : ℕ) (e : Entry) : Type 0 where
+  pub entry : IsEntryOf from e
+  pub away : from ≢ shard
   pub there : All (λ u. shard_of u.0 ≡ shard) (job_of types e)
 
 -- the job is new to the log, or all of it is there
@@ -52,6 +56,12 @@ pub record MergeFollows (shard : ℕ) (log : List Entry) (from : ℕ) (e m : Ent
 pub record JobsAreFar (from : ℕ) (source : List Entry) : Type 0 where
   pub far : (types : EdgeTypes) → IsSoundOf types from source → (place : ℕ) (e : Entry) (u : EdgeUpdate) → slice_get source place ≡ Some e
       → Contains (job_of types e) u → IsFarEntry types from (shard_of u.0) e
+
+-- in sound and covered stores the job of a client's entry may be merged where its records lie
+pub record CoveredJobsMayMerge : Type 0 where
+  pub may : (types : EdgeTypes) (stores : Stores) → InversesMatch types → ((shard : ℕ) → IsSoundOf types shard (log_of stores.logs shard))
+      → AreCovered types stores → (from position : ℕ) (e : Entry) (u : EdgeUpdate) → IsClientEntry stores from position e → Contains (job_of types e) u
+      → IsMergeable types (shard_of u.0) (log_of stores.logs (shard_of u.0)) from e
 
 -- the log after the merge of a job, which is given by the shard and the entry that it is of
 abbrev pub merged : EdgeTypes → List Entry → ℕ × Entry → List Entry

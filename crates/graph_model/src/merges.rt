@@ -1,7 +1,26 @@
 //! What the entries that merge jobs of other shards keep of a log.
-ghost use Rattle.graph_model.specs.MergeLaws.{MergeFollows, MergesJoin, MergesNothing, OrderIsFree};
+ghost use Rattle.graph_model.specs.MergeLaws.{
+  CoveredJobsMayMerge,
+  JobsAreFar,
+  MergeFollows,
+  MergesJoin,
+  MergesNothing,
+  OrderIsFree,
+};
 
 use tao_base::Entry;
+
+/// An entry of a sound log is far from where a record of its job lies.
+#[tactic(auto, using(crate::proofs::FarJobs::jobs_are_far))]
+pub fn jobs_are_far(_from: u16, _source: &[Entry])
+    ensures { JobsAreFar _from _source.now }
+{}
+
+/// In sound and covered stores the job of a client's entry may be merged where its records lie.
+#[tactic(auto, using(crate::proofs::Covered::covered_jobs_may_merge))]
+pub fn covered_jobs_may_merge()
+    ensures { CoveredJobsMayMerge }
+{}
 
 /// Nothing is merged exactly where all of the job is there.
 #[tactic(auto, using(crate::proofs::Merging::merges_nothing))]

@@ -1,5 +1,5 @@
 -- Worked examples: the definitions computed on small logs.
-use Rattle.std.specs.Prelude.{ℕ, suc, All, false, map, length, drop, flat_map, List, [], ◌∷◌, ◌++◌, Some, None, option_to_list, ◌≡◌, refl, cond, ◌==◌}
+use Rattle.std.specs.Prelude.{ℕ, suc, All, false, map, length, drop, flat_map, List, [], ◌∷◌, ◌++◌, Some, None, option_to_list, ◌≡◌, refl, if◌then◌else◌, ◌==◌}
 use Rattle.tao_base.specs.EdgeTypes.{EdgeTypes}
 use Rattle.tao_base.specs.Spelling.{spelling}
 use Rattle.tao_base.specs.declared.id.AType.{AType}
@@ -99,7 +99,7 @@ followed_by = record { 0 = 3 }
 
 abbrev pub four_types : EdgeTypes
 four_types = record {
-  inverse = λ a. cond (a.0 == 1) (Some friend) (cond (a.0 == 2) (Some followed_by) (cond (a.0 == 3) (Some follows) None));
+  inverse = λ a. if a.0 == 1 then Some friend else (if a.0 == 2 then Some followed_by else (if a.0 == 3 then Some follows else None));
   bound = λ a. 6000;
 }
 

@@ -1,5 +1,5 @@
 -- What a caller sees: floors, the steps of the plain machine, legal reads, settled and paired states.
-use Rattle.std.specs.Prelude.{ℕ, Bool, false, List, [], ◌∷◌, ◌++◌, length, take, All, Some, None, slice_set, max, fold, cond, ◌≡◌, ◌⊎◌, ◌≤◌, ◌<◌}
+use Rattle.std.specs.Prelude.{ℕ, Bool, false, List, [], ◌∷◌, ◌++◌, length, take, All, Some, None, slice_set, max, fold, if◌then◌else◌, ◌≡◌, ◌⊎◌, ◌≤◌, ◌<◌}
 use Rattle.tao_base.specs.EdgeTypes.{EdgeTypes}
 use Rattle.tao_base.specs.Ids.{shard_of}
 use Rattle.tao_base.specs.declared.id.Id.{Id}
@@ -19,7 +19,7 @@ use Rattle.graph_model.specs.Writes.{forward_entry, FitsWrite}
 
 -- the version that an entry gives the key, 0 where it does not touch it
 abbrev pub version_given : Key → Entry → ℕ
-version_given key e = fold (λ most t. max most (cond (same_key key t.key) t.version 0)) 0 e.touches
+version_given key e = fold (λ most t. max most (if same_key key t.key then t.version else 0)) 0 e.touches
 
 -- a session's floor: the greatest version of the key among the entries that it was told of
 abbrev pub floor : List Entry → Key → ℕ

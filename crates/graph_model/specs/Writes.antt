@@ -1,5 +1,5 @@
 -- The entry of a client's write.
-use Rattle.std.specs.Prelude.{ℕ, Bool, true, false, cond, List, [], ◌∷◌, ◌++◌, length, filter, filter_map, count_by, Option, Some, None, IsSomeAnd, slice_get, ◌≡◌, ◌+◌, ◌*◌, ◌^◌, nat_eq, ◌==◌, ◌&&◌, not}
+use Rattle.std.specs.Prelude.{ℕ, Bool, true, false, if◌then◌else◌, List, [], ◌∷◌, ◌++◌, length, filter, filter_map, count_by, Option, Some, None, IsSomeAnd, slice_get, ◌≡◌, ◌+◌, ◌*◌, ◌^◌, nat_eq, ◌==◌, ◌&&◌, not}
 use Rattle.std.specs.List.{list_any}
 use Rattle.tao_base.specs.EdgeTypes.{EdgeTypes}
 use Rattle.tao_base.specs.Ids.{shard_of}
@@ -49,7 +49,7 @@ abbrev pub is_near : EdgeUpdate → Bool
 is_near u = nat_eq (shard_of u.2) (shard_of u.0)
 
 abbrev pub when : {X : Type 0} → Bool → Option X → Option X
-when test found = cond test found None
+when test found = if test then found else None
 
 -- the records, and then those of the other ends on the same shard, each once
 abbrev pub with_near_ends : EdgeTypes → List EdgeUpdate → List EdgeUpdate

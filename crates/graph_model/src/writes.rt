@@ -1,0 +1,19 @@
+//! What the entries of writes keep of a log. Each law is the contract of a function.
+ghost use Rattle.graph_model.specs.WriteLaws.{PlainAddFollows};
+
+use tao_base::edge::Time;
+use tao_base::{AType, Data, Entry, Id, Origin};
+
+/// An edge of a type without an inverse is added by an entry with one touch, which follows the log.
+#[tactic(auto, using(crate::proofs::Forward::plain_add_follows))]
+pub fn plain_add_follows(
+    _log: &[Entry],
+    _origin: &Origin,
+    _id1: Id,
+    _atype: AType,
+    _id2: Id,
+    _time: Time,
+    _payload: &Data,
+)
+    ensures { PlainAddFollows _log.now _origin.now _id1 _atype _id2 _time _payload.now }
+{}

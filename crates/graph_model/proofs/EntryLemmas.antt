@@ -1,7 +1,9 @@
 -- What one more entry changes.
-use Rattle.std.proofs.Common.{zero-add, ◌+◌, ◌≡◌, ◌≢◌, ℕ, cond, List, [], ◌∷◌, ◌++◌, append-nil, append_assoc, get_or, refl, sym, ap, ◌∙◌, arith, zero, suc}
-use Rattle.std.proofs.lemmas.List.Elements.{All-cons, All-nil, All-tail}
-use Rattle.std.specs.Prelude.{All, AllPairs, fold}
+use Rattle.std.proofs.Common.{true, zero-add, ◌+◌, ◌≡◌, ◌≢◌, ℕ, cond, List, [], ◌∷◌, ◌++◌, append-nil, append_assoc, get_or, refl, sym, ap, ◌∙◌, arith, zero, suc}
+use Rattle.std.proofs.lemmas.List.{get_or_default}
+use Rattle.std.proofs.lemmas.List.Elements.{All-contains, All-cons, All-nil, All-tail}
+use Rattle.std.proofs.lemmas.List.Folds.{list_any_at}
+use Rattle.std.specs.Prelude.{All, AllPairs, Contains, fold}
 use Rattle.tao_base.specs.declared.entry.Change.{Change}
 use Rattle.tao_base.specs.declared.entry.Entry.{Entry}
 use Rattle.tao_base.specs.declared.entry.Touch.{Touch}
@@ -13,9 +15,10 @@ use Rattle.graph_model.proofs.Keys.{same_key-apart, same_key-self}
 use Rattle.graph_model.proofs.Lists.{list-snoc, record_in-snoc}
 use Rattle.graph_model.proofs.Objects.{object_in-snoc}
 use Rattle.graph_model.proofs.Versions.{changes_of-append, version-append, untouched}
-use Rattle.graph_model.specs.Edges.{list_after, live_edges, newest_first, record_after, record_in}
-use Rattle.graph_model.specs.EntryLaws.{ChangesByTouch, ListFollows, ObjectFollows, RecordFollows, VersionFollows}
-use Rattle.graph_model.specs.Log.{changes_at, changes_of, object_after, object_in, touches_key, version}
+use Rattle.graph_model.specs.Edges.{edge_list, edge_record, list_after, live_edges, newest_first, record_after, record_in}
+use Rattle.graph_model.specs.EntryLaws.{AppliesTouch, AppliesTouches, ChangesByTouch, ListFollows, ObjectFollows, RecordFollows, VersionFollows}
+use Rattle.graph_model.specs.Keys.{same_key}
+use Rattle.graph_model.specs.Log.{object, changes_at, changes_of, object_after, object_in, touches_key, version}
 
 -- what changes by a step at a list's end changes by that step for each element that is added
 pub fold_steps : {X Y : Type 0} (f : List X → Y) (step : Y → X → Y) → ((xs : List X) (x : X) → f (xs ++ x ∷ []) ≡ step (f xs) x)
@@ -68,4 +71,27 @@ pub changes_by_touch : (e : Entry) → ChangesByTouch e
 changes_by_touch e = record {
   touched = λ once. rw (append-nil e.touches) (one_change e.touches once);
   untouched = λ k h. untouched e k h;
+}
+
+-- what the one change of a key makes of it
+one_step : {Y : Type 0} (step : Y → Change → Y) (start : Y) (cs : List Change) (c : Change) → cs ≡ c ∷ [] → fold step start cs ≡ step start c
+one_step step start cs c h = ap (fold step start) h
+
+pub touched_by : (e : Entry) (t : Touch) → Contains e.touches t → touches_key t.key e ≡ true
+touched_by e t at = list_any_at (λ (s : Touch). same_key t.key s.key) e.touches at.0 t at.1 (ap (λ (s : Touch). same_key t.key s.key) at.2 ∙ same_key-self t.key)
+
+pub applies_touch : (log : List Entry) (e : Entry) (t : Touch) → AllPairs (λ r s. r.key ≢ s.key) e.touches → Contains e.touches t → AppliesTouch log e t
+applies_touch log e t once at =
+    let one : changes_of (e ∷ []) t.key ≡ t.change ∷ [] = All-contains (λ s. changes_of (e ∷ []) s.key ≡ s.change ∷ []) e.touches t ((changes_by_touch e).touched once) at in
+    record {
+      version_is = version_follows log e t.key ∙ ap (λ b. version log t.key + cond b 1 0) (touched_by e t at);
+      object_is = λ id key. object_follows log e id ∙ one_step (λ found c. object_after c found) (object log id) _ t.change (ap (changes_of (e ∷ [])) (sym key) ∙ one);
+      record_is = λ id1 atype id2 key. record_follows log e id1 atype id2
+          ∙ one_step (λ found c. record_after id2 c found) (edge_record log id1 atype id2) _ t.change (ap (changes_of (e ∷ [])) (sym key) ∙ one);
+      list_is = λ id1 atype key. list_follows log e id1 atype ∙ one_step (λ edges c. list_after c edges) (edge_list log id1 atype) _ t.change (ap (changes_of (e ∷ [])) (sym key) ∙ one);
+    }
+
+pub applies_touches : (log : List Entry) (e : Entry) → AppliesTouches log e
+applies_touches log e = record {
+  each = λ once k d lt. applies_touch log e (get_or e.touches k d) once (k, lt, get_or_default e.touches k (get_or e.touches k d) d lt);
 }

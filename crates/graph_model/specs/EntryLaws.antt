@@ -1,6 +1,7 @@
 -- How what a log says of a key changes by one more entry.
 use Rattle.std.specs.Prelude.{false, cond, List, [], ◌∷◌, ◌++◌, fold, All, AllPairs, ◌≡◌, ◌≢◌, ◌+◌}
 use Rattle.tao_base.specs.declared.entry.Entry.{Entry}
+use Rattle.tao_base.specs.declared.entry.Touch.{Touch}
 use Rattle.tao_base.specs.declared.id.AType.{AType}
 use Rattle.tao_base.specs.declared.id.Id.{Id}
 use Rattle.tao_base.specs.declared.id.Key.{Key}
@@ -31,3 +32,16 @@ ListFollows log e id1 atype =
 pub record ChangesByTouch (e : Entry) : Type 0 where
   pub touched : AllPairs (λ s t. s.key ≢ t.key) e.touches → All (λ t. changes_of (e ∷ []) t.key ≡ t.change ∷ []) e.touches
   pub untouched : (key : Key) → touches_key key e ≡ false → changes_of (e ∷ []) key ≡ []
+
+-- at the key of the touch the entry does the touch's change and nothing else
+pub record AppliesTouch (log : List Entry) (e : Entry) (t : Touch) : Type 0 where
+  pub version_is : version (log ++ e ∷ []) t.key ≡ version log t.key + 1
+  pub object_is : (id : Id) → t.key ≡ Obj id → object (log ++ e ∷ []) id ≡ object_after t.change (object log id)
+  pub record_is : (id1 : Id) (atype : AType) (id2 : Id) → t.key ≡ Assocs id1 atype
+      → edge_record (log ++ e ∷ []) id1 atype id2 ≡ record_after id2 t.change (edge_record log id1 atype id2)
+  pub list_is : (id1 : Id) (atype : AType) → t.key ≡ Assocs id1 atype
+      → edge_list (log ++ e ∷ []) id1 atype ≡ list_after t.change (edge_list log id1 atype)
+
+-- so does an entry that touches no key twice
+pub record AppliesTouches (log : List Entry) (e : Entry) : Type 0 where
+  pub each : AllPairs (λ s t. s.key ≢ t.key) e.touches → All (AppliesTouch log e) e.touches

@@ -1,11 +1,15 @@
 -- Laws of cached prefixes.
-use Rattle.std.specs.Prelude.{ℕ, true, List, length, take, ◌≡◌}
+use Rattle.std.specs.Prelude.{ℕ, true, List, length, take, ◌≡◌, ◌↔◌}
 use Rattle.tao_base.specs.declared.edge.Edge.{Edge}
 use Rattle.tao_base.specs.declared.entry.Change.{Change}
 use Rattle.tao_base.specs.declared.query.Query.{Query}
 use Rattle.graph_model.specs.Answers.{list_answer}
 use Rattle.graph_model.specs.Edges.{IsInOrder, IsNewestFirst, list_after}
-use Rattle.graph_model.specs.Prefixes.{IsPrefixOf, SaysWas, decides, edges_after, total_after}
+use Rattle.graph_model.specs.Prefixes.{IsDecided, IsPrefixOf, SaysWas, decides, edges_after, total_after}
+
+-- the test is the table
+abbrev pub DecidesExactly : ℕ → List Edge → ℕ → Query → Type 0
+DecidesExactly bound edges total query = (decides bound edges total query ≡ true) ↔ IsDecided bound edges total query
 
 -- the law of deciding: the answer then read is that of each list in order that begins so and has that length
 abbrev pub DecidesRightly : ℕ → List Edge → ℕ → Query → Type 0

@@ -1,5 +1,6 @@
 //! How what a log says of a key changes by one more entry.
 ghost use Rattle.graph_model.specs.EntryLaws.{
+  AppliesTouches,
   ChangesByTouch,
   ListFollows,
   ObjectFollows,
@@ -37,4 +38,10 @@ pub fn record_follows(_log: &[Entry], _entry: &Entry, _id1: Id, _atype: AType, _
 #[tactic(auto, using(crate::proofs::EntryLemmas::list_follows))]
 pub fn list_follows(_log: &[Entry], _entry: &Entry, _id1: Id, _atype: AType)
     ensures { ListFollows _log.now _entry.now _id1 _atype }
+{}
+
+/// At each key that it touches, an entry that touches no key twice does the touch's change.
+#[tactic(auto, using(crate::proofs::EntryLemmas::applies_touches))]
+pub fn entries_apply_touches(_log: &[Entry], _entry: &Entry)
+    ensures { AppliesTouches _log.now _entry.now }
 {}

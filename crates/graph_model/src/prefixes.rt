@@ -1,7 +1,13 @@
 //! Laws of cached prefixes.
-ghost use Rattle.graph_model.specs.PrefixLaws.{DecidesRightly, PrefixFollows};
+ghost use Rattle.graph_model.specs.PrefixLaws.{DecidesExactly, DecidesRightly, PrefixFollows};
 
 use tao_base::{Change, Edge, Query};
+
+/// The test whether a prefix decides a query is the table of what is decided.
+#[tactic(auto, using(crate::proofs::Table::decides_exactly))]
+pub fn prefixes_decide_exactly(_bound: u64, _edges: &[Edge], _total: u64, _query: &Query)
+    ensures { DecidesExactly _bound _edges.now _total _query.now }
+{}
 
 /// A prefix that decides a query answers as each list that begins with it.
 #[tactic(auto, using(crate::proofs::Decided::decides_rightly))]

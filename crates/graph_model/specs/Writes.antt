@@ -1,5 +1,5 @@
 -- The entry of a client's write.
-use Rattle.std.specs.Prelude.{ℕ, Bool, true, false, cond, List, [], ◌∷◌, ◌++◌, length, filter, filter_map, count_by, Option, Some, None, IsSomeAnd, slice_get, ◌≡◌, ◌+◌, ◌*◌, ◌^◌, nat_eq, ◌==◌, ◌&&◌, not}
+use Rattle.std.specs.Prelude.{ℕ, Bool, true, false, cond, List, [], ◌∷◌, ◌++◌, length, map, filter, filter_map, count_by, Option, Some, None, IsSomeAnd, slice_get, ◌≡◌, ◌+◌, ◌*◌, ◌^◌, nat_eq, ◌==◌, ◌&&◌, not}
 use Rattle.std.specs.List.{list_any}
 use Rattle.tao_base.specs.EdgeTypes.{EdgeTypes}
 use Rattle.tao_base.specs.Ids.{shard_of}
@@ -103,11 +103,7 @@ object_touches log (AssocDelete id1 atype id2) = []
 object_touches log (AssocChangeType id1 atype id2 newtype) = []
 
 abbrev pub touches_of : EdgeTypes → List Entry → Write → List Touch
-touches_of types log write = object_touches log write ++ map_touches (with_near_ends types (own_updates log write))
-  where
-    map_touches : List EdgeUpdate → List Touch
-    map_touches [] = []
-    map_touches (u ∷ us) = edge_touch log u ∷ map_touches us
+touches_of types log write = object_touches log write ++ map (edge_touch log) (with_near_ends types (own_updates log write))
 
 abbrev pub kind_of : Write → Kind
 kind_of (ObjAdd shard otype payload) = ObjAdded

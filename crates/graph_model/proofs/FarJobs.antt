@@ -2,19 +2,23 @@
 use Rattle.std.proofs.Common.{◌≡◌, ℕ, ◌≢◌, ◌⊎◌, true, false, List, [], ◌∷◌, inl, inr, sym, ap, ◌∙◌, subst}
 use Rattle.std.proofs.lemmas.Bool.{both_ways, eq-eqb, not-true}
 use Rattle.std.proofs.lemmas.Option.{slice_get_within, get_or_from_slice_get}
+use Rattle.std.proofs.Math.Logic.{∥∥₁_elim}
+use Rattle.std.proofs.Math.Nat.{ℕ_set}
 use Rattle.std.specs.Prelude.{All, Option, Some, None, IfSome, IsSomeAnd, not, slice_get}
 use Rattle.tao_base.specs.EdgeTypes.{EdgeTypes}
 use Rattle.tao_base.specs.Ids.{shard_of}
 use Rattle.tao_base.specs.declared.id.Key.{Key}
 use Rattle.tao_base.specs.declared.id.Key.TheVariants.{List as Assocs}
+use Rattle.tao_base.specs.declared.edge.EdgeState.{EdgeState}
+use Rattle.tao_base.specs.declared.edge.EdgeState.TheVariants.{Live, Cut}
 use Rattle.tao_base.specs.declared.entry.Change.{Change}
 use Rattle.tao_base.specs.declared.entry.Change.TheVariants.{SetEdge, CutEdge}
 use Rattle.tao_base.specs.declared.entry.Entry.{Entry}
 use Rattle.tao_base.specs.declared.entry.Touch.{Touch}
 use Rattle.graph_model.proofs.BothEnds.{one_inverse, other_end_is, other_mates, when_some}
-use Rattle.graph_model.proofs.Members.{IsIn, PairsByRecursion, All-from_in, All-in, all_in, in_filter_map_parts, in_from_contains, pairs_append, pairs_both, pairs_filter_map, pairs_from_in, pairs_weaker, recursion_from_AllPairs}
+use Rattle.graph_model.proofs.Members.{IsIn, PairsByRecursion, All-from_in, All-in, all_in, in_filter_map_parts, in_from_contains, pairs_append, pairs_both, pairs_filter_map, pairs_from_in, pairs_prop, pairs_weaker, recursion_from_AllPairs}
 use Rattle.graph_model.proofs.Updates.{written}
-use Rattle.graph_model.proofs.Written.{AreApart, CutBefore, update_of}
+use Rattle.graph_model.proofs.Written.{AreApart, CutBefore, IsCutThenLive, update_of}
 use Rattle.graph_model.specs.EndLaws.{InversesMatch}
 use Rattle.graph_model.specs.Keys.{key_shard}
 use Rattle.graph_model.specs.MergeLaws.{IsEntryOf, IsFarEntry, JobsAreFar}
@@ -64,15 +68,23 @@ touch_pairs ts o =
     (pairs_append (OfRecords Ends) o.first o.second (at_one o.first o.first_end) (at_one o.second o.second_end)
     (λ s t h k. of_opposite (update_of s) (update_of t) (All-in (AreOpposite s) o.second t (All-in (λ x. All (AreOpposite x) o.second) o.first s o.opposite h) k)))
 
--- of two records the first is near, or both are a cut and then a set at one end
+-- two records, a cut and then a set at one end where the first one's other end is far
 abbrev FarPair : EdgeUpdate → EdgeUpdate → Type 0
-FarPair u v = (CutBefore u v ⊎ (is_near u ≡ true)) × AreApart u v
+FarPair u v = (is_near u ≡ false → CutBefore u v) × AreApart u v
+
+states_prop : (x y : EdgeState) → IsProp (IsCutThenLive x y)
+states_prop (Cut stamp) (Live time payload later) = hlevel
+states_prop (Cut stamp) (Cut later) = hlevel
+states_prop (Live time payload stamp) y = hlevel
+
+cut_prop : (u v : EdgeUpdate) → IsProp (CutBefore u v)
+cut_prop u v = hlevel (ℕ_set, states_prop)
+
+far_prop : (u v : EdgeUpdate) → IsProp (FarPair u v)
+far_prop u v = hlevel (cut_prop)
 
 abbrev pub JobPair : EdgeUpdate → EdgeUpdate → Type 0
 JobPair u v = CutBefore u v × AreApart u v
-
-far_cut : (u v : EdgeUpdate) → FarPair u v → is_near u ≡ false → CutBefore u v
-far_cut u v p away = elim p.0 [ inl cut ↦ cut | inr near ↦ absurd (both_ways (is_near u) away near) ]
 
 ids_same : (us : List EdgeUpdate) → PairsByRecursion (λ x y. x.0 ≡ y.0) us → (u v : EdgeUpdate) → IsIn u us → IsIn v us → u.0 ≡ v.0
 ids_same [] p u v h k = absurd h
@@ -92,23 +104,25 @@ module _ (types : EdgeTypes) (from : ℕ) (e : Entry) (far : IsEntryOf from e) w
   far_pair s t u v p h k =
       let apart : AreApart u v = λ same. p.0.1 ((written s.key s.change u h).0 ∙ same ∙ sym (written t.key t.change v k).0) in
       elim (of_records Ends s t u v p.0.0 h k) [
-        | inl cut ↦ (inl cut, apart)
-        | inr o ↦ (inr (eq-eqb (shard_of u.2) (shard_of u.0) (ap shard_of (sym o.0) ∙ key_of_record from t v p.1.1 k ∙ sym (key_of_record from s u p.1.0 h))), apart)
+        | inl cut ↦ (λ away. cut, apart)
+        | inr o ↦ (
+            let near : is_near u ≡ true = eq-eqb (shard_of u.2) (shard_of u.0) (ap shard_of (sym o.0) ∙ key_of_record from t v p.1.1 k ∙ sym (key_of_record from s u p.1.0 h)) in
+            (λ away. absurd (both_ways (is_near u) away near), apart))
       ]
 
   record_pairs : PairsByRecursion FarPair (updates_of e)
-  record_pairs =
+  record_pairs = ∥∥₁_elim far.ordered (pairs_prop FarPair far_prop (updates_of e)) (λ ordered.
       pairs_filter_map TouchPair FarPair update_of e.touches far_pair
       (pairs_both (λ s t. OfRecords Ends s t × (s.key ≢ t.key)) (λ s t. (key_shard s.key ≡ from) × (key_shard t.key ≡ from)) e.touches
-      (pairs_both (OfRecords Ends) (λ s t. s.key ≢ t.key) e.touches (touch_pairs e.touches far.ordered) (recursion_from_AllPairs (λ s t. s.key ≢ t.key) e.touches far.once))
+      (pairs_both (OfRecords Ends) (λ s t. s.key ≢ t.key) e.touches (touch_pairs e.touches ordered) (recursion_from_AllPairs (λ s t. s.key ≢ t.key) e.touches far.once))
       (pairs_from_in (λ s t. (key_shard s.key ≡ from) × (key_shard t.key ≡ from)) e.touches
-      (λ s t h k. (All-in (λ x. key_shard x.key ≡ from) e.touches s far.here h, All-in (λ x. key_shard x.key ≡ from) e.touches t far.here k))))
+      (λ s t h k. (All-in (λ x. key_shard x.key ≡ from) e.touches s far.here h, All-in (λ x. key_shard x.key ≡ from) e.touches t far.here k)))))
 
   job_cut : (u v x y : EdgeUpdate) → FarPair u v → when (not (is_near u)) (other_end types u) ≡ Some x → when (not (is_near v)) (other_end types v) ≡ Some y → CutBefore x y
   job_cut u v x y p h k =
       let found = when_some (not (is_near u)) (other_end types u) x h in
       let also = when_some (not (is_near v)) (other_end types v) y k in
-      other_mates types u v x y (other_end_is types u x found.1) (other_end_is types v y also.1) (far_cut u v p (not-true (is_near u) found.0))
+      other_mates types u v x y (other_end_is types u x found.1) (other_end_is types v y also.1) (p.0 (not-true (is_near u) found.0))
 
   job_apart : InversesMatch types → (u v x y : EdgeUpdate) → FarPair u v → when (not (is_near u)) (other_end types u) ≡ Some x → when (not (is_near v)) (other_end types v) ≡ Some y → AreApart x y
   job_apart match u v x y p h k same =
@@ -116,7 +130,7 @@ module _ (types : EdgeTypes) (from : ℕ) (e : Entry) (far : IsEntryOf from e) w
       let also = when_some (not (is_near v)) (other_end types v) y k in
       let type_is : x.1 ≡ y.1 = cc in
       let one : u.1 ≡ v.1 = one_inverse types u.1 v.1 x.1 y.1 match (other_end_is types u x found.1).inverse (other_end_is types v y also.1).inverse type_is in
-      p.1 (λ i. Assocs ((far_cut u v p (not-true (is_near u) found.0)).id1 i) (one i))
+      p.1 (λ i. Assocs ((p.0 (not-true (is_near u) found.0)).id1 i) (one i))
 
   -- of a job's records none is of the edge of another, and two are a cut and then a set
   pub job_pairs : InversesMatch types → PairsByRecursion JobPair (job_of types e)

@@ -47,7 +47,7 @@ one_touch_follows : (log : List Entry) (kind : Kind) (origin : Origin) (t : Touc
     → CanFollow log (record { position = length log + 1; kind = kind; origin = origin; touches = t ∷ [] })
 one_touch_follows log kind origin t new follows = record {
   position_is = refl;
-  ordered = one_in_order t;
+  ordered = ∣ one_in_order t ∣₁;
   once = λ i j d h k. absurd (omega arith);
   touches = All-from_recursion (TouchFollows log origin) (t ∷ []) (follows, tt);
   new_origin = new;

@@ -2,7 +2,7 @@
 use Rattle.std.proofs.Common.{◌≡◌, zero, suc, Bool, true, false, List, [], ◌∷◌, ◌++◌, ◌⊎◌, inl, inr, map, refl, sym, subst, arith}
 use Rattle.std.proofs.lemmas.Bool.{cases_Bool, or_parts, or_cases}
 use Rattle.std.proofs.lemmas.List.Elements.{All-from_recursion, recursion_from_All}
-use Rattle.std.specs.List.{AllByRecursion, cons_option, list_any}
+use Rattle.std.specs.List.{AllByRecursion, AllByRecursion-prop, cons_option, list_any}
 use Rattle.std.specs.Prelude.{All, AllPairs, Contains, Option, Some, None, IfSome, filter, filter_map, flat_map, ⊤}
 
 -- x is one of the elements
@@ -115,6 +115,10 @@ module _ {X : Type 0} where
   pub pairs_from_in : (R : X → X → Type 0) (xs : List X) → ((x y : X) → IsIn x xs → IsIn y xs → R x y) → PairsByRecursion R xs
   pairs_from_in R [] f = tt
   pairs_from_in R (x ∷ xs) f = (all_from_in (R x) xs (λ y h. f x y (inl refl) (inr h)), pairs_from_in R xs (λ y z h k. f y z (inr h) (inr k)))
+
+  pub pairs_prop : (R : X → X → Type 0) → ((x y : X) → IsProp (R x y)) → (xs : List X) → IsProp (PairsByRecursion R xs)
+  pairs_prop R p [] = hlevel
+  pairs_prop R p (x ∷ xs) = hlevel (AllByRecursion-prop (R x) (p x) xs, pairs_prop R p xs)
 
   pub AllPairs-from_recursion : (R : X → X → Type 0) (xs : List X) → PairsByRecursion R xs → AllPairs R xs
   AllPairs-from_recursion R [] p i j d lt in' = absurd (omega arith)

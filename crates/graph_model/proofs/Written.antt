@@ -112,7 +112,7 @@ pub written_follows : (types : EdgeTypes) (shard : ℕ) (log : List Entry) (kind
     → AreWritten types shard log origin us → IsNewOrigin log origin → CanFollow log (written_entry log kind origin us)
 written_follows types shard log kind origin us w new = record {
   position_is = refl;
-  ordered = in_order types shard log origin us w;
+  ordered = ∣ in_order types shard log origin us w ∣₁;
   once = keys_apart log us w.apart;
   touches = All-from_in (TouchFollows log origin) (map (edge_touch log) us) (λ t h.
       let u = in_map_parts (edge_touch log) us t h in

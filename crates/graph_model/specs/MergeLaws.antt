@@ -17,7 +17,7 @@ use Rattle.graph_model.specs.Writes.{same_edge, when}
 
 -- the touches of an entry of the shard: in order, at no key twice, and on the shard
 pub record IsEntryOf (shard : ℕ) (e : Entry) : Type 0 where
-  pub ordered : AreInOrder e.touches
+  pub ordered : ∥ AreInOrder e.touches ∥₁
   pub once : AllPairs (λ s t. s.key ≢ t.key) e.touches
   pub here : All (λ t. key_shard t.key ≡ shard) e.touches
 

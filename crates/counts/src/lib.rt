@@ -1,0 +1,63 @@
+//! What it means that a count of faults rose, for all that can fail: sources, sinks, links and keepers.
+#![tactic(auto)]
+
+ghost use Rattle.std.specs.Prelude.{◌≡◌, ◌≤◌};
+ghost use Rattle.counts.specs.Count.{Counted};
+
+use std::marker::Model;
+
+/// A count of calls or of faults. At its last value, 2^64 - 1, it stands still.
+#[derive(Clone, Copy, Debug, Default, PartialEq, Eq)]
+pub struct Count {
+    value: u64,
+}
+
+impl Model for Count {
+    ghost use Rattle.std.specs.Prelude.{ℕ};
+
+    ghost Value = { ℕ };
+
+    ghost view = { λ c. c.value };
+
+    ghost inverse = { λ n. record { value = n } };
+}
+
+impl Count {
+    /// Nothing was counted yet.
+    pub fn new() -> Count
+        ensures { result ≡ 0 }
+    {
+        Count { value: 0 }
+    }
+
+    /// Counts one more.
+    pub fn rise(&mut self)
+        ensures counted { Counted self.old self.new }
+        ensures later { self.old ≤ self.new }
+    {
+        self.value = self.value.saturating_add(1);
+    }
+
+    /// How many were counted.
+    pub fn value(&self) -> u64
+        ensures { result ≡ self.now }
+    {
+        self.value
+    }
+}
+
+#[cfg(test)]
+mod tests {
+    use super::*;
+
+    #[test]
+    fn a_count_rises_by_one_and_a_copy_stays(rt: HostRuntime) {
+        let mut count = Count::new();
+        let before = count;
+        count.rise();
+        count.rise();
+        assert_eq!(rt; count.value(), 2);
+        assert_eq!(rt; before, Count::default());
+        assert_eq!(rt; before.value(), 0);
+    }
+}

@@ -1,0 +1,25 @@
+-- What a keeper takes and gives, whether it tells its tables or not.
+use Rattle.std.specs.Prelude.{ℕ, ◌≤◌, ◌<◌, All, List, length}
+use Rattle.tao_base.specs.declared.edge.Edge.{Edge}
+use Rattle.tao_base.specs.declared.entry.Touch.{Touch}
+use Rattle.tao_keeper.specs.declared.keeper.TheConstants.{MOST_ENTRIES, STAMP_LIMIT}
+use Rattle.graph_model.specs.Edges.{AreDistinct, IsNewestFirst, number_of, state_left}
+
+-- a position in a log
+abbrev pub IsPosition : ℕ → Type 0
+IsPosition position = (0 < position) × (position ≤ MOST_ENTRIES)
+
+-- the number of a stamp that is kept
+abbrev pub IsSmall : ℕ → Type 0
+IsSmall number = number < STAMP_LIMIT
+
+-- the stamps of the records that the touches leave have such numbers
+abbrev pub HaveSmallStamps : List Touch → Type 0
+HaveSmallStamps touches = All (λ t. IsSmall (number_of (state_left t.change))) touches
+
+-- edges that are given: at most as many as were asked for, newest first, no two to one id
+pub record AreGiven (most : ℕ) (edges : List Edge) : Type 0 where
+  pub few : length edges ≤ most
+  pub sorted : IsNewestFirst edges
+  pub distinct : AreDistinct edges
+  pub stamps : All (λ e. IsSmall e.stamp.number) edges

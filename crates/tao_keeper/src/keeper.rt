@@ -1,0 +1,178 @@
+ghost use Rattle.std.specs.Prelude.{◌≡◌, ◌≤◌, ◌<◌, ℕ, Bool, length, take, drop, IfOk, IfSome};
+ghost use Rattle.counts.specs.Count.{Counted};
+ghost use Rattle.graph_model.specs.Edges.{edge_list, edge_record, number_of};
+ghost use Rattle.graph_model.specs.Log.{version};
+ghost use Rattle.graph_model.specs.Soundness.{CanFollow, IsSound};
+ghost use Rattle.tao_base.specs.declared.id.StoreName.{StoreName as Store};
+ghost use Rattle.tao_keeper.specs.Cause.{IsCaused};
+ghost use Rattle.tao_keeper.specs.Given.{AreGiven, HaveSmallStamps, IsPosition, IsSmall};
+ghost use Rattle.tao_keeper.specs.Table.{Table, WhereTold, Stays, Changes, OpensAs, StandsAt, after_commit, after_open};
+
+use std::alloc::{AllocError, AllocFailed};
+use std::error::Error;
+use std::fmt;
+use tao_base::{AType, EdgeState, Edges, Entry, Id, Key, Origin, StoreName};
+
+/// How many entries a log can have.
+pub const MOST_ENTRIES: u64 = 65_536;
+
+/// The numbers of the stamps that a keeper takes and gives are below this.
+pub const STAMP_LIMIT: u64 = 1 << 62;
+
+/// Why a call of a keeper gave no answer. It changed no table.
+#[derive(Clone, Copy, Debug, PartialEq, Eq)]
+pub enum KeepFail {
+    /// The keeper failed, and counted that as a fault.
+    Failed,
+    /// There was no memory for the call.
+    OutOfMemory,
+}
+
+impl fmt::Display for KeepFail {
+    fn fmt<W: fmt::Write>(&self, f: &mut fmt::Formatter<W>) -> fmt::Result {
+        match self {
+            KeepFail::Failed => write!(f, "the keeper failed"),
+            KeepFail::OutOfMemory => write!(f, "out of memory"),
+        }
+    }
+}
+
+impl Error for KeepFail {}
+
+impl From<AllocError> for KeepFail {
+    ghost use Rattle.std.specs.Prelude.{◌≡◌};
+    ghost use Rattle.tao_keeper.specs.declared.keeper.KeepFail.TheVariants.{OutOfMemory};
+
+    ghost from_gives = { λ _ fail. fail ≡ OutOfMemory };
+
+    fn from(_: AllocError) -> KeepFail {
+        KeepFail::OutOfMemory
+    }
+}
+
+impl<T: Drop> From<AllocFailed<T>> for KeepFail {
+    ghost use Rattle.std.specs.Prelude.{◌≡◌};
+    ghost use Rattle.tao_keeper.specs.declared.keeper.KeepFail.TheVariants.{OutOfMemory};
+
+    ghost from_gives = { λ _ fail. fail ≡ OutOfMemory };
+
+    fn from(_: AllocFailed<T>) -> KeepFail {
+        KeepFail::OutOfMemory
+    }
+}
+
+/// How a store took the line that it was opened with.
+#[derive(Clone, Copy, Debug, PartialEq, Eq)]
+pub enum Opened {
+    /// It is opened first, or was first opened with the same bytes.
+    Ready,
+    /// It was first opened with other bytes, and keeps them.
+    OtherLine,
+}
+
+/// What one transaction adds to a store.
+#[derive(Debug, Drop)]
+pub struct Commit {
+    pub entry: Entry,
+}
+
+/// Keeps the tables of stores: their logs, and the lines that they were first opened with. A store that nothing was
+/// written to is empty.
+///
+/// Where a keeper tells its tables, each answer is what the log of the store gives. Each call but the two that read
+/// the counts is counted, whatever it answers.
+pub trait Keeper {
+    /// Whether the keeper tells its tables.
+    const TELLS: bool;
+
+    ghost TELLS: { Bool };
+
+    /// The tables of each store, which mean nothing where the keeper doesn't tell.
+    ghost told: { Self → Store → Table };
+
+    /// How many calls there were.
+    ghost calls: { Self → ℕ };
+
+    /// How many faults there were.
+    ghost faults: { Self → ℕ };
+
+    /// Opens a store with a line. It keeps the first line that it was opened with.
+    fn open(&mut self, at: StoreName, line: &[u8]) -> Result<Opened, KeepFail>
+        ensures answer { WhereTold TELLS (IfOk result (λ opened. OpensAs opened (told self.old at) line.now)) }
+        ensures changes { WhereTold TELLS (Changes result (told self.old) (told self.new) at (after_open (told self.old at) line.now)) }
+        ensures counted { Counted (calls self.old) (calls self.new) }
+        ensures cause { IsCaused (faults self.old) (faults self.new) result };
+
+    /// The record of an edge, where it has one.
+    fn edge(
+        &mut self,
+        at: StoreName,
+        id1: Id,
+        atype: AType,
+        id2: Id,
+    ) -> Result<Option<EdgeState>, KeepFail>
+        ensures answer { WhereTold TELLS (IfOk result (λ state. state ≡ edge_record (told self.old at).log id1 atype id2)) }
+        ensures small { IfOk result (λ state. IsSmall (number_of state)) }
+        ensures stays { WhereTold TELLS (Stays (told self.old) (told self.new)) }
+        ensures counted { Counted (calls self.old) (calls self.new) }
+        ensures cause { IsCaused (faults self.old) (faults self.new) result };
+
+    /// The edges of a list at the places from `pos` on, at most `most` of them. Places count from 0.
+    fn edges(
+        &mut self,
+        at: StoreName,
+        id1: Id,
+        atype: AType,
+        pos: u64,
+        most: u64,
+    ) -> Result<Edges, KeepFail>
+        ensures answer { WhereTold TELLS (IfOk result (λ edges. edges ≡ take most (drop pos (edge_list (told self.old at).log id1 atype)))) }
+        ensures given { IfOk result (AreGiven most) }
+        ensures stays { WhereTold TELLS (Stays (told self.old) (told self.new)) }
+        ensures counted { Counted (calls self.old) (calls self.new) }
+        ensures cause { IsCaused (faults self.old) (faults self.new) result };
+
+    /// How many entries touch the key.
+    fn version(&mut self, at: StoreName, key: Key) -> Result<u64, KeepFail>
+        ensures answer { WhereTold TELLS (IfOk result (λ count. count ≡ version (told self.old at).log key)) }
+        ensures few { IfOk result (λ count. count ≤ MOST_ENTRIES) }
+        ensures stays { WhereTold TELLS (Stays (told self.old) (told self.new)) }
+        ensures counted { Counted (calls self.old) (calls self.new) }
+        ensures cause { IsCaused (faults self.old) (faults self.new) result };
+
+    /// How many entries the log has.
+    fn length(&mut self, at: StoreName) -> Result<u64, KeepFail>
+        ensures answer { WhereTold TELLS (IfOk result (λ count. count ≡ length (told self.old at).log)) }
+        ensures few { IfOk result (λ count. count ≤ MOST_ENTRIES) }
+        ensures stays { WhereTold TELLS (Stays (told self.old) (told self.new)) }
+        ensures counted { Counted (calls self.old) (calls self.new) }
+        ensures cause { IsCaused (faults self.old) (faults self.new) result };
+
+    /// The position of the entry of an origin, where there is one. Positions count from 1.
+    fn origin(&mut self, at: StoreName, origin: Origin) -> Result<Option<u64>, KeepFail>
+        ensures answer { WhereTold TELLS (IfOk result (StandsAt (told self.old at).log origin)) }
+        ensures within { IfOk result (λ found. IfSome found IsPosition) }
+        ensures stays { WhereTold TELLS (Stays (told self.old) (told self.new)) }
+        ensures counted { Counted (calls self.old) (calls self.new) }
+        ensures cause { IsCaused (faults self.old) (faults self.new) result };
+
+    /// Adds the entry at the end of the log, in one transaction.
+    fn commit(&mut self, at: StoreName, commit: &Commit) -> Result<(), KeepFail>
+        requires stamps { HaveSmallStamps commit.now.entry.touches }
+        requires room { WhereTold TELLS (length (told self.old at).log < MOST_ENTRIES) }
+        requires follows { WhereTold TELLS (CanFollow (told self.old at).log commit.now.entry) }
+        ensures changes { WhereTold TELLS (Changes result (told self.old) (told self.new) at (after_commit (told self.old at) commit.now.entry)) }
+        ensures counted { Counted (calls self.old) (calls self.new) }
+        ensures cause { IsCaused (faults self.old) (faults self.new) result };
+
+    /// How many calls there were.
+    fn calls(&self) -> u64
+        ensures { result ≡ calls self.now };
+
+    /// How many faults there were. The count never falls.
+    fn faults(&self) -> u64
+        ensures { result ≡ faults self.now };
+
+    /// Each log that is told is sound.
+    ghost sound: { (keeper : Self) (at : Store) → WhereTold TELLS (IsSound (told keeper at).log) };
+}

@@ -1,0 +1,6 @@
+//! Keepers: what holds the tables of the stores, and the keeper in memory.
+#![tactic(auto)]
+
+mod keeper;
+
+pub use keeper::{Commit, KeepFail, Keeper, MOST_ENTRIES, Opened, STAMP_LIMIT};

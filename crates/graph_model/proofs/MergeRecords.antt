@@ -20,7 +20,7 @@ use Rattle.graph_model.proofs.Updates.{edge_record-append, record_of_update, upd
 use Rattle.graph_model.proofs.Written.{AreApart, given_entry, keys_apart}
 use Rattle.graph_model.specs.Edges.{edge_record}
 use Rattle.graph_model.specs.EndLaws.{InversesMatch}
-use Rattle.graph_model.specs.MergeLaws.{IsFarEntry, join_all, merged}
+use Rattle.graph_model.specs.MergeLaws.{IsFarEntry, join_all, merged, records_at}
 use Rattle.graph_model.specs.Merges.{is_later, is_news, job_of, join, merge_entry}
 use Rattle.graph_model.specs.Soundness.{EdgeUpdate, updates_of}
 use Rattle.graph_model.specs.Writes.{edge_touch, same_edge, when}
@@ -92,7 +92,7 @@ module _ (types : EdgeTypes) (from shard : ℕ) (e : Entry) (far : IsFarEntry ty
   -- the record after the merge of a job
   pub record_merged : (id1 : Id) (atype : AType) (id2 : Id)
       → edge_record (merged types log (from, e)) id1 atype id2
-      ≡ join_all (edge_record log id1 atype id2) (filter_map (λ u. when (same_edge (id1, atype, id2, u.3) u) (Some u.3)) (job_of types e))
+      ≡ join_all (edge_record log id1 atype id2) (records_at id1 atype id2 (job_of types e))
   record_merged id1 atype id2 =
       let o : Option Entry = merge_entry types log from e in
       let at : EdgeUpdate → Option EdgeState = λ u. when (same_edge (id1, atype, id2, u.3) u) (Some u.3) in

@@ -3,7 +3,7 @@ use Rattle.std.proofs.Common.{◌≡◌, ℕ, ◌≢◌, List, [], ◌∷◌, �
 use Rattle.std.proofs.lemmas.Bool.{cases_eq}
 use Rattle.std.proofs.lemmas.Grind.{fold-append}
 use Rattle.std.proofs.lemmas.List.Elements.{All-contains, All-push, All-weaker}
-use Rattle.std.specs.Prelude.{All, Contains, Option, Some, None, filter, filter_map, fold, option_to_list}
+use Rattle.std.specs.Prelude.{All, Contains, Option, Some, None, filter, fold, option_to_list}
 use Rattle.tao_base.specs.EdgeTypes.{EdgeTypes}
 use Rattle.tao_base.specs.declared.id.Id.{Id}
 use Rattle.tao_base.specs.declared.id.AType.{AType}
@@ -19,10 +19,10 @@ use Rattle.graph_model.proofs.Rising.{stamps_stay}
 use Rattle.graph_model.proofs.Written.{given_entry}
 use Rattle.graph_model.specs.Edges.{edge_record}
 use Rattle.graph_model.specs.EndLaws.{InversesMatch}
-use Rattle.graph_model.specs.MergeLaws.{AreMergeable, AreMerged, IsFarEntry, IsMergeable, IsNewOrDone, MergesJoin, OrderIsFree, join_all, merged, merged_in_turn, records_of}
+use Rattle.graph_model.specs.MergeLaws.{AreMergeable, AreMerged, IsFarEntry, IsMergeable, IsNewOrDone, MergesJoin, OrderIsFree, join_all, merged, merged_in_turn, records_at, records_of}
 use Rattle.graph_model.specs.Merges.{Agree, HasStamp, is_news, job_of, join, merge_entry}
 use Rattle.graph_model.specs.Soundness.{IsSound, IsSoundOf}
-use Rattle.graph_model.specs.Writes.{edge_touch, same_edge, when}
+use Rattle.graph_model.specs.Writes.{edge_touch}
 
 -- the jobs: any entry of theirs is the only one at its position
 record AreJobs (types : EdgeTypes) (shard : ℕ) (jobs : List (ℕ × Entry)) : Type 0 where
@@ -103,7 +103,7 @@ module _ (types : EdgeTypes) (shard : ℕ) (jobs : List (ℕ × Entry)) (are : A
       → edge_record (fold (merged types) log js) id1 atype id2 ≡ join_all (edge_record log id1 atype id2) (records_of types js id1 atype id2)
   record_in_turn [] among log id1 atype id2 = refl
   record_in_turn (j ∷ js) among log id1 atype id2 =
-      let here : List EdgeState = filter_map (λ u. when (same_edge (id1, atype, id2, u.3) u) (Some u.3)) (job_of types j.1) in
+      let here : List EdgeState = records_at id1 atype id2 (job_of types j.1) in
       record_in_turn js (λ job h. among job (inr h)) (merged types log j) id1 atype id2
       ∙ ap (λ o. join_all o (records_of types js id1 atype id2)) (record_merged types j.0 shard j.1 (are.far j (among j (inl refl))) are.match log id1 atype id2)
       ∙ sym (fold-append (λ old state. join old (Some state)) (edge_record log id1 atype id2) here (records_of types js id1 atype id2))
@@ -143,7 +143,7 @@ other_order types shard log jobs others may from = record {
 same_records : (types : EdgeTypes) (jobs others : List (ℕ × Entry)) → ((job : ℕ × Entry) → Contains jobs job → Contains others job) → (id1 : Id) (atype : AType) (id2 : Id) (s : EdgeState)
     → IsIn s (records_of types jobs id1 atype id2) → IsIn s (records_of types others id1 atype id2)
 same_records types jobs others to id1 atype id2 s h =
-    let at : ℕ × Entry → List EdgeState = λ job. filter_map (λ u. when (same_edge (id1, atype, id2, u.3) u) (Some u.3)) (job_of types job.1) in
+    let at : ℕ × Entry → List EdgeState = λ job. records_at id1 atype id2 (job_of types job.1) in
     let r = in_flat_map_parts at jobs s h in
     in_flat_map at others r.0 s (in_from_contains others r.0 (to r.0 (contains_from_in jobs r.0 r.1))) r.2
 

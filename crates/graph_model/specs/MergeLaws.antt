@@ -43,12 +43,13 @@ pub record MergesNothing (log : List Entry) (from : ℕ) (e : Entry) : Type 0 wh
   pub done : (types : EdgeTypes) → merge_entry types log from e ≡ None → All (HasStamp log) (job_of types e)
   pub nothing : (types : EdgeTypes) → All (HasStamp log) (job_of types e) → merge_entry types log from e ≡ None
 
--- the entry that merges a job keeps the log sound and leaves all of the job there, and then nothing is left to merge
+-- the entry keeps the log sound and leaves all of the job there, and then nothing is left to merge
 pub record IsMerged (types : EdgeTypes) (shard : ℕ) (log : List Entry) (from : ℕ) (e m : Entry) : Type 0 where
   pub stays : StaysSound types shard log m
   pub done : All (HasStamp (log ++ m ∷ [])) (job_of types e)
   pub nothing : merge_entry types (log ++ m ∷ []) from e ≡ None
 
+-- so the entry that merges a job that may be merged
 pub record MergeFollows (shard : ℕ) (log : List Entry) (from : ℕ) (e m : Entry) : Type 0 where
   pub merges : (types : EdgeTypes) → IsMergeable types shard log from e → merge_entry types log from e ≡ Some m → IsMerged types shard log from e m
 
@@ -71,9 +72,13 @@ merged types log job = log ++ option_to_list (merge_entry types log job.0 job.1)
 abbrev pub merged_in_turn : EdgeTypes → List Entry → List (ℕ × Entry) → List Entry
 merged_in_turn types log jobs = fold (merged types) log jobs
 
+-- those of the records that are of one edge
+abbrev pub records_at : Id → AType → Id → List EdgeUpdate → List EdgeState
+records_at id1 atype id2 us = filter_map (λ u. when (same_edge (id1, atype, id2, u.3) u) (Some u.3)) us
+
 -- what jobs say of one edge
 abbrev pub records_of : EdgeTypes → List (ℕ × Entry) → Id → AType → Id → List EdgeState
-records_of types jobs id1 atype id2 = flat_map (λ job. filter_map (λ u. when (same_edge (id1, atype, id2, u.3) u) (Some u.3)) (job_of types job.1)) jobs
+records_of types jobs id1 atype id2 = flat_map (λ job. records_at id1 atype id2 (job_of types job.1)) jobs
 
 -- the join of a record with others
 abbrev pub join_all : Option EdgeState → List EdgeState → Option EdgeState
@@ -94,10 +99,11 @@ pub record AreMerged (types : EdgeTypes) (shard : ℕ) (log : List Entry) (jobs 
   pub record_is : (id1 : Id) (atype : AType) (id2 : Id)
       → edge_record (merged_in_turn types log jobs) id1 atype id2 ≡ join_all (edge_record log id1 atype id2) (records_of types jobs id1 atype id2)
 
+-- so jobs that may be merged, in whatever order they come
 pub record MergesJoin (shard : ℕ) (log : List Entry) : Type 0 where
   pub merges : (types : EdgeTypes) (jobs : List (ℕ × Entry)) → AreMergeable types shard log jobs → AreMerged types shard log jobs
 
--- no two records of the edge, in the log or in the jobs, have one stamp
+-- of the edge's records, the log's and those of the jobs, two with one stamp are one
 abbrev pub RecordsAgree : EdgeTypes → List Entry → List (ℕ × Entry) → Id → AType → Id → Type 0
 RecordsAgree types log jobs id1 atype id2 = AllAgree (option_to_list (edge_record log id1 atype id2) ++ records_of types jobs id1 atype id2)
   where

@@ -201,17 +201,25 @@ range_differs bound edges qs g ys total id1 atype pos limit enough reaches h =
     take_differs (min limit bound) (drop pos (edges ++ qs)) g (restamped g) ys (omega arith) (restamped-differs g)
     (ap (take (min limit bound)) (sym (dropped pos edges qs g ys enough)) ∙ lists ∙ ap (take (min limit bound)) (dropped pos edges qs (restamped g) ys enough))
 
+-- the element at a place, between those before and those behind
+place : (j : ℕ) (xs : List Edge) → j < length xs → (g : Edge) × (ys : List Edge) × (xs ≡ take j xs ++ g ∷ ys)
+place j xs lt =
+    let behind = length-drop j xs in
+    let w = parted (drop j xs) (omega arith) in
+    (w.0, w.1, sym (take-append-drop j xs) ∙ ap (λ ys. take j xs ++ ys) w.2)
+
+open_range_at : (bound : ℕ) (edges rest qs : List Edge) (g : Edge) (ys : List Edge) (total id1 : ℕ) (atype : AType) (pos limit : ℕ) → rest ≡ qs ++ g ∷ ys → total ≡ length edges + length rest
+    → IsInOrder (edges ++ rest) → pos ≤ length edges + length qs → length edges + length qs < pos + min limit bound → IsOpen bound edges total (AssocRange id1 atype pos limit)
+open_range_at bound edges rest qs g ys total id1 atype pos limit joined count order enough reaches =
+    opened bound edges qs g ys total (AssocRange id1 atype pos limit) (count ∙ ap (λ xs. length edges + length xs) joined) (subst (λ xs. IsInOrder (edges ++ xs)) joined order)
+    (range_differs bound edges qs g ys total id1 atype pos limit enough reaches)
+
 open_range : (bound : ℕ) (edges rest : List Edge) (total id1 : ℕ) (atype : AType) (pos limit : ℕ) → total ≡ length edges + length rest → 0 < length rest → IsInOrder (edges ++ rest)
     → 0 < min limit bound → length edges < pos + min limit bound → pos < total → IsOpen bound edges total (AssocRange id1 atype pos limit)
 open_range bound edges rest total id1 atype pos limit count some order used reaches before =
-    let j : ℕ = pos - length edges in
-    let behind = length-drop j rest in
-    let w = parted (drop j rest) (omega arith) in
-    let joined : rest ≡ take j rest ++ w.0 ∷ w.1 = sym (take-append-drop j rest) ∙ ap (λ ys. take j rest ++ ys) w.2 in
-    let as_long = ap length joined in
-    let first = length-take j rest in
-    opened bound edges (take j rest) w.0 w.1 total (AssocRange id1 atype pos limit) (omega arith) (subst (λ ys. IsInOrder (edges ++ ys)) joined order)
-    (range_differs bound edges (take j rest) w.0 w.1 total id1 atype pos limit (omega arith) (omega arith))
+    let first = length-take (pos - length edges) rest in
+    let w = place (pos - length edges) rest (omega arith) in
+    open_range_at bound edges rest (take (pos - length edges) rest) w.0 w.1 total id1 atype pos limit w.2 count order (omega arith) (omega arith)
 
 -- what is left behind the first edges
 not_all : (m n : ℕ) → eqb m (m + n) ≡ false → 0 < n

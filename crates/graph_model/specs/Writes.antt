@@ -47,7 +47,7 @@ next_stamp log id1 atype id2 = record { number = number_of (edge_record log id1 
 abbrev pub same_edge : EdgeUpdate → EdgeUpdate → Bool
 same_edge u v = u.0 == v.0 && u.1.0 == v.1.0 && u.2 == v.2
 
--- where the record's id2 lies on the same shard as its id1
+-- whether the record's id2 lies on the shard of its id1
 abbrev pub is_near : EdgeUpdate → Bool
 is_near u = nat_eq (shard_of u.2) (shard_of u.0)
 

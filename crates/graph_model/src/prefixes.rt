@@ -1,5 +1,10 @@
 //! Laws of cached prefixes.
-ghost use Rattle.graph_model.specs.PrefixLaws.{DecidesExactly, DecidesRightly, PrefixFollows};
+ghost use Rattle.graph_model.specs.PrefixLaws.{
+  DecidesExactly,
+  DecidesRightly,
+  PrefixFollows,
+  UndecidedIsOpen,
+};
 
 use tao_base::{Change, Edge, Query};
 
@@ -13,6 +18,13 @@ pub fn prefixes_decide_exactly(_bound: u64, _edges: &[Edge], _total: u64, _query
 #[tactic(auto, using(crate::proofs::Decided::decides_rightly))]
 pub fn prefixes_decide_rightly(_bound: u64, _edges: &[Edge], _total: u64, _query: &Query)
     ensures { DecidesRightly _bound _edges.now _total _query.now }
+{}
+
+/// A query that a prefix does not decide is open: lists that begin with it answer differently,
+/// where any edge that is asked for could stand behind it.
+#[tactic(auto, using(crate::proofs::Undecided::undecided_is_open))]
+pub fn undecided_queries_are_open(_bound: u64, _edges: &[Edge], _total: u64, _query: &Query)
+    ensures { UndecidedIsOpen _bound _edges.now _total _query.now }
 {}
 
 /// A change takes a prefix of a list to a prefix of the list after the change.

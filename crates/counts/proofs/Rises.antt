@@ -1,5 +1,5 @@
 -- Laws of counts that rise, for crates whose calls make several others.
-use Rattle.std.proofs.Common.{◌≡◌, ℕ, ◌+◌, ◌-◌, ◌^◌, ◌<◌, ◌≤◌, arith}
+use Rattle.std.proofs.Common.{ℕ, ◌+◌, ◌-◌, ◌^◌, ◌<◌, ◌≤◌, arith}
 use Rattle.counts.specs.Count.{Counted, Rose}
 
 -- a rise stays one while the count grows on

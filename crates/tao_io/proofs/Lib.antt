@@ -1,3 +1,4 @@
-pub mod Known
+pub mod GivenLines
+mod Known
 pub mod LineLaws
 mod Reading

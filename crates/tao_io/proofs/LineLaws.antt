@@ -1,13 +1,12 @@
 -- Laws of the lines of bytes, and of what is held of a line.
-use Rattle.std.proofs.Common.{◌≡◌, ℕ, ◌+◌, ◌-◌, ◌<◌, ◌≤◌, zero, suc, true, false, nat_lt, List, [], ◌∷◌, ◌++◌, Option, Some, None, cond, inl, inr, min, length, take, drop, get_or, refl, ap, ◌∙◌, sym, subst, arith, length-take, length-append}
+use Rattle.std.proofs.Common.{◌≡◌, ℕ, ◌+◌, ◌-◌, ◌<◌, ◌≤◌, zero, suc, nat_lt, List, [], ◌∷◌, ◌++◌, Some, inl, inr, min, length, take, drop, get_or, refl, ap, ◌∙◌, sym, subst, arith, length-take}
 use Rattle.std.proofs.lemmas.Bool.{cases_Bool, ltb-true, ltb-false, lt-ltb, eqb-true}
 use Rattle.std.proofs.lemmas.List.{take_all, take_min, get_or-take, drop-take, drop-drop}
 use Rattle.std.proofs.Math.Seq.{take-append-add}
 use Rattle.std.proofs.lemmas.List.Sums.{fails_before_first, passes_at_first, split_at_first}
 use Rattle.std.proofs.lemmas.List.Splits.{slice_split_none, slice_split_at}
-use Rattle.std.specs.List.{position_or_len, position, slice_split}
-use Rattle.tao_io.specs.Lines.{is_line_end, lines_of, NoLineEnd, EndsLineAt, held, TakesToEnd, CountsTaken}
-use Rattle.std.proofs.KnownBytes.{Consumes-nil, Consumes-trans}
+use Rattle.std.specs.List.{position_or_len, position}
+use Rattle.tao_io.specs.Lines.{is_line_end, lines_of, NoLineEnd, EndsLineAt, held, TakesToEnd}
 
 -- the front of a front, gone on with, is the front of the whole
 take_take-append : (n : ℕ) (xs ys : List ℕ) → take n (take n xs ++ ys) ≡ take n (xs ++ ys)
@@ -49,13 +48,13 @@ pub position-ends : (bytes : List ℕ) → EndsLineAt bytes (position is_line_en
 position-ends bytes =
     let at = position_or_len is_line_end bytes in
     elim (cases_Bool (nat_lt at (length bytes))) [
-      inl found ↦
-      let within : at < length bytes = ltb-true at (length bytes) found in
-      let ten : get_or bytes at 0 ≡ 10 = eqb-true _ _ (passes_at_first is_line_end bytes 0 within) in
-      rw found (within, NoLineEnd-before bytes at (omega arith), subst (λ b. bytes ≡ take at bytes ++ b ∷ drop (at + 1) bytes) ten (split_at_first is_line_end bytes 0 within))
-    | inr none ↦
-      let past : length bytes ≤ at = ltb-false at (length bytes) none in
-      rw none (λ k d small. let before : k < at = omega arith in fails_before_first is_line_end bytes k d before)
+      | inl found ↦
+          let within : at < length bytes = ltb-true at (length bytes) found in
+          let ten : get_or bytes at 0 ≡ 10 = eqb-true _ _ (passes_at_first is_line_end bytes 0 within) in
+          rw found (within, NoLineEnd-before bytes at (omega arith), subst (λ b. bytes ≡ take at bytes ++ b ∷ drop (at + 1) bytes) ten (split_at_first is_line_end bytes 0 within))
+      | inr none ↦
+          let past : length bytes ≤ at = ltb-false at (length bytes) none in
+          rw none (λ k d small. let before : k < at = omega arith in fails_before_first is_line_end bytes k d before)
     ]
 
 -- a line and its end, and then the lines of what follows
@@ -91,15 +90,3 @@ takes_to_end chunk line line' at end n within ends goes =
     let ahead = take (end - at) (drop at chunk) in
     let rest : drop (n + 1) ahead ≡ take (end - (at + (n + 1))) (drop (at + (n + 1)) chunk) = drop-stretch chunk at end (n + 1) (omega arith) in
     (take n ahead, ends.1, ends.2 ∙ ap (λ l. take n ahead ++ 10 ∷ l) rest, goes)
-
--- what was taken in two steps
-pub CountsTaken-trans : (a b c : Option (List ℕ)) (k m n : ℕ) → CountsTaken a b k m → CountsTaken b c m n → CountsTaken a c k n
-CountsTaken-trans a b c k m n first second = record {
-  bytes = first.bytes ++ second.bytes;
-  consumed = Consumes-trans a b c first.bytes second.bytes first.consumed second.consumed;
-  count = omega (arith, first.count, second.count, length-append first.bytes second.bytes);
-}
-
--- nothing was taken yet
-pub CountsTaken-nil : (a : Option (List ℕ)) (k : ℕ) → CountsTaken a a k k
-CountsTaken-nil a k = record { bytes = []; consumed = Consumes-nil a; count = omega arith }

@@ -1,9 +1,8 @@
 -- A line in the making, while its bytes are read chunk by chunk.
-use Rattle.std.proofs.Common.{◌≡◌, ℕ, ◌+◌, ◌-◌, ◌<◌, ◌≤◌, zero, suc, true, false, nat_lt, List, [], ◌∷◌, ◌++◌, Option, Some, None, inl, inr, length, refl, ap, ◌∙◌, sym, subst, arith, append_assoc, append-nil, length-append}
+use Rattle.std.proofs.Common.{◌≡◌, ℕ, ◌+◌, ◌<◌, ◌≤◌, false, nat_lt, List, [], ◌∷◌, ◌++◌, Option, Some, None, inl, inr, length, refl, ap, ◌∙◌, sym, subst, arith, append_assoc, append-nil, length-append}
 use Rattle.std.proofs.lemmas.Bool.{cases_Bool, ltb-true, ltb-false}
 use Rattle.std.proofs.lemmas.List.Elements.{All-nil, All-append}
 use Rattle.std.specs.Io.KnownBytes.{Keeps, IsAtEnd, prepend_known}
-use Rattle.tao_io.specs.declared.lines.NextLine.TheVariants.{End}
 use Rattle.tao_io.specs.Lines.{is_line_end, lines_of, NoLineEnd, held, TakesAll, TakesToEnd, line_kind, GivesLines, NextLineIs, UsesSome}
 use Rattle.tao_io.proofs.LineLaws.{held-append, length-held, held-short, lines_of-ended, lines_of-skip, lines_of-last, lines_of-nil}
 
@@ -15,10 +14,6 @@ pub record Reading (before now : Option (List ℕ)) (line : List ℕ) (most stil
   pub clear : NoLineEnd seen
   pub same : GivesLines before (prepend_known seen now) []
   pub used : still + length seen ≤ most
-
--- no more is held than may be
-pub Reading-small : (before now : Option (List ℕ)) (line : List ℕ) (most still : ℕ) → Reading before now line most still → length line ≤ 1048577
-Reading-small before now line most still r = omega (arith, ap length r.holds, length-held r.seen)
 
 held-nil : [] ≡ held []
 held-nil = sym (held-short [] (omega arith))
@@ -78,7 +73,7 @@ Reading-skip before left line line' ahead ahead' most rest r ends empty =
       holds = empty ∙ held-nil;
       clear = All-nil _;
       same = same-moved before left r.seen [] ahead ahead'
-        (λ more. ap (λ l. lines_of (r.seen ++ (l ++ more))) ends.2 ∙ ap lines_of (regroup r.seen ends.0 ahead' more ∙ ap (λ l. l ++ 10 ∷ (ahead' ++ more)) none) ∙ lines_of-skip (ahead' ++ more)) r.same;
+          (λ more. ap (λ l. lines_of (r.seen ++ (l ++ more))) ends.2 ∙ ap lines_of (regroup r.seen ends.0 ahead' more ∙ ap (λ l. l ++ 10 ∷ (ahead' ++ more)) none) ∙ lines_of-skip (ahead' ++ more)) r.same;
       used = omega (arith, r.used, ap length ends.2, length-append ends.0 (10 ∷ ahead'));
     }
 
@@ -88,13 +83,13 @@ kind-is before now [] seen holds some gives = absurd (omega arith)
 kind-is before now (b ∷ bs) seen holds some gives =
     let size : length (b ∷ bs) ≡ length (held seen) = ap length holds in
     elim (cases_Bool (nat_lt 1048576 (length (b ∷ bs)))) [
-      inl long ↦
-      let more : 1048576 < length (b ∷ bs) = ltb-true 1048576 (length (b ∷ bs)) long in
-      rw long (seen, omega (arith, size, more, length-held seen), gives)
-    | inr short ↦
-      let less : length (b ∷ bs) ≤ 1048576 = ltb-false 1048576 (length (b ∷ bs)) short in
-      let within : length seen ≤ 1048577 = omega (arith, size, less, length-held seen) in
-      rw short (less, subst (λ l. GivesLines before now (l ∷ [])) (sym (holds ∙ held-short seen within)) gives)
+      | inl long ↦
+          let more : 1048576 < length (b ∷ bs) = ltb-true 1048576 (length (b ∷ bs)) long in
+          rw long (seen, omega (arith, size, more, length-held seen), gives)
+      | inr short ↦
+          let less : length (b ∷ bs) ≤ 1048576 = ltb-false 1048576 (length (b ∷ bs)) short in
+          let within : length seen ≤ 1048577 = omega (arith, size, less, length-held seen) in
+          rw short (less, subst (λ l. GivesLines before now (l ∷ [])) (sym (holds ∙ held-short seen within)) gives)
     ]
 
 uses-some : (line : List ℕ) (most still : ℕ) → still < most → UsesSome (line_kind line) most still
@@ -117,11 +112,12 @@ Reading-line before left line line' ahead ahead' most rest r ends some =
     let whole = r.seen ++ ends.0 in
     let holds : line' ≡ held whole = holds-more line line' r.seen ends.0 r.holds ends.3 in
     let clear : NoLineEnd whole = All-append (λ byte. is_line_end byte ≡ false) r.seen ends.0 r.clear ends.1 in
-    let some_seen : 0 < length whole = held-some whole (subst (λ l. 0 < length l) holds some) in
-    (kind-is before (prepend_known ahead' left) line' whole holds some
-    (gives-one before left r.seen ahead ahead' whole
-      (λ more. ap (λ l. lines_of (r.seen ++ (l ++ more))) ends.2 ∙ ap lines_of (regroup r.seen ends.0 ahead' more) ∙ lines_of-ended whole (ahead' ++ more) clear some_seen) r.same),
-    uses-some line' most (length ahead' + rest) (omega (arith, r.used, ap length ends.2, length-append ends.0 (10 ∷ ahead'))))
+    let some_seen : 0 < length whole = held-some whole (subst (λ l. 0 < length l) holds some) in (
+      kind-is before (prepend_known ahead' left) line' whole holds some
+          (gives-one before left r.seen ahead ahead' whole
+          (λ more. ap (λ l. lines_of (r.seen ++ (l ++ more))) ends.2 ∙ ap lines_of (regroup r.seen ends.0 ahead' more) ∙ lines_of-ended whole (ahead' ++ more) clear some_seen) r.same),
+      uses-some line' most (length ahead' + rest) (omega (arith, r.used, ap length ends.2, length-append ends.0 (10 ∷ ahead'))),
+    )
 
 gives-last : (before now : Option (List ℕ)) (seen : List ℕ) → NoLineEnd seen → 0 < length seen → IsAtEnd now → GivesLines before (prepend_known seen now) [] → GivesLines before now (seen ∷ [])
 gives-last None now seen clear some end same = tt

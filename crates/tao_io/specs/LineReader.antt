@@ -2,6 +2,10 @@
 use Rattle.std.specs.Prelude.{◌≡◌, ℕ, ◌+◌, ◌-◌, ◌^◌, ◌≤◌, List, length, Option}
 use Rattle.std.specs.Io.KnownBytes.{prepend_known}
 
+-- the most bytes that are taken of an input
+abbrev pub input_limit : ℕ
+input_limit = 2 ^ 40
+
 -- the bytes that it took and hasn't given yet, and how many it took in all
 pub record LineReading : Type 0 where
   pub ahead : List ℕ
@@ -13,8 +17,8 @@ to_come reader left = prepend_known reader.ahead left
 
 -- how many bytes it may still give: those ahead, and those that it may still take
 abbrev pub may_give : LineReading → ℕ
-may_give reader = length reader.ahead + (2 ^ 40 - reader.taken)
+may_give reader = length reader.ahead + (input_limit - reader.taken)
 
 -- the bytes ahead stand within the chunk, and no more was taken than may be
 abbrev pub IsWithin : List ℕ → ℕ → ℕ → ℕ → Type 0
-IsWithin chunk at end taken = (length chunk ≡ 65536) × (at ≤ end) × (end ≤ 65536) × (taken ≤ 2 ^ 40)
+IsWithin chunk at end taken = (length chunk ≡ 65536) × (at ≤ end) × (end ≤ 65536) × (taken ≤ input_limit)

@@ -22,13 +22,17 @@ abbrev pub EndsLineAt : List ℕ → Option ℕ → Type 0
 EndsLineAt bytes None = NoLineEnd bytes
 EndsLineAt bytes (Some at) = (at < length bytes) × NoLineEnd (take at bytes) × (bytes ≡ take at bytes ++ 10 ∷ drop (at + 1) bytes)
 
+-- the most bytes of a line that is taken
+abbrev pub line_limit : ℕ
+line_limit = 1048576
+
 -- a line that is longer than is taken
 abbrev pub IsTooLong : List ℕ → Type 0
-IsTooLong line = 1048576 < length line
+IsTooLong line = line_limit < length line
 
 -- a line's first bytes, enough to see whether it is too long
 unfoldable pub held : List ℕ → List ℕ
-held line = take 1048577 line
+held line = take (line_limit + 1) line
 
 -- a line went on by all that was ahead, up to its end there
 abbrev pub TakesToEnd : List ℕ → List ℕ → List ℕ → List ℕ → Type 0
@@ -41,7 +45,7 @@ TakesAll ahead ahead' line line' = NoLineEnd ahead × (ahead' ≡ []) × (line' 
 -- what was read, by what is held of it; nothing is the end
 abbrev pub line_kind : List ℕ → NextLine
 line_kind [] = End
-line_kind (byte ∷ bytes) = if nat_lt 1048576 (length (byte ∷ bytes)) then TooLong else Line
+line_kind (byte ∷ bytes) = if nat_lt line_limit (length (byte ∷ bytes)) then TooLong else Line
 
 -- these lines came out of the known bytes, and the lines of those left are the rest
 abbrev pub GivesLines : Option (List ℕ) → Option (List ℕ) → List (List ℕ) → Type 0
@@ -51,7 +55,7 @@ GivesLines (Some bytes) (Some left) lines = lines_of bytes ≡ lines ++ lines_of
 
 -- the next line came out of the known bytes; at the end none came, and no byte is left
 abbrev pub NextLineIs : NextLine → Option (List ℕ) → Option (List ℕ) → List ℕ → Type 0
-NextLineIs Line before after line = (length line ≤ 1048576) × GivesLines before after (line ∷ [])
+NextLineIs Line before after line = (length line ≤ line_limit) × GivesLines before after (line ∷ [])
 NextLineIs TooLong before after line = (whole : List ℕ) × IsTooLong whole × GivesLines before after (whole ∷ [])
 NextLineIs End before after line = IsAtEnd after × GivesLines before after []
 

@@ -1,9 +1,9 @@
 // The lines of a source, one at a time and each in bounded memory.
-ghost use Rattle.std.specs.Prelude.{◌≡◌, ◌^◌, ◌<◌, ◌≤◌, ◌++◌, [], Ok, true, false, IfOk, OnOk, IsErrOf, length, take, vec_len};
+ghost use Rattle.std.specs.Prelude.{◌≡◌, ◌+◌, ◌<◌, ◌≤◌, ◌++◌, [], Ok, true, false, IfOk, OnOk, IsErrOf, length, take, vec_len};
 ghost use Rattle.std.specs.Io.KnownBytes.{ReadConsumes, Keeps, IsAtEnd};
 ghost use Rattle.counts.specs.Count.{Rose, HasCause};
-ghost use Rattle.tao_io.specs.LineReader.{to_come, may_give};
-ghost use Rattle.tao_io.specs.Lines.{held, EndsLineAt, TakesToEnd, TakesAll, line_kind, NextLineIs, UsesSome, CountsTaken};
+ghost use Rattle.tao_io.specs.LineReader.{to_come, may_give, input_limit};
+ghost use Rattle.tao_io.specs.Lines.{line_limit, held, EndsLineAt, TakesToEnd, TakesAll, line_kind, NextLineIs, UsesSome, CountsTaken};
 
 use crate::{Source, SourceFailed};
 use std::alloc::{AllocError, AllocFailed, Global};
@@ -104,7 +104,8 @@ fn take_some<R: Source>(
 #[tactic(auto, using(crate::proofs::LineLaws::held_with))]
 fn hold(line: &mut Vec<u8>, piece: &[u8]) -> Result<(), AllocError>
     requires { vec_len line.old ≤ HELD_LIMIT }
-    ensures { OnOk result (line.new.items ≡ held (line.old.items ++ piece.now)) }
+    ensures held { OnOk result (line.new.items ≡ held (line.old.items ++ piece.now)) }
+    ensures bounded { vec_len line.new ≤ HELD_LIMIT }
 {
     let count = (HELD_LIMIT - line.len()).min(piece.len());
     line.extend_from_slice(&piece[..count])
@@ -163,12 +164,13 @@ impl LineReader {
         ensures may { may_give self.new ≤ may_give self.old }
         ensures some { result ≡ Ok true → 0 < length self.new.ahead }
         ensures end { result ≡ Ok false → IsAtEnd (to_come self.new (R.left source.new)) }
-        ensures short { result ≡ Ok false → self.new.taken < 2 ^ 40 }
+        ensures short { result ≡ Ok false → self.new.taken < input_limit }
 
         ensures counted { CountsTaken (R.left source.old) (R.left source.new) self.old.taken self.new.taken }
+        ensures limited { self.new.taken ≤ input_limit }
         ensures later { R.faults source.old ≤ R.faults source.new }
         ensures failed { IsErrOf result ReadFault.Failed → Rose (R.faults source.old) (R.faults source.new) }
-        ensures long { IsErrOf result ReadFault.InputTooLong → self.new.taken ≡ 2 ^ 40 }
+        ensures long { IsErrOf result ReadFault.InputTooLong → self.new.taken ≡ input_limit }
     {
         if self.at < self.end {
             return Ok(true);
@@ -191,6 +193,7 @@ impl LineReader {
         ensures found { result ≡ Ok true → TakesToEnd self.old.ahead self.new.ahead line.old.items line.new.items }
         ensures none { result ≡ Ok false → TakesAll self.old.ahead self.new.ahead line.old.items line.new.items }
         ensures taken { self.new.taken ≡ self.old.taken }
+        ensures bounded { vec_len line.new ≤ HELD_LIMIT }
     {
         let ahead = &self.chunk[self.at..self.end];
         match line_end(ahead) {
@@ -217,12 +220,14 @@ impl LineReader {
     ) -> Result<NextLine, ReadFault>
         ensures next { IfOk result (λ next. NextLineIs next (to_come self.old (R.left source.old)) (to_come self.new (R.left source.new)) line.new.items) }
         ensures uses { IfOk result (λ next. UsesSome next (may_give self.old) (may_give self.new)) }
-        ensures short { result ≡ Ok NextLine.End → self.new.taken < 2 ^ 40 }
+        ensures short { result ≡ Ok NextLine.End → self.new.taken < input_limit }
+        ensures bounded { vec_len line.new ≤ line_limit + 1 }
 
         ensures counted { CountsTaken (R.left source.old) (R.left source.new) self.old.taken self.new.taken }
+        ensures limited { self.new.taken ≤ input_limit }
         ensures later { R.faults source.old ≤ R.faults source.new }
         ensures failed { IsErrOf result ReadFault.Failed → Rose (R.faults source.old) (R.faults source.new) }
-        ensures long { IsErrOf result ReadFault.InputTooLong → self.new.taken ≡ 2 ^ 40 }
+        ensures long { IsErrOf result ReadFault.InputTooLong → self.new.taken ≡ input_limit }
     {
         line.clear();
         'chunks: loop {
@@ -235,3 +240,6 @@ impl LineReader {
         }
     }
 }
+
+#[cfg(test)]
+mod tests;

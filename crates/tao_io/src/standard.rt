@@ -89,3 +89,62 @@ impl<W: Write> Sink for StdSink<W> {
         }
     }
 }
+
+#[cfg(test)]
+mod tests {
+    use super::*;
+    use std::collections::VecDeque;
+    use std::io;
+    use std::test::Fail;
+
+    /// A stream that fails, and before that takes nothing once.
+    #[derive(Drop)]
+    struct Broken {
+        took_none: bool,
+    }
+
+    impl Read for Broken {
+        fn read(&mut self, _buf: &mut [u8]) -> io::Result<usize> {
+            Err(io::Error::from(io::ErrorKind::Interrupted))
+        }
+    }
+
+    impl Write for Broken {
+        fn write(&mut self, _buf: &[u8]) -> io::Result<usize> {
+            if self.took_none {
+                return Err(io::Error::from(io::ErrorKind::BrokenPipe));
+            }
+            self.took_none = true;
+            Ok(0)
+        }
+
+        fn flush(&mut self) -> io::Result<()> {
+            Ok(())
+        }
+    }
+
+    #[test]
+    fn bytes_go_through_a_writer_and_a_reader(rt: HostRuntime) -> Result<(), Fail> {
+        let mut sink = StdSink::of(VecDeque::new(rt.alloc()));
+        assert_eq!(rt; sink.put(b"abc"), Ok(3));
+        let mut source = StdSource::of(sink.writer);
+        let mut room = [0u8; 2];
+        assert_eq!(rt; source.take(&mut room), Ok(2));
+        assert_eq!(rt; room.as_slice(), b"ab".as_slice());
+        assert_eq!(rt; source.take(&mut room), Ok(1));
+        assert_eq!(rt; source.take(&mut room), Ok(0));
+        assert_eq!(rt; source.faults.value(), 0);
+        Ok(())
+    }
+
+    #[test]
+    fn each_error_of_a_stream_is_counted(rt: HostRuntime) {
+        let mut source = StdSource::of(Broken { took_none: false });
+        assert_eq!(rt; source.take(&mut [0u8; 2]), Err(SourceFailed));
+        assert_eq!(rt; source.faults.value(), 1);
+        let mut sink = StdSink::of(Broken { took_none: false });
+        assert_eq!(rt; sink.put(b"a"), Ok(0));
+        assert_eq!(rt; sink.put(b"a"), Err(SinkFailed));
+        assert_eq!(rt; sink.faults.value(), 2);
+    }
+}

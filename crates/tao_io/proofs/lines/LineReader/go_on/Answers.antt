@@ -1,4 +1,4 @@
-use Rattle.std.proofs.Common.{arith, rules}
+use Rattle.std.proofs.Common.{arith}
 use Rattle.std.proofs.lemmas.Grind.{common_steps}
 use Rattle.tao_io.proofs.LineLaws.{takes_to_end}
 use Rattle.tao_io.proofs.lines.LineReader.go_on.Goals as goal

@@ -1,14 +1,15 @@
-use Rattle.std.proofs.Common.{◌≡◌, ◌<◌, ◌≤◌, [], length, Ok, true, false, ap, ◌∙◌, sym, subst, arith, rules}
+use Rattle.std.proofs.Common.{◌≡◌, ◌<◌, length, Ok, ap, ◌∙◌, arith}
 use Rattle.std.proofs.lemmas.Grind.{common_steps}
 use Rattle.std.proofs.lemmas.List.{nil_from_length}
-use Rattle.tao_io.proofs.LineLaws.{CountsTaken-trans, CountsTaken-nil}
-use Rattle.tao_io.proofs.Reading.{Reading, Reading-small, Reading-start, Reading-kept, Reading-all, Reading-skip, Reading-line, Reading-end}
+use Rattle.tao_io.proofs.GivenLines.{CountsTaken-trans, CountsTaken-nil}
+use Rattle.tao_io.proofs.Reading.{Reading-start, Reading-kept, Reading-all, Reading-skip, Reading-line, Reading-end}
 use Rattle.tao_io.proofs.lines.LineReader.next.Goals as goal
 use Rattle.tao_io.proofs.lines.LineReader.next.Goals.{else-branch-via-then-branch+else-not-is_empty, else-branch-via-else-branch}
 
 pub chunks-init : goal.chunks-init
 chunks-init g c = record {
   reading = rw c.clear.ensures.items (Reading-start _ _);
+  bounded = omega (arith, c.clear.ensures.len);
   counted = CountsTaken-nil _ _;
   later = omega arith;
 }
@@ -28,9 +29,6 @@ returns-then-not-branch-clause-uses g c =
 
 pub returns-then-not-branch-clause-counted : goal.returns-then-not-branch-clause-counted
 returns-then-not-branch-clause-counted g c = CountsTaken-trans _ _ _ _ _ _ c.chunks.invariant.counted c.look_ahead.ensures.counted
-
-pub go_on-requires : goal.go_on-requires
-go_on-requires g c = omega (arith, Reading-small _ _ _ _ _ c.chunks.invariant.reading, c.chunks.line.ok.0)
 
 pub returns-in_err-go_on-clause-counted : goal.returns-in_err-go_on-clause-counted
 returns-in_err-go_on-clause-counted g c = rw c.go_on.ensures.taken (CountsTaken-trans _ _ _ _ _ _ c.chunks.invariant.counted c.look_ahead.ensures.counted)
@@ -57,12 +55,13 @@ chunks-preserved g c =
     let before = Reading-kept _ _ _ _ _ _ _ c.chunks.invariant.reading c.look_ahead.ensures.same c.look_ahead.ensures.may in
     record {
       reading = elim c.else-branch.branch [
-        else-branch-via-then-branch+else-not-is_empty w ↦
-        let ends = c.go_on.ensures.found (c.in_ok-go_on.was ∙ ap Ok w.if-branch.true) in
-        let none : length c.go_on.new.line.items ≡ 0 = grind (arith, common_steps) in
-        rw c.go_on.ensures.taken (Reading-skip _ _ _ _ _ _ _ _ before ends (nil_from_length _ none))
-      | else-branch-via-else-branch w ↦ rw c.go_on.ensures.taken (Reading-all _ _ _ _ _ _ _ _ before (c.go_on.ensures.none (c.in_ok-go_on.was ∙ ap Ok w.if-branch.false)))
+        | else-branch-via-then-branch+else-not-is_empty w ↦
+            let ends = c.go_on.ensures.found (c.in_ok-go_on.was ∙ ap Ok w.if-branch.true) in
+            let none : length c.go_on.new.line.items ≡ 0 = grind (arith, common_steps) in
+            rw c.go_on.ensures.taken (Reading-skip _ _ _ _ _ _ _ _ before ends (nil_from_length _ none))
+        | else-branch-via-else-branch w ↦ rw c.go_on.ensures.taken (Reading-all _ _ _ _ _ _ _ _ before (c.go_on.ensures.none (c.in_ok-go_on.was ∙ ap Ok w.if-branch.false)))
       ];
+      bounded = c.go_on.ensures.bounded;
       counted = rw c.go_on.ensures.taken (CountsTaken-trans _ _ _ _ _ _ c.chunks.invariant.counted c.look_ahead.ensures.counted);
       later = omega arith;
     }

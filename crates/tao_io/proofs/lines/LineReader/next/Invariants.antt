@@ -1,6 +1,6 @@
-use Rattle.std.proofs.Common.{◌≤◌}
+use Rattle.std.proofs.Common.{◌+◌, ◌≤◌, vec_len}
 use Rattle.tao_io.specs.LineReader.{to_come, may_give}
-use Rattle.tao_io.specs.Lines.{CountsTaken}
+use Rattle.tao_io.specs.Lines.{line_limit, CountsTaken}
 use Rattle.tao_io.proofs.Reading.{Reading}
 use Rattle.tao_io.proofs.lines.LineReader.next.Given as goal
 
@@ -10,6 +10,7 @@ invariant-chunks g l =
     let faults = g.R.Source.faults in
     record {
       reading : Reading (to_come l.initial.self (left l.initial.source)) (to_come l.self (left l.source)) l.line.items (may_give l.initial.self) (may_give l.self);
+      bounded : vec_len l.line ≤ line_limit + 1;
       counted : CountsTaken (left l.initial.source) (left l.source) l.initial.self.taken l.self.taken;
       later : faults l.initial.source ≤ faults l.source;
     }

@@ -1,3 +1,5 @@
 pub mod Cause
 pub mod Given
+pub mod Plan
+pub mod Store
 pub mod Table

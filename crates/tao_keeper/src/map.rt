@@ -1,0 +1,4 @@
+//! The keeper in memory.
+mod log;
+mod plan;
+mod store;

@@ -1,5 +1,5 @@
 -- Worked examples: the definitions computed on small logs.
-use Rattle.std.specs.Prelude.{ℕ, suc, take, All, false, map, length, drop, flat_map, List, [], ◌∷◌, ◌++◌, Some, None, option_to_list, ◌≡◌, refl, cond, ◌==◌}
+use Rattle.std.specs.Prelude.{ℕ, suc, All, false, map, length, drop, flat_map, List, [], ◌∷◌, ◌++◌, Some, None, option_to_list, ◌≡◌, refl, cond, ◌==◌}
 use Rattle.tao_base.specs.EdgeTypes.{EdgeTypes}
 use Rattle.tao_base.specs.Spelling.{spelling}
 use Rattle.tao_base.specs.declared.id.AType.{AType}

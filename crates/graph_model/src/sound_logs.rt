@@ -1,0 +1,54 @@
+//! Laws of sound logs.
+ghost use Rattle.graph_model.specs.SoundLaws.{
+  LaterTouches,
+  SoundGrows,
+  SoundOfGrows,
+  SoundTouchesTell,
+  StampsRise,
+  StampsStay,
+};
+
+use tao_base::{AType, EdgeState, Entry, Id, Origin};
+
+/// A sound log grows by entries that can follow it.
+#[tactic(auto, using(crate::proofs::Sound::sound_grows))]
+pub fn sound_logs_grow(_log: &[Entry], _entry: &Entry)
+    ensures { SoundGrows _log.now _entry.now }
+{}
+
+/// A sound log of a shard grows by entries that can follow it and keep both ends of their edges.
+#[tactic(auto, using(crate::proofs::Sound::sound_of_grows))]
+pub fn sound_logs_of_a_shard_grow(_shard: u16, _log: &[Entry], _entry: &Entry)
+    ensures { SoundOfGrows _shard _log.now _entry.now }
+{}
+
+/// What a touch says of its key's version and of the time before is so.
+#[tactic(auto, using(crate::proofs::Rising::touches_tell))]
+pub fn sound_touches_tell(_log: &[Entry])
+    ensures { SoundTouchesTell _log.now }
+{}
+
+/// The stamps of an edge rise from touch to touch.
+#[tactic(auto, using(crate::proofs::Rising::stamps_rise))]
+pub fn stamps_rise(_log: &[Entry])
+    ensures { StampsRise _log.now }
+{}
+
+/// A stamp that a log has reached is never lost.
+#[tactic(auto, using(crate::proofs::Rising::stamps_stay))]
+pub fn stamps_stay(_log: &[Entry])
+    ensures { StampsStay _log.now }
+{}
+
+/// A record with a later stamp than the log's makes a touch that follows the log.
+#[tactic(auto, using(crate::proofs::Touches::later_touches))]
+pub fn later_records_follow(
+    _log: &[Entry],
+    _origin: &Origin,
+    _id1: Id,
+    _atype: AType,
+    _id2: Id,
+    _state: &EdgeState,
+)
+    ensures { LaterTouches _log.now _origin.now _id1 _atype _id2 _state.now }
+{}

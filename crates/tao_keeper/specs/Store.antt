@@ -8,9 +8,10 @@ use Rattle.tao_keeper.specs.declared.map.store.StoreTable.{StoreTable}
 abbrev pub table_of : StoreTable → Table
 table_of store = record { log = store.log.items; line = option_map (λ line. line.items) store.line }
 
-abbrev pub same_store : StoreName → StoreName → Bool
-same_store a b = a.region == b.region && a.shard == b.shard
+-- whether the table is of the store
+abbrev pub is_of : StoreName → StoreTable → Bool
+is_of name store = store.name.region == name.region && store.name.shard == name.shard
 
 -- the tables of all stores: a store that has none yet is empty
 abbrev pub tables_of : List StoreTable → Tables
-tables_of stores name = option_map_or table_of (find (λ store. same_store store.name name) stores) empty_table
+tables_of stores name = option_map_or table_of (find (is_of name) stores) empty_table

@@ -5,3 +5,4 @@ mod keeper;
 mod map;
 
 pub use keeper::{Commit, KeepFail, Keeper, MOST_ENTRIES, Opened, STAMP_LIMIT};
+pub use map::{Fails, MapKeeper};

@@ -1,5 +1,6 @@
 //! Which calls of the keeper in memory fail.
 ghost use Rattle.std.specs.Prelude.{◌≡◌, IfErr};
+ghost use Rattle.tao_keeper.specs.Cause.{IsCaused};
 ghost use Rattle.tao_keeper.specs.Plan.{new_plan, CallsAsPlanned, CommitsAsPlanned};
 
 use crate::KeepFail;
@@ -23,6 +24,7 @@ pub struct FaultPlan {
 }
 
 impl Model for FaultPlan {
+    ghost use Rattle.tao_keeper.specs.Cause.{IsCaused};
     ghost use Rattle.tao_keeper.specs.Plan.{Plan};
 
     ghost Value = { Plan };
@@ -64,6 +66,7 @@ impl FaultPlan {
     /// Counts a call, which fails where it is one of the listed.
     pub fn begin_call(&mut self) -> Result<(), KeepFail>
         ensures planned { CallsAsPlanned self.old self.new result }
+        ensures cause { IsCaused self.old.faults self.new.faults result }
         ensures fault { IfErr result (λ fail. fail ≡ KeepFail.Failed) }
     {
         self.calls.rise();
@@ -77,6 +80,7 @@ impl FaultPlan {
     /// Counts a commit, among the calls too. It fails where it is one of the listed.
     pub fn begin_commit(&mut self) -> Result<(), KeepFail>
         ensures planned { CommitsAsPlanned self.old self.new result }
+        ensures cause { IsCaused self.old.faults self.new.faults result }
         ensures fault { IfErr result (λ fail. fail ≡ KeepFail.Failed) }
     {
         self.commits.rise();

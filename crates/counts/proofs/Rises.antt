@@ -14,9 +14,13 @@ Rose-earlier a b c later rose = omega arith
 pub Counted-rose : (a b : ℕ) → Counted a b → Rose a b
 Counted-rose a b counted = omega arith
 
--- a count that rose hasn't fallen, where its type holds it
-pub Rose-le : (a b : ℕ) → a < 2 ^ 64 → Rose a b → a ≤ b
-Rose-le a b small rose = omega arith
+-- a count that rose hasn't fallen
+pub Rose-le : (a b : ℕ) → Rose a b → a ≤ b
+Rose-le a b rose = omega arith
+
+-- nor has one that was counted once
+pub Counted-le : (a b : ℕ) → Counted a b → a ≤ b
+Counted-le a b counted = omega arith
 
 -- below its last value, a count that rose is greater
 pub Rose-lt : (a b : ℕ) → a + 1 < 2 ^ 64 → Rose a b → a < b

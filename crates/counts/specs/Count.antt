@@ -1,9 +1,9 @@
 -- What it means that a count of calls or of faults rose.
-use Rattle.std.specs.Prelude.{◌≡◌, ℕ, ◌+◌, ◌-◌, ◌^◌, ◌≤◌, min, Result, MatchResult, OnErr}
+use Rattle.std.specs.Prelude.{◌≡◌, ℕ, ◌+◌, ◌-◌, ◌^◌, ◌≤◌, max, min, Result, MatchResult, OnErr}
 
--- a count with one more; at its type's end it stands still
+-- a count with one more; from its type's last value on it stands still
 abbrev pub after_one : ℕ → ℕ
-after_one count = min (count + 1) (2 ^ 64 - 1)
+after_one count = max count (min (count + 1) (2 ^ 64 - 1))
 
 -- one more was counted, and nothing else
 abbrev pub Counted : ℕ → ℕ → Type 0

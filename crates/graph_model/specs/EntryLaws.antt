@@ -1,5 +1,5 @@
 -- How what a log says of a key changes by one more entry.
-use Rattle.std.specs.Prelude.{false, cond, List, [], ◌∷◌, ◌++◌, fold, All, AllPairs, ◌≡◌, ◌≢◌, ◌+◌}
+use Rattle.std.specs.Prelude.{false, if◌then◌else◌, List, [], ◌∷◌, ◌++◌, fold, All, AllPairs, ◌≡◌, ◌≢◌, ◌+◌}
 use Rattle.tao_base.specs.declared.entry.Entry.{Entry}
 use Rattle.tao_base.specs.declared.entry.Touch.{Touch}
 use Rattle.tao_base.specs.declared.id.AType.{AType}
@@ -11,7 +11,7 @@ use Rattle.graph_model.specs.Log.{changes_of, object, object_after, touches_key,
 
 -- the version rises by one where the entry touches the key
 abbrev pub VersionFollows : List Entry → Entry → Key → Type 0
-VersionFollows log e key = version (log ++ e ∷ []) key ≡ version log key + cond (touches_key key e) 1 0
+VersionFollows log e key = version (log ++ e ∷ []) key ≡ version log key + (if touches_key key e then 1 else 0)
 
 -- the object: each change of it in the entry puts it or drops it
 abbrev pub ObjectFollows : List Entry → Entry → Id → Type 0

@@ -1,93 +1,156 @@
 -- Worked examples: the definitions computed on small logs.
-use Rattle.std.specs.Prelude.{ℕ, suc, All, false, map, length, drop, flat_map, List, [], ◌∷◌, ◌++◌, Some, None, option_to_list, ◌≡◌, refl, cond, ◌==◌}
+use Rattle.std.specs.Prelude.{ℕ, suc, true, false, map, length, take, drop, flat_map, List, [], ◌∷◌, ◌++◌, Some, None, option_to_list, ◌≡◌, refl, if◌then◌else◌, ◌==◌}
 use Rattle.tao_base.specs.EdgeTypes.{EdgeTypes}
 use Rattle.tao_base.specs.Spelling.{spelling}
 use Rattle.tao_base.specs.declared.id.AType.{AType}
-use Rattle.tao_base.specs.declared.id.Key.TheVariants.{List as Assocs}
+use Rattle.tao_base.specs.declared.id.OType.{OType}
+use Rattle.tao_base.specs.declared.id.Key.TheVariants.{Obj, List as Assocs}
+use Rattle.tao_base.specs.declared.data.Pair.{Pair}
 use Rattle.tao_base.specs.declared.edge.Edge.{Edge}
+use Rattle.tao_base.specs.declared.edge.EdgeState.TheVariants.{Live}
 use Rattle.tao_base.specs.declared.entry.Entry.{Entry}
 use Rattle.tao_base.specs.declared.entry.Change.TheVariants.{SetEdge}
-use Rattle.tao_base.specs.declared.edge.EdgeState.{EdgeState}
-use Rattle.tao_base.specs.declared.edge.EdgeState.TheVariants.{Live}
 use Rattle.tao_base.specs.declared.entry.Kind.TheVariants.{AssocAdd as AssocAdded, Merge as Merged}
 use Rattle.tao_base.specs.declared.entry.Origin.TheVariants.{Client, Merge}
 use Rattle.tao_base.specs.declared.write.Write.{Write}
-use Rattle.tao_base.specs.declared.write.Write.TheVariants.{AssocAdd, AssocChangeType}
-use Rattle.tao_base.specs.declared.query.Answer.TheVariants.{Edges as EdgesAre, Count}
-use Rattle.tao_base.specs.declared.query.Query.TheVariants.{AssocCount, AssocRange}
+use Rattle.tao_base.specs.declared.write.Write.TheVariants.{ObjAdd, ObjUpdate, ObjDelete, AssocAdd, AssocDelete, AssocChangeType}
+use Rattle.tao_base.specs.declared.query.Answer.TheVariants.{Object as ObjectIs, Edges as EdgesAre, Count}
+use Rattle.tao_base.specs.declared.query.Query.TheVariants.{ObjGet, AssocGet, AssocCount, AssocRange, AssocTimeRange}
 use Rattle.graph_model.specs.Answers.{answer}
 use Rattle.graph_model.specs.Edges.{edge_list}
 use Rattle.graph_model.specs.Log.{version}
 use Rattle.graph_model.specs.Merges.{job_of, merge_entry}
-use Rattle.graph_model.specs.Soundness.{updates_of, AreInOrder, AreOpposite, IsOneEnd}
-use Rattle.std.proofs.lemmas.List.Elements.{All-from_recursion}
-use Rattle.std.proofs.Common.{arith}
-use Rattle.tao_base.specs.declared.entry.Touch.{Touch}
-use Rattle.graph_model.specs.Prefixes.{IsPrefixOf, decides}
+use Rattle.graph_model.specs.Soundness.{updates_of}
+use Rattle.graph_model.specs.Prefixes.{IsPrefixOf, decides, edges_after, total_after}
 use Rattle.graph_model.specs.Writes.{forward_entry}
 
+-- the log after writes of a session, which numbers them from seq on
+abbrev pub log_after : EdgeTypes → ℕ → ℕ → List Entry → List Write → List Entry
+log_after types session seq log [] = log
+log_after types session seq log (w ∷ ws) =
+    log_after types session (suc seq) (log ++ option_to_list (forward_entry types log (Client session seq) w)) ws
+
+-- edges that were written at shard 0, without data
+abbrev pub edge : ℕ → ℕ → ℕ → Edge
+edge id2 time number = record { id2 = id2; time = time; payload = []; stamp = record { number = number; shard = 0 } }
+
+-- One type, without an inverse, and adds to the list of id 1.
 abbrev pub likes : AType
 likes = record { 0 = 0 }
 
--- one type without an inverse
 abbrev pub one_type : EdgeTypes
 one_type = record { inverse = λ a. None; bound = λ a. 6000 }
-
--- the log after writes of session 1 with the numbers from seq on
-abbrev pub log_after : EdgeTypes → ℕ → List Entry → List Write → List Entry
-log_after types seq log [] = log
-log_after types seq log (w ∷ ws) = log_after types (suc seq) (log ++ option_to_list (forward_entry types log (Client 1 seq) w)) ws
-
-abbrev pub edge : ℕ → ℕ → ℕ → Edge
-edge id2 time number = record { id2 = id2; time = time; payload = []; stamp = record { number = number; shard = 0 } }
 
 abbrev pub add : ℕ → ℕ → Write
 add id2 time = AssocAdd 1 likes id2 time []
 
--- one add makes the entry, and the list has the edge
-abbrev pub one_add : List Entry
-one_add = log_after one_type 1 [] (add 2 5 ∷ [])
+abbrev pub added : List Write → List Entry
+added writes = log_after one_type 1 1 [] writes
 
-row_1_entry : one_add ≡ record {
+-- the first edge: its entry, the answer, and the entry's 66 bytes
+abbrev pub first_add : List Entry
+first_add = added (add 2 5 ∷ [])
+
+first_edge_entry : first_add ≡ record {
   position = 1;
   kind = AssocAdded;
   origin = Client 1 1;
   touches = record { key = Assocs 1 likes; change = SetEdge (edge 2 5 1) None; version = 1 } ∷ [];
 } ∷ []
-row_1_entry = refl
+first_edge_entry = refl
 
-row_1_range : answer one_type one_add (AssocRange 1 likes 0 10) ≡ EdgesAre (edge 2 5 1 ∷ [])
-row_1_range = refl
+first_edge_answer : answer one_type first_add (AssocRange 1 likes 0 10) ≡ EdgesAre (edge 2 5 1 ∷ [])
+first_edge_answer = refl
+
+abbrev pub first_edge_bytes : List ℕ
+first_edge_bytes =
+    0 ∷ 0 ∷ 0 ∷ 0 ∷ 0 ∷ 0 ∷ 0 ∷ 1 ∷ 4 ∷ 0 ∷ 0 ∷ 0 ∷ 1 ∷ 0 ∷ 0 ∷ 0 ∷ 0 ∷ 0 ∷ 0 ∷ 0 ∷ 1 ∷ 1 ∷
+    2 ∷ 0 ∷ 0 ∷ 0 ∷ 0 ∷ 0 ∷ 0 ∷ 0 ∷ 1 ∷ 0 ∷ 0 ∷ 0 ∷ 0 ∷ 0 ∷ 0 ∷ 0 ∷ 0 ∷ 0 ∷ 1 ∷ 3 ∷ 0 ∷ 0 ∷ 0 ∷ 0 ∷ 0 ∷ 0 ∷ 0 ∷ 2 ∷
+    0 ∷ 0 ∷ 0 ∷ 5 ∷ 0 ∷ 0 ∷ 0 ∷ 0 ∷ 0 ∷ 0 ∷ 0 ∷ 1 ∷ 0 ∷ 0 ∷ 0 ∷ 0 ∷ []
+
+first_edge_spelled : map spelling first_add ≡ first_edge_bytes ∷ []
+first_edge_spelled = refl
+
+first_edge_spelled_length : length first_edge_bytes ≡ 66
+first_edge_spelled_length = refl
+
+-- an empty list has version 0 and no edges
+empty_list_version : version [] (Assocs 1 likes) ≡ 0
+empty_list_version = refl
+
+empty_list_answer : answer one_type [] (AssocRange 1 likes 0 10) ≡ EdgesAre []
+empty_list_answer = refl
 
 -- of equal times the greater id comes first
-row_3 : answer one_type (log_after one_type 1 [] (add 3 7 ∷ add 9 7 ∷ add 5 7 ∷ [])) (AssocRange 1 likes 0 10)
+equal_times_by_greater_id : answer one_type (added (add 3 7 ∷ add 9 7 ∷ add 5 7 ∷ [])) (AssocRange 1 likes 0 10)
     ≡ EdgesAre (edge 9 7 1 ∷ edge 5 7 1 ∷ edge 3 7 1 ∷ [])
-row_3 = refl
+equal_times_by_greater_id = refl
 
--- an edge that is set again moves to its new place
+-- an edge that is set again, with an earlier time, moves back; a cached prefix stays one, and no longer decides
 abbrev pub four_adds : List Entry
-four_adds = log_after one_type 1 [] (add 2 9 ∷ add 3 8 ∷ add 4 7 ∷ add 5 6 ∷ [])
+four_adds = added (add 2 9 ∷ add 3 8 ∷ add 4 7 ∷ add 5 6 ∷ [])
 
-abbrev pub and_one_again : List Entry
-and_one_again = log_after one_type 5 four_adds (add 2 5 ∷ [])
+abbrev pub set_again : List Entry
+set_again = log_after one_type 1 5 four_adds (add 2 5 ∷ [])
 
-row_4_before : answer one_type four_adds (AssocRange 1 likes 0 2) ≡ EdgesAre (edge 2 9 1 ∷ edge 3 8 1 ∷ [])
-row_4_before = refl
+newest_two : answer one_type four_adds (AssocRange 1 likes 0 2) ≡ EdgesAre (edge 2 9 1 ∷ edge 3 8 1 ∷ [])
+newest_two = refl
 
-row_4_after : answer one_type and_one_again (AssocRange 1 likes 0 2) ≡ EdgesAre (edge 3 8 1 ∷ edge 4 7 1 ∷ [])
-row_4_after = refl
+newest_two_once_set_again : answer one_type set_again (AssocRange 1 likes 0 2) ≡ EdgesAre (edge 3 8 1 ∷ edge 4 7 1 ∷ [])
+newest_two_once_set_again = refl
 
-row_4_version : version and_one_again (Assocs 1 likes) ≡ 5
-row_4_version = refl
+set_again_version : version set_again (Assocs 1 likes) ≡ 5
+set_again_version = refl
 
--- what is left of the cached first two edges is still a prefix, of four, and leaves the query open
-row_4_prefix : IsPrefixOf (edge 3 8 1 ∷ []) 4 (edge_list and_one_again 1 likes)
-row_4_prefix = record { begins = refl; length_is = refl }
+prefix_once_set_again : take 6000 (edges_after (SetEdge (edge 2 5 2) (Some 9)) (edge 2 9 1 ∷ edge 3 8 1 ∷ []) 4) ≡ edge 3 8 1 ∷ []
+prefix_once_set_again = refl
 
-row_4_undecided : decides 6000 (edge 3 8 1 ∷ []) 4 (AssocRange 1 likes 0 2) ≡ false
-row_4_undecided = refl
+total_once_set_again : total_after (SetEdge (edge 2 5 2) (Some 9)) 4 ≡ 4
+total_once_set_again = refl
 
--- friend is its own inverse, follows and followed_by are each other's
+prefix_stays_a_prefix : IsPrefixOf (edge 3 8 1 ∷ []) 4 (edge_list set_again 1 likes)
+prefix_stays_a_prefix = record { begins = refl; length_is = refl }
+
+prefix_leaves_range_undecided : decides 6000 (edge 3 8 1 ∷ []) 4 (AssocRange 1 likes 0 2) ≡ false
+prefix_leaves_range_undecided = refl
+
+-- an id that is not among the first edges: decided once the last of them is older than the least time, and not before
+older_than_least_time_is_decided : decides 6000 (edge 2 9 1 ∷ edge 3 8 1 ∷ []) 3 (AssocGet 1 likes (50 ∷ []) None (Some 9)) ≡ true
+older_than_least_time_is_decided = refl
+
+of_least_time_is_undecided : decides 6000 (edge 2 9 1 ∷ edge 3 8 1 ∷ []) 3 (AssocGet 1 likes (50 ∷ []) None (Some 8)) ≡ false
+of_least_time_is_undecided = refl
+
+-- a time range has its ends, and one that ends before it begins has nothing
+latest_time_is_in_range : answer one_type (added (add 2 4294967295 ∷ [])) (AssocTimeRange 1 likes 4294967295 4294967295 10) ≡ EdgesAre (edge 2 4294967295 1 ∷ [])
+latest_time_is_in_range = refl
+
+range_of_no_time : answer one_type (added (add 2 4294967295 ∷ [])) (AssocTimeRange 1 likes 5 6 10) ≡ EdgesAre []
+range_of_no_time = refl
+
+-- an object is put, put again, and dropped; each is a version
+abbrev pub user : OType
+user = record { 0 = 0 }
+
+abbrev pub name : List Pair
+name = record { key = 110 ∷ []; value = 65 ∷ [] } ∷ []
+
+abbrev pub object_writes : List Entry
+object_writes = log_after one_type 1 1 [] (ObjAdd 0 user name ∷ ObjUpdate 1 [] ∷ ObjDelete 1 ∷ [])
+
+object_put : answer one_type (take 1 object_writes) (ObjGet 1) ≡ ObjectIs (Some (record { otype = user; payload = name }))
+object_put = refl
+
+object_put_again : answer one_type (take 2 object_writes) (ObjGet 1) ≡ ObjectIs (Some (record { otype = user; payload = [] }))
+object_put_again = refl
+
+object_dropped : answer one_type object_writes (ObjGet 1) ≡ ObjectIs None
+object_dropped = refl
+
+object_versions : map (λ n. version (take n object_writes) (Obj 1)) (0 ∷ 1 ∷ 2 ∷ 3 ∷ []) ≡ 0 ∷ 1 ∷ 2 ∷ 3 ∷ []
+object_versions = refl
+
+-- Besides, a type that is its own inverse, and two that are each other's.
 abbrev pub friend : AType
 friend = record { 0 = 1 }
 
@@ -99,60 +162,67 @@ followed_by = record { 0 = 3 }
 
 abbrev pub four_types : EdgeTypes
 four_types = record {
-  inverse = λ a. cond (a.0 == 1) (Some friend) (cond (a.0 == 2) (Some followed_by) (cond (a.0 == 3) (Some follows) None));
+  inverse = λ a. if a.0 == 1 then Some friend else (if a.0 == 2 then Some followed_by else (if a.0 == 3 then Some follows else None));
   bound = λ a. 6000;
 }
 
-abbrev pub follow_then_friend : List Entry
-follow_then_friend = log_after four_types 1 [] (AssocAdd 1 follows 2 3 [] ∷ AssocAdd 1 friend 2 9 [] ∷ AssocChangeType 1 follows 2 friend ∷ [])
+abbrev pub written : List Write → List Entry
+written writes = log_after four_types 1 1 [] writes
 
--- a change of type overwrites the edge of the new type at both ends
-row_9_here : answer four_types follow_then_friend (AssocRange 1 friend 0 10) ≡ EdgesAre (edge 2 3 2 ∷ [])
-row_9_here = refl
+-- both ends on one shard are written by one entry
+near_ends_in_one_entry : map updates_of (written (AssocAdd 1 follows 2 7 [] ∷ []))
+    ≡ ((1, follows, 2, Live 7 [] (record { number = 1; shard = 0 })) ∷ (2, followed_by, 1, Live 7 [] (record { number = 1; shard = 0 })) ∷ []) ∷ []
+near_ends_in_one_entry = refl
 
-row_9_there : answer four_types follow_then_friend (AssocRange 2 friend 0 10) ≡ EdgesAre (edge 1 3 2 ∷ [])
-row_9_there = refl
+-- an edge moved to another type overwrites the edge of that type, at both ends, and keeps its time
+abbrev pub moved : List Entry
+moved = written (AssocAdd 1 follows 2 3 [] ∷ AssocAdd 1 friend 2 9 [] ∷ AssocChangeType 1 follows 2 friend ∷ [])
 
-row_9_old_type : answer four_types follow_then_friend (AssocCount 2 followed_by) ≡ Count 0
-row_9_old_type = refl
+moved_here : answer four_types moved (AssocRange 1 friend 0 10) ≡ EdgesAre (edge 2 3 2 ∷ [])
+moved_here = refl
 
-row_9_versions : version follow_then_friend (Assocs 1 friend) ≡ version follow_then_friend (Assocs 2 friend)
-row_9_versions = refl
+moved_there : answer four_types moved (AssocRange 2 friend 0 10) ≡ EdgesAre (edge 1 3 2 ∷ [])
+moved_there = refl
 
--- changed again, there is nothing to change
-row_9_again : forward_entry four_types follow_then_friend (Client 1 4) (AssocChangeType 1 follows 2 friend) ≡ None
-row_9_again = refl
+moved_away : answer four_types moved (AssocCount 2 followed_by) ≡ Count 0
+moved_away = refl
 
--- the bytes of the entry of one add
-abbrev pub row_1_bytes : List ℕ
-row_1_bytes =
-    0 ∷ 0 ∷ 0 ∷ 0 ∷ 0 ∷ 0 ∷ 0 ∷ 1 ∷ 4 ∷ 0 ∷ 0 ∷ 0 ∷ 1 ∷ 0 ∷ 0 ∷ 0 ∷ 0 ∷ 0 ∷ 0 ∷ 0 ∷ 1 ∷ 1 ∷
-    2 ∷ 0 ∷ 0 ∷ 0 ∷ 0 ∷ 0 ∷ 0 ∷ 0 ∷ 1 ∷ 0 ∷ 0 ∷ 0 ∷ 0 ∷ 0 ∷ 0 ∷ 0 ∷ 0 ∷ 0 ∷ 1 ∷ 3 ∷ 0 ∷ 0 ∷ 0 ∷ 0 ∷ 0 ∷ 0 ∷ 0 ∷ 2 ∷
-    0 ∷ 0 ∷ 0 ∷ 5 ∷ 0 ∷ 0 ∷ 0 ∷ 0 ∷ 0 ∷ 0 ∷ 0 ∷ 1 ∷ 0 ∷ 0 ∷ 0 ∷ 0 ∷ []
+moved_versions : map (λ id. version moved (Assocs id friend)) (1 ∷ 2 ∷ []) ≡ 2 ∷ 2 ∷ []
+moved_versions = refl
 
-row_1_spelled : map spelling one_add ≡ row_1_bytes ∷ []
-row_1_spelled = refl
+-- the cuts come before the sets, at id1 and then at id2
+moved_in_order : map (λ e. map (λ t. t.key) e.touches) (drop 2 moved) ≡ (Assocs 1 follows ∷ Assocs 1 friend ∷ Assocs 2 followed_by ∷ Assocs 2 friend ∷ []) ∷ []
+moved_in_order = refl
 
-row_1_length : length row_1_bytes ≡ 66
-row_1_length = refl
+moved_again_is_nothing : forward_entry four_types moved (Client 1 4) (AssocChangeType 1 follows 2 friend) ≡ None
+moved_again_is_nothing = refl
 
--- an edge whose other end lies on another shard: the entry, its job, and the merge there
+-- an edge from an id to itself, of a type that is its own inverse, is one record
+abbrev pub loop : List Entry
+loop = written (AssocAdd 1 friend 1 4 [] ∷ [])
+
+loop_is_one_touch : map (λ e. length e.touches) loop ≡ 1 ∷ []
+loop_is_one_touch = refl
+
+loop_is_counted_once : answer four_types loop (AssocCount 1 friend) ≡ Count 1
+loop_is_counted_once = refl
+
+-- an edge to an id of shard 1: the entry leaves a job, which is merged there once
 abbrev pub far : ℕ
 far = 281474976710657
 
 abbrev pub far_follow : List Entry
-far_follow = log_after four_types 1 [] (AssocAdd 1 follows far 7 [] ∷ [])
+far_follow = written (AssocAdd 1 follows far 7 [] ∷ [])
 
-abbrev pub far_record : EdgeState
-far_record = Live 7 [] (record { number = 1; shard = 0 })
-
-far_job : flat_map (job_of four_types) far_follow ≡ (far, followed_by, 1, far_record) ∷ []
+far_job : flat_map (job_of four_types) far_follow ≡ (far, followed_by, 1, Live 7 [] (record { number = 1; shard = 0 })) ∷ []
 far_job = refl
 
-abbrev pub far_log : List Entry
-far_log = flat_map (λ e. option_to_list (merge_entry four_types [] 0 e)) far_follow
+-- the log with the merges of entries of another shard
+abbrev pub merged : ℕ → List Entry → List Entry → List Entry
+merged shard log [] = log
+merged shard log (e ∷ es) = merged shard (log ++ option_to_list (merge_entry four_types log shard e)) es
 
-far_merge : far_log ≡ record {
+far_merge : merged 0 [] far_follow ≡ record {
   position = 1;
   kind = Merged;
   origin = Merge 0 1;
@@ -160,45 +230,30 @@ far_merge : far_log ≡ record {
 } ∷ []
 far_merge = refl
 
--- merged again, no stamp is greater
-far_again : flat_map (λ e. option_to_list (merge_entry four_types far_log 0 e)) far_follow ≡ []
-far_again = refl
+far_merge_again_is_nothing : merged 0 (merged 0 [] far_follow) far_follow ≡ merged 0 [] far_follow
+far_merge_again_is_nothing = refl
 
--- an edge that is its own inverse is one record
-own_inverse : map (λ e. length e.touches) (log_after four_types 1 [] (AssocAdd 1 friend 1 7 [] ∷ [])) ≡ 1 ∷ []
-own_inverse = refl
+-- an edge that was merged is added again at one end and deleted at the other, before either hears of it: the delete, of the greater shard, stays at both
+abbrev pub here : List Entry
+here = written (AssocAdd 1 friend far 5 [] ∷ AssocAdd 1 friend far 9 [] ∷ [])
 
--- both ends on one shard are one entry
-near_ends : map updates_of (log_after four_types 1 [] (AssocAdd 1 follows 2 7 [] ∷ [])) ≡ ((1, follows, 2, far_record) ∷ (2, followed_by, 1, far_record) ∷ []) ∷ []
-near_ends = refl
+abbrev pub there : List Entry
+there = log_after four_types 1 3 (merged 0 [] (take 1 here)) (AssocDelete far friend 1 ∷ [])
 
--- a change of type cuts and sets at both ends, the cuts before the sets
-type_change : map (λ e. map (λ t. t.key) e.touches) (drop 1 (log_after four_types 1 [] (AssocAdd 1 follows 2 7 [] ∷ AssocChangeType 1 follows 2 friend ∷ [])))
-    ≡ (Assocs 1 follows ∷ Assocs 1 friend ∷ Assocs 2 followed_by ∷ Assocs 2 friend ∷ []) ∷ []
-type_change = refl
+abbrev pub here_in_the_end : List Entry
+here_in_the_end = merged 1 here (drop 1 there)
 
-abbrev pub change_touches : List Touch
-change_touches = flat_map (λ e. e.touches) (drop 1 (log_after four_types 1 [] (AssocAdd 1 follows 2 7 [] ∷ AssocChangeType 1 follows 2 friend ∷ [])))
+abbrev pub there_in_the_end : List Entry
+there_in_the_end = merged 0 there here
 
--- each of the first two is opposite to each of the last two
-opposite_to : (s : Touch) (t u : Touch) → AreOpposite s t → AreOpposite s u → All (AreOpposite s) (t ∷ u ∷ [])
-opposite_to s t u h k = All-from_recursion (AreOpposite s) (t ∷ u ∷ []) (h, (k, tt))
+deleted_here : answer four_types here_in_the_end (AssocCount 1 friend) ≡ Count 0
+deleted_here = refl
 
-all_opposite : (s r t u : Touch) → AreOpposite s t → AreOpposite s u → AreOpposite r t → AreOpposite r u → All (λ x. All (AreOpposite x) (t ∷ u ∷ [])) (s ∷ r ∷ [])
-all_opposite s r t u a b c d = All-from_recursion (λ x. All (AreOpposite x) (t ∷ u ∷ [])) (s ∷ r ∷ []) (opposite_to s t u a b, (opposite_to r t u c d, tt))
+deleted_there : answer four_types there_in_the_end (AssocCount far friend) ≡ Count 0
+deleted_there = refl
 
--- four touches stand in order where they are two ends, a cut and then a set at each
-in_order : (s r t u : Touch) → IsOneEnd (s ∷ r ∷ []) → IsOneEnd (t ∷ u ∷ []) → AreOpposite s t → AreOpposite s u → AreOpposite r t → AreOpposite r u → AreInOrder (s ∷ r ∷ t ∷ u ∷ [])
-in_order s r t u one two a b c d = record {
-  first = s ∷ r ∷ [];
-  second = t ∷ u ∷ [];
-  joined = refl;
-  some = omega arith;
-  first_end = one;
-  second_end = two;
-  opposite = all_opposite s r t u a b c d;
-}
+delete_is_merged_here : version here_in_the_end (Assocs 1 friend) ≡ 3
+delete_is_merged_here = refl
 
--- the four touches of a change of type stand in order
-type_change_in_order : AreInOrder change_touches
-type_change_in_order = in_order _ _ _ _ (refl, refl) (refl, refl) (refl, refl) (refl, refl) (refl, refl) (refl, refl)
+add_is_no_news_there : version there_in_the_end (Assocs far friend) ≡ 2
+add_is_no_news_there = refl

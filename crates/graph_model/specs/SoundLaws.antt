@@ -29,6 +29,7 @@ pub record TouchesTell (log : List Entry) (place : ℕ) (e : Entry) : Type 0 whe
   pub versions : All (λ t. t.version ≡ version (take (place + 1) log) t.key) e.touches
   pub times : All (λ t. IfSome (update_at t.key t.change) (λ u. was_of t.change ≡ live_time (edge_record (take place log) u.0 u.1 u.2))) e.touches
 
+-- so do the touches of each entry of a sound log
 abbrev pub SoundTouchesTell : List Entry → Type 0
 SoundTouchesTell log = IsSound log → (place : ℕ) (e : Entry) → slice_get log place ≡ Some e → TouchesTell log place e
 

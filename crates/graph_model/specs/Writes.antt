@@ -1,8 +1,9 @@
 -- The entry of a client's write.
-use Rattle.std.specs.Prelude.{ℕ, Bool, true, false, cond, List, [], ◌∷◌, ◌++◌, length, filter, filter_map, count_by, Option, Some, None, IsSomeAnd, slice_get, ◌≡◌, ◌+◌, ◌*◌, ◌^◌, nat_eq, ◌==◌, ◌&&◌, not}
+use Rattle.std.specs.Prelude.{ℕ, Bool, true, false, if◌then◌else◌, List, [], ◌∷◌, ◌++◌, length, map, filter, filter_map, count_by, Option, Some, None, IsSomeAnd, slice_get, ◌≡◌, ◌+◌, ◌*◌, ◌^◌, nat_eq, ◌==◌, ◌&&◌, not}
 use Rattle.std.specs.List.{list_any}
 use Rattle.tao_base.specs.EdgeTypes.{EdgeTypes}
 use Rattle.tao_base.specs.Ids.{shard_of}
+use Rattle.tao_base.specs.declared.data.Pair.{Pair}
 use Rattle.tao_base.specs.declared.id.Id.{Id}
 use Rattle.tao_base.specs.declared.id.AType.{AType}
 use Rattle.tao_base.specs.declared.id.OType.{OType}
@@ -29,6 +30,7 @@ use Rattle.graph_model.specs.Soundness.{EdgeUpdate, other_end}
 abbrev pub touch_of : List Entry → Key → Change → Touch
 touch_of log key change = record { key = key; change = change; version = version log key + 1 }
 
+-- the change that writes the record
 abbrev pub change_to : Id → EdgeState → Option ℕ → Change
 change_to id2 (Live time payload stamp) was = SetEdge (record { id2 = id2; time = time; payload = payload; stamp = stamp }) was
 change_to id2 (Cut stamp) was = CutEdge id2 stamp was
@@ -41,6 +43,7 @@ edge_touch log u = touch_of log (Assocs u.0 u.1) (change_to u.2 u.3 (live_time (
 abbrev pub next_stamp : List Entry → Id → AType → Id → Stamp
 next_stamp log id1 atype id2 = record { number = number_of (edge_record log id1 atype id2) + 1; shard = shard_of id1 }
 
+-- whether two records are of one edge at one end
 abbrev pub same_edge : EdgeUpdate → EdgeUpdate → Bool
 same_edge u v = u.0 == v.0 && u.1.0 == v.1.0 && u.2 == v.2
 
@@ -48,8 +51,9 @@ same_edge u v = u.0 == v.0 && u.1.0 == v.1.0 && u.2 == v.2
 abbrev pub is_near : EdgeUpdate → Bool
 is_near u = nat_eq (shard_of u.2) (shard_of u.0)
 
+-- what is found, where the test holds
 abbrev pub when : {X : Type 0} → Bool → Option X → Option X
-when test found = cond test found None
+when test found = if test then found else None
 
 -- the records, and then those of the other ends on the same shard, each once
 abbrev pub with_near_ends : EdgeTypes → List EdgeUpdate → List EdgeUpdate
@@ -76,6 +80,7 @@ own_updates log (ObjAdd shard otype payload) = []
 own_updates log (ObjUpdate id payload) = []
 own_updates log (ObjDelete id) = []
 
+-- whether an object was added
 abbrev pub is_addition : Kind → Bool
 is_addition ObjAdded = true
 is_addition _ = false
@@ -102,13 +107,11 @@ object_touches log (AssocAdd id1 atype id2 time payload) = []
 object_touches log (AssocDelete id1 atype id2) = []
 object_touches log (AssocChangeType id1 atype id2 newtype) = []
 
+-- the touches of a write: of its object, or of its edges at both near ends
 abbrev pub touches_of : EdgeTypes → List Entry → Write → List Touch
-touches_of types log write = object_touches log write ++ map_touches (with_near_ends types (own_updates log write))
-  where
-    map_touches : List EdgeUpdate → List Touch
-    map_touches [] = []
-    map_touches (u ∷ us) = edge_touch log u ∷ map_touches us
+touches_of types log write = object_touches log write ++ map (edge_touch log) (with_near_ends types (own_updates log write))
 
+-- the kind of the entry of a write
 abbrev pub kind_of : Write → Kind
 kind_of (ObjAdd shard otype payload) = ObjAdded
 kind_of (ObjUpdate id payload) = ObjUpdated
@@ -140,7 +143,8 @@ Names (AssocDelete id1 atype id2) ts =
     IsSomeAnd (slice_get ts 0) (λ t. (stamp : Stamp) × (was : Option ℕ) × (t.key ≡ Assocs id1 atype) × (t.change ≡ CutEdge id2 stamp was))
 Names (AssocChangeType id1 atype id2 newtype) ts =
     IsSomeAnd (slice_get ts 0) (λ t. (stamp : Stamp) × (was : Option ℕ) × (t.key ≡ Assocs id1 atype) × (t.change ≡ CutEdge id2 stamp was))
-    × IsSomeAnd (slice_get ts 1) (λ t. (state : EdgeState) × (was : Option ℕ) × (t.key ≡ Assocs id1 newtype) × (t.change ≡ change_to id2 state was))
+    × IsSomeAnd (slice_get ts 1) (λ t. (time : ℕ) × (payload : List Pair) × (stamp : Stamp) × (was : Option ℕ) × (t.key ≡ Assocs id1 newtype)
+    × (t.change ≡ SetEdge (record { id2 = id2; time = time; payload = payload; stamp = stamp }) was))
 
 -- the entry is one that the write could have made
 pub record FitsWrite (e : Entry) (write : Write) : Type 0 where

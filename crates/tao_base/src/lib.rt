@@ -14,7 +14,7 @@ pub mod query;
 pub mod text;
 pub mod write;
 
-pub use data::{Data, Pair};
+pub use data::{Data, DataRefusal, Pair};
 pub use edge::{Edge, EdgeState, Edges, Object, Stamp, Time};
 pub use entry::{Change, Entry, Kind, Origin, Touch, Touches};
 pub use id::{AType, Id, Key, OType, StoreName};

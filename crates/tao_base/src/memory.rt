@@ -1,9 +1,19 @@
 //! Want of memory.
 use std::alloc::{AllocError, AllocFailed};
+use std::error::Error;
+use std::fmt;
 
 /// There was no memory for the call. Nothing else is told by it: the call may be made again.
 #[derive(Clone, Copy, Debug, PartialEq, Eq)]
 pub struct OutOfMemory;
+
+impl fmt::Display for OutOfMemory {
+    fn fmt<W: fmt::Write>(&self, f: &mut fmt::Formatter<W>) -> fmt::Result {
+        write!(f, "out of memory")
+    }
+}
+
+impl Error for OutOfMemory {}
 
 impl From<AllocError> for OutOfMemory {
     fn from(_: AllocError) -> OutOfMemory {

@@ -23,11 +23,47 @@ impl Model for IdSet {
 }
 
 impl IdSet {
+    ghost use Rattle.std.specs.Prelude.{◌==◌, ◌↔◌, ℕ, Contains, length};
+    ghost use Rattle.std.specs.List.{list_any};
+    ghost use Rattle.tao_base.specs.Ids.{IsRising};
+
+    /// The set of some ids, each of which may be given several times. Sorts them where they lie:
+    /// takes no memory, and time in n log n.
+    pub fn of(mut ids: Vec<Id>) -> IdSet
+        ensures rising { IsRising result }
+        ensures members { (id : ℕ) → Contains result id ↔ Contains ids.items id }
+    {
+        ids.sort_unstable();
+        ids.dedup();
+        IdSet { ids }
+    }
+
     /// The ids, in rising order.
     pub fn as_slice(&self) -> &[Id]
-        ensures { result.now ≡ self.now }
+        ensures value { result.now ≡ self.now }
+        ensures rising { IsRising self.now }
     {
         self.ids.as_slice()
+    }
+
+    /// How many ids the set has.
+    pub fn len(&self) -> usize
+        ensures { result ≡ length self.now }
+    {
+        self.ids.len()
+    }
+
+    pub fn is_empty(&self) -> bool
+        ensures { result ≡ (length self.now == 0) }
+    {
+        self.ids.is_empty()
+    }
+
+    /// Whether the set has the id, by a binary search.
+    pub fn contains(&self, id: Id) -> bool
+        ensures { result ≡ list_any (λ member. member == id) self.now }
+    {
+        self.ids.binary_search(&id).is_ok()
     }
 }
 

@@ -1,3 +1,5 @@
+pub mod LineReader
+pub mod Lines
 pub mod Plan
 pub mod Sink
 pub mod Standard

@@ -1,0 +1,20 @@
+-- What a reader of lines has in hand.
+use Rattle.std.specs.Prelude.{◌≡◌, ℕ, ◌+◌, ◌-◌, ◌^◌, ◌≤◌, List, length, Option}
+use Rattle.std.specs.Io.KnownBytes.{prepend_known}
+
+-- the bytes that it took and hasn't given yet, and how many it took in all
+pub record LineReading : Type 0 where
+  pub ahead : List ℕ
+  pub taken : ℕ
+
+-- the known bytes that are to come through it, from a source that has these left
+abbrev pub to_come : LineReading → Option (List ℕ) → Option (List ℕ)
+to_come reader left = prepend_known reader.ahead left
+
+-- how many bytes it may still give: those ahead, and those that it may still take
+abbrev pub may_give : LineReading → ℕ
+may_give reader = length reader.ahead + (2 ^ 40 - reader.taken)
+
+-- the bytes ahead stand within the chunk, and no more was taken than may be
+abbrev pub IsWithin : List ℕ → ℕ → ℕ → ℕ → Type 0
+IsWithin chunk at end taken = (length chunk ≡ 65536) × (at ≤ end) × (end ≤ 65536) × (taken ≤ 2 ^ 40)

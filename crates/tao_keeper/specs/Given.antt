@@ -3,7 +3,7 @@ use Rattle.std.specs.Prelude.{ℕ, ◌≤◌, ◌<◌, All, List, length}
 use Rattle.tao_base.specs.declared.edge.Edge.{Edge}
 use Rattle.tao_base.specs.declared.entry.Touch.{Touch}
 use Rattle.tao_keeper.specs.declared.keeper.TheConstants.{MOST_ENTRIES, STAMP_LIMIT}
-use Rattle.graph_model.specs.Edges.{AreDistinct, IsNewestFirst, number_of, state_left}
+use Rattle.graph_model.specs.Edges.{IsInOrder, number_of, state_left}
 
 -- a position in a log
 abbrev pub IsPosition : ℕ → Type 0
@@ -20,6 +20,5 @@ HaveSmallStamps touches = All (λ t. IsSmall (number_of (state_left t.change))) 
 -- edges that are given: at most as many as were asked for, newest first, no two to one id
 pub record AreGiven (most : ℕ) (edges : List Edge) : Type 0 where
   pub few : length edges ≤ most
-  pub sorted : IsNewestFirst edges
-  pub distinct : AreDistinct edges
+  pub in_order : IsInOrder edges
   pub stamps : All (λ e. IsSmall e.stamp.number) edges

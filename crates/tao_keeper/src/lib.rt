@@ -2,5 +2,7 @@
 #![tactic(auto)]
 
 mod keeper;
+mod map;
 
 pub use keeper::{Commit, KeepFail, Keeper, MOST_ENTRIES, Opened, STAMP_LIMIT};
+pub use map::{Fails, MapKeeper};

@@ -1,0 +1,166 @@
+//! The keeper in memory.
+ghost use Rattle.std.specs.Prelude.{◌≡◌, ◌≤◌, ◌<◌, IfOk, IfSome, drop, length, take};
+ghost use Rattle.counts.specs.Count.{Counted};
+ghost use Rattle.graph_model.specs.Edges.{edge_list, edge_record, number_of};
+ghost use Rattle.graph_model.specs.Log.{version};
+ghost use Rattle.graph_model.specs.Soundness.{CanFollow};
+ghost use Rattle.tao_base.specs.declared.id.StoreName.{StoreName as Store};
+ghost use Rattle.tao_keeper.specs.Cause.{IsCaused};
+ghost use Rattle.tao_keeper.specs.Given.{AreGiven, HaveSmallStamps, IsPosition, IsSmall};
+ghost use Rattle.tao_keeper.specs.MapKeeper.{plan_of, told_by};
+ghost use Rattle.tao_keeper.specs.Plan.{CallsAsPlanned, CommitsAsPlanned, new_plan};
+ghost use Rattle.tao_keeper.specs.Table.{Changes, OpensAs, StandsAt, Stays, after_commit, after_open, empty_table};
+
+mod log;
+mod plan;
+mod store;
+mod stores;
+
+use crate::{Commit, KeepFail, Keeper, MOST_ENTRIES, Opened};
+pub use plan::Fails;
+use plan::FaultPlan;
+use std::alloc::Global;
+use stores::Stores;
+use tao_base::{AType, EdgeState, Edges, Id, Key, Origin, StoreName};
+
+/// A keeper that holds its tables in memory. It fails exactly where its plan says so, and tells everything.
+///
+/// A call reads through the log of its store, and copies only what it gives.
+#[derive(Drop)]
+pub struct MapKeeper {
+    alloc: Global,
+    stores: Stores,
+    plan: FaultPlan,
+}
+
+impl MapKeeper {
+    /// A keeper with no stores. The calls and the commits whose numbers are listed fail, and no others: the first
+    /// call has the number 1, and so has the first commit.
+    pub fn make(alloc: Global, fails: Fails) -> MapKeeper
+        ensures empty { (at : Store) → told_by result at ≡ empty_table }
+        ensures plan { plan_of result ≡ new_plan fails.calls.items fails.commits.items }
+    {
+        MapKeeper {
+            alloc,
+            stores: Stores::new(alloc),
+            plan: FaultPlan::of(fails),
+        }
+    }
+}
+
+impl Keeper for MapKeeper {
+    ghost use Rattle.std.specs.Prelude.{true};
+    ghost use Rattle.tao_keeper.specs.StoreLaws.{told_sound};
+
+    const TELLS: bool = true;
+
+    ghost TELLS = { true };
+
+    ghost told = { told_by };
+
+    ghost calls = { λ keeper. (plan_of keeper).calls };
+
+    ghost faults = { λ keeper. (plan_of keeper).faults };
+
+    ghost sound = { λ keeper at _. told_sound keeper.stores.tables.items at };
+
+    fn open(&mut self, at: StoreName, line: &[u8]) -> Result<Opened, KeepFail>
+        ensures answer { IfOk result (λ opened. OpensAs opened (told_by self.old at) line.now) }
+        ensures changes { Changes result (told_by self.old) (told_by self.new) at (after_open (told_by self.old at) line.now) }
+        ensures cause { IsCaused (plan_of self.old).faults (plan_of self.new).faults result }
+        ensures plan { CallsAsPlanned (plan_of self.old) (plan_of self.new) result }
+    {
+        self.plan.begin_call()?;
+        Ok(self.stores.open(at, line)?)
+    }
+
+    fn edge(
+        &mut self,
+        at: StoreName,
+        id1: Id,
+        atype: AType,
+        id2: Id,
+    ) -> Result<Option<EdgeState>, KeepFail>
+        ensures answer { IfOk result (λ state. state ≡ edge_record (told_by self.old at).log id1 atype id2) }
+        ensures small { IfOk result (λ state. IsSmall (number_of state)) }
+        ensures stays { Stays (told_by self.old) (told_by self.new) }
+        ensures cause { IsCaused (plan_of self.old).faults (plan_of self.new).faults result }
+        ensures plan { CallsAsPlanned (plan_of self.old) (plan_of self.new) result }
+    {
+        self.plan.begin_call()?;
+        Ok(log::record_of(self.alloc, self.stores.log(at), id1, atype, id2)?)
+    }
+
+    fn edges(
+        &mut self,
+        at: StoreName,
+        id1: Id,
+        atype: AType,
+        pos: u64,
+        most: u64,
+    ) -> Result<Edges, KeepFail>
+        ensures answer { IfOk result (λ edges. edges ≡ take most (drop pos (edge_list (told_by self.old at).log id1 atype))) }
+        ensures given { IfOk result (AreGiven most) }
+        ensures stays { Stays (told_by self.old) (told_by self.new) }
+        ensures cause { IsCaused (plan_of self.old).faults (plan_of self.new).faults result }
+        ensures plan { CallsAsPlanned (plan_of self.old) (plan_of self.new) result }
+    {
+        self.plan.begin_call()?;
+        Ok(log::edges_of(self.alloc, self.stores.log(at), id1, atype, pos, most)?)
+    }
+
+    fn version(&mut self, at: StoreName, key: Key) -> Result<u64, KeepFail>
+        ensures answer { IfOk result (λ count. count ≡ version (told_by self.old at).log key) }
+        ensures few { IfOk result (λ count. count ≤ MOST_ENTRIES) }
+        ensures stays { Stays (told_by self.old) (told_by self.new) }
+        ensures cause { IsCaused (plan_of self.old).faults (plan_of self.new).faults result }
+        ensures plan { CallsAsPlanned (plan_of self.old) (plan_of self.new) result }
+    {
+        self.plan.begin_call()?;
+        Ok(log::version_of(self.stores.log(at), &key))
+    }
+
+    fn length(&mut self, at: StoreName) -> Result<u64, KeepFail>
+        ensures answer { IfOk result (λ count. count ≡ length (told_by self.old at).log) }
+        ensures few { IfOk result (λ count. count ≤ MOST_ENTRIES) }
+        ensures stays { Stays (told_by self.old) (told_by self.new) }
+        ensures cause { IsCaused (plan_of self.old).faults (plan_of self.new).faults result }
+        ensures plan { CallsAsPlanned (plan_of self.old) (plan_of self.new) result }
+    {
+        self.plan.begin_call()?;
+        Ok(self.stores.log(at).len() as u64)
+    }
+
+    fn origin(&mut self, at: StoreName, origin: Origin) -> Result<Option<u64>, KeepFail>
+        ensures answer { IfOk result (StandsAt (told_by self.old at).log origin) }
+        ensures within { IfOk result (λ found. IfSome found IsPosition) }
+        ensures stays { Stays (told_by self.old) (told_by self.new) }
+        ensures cause { IsCaused (plan_of self.old).faults (plan_of self.new).faults result }
+        ensures plan { CallsAsPlanned (plan_of self.old) (plan_of self.new) result }
+    {
+        self.plan.begin_call()?;
+        Ok(log::position_of(self.stores.log(at), origin))
+    }
+
+    fn commit(&mut self, at: StoreName, commit: &Commit) -> Result<(), KeepFail>
+        requires stamps { HaveSmallStamps commit.now.entry.touches }
+        requires room { length (told_by self.old at).log < MOST_ENTRIES }
+        requires follows { CanFollow (told_by self.old at).log commit.now.entry }
+        ensures changes { Changes result (told_by self.old) (told_by self.new) at (after_commit (told_by self.old at) commit.now.entry) }
+        ensures cause { IsCaused (plan_of self.old).faults (plan_of self.new).faults result }
+        ensures plan { CommitsAsPlanned (plan_of self.old) (plan_of self.new) result }
+    {
+        self.plan.begin_commit()?;
+        let entry = commit.entry.clone()?;
+        self.stores.add(at, entry)?;
+        Ok(())
+    }
+
+    fn calls(&self) -> u64 {
+        self.plan.calls()
+    }
+
+    fn faults(&self) -> u64 {
+        self.plan.faults()
+    }
+}

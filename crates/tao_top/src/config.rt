@@ -143,3 +143,158 @@ fn has_name(items: &[Value], name: &str) -> bool
 {
     items.iter().any(|item| is_text(item, name))
 }
+
+#[cfg(test)]
+mod tests {
+    use super::*;
+    use std::test::Fail;
+
+    #[test]
+    fn a_line_is_taken_where_no_rule_is_broken(rt: HostRuntime) -> Result<(), Fail> {
+        let regions = r#"[{"name":"east","tiers":[{"name":"t1"}]}]"#;
+        let table = [
+            // shards, regions, objects, assocs
+            (true, "1", regions, r#"["user"]"#, r#"[{"name":"likes"}]"#),
+            (
+                true,
+                "1",
+                regions,
+                r#"["a","b_","0123456789abcdef"]"#,
+                r#"[{"name":"likes"}]"#,
+            ),
+            (false, "2", regions, r#"["user"]"#, r#"[{"name":"likes"}]"#),
+            (
+                false,
+                "1.0",
+                regions,
+                r#"["user"]"#,
+                r#"[{"name":"likes"}]"#,
+            ),
+            (false, "1", "[]", r#"["user"]"#, r#"[{"name":"likes"}]"#),
+            (
+                false,
+                "1",
+                r#"[{"name":"east","tiers":[{"name":"store"}]}]"#,
+                r#"["user"]"#,
+                r#"[{"name":"likes"}]"#,
+            ),
+            (
+                false,
+                "1",
+                r#"[{"name":"east","tiers":[{"name":"leader"}]}]"#,
+                r#"["user"]"#,
+                r#"[{"name":"likes"}]"#,
+            ),
+            (
+                false,
+                "1",
+                r#"[{"name":"east","tiers":[]}]"#,
+                r#"["user"]"#,
+                r#"[{"name":"likes"}]"#,
+            ),
+            (
+                false,
+                "1",
+                r#"[{"name":"east","tiers":[{"name":"t1"},{"name":"t2"}]}]"#,
+                r#"["user"]"#,
+                r#"[{"name":"likes"}]"#,
+            ),
+            (
+                false,
+                "1",
+                r#"[{"name":"east","tiers":[{"name":"t1","followers":1}]}]"#,
+                r#"["user"]"#,
+                r#"[{"name":"likes"}]"#,
+            ),
+            (
+                false,
+                "1",
+                r#"[{"name":"east","leaders":1,"tiers":[{"name":"t1"}]}]"#,
+                r#"["user"]"#,
+                r#"[{"name":"likes"}]"#,
+            ),
+            (
+                false,
+                "1",
+                r#"[{"name":"East","tiers":[{"name":"t1"}]}]"#,
+                r#"["user"]"#,
+                r#"[{"name":"likes"}]"#,
+            ),
+            (false, "1", regions, "[]", r#"[{"name":"likes"}]"#),
+            (
+                false,
+                "1",
+                regions,
+                r#"["user","user"]"#,
+                r#"[{"name":"likes"}]"#,
+            ),
+            (
+                false,
+                "1",
+                regions,
+                r#"["0123456789abcdefg"]"#,
+                r#"[{"name":"likes"}]"#,
+            ),
+            (false, "1", regions, r#"[""]"#, r#"[{"name":"likes"}]"#),
+            (
+                false,
+                "1",
+                regions,
+                r#"["user",1]"#,
+                r#"[{"name":"likes"}]"#,
+            ),
+            (false, "1", regions, r#"["user"]"#, "[]"),
+            (
+                false,
+                "1",
+                regions,
+                r#"["user"]"#,
+                r#"[{"name":"likes"},{"name":"liked"}]"#,
+            ),
+            (
+                false,
+                "1",
+                regions,
+                r#"["user"]"#,
+                r#"[{"name":"likes","bound":6000}]"#,
+            ),
+            (
+                false,
+                "1",
+                regions,
+                r#"["user"]"#,
+                r#"[{"name":"likes"}],"log_max":16384"#,
+            ),
+            (
+                false,
+                "1",
+                regions,
+                r#"["user"]"#,
+                r#"[{"name":"likes"}],"strange":0"#,
+            ),
+        ];
+        let alloc = rt.alloc();
+        for (taken, shards, regions, objects, assocs) in table {
+            let line = format!(in alloc;
+                "{{\"shards\":{shards},\"regions\":{regions},\"objects\":{objects},\"assocs\":{assocs}}}"
+            )?;
+            let config = Config::read(alloc, line.as_bytes())?;
+            assert_eq!(rt; config.is_some(), taken, "at {line}");
+        }
+        Ok(())
+    }
+
+    #[test]
+    fn there_are_at_most_64_types_of_objects(rt: HostRuntime) -> Result<(), Fail> {
+        let alloc = rt.alloc();
+        for (count, taken) in [(64, true), (65, false)] {
+            let mut names = String::from_str(alloc, "\"n0\"")?;
+            for i in 1..count {
+                write!(names, ",\"n{i}\"")?;
+            }
+            let value = Value::from_str(alloc, &format!(in alloc; "{{\"objects\":[{names}]}}")?)?;
+            assert_eq!(rt; has_objects(&value), taken, "at {count}");
+        }
+        Ok(())
+    }
+}

@@ -25,12 +25,14 @@ pub(crate) fn small_at(value: &Value, name: &str, least: u32) -> Option<u32>
     (least <= number).then_some(number)
 }
 
+/// An id, whose serial isn't 0.
 pub(crate) fn id_at(value: &Value, name: &str) -> Option<Id>
     ensures { result ≡ id_at name.now (view value.now) }
 {
     Id::read(value.get(name)?.as_u64()?)
 }
 
+/// A text.
 pub(crate) fn text_at<'v>(value: &'v Value, name: &str) -> Option<&'v str>
     ensures { option_map (λ t. t.now) result ≡ text_at name.now (view value.now) }
 {
@@ -69,13 +71,15 @@ fn are_texts(members: &Map<String, Value>) -> bool
     members.values().all(Value::is_string)
 }
 
+/// Whether an object has no member.
 pub(crate) fn has_none(members: &Map<String, Value>) -> bool
     ensures { result ≡ has_none (members_view members.now.entries) }
 {
     members.is_empty()
 }
 
-/// Whether a value is an object whose members have these names alone.
+/// Whether a value is an object whose members have these names alone. Compares each member with each
+/// name.
 pub(crate) fn has_only(value: &Value, names: &[&str]) -> bool
     ensures { result ≡ has_only (map (λ n. n.now) names.now) (view value.now) }
 {
@@ -115,6 +119,7 @@ pub(crate) fn name_at<'v>(value: &'v Value, name: &str) -> Option<&'v str>
     name_of(value.get(name)?)
 }
 
+/// The name that a value is.
 pub(crate) fn name_of(value: &Value) -> Option<&str>
     ensures { option_map (λ t. t.now) result ≡ name_of (view value.now) }
 {

@@ -27,3 +27,42 @@ pub(crate) fn parse(alloc: Global, line: &[u8]) -> Result<Option<Value>, AllocEr
         }
     }
 }
+
+#[cfg(test)]
+mod tests {
+    use super::*;
+    use std::test::Fail;
+
+    fn nested(alloc: Global, levels: usize) -> Result<Vec<u8>, AllocError> {
+        let mut line = vec![in alloc; b'['; levels]?;
+        for _ in 0..levels {
+            line.push(b']')?;
+        }
+        Ok(line)
+    }
+
+    #[test]
+    fn a_line_is_json_up_to_a_length_and_a_depth(rt: HostRuntime) -> Result<(), Fail> {
+        let alloc = rt.alloc();
+        let mut longest = vec![in alloc; b' '; MAX_LINE]?;
+        longest[0] = b'0';
+        let mut longer = longest.clone()?;
+        longer.push(b' ')?;
+        let table = [
+            (true, longest),
+            (false, longer),
+            (true, nested(alloc, 127)?),
+            (false, nested(alloc, 128)?),
+            (true, b"1e308".to_vec(alloc)?),
+            (false, b"1e999".to_vec(alloc)?),
+            (true, b"\"\xc3\xa9\"".to_vec(alloc)?),
+            (false, b"\"\xc3\"".to_vec(alloc)?),
+            (false, b"".to_vec(alloc)?),
+        ];
+        for (is_json, line) in &table {
+            let value = parse(alloc, line)?;
+            assert_eq!(rt; value.is_some(), *is_json, "{line:?}");
+        }
+        Ok(())
+    }
+}

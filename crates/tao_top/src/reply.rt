@@ -20,11 +20,17 @@ pub(crate) enum ConfigField {
 /// The reply to a line.
 #[derive(Drop)]
 pub(crate) enum Reply {
+    /// The first line was taken.
     Configured,
+    /// The first line was refused.
     BadConfiguration { field: ConfigField },
+    /// The session is open.
     Opened { session: u32 },
+    /// An edge was added, by the entry at that position.
     Added { position: u64 },
+    /// The edges asked for, of the list of that version.
     Listed { edges: Edges, version: u64 },
+    /// The request got no answer.
     Refused(Refusal),
 }
 
@@ -131,4 +137,81 @@ fn pairs_value(alloc: Global, payload: &Data) -> Result<Value, AllocError>
         serde_json::put(&mut members, alloc, pair.key.as_str(), value)?;
     }
     Ok(Value::from(members))
+}
+
+#[cfg(test)]
+mod tests {
+    use super::*;
+    use crate::word::Word;
+    use std::test::Fail;
+    use tao_base::{Id, Stamp, Text};
+
+    fn edges(alloc: Global, id2: u64) -> Result<Edges, AllocError> {
+        let mut edges = Vec::new(alloc);
+        if let Some(id2) = Id::read(id2) {
+            edges.push(Edge {
+                id2,
+                time: 5,
+                payload: Data::empty(alloc),
+                stamp: Stamp {
+                    number: 1,
+                    shard: 0,
+                },
+            })?;
+        }
+        Ok(Edges::of(edges))
+    }
+
+    #[test]
+    fn each_reply_has_its_line(rt: HostRuntime) -> Result<(), Fail> {
+        let alloc = rt.alloc();
+        let whole = ConfigField::Whole;
+        let name = Text::copy_of(alloc, "hates")?;
+        let table = [
+            (Reply::Configured, r#"{"ok":"configured"}"#),
+            (
+                Reply::BadConfiguration { field: whole },
+                r#"{"bad":"configuration","field":""}"#,
+            ),
+            (Reply::Opened { session: 1 }, r#"{"ok":"open","session":1}"#),
+            (
+                Reply::Added { position: 1 },
+                r#"{"changed":true,"inverse":"none","ok":"assoc_add","position":1,"retry":false}"#,
+            ),
+            (
+                Reply::Listed {
+                    edges: edges(alloc, 2)?,
+                    version: 1,
+                },
+                r#"{"edges":[{"data":{},"id2":2,"time":5}],"ok":"assoc_range","version":1}"#,
+            ),
+            (
+                Reply::Refused(Refusal::BadLine),
+                r#"{"field":"","no":"bad_line"}"#,
+            ),
+            (
+                Reply::Refused(Refusal::NotBuilt { word: Word::ObjGet }),
+                r#"{"do":"obj_get","no":"not_built"}"#,
+            ),
+            (
+                Reply::Refused(Refusal::UnknownType { name }),
+                r#"{"name":"hates","no":"unknown_type"}"#,
+            ),
+            (
+                Reply::Refused(Refusal::KeeperFault { count: 3 }),
+                r#"{"count":3,"no":"keeper_fault"}"#,
+            ),
+            (
+                Reply::Refused(Refusal::Memory),
+                r#"{"no":"memory","position":0}"#,
+            ),
+        ];
+        for (reply, text) in &table {
+            let line = reply.line(alloc)?;
+            let (end, start) = line.split_last().ok_or("an empty line")?;
+            assert_eq!(rt; start, text.as_bytes(), "at {text}");
+            assert_eq!(rt; *end, b'\n', "at {text}");
+        }
+        Ok(())
+    }
 }

@@ -1,5 +1,5 @@
 //! What a line asks, or why it is refused before any store is asked.
-ghost use Rattle.std.specs.Prelude.{◌≡◌, option_map};
+ghost use Rattle.std.specs.Prelude.{◌≡◌, IfOk, option_map};
 ghost use Rattle.serde_json.specs.View.{view};
 ghost use Rattle.tao_top.specs.Request.{Asks, asked_in, asked_by, word_of, open_of, opening, opens, add_of, adding, adds, range_of, listing, lists, is_here};
 
@@ -42,13 +42,13 @@ pub(crate) struct Range {
 pub(crate) enum Refusal {
     /// The line is no request.
     BadLine,
-    /// The request, or what it names, isn't built.
+    /// The request is one of a kind that isn't built.
     NotBuilt { word: Word },
     /// No association type has that name.
     UnknownType { name: Text },
-    /// The keeper failed, as often as that so far.
+    /// A keeper failed. The count is that of its faults since the start, with this one.
     KeeperFault { count: u64 },
-    /// There was no memory.
+    /// There was no memory. The request may be sent again.
     Memory,
 }
 
@@ -275,4 +275,186 @@ fn unknown_type(alloc: Global, name: &str) -> Result<Refusal, AllocError>
     })
 }
 
-ghost use Rattle.std.specs.Prelude.{IfOk};
+#[cfg(test)]
+mod tests {
+    use super::*;
+    use crate::reply::Reply;
+    use std::test::Fail;
+
+    /// The first word of what is asked, or the line of the refusal.
+    fn outcome(alloc: Global, asked: Result<Asked, Refusal>) -> Result<Vec<u8>, AllocError> {
+        match asked {
+            Ok(Asked::Open { session }) => Ok(format!(in alloc; "open {session}\n")?.into_bytes()),
+            Ok(Asked::Add(add)) => {
+                let (session, seq, time) = (add.session, add.seq, add.time);
+                let (id1, id2) = (add.id1.number(), add.id2.number());
+                Ok(format!(in alloc; "add {session} {seq} {id1} {id2} {time}\n")?.into_bytes())
+            }
+            Ok(Asked::Range(range)) => {
+                let (id1, pos, limit) = (range.id1.number(), range.pos, range.limit);
+                Ok(format!(in alloc; "range {id1} {pos} {limit}\n")?.into_bytes())
+            }
+            Err(refusal) => Reply::Refused(refusal).line(alloc),
+        }
+    }
+
+    const BAD_LINE: &str = r#"{"field":"","no":"bad_line"}"#;
+
+    const NO_OPEN: &str = r#"{"do":"open","no":"not_built"}"#;
+
+    const NO_ADD: &str = r#"{"do":"assoc_add","no":"not_built"}"#;
+
+    const NO_RANGE: &str = r#"{"do":"assoc_range","no":"not_built"}"#;
+
+    const NO_SETTLE: &str = r#"{"do":"settle","no":"not_built"}"#;
+
+    const NO_TYPE: &str = r#"{"name":"hates","no":"unknown_type"}"#;
+
+    #[test]
+    fn each_line_is_asked_or_refused(rt: HostRuntime) -> Result<(), Fail> {
+        let alloc = rt.alloc();
+        let config = Config {
+            region: Text::copy_of(alloc, "east")?,
+            tier: Text::copy_of(alloc, "t1")?,
+            atype: Text::copy_of(alloc, "likes")?,
+        };
+        let table = [
+            (
+                None,
+                "open 1",
+                r#"{"do":"open","session":1,"region":"east","tier":"t1"}"#,
+            ),
+            (
+                Some(1),
+                NO_OPEN,
+                r#"{"do":"open","session":2,"region":"east","tier":"t1"}"#,
+            ),
+            (
+                None,
+                NO_OPEN,
+                r#"{"do":"open","session":1,"region":"west","tier":"t1"}"#,
+            ),
+            (
+                None,
+                NO_OPEN,
+                r#"{"do":"open","session":1,"region":"east","tier":"t2"}"#,
+            ),
+            (
+                None,
+                BAD_LINE,
+                r#"{"do":"open","session":0,"region":"east","tier":"t1"}"#,
+            ),
+            (
+                None,
+                BAD_LINE,
+                r#"{"do":"open","session":4294967296,"region":"east","tier":"t1"}"#,
+            ),
+            (
+                None,
+                BAD_LINE,
+                r#"{"do":"open","session":1,"region":"west"}"#,
+            ),
+            (
+                Some(1),
+                BAD_LINE,
+                r#"{"do":"open","session":1,"region":"east","tier":"t1","seq":1}"#,
+            ),
+            (
+                Some(1),
+                "add 1 1 1 2 5",
+                r#"{"do":"assoc_add","session":1,"seq":1,"id1":1,"atype":"likes","id2":2,"time":5,"data":{}}"#,
+            ),
+            (
+                Some(2),
+                NO_ADD,
+                r#"{"do":"assoc_add","session":1,"seq":1,"id1":1,"atype":"hates","id2":2,"time":5,"data":{}}"#,
+            ),
+            (
+                None,
+                NO_ADD,
+                r#"{"do":"assoc_add","session":1,"seq":1,"id1":1,"atype":"likes","id2":2,"time":5,"data":{}}"#,
+            ),
+            (
+                Some(1),
+                NO_TYPE,
+                r#"{"do":"assoc_add","session":1,"seq":1,"id1":1,"atype":"hates","id2":2,"time":5,"data":{}}"#,
+            ),
+            (
+                Some(1),
+                NO_ADD,
+                r#"{"do":"assoc_add","session":1,"seq":1,"id1":281474976710657,"atype":"likes","id2":2,"time":5,"data":{}}"#,
+            ),
+            (
+                Some(1),
+                NO_ADD,
+                r#"{"do":"assoc_add","session":1,"seq":1,"id1":1,"atype":"hates","id2":281474976710657,"time":5,"data":{}}"#,
+            ),
+            (
+                Some(1),
+                NO_ADD,
+                r#"{"do":"assoc_add","session":1,"seq":1,"id1":1,"atype":"likes","id2":2,"time":5,"data":{"a":"b"}}"#,
+            ),
+            (
+                Some(2),
+                BAD_LINE,
+                r#"{"do":"assoc_add","session":1,"seq":1,"id1":1,"atype":"likes","id2":2,"time":5,"data":{"a":1}}"#,
+            ),
+            (
+                Some(1),
+                BAD_LINE,
+                r#"{"do":"assoc_add","session":1,"seq":1,"id1":281474976710656,"atype":"likes","id2":2,"time":5,"data":{}}"#,
+            ),
+            (
+                Some(1),
+                BAD_LINE,
+                r#"{"do":"assoc_add","session":1,"seq":0,"id1":1,"atype":"likes","id2":2,"time":5,"data":{}}"#,
+            ),
+            (
+                Some(1),
+                BAD_LINE,
+                r#"{"do":"assoc_add","session":1,"seq":18446744073709551616,"id1":1,"atype":"likes","id2":2,"time":5,"data":{}}"#,
+            ),
+            (
+                Some(1),
+                "range 1 0 10",
+                r#"{"do":"assoc_range","session":1,"id1":1,"atype":"likes","pos":0,"limit":10}"#,
+            ),
+            (
+                Some(1),
+                NO_RANGE,
+                r#"{"do":"assoc_range","session":2,"id1":1,"atype":"likes","pos":0,"limit":10}"#,
+            ),
+            (
+                Some(1),
+                NO_RANGE,
+                r#"{"do":"assoc_range","session":1,"id1":1,"atype":"hates","pos":0,"limit":10,"critical":false}"#,
+            ),
+            (
+                Some(1),
+                NO_TYPE,
+                r#"{"do":"assoc_range","session":1,"id1":1,"atype":"hates","pos":0,"limit":10}"#,
+            ),
+            (
+                Some(1),
+                BAD_LINE,
+                r#"{"do":"assoc_range","session":1,"id1":1,"atype":"likes","pos":0,"limit":10,"critical":0}"#,
+            ),
+            (
+                Some(1),
+                BAD_LINE,
+                r#"{"do":"assoc_range","session":1,"id1":1,"atype":"likes","pos":0,"limit":0}"#,
+            ),
+            (None, NO_SETTLE, r#"{"do":"settle","strange":0}"#),
+            (None, NO_SETTLE, r#"{"do":"open","do":"settle"}"#),
+            (None, BAD_LINE, r#"{"do":"fly"}"#),
+            (None, BAD_LINE, r#"["do"]"#),
+            (None, BAD_LINE, r#"{"do":"settle""#),
+        ];
+        for (current, expected, line) in table {
+            let found = outcome(alloc, Asked::read(alloc, &config, current, line.as_bytes()))?;
+            let expected = format!(in alloc; "{expected}\n")?;
+            assert_eq!(rt; found.as_slice(), expected.as_bytes(), "at {line}");
+        }
+        Ok(())
+    }
+}

@@ -74,7 +74,7 @@ impl Word {
         Word::Audit,
     ];
 
-    /// The word of that name.
+    /// The word of that name. Compares it with each word.
     pub(crate) fn of(name: &str) -> Option<Word>
         ensures value { result ≡ word_named name.now }
         ensures named { IfSome result (λ word. word_name word ≡ name.now) }
@@ -82,6 +82,7 @@ impl Word {
         Word::ALL.iter().copied().find(|word| word.name() == name)
     }
 
+    /// The word as it stands in a line.
     pub(crate) fn name(self) -> &'static str
         ensures value { result.now ≡ word_name self }
         ensures found { word_named (word_name self) ≡ Some self }

@@ -1,0 +1,460 @@
+//! What a line asks, or why it is refused before any store is asked.
+ghost use Rattle.std.specs.Prelude.{◌≡◌, IfOk, option_map};
+ghost use Rattle.serde_json.specs.View.{view};
+ghost use Rattle.tao_top.specs.Request.{Asks, asked_in, asked_by, word_of, open_of, opening, opens, add_of, adding, adds, range_of, listing, lists, is_here};
+
+use crate::config::Config;
+use crate::fields::{flag_at, has_none, has_only, id_at, number_at, small_at, text_at, texts_at};
+use crate::json::parse;
+use crate::word::Word;
+use serde_json::{Map, Value};
+use std::alloc::{AllocError, Global};
+use tao_base::{Id, Text, Time};
+
+/// What a request asks of the store.
+#[derive(Clone, Copy)]
+pub(crate) enum Asked {
+    Open { session: u32 },
+    Add(Add),
+    Range(Range),
+}
+
+/// An edge to be set, by a session's write of that number.
+#[derive(Clone, Copy)]
+pub(crate) struct Add {
+    pub session: u32,
+    pub seq: u64,
+    pub id1: Id,
+    pub id2: Id,
+    pub time: Time,
+}
+
+/// The part of a list from a place on, of at most that many edges.
+#[derive(Clone, Copy)]
+pub(crate) struct Range {
+    pub id1: Id,
+    pub pos: u32,
+    pub limit: u32,
+}
+
+/// Why a request got no answer.
+#[derive(Drop)]
+pub(crate) enum Refusal {
+    /// The line is no request.
+    BadLine,
+    /// The request is one of a kind that isn't built.
+    NotBuilt { word: Word },
+    /// No association type has that name.
+    UnknownType { name: Text },
+    /// A keeper failed. The count is that of its faults since the start, with this one.
+    KeeperFault { count: u64 },
+    /// There was no memory. The request may be sent again.
+    Memory,
+}
+
+impl From<AllocError> for Refusal {
+    ghost use Rattle.std.specs.Prelude.{◌≡◌};
+    ghost use Rattle.tao_top.specs.declared.request.Refusal.TheVariants.{Memory};
+
+    ghost from_gives = { λ _ refusal. refusal ≡ Memory };
+
+    fn from(_: AllocError) -> Refusal {
+        Refusal::Memory
+    }
+}
+
+impl Asked {
+    /// What a line asks, while that session is open.
+    pub(crate) fn read(
+        alloc: Global,
+        config: &Config,
+        current: Option<u32>,
+        line: &[u8],
+    ) -> Result<Asked, Refusal>
+        ensures { Asks result (asked_in config.now current line.now) }
+    {
+        match parse(alloc, line)? {
+            Some(value) => asked_by(alloc, config, current, &value),
+            None => Err(Refusal::BadLine),
+        }
+    }
+}
+
+fn asked_by(
+    alloc: Global,
+    config: &Config,
+    current: Option<u32>,
+    value: &Value,
+) -> Result<Asked, Refusal>
+    ensures { Asks result (asked_by config.now current (view value.now)) }
+{
+    let Some(word) = word_of(value) else {
+        return Err(Refusal::BadLine);
+    };
+    match word {
+        Word::Open => match open_of(value) {
+            Some(fields) => opens(config, current, &fields),
+            None => Err(Refusal::BadLine),
+        },
+        Word::AssocAdd => match add_of(value) {
+            Some(fields) => adds(alloc, config, current, &fields),
+            None => Err(Refusal::BadLine),
+        },
+        Word::AssocRange => match range_of(value) {
+            Some(fields) => lists(alloc, config, current, &fields),
+            None => Err(Refusal::BadLine),
+        },
+        word => Err(Refusal::NotBuilt { word }),
+    }
+}
+
+fn word_of(value: &Value) -> Option<Word>
+    ensures { result ≡ word_of (view value.now) }
+{
+    Word::of(text_at(value, "do")?)
+}
+
+// ---- the fields of each word
+
+#[derive(Clone, Copy)]
+struct OpenFields<'v> {
+    session: u32,
+    region: &'v str,
+    tier: &'v str,
+}
+
+fn open_of(value: &Value) -> Option<OpenFields<'_>>
+    ensures { option_map opening result ≡ open_of (view value.now) }
+{
+    let fields = OpenFields {
+        session: small_at(value, "session", 1)?,
+        region: text_at(value, "region")?,
+        tier: text_at(value, "tier")?,
+    };
+    has_only(value, &["do", "session", "region", "tier"]).then_some(fields)
+}
+
+#[derive(Clone, Copy)]
+struct AddFields<'v> {
+    session: u32,
+    seq: u64,
+    id1: Id,
+    atype: &'v str,
+    id2: Id,
+    time: Time,
+    pairs: &'v Map<String, Value>,
+}
+
+fn add_of(value: &Value) -> Option<AddFields<'_>>
+    ensures { option_map adding result ≡ add_of (view value.now) }
+{
+    let fields = AddFields {
+        session: small_at(value, "session", 1)?,
+        seq: number_at(value, "seq", 1, u64::MAX)?,
+        id1: id_at(value, "id1")?,
+        atype: text_at(value, "atype")?,
+        id2: id_at(value, "id2")?,
+        time: small_at(value, "time", 0)?,
+        pairs: texts_at(value, "data")?,
+    };
+    let names = [
+        "do", "session", "seq", "id1", "atype", "id2", "time", "data",
+    ];
+    has_only(value, &names).then_some(fields)
+}
+
+#[derive(Clone, Copy)]
+struct RangeFields<'v> {
+    session: u32,
+    id1: Id,
+    atype: &'v str,
+    pos: u32,
+    limit: u32,
+    critical: Option<bool>,
+}
+
+fn range_of(value: &Value) -> Option<RangeFields<'_>>
+    ensures { option_map listing result ≡ range_of (view value.now) }
+{
+    let fields = RangeFields {
+        session: small_at(value, "session", 1)?,
+        id1: id_at(value, "id1")?,
+        atype: text_at(value, "atype")?,
+        pos: small_at(value, "pos", 0)?,
+        limit: small_at(value, "limit", 1)?,
+        critical: flag_at(value, "critical")?,
+    };
+    let names = ["do", "session", "id1", "atype", "pos", "limit", "critical"];
+    has_only(value, &names).then_some(fields)
+}
+
+// ---- what is built, and the names
+
+fn opens(config: &Config, current: Option<u32>, fields: &OpenFields<'_>) -> Result<Asked, Refusal>
+    ensures { Asks result (opens config.now current (opening fields.now)) }
+{
+    if current.is_none()
+        && fields.region == config.region.as_str()
+        && fields.tier == config.tier.as_str()
+    {
+        Ok(Asked::Open {
+            session: fields.session,
+        })
+    } else {
+        Err(Refusal::NotBuilt { word: Word::Open })
+    }
+}
+
+fn adds(
+    alloc: Global,
+    config: &Config,
+    current: Option<u32>,
+    fields: &AddFields<'_>,
+) -> Result<Asked, Refusal>
+    ensures { Asks result (adds config.now current (adding fields.now)) }
+{
+    let is_built = current == Some(fields.session)
+        && is_here(fields.id1)
+        && is_here(fields.id2)
+        && has_none(fields.pairs);
+    if !is_built {
+        Err(Refusal::NotBuilt {
+            word: Word::AssocAdd,
+        })
+    } else if fields.atype != config.atype.as_str() {
+        Err(unknown_type(alloc, fields.atype)?)
+    } else {
+        Ok(Asked::Add(Add {
+            session: fields.session,
+            seq: fields.seq,
+            id1: fields.id1,
+            id2: fields.id2,
+            time: fields.time,
+        }))
+    }
+}
+
+fn lists(
+    alloc: Global,
+    config: &Config,
+    current: Option<u32>,
+    fields: &RangeFields<'_>,
+) -> Result<Asked, Refusal>
+    ensures { Asks result (lists config.now current (listing fields.now)) }
+{
+    let is_built = current == Some(fields.session)
+        && is_here(fields.id1)
+        && fields.critical.is_none();
+    if !is_built {
+        Err(Refusal::NotBuilt {
+            word: Word::AssocRange,
+        })
+    } else if fields.atype != config.atype.as_str() {
+        Err(unknown_type(alloc, fields.atype)?)
+    } else {
+        Ok(Asked::Range(Range {
+            id1: fields.id1,
+            pos: fields.pos,
+            limit: fields.limit,
+        }))
+    }
+}
+
+/// Whether an id is of the one shard.
+fn is_here(id: Id) -> bool
+    ensures { result ≡ is_here id }
+{
+    id.shard() == 0
+}
+
+fn unknown_type(alloc: Global, name: &str) -> Result<Refusal, AllocError>
+    ensures { IfOk result (λ refusal. refusal ≡ Refusal.UnknownType name.now) }
+{
+    Ok(Refusal::UnknownType {
+        name: Text::copy_of(alloc, name)?,
+    })
+}
+
+#[cfg(test)]
+mod tests {
+    use super::*;
+    use crate::reply::Reply;
+    use std::test::Fail;
+
+    /// The first word of what is asked, or the line of the refusal.
+    fn outcome(alloc: Global, asked: Result<Asked, Refusal>) -> Result<Vec<u8>, AllocError> {
+        match asked {
+            Ok(Asked::Open { session }) => Ok(format!(in alloc; "open {session}\n")?.into_bytes()),
+            Ok(Asked::Add(add)) => {
+                let (session, seq, time) = (add.session, add.seq, add.time);
+                let (id1, id2) = (add.id1.number(), add.id2.number());
+                Ok(format!(in alloc; "add {session} {seq} {id1} {id2} {time}\n")?.into_bytes())
+            }
+            Ok(Asked::Range(range)) => {
+                let (id1, pos, limit) = (range.id1.number(), range.pos, range.limit);
+                Ok(format!(in alloc; "range {id1} {pos} {limit}\n")?.into_bytes())
+            }
+            Err(refusal) => Reply::Refused(refusal).line(alloc),
+        }
+    }
+
+    const BAD_LINE: &str = r#"{"field":"","no":"bad_line"}"#;
+
+    const NO_OPEN: &str = r#"{"do":"open","no":"not_built"}"#;
+
+    const NO_ADD: &str = r#"{"do":"assoc_add","no":"not_built"}"#;
+
+    const NO_RANGE: &str = r#"{"do":"assoc_range","no":"not_built"}"#;
+
+    const NO_SETTLE: &str = r#"{"do":"settle","no":"not_built"}"#;
+
+    const NO_TYPE: &str = r#"{"name":"hates","no":"unknown_type"}"#;
+
+    #[test]
+    fn each_line_is_asked_or_refused(rt: HostRuntime) -> Result<(), Fail> {
+        let alloc = rt.alloc();
+        let config = Config {
+            region: Text::copy_of(alloc, "east")?,
+            tier: Text::copy_of(alloc, "t1")?,
+            atype: Text::copy_of(alloc, "likes")?,
+        };
+        let table = [
+            (
+                None,
+                "open 1",
+                r#"{"do":"open","session":1,"region":"east","tier":"t1"}"#,
+            ),
+            (
+                Some(1),
+                NO_OPEN,
+                r#"{"do":"open","session":2,"region":"east","tier":"t1"}"#,
+            ),
+            (
+                None,
+                NO_OPEN,
+                r#"{"do":"open","session":1,"region":"west","tier":"t1"}"#,
+            ),
+            (
+                None,
+                NO_OPEN,
+                r#"{"do":"open","session":1,"region":"east","tier":"t2"}"#,
+            ),
+            (
+                None,
+                BAD_LINE,
+                r#"{"do":"open","session":0,"region":"east","tier":"t1"}"#,
+            ),
+            (
+                None,
+                BAD_LINE,
+                r#"{"do":"open","session":4294967296,"region":"east","tier":"t1"}"#,
+            ),
+            (
+                None,
+                BAD_LINE,
+                r#"{"do":"open","session":1,"region":"west"}"#,
+            ),
+            (
+                Some(1),
+                BAD_LINE,
+                r#"{"do":"open","session":1,"region":"east","tier":"t1","seq":1}"#,
+            ),
+            (
+                Some(1),
+                "add 1 1 1 2 5",
+                r#"{"do":"assoc_add","session":1,"seq":1,"id1":1,"atype":"likes","id2":2,"time":5,"data":{}}"#,
+            ),
+            (
+                Some(2),
+                NO_ADD,
+                r#"{"do":"assoc_add","session":1,"seq":1,"id1":1,"atype":"hates","id2":2,"time":5,"data":{}}"#,
+            ),
+            (
+                None,
+                NO_ADD,
+                r#"{"do":"assoc_add","session":1,"seq":1,"id1":1,"atype":"likes","id2":2,"time":5,"data":{}}"#,
+            ),
+            (
+                Some(1),
+                NO_TYPE,
+                r#"{"do":"assoc_add","session":1,"seq":1,"id1":1,"atype":"hates","id2":2,"time":5,"data":{}}"#,
+            ),
+            (
+                Some(1),
+                NO_ADD,
+                r#"{"do":"assoc_add","session":1,"seq":1,"id1":281474976710657,"atype":"likes","id2":2,"time":5,"data":{}}"#,
+            ),
+            (
+                Some(1),
+                NO_ADD,
+                r#"{"do":"assoc_add","session":1,"seq":1,"id1":1,"atype":"hates","id2":281474976710657,"time":5,"data":{}}"#,
+            ),
+            (
+                Some(1),
+                NO_ADD,
+                r#"{"do":"assoc_add","session":1,"seq":1,"id1":1,"atype":"likes","id2":2,"time":5,"data":{"a":"b"}}"#,
+            ),
+            (
+                Some(2),
+                BAD_LINE,
+                r#"{"do":"assoc_add","session":1,"seq":1,"id1":1,"atype":"likes","id2":2,"time":5,"data":{"a":1}}"#,
+            ),
+            (
+                Some(1),
+                BAD_LINE,
+                r#"{"do":"assoc_add","session":1,"seq":1,"id1":281474976710656,"atype":"likes","id2":2,"time":5,"data":{}}"#,
+            ),
+            (
+                Some(1),
+                BAD_LINE,
+                r#"{"do":"assoc_add","session":1,"seq":0,"id1":1,"atype":"likes","id2":2,"time":5,"data":{}}"#,
+            ),
+            (
+                Some(1),
+                BAD_LINE,
+                r#"{"do":"assoc_add","session":1,"seq":18446744073709551616,"id1":1,"atype":"likes","id2":2,"time":5,"data":{}}"#,
+            ),
+            (
+                Some(1),
+                "range 1 0 10",
+                r#"{"do":"assoc_range","session":1,"id1":1,"atype":"likes","pos":0,"limit":10}"#,
+            ),
+            (
+                Some(1),
+                NO_RANGE,
+                r#"{"do":"assoc_range","session":2,"id1":1,"atype":"likes","pos":0,"limit":10}"#,
+            ),
+            (
+                Some(1),
+                NO_RANGE,
+                r#"{"do":"assoc_range","session":1,"id1":1,"atype":"hates","pos":0,"limit":10,"critical":false}"#,
+            ),
+            (
+                Some(1),
+                NO_TYPE,
+                r#"{"do":"assoc_range","session":1,"id1":1,"atype":"hates","pos":0,"limit":10}"#,
+            ),
+            (
+                Some(1),
+                BAD_LINE,
+                r#"{"do":"assoc_range","session":1,"id1":1,"atype":"likes","pos":0,"limit":10,"critical":0}"#,
+            ),
+            (
+                Some(1),
+                BAD_LINE,
+                r#"{"do":"assoc_range","session":1,"id1":1,"atype":"likes","pos":0,"limit":0}"#,
+            ),
+            (None, NO_SETTLE, r#"{"do":"settle","strange":0}"#),
+            (None, NO_SETTLE, r#"{"do":"open","do":"settle"}"#),
+            (None, BAD_LINE, r#"{"do":"fly"}"#),
+            (None, BAD_LINE, r#"["do"]"#),
+            (None, BAD_LINE, r#"{"do":"settle""#),
+        ];
+        for (current, expected, line) in table {
+            let found = outcome(alloc, Asked::read(alloc, &config, current, line.as_bytes()))?;
+            let expected = format!(in alloc; "{expected}\n")?;
+            assert_eq!(rt; found.as_slice(), expected.as_bytes(), "at {line}");
+        }
+        Ok(())
+    }
+}

@@ -40,7 +40,7 @@ pub enum NextLine {
 pub enum ReadFault {
     /// The source failed.
     Failed,
-    /// `INPUT_LIMIT` bytes were taken, and the end had not come.
+    /// `INPUT_LIMIT` bytes were taken and looked at, and the end had not come.
     InputTooLong,
     /// No memory was found for the line.
     OutOfMemory,
@@ -175,6 +175,7 @@ impl LineReader {
         ensures failed { IsErrOf result ReadFault.Failed →
             Rose (R.faults source.old) (R.faults source.new) }
         ensures long { IsErrOf result ReadFault.InputTooLong → self.new.taken ≡ input_limit }
+        ensures looked { IsErrOf result ReadFault.InputTooLong → self.new.ahead ≡ [] }
     {
         if self.at < self.end {
             return Ok(true);
@@ -240,6 +241,7 @@ impl LineReader {
         ensures failed { IsErrOf result ReadFault.Failed →
             Rose (R.faults source.old) (R.faults source.new) }
         ensures long { IsErrOf result ReadFault.InputTooLong → self.new.taken ≡ input_limit }
+        ensures looked { IsErrOf result ReadFault.InputTooLong → self.new.ahead ≡ [] }
     {
         line.clear();
         'chunks: loop {

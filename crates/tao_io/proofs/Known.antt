@@ -1,9 +1,10 @@
 -- Laws of known bytes that are taken piece by piece.
-use Rattle.std.proofs.Common.{◌≡◌, ℕ, ◌+◌, ◌-◌, ◌<◌, List, [], ◌++◌, Option, min, length, take, drop, ap, ◌∙◌, sym, subst, arith, length-drop, take-append-drop}
+use Rattle.std.proofs.Common.{◌≡◌, ℕ, ◌+◌, ◌-◌, ◌<◌, List, [], ◌++◌, Option, min, length, take, drop, ap, ◌∙◌, sym, subst, arith, length-append, length-drop, take-append-drop}
 use Rattle.std.proofs.lemmas.List.{take_rest, drop-drop, drop_all}
-use Rattle.std.proofs.Math.Seq.{take-add}
+use Rattle.std.proofs.Math.Seq.{take-add, take-append-add}
 use Rattle.std.specs.Io.KnownBytes.{Appends}
 use Rattle.std.proofs.KnownBytes.{Appends-trans}
+use Rattle.tao_io.specs.Sink.{AppendsFront}
 
 -- a front of the bytes was taken, and then more of the rest
 pub Appends-more : (a b c : Option (List ℕ)) (bytes : List ℕ) (at n : ℕ) → Appends a b (take at bytes) → Appends b c (take n (take (length bytes - at) (drop at bytes)))
@@ -12,6 +13,14 @@ Appends-more a b c bytes at n front more =
     let both : take at bytes ++ take n (take (length bytes - at) (drop at bytes)) ≡ take (at + n) bytes =
     ap (λ rest. take at bytes ++ take n rest) (take_rest bytes at) ∙ sym (take-add at n bytes) in
     subst (Appends a c) both (Appends-trans a b c _ _ front more)
+
+-- some bytes were taken, and then a front of others
+pub AppendsFront-after : (a b c : Option (List ℕ)) (bytes more : List ℕ) → Appends a b bytes → AppendsFront b c more → AppendsFront a c (bytes ++ more)
+AppendsFront-after a b c bytes more first front = (
+  length bytes + front.0,
+  omega (arith, front.1, length-append bytes more),
+  subst (Appends a c) (sym (take-append-add bytes more front.0)) (Appends-trans a b c bytes (take front.0 more) first front.2),
+)
 
 -- the bytes that were copied are those at the place, and none are copied into room only where there are none
 pub took_front : (bytes into : List ℕ) (at n : ℕ) → n ≡ min (length into) (length (take (length bytes - at) (drop at bytes))) → take n into ≡ take n (take (length bytes - at) (drop at bytes))

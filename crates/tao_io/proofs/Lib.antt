@@ -1,4 +1,4 @@
 pub mod GivenLines
-mod Known
+pub mod Known
 pub mod LineLaws
 mod Reading

@@ -6,7 +6,8 @@ use Rattle.std.proofs.Math.Seq.{take-append-add}
 use Rattle.std.proofs.lemmas.List.Sums.{fails_before_first, passes_at_first, split_at_first}
 use Rattle.std.proofs.lemmas.List.Splits.{slice_split_none, slice_split_at}
 use Rattle.std.specs.List.{position_or_len, position}
-use Rattle.tao_io.specs.Lines.{is_line_end, lines_of, NoLineEnd, EndsLineAt, held, TakesToEnd}
+use Rattle.tao_io.specs.Lines.{is_line_end, lines_of}
+use Rattle.tao_io.specs.LineParts.{NoLineEnd, EndsLineAt, held, TakesToEnd}
 
 -- the front of a front, gone on with, is the front of the whole
 take_take-append : (n : ℕ) (xs ys : List ℕ) → take n (take n xs ++ ys) ≡ take n (xs ++ ys)

@@ -3,7 +3,8 @@ use Rattle.std.proofs.Common.{◌≡◌, ℕ, ◌+◌, ◌<◌, ◌≤◌, false
 use Rattle.std.proofs.lemmas.Bool.{cases_Bool, ltb-true, ltb-false}
 use Rattle.std.proofs.lemmas.List.Elements.{All-nil, All-append}
 use Rattle.std.specs.Io.KnownBytes.{Keeps, IsAtEnd, prepend_known}
-use Rattle.tao_io.specs.Lines.{is_line_end, lines_of, NoLineEnd, held, TakesAll, TakesToEnd, line_kind, GivesLines, NextLineIs, UsesSome}
+use Rattle.tao_io.specs.Lines.{is_line_end, lines_of, GivesLines, NextLineIs, UsesSome}
+use Rattle.tao_io.specs.LineParts.{NoLineEnd, held, TakesAll, TakesToEnd, line_kind}
 use Rattle.tao_io.proofs.LineLaws.{held-append, length-held, held-short, lines_of-ended, lines_of-skip, lines_of-last, lines_of-nil}
 
 -- some bytes of a line were seen and no end of it, and its first ones are held; all that could be given was

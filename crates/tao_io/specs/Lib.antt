@@ -1,3 +1,5 @@
+pub mod Examples
+pub mod LineParts
 pub mod LineReader
 pub mod Lines
 pub mod Plan

@@ -1,5 +1,5 @@
 -- The lines of an input, and what is told of them while they are read.
-use Rattle.std.specs.Prelude.{◌≡◌, ℕ, ◌+◌, ◌<◌, ◌≤◌, nat_lt, ◌==◌, Bool, false, if◌then◌else◌, List, [], ◌∷◌, ◌++◌, length, take, drop, filter, All, Option, Some, None, ⊤}
+use Rattle.std.specs.Prelude.{◌≡◌, ℕ, ◌+◌, ◌<◌, ◌≤◌, nat_lt, ◌==◌, Bool, List, [], ◌∷◌, ◌++◌, length, filter, Option, Some, None, ⊤}
 use Rattle.std.specs.List.{slice_split}
 use Rattle.std.specs.Io.KnownBytes.{Consumes, IsAtEnd}
 use Rattle.tao_io.specs.declared.lines.NextLine.{NextLine}
@@ -13,15 +13,6 @@ is_line_end byte = byte == 10
 unfoldable pub lines_of : List ℕ → List (List ℕ)
 lines_of bytes = filter (λ line. nat_lt 0 (length line)) (slice_split is_line_end bytes)
 
--- no line ends in these bytes
-abbrev pub NoLineEnd : List ℕ → Type 0
-NoLineEnd bytes = All (λ byte. is_line_end byte ≡ false) bytes
-
--- the place of the first end of a line, or none
-abbrev pub EndsLineAt : List ℕ → Option ℕ → Type 0
-EndsLineAt bytes None = NoLineEnd bytes
-EndsLineAt bytes (Some at) = (at < length bytes) × NoLineEnd (take at bytes) × (bytes ≡ take at bytes ++ 10 ∷ drop (at + 1) bytes)
-
 -- the most bytes of a line that is taken
 abbrev pub line_limit : ℕ
 line_limit = 1048576
@@ -29,23 +20,6 @@ line_limit = 1048576
 -- a line that is longer than is taken
 abbrev pub IsTooLong : List ℕ → Type 0
 IsTooLong line = line_limit < length line
-
--- a line's first bytes, enough to see whether it is too long
-unfoldable pub held : List ℕ → List ℕ
-held line = take (line_limit + 1) line
-
--- a line went on by all that was ahead, up to its end there
-abbrev pub TakesToEnd : List ℕ → List ℕ → List ℕ → List ℕ → Type 0
-TakesToEnd ahead ahead' line line' = (piece : List ℕ) × NoLineEnd piece × (ahead ≡ piece ++ 10 ∷ ahead') × (line' ≡ held (line ++ piece))
-
--- a line went on by all that was ahead, and has no end there
-abbrev pub TakesAll : List ℕ → List ℕ → List ℕ → List ℕ → Type 0
-TakesAll ahead ahead' line line' = NoLineEnd ahead × (ahead' ≡ []) × (line' ≡ held (line ++ ahead))
-
--- what was read, by what is held of it; nothing is the end
-abbrev pub line_kind : List ℕ → NextLine
-line_kind [] = End
-line_kind (byte ∷ bytes) = if nat_lt line_limit (length (byte ∷ bytes)) then TooLong else Line
 
 -- these lines came out of the known bytes, and the lines of those left are the rest
 abbrev pub GivesLines : Option (List ℕ) → Option (List ℕ) → List (List ℕ) → Type 0

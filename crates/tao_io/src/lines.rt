@@ -3,7 +3,8 @@ ghost use Rattle.std.specs.Prelude.{◌≡◌, ◌+◌, ◌<◌, ◌≤◌, ◌+
 ghost use Rattle.std.specs.Io.KnownBytes.{ReadConsumes, Keeps, IsAtEnd};
 ghost use Rattle.counts.specs.Count.{Rose, HasCause};
 ghost use Rattle.tao_io.specs.LineReader.{to_come, may_give, input_limit};
-ghost use Rattle.tao_io.specs.Lines.{line_limit, held, EndsLineAt, TakesToEnd, TakesAll, line_kind, NextLineIs, UsesSome, CountsTaken};
+ghost use Rattle.tao_io.specs.Lines.{line_limit, NextLineIs, UsesSome, CountsTaken};
+ghost use Rattle.tao_io.specs.LineParts.{held, EndsLineAt, TakesToEnd, TakesAll, line_kind};
 
 use crate::{Source, SourceFailed};
 use std::alloc::{AllocError, AllocFailed, Global};
@@ -39,7 +40,7 @@ pub enum NextLine {
 pub enum ReadFault {
     /// The source failed.
     Failed,
-    /// `INPUT_LIMIT` bytes were taken, and the end had not come.
+    /// `INPUT_LIMIT` bytes were taken and looked at, and the end had not come.
     InputTooLong,
     /// No memory was found for the line.
     OutOfMemory,
@@ -124,7 +125,7 @@ fn kind_of(line: &[u8]) -> NextLine
     }
 }
 
-/// What is left of a source while its lines are read: a chunk of 64 KiB that was taken from it.
+/// Reads the lines of a source. It keeps one chunk of 64 KiB that it took and hasn't given yet.
 #[derive(Drop)]
 pub struct LineReader {
     chunk: Vec<u8>,
@@ -160,17 +161,21 @@ impl LineReader {
 
     /// Takes a chunk where no byte is ahead. Says whether there is one then: none is the end.
     fn look_ahead<R: Source>(&mut self, source: &mut R) -> Result<bool, ReadFault>
-        ensures same { Keeps (to_come self.old (R.left source.old)) (to_come self.new (R.left source.new)) }
+        ensures same { Keeps
+            (to_come self.old (R.left source.old)) (to_come self.new (R.left source.new)) }
         ensures may { may_give self.new ≤ may_give self.old }
         ensures some { result ≡ Ok true → 0 < length self.new.ahead }
         ensures end { result ≡ Ok false → IsAtEnd (to_come self.new (R.left source.new)) }
         ensures short { result ≡ Ok false → self.new.taken < input_limit }
 
-        ensures counted { CountsTaken (R.left source.old) (R.left source.new) self.old.taken self.new.taken }
+        ensures counted { CountsTaken
+            (R.left source.old) (R.left source.new) self.old.taken self.new.taken }
         ensures limited { self.new.taken ≤ input_limit }
         ensures later { R.faults source.old ≤ R.faults source.new }
-        ensures failed { IsErrOf result ReadFault.Failed → Rose (R.faults source.old) (R.faults source.new) }
+        ensures failed { IsErrOf result ReadFault.Failed →
+            Rose (R.faults source.old) (R.faults source.new) }
         ensures long { IsErrOf result ReadFault.InputTooLong → self.new.taken ≡ input_limit }
+        ensures looked { IsErrOf result ReadFault.InputTooLong → self.new.ahead ≡ [] }
     {
         if self.at < self.end {
             return Ok(true);
@@ -190,8 +195,10 @@ impl LineReader {
     /// Goes on with a line by what is ahead, up to its end. Says whether the end was there.
     fn go_on(&mut self, line: &mut Vec<u8>) -> Result<bool, AllocError>
         requires { vec_len line.old ≤ HELD_LIMIT }
-        ensures found { result ≡ Ok true → TakesToEnd self.old.ahead self.new.ahead line.old.items line.new.items }
-        ensures none { result ≡ Ok false → TakesAll self.old.ahead self.new.ahead line.old.items line.new.items }
+        ensures found { result ≡ Ok true →
+            TakesToEnd self.old.ahead self.new.ahead line.old.items line.new.items }
+        ensures none { result ≡ Ok false →
+            TakesAll self.old.ahead self.new.ahead line.old.items line.new.items }
         ensures taken { self.new.taken ≡ self.old.taken }
         ensures bounded { vec_len line.new ≤ HELD_LIMIT }
     {
@@ -211,23 +218,30 @@ impl LineReader {
     }
 
     /// Reads the next line into `line`, in place of what it held. A line ends at byte 10 or at the end of the
-    /// input; an empty one is skipped. Where the line is too long, and after an error, what `line` holds is
-    /// left open; after an error the reader is too.
+    /// input; an empty one is skipped. It costs time for each byte of the line, and `line` never holds more than
+    /// `LINE_LIMIT` + 1 bytes.
+    ///
+    /// Where the line is too long, and after an error, what `line` holds is left open. After an error it is also
+    /// open which bytes of the line the reader has passed.
     pub fn next<R: Source>(
         &mut self,
         source: &mut R,
         line: &mut Vec<u8>,
     ) -> Result<NextLine, ReadFault>
-        ensures next { IfOk result (λ next. NextLineIs next (to_come self.old (R.left source.old)) (to_come self.new (R.left source.new)) line.new.items) }
+        ensures next { IfOk result (λ next. NextLineIs next
+            (to_come self.old (R.left source.old)) (to_come self.new (R.left source.new)) line.new.items) }
         ensures uses { IfOk result (λ next. UsesSome next (may_give self.old) (may_give self.new)) }
         ensures short { result ≡ Ok NextLine.End → self.new.taken < input_limit }
         ensures bounded { vec_len line.new ≤ line_limit + 1 }
 
-        ensures counted { CountsTaken (R.left source.old) (R.left source.new) self.old.taken self.new.taken }
+        ensures counted { CountsTaken
+            (R.left source.old) (R.left source.new) self.old.taken self.new.taken }
         ensures limited { self.new.taken ≤ input_limit }
         ensures later { R.faults source.old ≤ R.faults source.new }
-        ensures failed { IsErrOf result ReadFault.Failed → Rose (R.faults source.old) (R.faults source.new) }
+        ensures failed { IsErrOf result ReadFault.Failed →
+            Rose (R.faults source.old) (R.faults source.new) }
         ensures long { IsErrOf result ReadFault.InputTooLong → self.new.taken ≡ input_limit }
+        ensures looked { IsErrOf result ReadFault.InputTooLong → self.new.ahead ≡ [] }
     {
         line.clear();
         'chunks: loop {

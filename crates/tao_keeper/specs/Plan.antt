@@ -4,31 +4,33 @@ use Rattle.counts.specs.Count.{after_one}
 use Rattle.tao_keeper.specs.declared.keeper.KeepFail.{KeepFail}
 use Rattle.tao_keeper.specs.declared.keeper.KeepFail.TheVariants.{Failed, OutOfMemory}
 
--- which calls and which commits fail, by their numbers from 1 on, and what was counted so far
-pub record Plan : Type 0 where
-  pub failing_calls : List ℕ
-  pub failing_commits : List ℕ
-  pub calls : ℕ
-  pub commits : ℕ
-  pub faults : ℕ
+-- numbers from 1 on: those that are listed, and how many were counted so far
+pub record Numbered : Type 0 where
+  pub listed : List ℕ
+  pub count : ℕ
 
 -- nothing was counted yet
-abbrev pub new_plan : List ℕ → List ℕ → Plan
-new_plan calls commits = record { failing_calls = calls; failing_commits = commits; calls = 0; commits = 0; faults = 0 }
+abbrev pub from_one : List ℕ → Numbered
+from_one listed = record { listed = listed; count = 0 }
 
--- the next call is one of those that fail
-abbrev pub FailsNextCall : Plan → Type 0
-FailsNextCall plan = Contains plan.failing_calls (after_one plan.calls)
+-- the next number is listed
+abbrev pub IsNextListed : Numbered → Type 0
+IsNextListed numbers = Contains numbers.listed (after_one numbers.count)
 
--- the next commit is one of those that fail, by its number among the calls or among the commits
-abbrev pub FailsNextCommit : Plan → Type 0
-FailsNextCommit plan = FailsNextCall plan ⊎ Contains plan.failing_commits (after_one plan.commits)
+abbrev pub after_next : Numbered → Numbered
+after_next numbers = record numbers { count = after_one numbers.count }
+
+-- the numbers of the calls and of the commits, of which the listed fail, and how many faults there were
+pub record Plan : Type 0 where
+  pub calls : Numbered
+  pub commits : Numbered
+  pub faults : ℕ
 
 abbrev pub after_call : Plan → Plan
-after_call plan = record plan { calls = after_one plan.calls }
+after_call plan = record plan { calls = after_next plan.calls }
 
 abbrev pub after_commit : Plan → Plan
-after_commit plan = record plan { calls = after_one plan.calls; commits = after_one plan.commits }
+after_commit plan = record plan { calls = after_next plan.calls; commits = after_next plan.commits }
 
 abbrev pub after_fault : Plan → Plan
 after_fault plan = record plan { faults = after_one plan.faults }
@@ -39,8 +41,10 @@ EndsAsPlanned fails counted now (Err Failed) = fails × (now ≡ after_fault cou
 EndsAsPlanned fails counted now (Err OutOfMemory) = ¬ fails × (now ≡ counted)
 EndsAsPlanned fails counted now (Ok answer) = ¬ fails × (now ≡ counted)
 
+-- a call fails where its number among the calls is listed
 abbrev pub CallsAsPlanned : {T : Type 0} → Plan → Plan → Result T KeepFail → Type 0
-CallsAsPlanned old new result = EndsAsPlanned (FailsNextCall old) (after_call old) new result
+CallsAsPlanned old new result = EndsAsPlanned (IsNextListed old.calls) (after_call old) new result
 
+-- a commit fails there too, and where its number among the commits is listed
 abbrev pub CommitsAsPlanned : {T : Type 0} → Plan → Plan → Result T KeepFail → Type 0
-CommitsAsPlanned old new result = EndsAsPlanned (FailsNextCommit old) (after_commit old) new result
+CommitsAsPlanned old new result = EndsAsPlanned (IsNextListed old.calls ⊎ IsNextListed old.commits) (after_commit old) new result

@@ -8,7 +8,7 @@ ghost use Rattle.tao_base.specs.declared.id.StoreName.{StoreName as Store};
 ghost use Rattle.tao_keeper.specs.Cause.{IsCaused};
 ghost use Rattle.tao_keeper.specs.Given.{AreGiven, HaveSmallStamps, IsPosition, IsSmall};
 ghost use Rattle.tao_keeper.specs.MapKeeper.{plan_of, told_by};
-ghost use Rattle.tao_keeper.specs.Plan.{CallsAsPlanned, CommitsAsPlanned, new_plan};
+ghost use Rattle.tao_keeper.specs.Plan.{CallsAsPlanned, CommitsAsPlanned, from_one};
 ghost use Rattle.tao_keeper.specs.Table.{Changes, OpensAs, StandsAt, Stays, after_commit, after_open, empty_table};
 
 mod log;
@@ -38,7 +38,9 @@ impl MapKeeper {
     /// call has the number 1, and so has the first commit.
     pub fn make(alloc: Global, fails: Fails) -> MapKeeper
         ensures empty { (at : Store) → told_by result at ≡ empty_table }
-        ensures plan { plan_of result ≡ new_plan fails.calls.items fails.commits.items }
+        ensures calls { (plan_of result).calls ≡ from_one fails.calls.items }
+        ensures commits { (plan_of result).commits ≡ from_one fails.commits.items }
+        ensures faults { (plan_of result).faults ≡ 0 }
     {
         MapKeeper {
             alloc,
@@ -58,7 +60,7 @@ impl Keeper for MapKeeper {
 
     ghost told = { told_by };
 
-    ghost calls = { λ keeper. (plan_of keeper).calls };
+    ghost calls = { λ keeper. (plan_of keeper).calls.count };
 
     ghost faults = { λ keeper. (plan_of keeper).faults };
 
@@ -67,7 +69,6 @@ impl Keeper for MapKeeper {
     fn open(&mut self, at: StoreName, line: &[u8]) -> Result<Opened, KeepFail>
         ensures answer { IfOk result (λ opened. OpensAs opened (told_by self.old at) line.now) }
         ensures changes { Changes result (told_by self.old) (told_by self.new) at (after_open (told_by self.old at) line.now) }
-        ensures cause { IsCaused (plan_of self.old).faults (plan_of self.new).faults result }
         ensures plan { CallsAsPlanned (plan_of self.old) (plan_of self.new) result }
     {
         self.plan.begin_call()?;
@@ -84,7 +85,6 @@ impl Keeper for MapKeeper {
         ensures answer { IfOk result (λ state. state ≡ edge_record (told_by self.old at).log id1 atype id2) }
         ensures small { IfOk result (λ state. IsSmall (number_of state)) }
         ensures stays { Stays (told_by self.old) (told_by self.new) }
-        ensures cause { IsCaused (plan_of self.old).faults (plan_of self.new).faults result }
         ensures plan { CallsAsPlanned (plan_of self.old) (plan_of self.new) result }
     {
         self.plan.begin_call()?;
@@ -102,7 +102,6 @@ impl Keeper for MapKeeper {
         ensures answer { IfOk result (λ edges. edges ≡ take most (drop pos (edge_list (told_by self.old at).log id1 atype))) }
         ensures given { IfOk result (AreGiven most) }
         ensures stays { Stays (told_by self.old) (told_by self.new) }
-        ensures cause { IsCaused (plan_of self.old).faults (plan_of self.new).faults result }
         ensures plan { CallsAsPlanned (plan_of self.old) (plan_of self.new) result }
     {
         self.plan.begin_call()?;
@@ -113,7 +112,6 @@ impl Keeper for MapKeeper {
         ensures answer { IfOk result (λ count. count ≡ version (told_by self.old at).log key) }
         ensures few { IfOk result (λ count. count ≤ MOST_ENTRIES) }
         ensures stays { Stays (told_by self.old) (told_by self.new) }
-        ensures cause { IsCaused (plan_of self.old).faults (plan_of self.new).faults result }
         ensures plan { CallsAsPlanned (plan_of self.old) (plan_of self.new) result }
     {
         self.plan.begin_call()?;
@@ -124,7 +122,6 @@ impl Keeper for MapKeeper {
         ensures answer { IfOk result (λ count. count ≡ length (told_by self.old at).log) }
         ensures few { IfOk result (λ count. count ≤ MOST_ENTRIES) }
         ensures stays { Stays (told_by self.old) (told_by self.new) }
-        ensures cause { IsCaused (plan_of self.old).faults (plan_of self.new).faults result }
         ensures plan { CallsAsPlanned (plan_of self.old) (plan_of self.new) result }
     {
         self.plan.begin_call()?;
@@ -135,7 +132,6 @@ impl Keeper for MapKeeper {
         ensures answer { IfOk result (StandsAt (told_by self.old at).log origin) }
         ensures within { IfOk result (λ found. IfSome found IsPosition) }
         ensures stays { Stays (told_by self.old) (told_by self.new) }
-        ensures cause { IsCaused (plan_of self.old).faults (plan_of self.new).faults result }
         ensures plan { CallsAsPlanned (plan_of self.old) (plan_of self.new) result }
     {
         self.plan.begin_call()?;
@@ -147,7 +143,6 @@ impl Keeper for MapKeeper {
         requires room { length (told_by self.old at).log < MOST_ENTRIES }
         requires follows { CanFollow (told_by self.old at).log commit.now.entry }
         ensures changes { Changes result (told_by self.old) (told_by self.new) at (after_commit (told_by self.old at) commit.now.entry) }
-        ensures cause { IsCaused (plan_of self.old).faults (plan_of self.new).faults result }
         ensures plan { CommitsAsPlanned (plan_of self.old) (plan_of self.new) result }
     {
         self.plan.begin_commit()?;

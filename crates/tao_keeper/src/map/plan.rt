@@ -1,7 +1,6 @@
 //! Which calls of the keeper in memory fail.
-ghost use Rattle.std.specs.Prelude.{◌≡◌, IfErr};
-ghost use Rattle.tao_keeper.specs.Cause.{IsCaused};
-ghost use Rattle.tao_keeper.specs.Plan.{new_plan, CallsAsPlanned, CommitsAsPlanned};
+ghost use Rattle.std.specs.Prelude.{◌≡◌, ◌↔◌, IsTrue};
+ghost use Rattle.tao_keeper.specs.Plan.{after_next, from_one, CallsAsPlanned, CommitsAsPlanned, EndsAsPlanned, IsNextListed};
 
 use crate::KeepFail;
 use counts::Count;
@@ -14,47 +13,75 @@ pub struct Fails {
     pub commits: Vec<u64>,
 }
 
+/// Numbers from 1 on, which are counted through. Some of them are listed.
+#[derive(Drop)]
+struct Numbers {
+    listed: Vec<u64>,
+    count: Count,
+}
+
+impl Model for Numbers {
+    ghost use Rattle.tao_keeper.specs.Plan.{Numbered};
+
+    ghost Value = { Numbered };
+
+    ghost view = { λ n. record { listed = n.listed.items; count = n.count } };
+}
+
+impl Numbers {
+    fn of(listed: Vec<u64>) -> Numbers
+        ensures { result ≡ from_one listed.items }
+    {
+        Numbers {
+            listed,
+            count: Count::new(),
+        }
+    }
+
+    /// Counts to the next number. Says whether it is listed.
+    fn next(&mut self) -> bool
+        ensures listed { IsTrue result ↔ IsNextListed self.old }
+        ensures counted { self.new ≡ after_next self.old }
+    {
+        self.count.rise();
+        self.listed.contains(&self.count.value())
+    }
+}
+
 /// Which calls fail, and what was counted so far.
 #[derive(Drop)]
 pub struct FaultPlan {
-    fails: Fails,
-    calls: Count,
-    commits: Count,
+    calls: Numbers,
+    commits: Numbers,
     faults: Count,
 }
 
 impl Model for FaultPlan {
-    ghost use Rattle.tao_keeper.specs.Cause.{IsCaused};
     ghost use Rattle.tao_keeper.specs.Plan.{Plan};
 
     ghost Value = { Plan };
 
-    ghost view = { λ p. record {
-      failing_calls = p.fails.calls.items;
-      failing_commits = p.fails.commits.items;
-      calls = p.calls;
-      commits = p.commits;
-      faults = p.faults;
-    } };
+    ghost view = { λ p. record { calls = p.calls; commits = p.commits; faults = p.faults } };
 }
 
 impl FaultPlan {
     /// Nothing was counted yet.
     pub fn of(fails: Fails) -> FaultPlan
-        ensures { result ≡ new_plan fails.calls.items fails.commits.items }
+        ensures calls { result.calls ≡ from_one fails.calls.items }
+        ensures commits { result.commits ≡ from_one fails.commits.items }
+        ensures faults { result.faults ≡ 0 }
     {
         FaultPlan {
-            fails,
-            calls: Count::new(),
-            commits: Count::new(),
+            calls: Numbers::of(fails.calls),
+            commits: Numbers::of(fails.commits),
             faults: Count::new(),
         }
     }
 
     pub fn calls(&self) -> u64
-        ensures { result ≡ self.now.calls }
+        ensures { result ≡ self.now.calls.count }
     {
-        self.calls.value()
+        self.calls.count.value()
     }
 
     pub fn faults(&self) -> u64
@@ -63,29 +90,27 @@ impl FaultPlan {
         self.faults.value()
     }
 
-    /// Counts a call, which fails where it is one of the listed.
+    /// Counts a call, which fails where its number is listed.
     pub fn begin_call(&mut self) -> Result<(), KeepFail>
-        ensures planned { CallsAsPlanned self.old self.new result }
-        ensures cause { IsCaused self.old.faults self.new.faults result }
-        ensures fault { IfErr result (λ fail. fail ≡ KeepFail.Failed) }
+        ensures { CallsAsPlanned self.old self.new result }
     {
-        self.calls.rise();
-        if self.fails.calls.contains(&self.calls.value()) {
-            self.faults.rise();
-            return Err(KeepFail::Failed);
-        }
-        Ok(())
+        let fails = self.calls.next();
+        self.fail_where(fails)
     }
 
-    /// Counts a commit, among the calls too. It fails where it is one of the listed.
+    /// Counts a commit, which fails where its number is listed, among the calls or among the commits.
     pub fn begin_commit(&mut self) -> Result<(), KeepFail>
-        ensures planned { CommitsAsPlanned self.old self.new result }
-        ensures cause { IsCaused self.old.faults self.new.faults result }
-        ensures fault { IfErr result (λ fail. fail ≡ KeepFail.Failed) }
+        ensures { CommitsAsPlanned self.old self.new result }
     {
-        self.commits.rise();
-        self.begin_call()?;
-        if self.fails.commits.contains(&self.commits.value()) {
+        let call_fails = self.calls.next();
+        let commit_fails = self.commits.next();
+        self.fail_where(call_fails || commit_fails)
+    }
+
+    fn fail_where(&mut self, fails: bool) -> Result<(), KeepFail>
+        ensures { EndsAsPlanned (IsTrue fails) self.old self.new result }
+    {
+        if fails {
             self.faults.rise();
             return Err(KeepFail::Failed);
         }

@@ -149,137 +149,43 @@ mod tests {
     use super::*;
     use std::test::Fail;
 
+    const TAKEN: &str =
+        r#"{"shards":1,"regions":[{"name":"east","tiers":[{"name":"t1"}]}],"objects":["user","0123456789abcde_"],"assocs":[{"name":"likes"}]}"#;
+
+    /// Parts of that line, each with one in whose place it breaks a rule.
+    const BREAKS: &str = r#"
+"shards":1 => "shards":2
+"shards":1 => "shards":1.0
+"shards":1, => "strange":0,"shards":1,
+"shards":1, => "log_max":16384,"shards":1,
+{"name":"east","tiers":[{"name":"t1"}]} => {"name":"east","tiers":[{"name":"t1"}]},{"name":"west","tiers":[{"name":"t1"}]}
+{"name":"east","tiers":[{"name":"t1"}]} => "east"
+"east" => "East"
+"east" => "east","leaders":1
+{"name":"t1"} => {"name":"t1"},{"name":"t2"}
+{"name":"t1"} => {"name":"t1","followers":1}
+{"name":"t1"} => {}
+"t1" => "leader"
+"t1" => "store"
+"objects":["user","0123456789abcde_"] => "objects":[]
+"objects":["user","0123456789abcde_"] => "objects":"user"
+"user" => "0123456789abcde_"
+"user" => ""
+"user" => 1
+"0123456789abcde_" => "0123456789abcdefg"
+{"name":"likes"} => {"name":"likes"},{"name":"liked"}
+{"name":"likes"} => {"name":"likes","bound":6000}
+"#;
+
     #[test]
-    fn a_line_is_taken_where_no_rule_is_broken(rt: HostRuntime) -> Result<(), Fail> {
-        let regions = r#"[{"name":"east","tiers":[{"name":"t1"}]}]"#;
-        let table = [
-            // shards, regions, objects, assocs
-            (true, "1", regions, r#"["user"]"#, r#"[{"name":"likes"}]"#),
-            (
-                true,
-                "1",
-                regions,
-                r#"["a","b_","0123456789abcdef"]"#,
-                r#"[{"name":"likes"}]"#,
-            ),
-            (false, "2", regions, r#"["user"]"#, r#"[{"name":"likes"}]"#),
-            (
-                false,
-                "1.0",
-                regions,
-                r#"["user"]"#,
-                r#"[{"name":"likes"}]"#,
-            ),
-            (false, "1", "[]", r#"["user"]"#, r#"[{"name":"likes"}]"#),
-            (
-                false,
-                "1",
-                r#"[{"name":"east","tiers":[{"name":"store"}]}]"#,
-                r#"["user"]"#,
-                r#"[{"name":"likes"}]"#,
-            ),
-            (
-                false,
-                "1",
-                r#"[{"name":"east","tiers":[{"name":"leader"}]}]"#,
-                r#"["user"]"#,
-                r#"[{"name":"likes"}]"#,
-            ),
-            (
-                false,
-                "1",
-                r#"[{"name":"east","tiers":[]}]"#,
-                r#"["user"]"#,
-                r#"[{"name":"likes"}]"#,
-            ),
-            (
-                false,
-                "1",
-                r#"[{"name":"east","tiers":[{"name":"t1"},{"name":"t2"}]}]"#,
-                r#"["user"]"#,
-                r#"[{"name":"likes"}]"#,
-            ),
-            (
-                false,
-                "1",
-                r#"[{"name":"east","tiers":[{"name":"t1","followers":1}]}]"#,
-                r#"["user"]"#,
-                r#"[{"name":"likes"}]"#,
-            ),
-            (
-                false,
-                "1",
-                r#"[{"name":"east","leaders":1,"tiers":[{"name":"t1"}]}]"#,
-                r#"["user"]"#,
-                r#"[{"name":"likes"}]"#,
-            ),
-            (
-                false,
-                "1",
-                r#"[{"name":"East","tiers":[{"name":"t1"}]}]"#,
-                r#"["user"]"#,
-                r#"[{"name":"likes"}]"#,
-            ),
-            (false, "1", regions, "[]", r#"[{"name":"likes"}]"#),
-            (
-                false,
-                "1",
-                regions,
-                r#"["user","user"]"#,
-                r#"[{"name":"likes"}]"#,
-            ),
-            (
-                false,
-                "1",
-                regions,
-                r#"["0123456789abcdefg"]"#,
-                r#"[{"name":"likes"}]"#,
-            ),
-            (false, "1", regions, r#"[""]"#, r#"[{"name":"likes"}]"#),
-            (
-                false,
-                "1",
-                regions,
-                r#"["user",1]"#,
-                r#"[{"name":"likes"}]"#,
-            ),
-            (false, "1", regions, r#"["user"]"#, "[]"),
-            (
-                false,
-                "1",
-                regions,
-                r#"["user"]"#,
-                r#"[{"name":"likes"},{"name":"liked"}]"#,
-            ),
-            (
-                false,
-                "1",
-                regions,
-                r#"["user"]"#,
-                r#"[{"name":"likes","bound":6000}]"#,
-            ),
-            (
-                false,
-                "1",
-                regions,
-                r#"["user"]"#,
-                r#"[{"name":"likes"}],"log_max":16384"#,
-            ),
-            (
-                false,
-                "1",
-                regions,
-                r#"["user"]"#,
-                r#"[{"name":"likes"}],"strange":0"#,
-            ),
-        ];
+    fn a_line_is_taken_unless_it_breaks_a_rule(rt: HostRuntime) -> Result<(), Fail> {
         let alloc = rt.alloc();
-        for (taken, shards, regions, objects, assocs) in table {
-            let line = format!(in alloc;
-                "{{\"shards\":{shards},\"regions\":{regions},\"objects\":{objects},\"assocs\":{assocs}}}"
-            )?;
-            let config = Config::read(alloc, line.as_bytes())?;
-            assert_eq!(rt; config.is_some(), taken, "at {line}");
+        assert!(rt; Config::read(alloc, TAKEN.as_bytes())?.is_some());
+        for row in BREAKS.trim().lines() {
+            let (part, other) = row.split_once(" => ").ok_or("a row without an end")?;
+            let line = TAKEN.replace(alloc, part, other)?;
+            assert!(rt; line.as_str() != TAKEN, "at {row}");
+            assert!(rt; Config::read(alloc, line.as_bytes())?.is_none(), "at {row}");
         }
         Ok(())
     }
@@ -292,8 +198,12 @@ mod tests {
             for i in 1..count {
                 write!(names, ",\"n{i}\"")?;
             }
-            let value = Value::from_str(alloc, &format!(in alloc; "{{\"objects\":[{names}]}}")?)?;
-            assert_eq!(rt; has_objects(&value), taken, "at {count}");
+            let line = TAKEN.replace(alloc, "\"user\",\"0123456789abcde_\"", &names)?;
+            assert_eq!(rt;
+                Config::read(alloc, line.as_bytes())?.is_some(),
+                taken,
+                "at {count}"
+            );
         }
         Ok(())
     }

@@ -52,7 +52,7 @@ pub(crate) fn flag_at(value: &Value, name: &str) -> Option<Option<bool>>
 {
     match value.get(name) {
         None => Some(None),
-        Some(flag) => Some(Some(flag.as_bool()?)),
+        Some(flag) => flag.as_bool().map(Some),
     }
 }
 

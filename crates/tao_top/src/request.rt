@@ -284,31 +284,53 @@ mod tests {
     /// The first word of what is asked, or the line of the refusal.
     fn outcome(alloc: Global, asked: Result<Asked, Refusal>) -> Result<Vec<u8>, AllocError> {
         match asked {
-            Ok(Asked::Open { session }) => Ok(format!(in alloc; "open {session}\n")?.into_bytes()),
+            Ok(Asked::Open { session }) => Ok(format!(in alloc; "open {session}")?.into_bytes()),
             Ok(Asked::Add(add)) => {
                 let (session, seq, time) = (add.session, add.seq, add.time);
                 let (id1, id2) = (add.id1.number(), add.id2.number());
-                Ok(format!(in alloc; "add {session} {seq} {id1} {id2} {time}\n")?.into_bytes())
+                Ok(format!(in alloc; "add {session} {seq} {id1} {id2} {time}")?.into_bytes())
             }
             Ok(Asked::Range(range)) => {
                 let (id1, pos, limit) = (range.id1.number(), range.pos, range.limit);
-                Ok(format!(in alloc; "range {id1} {pos} {limit}\n")?.into_bytes())
+                Ok(format!(in alloc; "range {id1} {pos} {limit}")?.into_bytes())
             }
             Err(refusal) => Reply::Refused(refusal).line(alloc),
         }
     }
 
-    const BAD_LINE: &str = r#"{"field":"","no":"bad_line"}"#;
-
-    const NO_OPEN: &str = r#"{"do":"open","no":"not_built"}"#;
-
-    const NO_ADD: &str = r#"{"do":"assoc_add","no":"not_built"}"#;
-
-    const NO_RANGE: &str = r#"{"do":"assoc_range","no":"not_built"}"#;
-
-    const NO_SETTLE: &str = r#"{"do":"settle","no":"not_built"}"#;
-
-    const NO_TYPE: &str = r#"{"name":"hates","no":"unknown_type"}"#;
+    /// The open session, a line, and what comes of it.
+    const ROWS: &str = r#"
+- {"do":"open","session":1,"region":"east","tier":"t1"} => open 1
+1 {"do":"open","session":2,"region":"east","tier":"t1"} => {"do":"open","no":"not_built"}
+- {"do":"open","session":1,"region":"west","tier":"t1"} => {"do":"open","no":"not_built"}
+- {"do":"open","session":1,"region":"east","tier":"t2"} => {"do":"open","no":"not_built"}
+- {"do":"open","session":0,"region":"east","tier":"t1"} => {"field":"","no":"bad_line"}
+- {"do":"open","session":4294967296,"region":"east","tier":"t1"} => {"field":"","no":"bad_line"}
+- {"do":"open","session":1,"region":"west"} => {"field":"","no":"bad_line"}
+1 {"do":"open","session":1,"region":"east","tier":"t1","seq":1} => {"field":"","no":"bad_line"}
+1 {"do":"assoc_add","session":1,"seq":1,"id1":1,"atype":"likes","id2":2,"time":5,"data":{}} => add 1 1 1 2 5
+2 {"do":"assoc_add","session":1,"seq":1,"id1":1,"atype":"hates","id2":2,"time":5,"data":{}} => {"do":"assoc_add","no":"not_built"}
+- {"do":"assoc_add","session":1,"seq":1,"id1":1,"atype":"likes","id2":2,"time":5,"data":{}} => {"do":"assoc_add","no":"not_built"}
+1 {"do":"assoc_add","session":1,"seq":1,"id1":1,"atype":"hates","id2":2,"time":5,"data":{}} => {"name":"hates","no":"unknown_type"}
+1 {"do":"assoc_add","session":1,"seq":1,"id1":281474976710657,"atype":"likes","id2":2,"time":5,"data":{}} => {"do":"assoc_add","no":"not_built"}
+1 {"do":"assoc_add","session":1,"seq":1,"id1":1,"atype":"hates","id2":281474976710657,"time":5,"data":{}} => {"do":"assoc_add","no":"not_built"}
+1 {"do":"assoc_add","session":1,"seq":1,"id1":1,"atype":"likes","id2":2,"time":5,"data":{"a":"b"}} => {"do":"assoc_add","no":"not_built"}
+2 {"do":"assoc_add","session":1,"seq":1,"id1":1,"atype":"likes","id2":2,"time":5,"data":{"a":1}} => {"field":"","no":"bad_line"}
+1 {"do":"assoc_add","session":1,"seq":1,"id1":281474976710656,"atype":"likes","id2":2,"time":5,"data":{}} => {"field":"","no":"bad_line"}
+1 {"do":"assoc_add","session":1,"seq":0,"id1":1,"atype":"likes","id2":2,"time":5,"data":{}} => {"field":"","no":"bad_line"}
+1 {"do":"assoc_add","session":1,"seq":18446744073709551616,"id1":1,"atype":"likes","id2":2,"time":5,"data":{}} => {"field":"","no":"bad_line"}
+1 {"do":"assoc_range","session":1,"id1":1,"atype":"likes","pos":0,"limit":10} => range 1 0 10
+1 {"do":"assoc_range","session":2,"id1":1,"atype":"likes","pos":0,"limit":10} => {"do":"assoc_range","no":"not_built"}
+1 {"do":"assoc_range","session":1,"id1":1,"atype":"hates","pos":0,"limit":10,"critical":false} => {"do":"assoc_range","no":"not_built"}
+1 {"do":"assoc_range","session":1,"id1":1,"atype":"hates","pos":0,"limit":10} => {"name":"hates","no":"unknown_type"}
+1 {"do":"assoc_range","session":1,"id1":1,"atype":"likes","pos":0,"limit":10,"critical":0} => {"field":"","no":"bad_line"}
+1 {"do":"assoc_range","session":1,"id1":1,"atype":"likes","pos":0,"limit":0} => {"field":"","no":"bad_line"}
+- {"do":"settle","strange":0} => {"do":"settle","no":"not_built"}
+- {"do":"open","do":"settle"} => {"do":"settle","no":"not_built"}
+- {"do":"fly"} => {"field":"","no":"bad_line"}
+- ["do"] => {"field":"","no":"bad_line"}
+- {"do":"settle" => {"field":"","no":"bad_line"}
+"#;
 
     #[test]
     fn each_line_is_asked_or_refused(rt: HostRuntime) -> Result<(), Fail> {
@@ -318,142 +340,12 @@ mod tests {
             tier: Text::copy_of(alloc, "t1")?,
             atype: Text::copy_of(alloc, "likes")?,
         };
-        let table = [
-            (
-                None,
-                "open 1",
-                r#"{"do":"open","session":1,"region":"east","tier":"t1"}"#,
-            ),
-            (
-                Some(1),
-                NO_OPEN,
-                r#"{"do":"open","session":2,"region":"east","tier":"t1"}"#,
-            ),
-            (
-                None,
-                NO_OPEN,
-                r#"{"do":"open","session":1,"region":"west","tier":"t1"}"#,
-            ),
-            (
-                None,
-                NO_OPEN,
-                r#"{"do":"open","session":1,"region":"east","tier":"t2"}"#,
-            ),
-            (
-                None,
-                BAD_LINE,
-                r#"{"do":"open","session":0,"region":"east","tier":"t1"}"#,
-            ),
-            (
-                None,
-                BAD_LINE,
-                r#"{"do":"open","session":4294967296,"region":"east","tier":"t1"}"#,
-            ),
-            (
-                None,
-                BAD_LINE,
-                r#"{"do":"open","session":1,"region":"west"}"#,
-            ),
-            (
-                Some(1),
-                BAD_LINE,
-                r#"{"do":"open","session":1,"region":"east","tier":"t1","seq":1}"#,
-            ),
-            (
-                Some(1),
-                "add 1 1 1 2 5",
-                r#"{"do":"assoc_add","session":1,"seq":1,"id1":1,"atype":"likes","id2":2,"time":5,"data":{}}"#,
-            ),
-            (
-                Some(2),
-                NO_ADD,
-                r#"{"do":"assoc_add","session":1,"seq":1,"id1":1,"atype":"hates","id2":2,"time":5,"data":{}}"#,
-            ),
-            (
-                None,
-                NO_ADD,
-                r#"{"do":"assoc_add","session":1,"seq":1,"id1":1,"atype":"likes","id2":2,"time":5,"data":{}}"#,
-            ),
-            (
-                Some(1),
-                NO_TYPE,
-                r#"{"do":"assoc_add","session":1,"seq":1,"id1":1,"atype":"hates","id2":2,"time":5,"data":{}}"#,
-            ),
-            (
-                Some(1),
-                NO_ADD,
-                r#"{"do":"assoc_add","session":1,"seq":1,"id1":281474976710657,"atype":"likes","id2":2,"time":5,"data":{}}"#,
-            ),
-            (
-                Some(1),
-                NO_ADD,
-                r#"{"do":"assoc_add","session":1,"seq":1,"id1":1,"atype":"hates","id2":281474976710657,"time":5,"data":{}}"#,
-            ),
-            (
-                Some(1),
-                NO_ADD,
-                r#"{"do":"assoc_add","session":1,"seq":1,"id1":1,"atype":"likes","id2":2,"time":5,"data":{"a":"b"}}"#,
-            ),
-            (
-                Some(2),
-                BAD_LINE,
-                r#"{"do":"assoc_add","session":1,"seq":1,"id1":1,"atype":"likes","id2":2,"time":5,"data":{"a":1}}"#,
-            ),
-            (
-                Some(1),
-                BAD_LINE,
-                r#"{"do":"assoc_add","session":1,"seq":1,"id1":281474976710656,"atype":"likes","id2":2,"time":5,"data":{}}"#,
-            ),
-            (
-                Some(1),
-                BAD_LINE,
-                r#"{"do":"assoc_add","session":1,"seq":0,"id1":1,"atype":"likes","id2":2,"time":5,"data":{}}"#,
-            ),
-            (
-                Some(1),
-                BAD_LINE,
-                r#"{"do":"assoc_add","session":1,"seq":18446744073709551616,"id1":1,"atype":"likes","id2":2,"time":5,"data":{}}"#,
-            ),
-            (
-                Some(1),
-                "range 1 0 10",
-                r#"{"do":"assoc_range","session":1,"id1":1,"atype":"likes","pos":0,"limit":10}"#,
-            ),
-            (
-                Some(1),
-                NO_RANGE,
-                r#"{"do":"assoc_range","session":2,"id1":1,"atype":"likes","pos":0,"limit":10}"#,
-            ),
-            (
-                Some(1),
-                NO_RANGE,
-                r#"{"do":"assoc_range","session":1,"id1":1,"atype":"hates","pos":0,"limit":10,"critical":false}"#,
-            ),
-            (
-                Some(1),
-                NO_TYPE,
-                r#"{"do":"assoc_range","session":1,"id1":1,"atype":"hates","pos":0,"limit":10}"#,
-            ),
-            (
-                Some(1),
-                BAD_LINE,
-                r#"{"do":"assoc_range","session":1,"id1":1,"atype":"likes","pos":0,"limit":10,"critical":0}"#,
-            ),
-            (
-                Some(1),
-                BAD_LINE,
-                r#"{"do":"assoc_range","session":1,"id1":1,"atype":"likes","pos":0,"limit":0}"#,
-            ),
-            (None, NO_SETTLE, r#"{"do":"settle","strange":0}"#),
-            (None, NO_SETTLE, r#"{"do":"open","do":"settle"}"#),
-            (None, BAD_LINE, r#"{"do":"fly"}"#),
-            (None, BAD_LINE, r#"["do"]"#),
-            (None, BAD_LINE, r#"{"do":"settle""#),
-        ];
-        for (current, expected, line) in table {
+        for row in ROWS.trim().lines() {
+            let (current, case) = row.split_once(' ').ok_or("a row without a session")?;
+            let (line, expected) = case.split_once(" => ").ok_or("a row without an end")?;
+            let current = current.parse::<u32>().ok();
             let found = outcome(alloc, Asked::read(alloc, &config, current, line.as_bytes()))?;
-            let expected = format!(in alloc; "{expected}\n")?;
-            assert_eq!(rt; found.as_slice(), expected.as_bytes(), "at {line}");
+            assert_eq!(rt; found.trim_ascii_end(), expected.as_bytes(), "at {row}");
         }
         Ok(())
     }

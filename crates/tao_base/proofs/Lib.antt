@@ -1,2 +1,3 @@
 pub mod IdSets
 pub mod InOrder
+pub mod SameKeys

@@ -16,16 +16,10 @@ pub struct Pair {
     pub value: Text,
 }
 
-/// How many pairs a data has at most.
-pub const MOST_PAIRS: usize = 32;
-
-/// How many bytes a data is spelled in at most.
-pub const MOST_BYTES: u64 = 4096;
-
 /// Why pairs are no data.
 #[derive(Clone, Copy, Debug, PartialEq, Eq)]
 pub enum DataRefusal {
-    /// There are more pairs than `MOST_PAIRS`, or they are spelled in more bytes than `MOST_BYTES`:
+    /// There are more than `Data::MOST_PAIRS`, or they are spelled in more than `Data::MOST_BYTES`:
     /// how many pairs there are with each key once, and in how many bytes these are spelled.
     TooLarge { bytes: u64, pairs: u64 },
     OutOfMemory,
@@ -77,6 +71,12 @@ impl Data {
     ghost use Rattle.tao_base.specs.Data.{IsData, IsInOrder, IsRefusedFor, in_order, pair_of};
     ghost use Rattle.std.specs.Prelude.{length, map, IfOk, IfErr, ◌==◌};
 
+    /// How many pairs a data has at most.
+    pub const MOST_PAIRS: usize = 32;
+
+    /// How many bytes a data is spelled in at most.
+    pub const MOST_BYTES: u64 = 4096;
+
     /// No pairs. Takes no memory.
     pub fn empty(alloc: Global) -> Data
         ensures { result ≡ [] }
@@ -98,13 +98,22 @@ impl Data {
         let Some(bytes) = spelled_size(&pairs) else {
             return Err(DataRefusal::OutOfMemory);
         };
-        if pairs.len() > MOST_PAIRS || bytes > MOST_BYTES {
+        if pairs.len() > Data::MOST_PAIRS || bytes > Data::MOST_BYTES {
             return Err(DataRefusal::TooLarge {
                 bytes,
                 pairs: pairs.len() as u64,
             });
         }
         Ok(Data { pairs })
+    }
+
+    /// The data of pairs that are in order and within the limits, which are taken over. Takes no
+    /// memory.
+    pub fn of(pairs: Vec<Pair>) -> Data
+        requires { IsData pairs.items }
+        ensures { result ≡ pairs.items }
+    {
+        Data { pairs }
     }
 
     pub fn is_empty(&self) -> bool

@@ -9,6 +9,7 @@ pub mod data;
 pub mod edge;
 pub mod entry;
 pub mod id;
+pub mod laws;
 pub mod memory;
 pub mod query;
 pub mod text;

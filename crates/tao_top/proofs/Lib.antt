@@ -1,3 +1,10 @@
+pub mod Adds
+pub mod Complete
+pub mod FirstLine
 pub mod Names
 pub mod NoFloat
+pub mod OneLine
 pub mod Pairs
+pub mod Refusing
+pub mod Serving
+pub mod WholeRun

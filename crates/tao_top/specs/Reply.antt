@@ -1,6 +1,5 @@
 -- The text of a reply.
-use Rattle.std.specs.Prelude.{ℕ, List, [], ◌∷◌, ◌++◌, true, false, Option, take, map, codes}
-use Rattle.std.specs.Io.KnownBytes.{Appends}
+use Rattle.std.specs.Prelude.{ℕ, List, [], ◌∷◌, ◌++◌, true, false, map, codes}
 use Rattle.tao_base.specs.declared.data.Pair.{Pair}
 use Rattle.tao_base.specs.declared.edge.Edge.{Edge}
 use Rattle.serde_json.specs.Data.{Data, boolean, number, unsigned, string, array, object, Members, no_members, member}
@@ -64,7 +63,3 @@ data_of (Refused refusal) = refusal_data refusal
 -- a reply's line: its data with no space, and a line feed
 abbrev pub line_of : Reply → List ℕ
 line_of reply = compact_text (data_of reply) ++ 10 ∷ []
-
--- known bytes grow by some front of these
-abbrev pub AppendsFront : Option (List ℕ) → Option (List ℕ) → List ℕ → Type 0
-AppendsFront old new bytes = (n : ℕ) × Appends old new (take n bytes)

@@ -1,9 +1,17 @@
 //! A program's run, from the lines that it reads to the lines that it writes.
 #![tactic(auto)]
 
+mod answer;
+mod begin;
 mod config;
 mod fields;
 mod json;
 mod reply;
 mod request;
+mod serve;
+mod stop;
+mod store;
+mod top;
 mod word;
+
+pub use top::run;

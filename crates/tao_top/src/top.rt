@@ -1,0 +1,93 @@
+//! The top call.
+ghost use Rattle.std.specs.Prelude.{◌≡◌, ◌⊎◌, ◌↔◌, ◌<◌, ◌≤◌, ◌^◌, false, map, length, string_bytes, Err, IfErr, OnOk, OnErr, IfSome};
+ghost use Rattle.counts.specs.Count.{Rose};
+ghost use Rattle.tao_top.specs.Machine.{shown};
+ghost use Rattle.tao_top.specs.Served.{Done, DoneInPart, RefusesConfiguration, is_run};
+ghost use Rattle.tao_top.specs.Stop.{StopHasCause, faults};
+ghost use Rattle.tao_top.specs.declared.stop.Interrupt.TheVariants.{InputTooLong};
+ghost use Rattle.tao_top.specs.Status.{IsGood, IsStatus, NoFault};
+
+use crate::begin::begin;
+use crate::serve::serve;
+use crate::stop::Stop;
+use std::alloc::Global;
+use tao_io::{LineReader, Sink, Source, Status};
+use tao_keeper::Keeper;
+
+/// Reads the lines of the input, and writes the reply to each.
+fn go<R: Source, S: Sink, K: Keeper>(
+    alloc: Global,
+    input: &mut R,
+    output: &mut S,
+    keepers: &mut K,
+) -> Result<(), Stop>
+    ensures ok { OnOk result (Done K.TELLS (shown K.told K.calls K.faults keepers.old) (shown K.told K.calls K.faults keepers.new) (R.left input.old) (S.taken output.old) (S.taken output.new)) }
+    ensures short { OnOk result (IfSome (R.left input.old) (λ bytes. length bytes < 2 ^ 40)) }
+    ensures err { OnErr result (DoneInPart K.TELLS (shown K.told K.calls K.faults keepers.old) (shown K.told K.calls K.faults keepers.new) (R.left input.old) (S.taken output.old) (S.taken output.new)) }
+    ensures refused { result ≡ Err Stop.Configuration → RefusesConfiguration K.TELLS (shown K.told K.calls K.faults keepers.old) (shown K.told K.calls K.faults keepers.new) (R.left input.old) (S.taken output.old) (S.taken output.new) }
+    ensures cause { IfErr result (StopHasCause (faults (R.faults input.old) (S.faults output.old)) (faults (R.faults input.new) (S.faults output.new)) (K.faults keepers.old) (K.faults keepers.new)) }
+    ensures long { result ≡ Err (Stop.Interrupted InputTooLong) → IfSome (R.left input.old) (λ bytes. 2 ^ 40 ≤ length bytes) }
+{
+    let mut reader = LineReader::new(alloc)?;
+    let config = begin(alloc, &mut reader, input, output, keepers)?;
+    let _session = serve(alloc, &config, &mut reader, input, output, keepers)?;
+    Ok(())
+}
+
+fn is_run(words: &[String]) -> bool
+    ensures { result ≡ is_run (map string_bytes words.now) }
+{
+    match words {
+        [word] => word.as_str() == "run",
+        _ => false,
+    }
+}
+
+/// Reads lines, the first of them the configuration and each later one a request, and writes one
+/// reply line to each. Returns for every input. Memory grows with the store, and not with the
+/// input. The status is
+///
+/// - 0 where the input was read to its end, and each reply written whole;
+/// - 2 where the words aren't the one word `run`;
+/// - 3 where the first line is missing, is no configuration, or isn't the one that the store was
+///   first opened with: a line says so;
+/// - 4, 5, 6 where the source, the sink, or the keepers at their opening failed;
+/// - 7 where there was no memory to read a line or to spell its reply;
+/// - 9 where 2^40 bytes were taken and the end had not come.
+///
+/// What was written before any status is a front of the replies' lines.
+pub fn run<R: Source, S: Sink, K: Keeper>(
+    alloc: Global,
+    words: &[String],
+    input: &mut R,
+    output: &mut S,
+    keepers: &mut K,
+) -> Status
+    ensures done { result.code ≡ 0 → Done K.TELLS (shown K.told K.calls K.faults keepers.old) (shown K.told K.calls K.faults keepers.new) (R.left input.old) (S.taken output.old) (S.taken output.new) }
+    ensures in_part { DoneInPart K.TELLS (shown K.told K.calls K.faults keepers.old) (shown K.told K.calls K.faults keepers.new) (R.left input.old) (S.taken output.old) (S.taken output.new) }
+
+    ensures words { (result.code ≡ 2) ↔ (is_run (map string_bytes words.now) ≡ false) }
+    ensures idle { result.code ≡ 2 → (input.new ≡ input.old) × (output.new ≡ output.old) × (keepers.new ≡ keepers.old) }
+    ensures configuration { result.code ≡ 3 → RefusesConfiguration K.TELLS (shown K.told K.calls K.faults keepers.old) (shown K.told K.calls K.faults keepers.new) (R.left input.old) (S.taken output.old) (S.taken output.new) }
+    ensures source { result.code ≡ 4 → Rose (R.faults input.old) (R.faults input.new) }
+    ensures sink { result.code ≡ 5 → Rose (S.faults output.old) (S.faults output.new) }
+    ensures keepers { result.code ≡ 6 → Rose (K.faults keepers.old) (K.faults keepers.new) }
+    ensures long { result.code ≡ 9 → IfSome (R.left input.old) (λ bytes. 2 ^ 40 ≤ length bytes) }
+    ensures short { result.code ≡ 0 → IfSome (R.left input.old) (λ bytes. length bytes < 2 ^ 40) }
+    ensures known { IsStatus result.code }
+
+    // Completeness: where the word and the first line are good and nothing fails, only want of memory stops it.
+    ensures complete { IsGood K.TELLS (map string_bytes words.now) (shown K.told K.calls K.faults keepers.old) (R.left input.old)
+        → NoFault (faults (R.faults input.old) (S.faults output.old)) (faults (R.faults input.new) (S.faults output.new)) (K.faults keepers.old) (K.faults keepers.new)
+        → (result.code ≡ 0) ⊎ (result.code ≡ 7) }
+{
+    let code = if !is_run(words) {
+        2
+    } else {
+        match go(alloc, input, output, keepers) {
+            Ok(()) => 0,
+            Err(stop) => stop.code(),
+        }
+    };
+    Status { code }
+}

@@ -15,7 +15,8 @@ use Rattle.tao_base.specs.declared.id.AType.{AType}
 use Rattle.tao_base.specs.declared.id.Id.{Id}
 use Rattle.tao_base.specs.declared.id.Key.{Key}
 use Rattle.tao_base.specs.declared.id.Key.TheVariants.{List as Assocs}
-use Rattle.graph_model.proofs.Lists.{all_filter, stretches_in_order}
+use Rattle.graph_model.proofs.Later.{all_filter}
+use Rattle.graph_model.proofs.Lists.{stretches_in_order}
 use Rattle.graph_model.specs.Edges.{edge_list, edge_record, insert_edge, is_at, is_newer, live_edges, newest_first, number_of, state_left}
 use Rattle.graph_model.specs.Keys.{same_key}
 use Rattle.graph_model.specs.Log.{changes_of}

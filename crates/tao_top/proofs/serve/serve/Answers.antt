@@ -1,5 +1,5 @@
 use Rattle.std.proofs.Common.{Ok, ap, arith}
-use Rattle.tao_io.proofs.LineLaws.{CountsTaken-nil, CountsTaken-trans}
+use Rattle.tao_io.proofs.GivenLines.{CountsTaken-nil, CountsTaken-trans}
 use Rattle.tao_top.proofs.OneLine.{OnErr-any}
 use Rattle.tao_top.proofs.Serving.{served_all, served_none, served_then_part, served_trans}
 use Rattle.tao_top.proofs.serve.serve.Goals as goal

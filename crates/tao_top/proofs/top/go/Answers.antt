@@ -1,6 +1,6 @@
 use Rattle.std.proofs.Common.{◌≡◌, Err, ap, inr, sym}
 use Rattle.std.proofs.lemmas.Result.{err_from_is_err_and}
-use Rattle.tao_io.proofs.LineLaws.{CountsTaken-trans}
+use Rattle.tao_io.proofs.GivenLines.{CountsTaken-trans}
 use Rattle.tao_top.proofs.OneLine.{OnErr-any, part_unread}
 use Rattle.tao_top.proofs.WholeRun.{done, done_part, fresh, long_input}
 use Rattle.tao_top.specs.Machine.{shown}

@@ -5,6 +5,7 @@ use Rattle.std.proofs.lemmas.Grind.{flat_map-append}
 use Rattle.std.proofs.Math.Seq.{take-append-add}
 use Rattle.std.specs.Io.KnownBytes.{Appends, IsAtEnd}
 use Rattle.std.proofs.KnownBytes.{Appends-trans, Appends-nil}
+use Rattle.tao_io.proofs.GivenLines.{GivesLines-nil, GivesLines-trans}
 use Rattle.tao_io.specs.Lines.{lines_of, GivesLines}
 use Rattle.tao_top.specs.Machine.{Shown, IsLater}
 use Rattle.tao_top.specs.Reply.{line_of}
@@ -31,12 +32,6 @@ texts_of-one r = append-nil (line_of r)
 
 -- ---- the lines that were read
 
-pub GivesLines-trans : (a b c : Option (List ℕ)) (ls ms : List (List ℕ)) → GivesLines a b ls → GivesLines b c ms → GivesLines a c (ls ++ ms)
-GivesLines-trans None b c ls ms p q = tt
-GivesLines-trans (Some x) None c ls ms p q = absurd p
-GivesLines-trans (Some x) (Some y) None ls ms p q = absurd q
-GivesLines-trans (Some x) (Some y) (Some z) ls ms p q = p ∙ ap (λ l. ls ++ l) q ∙ sym (append_assoc ls ms (lines_of z))
-
 pub GivesLines-begin : (a b : Option (List ℕ)) (ls : List (List ℕ)) → GivesLines a b ls → LinesBegin a ls
 GivesLines-begin None b ls p = tt
 GivesLines-begin (Some x) None ls p = absurd p
@@ -55,10 +50,6 @@ pub GivesLines-all : (a b : Option (List ℕ)) (ls : List (List ℕ)) → GivesL
 GivesLines-all None b ls p end = tt
 GivesLines-all (Some x) None ls p end = absurd p
 GivesLines-all (Some x) (Some y) ls p end = p ∙ ap (λ bytes. ls ++ lines_of bytes) end ∙ ap (λ l. ls ++ l) lines_of-nil ∙ append-nil ls
-
-pub GivesLines-nil : (a : Option (List ℕ)) → GivesLines a a []
-GivesLines-nil None = tt
-GivesLines-nil (Some x) = refl
 
 pub AreLines-after : (a b : Option (List ℕ)) (ls ms : List (List ℕ)) → GivesLines a b ls → AreLines b ms → AreLines a (ls ++ ms)
 AreLines-after None b ls ms p q = tt

@@ -6,7 +6,7 @@ use Rattle.tao_io.specs.LineReader.{LineReading, to_come}
 use Rattle.tao_io.specs.Lines.{CountsTaken}
 use Rattle.tao_top.proofs.Serving.{served_then_all, served_then_part, served_all_part}
 use Rattle.tao_top.specs.Machine.{Shown}
-use Rattle.tao_top.specs.Served.{Done, DoneInPart, RefusesConfiguration, Served, ServedAll, ServedInPart, serves, start}
+use Rattle.tao_top.specs.Served.{Done, DoneInPart, RefusesConfiguration, Served, ServedAll, ServedInPart, ServesAll, serves, start}
 use Rattle.tao_top.specs.declared.config.Config.{Config}
 
 -- a reader that took nothing leaves all to come
@@ -14,12 +14,12 @@ pub fresh : (reader : LineReading) (left : Option (List ℕ)) → reader.ahead �
 fresh reader left none = ap (λ ahead. prepend_known ahead left) none ∙ prepend_known-nil left
 
 module _ (tells : Bool) (old mid now : Shown) (config : Config) (known left rest before middle after : Option (List ℕ)) (is : known ≡ left) (begun : Served tells (start old) (serves config None mid) known rest before middle) where
-  pub done : (session : Option ℕ) → ServedAll tells (serves config None mid) (serves config session now) rest middle after → Done tells old now left before after
-  done session all = record {
+  pub done : ServesAll tells config mid now rest middle after → Done tells old now left before after
+  done all = record {
     config = config;
-    session = session;
-    served = subst (λ k. ServedAll tells (start old) (serves config session now) k before after) is
-        (served_then_all tells (start old) (serves config None mid) (serves config session now) known rest before middle after begun all);
+    session = all.0;
+    served = subst (λ k. ServedAll tells (start old) (serves config all.0 now) k before after) is
+        (served_then_all tells (start old) (serves config None mid) (serves config all.0 now) known rest before middle after begun all.1);
   }
 
   pub done_part : ServedInPart tells (serves config None mid) now rest middle after → DoneInPart tells old now left before after

@@ -69,6 +69,10 @@ pub record ServedAll (tells : Bool) (old new : State) (left before after : Optio
   pub run : Run tells old lines replies new
   pub written : Appends before after (texts_of replies)
 
+-- a run that serves by a configuration from its first request on came to the end of its input, whichever session is open then
+abbrev pub ServesAll : Bool → Config → Shown → Shown → Option (List ℕ) → Option (List ℕ) → Option (List ℕ) → Type 0
+ServesAll tells config old new left before after = (session : Option ℕ) × ServedAll tells (serves config None old) (serves config session new) left before after
+
 -- some first lines of the known bytes have their replies, of whose texts a front was written; since the last reply no table changed
 pub record ServedInPart (tells : Bool) (old : State) (now : Shown) (left before after : Option (List ℕ)) : Type 0 where
   pub last : State

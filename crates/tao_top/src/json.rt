@@ -5,15 +5,13 @@ ghost use Rattle.tao_top.specs.Json.{json_of};
 
 use serde_json::Value;
 use std::alloc::{AllocError, Global};
-
-/// The most bytes that a line may have.
-const MAX_LINE: usize = 1_048_576;
+use tao_io::LINE_LIMIT;
 
 /// What a line says: nothing where it is too long, isn't UTF-8 or is no JSON.
 pub(crate) fn parse(alloc: Global, line: &[u8]) -> Result<Option<Value>, AllocError>
     ensures { IfOk result (λ value. option_map view value ≡ json_of line.now) }
 {
-    if line.len() > MAX_LINE {
+    if line.len() > LINE_LIMIT {
         return Ok(None);
     }
     match Value::from_slice(alloc, line) {
@@ -44,7 +42,7 @@ mod tests {
     #[test]
     fn a_line_is_json_up_to_a_length_and_a_depth(rt: HostRuntime) -> Result<(), Fail> {
         let alloc = rt.alloc();
-        let mut longest = vec![in alloc; b' '; MAX_LINE]?;
+        let mut longest = vec![in alloc; b' '; LINE_LIMIT]?;
         longest[0] = b'0';
         let mut longer = longest.clone()?;
         longer.push(b' ')?;

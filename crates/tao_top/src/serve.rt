@@ -1,12 +1,12 @@
 //! The lines of a run after its first, each with its reply.
-ghost use Rattle.std.specs.Prelude.{◌≡◌, ◌<◌, ◌≤◌, ◌^◌, None, Ok, true, false, IfErr, IfOk, OnOk, OnErr, IsErrOf};
+ghost use Rattle.std.specs.Prelude.{◌≡◌, ◌<◌, ◌≤◌, ◌^◌, None, Ok, true, false, IfErr, OnOk, OnErr, IsErrOf};
 ghost use Rattle.std.specs.Io.KnownBytes.{Appends, IsAtEnd};
 ghost use Rattle.counts.specs.Count.{Rose};
 ghost use Rattle.tao_io.specs.LineReader.{may_give, to_come};
 ghost use Rattle.tao_io.specs.Lines.{CountsTaken};
 ghost use Rattle.tao_top.specs.Machine.{shown};
 ghost use Rattle.tao_top.specs.Reply.{line_of};
-ghost use Rattle.tao_top.specs.Served.{AppendsPart, Replies, Served, ServedAll, ServedInPart, serves};
+ghost use Rattle.tao_top.specs.Served.{AppendsPart, Replies, Served, ServedInPart, ServesAll, serves};
 ghost use Rattle.tao_top.specs.Stop.{FaultsGrow, InterruptHasCause, InterruptsWriting, faults};
 
 use crate::answer::answer;
@@ -84,7 +84,7 @@ fn serve_line<R: Source, S: Sink, K: Keeper>(
     }
 }
 
-/// Serves each line that is left, and says which session is open at the end.
+/// Serves each line that is left.
 pub(crate) fn serve<R: Source, S: Sink, K: Keeper>(
     alloc: Global,
     config: &Config,
@@ -92,8 +92,8 @@ pub(crate) fn serve<R: Source, S: Sink, K: Keeper>(
     input: &mut R,
     output: &mut S,
     keepers: &mut K,
-) -> Result<Option<u32>, Interrupt>
-    ensures ok { IfOk result (λ session. ServedAll K.TELLS (serves config.now None (shown K.told K.calls K.faults keepers.old)) (serves config.now session (shown K.told K.calls K.faults keepers.new)) (to_come reader.old (R.left input.old)) (S.taken output.old) (S.taken output.new)) }
+) -> Result<(), Interrupt>
+    ensures ok { OnOk result (ServesAll K.TELLS config.now (shown K.told K.calls K.faults keepers.old) (shown K.told K.calls K.faults keepers.new) (to_come reader.old (R.left input.old)) (S.taken output.old) (S.taken output.new)) }
     ensures end { OnOk result (IsAtEnd (to_come reader.new (R.left input.new))) }
     ensures short { OnOk result (reader.new.taken < 2 ^ 40) }
 
@@ -117,7 +117,7 @@ pub(crate) fn serve<R: Source, S: Sink, K: Keeper>(
             output,
             keepers,
         )? {
-            return Ok(session);
+            return Ok(());
         }
     }
 }

@@ -30,7 +30,7 @@ fn go<R: Source, S: Sink, K: Keeper>(
 {
     let mut reader = LineReader::new(alloc)?;
     let config = begin(alloc, &mut reader, input, output, keepers)?;
-    let _session = serve(alloc, &config, &mut reader, input, output, keepers)?;
+    serve(alloc, &config, &mut reader, input, output, keepers)?;
     Ok(())
 }
 

@@ -14,8 +14,10 @@ pub returns-in_err-serve_line-clause-counted : goal.returns-in_err-serve_line-cl
 returns-in_err-serve_line-clause-counted g c = CountsTaken-trans _ _ _ _ _ _ c.lines.invariant.counted c.serve_line.ensures.counted
 
 pub returns-then-not-branch-clause-ok : goal.returns-then-not-branch-clause-ok
-returns-then-not-branch-clause-ok g c =
-    served_all _ _ _ _ _ _ _ (served_trans _ _ _ _ _ _ _ _ _ _ c.lines.invariant.served c.in_ok-serve_line.ensures.ok) (c.in_ok-serve_line.ensures.end (ap (λ b. Ok b) c.if-not-branch.true))
+returns-then-not-branch-clause-ok g c = (
+  c.serve_line.new.session,
+  served_all _ _ _ _ _ _ _ (served_trans _ _ _ _ _ _ _ _ _ _ c.lines.invariant.served c.in_ok-serve_line.ensures.ok) (c.in_ok-serve_line.ensures.end (ap (λ b. Ok b) c.if-not-branch.true)),
+)
 
 pub returns-then-not-branch-clause-counted : goal.returns-then-not-branch-clause-counted
 returns-then-not-branch-clause-counted g c = CountsTaken-trans _ _ _ _ _ _ c.lines.invariant.counted c.serve_line.ensures.counted

@@ -1,5 +1,5 @@
 -- What a log whose stamps are small gives: small stamps, and edges in order.
-use Rattle.std.proofs.Common.{ℕ, true, false, cond, List, [], ◌∷◌, ◌++◌, map, take, drop, arith}
+use Rattle.std.proofs.Common.{◌<◌, ℕ, true, false, cond, List, [], ◌∷◌, ◌++◌, map, take, drop, arith}
 use Rattle.std.proofs.lemmas.List.{length-take}
 use Rattle.std.proofs.lemmas.List.Elements.{All-drop, All-from_recursion, All-take, recursion_from_All}
 use Rattle.std.specs.Prelude.{All, Option, Some, None, filter, filter_map, flat_map, fold}
@@ -20,13 +20,14 @@ use Rattle.graph_model.proofs.Lists.{stretches_in_order}
 use Rattle.graph_model.specs.Edges.{edge_list, edge_record, insert_edge, is_at, is_newer, live_edges, newest_first, number_of, state_left}
 use Rattle.graph_model.specs.Keys.{same_key}
 use Rattle.graph_model.specs.Log.{changes_of}
-use Rattle.tao_keeper.specs.Given.{AreGiven, HaveSmallStamps, IsSmall}
+use Rattle.tao_keeper.specs.Given.{AreGiven, HaveSmallStamps}
+use Rattle.tao_keeper.specs.declared.keeper.TheConstants.{STAMP_LIMIT}
 
 abbrev LeavesSmall : Change → Type 0
-LeavesSmall c = IsSmall (number_of (state_left c))
+LeavesSmall c = number_of (state_left c) < STAMP_LIMIT
 
 abbrev HasSmallStamp : Edge → Type 0
-HasSmallStamp e = IsSmall e.stamp.number
+HasSmallStamp e = e.stamp.number < STAMP_LIMIT
 
 all_append : {X : Type 0} (P : X → Type 0) (xs ys : List X) → AllByRecursion P xs → AllByRecursion P ys → AllByRecursion P (xs ++ ys)
 all_append P [] ys h k = k
@@ -50,19 +51,19 @@ changes_small log k h =
     (touches_small log (recursion_from_All (λ e. HaveSmallStamps e.touches) log h)))
 
 -- records
-states_small : (cs : List Change) → AllByRecursion LeavesSmall cs → AllByRecursion (λ s. IsSmall (stamp_of s).number) (filter_map state_left cs)
+states_small : (cs : List Change) → AllByRecursion LeavesSmall cs → AllByRecursion (λ s. (stamp_of s).number < STAMP_LIMIT) (filter_map state_left cs)
 states_small [] h = tt
 states_small (SetEdge e was ∷ cs) h = (h.0, states_small cs h.1)
 states_small (CutEdge id2 stamp was ∷ cs) h = (h.0, states_small cs h.1)
 states_small (PutObject object ∷ cs) h = states_small cs h.1
 states_small (DropObject ∷ cs) h = states_small cs h.1
 
-last_small : (found : Option EdgeState) (states : List EdgeState) → IsSmall (number_of found) → AllByRecursion (λ s. IsSmall (stamp_of s).number) states
-    → IsSmall (number_of (last_or found states))
+last_small : (found : Option EdgeState) (states : List EdgeState) → number_of found < STAMP_LIMIT → AllByRecursion (λ s. (stamp_of s).number < STAMP_LIMIT) states
+    → number_of (last_or found states) < STAMP_LIMIT
 last_small found [] h k = h
 last_small found (s ∷ states) h k = last_small (Some s) states k.0 k.1
 
-pub record_small : (log : List Entry) (id1 : Id) (atype : AType) (id2 : Id) → All (λ e. HaveSmallStamps e.touches) log → IsSmall (number_of (edge_record log id1 atype id2))
+pub record_small : (log : List Entry) (id1 : Id) (atype : AType) (id2 : Id) → All (λ e. HaveSmallStamps e.touches) log → number_of (edge_record log id1 atype id2) < STAMP_LIMIT
 record_small log id1 atype id2 h =
     let cs : List Change = changes_of log (Assocs id1 atype) in
     last_small None (filter_map state_left (filter (is_at id2) cs)) (omega arith)

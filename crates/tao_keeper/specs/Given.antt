@@ -9,16 +9,12 @@ use Rattle.graph_model.specs.Edges.{IsInOrder, number_of, state_left}
 abbrev pub IsPosition : ℕ → Type 0
 IsPosition position = (0 < position) × (position ≤ MOST_ENTRIES)
 
--- the number of a stamp that is kept
-abbrev pub IsSmall : ℕ → Type 0
-IsSmall number = number < STAMP_LIMIT
-
--- the stamps of the records that the touches leave have such numbers
+-- the records that the touches leave have stamps below the limit
 abbrev pub HaveSmallStamps : List Touch → Type 0
-HaveSmallStamps touches = All (λ t. IsSmall (number_of (state_left t.change))) touches
+HaveSmallStamps touches = All (λ t. number_of (state_left t.change) < STAMP_LIMIT) touches
 
--- edges that are given: at most as many as were asked for, newest first, no two to one id
+-- edges that are given: at most as many as were asked for, newest first, no two to one id, with stamps below the limit
 pub record AreGiven (most : ℕ) (edges : List Edge) : Type 0 where
   pub few : length edges ≤ most
   pub in_order : IsInOrder edges
-  pub stamps : All (λ e. IsSmall e.stamp.number) edges
+  pub stamps : All (λ e. e.stamp.number < STAMP_LIMIT) edges

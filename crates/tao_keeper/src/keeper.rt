@@ -5,7 +5,7 @@ ghost use Rattle.graph_model.specs.Log.{version};
 ghost use Rattle.graph_model.specs.Soundness.{CanFollow, IsSound};
 ghost use Rattle.tao_base.specs.declared.id.StoreName.{StoreName as Store};
 ghost use Rattle.tao_keeper.specs.Cause.{IsCaused};
-ghost use Rattle.tao_keeper.specs.Given.{AreGiven, HaveSmallStamps, IsPosition, IsSmall};
+ghost use Rattle.tao_keeper.specs.Given.{AreGiven, HaveSmallStamps, IsPosition};
 ghost use Rattle.tao_keeper.specs.Table.{Table, WhereTold, Stays, Changes, OpensAs, StandsAt, after_commit, after_open};
 
 use std::alloc::{AllocError, AllocFailed};
@@ -29,6 +29,11 @@ pub enum KeepFail {
 }
 
 impl fmt::Display for KeepFail {
+    ghost use Rattle.std.specs.Prelude.{Some};
+    ghost use Rattle.tao_keeper.specs.Cause.{fail_text};
+
+    ghost output = { λ fail. Some (fail_text fail) };
+
     fn fmt<W: fmt::Write>(&self, f: &mut fmt::Formatter<W>) -> fmt::Result {
         match self {
             KeepFail::Failed => write!(f, "the keeper failed"),
@@ -112,7 +117,7 @@ pub trait Keeper {
         id2: Id,
     ) -> Result<Option<EdgeState>, KeepFail>
         ensures answer { WhereTold TELLS (IfOk result (λ state. state ≡ edge_record (told self.old at).log id1 atype id2)) }
-        ensures small { IfOk result (λ state. IsSmall (number_of state)) }
+        ensures small { IfOk result (λ state. number_of state < STAMP_LIMIT) }
         ensures stays { WhereTold TELLS (Stays (told self.old) (told self.new)) }
         ensures counted { Counted (calls self.old) (calls self.new) }
         ensures cause { IsCaused (faults self.old) (faults self.new) result };

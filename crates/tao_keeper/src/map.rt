@@ -1,12 +1,10 @@
 //! The keeper in memory.
 ghost use Rattle.std.specs.Prelude.{◌≡◌, ◌≤◌, ◌<◌, IfOk, IfSome, drop, length, take};
-ghost use Rattle.counts.specs.Count.{Counted};
 ghost use Rattle.graph_model.specs.Edges.{edge_list, edge_record, number_of};
 ghost use Rattle.graph_model.specs.Log.{version};
 ghost use Rattle.graph_model.specs.Soundness.{CanFollow};
 ghost use Rattle.tao_base.specs.declared.id.StoreName.{StoreName as Store};
-ghost use Rattle.tao_keeper.specs.Cause.{IsCaused};
-ghost use Rattle.tao_keeper.specs.Given.{AreGiven, HaveSmallStamps, IsPosition, IsSmall};
+ghost use Rattle.tao_keeper.specs.Given.{AreGiven, HaveSmallStamps, IsPosition};
 ghost use Rattle.tao_keeper.specs.MapKeeper.{plan_of, told_by};
 ghost use Rattle.tao_keeper.specs.Plan.{CallsAsPlanned, CommitsAsPlanned, from_one};
 ghost use Rattle.tao_keeper.specs.Table.{Changes, OpensAs, StandsAt, Stays, after_commit, after_open, empty_table};
@@ -16,7 +14,7 @@ mod plan;
 mod store;
 mod stores;
 
-use crate::{Commit, KeepFail, Keeper, MOST_ENTRIES, Opened};
+use crate::{Commit, KeepFail, Keeper, MOST_ENTRIES, Opened, STAMP_LIMIT};
 pub use plan::Fails;
 use plan::FaultPlan;
 use std::alloc::Global;
@@ -83,7 +81,7 @@ impl Keeper for MapKeeper {
         id2: Id,
     ) -> Result<Option<EdgeState>, KeepFail>
         ensures answer { IfOk result (λ state. state ≡ edge_record (told_by self.old at).log id1 atype id2) }
-        ensures small { IfOk result (λ state. IsSmall (number_of state)) }
+        ensures small { IfOk result (λ state. number_of state < STAMP_LIMIT) }
         ensures stays { Stays (told_by self.old) (told_by self.new) }
         ensures plan { CallsAsPlanned (plan_of self.old) (plan_of self.new) result }
     {
@@ -159,3 +157,6 @@ impl Keeper for MapKeeper {
         self.plan.faults()
     }
 }
+
+#[cfg(test)]
+mod tests;

@@ -1,8 +1,9 @@
 //! What the entries of a log say. Each function reads through them, and copies only what it gives.
-ghost use Rattle.std.specs.Prelude.{◌≡◌, ◌∷◌, ◌++◌, [], IfOk, OnOk, map, take, drop, find, reverse, position};
+ghost use Rattle.std.specs.Prelude.{◌≡◌, ◌<◌, ◌∷◌, ◌++◌, [], IfOk, IfSome, IsSomeAnd, MatchOption, OnOk, drop, find, length, map, position, reverse, slice_get, take};
 ghost use Rattle.graph_model.specs.Edges.{edge_list, edge_record, insert_edge, is_at, is_newer as stands_before, list_after, live_edges, newest_first, record_in, state_left, without_edge};
 ghost use Rattle.graph_model.specs.Keys.{same_key};
 ghost use Rattle.graph_model.specs.Log.{changes_of, touches_key, version};
+ghost use Rattle.graph_model.specs.WriteLaws.{IsNewOrigin};
 ghost use Rattle.tao_keeper.specs.Table.{StandsAt};
 
 use std::alloc::{AllocError, Global};
@@ -34,11 +35,18 @@ pub fn version_of(entries: &[Entry], key: &Key) -> u64
         .count() as u64
 }
 
+fn place_of(entries: &[Entry], origin: Origin) -> Option<usize>
+    ensures within { IfSome result (λ place. place < length entries.now) }
+    ensures place { MatchOption result (IsNewOrigin entries.now origin) (λ place. IsSomeAnd (slice_get entries.now place) (λ entry. entry.origin ≡ origin)) }
+{
+    entries.iter().position(|entry| entry.origin == origin)
+}
+
 /// The position of the entry of an origin, where there is one.
 pub fn position_of(entries: &[Entry], origin: Origin) -> Option<u64>
     ensures { StandsAt entries.now origin result }
 {
-    let place = entries.iter().position(|entry| entry.origin == origin)?;
+    let place = place_of(entries, origin)?;
     Some(place as u64 + 1)
 }
 

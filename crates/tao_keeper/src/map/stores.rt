@@ -46,18 +46,18 @@ impl Stores {
         self.tables.iter().find(|table| table.name == at)
     }
 
-    fn find(&self, at: StoreName) -> Option<usize>
+    fn place_of(&self, at: StoreName) -> Option<usize>
         ensures { result ≡ position (is_of at) self.now.tables.items }
     {
         self.tables.iter().position(|table| table.name == at)
     }
 
     /// The place of a store's table. A store that has none gets an empty one.
-    fn place(&mut self, at: StoreName) -> Result<usize, AllocError>
+    fn make_place(&mut self, at: StoreName) -> Result<usize, AllocError>
         ensures stays { Stays (tables_of self.old.tables.items) (tables_of self.new.tables.items) }
         ensures place { IfOk result (λ place. position (is_of at) self.new.tables.items ≡ Some place) }
     {
-        match self.find(at) {
+        match self.place_of(at) {
             Some(place) => Ok(place),
             None => {
                 let place = self.tables.len();
@@ -73,7 +73,7 @@ impl Stores {
         ensures changes { Changes result (tables_of self.old.tables.items) (tables_of self.new.tables.items) at
             (after_open (tables_of self.old.tables.items at) line.now) }
     {
-        let place = self.place(at)?;
+        let place = self.make_place(at)?;
         self.tables[place].open(self.alloc, line)
     }
 
@@ -85,7 +85,7 @@ impl Stores {
         ensures { Changes result (tables_of self.old.tables.items) (tables_of self.new.tables.items) at
             (after_commit (tables_of self.old.tables.items at) entry) }
     {
-        let place = self.place(at)?;
+        let place = self.make_place(at)?;
         self.tables[place].add(entry)
     }
 }

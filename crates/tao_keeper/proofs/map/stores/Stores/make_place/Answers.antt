@@ -2,7 +2,7 @@ use Rattle.std.proofs.Common.{sym, subst}
 use Rattle.tao_keeper.proofs.StoreLemmas.{of_itself, position-push, push_stays}
 use Rattle.tao_keeper.specs.Store.{is_of, tables_of}
 use Rattle.tao_keeper.specs.Table.{Stays}
-use Rattle.tao_keeper.proofs.map.stores.Stores.place.Goals as goal
+use Rattle.tao_keeper.proofs.map.stores.Stores.make_place.Goals as goal
 
 pub returns-in_ok-push-in-None-clause-stays : goal.returns-in_ok-push-in-None-clause-stays
 returns-in_ok-push-in-None-clause-stays c =

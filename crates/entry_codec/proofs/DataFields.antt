@@ -14,7 +14,7 @@ use Rattle.tao_base.specs.Data.{IsData, KeysAscend, data_bytes, pair_bytes, text
 use Rattle.tao_base.specs.declared.data.Pair.{Pair}
 use Rattle.entry_codec.specs.Fields.{AreBytes, Rest, Field, ◌>>=◌, bytes_at, number_at, only, up_to}
 use Rattle.entry_codec.specs.Reading.{between, data_at, is_next_key, next_key_at, pair_at, pairs_at, text_at}
-use Rattle.entry_codec.specs.Values.{DataFits}
+use Rattle.entry_codec.specs.Values.{DataFits, PairFits}
 use Rattle.entry_codec.proofs.Codecs.{IsCodec, Reads, Takes, bytes_codec, give_again, give_reads, like_codec, only_codec, reads_like, then_again, then_reads, up_to_codec}
 use Rattle.entry_codec.proofs.Numbers.{between_is, byte_codec, is_between, number16}
 
@@ -48,15 +48,12 @@ next_key_codec end earlier = sized_codec end (λ len. only (is_next_key earlier)
 
 -- ---- pairs
 
-abbrev IsTexts : Pair → Type 0
-IsTexts p = IsUtf8 p.key × IsUtf8 p.value
-
 pub record PairAllowed (end : ℕ) (earlier : List Pair) (at : ℕ) (p : Pair) : Type 0 where
   pub ends : at + length (pair_bytes p) ≤ end
   pub key : length p.key < 2 ^ 16
   pub value : length p.value < 2 ^ 16
   pub above : is_next_key earlier p.key ≡ true
-  pub texts : IsTexts p
+  pub texts : PairFits p
 
 pub pair_codec : (end : ℕ) (earlier : List Pair) → IsCodec (pair_at end earlier) pair_bytes (PairAllowed end earlier)
 pair_codec end earlier = record {
@@ -102,9 +99,9 @@ pub record PairsRead (end : ℕ) (earlier : List Pair) (n at : ℕ) (all : List 
   pub spelled : text ≡ flat_map pair_bytes later
   pub ends : at + length text ≤ end
   pub ascending : KeysAscend all
-  pub texts : All IsTexts all
+  pub texts : All PairFits all
 
-pub pairs_read : (end n : ℕ) (earlier : List Pair) (rest : Rest) → rest.at ≤ end → KeysAscend earlier → All IsTexts earlier → Reads rest (pairs_at end n earlier) (PairsRead end earlier n rest.at)
+pub pairs_read : (end n : ℕ) (earlier : List Pair) (rest : Rest) → rest.at ≤ end → KeysAscend earlier → All PairFits earlier → Reads rest (pairs_at end n earlier) (PairsRead end earlier n rest.at)
 pairs_read end zero earlier rest within up texts = give_reads rest earlier _ (record {
   later = [];
   joined = sym (append-nil earlier);
@@ -123,7 +120,7 @@ pairs_read end (suc n) earlier rest within up texts = then_reads (pair_codec end
       ends = omega (arith, h.ends, place, length-append (pair_bytes p) text);
       ascending = h.ascending;
       texts = h.texts;
-    }) (pairs_read end n (earlier ++ p ∷ []) mid (omega (arith, ok.ends, place)) (ascending_push earlier p up ok.above) (All-push IsTexts earlier p texts ok.texts)))
+    }) (pairs_read end n (earlier ++ p ∷ []) mid (omega (arith, ok.ends, place)) (ascending_push earlier p up ok.above) (All-push PairFits earlier p texts ok.texts)))
 
 texts_are_short : (end at : ℕ) (p : Pair) (more : List ℕ) → end ≤ at + 4096 → at + length (pair_bytes p ++ more) ≤ end → (at + length (pair_bytes p) ≤ end) × (length p.key < 2 ^ 16) × (length p.value < 2 ^ 16)
 texts_are_short end at p more limit ends =
@@ -131,14 +128,14 @@ texts_are_short end at p more limit ends =
     let parts = length-append (text_bytes p.key) (text_bytes p.value) in
     (omega (arith, size, ends), omega (arith, size, parts, ends, limit), omega (arith, size, parts, ends, limit))
 
-pub pairs_again : (end : ℕ) (later earlier : List Pair) (rest : Rest) (all : List Pair) (next : Rest) → all ≡ earlier ++ later → KeysAscend all → All IsTexts later → end ≤ rest.at + 4096
+pub pairs_again : (end : ℕ) (later earlier : List Pair) (rest : Rest) (all : List Pair) (next : Rest) → all ≡ earlier ++ later → KeysAscend all → All PairFits later → end ≤ rest.at + 4096
     → rest.at + length (flat_map pair_bytes later) ≤ end → Takes rest (flat_map pair_bytes later) next → pairs_at end (length later) earlier rest ≡ Ok (all, next)
 pairs_again end [] earlier rest all next joined up texts limit ends t = rw (joined ∙ append-nil earlier) (give_again rest earlier next t)
 pairs_again end (p ∷ later) earlier rest all next joined up texts limit ends t =
     let short = texts_are_short end rest.at p (flat_map pair_bytes later) limit ends in
-    let ok : PairAllowed end earlier rest.at p = record { ends = short.0; key = short.1; value = short.2; above = next_from_ascending earlier p later (subst KeysAscend joined up); texts = All-head IsTexts p later texts } in
+    let ok : PairAllowed end earlier rest.at p = record { ends = short.0; key = short.1; value = short.2; above = next_from_ascending earlier p later (subst KeysAscend joined up); texts = All-head PairFits p later texts } in
     then_again (pair_codec end earlier) rest _ p (flat_map pair_bytes later) all next ok t (λ mid place t.
-    pairs_again end later (earlier ++ p ∷ []) mid all next (joined ∙ sym (append_assoc earlier (p ∷ []) later)) up (All-tail IsTexts p later texts)
+    pairs_again end later (earlier ++ p ∷ []) mid all next (joined ∙ sym (append_assoc earlier (p ∷ []) later)) up (All-tail PairFits p later texts)
     (omega (arith, place, limit)) (omega (arith, place, ends, length-append (pair_bytes p) (flat_map pair_bytes later))) t)
 
 -- the pairs that are read after their number are data
@@ -148,7 +145,7 @@ pairs_are_data rest mid next start count pairs fits place number few read =
     let first = byte_codec.takes rest count mid fits number in
     let one : length first.0 ≡ 1 = ap length first.3.0 in
     let end : start + 1 ≡ mid.at = omega (arith, first.1.place, one, place) in
-    let more = pairs_read (start + 4096) count [] mid (omega (arith, end)) tt (All-nil IsTexts) pairs next first.2 read in
+    let more = pairs_read (start + 4096) count [] mid (omega (arith, end)) tt (All-nil PairFits) pairs next first.2 read in
     let same : length pairs ≡ count = ap length more.3.joined ∙ more.3.count in
     let spelled : length (flat_map pair_bytes pairs) ≡ length more.0 = ap length (ap (flat_map pair_bytes) more.3.joined ∙ sym more.3.spelled) in
     record { ascending = more.3.ascending; few = omega (arith, same, few); small = omega (arith, more.3.ends, end, spelled) }
@@ -162,7 +159,7 @@ data_codec = record {
       let same : length pairs ≡ count = ap length h.joined ∙ h.count in
       let spelled : count ∷ text ≡ data_bytes pairs = rw (h.spelled, ← h.joined, ← same) refl in
       (spelled, (record { ascending = h.ascending; few = omega (arith, same, between_is 0 32 count ok.1); small = omega (arith, h.ends, place, ap length spelled) }, h.texts)))
-      (pairs_read (rest.at + 4096) count [] mid (omega (arith, place)) tt (All-nil IsTexts)));
+      (pairs_read (rest.at + 4096) count [] mid (omega (arith, place)) tt (All-nil PairFits)));
   again = λ rest pairs next ok t. then_again (only_codec (between 0 32) byte_codec) rest (λ count. pairs_at (rest.at + 4096) count []) (length pairs) (flat_map pair_bytes pairs) pairs next
       (omega (arith, ok.0.few), is_between 0 32 (length pairs) (omega arith) ok.0.few) t
       (λ mid place t. pairs_again (rest.at + 4096) pairs [] mid pairs next refl ok.0.ascending ok.1 (omega (arith, place)) (omega (arith, place, ok.0.small)) t);

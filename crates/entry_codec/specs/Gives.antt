@@ -23,7 +23,7 @@ GivesBytes (Err refusal) left read = IsRefused refusal read
 
 -- the same for the items of a vector
 abbrev pub GivesItems : {X : Type 0} → Result (Vec X Global) EntryRefusal → Rest → Result (List X × Rest) ℕ → Type 0
-GivesItems (Ok items) left read = read ≡ Ok (items.items, left)
+GivesItems (Ok values) left read = read ≡ Ok (values.items, left)
 GivesItems (Err refusal) left read = IsRefused refusal read
 
 -- the result is that of the reading, unless memory ran out

@@ -25,9 +25,11 @@ abbrev pub KeyFits : Key → Type 0
 KeyFits (Obj id) = IsId id
 KeyFits (Assocs id1 atype) = IsId id1 × (atype.0 < 2 ^ 16)
 
--- data in texts
+abbrev pub PairFits : Pair → Type 0
+PairFits p = IsUtf8 p.key × IsUtf8 p.value
+
 abbrev pub DataFits : List Pair → Type 0
-DataFits pairs = IsData pairs × All (λ p. IsUtf8 p.key × IsUtf8 p.value) pairs
+DataFits pairs = IsData pairs × All PairFits pairs
 
 abbrev pub StampFits : Stamp → Type 0
 StampFits stamp = (stamp.number < 2 ^ 64) × (stamp.shard < 2 ^ 16)

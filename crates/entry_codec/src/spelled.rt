@@ -1,5 +1,5 @@
 //! Entries to bytes and back.
-ghost use Rattle.std.specs.Prelude.{◌≡◌, ℕ, IfOk, Ok};
+ghost use Rattle.std.specs.Prelude.{◌≡◌, ℕ, IfOk, Ok, OnOk};
 ghost use Rattle.tao_base.specs.Spelling.{IsSpelled, spelling};
 ghost use Rattle.tao_base.specs.declared.entry.Entry.{Entry};
 ghost use Rattle.entry_codec.specs.Gives.{Answers};
@@ -23,18 +23,20 @@ pub trait Spelled: Sized {
 }
 
 impl Spelled for Entry {
-    /// The entry's spelling, where it has one: of an entry that no log has, nothing is said. Takes
-    /// time by the number of the bytes.
+    /// The entry's spelling, where it has one: of an entry that no log has, nothing is said of the
+    /// bytes. Takes time by their number.
     fn encode(&self, alloc: Global) -> Result<Bytes, OutOfMemory>
-        ensures { IsSpelled self.now → IfOk result (λ bytes. bytes ≡ spelling self.now) }
+        ensures bytes { IsSpelled self.now → IfOk result (λ bytes. bytes ≡ spelling self.now) }
+        // So decoding its bytes gives the entry back.
+        ensures fits { OnOk result (EntryFits self.now) }
     {
         let mut out = Vec::new(alloc);
         put_entry(&mut out, self)?;
         Ok(Bytes::of(out))
     }
 
-    /// The entry that all of the bytes spell. Reads each byte once, none past the first bad field,
-    /// and takes no memory for what isn't there.
+    /// The entry that all of the bytes spell. Takes time by the number of the bytes, reads none past
+    /// the first bad field, and takes no memory for texts that aren't there.
     fn decode(alloc: Global, bytes: &[u8]) -> Result<Entry, EntryRefusal>
         // What is decoded is spelled so.
         ensures found { IfOk result (λ entry. EntryFits entry × IsSpelled entry × (spelling entry ≡ bytes.now)) }
@@ -47,6 +49,7 @@ impl Spelled for Entry {
     }
 }
 
+/// An entry, and nothing behind it.
 fn read_all(alloc: Global, bytes: &[u8]) -> Result<Entry, EntryRefusal>
     ensures { Answers result (decoded bytes.now) }
 {

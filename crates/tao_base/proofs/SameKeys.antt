@@ -4,7 +4,6 @@ use Rattle.std.specs.Bool.{Decides}
 use Rattle.std.proofs.lemmas.Bool.{true≢false}
 use Rattle.std.proofs.lemmas.Bool.Decides.{Decides-and, Decides-eqb, Decides-like}
 use Rattle.tao_base.specs.Keys.{same_key}
-use Rattle.tao_base.specs.declared.id.AType.{AType}
 use Rattle.tao_base.specs.declared.id.Key.{Key}
 use Rattle.tao_base.specs.declared.id.Key.TheVariants.{Obj, List as Assocs}
 

@@ -1,5 +1,5 @@
 //! Ids, types, keys and the names of stores.
-ghost use Rattle.std.specs.Prelude.{◌≡◌, IfSome, IsNone, ◌↔◌};
+ghost use Rattle.std.specs.Prelude.{◌≡◌, ◌<◌, IfSome, IsNone, ◌↔◌};
 ghost use Rattle.tao_base.specs.Ids.{shard_of, serial_of};
 
 use std::marker::Model;
@@ -41,7 +41,8 @@ impl Id {
     }
 
     pub fn number(&self) -> u64
-        ensures { result ≡ self.now }
+        ensures value { result ≡ self.now }
+        ensures serial { 0 < serial_of self.now }
     {
         self.number
     }

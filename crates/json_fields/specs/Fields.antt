@@ -1,0 +1,109 @@
+-- The members of an object, each by its name and its kind: nothing where one is missing or of another kind.
+use Rattle.std.specs.Prelude.{ℕ, ◌&&◌, ◌==◌, not, Bool, true, false, nat_le, List, Option, Some, None, option_map, option_and_then, bytes_eq, is_some, if◌then◌else◌}
+use Rattle.std.specs.Bool.{then_some}
+use Rattle.std.specs.List.{list_any}
+use Rattle.serde_json.specs.Data.{Data, object, Items, no_items, item, Members, no_members, member}
+use Rattle.serde_json.specs.Find.{get, as_number, as_u64, as_str, as_bool, as_object, as_array}
+use Rattle.tao_base.specs.Ids.{serial_of}
+use Rattle.tao_base.specs.Names.{is_name}
+
+-- the members of a row, one after another: the first that isn't found ends the reading
+infixl 10 ◌>>=◌
+abbrev pub ◌>>=◌ : {A B : Type 0} → Option A → (A → Option B) → Option B
+o >>= f = option_and_then f o
+
+-- a whole number of 64 bits
+abbrev pub whole_at : List ℕ → Data → Option ℕ
+whole_at name d = option_and_then as_u64 (option_and_then as_number (get name d))
+
+-- a whole number from the least to the most
+abbrev pub number_at : List ℕ → ℕ → ℕ → Data → Option ℕ
+number_at name least most d = do
+  n ← whole_at name d
+  then_some (nat_le least n && nat_le n most) n
+
+-- a whole number from the least to the most; the default where it is missing
+abbrev pub number_or : List ℕ → ℕ → ℕ → ℕ → Data → Option ℕ
+number_or name default least most d = if is_some (get name d) then number_at name least most d else Some default
+
+-- a number whose serial isn't 0
+abbrev pub id_at : List ℕ → Data → Option ℕ
+id_at name d = do
+  n ← whole_at name d
+  then_some (not (serial_of n == 0)) n
+
+abbrev pub text_at : List ℕ → Data → Option (List ℕ)
+text_at name d = option_and_then as_str (get name d)
+
+-- a text, where it is given
+abbrev pub text_of : Option Data → Option (Option (List ℕ))
+text_of None = Some None
+text_of (Some d) = option_map Some (as_str d)
+
+abbrev pub maybe_text_at : List ℕ → Data → Option (Option (List ℕ))
+maybe_text_at name d = text_of (get name d)
+
+abbrev pub is_text : List ℕ → Option (List ℕ) → Bool
+is_text text None = false
+is_text text (Some other) = bytes_eq text other
+
+-- true or false, where it is given
+abbrev pub flag_of : Option Data → Option (Option Bool)
+flag_of None = Some None
+flag_of (Some d) = option_map Some (as_bool d)
+
+abbrev pub flag_at : List ℕ → Data → Option (Option Bool)
+flag_at name d = flag_of (get name d)
+
+-- an object of texts
+abbrev pub are_texts : Members → Bool
+are_texts no_members = true
+are_texts (member key d ms) = is_some (as_str d) && are_texts ms
+
+abbrev pub texts_at : List ℕ → Data → Option Members
+texts_at name d = do
+  ms ← option_and_then as_object (get name d)
+  then_some (are_texts ms) ms
+
+abbrev pub has_none : Members → Bool
+has_none no_members = true
+has_none (member key d ms) = false
+
+-- an object whose members have these names alone
+abbrev pub are_named : List (List ℕ) → Members → Bool
+are_named names no_members = true
+are_named names (member key d ms) = list_any (λ name. bytes_eq name key) names && are_named names ms
+
+abbrev pub has_only : List (List ℕ) → Data → Bool
+has_only names (object ms) = are_named names ms
+has_only names d = false
+
+-- the first member, in order of bytes as an object has them, that has another name than these
+abbrev pub first_strange : List (List ℕ) → Members → Option (List ℕ)
+first_strange names no_members = None
+first_strange names (member key d ms) = if list_any (λ name. bytes_eq name key) names then first_strange names ms else Some key
+
+abbrev pub strange_at : List (List ℕ) → Data → Option (List ℕ)
+strange_at names d = option_and_then (first_strange names) (as_object d)
+
+abbrev pub items_at : List ℕ → Data → Option Items
+items_at name d = option_and_then as_array (get name d)
+
+-- the one item of an array
+abbrev pub only_item : Items → Option Data
+only_item no_items = None
+only_item (item d no_items) = Some d
+only_item (item d (item e ds)) = None
+
+abbrev pub only_at : List ℕ → Data → Option Data
+only_at name d = do
+  ds ← option_and_then as_array (get name d)
+  only_item ds
+
+abbrev pub name_of : Data → Option (List ℕ)
+name_of d = do
+  text ← as_str d
+  then_some (is_name text) text
+
+abbrev pub name_at : List ℕ → Data → Option (List ℕ)
+name_at name d = option_and_then name_of (get name d)

@@ -1,0 +1,225 @@
+//! The members of a JSON object, each by its name and its kind: nothing where one is missing or of
+//! another kind.
+ghost use Rattle.std.specs.Prelude.{◌≡◌, ◌-◌, ◌^◌, option_map, map, bytes_eq};
+ghost use Rattle.std.specs.List.{list_any};
+ghost use Rattle.serde_json.specs.View.{view, members_view, items_view};
+ghost use Rattle.serde_json.specs.Find.{as_str};
+ghost use Rattle.json_fields.specs.Fields.{is_text, number_at, number_or, id_at, text_at, maybe_text_at, flag_at, are_texts, texts_at, has_none, are_named, has_only, strange_at, first_strange, items_at, only_item, only_at, name_of, name_at};
+
+use serde_json::{Map, Value};
+use tao_base::{Id, is_name};
+
+/// A whole number from `least` to `most`.
+pub fn number_at(value: &Value, name: &str, least: u64, most: u64) -> Option<u64>
+    ensures { result ≡ number_at name.now least most (view value.now) }
+{
+    let number = value.get(name)?.as_u64()?;
+    (least <= number && number <= most).then_some(number)
+}
+
+/// A whole number of 32 bits, at least `least`.
+pub fn small_at(value: &Value, name: &str, least: u32) -> Option<u32>
+    ensures { result ≡ number_at name.now least (2 ^ 32 - 1) (view value.now) }
+{
+    let number = u32::try_from(value.get(name)?.as_u64()?).ok()?;
+    (least <= number).then_some(number)
+}
+
+/// A whole number of 16 bits, from `least` to `most`.
+pub fn short_at(value: &Value, name: &str, least: u16, most: u16) -> Option<u16>
+    ensures { result ≡ number_at name.now least most (view value.now) }
+{
+    let number = u16::try_from(value.get(name)?.as_u64()?).ok()?;
+    (least <= number && number <= most).then_some(number)
+}
+
+/// A whole number from `least` to `most`; the default where it is missing.
+pub fn number_or(value: &Value, name: &str, default: u64, least: u64, most: u64) -> Option<u64>
+    ensures { result ≡ number_or name.now default least most (view value.now) }
+{
+    match value.get(name) {
+        None => Some(default),
+        Some(_) => number_at(value, name, least, most),
+    }
+}
+
+/// A whole number of 16 bits, from `least` to `most`; the default where it is missing.
+pub fn short_or(value: &Value, name: &str, default: u16, least: u16, most: u16) -> Option<u16>
+    ensures { result ≡ number_or name.now default least most (view value.now) }
+{
+    match value.get(name) {
+        None => Some(default),
+        Some(_) => short_at(value, name, least, most),
+    }
+}
+
+/// An id, whose serial isn't 0.
+pub fn id_at(value: &Value, name: &str) -> Option<Id>
+    ensures { result ≡ id_at name.now (view value.now) }
+{
+    Id::read(value.get(name)?.as_u64()?)
+}
+
+/// A text.
+pub fn text_at<'v>(value: &'v Value, name: &str) -> Option<&'v str>
+    ensures { option_map (λ t. t.now) result ≡ text_at name.now (view value.now) }
+{
+    value.get(name)?.as_str()
+}
+
+/// A text that may be missing.
+pub fn maybe_text_at<'v>(value: &'v Value, name: &str) -> Option<Option<&'v str>>
+    ensures { option_map (option_map (λ t. t.now)) result ≡ maybe_text_at name.now (view value.now) }
+{
+    match value.get(name) {
+        None => Some(None),
+        Some(text) => text.as_str().map(Some),
+    }
+}
+
+/// Whether a value is this text.
+pub fn is_text(value: &Value, text: &str) -> bool
+    ensures { result ≡ is_text text.now (as_str (view value.now)) }
+{
+    value.as_str() == Some(text)
+}
+
+/// A flag that may be missing.
+pub fn flag_at(value: &Value, name: &str) -> Option<Option<bool>>
+    ensures { result ≡ flag_at name.now (view value.now) }
+{
+    match value.get(name) {
+        None => Some(None),
+        Some(flag) => flag.as_bool().map(Some),
+    }
+}
+
+/// An object of texts.
+pub fn texts_at<'v>(value: &'v Value, name: &str) -> Option<&'v Map<String, Value>>
+    ensures { option_map (λ ms. members_view ms.now.entries) result
+        ≡ texts_at name.now (view value.now) }
+{
+    let members = value.get(name)?.as_object()?;
+    are_texts(members).then_some(members)
+}
+
+fn are_texts(members: &Map<String, Value>) -> bool
+    ensures { result ≡ are_texts (members_view members.now.entries) }
+{
+    members.values().all(Value::is_string)
+}
+
+/// Whether an object has no member.
+pub fn has_none(members: &Map<String, Value>) -> bool
+    ensures { result ≡ has_none (members_view members.now.entries) }
+{
+    members.is_empty()
+}
+
+/// Whether a value is an object whose members have these names alone. Compares each member with each
+/// name.
+pub fn has_only(value: &Value, names: &[&str]) -> bool
+    ensures { result ≡ has_only (map (λ n. n.now) names.now) (view value.now) }
+{
+    match value.as_object() {
+        Some(members) => are_named(members, names),
+        None => false,
+    }
+}
+
+fn are_named(members: &Map<String, Value>, names: &[&str]) -> bool
+    ensures { result ≡ are_named (map (λ n. n.now) names.now) (members_view members.now.entries) }
+{
+    members.keys().all(|key| names.contains(&key.as_str()))
+}
+
+/// The least member, in order of bytes, that has another name than these. Compares each member with
+/// each name.
+pub fn strange_at<'v>(value: &'v Value, names: &[&str]) -> Option<&'v str>
+    ensures { option_map (λ t. t.now) result ≡ strange_at (map (λ n. n.now) names.now) (view value.now) }
+{
+    first_strange(value.as_object()?, names)
+}
+
+fn first_strange<'v>(members: &'v Map<String, Value>, names: &[&str]) -> Option<&'v str>
+    ensures { option_map (λ t. t.now) result ≡ first_strange (map (λ n. n.now) names.now) (members_view members.now.entries) }
+{
+    for (key, _value) in members {
+        let name = key.as_str();
+        if !is_among(names, name) {
+            return Some(name);
+        }
+    }
+    None
+}
+
+fn is_among(names: &[&str], key: &str) -> bool
+    ensures { result ≡ list_any (λ name. bytes_eq name key.now) (map (λ n. n.now) names.now) }
+{
+    for name in names {
+        if *name == key {
+            return true;
+        }
+    }
+    false
+}
+
+/// The items of an array.
+pub fn items_at<'v>(value: &'v Value, name: &str) -> Option<&'v [Value]>
+    ensures { option_map (λ v. items_view v.now) result ≡ items_at name.now (view value.now) }
+{
+    Some(value.get(name)?.as_array()?.as_slice())
+}
+
+/// The one item of an array.
+pub fn only_at<'v>(value: &'v Value, name: &str) -> Option<&'v Value>
+    ensures { option_map (λ v. view v.now) result ≡ only_at name.now (view value.now) }
+{
+    only_item(value.get(name)?.as_array()?)
+}
+
+fn only_item(items: &[Value]) -> Option<&Value>
+    ensures { option_map (λ v. view v.now) result ≡ only_item (items_view items.now) }
+{
+    match items {
+        [] => None,
+        [only] => Some(only),
+        [_, _, ..] => None,
+    }
+}
+
+/// A name: 1 to 16 bytes of small letters, digits and underscores.
+pub fn name_at<'v>(value: &'v Value, name: &str) -> Option<&'v str>
+    ensures { option_map (λ t. t.now) result ≡ name_at name.now (view value.now) }
+{
+    name_of(value.get(name)?)
+}
+
+/// The name that a value is.
+pub fn name_of(value: &Value) -> Option<&str>
+    ensures { option_map (λ t. t.now) result ≡ name_of (view value.now) }
+{
+    let text = value.as_str()?;
+    is_name(text).then_some(text)
+}
+
+#[cfg(test)]
+mod tests {
+    use super::*;
+    use std::test::Fail;
+
+    #[test]
+    fn members_are_found_by_name_and_kind(rt: HostRuntime) -> Result<(), Fail> {
+        let text = r#"{"b":1,"z":"text","Z":null,"m":65537}"#;
+        let value = Value::from_str(rt.alloc(), text)?;
+        assert_eq!(rt; strange_at(&value, &["b"]), Some("Z"));
+        assert_eq!(rt; strange_at(&value, &["Z", "z", "m", "b", "a"]), None);
+        assert_eq!(rt; number_or(&value, "a", 9, 1, 1), Some(9));
+        assert_eq!(rt; number_or(&value, "b", 9, 2, 3), None);
+        assert_eq!(rt; short_or(&value, "m", 9, 1, u16::MAX), None);
+        assert_eq!(rt; maybe_text_at(&value, "z"), Some(Some("text")));
+        assert_eq!(rt; maybe_text_at(&value, "Z"), None);
+        assert_eq!(rt; maybe_text_at(&value, "a"), Some(None));
+        Ok(())
+    }
+}

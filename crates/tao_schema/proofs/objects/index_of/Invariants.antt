@@ -1,0 +1,6 @@
+use Rattle.std.proofs.Common.{take}
+use Rattle.tao_schema.specs.Index.{IsIndex}
+use Rattle.tao_schema.proofs.objects.index_of.Given as goal
+
+abbrev pub invariant-loop-place : goal.invariant-loop-place
+invariant-loop-place l = IsIndex (take l.place l.names) l.places

@@ -1,0 +1,24 @@
+-- Which lists make a schema, and what it says of the association types.
+use Rattle.std.specs.Prelude.{ℕ, List, Result, Ok, Err}
+use Rattle.tao_base.specs.EdgeTypes.{EdgeTypes}
+use Rattle.tao_schema.specs.AssocTypes.{assocs_of, edge_types}
+use Rattle.tao_schema.specs.ObjectTypes.{objects_of}
+use Rattle.tao_schema.specs.declared.lines.AssocLine.{AssocLine}
+use Rattle.tao_schema.specs.declared.refusal.SchemaRefusal.{SchemaRefusal}
+use Rattle.tao_schema.specs.declared.schema.Schema.{Schema}
+
+infixl 10 ◌>>=◌
+abbrev pub ◌>>=◌ : {A B E : Type 0} → Result A E → (A → Result B E) → Result B E
+(Ok x) >>= f = f x
+(Err e) >>= f = Err e
+
+-- the lists themselves, or the first refusal
+abbrev pub schema_of : List (List ℕ) → List AssocLine → Result Schema SchemaRefusal
+schema_of objects assocs = do
+  object_types ← objects_of objects
+  assoc_types ← assocs_of assocs
+  Ok (record { objects = object_types; assocs = assoc_types })
+
+-- what the schema says of the association types
+abbrev pub types_of : Schema → EdgeTypes
+types_of schema = edge_types schema.assocs

@@ -1,0 +1,22 @@
+//! The schema of a graph: the names of its object types, and its association types with their
+//! inverses and bounds.
+//!
+//! Contracts see the object types as the list of their names, the association types as the list of
+//! the lines that they were read from, and a schema as these two.
+#![tactic(auto)]
+
+pub mod assocs;
+pub mod lines;
+mod names;
+pub mod objects;
+pub mod refusal;
+pub mod schema;
+
+pub use assocs::AssocTypes;
+pub use lines::{AssocLine, MAX_BOUND};
+pub use objects::ObjectTypes;
+pub use refusal::{SchemaField, SchemaRefusal};
+pub use schema::Schema;
+
+#[cfg(test)]
+mod tests;

@@ -1,0 +1,5 @@
+pub mod Config
+pub mod ConfigView
+pub mod Named
+pub mod Regions
+pub mod Tiers

@@ -1,0 +1,11 @@
+-- The regions. Their tiers keep rules of their own.
+use Rattle.std.specs.Prelude.{Bool, ◌&&◌, List, length, map}
+use Rattle.std.specs.List.{list_all}
+use Rattle.topology.specs.Named.{are_different, in_range}
+use Rattle.topology.specs.declared.regions.Region.{Region}
+
+abbrev pub is_region : Region → Bool
+is_region region = in_range 1 4 region.leaders
+
+abbrev pub are_regions : List Region → Bool
+are_regions regions = in_range 1 4 (length regions) && list_all is_region regions && are_different (map (λ region. region.name) regions)

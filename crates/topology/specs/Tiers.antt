@@ -1,0 +1,15 @@
+-- The follower tiers of a region.
+use Rattle.std.specs.Prelude.{ℕ, Bool, not, ◌&&◌, ◌||◌, List, length, map, bytes_eq, codes}
+use Rattle.std.specs.List.{list_all}
+use Rattle.topology.specs.Named.{are_different, in_range}
+use Rattle.topology.specs.declared.tiers.Tier.{Tier}
+
+-- the names that a region's other nodes have
+abbrev pub is_reserved : List ℕ → Bool
+is_reserved name = bytes_eq name (codes "leader") || bytes_eq name (codes "store")
+
+abbrev pub is_tier : Tier → Bool
+is_tier tier = not (is_reserved tier.name) && in_range 1 4 tier.followers
+
+abbrev pub are_tiers : List Tier → Bool
+are_tiers tiers = in_range 1 4 (length tiers) && list_all is_tier tiers && are_different (map (λ tier. tier.name) tiers)

@@ -1,0 +1,22 @@
+//! The configuration of the store: its schema, its regions with their leaders and tiers, the master
+//! regions of its shards, and its limits.
+//!
+//! Contracts see each type over a vector as a list, a name as the list of its bytes, and a
+//! configuration as its settings.
+#![tactic(auto)]
+
+pub mod config;
+pub mod masters;
+pub mod name;
+mod named;
+pub mod regions;
+pub mod tiers;
+
+pub use config::Config;
+pub use masters::Masters;
+pub use name::Name;
+pub use regions::{Region, Regions};
+pub use tiers::{Tier, Tiers};
+
+#[cfg(test)]
+mod tests;

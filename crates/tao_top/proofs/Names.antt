@@ -5,7 +5,8 @@ use Rattle.std.specs.List.{list_all, list_any}
 use Rattle.serde_json.specs.Find.{as_str}
 use Rattle.serde_json.specs.View.{view, items_view}
 use Rattle.serde_json.specs.declared.value.Value.{Value}
-use Rattle.tao_top.specs.Fields.{is_name, name_of, is_text}
+use Rattle.json_fields.specs.Fields.{name_of, is_text}
+use Rattle.tao_base.specs.Names.{is_name}
 use Rattle.tao_top.specs.Config.{names_in}
 
 both : (o : Option (List ℕ)) (r : Option (List (List ℕ))) → (is_some o && is_some r) ≡ is_some (option_and_then (λ name. option_and_then (λ names. Some (name ∷ names)) r) o)

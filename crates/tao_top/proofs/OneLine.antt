@@ -8,7 +8,7 @@ use Rattle.tao_io.specs.declared.lines.NextLine.{NextLine}
 use Rattle.tao_io.specs.declared.lines.NextLine.TheVariants.{Line, TooLong, End}
 use Rattle.tao_top.proofs.Refusing.{refused}
 use Rattle.tao_top.proofs.Serving.{part_none, part_one, served_one, still_refl}
-use Rattle.tao_top.specs.Json.{json_of}
+use Rattle.json_fields.specs.Json.{json_of}
 use Rattle.tao_top.specs.Machine.{Shown, IsLater}
 use Rattle.tao_top.specs.Reply.{line_of}
 use Rattle.tao_top.specs.Request.{asked_in}

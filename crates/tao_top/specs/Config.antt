@@ -7,8 +7,8 @@ use Rattle.serde_json.specs.Find.{get, as_array}
 use Rattle.tao_top.specs.declared.config.Config.{Config}
 use Rattle.tao_top.specs.declared.config.RegionNames.{RegionNames}
 use Rattle.tao_top.specs.declared.config.Names.{Names}
-use Rattle.tao_top.specs.Json.{json_of}
-use Rattle.tao_top.specs.Fields.{◌>>=◌, number_at, only_at, name_of, name_at, has_only}
+use Rattle.json_fields.specs.Json.{json_of}
+use Rattle.json_fields.specs.Fields.{◌>>=◌, number_at, only_at, name_of, name_at, has_only}
 
 -- ---- the types of objects
 

@@ -1,7 +1,5 @@
 pub mod Word
-pub mod Fields
 pub mod Reply
-pub mod Json
 pub mod Config
 pub mod Request
 pub mod StoreFail

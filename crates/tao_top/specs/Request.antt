@@ -15,8 +15,8 @@ use Rattle.tao_top.specs.declared.request.AddFields.{AddFields}
 use Rattle.tao_top.specs.declared.request.RangeFields.{RangeFields}
 use Rattle.serde_json.specs.View.{members_view}
 use Rattle.tao_top.specs.Word.{word_named}
-use Rattle.tao_top.specs.Json.{json_of}
-use Rattle.tao_top.specs.Fields.{◌>>=◌, number_at, text_at, id_at, flag_at, texts_at, has_none, has_only}
+use Rattle.json_fields.specs.Json.{json_of}
+use Rattle.json_fields.specs.Fields.{◌>>=◌, number_at, text_at, id_at, flag_at, texts_at, has_none, has_only}
 
 -- ---- the fields of each word, in their order
 

@@ -4,8 +4,8 @@ ghost use Rattle.std.specs.List.{list_any};
 ghost use Rattle.serde_json.specs.View.{view, items_view};
 ghost use Rattle.tao_top.specs.Config.{config_in, config_of, config_said, region_of, region_said, tier_of, type_of, is_reserved, has_objects, are_objects, names_in, are_different};
 
-use crate::fields::{has_only, is_text, name_at, name_of, number_at, only_at};
-use crate::json::parse;
+use json_fields::fields::{has_only, is_text, name_at, name_of, number_at, only_at};
+use json_fields::json::parse;
 use serde_json::Value;
 use std::alloc::{AllocError, Global};
 use tao_base::Text;

@@ -4,8 +4,6 @@
 mod answer;
 mod begin;
 mod config;
-mod fields;
-mod json;
 mod reply;
 mod request;
 mod serve;

@@ -4,9 +4,11 @@ ghost use Rattle.serde_json.specs.View.{view};
 ghost use Rattle.tao_top.specs.Request.{Asks, asked_in, asked_by, word_of, open_of, opening, opens, add_of, adding, adds, range_of, listing, lists, is_here};
 
 use crate::config::Config;
-use crate::fields::{flag_at, has_none, has_only, id_at, number_at, small_at, text_at, texts_at};
-use crate::json::parse;
 use crate::word::Word;
+use json_fields::fields::{
+    flag_at, has_none, has_only, id_at, number_at, small_at, text_at, texts_at,
+};
+use json_fields::json::parse;
 use serde_json::{Map, Value};
 use std::alloc::{AllocError, Global};
 use tao_base::{Id, Text, Time};

@@ -2,7 +2,7 @@ use Rattle.std.proofs.Common.{◌∙◌, is_some, rules, tests}
 use Rattle.std.proofs.lemmas.Iterator.{YieldsList-from_slice}
 use Rattle.std.proofs.lemmas.Iterator.Search.{all_from_yields_List}
 use Rattle.serde_json.specs.View.{view}
-use Rattle.tao_top.specs.Fields.{name_of}
+use Rattle.json_fields.specs.Fields.{name_of}
 use Rattle.tao_top.proofs.Names.{is_some-names_in}
 use Rattle.tao_top.proofs.config.are_names.Goals as goal
 

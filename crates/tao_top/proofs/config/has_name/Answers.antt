@@ -3,7 +3,7 @@ use Rattle.std.proofs.lemmas.Iterator.{YieldsList-from_slice}
 use Rattle.std.proofs.lemmas.Iterator.Search.{any_from_yields_List}
 use Rattle.serde_json.specs.Find.{as_str}
 use Rattle.serde_json.specs.View.{view}
-use Rattle.tao_top.specs.Fields.{is_text}
+use Rattle.json_fields.specs.Fields.{is_text}
 use Rattle.tao_top.proofs.Names.{among_names}
 use Rattle.tao_top.proofs.config.has_name.Goals as goal
 

@@ -1,5 +1,5 @@
 //! Entries to bytes and back.
-ghost use Rattle.std.specs.Prelude.{◌≡◌, ℕ, IfOk, Ok, OnOk};
+ghost use Rattle.std.specs.Prelude.{◌≡◌, ℕ, List, IfOk, Ok, OnOk};
 ghost use Rattle.tao_base.specs.Spelling.{IsSpelled, spelling};
 ghost use Rattle.tao_base.specs.declared.entry.Entry.{Entry};
 ghost use Rattle.entry_codec.specs.Gives.{Answers};
@@ -15,14 +15,26 @@ use tao_base::{Bytes, Entry, OutOfMemory};
 
 /// What is spelled in bytes, in one way.
 pub trait Spelled: Sized {
-    /// Its bytes.
-    fn encode(&self, alloc: Global) -> Result<Bytes, OutOfMemory>;
+    /// Whether a value has a spelling.
+    ghost is_spelled: { Self → Type 0 };
+
+    /// Its spelling.
+    ghost bytes_of: { Self → List ℕ };
+
+    /// The bytes of a value that has a spelling.
+    fn encode(&self, alloc: Global) -> Result<Bytes, OutOfMemory>
+        ensures { is_spelled self.now → IfOk result (λ bytes. bytes ≡ bytes_of self.now) };
 
     /// The value that is spelled so.
-    fn decode(alloc: Global, bytes: &[u8]) -> Result<Self, EntryRefusal>;
+    fn decode(alloc: Global, bytes: &[u8]) -> Result<Self, EntryRefusal>
+        ensures { IfOk result (λ value. is_spelled value × (bytes_of value ≡ bytes.now)) };
 }
 
 impl Spelled for Entry {
+    ghost is_spelled = { IsSpelled };
+
+    ghost bytes_of = { spelling };
+
     /// The entry's spelling, where it has one: of an entry that no log has, nothing is said of the
     /// bytes. Takes time by their number.
     fn encode(&self, alloc: Global) -> Result<Bytes, OutOfMemory>

@@ -7,7 +7,7 @@ use Rattle.serde_json.specs.Find.{get, as_number, as_u64, as_str, as_bool, as_ob
 use Rattle.tao_base.specs.Ids.{serial_of}
 use Rattle.tao_base.specs.Names.{is_name}
 
--- the members of a row, one after another: the first that isn't found ends the reading
+-- members are read one after another, and the first that isn't found ends the reading
 infixl 10 ◌>>=◌
 abbrev pub ◌>>=◌ : {A B : Type 0} → Option A → (A → Option B) → Option B
 o >>= f = option_and_then f o
@@ -26,12 +26,13 @@ number_at name least most d = do
 abbrev pub number_or : List ℕ → ℕ → ℕ → ℕ → Data → Option ℕ
 number_or name default least most d = if is_some (get name d) then number_at name least most d else Some default
 
--- a number whose serial isn't 0
+-- an id: a number whose serial isn't 0
 abbrev pub id_at : List ℕ → Data → Option ℕ
 id_at name d = do
   n ← whole_at name d
   then_some (not (serial_of n == 0)) n
 
+-- a text
 abbrev pub text_at : List ℕ → Data → Option (List ℕ)
 text_at name d = option_and_then as_str (get name d)
 
@@ -40,40 +41,46 @@ abbrev pub text_of : Option Data → Option (Option (List ℕ))
 text_of None = Some None
 text_of (Some d) = option_map Some (as_str d)
 
+-- a text that may be missing
 abbrev pub maybe_text_at : List ℕ → Data → Option (Option (List ℕ))
 maybe_text_at name d = text_of (get name d)
 
+-- it is a text, and this one
 abbrev pub is_text : List ℕ → Option (List ℕ) → Bool
 is_text text None = false
 is_text text (Some other) = bytes_eq text other
 
--- true or false, where it is given
+-- a flag that may be left out: true or false where it is given
 abbrev pub flag_of : Option Data → Option (Option Bool)
 flag_of None = Some None
 flag_of (Some d) = option_map Some (as_bool d)
 
+-- the flag of that name
 abbrev pub flag_at : List ℕ → Data → Option (Option Bool)
 flag_at name d = flag_of (get name d)
 
--- an object of texts
+-- each member is a text
 abbrev pub are_texts : Members → Bool
 are_texts no_members = true
 are_texts (member key d ms) = is_some (as_str d) && are_texts ms
 
+-- an object of texts
 abbrev pub texts_at : List ℕ → Data → Option Members
 texts_at name d = do
   ms ← option_and_then as_object (get name d)
   then_some (are_texts ms) ms
 
+-- there is no member
 abbrev pub has_none : Members → Bool
 has_none no_members = true
 has_none (member key d ms) = false
 
--- an object whose members have these names alone
+-- each member has one of these names
 abbrev pub are_named : List (List ℕ) → Members → Bool
 are_named names no_members = true
 are_named names (member key d ms) = list_any (λ name. bytes_eq name key) names && are_named names ms
 
+-- an object whose members have these names alone
 abbrev pub has_only : List (List ℕ) → Data → Bool
 has_only names (object ms) = are_named names ms
 has_only names d = false
@@ -83,27 +90,32 @@ abbrev pub first_strange : List (List ℕ) → Members → Option (List ℕ)
 first_strange names no_members = None
 first_strange names (member key d ms) = if list_any (λ name. bytes_eq name key) names then first_strange names ms else Some key
 
+-- the same, of an object
 abbrev pub strange_at : List (List ℕ) → Data → Option (List ℕ)
 strange_at names d = option_and_then (first_strange names) (as_object d)
 
+-- the items of an array
 abbrev pub items_at : List ℕ → Data → Option Items
 items_at name d = option_and_then as_array (get name d)
 
--- the one item of an array
+-- the item, where there is one alone
 abbrev pub only_item : Items → Option Data
 only_item no_items = None
 only_item (item d no_items) = Some d
 only_item (item d (item e ds)) = None
 
+-- the one item of an array
 abbrev pub only_at : List ℕ → Data → Option Data
 only_at name d = do
   ds ← option_and_then as_array (get name d)
   only_item ds
 
+-- a text that is a name
 abbrev pub name_of : Data → Option (List ℕ)
 name_of d = do
   text ← as_str d
   then_some (is_name text) text
 
+-- the name in the member of that name
 abbrev pub name_at : List ℕ → Data → Option (List ℕ)
 name_at name d = option_and_then name_of (get name d)

@@ -20,6 +20,7 @@ names_in (item d ds) = do
   names ← names_in ds
   Some (name ∷ names)
 
+-- no name comes twice
 abbrev pub are_different : List (List ℕ) → Bool
 are_different [] = true
 are_different (name ∷ names) = not (list_any (bytes_eq name) names) && are_different names
@@ -29,15 +30,17 @@ abbrev pub are_objects : Option (List (List ℕ)) → Bool
 are_objects None = false
 are_objects (Some names) = nat_le 1 (length names) && nat_le (length names) 64 && are_different names
 
+-- the types of objects are given so
 abbrev pub has_objects : Data → Bool
 has_objects d = are_objects (option_and_then names_in (option_and_then as_array (get (codes "objects") d)))
 
 -- ---- a region, its tier and the association type
 
--- a tier has its name alone, which isn't one that a region's other nodes have
+-- a name that a region's other nodes have
 abbrev pub is_reserved : List ℕ → Bool
 is_reserved name = bytes_eq name (codes "leader") || bytes_eq name (codes "store")
 
+-- a tier has its name alone, which none of those others has
 abbrev pub tier_of : Data → Option (List ℕ)
 tier_of d = do
   name ← name_at (codes "name") d
@@ -62,21 +65,25 @@ type_of d = do
 
 -- ---- the line
 
--- one shard, one region, the types of objects and one association type, and nothing else
+-- one shard, one region, types of objects and one association type, and nothing else
 abbrev pub config_of : Data → Option Config
 config_of d = do
   shards ← number_at (codes "shards") 1 1 d
   region ← option_and_then region_of (only_at (codes "regions") d)
   atype ← option_and_then type_of (only_at (codes "assocs") d)
-  then_some (has_objects d && has_only (codes "shards" ∷ codes "regions" ∷ codes "objects" ∷ codes "assocs" ∷ []) d) (record { region = region.name; tier = region.tier; atype = atype })
+  then_some (has_objects d && has_only (codes "shards" ∷ codes "regions" ∷ codes "objects" ∷ codes "assocs" ∷ []) d)
+      (record { region = region.name; tier = region.tier; atype = atype })
 
+-- what a line names, where it is taken
 abbrev pub config_in : List ℕ → Option Config
 config_in line = option_and_then config_of (json_of line)
 
 -- ---- what is read of the line before it is copied
 
+-- the same names, as the program has them
 abbrev pub region_said : RegionNames → RegionSaid
 region_said r = record { name = r.name.now; tier = r.tier.now }
 
+-- and all of the line's
 abbrev pub config_said : Names → Config
 config_said n = record { region = n.region.now; tier = n.tier.now; atype = n.atype.now }

@@ -3,6 +3,7 @@ use Rattle.std.specs.Prelude.{ℕ, List, [], ◌∷◌, Option, find, codes, byt
 use Rattle.tao_top.specs.declared.word.Word.{Word}
 use Rattle.tao_top.specs.declared.word.Word.TheVariants.{Open, ObjAdd, ObjUpdate, ObjDelete, AssocAdd, AssocDelete, AssocChangeType, ObjGet, AssocGet, AssocCount, AssocRange, AssocTimeRange, Hold, Advance, Deliver, Again, Drop, Refill, Stream, Repair, Evict, Show, Inbox, Down, Up, Suspect, Trust, Cut, Mend, Settle, Audit}
 
+-- each word as it stands in a line
 abbrev pub word_name : Word → List ℕ
 word_name Open = codes "open"
 word_name ObjAdd = codes "obj_add"
@@ -36,11 +37,11 @@ word_name Mend = codes "mend"
 word_name Settle = codes "settle"
 word_name Audit = codes "audit"
 
--- each word once
+-- all words
 abbrev pub words : List Word
 words = Open ∷ ObjAdd ∷ ObjUpdate ∷ ObjDelete ∷ AssocAdd ∷ AssocDelete ∷ AssocChangeType ∷ ObjGet ∷ AssocGet ∷ AssocCount ∷ AssocRange ∷ AssocTimeRange
     ∷ Hold ∷ Advance ∷ Deliver ∷ Again ∷ Drop ∷ Refill ∷ Stream ∷ Repair ∷ Evict ∷ Show ∷ Inbox ∷ Down ∷ Up ∷ Suspect ∷ Trust ∷ Cut ∷ Mend ∷ Settle ∷ Audit ∷ []
 
--- the word of that name
+-- the word that stands there so
 abbrev pub word_named : List ℕ → Option Word
 word_named name = find (λ word. bytes_eq (word_name word) name) words

@@ -1,7 +1,7 @@
 //! What a line asks, or why it is refused before any store is asked.
 ghost use Rattle.std.specs.Prelude.{◌≡◌, IfOk, option_map};
 ghost use Rattle.serde_json.specs.View.{view};
-ghost use Rattle.tao_top.specs.Request.{Asks, asked_in, asked_by, word_of, open_of, opening, opens, add_of, adding, adds, range_of, listing, lists, is_here};
+ghost use Rattle.tao_top.specs.Request.{Asks, asked_in, asked_by, word_of, open_of, opening_of, asked_to_open, add_of, adding_of, asked_to_add, range_of, listing_of, asked_to_list, is_here};
 
 use crate::config::Config;
 use crate::word::Word;
@@ -95,15 +95,15 @@ fn asked_by(
     };
     match word {
         Word::Open => match open_of(value) {
-            Some(fields) => opens(config, current, &fields),
+            Some(fields) => asked_to_open(config, current, &fields),
             None => Err(Refusal::BadLine),
         },
         Word::AssocAdd => match add_of(value) {
-            Some(fields) => adds(alloc, config, current, &fields),
+            Some(fields) => asked_to_add(alloc, config, current, &fields),
             None => Err(Refusal::BadLine),
         },
         Word::AssocRange => match range_of(value) {
-            Some(fields) => lists(alloc, config, current, &fields),
+            Some(fields) => asked_to_list(alloc, config, current, &fields),
             None => Err(Refusal::BadLine),
         },
         word => Err(Refusal::NotBuilt { word }),
@@ -126,7 +126,7 @@ struct OpenFields<'v> {
 }
 
 fn open_of(value: &Value) -> Option<OpenFields<'_>>
-    ensures { option_map opening result ≡ open_of (view value.now) }
+    ensures { option_map opening_of result ≡ open_of (view value.now) }
 {
     let fields = OpenFields {
         session: small_at(value, "session", 1)?,
@@ -148,7 +148,7 @@ struct AddFields<'v> {
 }
 
 fn add_of(value: &Value) -> Option<AddFields<'_>>
-    ensures { option_map adding result ≡ add_of (view value.now) }
+    ensures { option_map adding_of result ≡ add_of (view value.now) }
 {
     let fields = AddFields {
         session: small_at(value, "session", 1)?,
@@ -176,7 +176,7 @@ struct RangeFields<'v> {
 }
 
 fn range_of(value: &Value) -> Option<RangeFields<'_>>
-    ensures { option_map listing result ≡ range_of (view value.now) }
+    ensures { option_map listing_of result ≡ range_of (view value.now) }
 {
     let fields = RangeFields {
         session: small_at(value, "session", 1)?,
@@ -192,8 +192,12 @@ fn range_of(value: &Value) -> Option<RangeFields<'_>>
 
 // ---- what is built, and the names
 
-fn opens(config: &Config, current: Option<u32>, fields: &OpenFields<'_>) -> Result<Asked, Refusal>
-    ensures { Asks result (opens config.now current (opening fields.now)) }
+fn asked_to_open(
+    config: &Config,
+    current: Option<u32>,
+    fields: &OpenFields<'_>,
+) -> Result<Asked, Refusal>
+    ensures { Asks result (asked_to_open config.now current (opening_of fields.now)) }
 {
     if current.is_none()
         && fields.region == config.region.as_str()
@@ -207,13 +211,13 @@ fn opens(config: &Config, current: Option<u32>, fields: &OpenFields<'_>) -> Resu
     }
 }
 
-fn adds(
+fn asked_to_add(
     alloc: Global,
     config: &Config,
     current: Option<u32>,
     fields: &AddFields<'_>,
 ) -> Result<Asked, Refusal>
-    ensures { Asks result (adds config.now current (adding fields.now)) }
+    ensures { Asks result (asked_to_add config.now current (adding_of fields.now)) }
 {
     let is_built = current == Some(fields.session)
         && is_here(fields.id1)
@@ -236,13 +240,13 @@ fn adds(
     }
 }
 
-fn lists(
+fn asked_to_list(
     alloc: Global,
     config: &Config,
     current: Option<u32>,
     fields: &RangeFields<'_>,
 ) -> Result<Asked, Refusal>
-    ensures { Asks result (lists config.now current (listing fields.now)) }
+    ensures { Asks result (asked_to_list config.now current (listing_of fields.now)) }
 {
     let is_built = current == Some(fields.session)
         && is_here(fields.id1)

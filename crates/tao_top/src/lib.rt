@@ -9,6 +9,8 @@ mod request;
 mod serve;
 mod stop;
 mod store;
+#[cfg(test)]
+mod tests;
 mod top;
 mod word;
 

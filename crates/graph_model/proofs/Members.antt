@@ -169,6 +169,16 @@ module _ {X Y : Type 0} where
     | inr k ↦ (let r = in_filter_map_parts g xs y k in (r.0, inr r.1, r.2))
   ]
 
+  -- what the function gives of an element is among what it gives of the list
+  pub contains_filter_map : (g : X → Option Y) (xs : List X) (x : X) (y : Y) → Contains xs x → g x ≡ Some y → Contains (filter_map g xs) y
+  contains_filter_map g xs x y h e = contains_from_in (filter_map g xs) y (in_filter_map g xs x y (in_from_contains xs x h) e)
+
+  -- and it is given of one of them
+  pub contains_filter_map_parts : (g : X → Option Y) (xs : List X) (y : Y) → Contains (filter_map g xs) y → (x : X) × Contains xs x × (g x ≡ Some y)
+  contains_filter_map_parts g xs y h =
+      let r = in_filter_map_parts g xs y (in_from_contains (filter_map g xs) y h) in
+      (r.0, contains_from_in xs r.0 r.1, r.2)
+
   pub in_flat_map : (f : X → List Y) (xs : List X) (x : X) (y : Y) → IsIn x xs → IsIn y (f x) → IsIn y (flat_map f xs)
   in_flat_map f [] x y h k = absurd h
   in_flat_map f (z ∷ zs) x y (inl e) k = in_append_left (f z) (flat_map f zs) y (subst (λ w. IsIn y (f w)) (sym e) k)

@@ -15,8 +15,9 @@ use Rattle.tao_base.specs.declared.entry.Touch.{Touch}
 use Rattle.tao_base.specs.declared.id.AType.{AType}
 use Rattle.tao_base.specs.declared.id.Id.{Id}
 use Rattle.graph_model.proofs.EntryLemmas.{applies_touches}
+use Rattle.graph_model.proofs.Members.{contains_filter_map_parts}
 use Rattle.graph_model.proofs.Sound.{last_follows, sound_take}
-use Rattle.graph_model.proofs.Updates.{edge_record-append, from_filter_map, record_of_update, update_of_record}
+use Rattle.graph_model.proofs.Updates.{edge_record-append, record_of_update, update_of_record}
 use Rattle.graph_model.specs.Edges.{edge_record}
 use Rattle.graph_model.specs.Log.{version}
 use Rattle.graph_model.specs.Merges.{HasStamp, is_later}
@@ -41,7 +42,7 @@ touches_tell log sound n e h =
 -- a record that an entry writes has a greater stamp than the one before
 update_rises : (log : List Entry) (e : Entry) (u : EdgeUpdate) → CanFollow log e → Contains (updates_of e) u → is_later u.3 (edge_record log u.0 u.1 u.2) ≡ true
 update_rises log e u follows h =
-    let found = from_filter_map (λ (t : Touch). update_at t.key t.change) e.touches u h in
+    let found = contains_filter_map_parts (λ (t : Touch). update_at t.key t.change) e.touches u h in
     let touch = All-contains (TouchFollows log e.origin) e.touches found.0 follows.touches found.1 in
     let rises = subst (λ o. IfSome o (λ v. IfSome (edge_record log v.0 v.1 v.2) (λ old. is_earlier (stamp_of old) (stamp_of v.3) ≡ true))) found.2 touch.stamp_rises in
     later_than (edge_record log u.0 u.1 u.2) u.3 rises

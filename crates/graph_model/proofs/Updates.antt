@@ -1,9 +1,9 @@
 -- The records that an entry writes are those that it leaves of the edges.
-use Rattle.std.proofs.Common.{◌≡◌, ◌≢◌, ℕ, List, [], ◌∷◌, ◌++◌, append-nil, refl, sym, ap, subst, ◌∙◌, inl, inr, arith, zero, suc}
+use Rattle.std.proofs.Common.{◌≡◌, ◌≢◌, ℕ, List, [], ◌∷◌, ◌++◌, append-nil, refl, sym, ap, subst, ◌∙◌, inl, inr}
 use Rattle.std.proofs.lemmas.Bool.{cases_Bool}
-use Rattle.std.proofs.lemmas.List.Elements.{All-contains, Contains-append_right, filter-append, filter_map-append}
+use Rattle.std.proofs.lemmas.List.Elements.{All-contains, filter-append, filter_map-append}
 use Rattle.std.proofs.lemmas.List.Folds.{Any-from_list_any}
-use Rattle.std.specs.List.{last_or, cons_option}
+use Rattle.std.specs.List.{last_or}
 use Rattle.std.specs.Option.{option_or}
 use Rattle.std.specs.Prelude.{AllPairs, Contains, Option, Some, None, filter, filter_map, ◌==◌}
 use Rattle.tao_base.specs.declared.edge.EdgeState.{EdgeState}
@@ -19,6 +19,7 @@ use Rattle.tao_base.specs.declared.id.Key.TheVariants.{Obj, List as Assocs}
 use Rattle.graph_model.proofs.EntryLemmas.{one_change}
 use Rattle.graph_model.proofs.Keys.{same_key-same}
 use Rattle.graph_model.proofs.Lists.{eqb-self, eqb-same}
+use Rattle.graph_model.proofs.Members.{contains_filter_map, contains_filter_map_parts}
 use Rattle.graph_model.proofs.Versions.{changes_of-append, untouched}
 use Rattle.graph_model.specs.Edges.{edge_record, is_at, record_in, state_left, state_of}
 use Rattle.graph_model.specs.Keys.{same_key}
@@ -40,35 +41,6 @@ pub record_in-or : (cs ds : List Change) (id2 : ℕ) → record_in (cs ++ ds) id
 record_in-or cs ds id2 =
     rw (filter-append (is_at id2) cs ds, filter_map-append state_left (filter (is_at id2) cs) (filter (is_at id2) ds))
     (last_or-append None (filter_map state_left (filter (is_at id2) cs)) (filter_map state_left (filter (is_at id2) ds)))
-
-module _ {X Y : Type 0} (f : X → Option Y) where
-  one_more : (o : Option Y) (ys : List Y) (y : Y) → Contains ys y → Contains (cons_option o ys) y
-  one_more None ys y h = h
-  one_more (Some z) ys y h = Contains-append_right (z ∷ []) ys y h
-
-  -- what the function gives of an element is among what it gives of the list
-  pub Contains-filter_map : (xs : List X) (x : X) (y : Y) → Contains xs x → f x ≡ Some y → Contains (filter_map f xs) y
-  Contains-filter_map [] x y h e = absurd (omega (arith, h.1))
-  Contains-filter_map (z ∷ zs) x y (zero, within, is) e = subst (λ o. Contains (cons_option o (filter_map f zs)) y) (sym (ap f is ∙ e)) (zero, omega arith, refl)
-  Contains-filter_map (z ∷ zs) x y (suc k, within, is) e = one_more (f z) (filter_map f zs) y (Contains-filter_map zs x y (k, omega arith, is) e)
-
-  found_more : (z : X) (zs : List X) (y : Y) → ((x : X) × Contains zs x × (f x ≡ Some y)) → (x : X) × Contains (z ∷ zs) x × (f x ≡ Some y)
-  found_more z zs y w = (w.0, Contains-append_right (z ∷ []) zs w.0 w.1, w.2)
-
-  found_here : (z : X) (zs : List X) (y v : Y) (vs : List Y) → f z ≡ Some v → (Contains vs y → (x : X) × Contains (z ∷ zs) x × (f x ≡ Some y))
-      → Contains (v ∷ vs) y → (x : X) × Contains (z ∷ zs) x × (f x ≡ Some y)
-  found_here z zs y v vs e later (zero, within, is) = (z, (zero, omega arith, refl), e ∙ ap Some is)
-  found_here z zs y v vs e later (suc k, within, is) = later (k, omega arith, is)
-
-  by_head : (z : X) (zs : List X) (y : Y) (vs : List Y) (o : Option Y) → f z ≡ o → (Contains vs y → (x : X) × Contains (z ∷ zs) x × (f x ≡ Some y))
-      → Contains (cons_option o vs) y → (x : X) × Contains (z ∷ zs) x × (f x ≡ Some y)
-  by_head z zs y vs None e later h = later h
-  by_head z zs y vs (Some v) e later h = found_here z zs y v vs e later h
-
-  -- and it is given of one of them
-  pub from_filter_map : (xs : List X) (y : Y) → Contains (filter_map f xs) y → (x : X) × Contains xs x × (f x ≡ Some y)
-  from_filter_map [] y h = absurd (omega (arith, h.1))
-  from_filter_map (z ∷ zs) y h = by_head z zs y (filter_map f zs) (f z) refl (λ k. found_more z zs y (from_filter_map zs y k)) h
 
 -- a record that a change writes at a key is what the change leaves of that edge
 pub written : (k : Key) (c : Change) (u : EdgeUpdate) → update_at k c ≡ Some u → (k ≡ Assocs u.0 u.1) × (record_in (c ∷ []) u.2 ≡ Some u.3)
@@ -108,7 +80,7 @@ changes_of-one e k = rw (append-nil e.touches) refl
 pub record_of_update : (e : Entry) (id1 : Id) (atype : AType) (id2 : Id) (s : EdgeState) → AllPairs (λ r t. r.key ≢ t.key) e.touches
     → Contains (updates_of e) (id1, atype, id2, s) → edge_record (e ∷ []) id1 atype id2 ≡ Some s
 record_of_update e id1 atype id2 s once h =
-    let found = from_filter_map (λ (t : Touch). update_at t.key t.change) e.touches (id1, atype, id2, s) h in
+    let found = contains_filter_map_parts (λ (t : Touch). update_at t.key t.change) e.touches (id1, atype, id2, s) h in
     let t = found.0 in
     let what = written t.key t.change (id1, atype, id2, s) found.2 in
     let one : changes_at t.key e.touches ≡ t.change ∷ [] = All-contains (λ r. changes_at r.key e.touches ≡ r.change ∷ []) e.touches t (one_change e.touches once) found.1 in
@@ -127,7 +99,7 @@ update_of_record e id1 atype id2 s once h = elim (cases_Bool (touches_key (Assoc
       let here : changes_of (e ∷ []) (Assocs id1 atype) ≡ t.change ∷ [] = changes_of-one e (Assocs id1 atype) ∙ ap (λ k. changes_at k e.touches) key ∙ one in
       let left : record_in (t.change ∷ []) id2 ≡ Some s = ap (λ cs. record_in cs id2) (sym here) ∙ h in
       let update : update_at t.key t.change ≡ Some (id1, atype, id2, s) = ap (λ k. update_at k t.change) (sym key) ∙ writes id1 atype id2 s t.change left in
-      Contains-filter_map (λ (r : Touch). update_at r.key r.change) e.touches t (id1, atype, id2, s) at update)
+      contains_filter_map (λ (r : Touch). update_at r.key r.change) e.touches t (id1, atype, id2, s) at update)
   | inr untouched_ ↦ (
       let none : None ≡ Some s = ap (λ cs. record_in cs id2) (sym (untouched e (Assocs id1 atype) untouched_)) ∙ h in
       absurd (cc))

@@ -2,11 +2,11 @@
 //! writes one reply a line to standard output, over one store in memory.
 #![tactic(auto)]
 
+use keeper_map::{Fails, MapKeeper};
 use std::env;
 use std::io::{self, ErrorKind};
 use std::process::ExitCode;
 use tao_io::{StdSink, StdSource};
-use tao_keeper::{Fails, MapKeeper};
 
 /// The status of a faulty command line.
 const FAULTY_WORDS: u8 = 2;

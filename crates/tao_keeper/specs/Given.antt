@@ -1,6 +1,7 @@
 -- What a keeper takes and gives, whether it tells its tables or not.
 use Rattle.std.specs.Prelude.{ℕ, ◌≤◌, ◌<◌, All, List, length}
 use Rattle.tao_base.specs.declared.edge.Edge.{Edge}
+use Rattle.tao_base.specs.declared.entry.Entry.{Entry}
 use Rattle.tao_base.specs.declared.entry.Touch.{Touch}
 use Rattle.tao_keeper.specs.declared.keeper.TheConstants.{MOST_ENTRIES, STAMP_LIMIT}
 use Rattle.graph_model.specs.Edges.{IsInOrder, number_of, state_left}
@@ -18,3 +19,9 @@ pub record AreGiven (most : ℕ) (edges : List Edge) : Type 0 where
   pub few : length edges ≤ most
   pub in_order : IsInOrder edges
   pub stamps : All (λ e. e.stamp.number < STAMP_LIMIT) edges
+
+-- an entry that is given: at a position of a log, its versions at most as many as a log has entries, its stamps below the limit
+pub record IsGivenEntry (e : Entry) : Type 0 where
+  pub position : IsPosition e.position
+  pub versions : All (λ t. t.version ≤ MOST_ENTRIES) e.touches
+  pub stamps : HaveSmallStamps e.touches

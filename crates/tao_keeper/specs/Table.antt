@@ -1,10 +1,11 @@
 -- What a keeper tells of its stores, and what calls do to it.
-use Rattle.std.specs.Prelude.{◌≡◌, ◌≢◌, ℕ, Bool, true, List, [], ◌∷◌, ◌++◌, Option, Some, None, unwrap_or, IsSomeAnd, Result, MatchResult}
+use Rattle.std.specs.Prelude.{◌≡◌, ◌≢◌, ℕ, Bool, true, List, [], ◌∷◌, ◌++◌, Option, Some, None, unwrap_or, count_by, IsSomeAnd, Result, MatchResult}
 use Rattle.tao_base.specs.declared.entry.Entry.{Entry}
 use Rattle.tao_base.specs.declared.entry.Origin.{Origin}
 use Rattle.tao_base.specs.declared.id.StoreName.{StoreName}
 use Rattle.graph_model.specs.Merges.{entry_at}
 use Rattle.graph_model.specs.WriteLaws.{IsNewOrigin}
+use Rattle.graph_model.specs.Writes.{is_addition}
 use Rattle.tao_keeper.specs.declared.keeper.Opened.{Opened}
 use Rattle.tao_keeper.specs.declared.keeper.Opened.TheVariants.{Ready, OtherLine}
 
@@ -56,3 +57,7 @@ after_commit table entry = record table { log = table.log ++ entry ∷ [] }
 abbrev pub StandsAt : List Entry → Origin → Option ℕ → Type 0
 StandsAt log origin (Some position) = IsSomeAnd (entry_at log position) (λ e. e.origin ≡ origin)
 StandsAt log origin None = IsNewOrigin log origin
+
+-- how many objects were added
+abbrev pub additions : List Entry → ℕ
+additions log = count_by (λ e. is_addition e.kind) log

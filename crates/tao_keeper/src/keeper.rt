@@ -1,23 +1,27 @@
 ghost use Rattle.std.specs.Prelude.{◌≡◌, ◌≤◌, ◌<◌, ℕ, Bool, length, take, drop, IfOk, IfSome};
 ghost use Rattle.counts.specs.Count.{Counted};
 ghost use Rattle.graph_model.specs.Edges.{edge_list, edge_record, number_of};
-ghost use Rattle.graph_model.specs.Log.{version};
+ghost use Rattle.graph_model.specs.Log.{object, version};
+ghost use Rattle.graph_model.specs.Merges.{entry_at};
 ghost use Rattle.graph_model.specs.Soundness.{CanFollow, IsSound};
 ghost use Rattle.tao_base.specs.declared.id.StoreName.{StoreName as Store};
 ghost use Rattle.tao_keeper.specs.Cause.{IsCaused};
-ghost use Rattle.tao_keeper.specs.Given.{AreGiven, HaveSmallStamps, IsPosition};
-ghost use Rattle.tao_keeper.specs.Table.{Table, WhereTold, Stays, Changes, OpensAs, StandsAt, after_commit, after_open};
+ghost use Rattle.tao_keeper.specs.Given.{AreGiven, HaveSmallStamps, IsGivenEntry, IsPosition};
+ghost use Rattle.tao_keeper.specs.Table.{Table, WhereTold, Stays, Changes, OpensAs, StandsAt, additions, after_commit, after_open};
 
 use std::alloc::{AllocError, AllocFailed};
 use std::error::Error;
 use std::fmt;
-use tao_base::{AType, EdgeState, Edges, Entry, Id, Key, Origin, StoreName};
+use tao_base::{AType, EdgeState, Edges, Entry, Id, Key, Object, Origin, StoreName};
 
 /// How many entries a log can have.
 pub const MOST_ENTRIES: u64 = 65_536;
 
 /// The numbers of the stamps that a keeper takes and gives are below this.
 pub const STAMP_LIMIT: u64 = 1 << 62;
+
+/// The serials of objects are below this.
+pub const SERIAL_LIMIT: u64 = 1 << 48;
 
 /// Why a call of a keeper gave no answer. It changed no table.
 #[derive(Clone, Copy, Debug, PartialEq, Eq)]
@@ -137,6 +141,21 @@ pub trait Keeper {
         ensures counted { Counted (calls self.old) (calls self.new) }
         ensures cause { IsCaused (faults self.old) (faults self.new) result };
 
+    /// The object of the id, where there is one.
+    fn object(&mut self, at: StoreName, id: Id) -> Result<Option<Object>, KeepFail>
+        ensures answer { WhereTold TELLS (IfOk result (λ found. found ≡ object (told self.old at).log id)) }
+        ensures stays { WhereTold TELLS (Stays (told self.old) (told self.new)) }
+        ensures counted { Counted (calls self.old) (calls self.new) }
+        ensures cause { IsCaused (faults self.old) (faults self.new) result };
+
+    /// How many edges the list has.
+    fn count(&mut self, at: StoreName, id1: Id, atype: AType) -> Result<u64, KeepFail>
+        ensures answer { WhereTold TELLS (IfOk result (λ count. count ≡ length (edge_list (told self.old at).log id1 atype))) }
+        ensures few { IfOk result (λ count. count ≤ MOST_ENTRIES) }
+        ensures stays { WhereTold TELLS (Stays (told self.old) (told self.new)) }
+        ensures counted { Counted (calls self.old) (calls self.new) }
+        ensures cause { IsCaused (faults self.old) (faults self.new) result };
+
     /// How many entries touch the key.
     fn version(&mut self, at: StoreName, key: Key) -> Result<u64, KeepFail>
         ensures answer { WhereTold TELLS (IfOk result (λ count. count ≡ version (told self.old at).log key)) }
@@ -149,6 +168,22 @@ pub trait Keeper {
     fn length(&mut self, at: StoreName) -> Result<u64, KeepFail>
         ensures answer { WhereTold TELLS (IfOk result (λ count. count ≡ length (told self.old at).log)) }
         ensures few { IfOk result (λ count. count ≤ MOST_ENTRIES) }
+        ensures stays { WhereTold TELLS (Stays (told self.old) (told self.new)) }
+        ensures counted { Counted (calls self.old) (calls self.new) }
+        ensures cause { IsCaused (faults self.old) (faults self.new) result };
+
+    /// The entry at a position, where there is one: none at 0 and past the end of the log.
+    fn entry(&mut self, at: StoreName, position: u64) -> Result<Option<Entry>, KeepFail>
+        ensures answer { WhereTold TELLS (IfOk result (λ found. found ≡ entry_at (told self.old at).log position)) }
+        ensures given { IfOk result (λ found. IfSome found IsGivenEntry) }
+        ensures stays { WhereTold TELLS (Stays (told self.old) (told self.new)) }
+        ensures counted { Counted (calls self.old) (calls self.new) }
+        ensures cause { IsCaused (faults self.old) (faults self.new) result };
+
+    /// The serial of the object that was added last: as many as were added, so 0 before the first.
+    fn last_serial(&mut self, at: StoreName) -> Result<u64, KeepFail>
+        ensures answer { WhereTold TELLS (IfOk result (λ serial. serial ≡ additions (told self.old at).log)) }
+        ensures small { IfOk result (λ serial. serial < SERIAL_LIMIT) }
         ensures stays { WhereTold TELLS (Stays (told self.old) (told self.new)) }
         ensures counted { Counted (calls self.old) (calls self.new) }
         ensures cause { IsCaused (faults self.old) (faults self.new) result };

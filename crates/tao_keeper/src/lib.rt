@@ -1,8 +1,6 @@
-//! Keepers: what holds the tables of the stores, and the keeper in memory.
+//! Keepers: what holds the tables of the stores.
 #![tactic(auto)]
 
 mod keeper;
-mod map;
 
-pub use keeper::{Commit, KeepFail, Keeper, MOST_ENTRIES, Opened, STAMP_LIMIT};
-pub use map::{Fails, MapKeeper};
+pub use keeper::{Commit, KeepFail, Keeper, MOST_ENTRIES, Opened, SERIAL_LIMIT, STAMP_LIMIT};

@@ -1,10 +1,12 @@
 //! Whole runs over a source, a sink and keepers in memory.
+mod streams;
+
 use crate::run;
+use keeper_map::{Fails, MapKeeper};
 use std::alloc::{AllocError, Global};
 use std::process::Abort;
 use std::test::Fail;
 use tao_io::{MemorySink, MemorySource, Status};
-use tao_keeper::{Fails, MapKeeper};
 
 /// The lines that most scripts begin with, and their replies.
 const FRONT: &str =
@@ -150,25 +152,6 @@ fn a_failed_commit_is_a_fault_and_the_same_line_again_is_written(
 fn keepers_that_fail_at_opening_end_with_6(rt: HostRuntime) -> Result<(), Fail> {
     let mut keepers = keeper(rt.alloc(), &[1])?;
     assert_run(&rt, rt.alloc(), &mut keepers, FRONT.as_bytes(), 6, "")
-}
-
-/// A source and a sink whose calls of these numbers fail, for each number until none fails.
-#[test]
-fn streams_that_fail_end_with_4_and_5(rt: HostRuntime) -> Result<(), Fail> {
-    let alloc = rt.alloc();
-    let lines = format!(in alloc; "{FRONT}{EDGE}")?;
-    let whole = format!(in alloc; "{FRONT_REPLIES}{EDGE_REPLIES}")?;
-    for (source, sink, code) in [(1, 0, 4), (2, 0, 4), (0, 1, 5), (0, 4, 5), (3, 5, 0)] {
-        let fails = vec![in alloc; source]?;
-        let mut input = MemorySource::of(lines.as_bytes().to_vec(alloc)?, fails);
-        let mut output = MemorySink::make(alloc, vec![in alloc; sink]?);
-        let mut keepers = keeper(alloc, &[])?;
-        let status = run(alloc, &words(alloc)?, &mut input, &mut output, &mut keepers);
-        assert_eq!(rt; status, Status { code }, "at {source} and {sink}");
-        let written = str::from_utf8(output.bytes())?;
-        assert!(rt; whole.as_str().starts_with(written), "{written}");
-    }
-    Ok(())
 }
 
 /// The script of examples/newest_first.jsonl.

@@ -1,0 +1,9 @@
+pub mod Changes
+pub mod Few
+pub mod Given
+pub mod Grown
+pub mod Mapped
+pub mod Objects
+pub mod Records
+pub mod Stamps
+pub mod StoreLemmas

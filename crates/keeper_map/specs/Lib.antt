@@ -1,0 +1,4 @@
+pub mod MapKeeper
+pub mod Plan
+pub mod Store
+pub mod StoreLaws

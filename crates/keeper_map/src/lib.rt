@@ -1,0 +1,13 @@
+//! The keeper in memory, which fails exactly where its plan says so.
+#![tactic(auto)]
+
+mod log;
+mod map;
+mod plan;
+mod store;
+mod stores;
+#[cfg(test)]
+mod tests;
+
+pub use map::MapKeeper;
+pub use plan::Fails;

@@ -1,0 +1,207 @@
+//! The keeper in memory.
+ghost use Rattle.std.specs.Prelude.{◌≡◌, ◌≤◌, ◌<◌, IfOk, IfSome, drop, length, take};
+ghost use Rattle.graph_model.specs.Edges.{edge_list, edge_record, number_of};
+ghost use Rattle.graph_model.specs.Log.{object, version};
+ghost use Rattle.graph_model.specs.Merges.{entry_at};
+ghost use Rattle.graph_model.specs.Soundness.{CanFollow};
+ghost use Rattle.tao_base.specs.declared.id.StoreName.{StoreName as Store};
+ghost use Rattle.tao_keeper.specs.Given.{AreGiven, HaveSmallStamps, IsGivenEntry, IsPosition};
+ghost use Rattle.keeper_map.specs.MapKeeper.{plan_of, told_by};
+ghost use Rattle.keeper_map.specs.Plan.{CallsAsPlanned, CommitsAsPlanned, from_one};
+ghost use Rattle.tao_keeper.specs.Table.{Changes, OpensAs, StandsAt, Stays, additions, after_commit, after_open, empty_table};
+
+use crate::log;
+use crate::plan::{Fails, FaultPlan};
+use crate::stores::Stores;
+use std::alloc::Global;
+use tao_base::{AType, EdgeState, Edges, Entry, Id, Key, Object, Origin, StoreName};
+use tao_keeper::{Commit, KeepFail, Keeper, MOST_ENTRIES, Opened, SERIAL_LIMIT, STAMP_LIMIT};
+
+/// A keeper that holds its tables in memory. It fails exactly where its plan says so, and tells everything.
+///
+/// No call copies a log. Each finds its store by going through the stores that something was written to, and the
+/// plan's numbers likewise; what more it takes is said at the call.
+#[derive(Drop)]
+pub struct MapKeeper {
+    alloc: Global,
+    stores: Stores,
+    plan: FaultPlan,
+}
+
+impl MapKeeper {
+    /// A keeper with no stores. The calls and the commits whose numbers are listed fail, and no others: the first
+    /// call has the number 1, and so has the first commit.
+    pub fn make(alloc: Global, fails: Fails) -> MapKeeper
+        ensures empty { (at : Store) → told_by result at ≡ empty_table }
+        ensures calls { (plan_of result).calls ≡ from_one fails.calls.items }
+        ensures commits { (plan_of result).commits ≡ from_one fails.commits.items }
+        ensures faults { (plan_of result).faults ≡ 0 }
+    {
+        MapKeeper {
+            alloc,
+            stores: Stores::new(alloc),
+            plan: FaultPlan::of(fails),
+        }
+    }
+}
+
+impl Keeper for MapKeeper {
+    ghost use Rattle.std.specs.Prelude.{true};
+    ghost use Rattle.keeper_map.specs.StoreLaws.{told_sound};
+
+    const TELLS: bool = true;
+
+    ghost TELLS = { true };
+
+    ghost told = { told_by };
+
+    ghost calls = { λ keeper. (plan_of keeper).calls.count };
+
+    ghost faults = { λ keeper. (plan_of keeper).faults };
+
+    ghost sound = { λ keeper at _. told_sound keeper.stores.tables.items at };
+
+    /// Copies the line of a store that is opened first.
+    fn open(&mut self, at: StoreName, line: &[u8]) -> Result<Opened, KeepFail>
+        ensures answer { IfOk result (λ opened. OpensAs opened (told_by self.old at) line.now) }
+        ensures changes { Changes result (told_by self.old) (told_by self.new) at (after_open (told_by self.old at) line.now) }
+        ensures plan { CallsAsPlanned (plan_of self.old) (plan_of self.new) result }
+    {
+        self.plan.begin_call()?;
+        Ok(self.stores.open(at, line)?)
+    }
+
+    /// Reads the log once, refers to each change of the list, and copies the record.
+    fn edge(
+        &mut self,
+        at: StoreName,
+        id1: Id,
+        atype: AType,
+        id2: Id,
+    ) -> Result<Option<EdgeState>, KeepFail>
+        ensures answer { IfOk result (λ state. state ≡ edge_record (told_by self.old at).log id1 atype id2) }
+        ensures small { IfOk result (λ state. number_of state < STAMP_LIMIT) }
+        ensures stays { Stays (told_by self.old) (told_by self.new) }
+        ensures plan { CallsAsPlanned (plan_of self.old) (plan_of self.new) result }
+    {
+        self.plan.begin_call()?;
+        Ok(log::record_of(self.alloc, self.stores.log(at), id1, atype, id2)?)
+    }
+
+    /// Reads the log once, and keeps the list in order through each of its changes, in time of their product. Refers to
+    /// each change of the list, and copies the edges that it gives.
+    fn edges(
+        &mut self,
+        at: StoreName,
+        id1: Id,
+        atype: AType,
+        pos: u64,
+        most: u64,
+    ) -> Result<Edges, KeepFail>
+        ensures answer { IfOk result (λ edges. edges ≡ take most (drop pos (edge_list (told_by self.old at).log id1 atype))) }
+        ensures given { IfOk result (AreGiven most) }
+        ensures stays { Stays (told_by self.old) (told_by self.new) }
+        ensures plan { CallsAsPlanned (plan_of self.old) (plan_of self.new) result }
+    {
+        self.plan.begin_call()?;
+        Ok(log::edges_of(self.alloc, self.stores.log(at), id1, atype, pos, most)?)
+    }
+
+    /// Reads the log once, refers to each change of the object, and copies the object.
+    fn object(&mut self, at: StoreName, id: Id) -> Result<Option<Object>, KeepFail>
+        ensures answer { IfOk result (λ found. found ≡ object (told_by self.old at).log id) }
+        ensures stays { Stays (told_by self.old) (told_by self.new) }
+        ensures plan { CallsAsPlanned (plan_of self.old) (plan_of self.new) result }
+    {
+        self.plan.begin_call()?;
+        Ok(log::object_of(self.alloc, self.stores.log(at), id)?)
+    }
+
+    /// Takes the time of `edges`. Refers to each change of the list, and copies nothing.
+    fn count(&mut self, at: StoreName, id1: Id, atype: AType) -> Result<u64, KeepFail>
+        ensures answer { IfOk result (λ count. count ≡ length (edge_list (told_by self.old at).log id1 atype)) }
+        ensures few { IfOk result (λ count. count ≤ MOST_ENTRIES) }
+        ensures stays { Stays (told_by self.old) (told_by self.new) }
+        ensures plan { CallsAsPlanned (plan_of self.old) (plan_of self.new) result }
+    {
+        self.plan.begin_call()?;
+        Ok(log::count_of(self.alloc, self.stores.log(at), id1, atype)?)
+    }
+
+    /// Reads the log once, and takes no memory.
+    fn version(&mut self, at: StoreName, key: Key) -> Result<u64, KeepFail>
+        ensures answer { IfOk result (λ count. count ≡ version (told_by self.old at).log key) }
+        ensures few { IfOk result (λ count. count ≤ MOST_ENTRIES) }
+        ensures stays { Stays (told_by self.old) (told_by self.new) }
+        ensures plan { CallsAsPlanned (plan_of self.old) (plan_of self.new) result }
+    {
+        self.plan.begin_call()?;
+        Ok(log::version_of(self.stores.log(at), &key))
+    }
+
+    /// Reads no entry, and takes no memory.
+    fn length(&mut self, at: StoreName) -> Result<u64, KeepFail>
+        ensures answer { IfOk result (λ count. count ≡ length (told_by self.old at).log) }
+        ensures few { IfOk result (λ count. count ≤ MOST_ENTRIES) }
+        ensures stays { Stays (told_by self.old) (told_by self.new) }
+        ensures plan { CallsAsPlanned (plan_of self.old) (plan_of self.new) result }
+    {
+        self.plan.begin_call()?;
+        Ok(self.stores.log(at).len() as u64)
+    }
+
+    /// Reads no other entry, and copies this one.
+    fn entry(&mut self, at: StoreName, position: u64) -> Result<Option<Entry>, KeepFail>
+        ensures answer { IfOk result (λ found. found ≡ entry_at (told_by self.old at).log position) }
+        ensures given { IfOk result (λ found. IfSome found IsGivenEntry) }
+        ensures stays { Stays (told_by self.old) (told_by self.new) }
+        ensures plan { CallsAsPlanned (plan_of self.old) (plan_of self.new) result }
+    {
+        self.plan.begin_call()?;
+        Ok(log::entry_of(self.stores.log(at), position)?)
+    }
+
+    /// Reads the log once, and takes no memory.
+    fn last_serial(&mut self, at: StoreName) -> Result<u64, KeepFail>
+        ensures answer { IfOk result (λ serial. serial ≡ additions (told_by self.old at).log) }
+        ensures small { IfOk result (λ serial. serial < SERIAL_LIMIT) }
+        ensures stays { Stays (told_by self.old) (told_by self.new) }
+        ensures plan { CallsAsPlanned (plan_of self.old) (plan_of self.new) result }
+    {
+        self.plan.begin_call()?;
+        Ok(log::additions_in(self.stores.log(at)))
+    }
+
+    /// Reads the log up to the entry, and takes no memory.
+    fn origin(&mut self, at: StoreName, origin: Origin) -> Result<Option<u64>, KeepFail>
+        ensures answer { IfOk result (StandsAt (told_by self.old at).log origin) }
+        ensures within { IfOk result (λ found. IfSome found IsPosition) }
+        ensures stays { Stays (told_by self.old) (told_by self.new) }
+        ensures plan { CallsAsPlanned (plan_of self.old) (plan_of self.new) result }
+    {
+        self.plan.begin_call()?;
+        Ok(log::position_of(self.stores.log(at), origin))
+    }
+
+    /// Reads no entry, and copies the one that is added.
+    fn commit(&mut self, at: StoreName, commit: &Commit) -> Result<(), KeepFail>
+        requires stamps { HaveSmallStamps commit.now.entry.touches }
+        requires room { length (told_by self.old at).log < MOST_ENTRIES }
+        requires follows { CanFollow (told_by self.old at).log commit.now.entry }
+        ensures changes { Changes result (told_by self.old) (told_by self.new) at (after_commit (told_by self.old at) commit.now.entry) }
+        ensures plan { CommitsAsPlanned (plan_of self.old) (plan_of self.new) result }
+    {
+        self.plan.begin_commit()?;
+        let entry = commit.entry.clone()?;
+        self.stores.add(at, entry)?;
+        Ok(())
+    }
+
+    fn calls(&self) -> u64 {
+        self.plan.calls()
+    }
+
+    fn faults(&self) -> u64 {
+        self.plan.faults()
+    }
+}

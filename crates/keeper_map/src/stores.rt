@@ -1,0 +1,92 @@
+//! The tables of all stores, in memory.
+ghost use Rattle.std.specs.Prelude.{◌≡◌, ◌<◌, ◌≤◌, All, IfOk, find, length, option_copied, position};
+ghost use Rattle.graph_model.specs.Soundness.{CanFollow, IsSound};
+ghost use Rattle.tao_base.specs.declared.id.StoreName.{StoreName as Store};
+ghost use Rattle.tao_keeper.specs.Given.{HaveSmallStamps};
+ghost use Rattle.keeper_map.specs.Store.{is_of, tables_of};
+ghost use Rattle.tao_keeper.specs.Table.{Changes, OpensAs, Stays, after_commit, after_open, empty_table};
+
+use super::store::StoreTable;
+use std::alloc::{AllocError, Global};
+use tao_base::{Entry, StoreName};
+use tao_keeper::{MOST_ENTRIES, Opened};
+
+/// The tables of the stores that something was written to.
+#[derive(Drop)]
+pub struct Stores {
+    alloc: Global,
+    tables: Vec<StoreTable>,
+}
+
+impl Stores {
+    pub fn new(alloc: Global) -> Stores
+        ensures { (name : Store) → tables_of result.tables.items name ≡ empty_table }
+    {
+        Stores {
+            alloc,
+            tables: Vec::new(alloc),
+        }
+    }
+
+    /// The log of a store.
+    pub fn log(&self, at: StoreName) -> &[Entry]
+        ensures log { result.now ≡ (tables_of self.now.tables.items at).log }
+        ensures sound { IsSound result.now }
+        ensures few { length result.now ≤ MOST_ENTRIES }
+        ensures stamps { All (λ entry. HaveSmallStamps entry.touches) result.now }
+    {
+        match self.table(at) {
+            Some(table) => table.log(),
+            None => &[],
+        }
+    }
+
+    fn table(&self, at: StoreName) -> Option<&StoreTable>
+        ensures { option_copied result ≡ find (is_of at) self.now.tables.items }
+    {
+        self.tables.iter().find(|table| table.name == at)
+    }
+
+    fn place_of(&self, at: StoreName) -> Option<usize>
+        ensures { result ≡ position (is_of at) self.now.tables.items }
+    {
+        self.tables.iter().position(|table| table.name == at)
+    }
+
+    /// The place of a store's table. A store that has none gets an empty one.
+    fn make_place(&mut self, at: StoreName) -> Result<usize, AllocError>
+        ensures stays { Stays (tables_of self.old.tables.items) (tables_of self.new.tables.items) }
+        ensures place { IfOk result (λ place. position (is_of at) self.new.tables.items ≡ Some place) }
+    {
+        match self.place_of(at) {
+            Some(place) => Ok(place),
+            None => {
+                let place = self.tables.len();
+                self.tables.push(StoreTable::new(self.alloc, at))?;
+                Ok(place)
+            }
+        }
+    }
+
+    /// Opens a store with a line.
+    pub fn open(&mut self, at: StoreName, line: &[u8]) -> Result<Opened, AllocError>
+        ensures answer { IfOk result (λ opened. OpensAs opened (tables_of self.old.tables.items at) line.now) }
+        ensures changes { Changes result (tables_of self.old.tables.items) (tables_of self.new.tables.items) at
+            (after_open (tables_of self.old.tables.items at) line.now) }
+    {
+        let place = self.make_place(at)?;
+        self.tables[place].open(self.alloc, line)
+    }
+
+    /// Adds an entry at the end of a store's log.
+    pub fn add(&mut self, at: StoreName, entry: Entry) -> Result<(), AllocError>
+        requires stamps { HaveSmallStamps entry.touches }
+        requires room { length (tables_of self.old.tables.items at).log < MOST_ENTRIES }
+        requires follows { CanFollow (tables_of self.old.tables.items at).log entry }
+        ensures { Changes result (tables_of self.old.tables.items) (tables_of self.new.tables.items) at
+            (after_commit (tables_of self.old.tables.items at) entry) }
+    {
+        let place = self.make_place(at)?;
+        self.tables[place].add(entry)
+    }
+}

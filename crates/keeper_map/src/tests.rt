@@ -1,0 +1,287 @@
+ghost use Rattle.std.specs.Prelude.{◌≡◌, ◌∷◌, [], IfOk};
+ghost use Rattle.tao_base.specs.Ids.{shard_of};
+ghost use Rattle.graph_model.specs.Soundness.{CanFollow};
+ghost use Rattle.graph_model.specs.WriteLaws.{plain_add};
+ghost use Rattle.tao_keeper.specs.Given.{HaveSmallStamps};
+
+use crate::{Fails, MapKeeper, log};
+use std::alloc::{AllocError, Global};
+use std::test::Fail;
+use tao_base::{
+    AType, Change, Data, Edge, Entry, Id, Key, Kind, OType, Object, Origin, Stamp, StoreName, Time,
+    Touch, Touches,
+};
+use tao_keeper::{Commit, KeepFail, Keeper, Opened};
+
+const STORE: StoreName = StoreName {
+    region: 0,
+    shard: 0,
+};
+
+const OTHER_STORE: StoreName = StoreName {
+    region: 1,
+    shard: 0,
+};
+
+const LIKES: AType = AType(0);
+
+fn id(number: u64) -> Result<Id, &'static str> {
+    Id::read(number).ok_or("an id")
+}
+
+/// An entry of session 1 with one change. Its number there and the version of its key are its position.
+fn entry(
+    alloc: Global,
+    position: u64,
+    kind: Kind,
+    key: Key,
+    change: Change,
+) -> Result<Entry, AllocError>
+    ensures { IfOk result (λ entry. entry ≡ record {
+      position = position;
+      kind = kind;
+      origin = Origin.Client 1 position;
+      touches = record { key = key; change = change; version = position } ∷ [];
+    }) }
+{
+    let touch = Touch {
+        key,
+        change,
+        version: position,
+    };
+    Ok(Entry {
+        position,
+        kind,
+        origin: Origin::Client {
+            session: 1,
+            seq: position,
+        },
+        touches: Touches::of(vec![in alloc; touch]?),
+    })
+}
+
+fn stamp(id1: Id) -> Stamp
+    ensures { result ≡ record { number = 1; shard = shard_of id1 } }
+{
+    Stamp {
+        number: 1,
+        shard: id1.shard(),
+    }
+}
+
+/// The first entry of a log, which sets an edge.
+fn set_edge(alloc: Global, id1: Id, id2: Id, time: Time) -> Result<Entry, AllocError>
+    ensures { IfOk result (λ entry. entry ≡ plain_add [] (Origin.Client 1 1) id1 LIKES id2 time []) }
+{
+    let edge = Edge {
+        id2,
+        time,
+        payload: Data::empty(alloc),
+        stamp: stamp(id1),
+    };
+    let change = Change::SetEdge { edge, was: None };
+    entry(alloc, 1, Kind::AssocAdd, Key::List(id1, LIKES), change)
+}
+
+#[test]
+fn a_store_keeps_its_first_line(rt: HostRuntime) -> Result<(), Fail> {
+    let alloc = rt.alloc();
+    let mut keeper = MapKeeper::make(
+        alloc,
+        Fails {
+            calls: vec![in alloc; 2]?,
+            commits: vec![in alloc]?,
+        },
+    );
+    assert_eq!(rt; keeper.open(STORE, b"one"), Ok(Opened::Ready));
+    assert_eq!(rt; keeper.open(STORE, b"two"), Err(KeepFail::Failed));
+    assert_eq!(rt; keeper.open(STORE, b"two"), Ok(Opened::OtherLine));
+    assert_eq!(rt; keeper.open(STORE, b"one"), Ok(Opened::Ready));
+    assert_eq!(rt; keeper.open(OTHER_STORE, b"two"), Ok(Opened::Ready));
+    assert_eq!(rt; (keeper.calls(), keeper.faults()), (5, 1));
+    Ok(())
+}
+
+#[test]
+fn a_commit_that_failed_is_made_again(rt: HostRuntime) -> Result<(), Fail> {
+    let alloc = rt.alloc();
+    let mut keeper = MapKeeper::make(
+        alloc,
+        Fails {
+            calls: vec![in alloc]?,
+            commits: vec![in alloc; 1]?,
+        },
+    );
+    let (one, two) = (id(1)?, id(2)?);
+    let commit = Commit {
+        entry: set_edge(alloc, one, two, 5)?,
+    };
+    let Err(KeepFail::Failed) = keeper.commit(STORE, &commit) else {
+        return Err("the first commit fails")?;
+    };
+    assert_eq!(rt; keeper.length(STORE), Ok(0));
+    assert_eq!(rt; keeper.commit(STORE, &commit), Ok(()));
+    assert_eq!(rt; keeper.length(STORE), Ok(1));
+    assert_eq!(rt; keeper.length(OTHER_STORE), Ok(0));
+    assert_eq!(rt; keeper.version(STORE, Key::List(one, LIKES)), Ok(1));
+    assert_eq!(rt; keeper.version(STORE, Key::List(two, LIKES)), Ok(0));
+    assert_eq!(rt; keeper.origin(STORE, commit.entry.origin), Ok(Some(1)));
+    assert_eq!(rt;
+        keeper.origin(STORE, Origin::Client { session: 1, seq: 2 }),
+        Ok(None)
+    );
+    assert!(rt; keeper.edge(STORE, one, LIKES, two)?.is_some());
+    assert!(rt; keeper.edge(STORE, two, LIKES, one)?.is_none());
+    assert_eq!(rt; (keeper.calls(), keeper.faults()), (11, 1));
+    Ok(())
+}
+
+/// The change that puts an object with this many pairs, of which there is one at most.
+fn put(alloc: Global, pairs: usize) -> Result<Change, Fail> {
+    let mut payload = Vec::new(alloc);
+    if pairs == 1 {
+        payload.push((
+            String::from_str(alloc, "name")?,
+            String::from_str(alloc, "Ada")?,
+        ))?;
+    }
+    Ok(Change::PutObject(Object {
+        otype: OType(0),
+        payload: Data::of_pairs(alloc, payload)?,
+    }))
+}
+
+/// How many pairs the object 1 has, its version, and the last serial.
+fn object_in(alloc: Global, entries: &[Entry]) -> Result<(Option<usize>, u64, u64), Fail> {
+    let object = log::object_of(alloc, entries, id(1)?)?;
+    Ok((
+        object.map(|object| object.payload.pairs().len()),
+        log::version_of(entries, &Key::Obj(id(1)?)),
+        log::additions_in(entries),
+    ))
+}
+
+#[test]
+fn an_object_is_what_was_put_last_until_it_is_dropped(rt: HostRuntime) -> Result<(), Fail> {
+    let alloc = rt.alloc();
+    let key = Key::Obj(id(1)?);
+    let mut entries = Vec::new(alloc);
+    assert_eq!(rt; object_in(alloc, &entries)?, (None, 0, 0));
+    entries.push(entry(alloc, 1, Kind::ObjAdd, key, put(alloc, 0)?)?)?;
+    assert_eq!(rt; object_in(alloc, &entries)?, (Some(0), 1, 1));
+    entries.push(entry(alloc, 2, Kind::ObjUpdate, key, put(alloc, 1)?)?)?;
+    assert_eq!(rt; object_in(alloc, &entries)?, (Some(1), 2, 1));
+    entries.push(entry(alloc, 3, Kind::ObjDelete, key, Change::DropObject)?)?;
+    assert_eq!(rt; object_in(alloc, &entries)?, (None, 3, 1));
+    for (position, found) in [
+        (0, None),
+        (1, Some(1)),
+        (3, Some(3)),
+        (4, None),
+        (u64::MAX, None),
+    ] {
+        let entry = log::entry_of(&entries, position)?;
+        assert_eq!(rt; entry.map(|entry| entry.position), found);
+    }
+    Ok(())
+}
+
+#[test]
+fn a_cut_edge_counts_no_more(rt: HostRuntime) -> Result<(), Fail> {
+    let alloc = rt.alloc();
+    let (one, two, three) = (id(1)?, id(2)?, id(3)?);
+    let mut entries = Vec::new(alloc);
+    for (id2, count) in [(two, 1), (three, 2), (two, 2)] {
+        entries.push(set_edge(alloc, one, id2, 5)?)?;
+        assert_eq!(rt; log::count_of(alloc, &entries, one, LIKES)?, count);
+    }
+    let cut = Change::CutEdge {
+        id2: two,
+        stamp: stamp(one),
+        was: Some(5),
+    };
+    let key = Key::List(one, LIKES);
+    entries.push(entry(alloc, 4, Kind::AssocDelete, key, cut)?)?;
+    assert_eq!(rt; log::count_of(alloc, &entries, one, LIKES)?, 1);
+    Ok(())
+}
+
+/// The first entry of a log, which adds an object.
+fn new_object(alloc: Global, id: Id) -> Result<Commit, AllocError>
+    ensures follows { IfOk result (λ commit. CanFollow [] commit.entry) }
+    ensures stamps { IfOk result (λ commit. HaveSmallStamps commit.entry.touches) }
+{
+    let object = Object {
+        otype: OType(0),
+        payload: Data::empty(alloc),
+    };
+    let entry = entry(
+        alloc,
+        1,
+        Kind::ObjAdd,
+        Key::Obj(id),
+        Change::PutObject(object),
+    )?;
+    Ok(Commit { entry })
+}
+
+#[test]
+fn a_call_that_failed_is_made_again(rt: HostRuntime) -> Result<(), Fail> {
+    let alloc = rt.alloc();
+    let mut keeper = MapKeeper::make(
+        alloc,
+        Fails {
+            calls: vec![in alloc; 2, 4, 6, 8]?,
+            commits: vec![in alloc]?,
+        },
+    );
+    let one = id(1)?;
+    keeper.commit(STORE, &new_object(alloc, one)?)?;
+    let Err(KeepFail::Failed) = keeper.object(STORE, one) else {
+        return Err("the second call fails")?;
+    };
+    assert!(rt; keeper.object(STORE, one)?.is_some());
+    assert_eq!(rt; keeper.count(STORE, one, LIKES), Err(KeepFail::Failed));
+    assert_eq!(rt; keeper.count(STORE, one, LIKES), Ok(0));
+    let Err(KeepFail::Failed) = keeper.entry(STORE, 1) else {
+        return Err("the sixth call fails")?;
+    };
+    assert!(rt; keeper.entry(STORE, 1)?.is_some());
+    assert_eq!(rt; keeper.last_serial(STORE), Err(KeepFail::Failed));
+    assert_eq!(rt; keeper.last_serial(STORE), Ok(1));
+    assert_eq!(rt; (keeper.calls(), keeper.faults()), (9, 4));
+    Ok(())
+}
+
+/// The ids of the edges at some places of a list into which edges with the ids and times were set one after another.
+fn ids_at(alloc: Global, edges: &[(u64, Time)], pos: u64, most: u64) -> Result<Vec<u64>, Fail> {
+    let mut entries = Vec::new(alloc);
+    for (id2, time) in edges {
+        entries.push(set_edge(alloc, id(1)?, id(*id2)?, *time)?)?;
+    }
+    let found = log::edges_of(alloc, &entries, id(1)?, LIKES, pos, most)?;
+    Ok(
+        found
+            .as_slice()
+            .iter()
+            .map(|edge| edge.id2.number())
+            .collect(alloc)?,
+    )
+}
+
+#[test]
+fn edges_stand_newest_first_and_once(rt: HostRuntime) -> Result<(), Fail> {
+    let alloc = rt.alloc();
+    let edges = [(3, 7), (9, 7), (5, 7), (2, 9), (9, 8)];
+    for (pos, most, ids) in [
+        (0, 9, [2, 9, 5, 3].as_slice()),
+        (1, 2, [9, 5].as_slice()),
+        (3, 2, [3].as_slice()),
+        (4, 1, [].as_slice()),
+        (u64::MAX, u64::MAX, [].as_slice()),
+    ] {
+        let found = ids_at(alloc, &edges, pos, most)?;
+        assert_eq!(rt; found.as_slice(), ids, "{most} at {pos}");
+    }
+    Ok(())
+}

@@ -26,11 +26,25 @@ number_at name least most d = do
 abbrev pub number_or : List ℕ → ℕ → ℕ → ℕ → Data → Option ℕ
 number_or name default least most d = if is_some (get name d) then number_at name least most d else Some default
 
+-- a whole number from the least to the most that may be missing
+abbrev pub maybe_number_at : List ℕ → ℕ → ℕ → Data → Option (Option ℕ)
+maybe_number_at name least most d = if is_some (get name d) then option_map Some (number_at name least most d) else Some None
+
+-- the id that a value is: a whole number whose serial isn't 0
+abbrev pub id_of : Data → Option ℕ
+id_of d = do
+  n ← option_and_then as_u64 (as_number d)
+  then_some (not (serial_of n == 0)) n
+
 -- an id: a number whose serial isn't 0
 abbrev pub id_at : List ℕ → Data → Option ℕ
 id_at name d = do
   n ← whole_at name d
   then_some (not (serial_of n == 0)) n
+
+-- an id that may be missing
+abbrev pub maybe_id_at : List ℕ → Data → Option (Option ℕ)
+maybe_id_at name d = if is_some (get name d) then option_map Some (id_at name d) else Some None
 
 -- a text
 abbrev pub text_at : List ℕ → Data → Option (List ℕ)
@@ -93,6 +107,12 @@ first_strange names (member key d ms) = if list_any (λ name. bytes_eq name key)
 -- the same, of an object
 abbrev pub strange_at : List (List ℕ) → Data → Option (List ℕ)
 strange_at names d = option_and_then (first_strange names) (as_object d)
+
+-- an object
+abbrev pub object_at : List ℕ → Data → Option Data
+object_at name d = do
+  inner ← get name d
+  then_some (is_some (as_object inner)) inner
 
 -- the items of an array
 abbrev pub items_at : List ℕ → Data → Option Items

@@ -4,7 +4,7 @@ ghost use Rattle.std.specs.Prelude.{◌≡◌, ◌-◌, ◌^◌, option_map, map
 ghost use Rattle.std.specs.List.{list_any};
 ghost use Rattle.serde_json.specs.View.{view, members_view, items_view};
 ghost use Rattle.serde_json.specs.Find.{as_str};
-ghost use Rattle.json_fields.specs.Fields.{is_text, number_at, number_or, id_at, text_at, maybe_text_at, flag_at, are_texts, texts_at, has_none, are_named, has_only, strange_at, first_strange, items_at, only_item, only_at, name_of, name_at};
+ghost use Rattle.json_fields.specs.Fields.{is_text, number_at, maybe_number_at, number_or, id_of, id_at, maybe_id_at, text_at, maybe_text_at, flag_at, are_texts, texts_at, has_none, are_named, has_only, strange_at, first_strange, items_at, object_at, only_item, only_at, name_of, name_at};
 
 use serde_json::{Map, Value};
 use tao_base::{Id, is_name};
@@ -53,11 +53,48 @@ pub fn short_or(value: &Value, name: &str, default: u16, least: u16, most: u16) 
     }
 }
 
+/// A whole number from `least` to `most` that may be missing.
+pub fn maybe_number_at(value: &Value, name: &str, least: u64, most: u64) -> Option<Option<u64>>
+    ensures { result ≡ maybe_number_at name.now least most (view value.now) }
+{
+    match value.get(name) {
+        None => Some(None),
+        Some(_) => number_at(value, name, least, most).map(Some),
+    }
+}
+
+/// A whole number of 32 bits, at least `least`, that may be missing.
+pub fn maybe_small_at(value: &Value, name: &str, least: u32) -> Option<Option<u32>>
+    ensures { result ≡ maybe_number_at name.now least (2 ^ 32 - 1) (view value.now) }
+{
+    match value.get(name) {
+        None => Some(None),
+        Some(_) => small_at(value, name, least).map(Some),
+    }
+}
+
+/// The id that a value is: a whole number whose serial isn't 0.
+pub fn id_of(value: &Value) -> Option<Id>
+    ensures { result ≡ id_of (view value.now) }
+{
+    Id::read(value.as_u64()?)
+}
+
 /// An id, whose serial isn't 0.
 pub fn id_at(value: &Value, name: &str) -> Option<Id>
     ensures { result ≡ id_at name.now (view value.now) }
 {
     Id::read(value.get(name)?.as_u64()?)
+}
+
+/// An id that may be missing.
+pub fn maybe_id_at(value: &Value, name: &str) -> Option<Option<Id>>
+    ensures { result ≡ maybe_id_at name.now (view value.now) }
+{
+    match value.get(name) {
+        None => Some(None),
+        Some(_) => id_at(value, name).map(Some),
+    }
 }
 
 /// A text.
@@ -164,6 +201,14 @@ fn is_among(names: &[&str], key: &str) -> bool
     false
 }
 
+/// An object.
+pub fn object_at<'v>(value: &'v Value, name: &str) -> Option<&'v Value>
+    ensures { option_map (λ v. view v.now) result ≡ object_at name.now (view value.now) }
+{
+    let inner = value.get(name)?;
+    inner.is_object().then_some(inner)
+}
+
 /// The items of an array.
 pub fn items_at<'v>(value: &'v Value, name: &str) -> Option<&'v [Value]>
     ensures { option_map (λ v. items_view v.now) result ≡ items_at name.now (view value.now) }
@@ -220,6 +265,10 @@ mod tests {
         assert_eq!(rt; maybe_text_at(&value, "z"), Some(Some("text")));
         assert_eq!(rt; maybe_text_at(&value, "Z"), None);
         assert_eq!(rt; maybe_text_at(&value, "a"), Some(None));
+        assert_eq!(rt; maybe_small_at(&value, "m", 65538), None);
+        assert_eq!(rt; maybe_number_at(&value, "a", 1, 2), Some(None));
+        assert_eq!(rt; maybe_id_at(&value, "b").is_some(), true);
+        assert_eq!(rt; object_at(&value, "b").is_none(), true);
         Ok(())
     }
 }

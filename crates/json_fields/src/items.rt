@@ -1,28 +1,71 @@
 //! The items of an array, each read in the same way.
 ghost use Rattle.std.specs.Prelude.{◌≡◌, Option, IfOk, option_map};
 ghost use Rattle.serde_json.specs.Data.{Data};
+ghost use Rattle.serde_json.specs.Find.{as_str};
 ghost use Rattle.serde_json.specs.View.{view, items_view};
-ghost use Rattle.json_fields.specs.Items.{each};
+ghost use Rattle.json_fields.specs.Fields.{id_of};
+ghost use Rattle.json_fields.specs.Items.{each, each_at};
 
+use crate::fields::{id_of, items_at};
 use serde_json::Value;
 use std::alloc::{AllocError, Global};
+use tao_base::{Id, Text};
 
-/// What is read from a JSON value.
-pub trait FromJson: Drop {
-    ghost said: { Data → Option Self };
+/// How values of a type are read from JSON. A type of the reader's own stands for it, since the values
+/// are mostly of other crates' types.
+pub trait Reader<T> {
+    ghost said: { Data → Option T };
 
     /// What the value says: nothing where it is of another kind or breaks a rule.
-    fn from_json(alloc: Global, value: &Value) -> Result<Option<Self>, AllocError>
+    fn read(alloc: Global, value: &Value) -> Result<Option<T>, AllocError>
         ensures { IfOk result (λ read. read ≡ said (view value.now)) };
 }
 
-/// What the items say: nothing where one of them says nothing.
-pub fn each<T: FromJson>(alloc: Global, items: &[Value]) -> Result<Option<Vec<T>>, AllocError>
-    ensures { IfOk result (λ read. option_map (λ v. v.items) read ≡ each T.said (items_view items.now)) }
+/// Reads ids.
+pub struct IdReader;
+
+impl Reader<Id> for IdReader {
+    ghost said = { id_of };
+
+    fn read(_alloc: Global, value: &Value) -> Result<Option<Id>, AllocError> {
+        Ok(id_of(value))
+    }
+}
+
+/// Reads texts, and copies them.
+pub struct TextReader;
+
+impl Reader<Text> for TextReader {
+    ghost said = { as_str };
+
+    fn read(alloc: Global, value: &Value) -> Result<Option<Text>, AllocError> {
+        match value.as_str() {
+            Some(text) => Ok(Some(Text::copy_of(alloc, text)?)),
+            None => Ok(None),
+        }
+    }
+}
+
+/// What the items of an array say: nothing where it is no array or one of them says nothing.
+pub fn each_at<T: Drop, R: Reader<T>>(
+    alloc: Global,
+    value: &Value,
+    name: &str,
+) -> Result<Option<Vec<T>>, AllocError>
+    ensures { IfOk result (λ read. option_map (λ v. v.items) read ≡ each_at R.said name.now (view value.now)) }
+{
+    match items_at(value, name) {
+        Some(items) => each::<T, R>(alloc, items),
+        None => Ok(None),
+    }
+}
+
+fn each<T: Drop, R: Reader<T>>(alloc: Global, items: &[Value]) -> Result<Option<Vec<T>>, AllocError>
+    ensures { IfOk result (λ read. option_map (λ v. v.items) read ≡ each R.said (items_view items.now)) }
 {
     let mut read = Vec::new(alloc);
     for item in items {
-        match T::from_json(alloc, item)? {
+        match R::read(alloc, item)? {
             Some(one) => read.push(one)?,
             None => return Ok(None),
         }

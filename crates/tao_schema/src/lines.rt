@@ -50,7 +50,7 @@ impl Lines {
     ghost use Rattle.tao_schema.specs.Rules.{broken_from};
 
     /// A copy of these lines.
-    pub fn copy_of(alloc: Global, lines: &[AssocLine]) -> Result<Lines, AllocError>
+    pub(crate) fn copy_of(alloc: Global, lines: &[AssocLine]) -> Result<Lines, AllocError>
         requires { length lines.now ≤ 2 ^ 16 }
         ensures { IfOk result (λ copy. copy ≡ lines.now) }
     {

@@ -1,6 +1,6 @@
 -- The follower tiers of a region.
-use Rattle.std.specs.Prelude.{ℕ, Bool, not, ◌&&◌, ◌||◌, List, length, map, bytes_eq, codes}
-use Rattle.std.specs.List.{list_all}
+use Rattle.std.specs.Prelude.{ℕ, Bool, not, ◌&&◌, ◌||◌, List, length, map, bytes_eq, codes, Option}
+use Rattle.std.specs.List.{list_all, position_from}
 use Rattle.topology.specs.Named.{are_different, in_range}
 use Rattle.topology.specs.declared.tiers.Tier.{Tier}
 
@@ -13,3 +13,7 @@ is_tier tier = not (is_reserved tier.name) && in_range 1 4 tier.followers
 
 abbrev pub are_tiers : List Tier → Bool
 are_tiers tiers = in_range 1 4 (length tiers) && list_all is_tier tiers && are_different (map (λ tier. tier.name) tiers)
+
+-- the first place, from 0, of a tier of that name
+abbrev pub tier_at : List Tier → List ℕ → Option ℕ
+tier_at tiers name = position_from (λ tier. bytes_eq name tier.name) 0 tiers

@@ -6,9 +6,11 @@
 #![tactic(auto)]
 
 pub mod config;
+pub mod lookup;
 pub mod masters;
 pub mod name;
 mod named;
+pub mod nodes;
 pub mod regions;
 pub mod tiers;
 

@@ -52,7 +52,7 @@ impl Model for Regions {
 impl Regions {
     ghost use Rattle.std.specs.Prelude.{IsTrue};
     ghost use Rattle.std.specs.Bool.{then_some};
-    ghost use Rattle.topology.specs.Regions.{are_regions};
+    ghost use Rattle.topology.specs.Regions.{are_regions, region_at};
 
     /// The regions of a vector, unless they break a rule. Takes no memory.
     pub fn of(regions: Vec<Region>) -> Option<Regions>
@@ -70,6 +70,18 @@ impl Regions {
         ensures rules { IsTrue (are_regions self.now) }
     {
         self.regions.as_slice()
+    }
+
+    /// The place of the region of a name. Compares the name with each.
+    pub fn find(&self, name: &str) -> Option<u16>
+        ensures { result ≡ region_at self.now name.now }
+    {
+        for (place, region) in self.regions.iter().enumerate() {
+            if name == region.name.as_str() {
+                return Some(place as u16);
+            }
+        }
+        None
     }
 
     /// The vector given back. Takes no memory.

@@ -80,6 +80,11 @@ fn lists_that_keep_the_rules_are_taken(rt: HostRuntime) -> Result<(), Fail> {
     for (text, taken) in REGIONS {
         assert_eq!(rt; regions(rt.alloc(), text)?.is_some(), taken, "of {text}");
     }
+    let two = regions(rt.alloc(), "a 1,b 1")?.ok_or("refused")?;
+    assert_eq!(rt;
+        ["a", "b", "c"].map(|name| two.find(name)),
+        [Some(0), Some(1), None]
+    );
     for (count, taken) in [(0, false), (64, true), (65, false)] {
         let places = vec![in rt.alloc(); 0; count]?;
         assert_eq!(rt; Masters::of(places).is_some(), taken, "of {count}");

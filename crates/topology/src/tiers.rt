@@ -50,7 +50,7 @@ impl Model for Tiers {
 impl Tiers {
     ghost use Rattle.std.specs.Prelude.{IsTrue};
     ghost use Rattle.std.specs.Bool.{then_some};
-    ghost use Rattle.topology.specs.Tiers.{are_tiers};
+    ghost use Rattle.topology.specs.Tiers.{are_tiers, tier_at};
 
     /// The tiers of a vector, unless they break a rule. Takes no memory.
     pub fn of(tiers: Vec<Tier>) -> Option<Tiers>
@@ -68,6 +68,18 @@ impl Tiers {
         ensures rules { IsTrue (are_tiers self.now) }
     {
         self.tiers.as_slice()
+    }
+
+    /// The place of the tier of a name. Compares the name with each.
+    pub fn find(&self, name: &str) -> Option<u16>
+        ensures { result ≡ tier_at self.now name.now }
+    {
+        for (place, tier) in self.tiers.iter().enumerate() {
+            if name == tier.name.as_str() {
+                return Some(place as u16);
+            }
+        }
+        None
     }
 
     /// The vector given back. Takes no memory.

@@ -1,0 +1,5 @@
+pub mod Config
+pub mod Object
+pub mod Regions
+pub mod Stage
+pub mod Types

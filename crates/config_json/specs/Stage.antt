@@ -1,0 +1,20 @@
+-- What is refused only until it is built.
+use Rattle.std.specs.Prelude.{Bool, List, length, nat_le, is_none, ◌&&◌}
+use Rattle.std.specs.List.{list_all}
+use Rattle.tao_schema.specs.declared.lines.AssocLine.{AssocLine}
+use Rattle.topology.specs.declared.regions.Region.{Region}
+
+-- a region has one tier at most
+abbrev pub has_built_tiers : Region → Bool
+has_built_tiers region = nat_le (length region.tiers) 1
+
+-- there is one region at most, with one tier at most
+abbrev pub are_built : List Region → Bool
+are_built regions = nat_le (length regions) 1 && list_all has_built_tiers regions
+
+abbrev pub has_no_inverse : AssocLine → Bool
+has_no_inverse assoc = is_none assoc.inverse
+
+-- no association type has an inverse
+abbrev pub have_no_inverse : List AssocLine → Bool
+have_no_inverse assocs = list_all has_no_inverse assocs

@@ -1,0 +1,2 @@
+pub mod SetOfIds
+pub mod Pairs

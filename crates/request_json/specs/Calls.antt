@@ -1,0 +1,143 @@
+-- The calls on objects and associations: the fields of each, in their order.
+use Rattle.std.specs.Prelude.{ℕ, ◌^◌, ◌-◌, [], ◌∷◌, codes, Result, Ok}
+use Rattle.serde_json.specs.Data.{Data}
+use Rattle.request_json.specs.declared.refusal.LineRefusal.{LineRefusal}
+use Rattle.request_json.specs.declared.request.WriteText.TheVariants as write
+use Rattle.request_json.specs.declared.request.QueryText.TheVariants as query
+use Rattle.request_json.specs.declared.request.WriteCall.{WriteCall}
+use Rattle.request_json.specs.declared.request.ReadCall.{ReadCall}
+use Rattle.request_json.specs.declared.word.WriteWord.{WriteWord}
+use Rattle.request_json.specs.declared.word.WriteWord.TheVariants.{ObjAdd, ObjUpdate, ObjDelete, AssocAdd, AssocDelete, AssocChangeType}
+use Rattle.request_json.specs.declared.word.ReadWord.{ReadWord}
+use Rattle.request_json.specs.declared.word.ReadWord.TheVariants.{ObjGet, AssocGet, AssocCount, AssocRange, AssocTimeRange}
+use Rattle.request_json.specs.Fields.{number_field, maybe_number_field, id_field, ids_field, text_field, flag_field, only_fields, data_last, list_fields, edge_fields}
+use Rattle.request_json.specs.Refusal.{◌>>=◌}
+
+-- a session has a number from 1, and so has each of its writes
+abbrev pub session_field : Data → Result ℕ LineRefusal
+session_field d = number_field (codes "session") 1 (2 ^ 32 - 1) d
+
+abbrev pub seq_field : Data → Result ℕ LineRefusal
+seq_field d = number_field (codes "seq") 1 (2 ^ 64 - 1) d
+
+-- and a list is asked for at least one edge
+abbrev pub limit_field : Data → Result ℕ LineRefusal
+limit_field d = number_field (codes "limit") 1 (2 ^ 32 - 1) d
+
+-- ---- writes
+
+abbrev pub obj_add_of : Data → Result WriteCall LineRefusal
+obj_add_of d = do
+  session ← session_field d
+  seq ← seq_field d
+  shard ← number_field (codes "shard") 0 (2 ^ 16 - 1) d
+  otype ← text_field (codes "otype") d
+  payload ← data_last (codes "do" ∷ codes "session" ∷ codes "seq" ∷ codes "shard" ∷ codes "otype" ∷ codes "data" ∷ []) d
+  Ok (record { session = session; seq = seq; write = write.ObjAdd shard otype payload })
+
+abbrev pub obj_update_of : Data → Result WriteCall LineRefusal
+obj_update_of d = do
+  session ← session_field d
+  seq ← seq_field d
+  id ← id_field (codes "id") d
+  payload ← data_last (codes "do" ∷ codes "session" ∷ codes "seq" ∷ codes "id" ∷ codes "data" ∷ []) d
+  Ok (record { session = session; seq = seq; write = write.ObjUpdate id payload })
+
+abbrev pub obj_delete_of : Data → Result WriteCall LineRefusal
+obj_delete_of d = do
+  session ← session_field d
+  seq ← seq_field d
+  id ← id_field (codes "id") d
+  known ← only_fields (codes "do" ∷ codes "session" ∷ codes "seq" ∷ codes "id" ∷ []) d
+  Ok (record { session = session; seq = seq; write = write.ObjDelete id })
+
+abbrev pub assoc_add_of : Data → Result WriteCall LineRefusal
+assoc_add_of d = do
+  session ← session_field d
+  seq ← seq_field d
+  edge ← edge_fields d
+  time ← number_field (codes "time") 0 (2 ^ 32 - 1) d
+  payload ← data_last (codes "do" ∷ codes "session" ∷ codes "seq" ∷ codes "id1" ∷ codes "atype" ∷ codes "id2" ∷ codes "time" ∷ codes "data" ∷ []) d
+  Ok (record { session = session; seq = seq; write = write.AssocAdd edge time payload })
+
+abbrev pub assoc_delete_of : Data → Result WriteCall LineRefusal
+assoc_delete_of d = do
+  session ← session_field d
+  seq ← seq_field d
+  edge ← edge_fields d
+  known ← only_fields (codes "do" ∷ codes "session" ∷ codes "seq" ∷ codes "id1" ∷ codes "atype" ∷ codes "id2" ∷ []) d
+  Ok (record { session = session; seq = seq; write = write.AssocDelete edge })
+
+abbrev pub assoc_change_type_of : Data → Result WriteCall LineRefusal
+assoc_change_type_of d = do
+  session ← session_field d
+  seq ← seq_field d
+  edge ← edge_fields d
+  newtype ← text_field (codes "newtype") d
+  known ← only_fields (codes "do" ∷ codes "session" ∷ codes "seq" ∷ codes "id1" ∷ codes "atype" ∷ codes "id2" ∷ codes "newtype" ∷ []) d
+  Ok (record { session = session; seq = seq; write = write.AssocChangeType edge newtype })
+
+abbrev pub write_of : WriteWord → Data → Result WriteCall LineRefusal
+write_of ObjAdd d = obj_add_of d
+write_of ObjUpdate d = obj_update_of d
+write_of ObjDelete d = obj_delete_of d
+write_of AssocAdd d = assoc_add_of d
+write_of AssocDelete d = assoc_delete_of d
+write_of AssocChangeType d = assoc_change_type_of d
+
+-- ---- reads
+
+abbrev pub obj_get_of : Data → Result ReadCall LineRefusal
+obj_get_of d = do
+  session ← session_field d
+  id ← id_field (codes "id") d
+  critical ← flag_field (codes "critical") d
+  known ← only_fields (codes "do" ∷ codes "session" ∷ codes "id" ∷ codes "critical" ∷ []) d
+  Ok (record { session = session; query = query.ObjGet id; critical = critical })
+
+abbrev pub assoc_get_of : Data → Result ReadCall LineRefusal
+assoc_get_of d = do
+  session ← session_field d
+  list ← list_fields d
+  ids ← ids_field (codes "ids") d
+  high ← maybe_number_field (codes "high") 0 (2 ^ 32 - 1) d
+  low ← maybe_number_field (codes "low") 0 (2 ^ 32 - 1) d
+  critical ← flag_field (codes "critical") d
+  known ← only_fields (codes "do" ∷ codes "session" ∷ codes "id1" ∷ codes "atype" ∷ codes "ids" ∷ codes "high" ∷ codes "low" ∷ codes "critical" ∷ []) d
+  Ok (record { session = session; query = query.AssocGet list ids high low; critical = critical })
+
+abbrev pub assoc_count_of : Data → Result ReadCall LineRefusal
+assoc_count_of d = do
+  session ← session_field d
+  list ← list_fields d
+  critical ← flag_field (codes "critical") d
+  known ← only_fields (codes "do" ∷ codes "session" ∷ codes "id1" ∷ codes "atype" ∷ codes "critical" ∷ []) d
+  Ok (record { session = session; query = query.AssocCount list; critical = critical })
+
+abbrev pub assoc_range_of : Data → Result ReadCall LineRefusal
+assoc_range_of d = do
+  session ← session_field d
+  list ← list_fields d
+  pos ← number_field (codes "pos") 0 (2 ^ 32 - 1) d
+  limit ← limit_field d
+  critical ← flag_field (codes "critical") d
+  known ← only_fields (codes "do" ∷ codes "session" ∷ codes "id1" ∷ codes "atype" ∷ codes "pos" ∷ codes "limit" ∷ codes "critical" ∷ []) d
+  Ok (record { session = session; query = query.AssocRange list pos limit; critical = critical })
+
+abbrev pub assoc_time_range_of : Data → Result ReadCall LineRefusal
+assoc_time_range_of d = do
+  session ← session_field d
+  list ← list_fields d
+  high ← number_field (codes "high") 0 (2 ^ 32 - 1) d
+  low ← number_field (codes "low") 0 (2 ^ 32 - 1) d
+  limit ← limit_field d
+  critical ← flag_field (codes "critical") d
+  known ← only_fields (codes "do" ∷ codes "session" ∷ codes "id1" ∷ codes "atype" ∷ codes "high" ∷ codes "low" ∷ codes "limit" ∷ codes "critical" ∷ []) d
+  Ok (record { session = session; query = query.AssocTimeRange list high low limit; critical = critical })
+
+abbrev pub read_of : ReadWord → Data → Result ReadCall LineRefusal
+read_of ObjGet d = obj_get_of d
+read_of AssocGet d = assoc_get_of d
+read_of AssocCount d = assoc_count_of d
+read_of AssocRange d = assoc_range_of d
+read_of AssocTimeRange d = assoc_time_range_of d

@@ -1,0 +1,51 @@
+-- Objects, edges, answers and nodes.
+use Rattle.std.specs.Prelude.{ℕ, List, [], ◌∷◌, map, Option, Some, None, unwrap_or, slice_get, codes}
+use Rattle.serde_json.specs.Data.{Data, null, array}
+use Rattle.serde_json.specs.View.{items_of}
+use Rattle.reply_json.specs.Json.{fields, text, whole}
+use Rattle.tao_base.specs.declared.data.Pair.{Pair}
+use Rattle.tao_base.specs.declared.edge.Edge.{Edge}
+use Rattle.tao_base.specs.declared.edge.Object.{Object}
+use Rattle.tao_base.specs.declared.id.OType.{OType}
+use Rattle.tao_base.specs.declared.query.Answer.{Answer}
+use Rattle.tao_base.specs.declared.query.Answer.TheVariants.{Object as ObjectIs, Edges as EdgesAre, Count}
+use Rattle.tao_link.specs.declared.NodeName.{NodeName}
+use Rattle.topology.specs.Config.{Settings}
+use Rattle.topology.specs.Nodes.{node_text}
+
+-- the data of an object or an edge: each key with its value
+abbrev pub pairs_data : List Pair → Data
+pairs_data pairs = fields (map (λ p. (p.key, text p.value)) pairs)
+
+-- the name of an object type; the empty text where there is no such type
+abbrev pub otype_name : Settings → OType → List ℕ
+otype_name s otype = unwrap_or (slice_get s.schema.objects otype.0) []
+
+-- an object is told by its data and the name of its type; none by `null`
+abbrev pub object_data : Settings → Option Object → Data
+object_data s None = null
+object_data s (Some o) = fields ((codes "data", pairs_data o.payload) ∷ (codes "otype", text (otype_name s o.otype)) ∷ [])
+
+-- an edge is told by its data, its other end and its time
+abbrev pub edge_data : Edge → Data
+edge_data e = fields ((codes "data", pairs_data e.payload) ∷ (codes "id2", whole e.id2) ∷ (codes "time", whole e.time) ∷ [])
+
+-- edges, in their order
+abbrev pub edges_data : List Edge → Data
+edges_data edges = array (items_of (map edge_data edges))
+
+-- what an answer stands under
+abbrev pub answer_name : Answer → List ℕ
+answer_name (ObjectIs o) = codes "object"
+answer_name (EdgesAre edges) = codes "edges"
+answer_name (Count n) = codes "count"
+
+-- an answer
+abbrev pub answer_data : Settings → Answer → Data
+answer_data s (ObjectIs o) = object_data s o
+answer_data s (EdgesAre edges) = edges_data edges
+answer_data s (Count n) = whole n
+
+-- a node, by its text
+abbrev pub node_data : Settings → NodeName → Data
+node_data s node = text (node_text s node)

@@ -1,0 +1,5 @@
+pub mod Refusal
+pub mod Kind
+pub mod Names
+pub mod Calls
+pub mod Requests

@@ -1,0 +1,76 @@
+//! The requests about nodes.
+ghost use Rattle.request_check.specs.Refusal.{Gives};
+ghost use Rattle.request_check.specs.Names.{settings};
+ghost use Rattle.request_check.specs.Requests.{key_of, maybe_key_of, evict_of, show_of, leader_of, link_of};
+
+use crate::calls::list_type;
+use crate::checked::{Checked, LeaderPlace, LinkPlace};
+use crate::kind::NodeKind;
+use crate::names::Names;
+use crate::refusal::NameError;
+use tao_base::{Key, Text};
+use tao_wire::{KeyName, LeaderName, LinkName};
+
+fn key_of(names: &Names<'_>, key: &KeyName) -> Result<Key, NameError>
+    ensures { Gives result (key_of (settings names.now) key.now) }
+{
+    match key {
+        KeyName::Object(id) => {
+            names.id(*id)?;
+            Ok(Key::Obj(*id))
+        }
+        KeyName::List(list) => {
+            let atype = list_type(names, list)?;
+            Ok(Key::List(list.id1, atype))
+        }
+    }
+}
+
+fn maybe_key_of(names: &Names<'_>, key: &Option<KeyName>) -> Result<Option<Key>, NameError>
+    ensures { Gives result (maybe_key_of (settings names.now) key.now) }
+{
+    match key {
+        None => Ok(None),
+        Some(key) => Ok(Some(key_of(names, key)?)),
+    }
+}
+
+pub(crate) fn evict_of(
+    names: &Names<'_>,
+    node: &Text,
+    key: &Option<KeyName>,
+) -> Result<Checked, NameError>
+    ensures { Gives result (evict_of (settings names.now) node.now key.now) }
+{
+    let node = names.node(NodeKind::Cache, node)?;
+    let key = maybe_key_of(names, key)?;
+    Ok(Checked::Evict { node, key })
+}
+
+pub(crate) fn show_of(names: &Names<'_>, node: &Text, key: &KeyName) -> Result<Checked, NameError>
+    ensures { Gives result (show_of (settings names.now) node.now key.now) }
+{
+    let node = names.node(NodeKind::Cache, node)?;
+    let key = key_of(names, key)?;
+    Ok(Checked::Show { node, key })
+}
+
+pub(crate) fn leader_of(names: &Names<'_>, leader: &LeaderName) -> Result<LeaderPlace, NameError>
+    ensures { Gives result (leader_of (settings names.now) leader.now) }
+{
+    let place = names.tier(leader.region.as_str(), leader.tier.as_str())?;
+    let node = names.node(NodeKind::Leader, &leader.node)?;
+    Ok(LeaderPlace {
+        region: place.region,
+        tier: place.tier,
+        node,
+    })
+}
+
+pub(crate) fn link_of(names: &Names<'_>, link: &LinkName) -> Result<LinkPlace, NameError>
+    ensures { Gives result (link_of (settings names.now) link.now) }
+{
+    let from = names.node(NodeKind::Any, &link.from)?;
+    let to = names.node(NodeKind::Any, &link.to)?;
+    Ok(LinkPlace { from, to })
+}

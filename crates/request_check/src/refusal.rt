@@ -1,0 +1,59 @@
+//! Why a request is refused.
+use std::alloc::AllocError;
+use std::error::Error;
+use std::fmt;
+use tao_wire::{NameRefused, Refusal, Reply};
+
+/// Why a request is refused before anything is done for it.
+#[derive(Debug, Drop)]
+pub enum CheckRefusal {
+    /// The first name that is refused, as it is replied: `Reply::Refused(Refusal::Name(..))`.
+    Refused(Reply),
+    /// There was no memory. The request may be checked again.
+    OutOfMemory,
+}
+
+impl fmt::Display for CheckRefusal {
+    fn fmt<W: fmt::Write>(&self, f: &mut fmt::Formatter<W>) -> fmt::Result {
+        match self {
+            CheckRefusal::Refused(_) => write!(f, "a name of the request is refused"),
+            CheckRefusal::OutOfMemory => write!(f, "out of memory"),
+        }
+    }
+}
+
+impl Error for CheckRefusal {}
+
+/// Why a name has no place.
+#[derive(Debug, Drop)]
+pub enum NameError {
+    Refused(NameRefused),
+    OutOfMemory,
+}
+
+impl From<AllocError> for NameError {
+    ghost use Rattle.std.specs.Prelude.{◌≡◌};
+    ghost use Rattle.request_check.specs.declared.refusal.NameError.TheVariants.{OutOfMemory};
+
+    ghost from_gives = { λ _ error. error ≡ OutOfMemory };
+
+    fn from(_: AllocError) -> NameError {
+        NameError::OutOfMemory
+    }
+}
+
+impl From<NameError> for CheckRefusal {
+    ghost use Rattle.std.specs.Prelude.{◌≡◌};
+    ghost use Rattle.request_check.specs.Refusal.{check_refusal};
+
+    ghost from_gives = { λ error refusal. refusal ≡ check_refusal error };
+
+    fn from(error: NameError) -> CheckRefusal {
+        match error {
+            NameError::Refused(refused) => {
+                CheckRefusal::Refused(Reply::Refused(Refusal::Name(refused)))
+            }
+            NameError::OutOfMemory => CheckRefusal::OutOfMemory,
+        }
+    }
+}

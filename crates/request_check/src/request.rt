@@ -1,0 +1,159 @@
+//! The check of a request.
+ghost use Rattle.request_check.specs.Names.{settings};
+ghost use Rattle.request_check.specs.Refusal.{Answers, Gives};
+ghost use Rattle.request_check.specs.Requests.{open_of, write_call_of, read_call_of, call_of, held_of, stream_of, repair_of, checked_of};
+
+use crate::calls::{query_of, write_of};
+use crate::checked::{Checked, CheckedCall, CheckedRead, CheckedWrite};
+use crate::kind::NodeKind;
+use crate::names::Names;
+use crate::nodes::{evict_of, leader_of, link_of, show_of};
+use crate::refusal::{CheckRefusal, NameError};
+use std::alloc::Global;
+use tao_base::Text;
+use tao_wire::{Call, Opening, ReadCall, Request, WriteCall};
+use topology::Config;
+
+/// The request with the places of what it names, or the first refusal of a name: an unknown region or
+/// tier, then an unknown node, or one of a kind that the request doesn't take, then an unknown type,
+/// a shard that isn't configured, a change to the type that the edge has, and more ids than edges of
+/// the type are kept. A call within another request counts as that request. Copies data and ids, and
+/// takes time in their length; a name of a region or tier is compared with each.
+pub fn check(alloc: Global, config: &Config, request: &Request) -> Result<Checked, CheckRefusal>
+    ensures { Answers result (checked_of config.now request.now) }
+{
+    let checked = checked_of(&Names { alloc, config }, request)?;
+    Ok(checked)
+}
+
+fn checked_of(names: &Names<'_>, request: &Request) -> Result<Checked, NameError>
+    ensures { Gives result (checked_of (settings names.now) request.now) }
+{
+    match request {
+        Request::Open(opening) => open_of(names, opening),
+        Request::Call(call) => call_of(names, call).map(Checked::Call),
+        Request::Hold { plan, call } => held_of(names, *plan, call),
+        Request::Advance { plan } => Ok(Checked::Advance { plan: *plan }),
+        Request::Deliver(name) => names
+            .node(NodeKind::Cache, &name.node)
+            .map(|node| Checked::Deliver {
+                node,
+                message: name.message,
+            }),
+        Request::Again(name) => names
+            .node(NodeKind::Cache, &name.node)
+            .map(|node| Checked::Again {
+                node,
+                message: name.message,
+            }),
+        Request::Drop(name) => names
+            .node(NodeKind::Cache, &name.node)
+            .map(|node| Checked::Drop {
+                node,
+                message: name.message,
+            }),
+        Request::Refill { node } => {
+            names
+                .node(NodeKind::Follower, node)
+                .map(|node| Checked::Refill { node })
+        }
+        Request::Stream {
+            region,
+            shard,
+            position,
+        } => stream_of(names, region, *shard, *position),
+        Request::Repair { shard } => repair_of(names, *shard),
+        Request::Evict { node, key } => evict_of(names, node, key),
+        Request::Show { node, key } => show_of(names, node, key),
+        Request::Inbox { node } => names
+            .node(NodeKind::Cache, node)
+            .map(|node| Checked::Inbox { node }),
+        Request::Down { node } => names
+            .node(NodeKind::Cache, node)
+            .map(|node| Checked::Down { node }),
+        Request::Up { node } => names
+            .node(NodeKind::Cache, node)
+            .map(|node| Checked::Up { node }),
+        Request::Suspect(leader) => leader_of(names, leader).map(Checked::Suspect),
+        Request::Trust(leader) => leader_of(names, leader).map(Checked::Trust),
+        Request::Cut(link) => link_of(names, link).map(Checked::Cut),
+        Request::Mend(link) => link_of(names, link).map(Checked::Mend),
+        Request::Settle => Ok(Checked::Settle),
+        Request::Audit(call) => read_call_of(names, call).map(Checked::Audit),
+    }
+}
+
+// ---- sessions and plans
+
+fn open_of(names: &Names<'_>, opening: &Opening) -> Result<Checked, NameError>
+    ensures { Gives result (open_of (settings names.now) opening.now) }
+{
+    let place = names.tier(opening.region.as_str(), opening.tier.as_str())?;
+    Ok(Checked::Open {
+        session: opening.session,
+        region: place.region,
+        tier: place.tier,
+    })
+}
+
+fn write_call_of(names: &Names<'_>, call: &WriteCall) -> Result<CheckedWrite, NameError>
+    ensures { Gives result (write_call_of (settings names.now) call.now) }
+{
+    Ok(CheckedWrite {
+        session: call.session,
+        seq: call.seq,
+        write: write_of(names, &call.write)?,
+    })
+}
+
+fn read_call_of(names: &Names<'_>, call: &ReadCall) -> Result<CheckedRead, NameError>
+    ensures { Gives result (read_call_of (settings names.now) call.now) }
+{
+    Ok(CheckedRead {
+        session: call.session,
+        query: query_of(names, &call.query)?,
+        critical: call.critical,
+    })
+}
+
+fn call_of(names: &Names<'_>, call: &Call) -> Result<CheckedCall, NameError>
+    ensures { Gives result (call_of (settings names.now) call.now) }
+{
+    match call {
+        Call::Write(call) => Ok(CheckedCall::Write(write_call_of(names, call)?)),
+        Call::Read(call) => Ok(CheckedCall::Read(read_call_of(names, call)?)),
+    }
+}
+
+fn held_of(names: &Names<'_>, plan: u32, call: &Call) -> Result<Checked, NameError>
+    ensures { Gives result (held_of (settings names.now) plan call.now) }
+{
+    let call = call_of(names, call)?;
+    Ok(Checked::Hold { plan, call })
+}
+
+// ---- stores
+
+fn stream_of(
+    names: &Names<'_>,
+    region: &Text,
+    shard: u16,
+    position: Option<u64>,
+) -> Result<Checked, NameError>
+    ensures { Gives result (stream_of (settings names.now) region.now shard position) }
+{
+    let region = names.region(region.as_str())?;
+    names.shard(shard)?;
+    Ok(Checked::Stream {
+        region,
+        shard,
+        position,
+    })
+}
+
+fn repair_of(names: &Names<'_>, shard: u16) -> Result<Checked, NameError>
+    ensures { Gives result (repair_of (settings names.now) shard) }
+{
+    names.shard(shard)?;
+    Ok(Checked::Repair { shard })
+}

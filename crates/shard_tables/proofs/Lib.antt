@@ -1,0 +1,5 @@
+pub mod FitLemmas
+pub mod OwnRecords
+pub mod StampLemmas
+pub mod TouchLemmas
+pub mod WriteLemmas

@@ -1,0 +1,41 @@
+-- The records that a write gives at id1, over the records that stand there.
+use Rattle.std.specs.Prelude.{◌+◌, ◌<◌, ◌≤◌, Bool, List, [], ◌∷◌, All, Option, Some, None, ◌==◌}
+use Rattle.std.specs.List.{AllByRecursion}
+use Rattle.tao_base.specs.Ids.{shard_of}
+use Rattle.tao_base.specs.Stamps.{stamp_of}
+use Rattle.tao_base.specs.declared.edge.EdgeState.{EdgeState}
+use Rattle.tao_base.specs.declared.edge.EdgeState.TheVariants.{Live, Cut}
+use Rattle.tao_base.specs.declared.edge.Stamp.{Stamp}
+use Rattle.tao_base.specs.declared.id.AType.{AType}
+use Rattle.tao_base.specs.declared.id.Id.{Id}
+use Rattle.graph_model.specs.Edges.{number_of}
+use Rattle.graph_model.specs.Soundness.{EdgeUpdate}
+
+-- the stamp after that of the record
+abbrev pub stamp_after : Id → Option EdgeState → Stamp
+stamp_after id1 old = record { number = number_of old + 1; shard = shard_of id1 }
+
+-- the edge is cut where its record is live
+abbrev pub cut_over : Id → AType → Id → Option EdgeState → List EdgeUpdate
+cut_over id1 atype id2 (Some (Live time payload stamp)) = (id1, atype, id2, Cut (stamp_after id1 (Some (Live time payload stamp)))) ∷ []
+cut_over id1 atype id2 (Some (Cut stamp)) = []
+cut_over id1 atype id2 None = []
+
+-- the edge is moved to a new type, over its record there, where its record of the old type is live
+abbrev pub move_over : Id → AType → Id → AType → Option EdgeState → Option EdgeState → List EdgeUpdate
+move_over id1 atype id2 newtype (Some (Live time payload stamp)) there =
+    (id1, atype, id2, Cut (stamp_after id1 (Some (Live time payload stamp)))) ∷ (id1, newtype, id2, Live time payload (stamp_after id1 there)) ∷ []
+move_over id1 atype id2 newtype (Some (Cut stamp)) there = []
+move_over id1 atype id2 newtype None there = []
+
+-- whether a record has the stamp number that no record may have
+abbrev pub is_past_stamps : EdgeUpdate → Bool
+is_past_stamps u = (stamp_of u.3).number == 4611686018427387904
+
+-- the stamps' numbers are at most that one
+pub record AreNext (us : List EdgeUpdate) : Type 0 where
+  pub each : AllByRecursion (λ u. (stamp_of u.3).number ≤ 4611686018427387904) us
+
+-- the stamps' numbers are below it
+pub record AreStamped (us : List EdgeUpdate) : Type 0 where
+  pub each : All (λ u. (stamp_of u.3).number < 4611686018427387904) us

@@ -1,0 +1,364 @@
+//! Writes over the keeper in memory, and what comes of them.
+ghost use Rattle.std.specs.Prelude.{◌≡◌, ◌≤◌, IfOk, IsTrue};
+ghost use Rattle.graph_model.specs.Soundness.{IsSoundOf};
+ghost use Rattle.graph_model.specs.WriteLaws.{ChangesType};
+ghost use Rattle.keeper_map.specs.MapKeeper.{told_by};
+ghost use Rattle.shard_tables.specs.Written.{shard_of_write};
+ghost use Rattle.tao_base.specs.EdgeTypes.{EdgeTypes};
+ghost use Rattle.tao_schema.specs.Schema.{types_of};
+
+use crate::{StoreNode, StoreRefusal, Wrote};
+use keeper_map::{Fails, MapKeeper};
+use std::alloc::{AllocError, Global};
+use std::process::Abort;
+use std::test::Fail;
+use tao_base::{AType, Data, Id, OType, Origin, StoreName, Text, Time, Write};
+use tao_schema::{AssocLine, Schema};
+
+const NAME: StoreName = StoreName {
+    region: 0,
+    shard: 0,
+};
+
+const USER: OType = OType(0);
+
+const PAGE: OType = OType(1);
+
+/// Each the inverse of the other.
+const LIKES: AType = AType(0);
+
+const LIKED_BY: AType = AType(1);
+
+/// A type without an inverse.
+const SAW: AType = AType(2);
+
+/// Its own inverse.
+const FRIEND: AType = AType(3);
+
+/// An id of another shard.
+const FAR: u64 = (1 << 48) + 1;
+
+/// A write, whose ids are numbers, and whose data is a name.
+#[derive(Clone, Copy)]
+enum Ask {
+    Add(OType, &'static str),
+    Update(u64, &'static str),
+    Delete(u64),
+    Set(u64, AType, u64, Time, &'static str),
+    Cut(u64, AType, u64),
+    Move(u64, AType, u64, AType),
+}
+
+fn line(alloc: Global, name: &str, inverse: Option<&str>) -> Result<AssocLine, AllocError> {
+    let inverse = match inverse {
+        Some(inverse) => Some(Text::copy_of(alloc, inverse)?),
+        None => None,
+    };
+    Ok(AssocLine {
+        name: Text::copy_of(alloc, name)?,
+        inverse,
+        bound: 6_000,
+    })
+}
+
+fn schema(alloc: Global) -> Result<Schema, Fail> {
+    let objects = vec![in alloc;
+        Text::copy_of(alloc, "user")?,
+        Text::copy_of(alloc, "page")?,
+    ]?;
+    let assocs = vec![in alloc;
+        line(alloc, "likes", Some("liked_by"))?,
+        line(alloc, "liked_by", Some("likes"))?,
+        line(alloc, "saw", None)?,
+        line(alloc, "friend", Some("friend"))?,
+    ]?;
+    Ok(Schema::read(alloc, &objects, &assocs)?)
+}
+
+fn id(number: u64) -> Result<Id, &'static str> {
+    Id::read(number).ok_or("an id")
+}
+
+/// Data with this name.
+fn named(alloc: Global, name: &str) -> Result<Data, Fail> {
+    let mut pairs = Vec::new(alloc);
+    pairs.push((
+        String::from_str(alloc, "name")?,
+        String::from_str(alloc, name)?,
+    ))?;
+    Ok(Data::of_pairs(alloc, pairs)?)
+}
+
+/// The write that is asked for.
+fn write_of(alloc: Global, ask: Ask) -> Result<Write, Fail> {
+    Ok(match ask {
+        Ask::Add(otype, name) => Write::ObjAdd {
+            shard: 0,
+            otype,
+            payload: named(alloc, name)?,
+        },
+        Ask::Update(number, name) => Write::ObjUpdate {
+            id: id(number)?,
+            payload: named(alloc, name)?,
+        },
+        Ask::Delete(number) => Write::ObjDelete { id: id(number)? },
+        Ask::Set(id1, atype, id2, time, name) => Write::AssocAdd {
+            id1: id(id1)?,
+            atype,
+            id2: id(id2)?,
+            time,
+            payload: named(alloc, name)?,
+        },
+        Ask::Cut(id1, atype, id2) => Write::AssocDelete {
+            id1: id(id1)?,
+            atype,
+            id2: id(id2)?,
+        },
+        Ask::Move(id1, atype, id2, newtype) => Write::AssocChangeType {
+            id1: id(id1)?,
+            atype,
+            id2: id(id2)?,
+            newtype,
+        },
+    })
+}
+
+/// The shard that the write is for.
+fn shard_of(write: &Write) -> u16
+    ensures { result ≡ shard_of_write write.now }
+{
+    match write {
+        Write::ObjAdd { shard, .. } => *shard,
+        Write::ObjUpdate { id, .. } => id.shard(),
+        Write::ObjDelete { id } => id.shard(),
+        Write::AssocAdd { id1, .. } => id1.shard(),
+        Write::AssocDelete { id1, .. } => id1.shard(),
+        Write::AssocChangeType { id1, .. } => id1.shard(),
+    }
+}
+
+/// Whether a change of type is to another type, and not of an edge to its own id.
+fn changes_type(write: &Write) -> bool
+    ensures { (types : EdgeTypes) → IsTrue result → ChangesType types write.now }
+{
+    match write {
+        Write::AssocChangeType {
+            id1,
+            atype,
+            id2,
+            newtype,
+        } => atype != newtype && id1 != id2,
+        Write::ObjAdd { .. } => true,
+        Write::ObjUpdate { .. } => true,
+        Write::ObjDelete { .. } => true,
+        Write::AssocAdd { .. } => true,
+        Write::AssocDelete { .. } => true,
+    }
+}
+
+/// What came of a write: its entry's position and how many touches it has, or why there is none.
+fn text_of(alloc: Global, made: &Result<Wrote, StoreRefusal>) -> Result<String, AllocError> {
+    match made {
+        Ok(wrote) => match &wrote.entry {
+            Some(entry) => {
+                if wrote.retry {
+                    format!(in alloc; "retry {}", entry.position)
+                } else {
+                    let touches = entry.touches.as_slice().len();
+                    format!(in alloc; "entry {}, touches {touches}", entry.position)
+                }
+            }
+            None => String::from_str(alloc, "none"),
+        },
+        Err(StoreRefusal::SeqReused { position }) => format!(in alloc; "reused {position}"),
+        Err(refusal) => format!(in alloc; "{refusal}"),
+    }
+}
+
+/// A keeper that nothing was written to. The commits of these numbers fail.
+fn empty_keeper(alloc: Global, schema: &Schema, commits: &[u64]) -> Result<MapKeeper, AllocError>
+    ensures sound { IfOk result (λ keeper. IsSoundOf (types_of schema.now) 0 (told_by keeper NAME).log) }
+{
+    let fails = Fails {
+        calls: Vec::new(alloc),
+        commits: commits.to_vec(alloc)?,
+    };
+    Ok(MapKeeper::make(alloc, fails))
+}
+
+/// Makes a write of session 1, and says what came of it.
+fn outcome(
+    alloc: Global,
+    keeper: &mut MapKeeper,
+    schema: &Schema,
+    log_max: u64,
+    seq: u64,
+    write: &Write,
+) -> Result<String, Fail>
+    requires limit { log_max ≤ 65536 }
+    requires sound { IsSoundOf (types_of schema.now) 0 (told_by keeper.old NAME).log }
+    ensures sound { IsSoundOf (types_of schema.now) 0 (told_by keeper.new NAME).log }
+{
+    if shard_of(write) != 0 || !changes_type(write) {
+        return Err("a write that the store doesn't take")?;
+    }
+    let mut store = StoreNode::master(NAME, log_max);
+    let origin = Origin::Client { session: 1, seq };
+    let made = store.write(alloc, keeper, schema, origin, write);
+    Ok(text_of(alloc, &made)?)
+}
+
+/// Makes the writes on an empty store, in their order, and compares what came of each. The commits of
+/// these numbers fail.
+fn assert_outcomes(
+    rt: &impl Abort,
+    alloc: Global,
+    log_max: u64,
+    commits: &[u64],
+    rows: &[(u64, Ask, &str)],
+) -> Result<(), Fail>
+    requires { log_max ≤ 65536 }
+{
+    let schema = schema(alloc)?;
+    let mut keeper = empty_keeper(alloc, &schema, commits)?;
+    for (seq, ask, expected) in rows {
+        let write = write_of(alloc, *ask)?;
+        let found = outcome(alloc, &mut keeper, &schema, log_max, *seq, &write)?;
+        assert_eq!(rt; found.as_str(), *expected, "write {seq}");
+    }
+    Ok(())
+}
+
+#[test]
+fn an_objects_life(rt: HostRuntime) -> Result<(), Fail> {
+    let rows = [
+        (1, Ask::Update(1, "Eve"), "none"),
+        (2, Ask::Add(USER, "Ada"), "entry 1, touches 1"),
+        (3, Ask::Update(1, "Eve"), "entry 2, touches 1"),
+        (4, Ask::Delete(1), "entry 3, touches 1"),
+        (5, Ask::Delete(1), "none"),
+        (6, Ask::Add(USER, "Ada"), "entry 4, touches 1"),
+        (7, Ask::Update(1, "Eve"), "none"),
+        (8, Ask::Update(2, "Eve"), "entry 5, touches 1"),
+    ];
+    assert_outcomes(&rt, rt.alloc(), 9, &[], &rows)
+}
+
+/// Also where the log is full.
+#[test]
+fn a_write_made_again_is_answered_with_its_entry(rt: HostRuntime) -> Result<(), Fail> {
+    let rows = [
+        (1, Ask::Add(USER, "Ada"), "entry 1, touches 1"),
+        (2, Ask::Update(1, "Eve"), "entry 2, touches 1"),
+        (3, Ask::Delete(1), "entry 3, touches 1"),
+        (4, Ask::Set(1, LIKES, 2, 5, "x"), "entry 4, touches 2"),
+        (5, Ask::Move(1, LIKES, 2, SAW), "entry 5, touches 3"),
+        (6, Ask::Cut(1, SAW, 2), "entry 6, touches 1"),
+        (1, Ask::Add(USER, "Ada"), "retry 1"),
+        (2, Ask::Update(1, "Eve"), "retry 2"),
+        (3, Ask::Delete(1), "retry 3"),
+        (4, Ask::Set(1, LIKES, 2, 5, "x"), "retry 4"),
+        (5, Ask::Move(1, LIKES, 2, SAW), "retry 5"),
+        (6, Ask::Cut(1, SAW, 2), "retry 6"),
+    ];
+    assert_outcomes(&rt, rt.alloc(), 6, &[], &rows)
+}
+
+#[test]
+fn a_number_is_of_one_write_to_an_object(rt: HostRuntime) -> Result<(), Fail> {
+    let rows = [
+        (1, Ask::Add(USER, "Ada"), "entry 1, touches 1"),
+        (1, Ask::Add(PAGE, "Ada"), "reused 1"),
+        (1, Ask::Add(USER, "Eve"), "reused 1"),
+        (1, Ask::Update(1, "Ada"), "reused 1"),
+        (2, Ask::Update(1, "Eve"), "entry 2, touches 1"),
+        (2, Ask::Update(2, "Eve"), "reused 2"),
+        (2, Ask::Update(1, "Ada"), "reused 2"),
+        (3, Ask::Delete(1), "entry 3, touches 1"),
+        (3, Ask::Delete(2), "reused 3"),
+    ];
+    assert_outcomes(&rt, rt.alloc(), 9, &[], &rows)
+}
+
+/// Of a change of type neither the edge's time nor its data is compared.
+#[test]
+fn a_number_is_of_one_write_to_an_edge(rt: HostRuntime) -> Result<(), Fail> {
+    let rows = [
+        (1, Ask::Set(1, SAW, 2, 5, "x"), "entry 1, touches 1"),
+        (1, Ask::Set(3, SAW, 2, 5, "x"), "reused 1"),
+        (1, Ask::Set(1, LIKES, 2, 5, "x"), "reused 1"),
+        (1, Ask::Set(1, SAW, 3, 5, "x"), "reused 1"),
+        (1, Ask::Set(1, SAW, 2, 6, "x"), "reused 1"),
+        (1, Ask::Set(1, SAW, 2, 5, "y"), "reused 1"),
+        (1, Ask::Cut(1, SAW, 2), "reused 1"),
+        (2, Ask::Move(1, SAW, 2, LIKES), "entry 2, touches 3"),
+        (3, Ask::Set(1, LIKES, 2, 9, "y"), "entry 3, touches 2"),
+        (2, Ask::Move(1, SAW, 2, LIKES), "retry 2"),
+        (2, Ask::Move(1, SAW, 2, FRIEND), "reused 2"),
+        (4, Ask::Cut(1, LIKES, 2), "entry 4, touches 2"),
+        (4, Ask::Cut(2, LIKED_BY, 1), "reused 4"),
+    ];
+    assert_outcomes(&rt, rt.alloc(), 9, &[], &rows)
+}
+
+#[test]
+fn a_full_log_still_answers_what_adds_nothing(rt: HostRuntime) -> Result<(), Fail> {
+    let rows = [
+        (1, Ask::Add(USER, "Ada"), "entry 1, touches 1"),
+        (2, Ask::Set(1, SAW, 2, 5, "x"), "entry 2, touches 1"),
+        (3, Ask::Cut(1, SAW, 2), "entry 3, touches 1"),
+        (4, Ask::Delete(1), "the log is full: 3 entries"),
+        (4, Ask::Cut(1, SAW, 2), "none"),
+        (2, Ask::Set(1, SAW, 2, 5, "x"), "retry 2"),
+        (2, Ask::Cut(1, SAW, 2), "reused 2"),
+    ];
+    assert_outcomes(&rt, rt.alloc(), 3, &[], &rows)
+}
+
+#[test]
+fn a_write_whose_commit_failed_is_made_by_the_same_again(rt: HostRuntime) -> Result<(), Fail> {
+    let rows = [
+        (1, Ask::Set(1, SAW, 2, 5, "x"), "the keeper failed"),
+        (1, Ask::Set(1, SAW, 2, 5, "x"), "entry 1, touches 1"),
+        (1, Ask::Set(1, SAW, 2, 5, "x"), "retry 1"),
+    ];
+    assert_outcomes(&rt, rt.alloc(), 9, &[1], &rows)
+}
+
+/// One where the other is on another shard, the type has no inverse, or both are the same.
+#[test]
+fn both_ends_stand_in_one_entry(rt: HostRuntime) -> Result<(), Fail> {
+    let rows = [
+        (1, Ask::Set(1, LIKES, 2, 5, "x"), "entry 1, touches 2"),
+        (2, Ask::Set(1, LIKES, FAR, 5, "x"), "entry 2, touches 1"),
+        (3, Ask::Set(1, SAW, 2, 5, "x"), "entry 3, touches 1"),
+        (4, Ask::Set(1, FRIEND, 1, 5, "x"), "entry 4, touches 1"),
+        (5, Ask::Set(1, LIKES, 1, 5, "x"), "entry 5, touches 2"),
+        (6, Ask::Move(1, LIKES, 2, FRIEND), "entry 6, touches 4"),
+        (7, Ask::Cut(2, LIKED_BY, 1), "none"),
+        (8, Ask::Cut(2, FRIEND, 1), "entry 7, touches 2"),
+    ];
+    assert_outcomes(&rt, rt.alloc(), 9, &[], &rows)
+}
+
+#[test]
+fn the_texts_of_refusals(rt: HostRuntime) -> Result<(), Fail> {
+    for (refusal, text) in [
+        (
+            StoreRefusal::ShardFull { serial: 7 },
+            "the shard is full: serial 7",
+        ),
+        (
+            StoreRefusal::StampFull { number: 7 },
+            "the edge's stamps are used up: 7",
+        ),
+        (
+            StoreRefusal::SeqReused { position: 7 },
+            "another write has this number: position 7",
+        ),
+        (StoreRefusal::OutOfMemory, "out of memory"),
+    ] {
+        assert_eq!(rt; refusal.to_string(rt.alloc())?.as_str(), text);
+    }
+    Ok(())
+}

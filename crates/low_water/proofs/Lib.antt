@@ -1,0 +1,4 @@
+pub mod AddedMarks
+pub mod Calls
+pub mod Positions
+pub mod Rings

@@ -1,0 +1,13 @@
+//! A cached association list: its first edges, and how many it has. It decides some queries of its
+//! list, and stays exact by the changes of the list's log.
+#![tactic(auto)]
+
+mod answering;
+mod changing;
+mod deciding;
+mod fronts;
+mod order;
+mod prefix;
+
+pub use fronts::shortest_front;
+pub use prefix::{Prefix, Verdict};

@@ -1,0 +1,32 @@
+//! The order of an association list.
+ghost use Rattle.std.specs.Prelude.{◌≡◌, ◌≤◌, length};
+ghost use Rattle.graph_model.specs.Edges.{IsInOrder, is_newer};
+ghost use Rattle.list_prefix.specs.Spans.{from_on, later_than};
+
+use tao_base::{Edge, Time};
+
+/// Whether an edge stands before another: it is of a later time, or of the same time and goes to
+/// the greater id.
+pub fn comes_before(edge: &Edge, other: &Edge) -> bool
+    ensures { result ≡ is_newer edge.now other.now }
+{
+    other.time < edge.time || (edge.time == other.time && other.id2 < edge.id2)
+}
+
+/// How many edges are later than a time: the place of the first that is not.
+pub fn later_count(edges: &[Edge], high: Time) -> usize
+    requires { IsInOrder edges.now }
+    ensures value { result ≡ later_than high edges.now }
+    ensures within { result ≤ length edges.now }
+{
+    edges.partition_point(|edge| high < edge.time)
+}
+
+/// How many edges are no earlier than a time: the place of the first that is earlier.
+pub fn from_count(edges: &[Edge], low: Time) -> usize
+    requires { IsInOrder edges.now }
+    ensures value { result ≡ from_on low edges.now }
+    ensures within { result ≤ length edges.now }
+{
+    edges.partition_point(|edge| low <= edge.time)
+}

@@ -1,0 +1,86 @@
+-- What stays so when a view grows.
+use Rattle.std.proofs.Common.{◌≡◌, ℕ, zero, suc, ◌≤◌, ◌+◌, true, List, [], ◌∷◌, ◌++◌, length, take, drop, refl, sym, ap, subst, ◌∙◌, arith}
+use Rattle.std.proofs.lemmas.List.{take-take}
+use Rattle.std.specs.Prelude.{Option, Some, slice_get}
+use Rattle.tao_base.specs.declared.edge.Edge.{Edge}
+use Rattle.tao_base.specs.declared.edge.Object.{Object}
+use Rattle.tao_base.specs.declared.entry.Entry.{Entry}
+use Rattle.tao_base.specs.declared.id.AType.{AType}
+use Rattle.tao_base.specs.declared.id.Id.{Id}
+use Rattle.graph_model.proofs.Exact.{items_stay}
+use Rattle.graph_model.proofs.Sound.{slice_get-last, slice_get-take, sound_take}
+use Rattle.graph_model.proofs.Versions.{version-append}
+use Rattle.graph_model.specs.Log.{version}
+use Rattle.graph_model.specs.Merges.{entry_at}
+use Rattle.graph_model.specs.Prefixes.{IsExactList, IsExactObject}
+use Rattle.graph_model.specs.Soundness.{IsSound}
+use Rattle.shard_log.proofs.Beginnings.{begins-rest, begins-self, begins-shorter, begins-trans, begins-whole}
+use Rattle.shard_log.specs.GrowthLaws.{BeginningsAreSound, EntriesStay, GrowthGoesOn, ItemsStayExact, VersionsStay}
+use Rattle.shard_log.specs.View.{View, Grows, WhereTold}
+
+pub grows-self : (v : View) → Grows v v
+grows-self v = record { log_is = refl; begins = begins-self v.entries }
+
+pub grows-trans : (u v w : View) → Grows u v → Grows v w → Grows u w
+grows-trans u v w p q = record { log_is = q.log_is ∙ p.log_is; begins = begins-trans u.entries v.entries w.entries p.begins q.begins }
+
+pub growth_goes_on : GrowthGoesOn
+growth_goes_on = record {
+  stays = grows-self;
+  goes_on = grows-trans;
+  in_order = λ u v w p q le. record { log_is = sym q.log_is ∙ p.log_is; begins = begins-shorter u.entries v.entries w.entries p.begins q.begins le };
+  whole = λ v w p le. begins-whole v.entries w.entries p.begins le;
+}
+
+-- a view that grew into a told one is told
+told_before : (v w : View) → Grows v w → w.log.told ≡ true → v.log.told ≡ true
+told_before v w grows told = ap (λ l. l.told) (sym grows.log_is) ∙ told
+
+-- what a view has grown by
+abbrev rest_of : View → View → List Entry
+rest_of v w = drop (length v.entries) w.entries
+
+-- what is so in a view and stays so with more entries is so in what it grew into
+stays_told : (v w : View) (P : List Entry → Type 0) → Grows v w → (P v.entries → P (v.entries ++ rest_of v w)) → WhereTold v.log.told (P v.entries) → WhereTold w.log.told (P w.entries)
+stays_told v w P grows stays was told = subst P (begins-rest v.entries w.entries grows.begins) (stays (was (told_before v w grows told)))
+
+pub object_stays : (v w : View) (id : Id) (at : ℕ) (found : Option Object) → Grows v w
+    → WhereTold v.log.told (IsExactObject v.entries id at found) → WhereTold w.log.told (IsExactObject w.entries id at found)
+object_stays v w id at found grows = stays_told v w (λ log. IsExactObject log id at found) grows ((items_stay v.entries (rest_of v w)).object_stays id at found)
+
+pub list_stays : (v w : View) (id1 : Id) (atype : AType) (bound at : ℕ) (edges : List Edge) (total : ℕ) → Grows v w
+    → WhereTold v.log.told (IsExactList v.entries id1 atype bound at edges total) → WhereTold w.log.told (IsExactList w.entries id1 atype bound at edges total)
+list_stays v w id1 atype bound at edges total grows =
+    stays_told v w (λ log. IsExactList log id1 atype bound at edges total) grows ((items_stay v.entries (rest_of v w)).list_stays id1 atype bound at edges total)
+
+pub items_stay_exact : ItemsStayExact
+items_stay_exact = record { object_stays = object_stays; list_stays = list_stays }
+
+pub first_stay : (v w : View) (n : ℕ) → Grows v w → n ≤ length v.entries → take n w.entries ≡ take n v.entries
+first_stay v w n grows le = sym (ap (take n) grows.begins ∙ take-take n (length v.entries) w.entries le)
+
+pub versions_stay : VersionsStay
+versions_stay = record {
+  first_stay = first_stay;
+  version_stays = λ v w key n grows le. ap (λ log. version log key) (first_stay v w n grows le);
+  version_rises = λ v w key grows.
+      let split = version-append v.entries (rest_of v w) key in
+      let whole = ap (λ log. version log key) (begins-rest v.entries w.entries grows.begins) in
+      omega arith;
+}
+
+pub entry_stays : (v w : View) (position : ℕ) (e : Entry) → Grows v w → entry_at v.entries position ≡ Some e → entry_at w.entries position ≡ Some e
+entry_stays v w zero e grows h = absurd (cc (h))
+entry_stays v w (suc n) e grows h = (slice_get-take w.entries (length v.entries) n e (ap (λ log. slice_get log n) (sym grows.begins) ∙ h)).0
+
+entry_added : (log : List Entry) (e : Entry) → entry_at (log ++ e ∷ []) (length log + 1) ≡ Some e
+entry_added log e = let next : length log + 1 ≡ suc (length log) = omega arith in ap (entry_at (log ++ e ∷ [])) next ∙ slice_get-last log e
+
+pub entries_stay : EntriesStay
+entries_stay = record { added = entry_added; stays = entry_stays }
+
+pub beginnings_are_sound : BeginningsAreSound
+beginnings_are_sound = record {
+  begins = λ v w grows sound told.
+      subst IsSound (sym grows.begins) (sound_take w.entries (length v.entries) (sound (ap (λ l. l.told) grows.log_is ∙ told)));
+}

@@ -1,0 +1,5 @@
+pub mod Beginnings
+pub mod GrowthLemmas
+pub mod KeptLemmas
+pub mod SeatLemmas
+pub mod Steps

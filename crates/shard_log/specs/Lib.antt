@@ -1,0 +1,3 @@
+pub mod GrowthLaws
+pub mod Rule
+pub mod View

@@ -9,9 +9,10 @@ use Rattle.graph_model.proofs.Sound.{slice_get-take}
 use Rattle.graph_model.specs.Log.{IsTouchOf}
 use Rattle.graph_model.specs.Merges.{entry_at}
 use Rattle.graph_model.specs.Soundness.{IsSound, TouchFollows}
-use Rattle.shard_log.specs.View.{View, Grows, WhereTold}
+use Rattle.graph_model.specs.Told.{WhereTold}
+use Rattle.shard_log.specs.View.{View, Grows}
 use Rattle.changeset.specs.ChangeLaws.{TouchesStay}
-use Rattle.changeset.specs.Changes.{IsOneTouch, change_by, seen_change, touch_of}
+use Rattle.changeset.specs.Changes.{IsOneTouch, seen_change, touch_of}
 
 -- a touch of the entry at a position is one of the log
 pub touch_at : (log : List Entry) (position : ℕ) (e : Entry) (t : Touch) → entry_at log position ≡ Some e → Contains e.touches t → IsTouchOf log t
@@ -25,21 +26,21 @@ version_rises log t sound touch =
     let touches = All-contains (TouchFollows (take touch.place log) touch.entry.origin) touch.entry.touches t follow.touches touch.touches in
     let next = touches.version_is in omega arith
 
--- the change by a touch of a sound log is by a touch of it
-change_is_touch : (v : View) (t : Touch) → WhereTold v.log.told (IsSound v.entries) → WhereTold v.log.told (IsTouchOf v.entries t)
-    → WhereTold v.log.told (IsTouchOf v.entries (touch_of (change_by t v)))
-change_is_touch v t sound touch told =
-    subst (λ at. IsTouchOf v.entries (record { key = t.key; change = t.change; version = at })) (version_rises v.entries t (sound told) (touch told)) (touch told)
+-- the change that was made by a touch of a sound log has that touch
+pub touch_is : (v : View) (t : Touch) (before : ℕ) (change : Change) → before ≡ t.version - 1 → change ≡ t.change
+    → WhereTold v.log.told (IsSound v.entries) → WhereTold v.log.told (IsTouchOf v.entries t)
+    → WhereTold v.log.told (touch_of (seen_change t.key before (before + 1) change v) ≡ t)
+touch_is v t before change version_is change_is sound touch told =
+    let rises = version_rises v.entries t (sound told) (touch told) in
+    let after : before + 1 ≡ t.version = omega arith in
+    ap (λ c. record { key = t.key; change = c; version = before + 1 }) change_is ∙ ap (λ n. record { key = t.key; change = t.change; version = n }) after
 
 -- the changeset of a touch is one of the note that the touch was seen by
 pub is_one_touch : (v : View) (t : Touch) (before : ℕ) (change : Change) → before ≡ t.version - 1 → change ≡ t.change
     → WhereTold v.log.told (IsSound v.entries) → WhereTold v.log.told (IsTouchOf v.entries t) → IsOneTouch (seen_change t.key before (before + 1) change v)
 is_one_touch v t before change version_is change_is sound touch = record {
   next = refl;
-  touched =
-      subst (λ n. WhereTold v.log.told (IsTouchOf v.entries (record { key = t.key; change = change; version = n + 1 }))) (sym version_is)
-      (subst (λ c. WhereTold v.log.told (IsTouchOf v.entries (record { key = t.key; change = c; version = t.version - 1 + 1 }))) (sym change_is)
-      (change_is_touch v t sound touch));
+  touched = λ told. subst (IsTouchOf v.entries) (sym (touch_is v t before change version_is change_is sound touch told)) (touch told);
 }
 
 touch_stays : (v w : View) (t : Touch) → Grows v w → IsTouchOf v.entries t → IsTouchOf w.entries t

@@ -1,7 +1,8 @@
 -- What keeps a changeset true.
 use Rattle.tao_base.specs.declared.entry.Touch.{Touch}
 use Rattle.graph_model.specs.Log.{IsTouchOf}
-use Rattle.shard_log.specs.View.{View, Grows, WhereTold}
+use Rattle.graph_model.specs.Told.{WhereTold}
+use Rattle.shard_log.specs.View.{View, Grows}
 
 -- a touch of a view is one of each view that it grew into
 pub record TouchesStay : Type 0 where

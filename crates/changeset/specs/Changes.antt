@@ -6,7 +6,8 @@ use Rattle.tao_base.specs.declared.entry.Entry.{Entry}
 use Rattle.tao_base.specs.declared.entry.Touch.{Touch}
 use Rattle.tao_base.specs.declared.id.Key.{Key}
 use Rattle.graph_model.specs.Log.{IsTouchOf}
-use Rattle.shard_log.specs.View.{View, WhereTold}
+use Rattle.graph_model.specs.Told.{WhereTold}
+use Rattle.shard_log.specs.View.{View}
 
 -- a change of a key, which takes it from a version to another, with what was seen of the log
 pub record SeenChange : Type 0 where

@@ -30,11 +30,12 @@ impl Model for Changeset {
 }
 
 impl Changeset {
-    ghost use Rattle.std.specs.Prelude.{◌≡◌, ◌+◌, ◌<◌, IfOk, Some, length};
+    ghost use Rattle.std.specs.Prelude.{◌≡◌, ◌+◌, ◌<◌, IfOk, Some, length, slice_get};
     ghost use Rattle.graph_model.specs.Log.{IsTouchOf};
     ghost use Rattle.graph_model.specs.Merges.{entry_at};
     ghost use Rattle.graph_model.specs.Soundness.{IsSound};
-    ghost use Rattle.shard_log.specs.View.{Grows, WhereTold};
+    ghost use Rattle.graph_model.specs.Told.{WhereTold};
+    ghost use Rattle.shard_log.specs.View.{Grows};
     ghost use Rattle.changeset.specs.Changes.{
       IsOneTouch,
       change_at,
@@ -50,14 +51,16 @@ impl Changeset {
     pub fn of(entry: &Entry, place: usize, note: Note) -> Result<Changeset, OutOfMemory>
         requires place { place < length entry.now.touches }
         requires entry { WhereTold note.log.told (entry_at note.entries entry.now.position ≡ Some entry.now) }
-        ensures { IfOk result (λ made. change_at entry.now place note ≡ Some made) }
+        ensures made { IfOk result (λ made. change_at entry.now place note ≡ Some made) }
+        ensures touch { IfOk result (λ made. WhereTold note.log.told (slice_get entry.now.touches place ≡ Some (touch_of made))) }
     {
         Changeset::by(&entry.touches.as_slice()[place], note)
     }
 
     fn by(touch: &Touch, note: Note) -> Result<Changeset, OutOfMemory>
         requires { WhereTold note.log.told (IsTouchOf note.entries touch.now) }
-        ensures { IfOk result (λ made. made ≡ change_by touch.now note) }
+        ensures made { IfOk result (λ made. made ≡ change_by touch.now note) }
+        ensures touch { IfOk result (λ made. WhereTold note.log.told (touch_of made ≡ touch.now)) }
     {
         notes_are_sound(&note);
         let change = copy_of(&touch.change)?;

@@ -4,5 +4,7 @@
 
 mod changeset;
 pub mod laws;
+#[cfg(test)]
+mod tests;
 
 pub use changeset::Changeset;

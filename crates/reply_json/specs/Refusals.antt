@@ -21,7 +21,7 @@ use Rattle.reply_json.specs.declared.refusals.UnsettledWhy.{UnsettledWhy}
 use Rattle.reply_json.specs.declared.refusals.UnsettledWhy.TheVariants.{LinkFault as UnsettledByLink, KeeperFault as UnsettledByKeeper, LogFull as UnsettledByLog}
 use Rattle.reply_json.specs.declared.refusals.When.{When}
 use Rattle.reply_json.specs.declared.refusals.When.TheVariants.{Before, After}
-use Rattle.tao_link.specs.declared.NodeName.{NodeName}
+use Rattle.node_name.specs.declared.NodeName.{NodeName}
 use Rattle.topology.specs.Config.{Settings}
 use Rattle.topology.specs.Nodes.{region_name}
 

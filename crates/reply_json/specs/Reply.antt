@@ -13,12 +13,16 @@ use Rattle.reply_json.specs.declared.reply.Reply.{Reply}
 use Rattle.reply_json.specs.declared.reply.Reply.TheVariants.{Configured, BadConfiguration, BadStores, Opened, Called, Plan, Node, Settled, Audited, Refused}
 use Rattle.tao_base.specs.declared.query.Answer.{Answer}
 use Rattle.tao_base.specs.declared.id.StoreName.{StoreName}
-use Rattle.tao_link.specs.declared.NodeName.TheVariants.{Store}
+use Rattle.node_name.specs.declared.NodeName.TheVariants.{Store}
 use Rattle.topology.specs.Config.{Settings}
 
 -- lengths, in their order
 abbrev pub lengths_data : List ℕ → Data
 lengths_data lengths = array (items_of (map whole lengths))
+
+-- a bad configuration is told by its first bad field
+abbrev pub bad_configuration_data : List ℕ → Data
+bad_configuration_data field = fields ((codes "bad", text (codes "configuration")) ∷ (codes "field", text field) ∷ [])
 
 -- stores that disagree are told by the first position at which they do
 abbrev pub bad_stores_data : Settings → StoreName → ℕ → Data
@@ -31,7 +35,7 @@ audit_data s answer position = with_member (answer_name answer) (answer_data s a
 -- the value that a reply is
 abbrev pub data_of : Settings → Reply → Data
 data_of s Configured = fields ((codes "ok", text (codes "configured")) ∷ [])
-data_of s (BadConfiguration field) = fields ((codes "bad", text (codes "configuration")) ∷ (codes "field", text field) ∷ [])
+data_of s (BadConfiguration field) = bad_configuration_data field
 data_of s (BadStores store position) = bad_stores_data s store position
 data_of s (Opened session) = fields ((codes "ok", text (codes "open")) ∷ (codes "session", whole session) ∷ [])
 data_of s (Called reply) = call_data s reply

@@ -9,7 +9,7 @@ use Rattle.tao_base.specs.declared.edge.Object.{Object}
 use Rattle.tao_base.specs.declared.id.OType.{OType}
 use Rattle.tao_base.specs.declared.query.Answer.{Answer}
 use Rattle.tao_base.specs.declared.query.Answer.TheVariants.{Object as ObjectIs, Edges as EdgesAre, Count}
-use Rattle.tao_link.specs.declared.NodeName.{NodeName}
+use Rattle.node_name.specs.declared.NodeName.{NodeName}
 use Rattle.topology.specs.Config.{Settings}
 use Rattle.topology.specs.Nodes.{node_text}
 

@@ -26,7 +26,7 @@ pub use refusals::{
     LineRefused, NameRefused, NodeRefused, PlanRefused, Refusal, SessionRefused, StoreRefused,
     UnsettledWhy, When,
 };
-pub use reply::{Reply, reply_text};
+pub use reply::{Reply, bad_configuration_text, reply_text};
 
 #[cfg(test)]
 mod tests;

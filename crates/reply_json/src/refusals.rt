@@ -4,10 +4,10 @@ ghost use Rattle.reply_json.specs.Refusals.{named, line_refused, plan_refused, s
 ghost use Rattle.serde_json.specs.View.{view};
 
 use super::values::node_value;
+use node_name::NodeName;
 use serde_json::{Value, json};
 use std::alloc::{AllocError, Global};
 use tao_base::{StoreName, Text};
-use tao_link::NodeName;
 use topology::Config;
 
 /// Why a request was refused.

@@ -1,8 +1,10 @@
 //! The reply to a line, and its text.
 ghost use Rattle.std.specs.Prelude.{◌≡◌, IfOk};
-ghost use Rattle.reply_json.specs.Reply.{audit_data, bad_stores_data, data_of, lengths_data, reply_text};
+ghost use Rattle.reply_json.specs.Reply.{audit_data, bad_configuration_data, bad_stores_data, data_of, lengths_data, reply_text};
 ghost use Rattle.reply_json.specs.OneLine.{IsOneLine};
+ghost use Rattle.reply_json.specs.declared.reply.Reply.TheVariants.{BadConfiguration};
 ghost use Rattle.serde_json.specs.View.{view};
+ghost use Rattle.topology.specs.Config.{Settings};
 
 use super::calls::{CallReply, call_value};
 use super::lists::Lengths;
@@ -10,10 +12,10 @@ use super::nodes::{NodeReply, nodes_value};
 use super::plans::{PlanReply, plan_value};
 use super::refusals::{Refusal, refusal_value};
 use super::values::{answer_name, answer_value, node_value, with_member};
+use node_name::NodeName;
 use serde_json::{Value, json};
 use std::alloc::{AllocError, Global};
 use tao_base::{Answer, Bytes, OutOfMemory, StoreName, Text};
-use tao_link::NodeName;
 use topology::Config;
 
 /// The reply to a line.
@@ -51,14 +53,23 @@ pub fn reply_text(alloc: Global, config: &Config, reply: &Reply) -> Result<Bytes
     Ok(Bytes::of(text))
 }
 
+/// The text of the reply to a first line that is no configuration: names aren't needed for it, and there
+/// are none yet. Takes time and memory in the length of the field's name.
+pub fn bad_configuration_text(alloc: Global, field: &str) -> Result<Bytes, OutOfMemory>
+    ensures text { IfOk result (λ bytes. (s : Settings) → bytes ≡ reply_text s (BadConfiguration field.now)) }
+    ensures one_line { IfOk result IsOneLine }
+{
+    let value = bad_configuration_value(alloc, field)?;
+    let text = value.to_vec(alloc)?;
+    Ok(Bytes::of(text))
+}
+
 fn reply_value(alloc: Global, config: &Config, reply: &Reply) -> Result<Value, AllocError>
     ensures { IfOk result (λ value. view value ≡ data_of config.now reply.now) }
 {
     match reply {
         Reply::Configured => json!(in alloc; {"ok": "configured"}),
-        Reply::BadConfiguration { field } => {
-            json!(in alloc; {"bad": "configuration", "field": field.as_str()})
-        }
+        Reply::BadConfiguration { field } => bad_configuration_value(alloc, field.as_str()),
         Reply::BadStores { store, position } => {
             bad_stores_value(alloc, config, *store, *position)
         }
@@ -73,6 +84,12 @@ fn reply_value(alloc: Global, config: &Config, reply: &Reply) -> Result<Value, A
         Reply::Audited { answer, position } => audit_value(alloc, config, answer, *position),
         Reply::Refused(refusal) => refusal_value(alloc, config, refusal),
     }
+}
+
+fn bad_configuration_value(alloc: Global, field: &str) -> Result<Value, AllocError>
+    ensures { IfOk result (λ value. view value ≡ bad_configuration_data field.now) }
+{
+    json!(in alloc; {"bad": "configuration", "field": field})
 }
 
 fn bad_stores_value(

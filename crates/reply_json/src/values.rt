@@ -4,10 +4,10 @@ ghost use Rattle.reply_json.specs.Json.{with_member};
 ghost use Rattle.reply_json.specs.Values.{pairs_data, otype_name, object_data, edge_data, edges_data, answer_name, answer_data, node_data};
 ghost use Rattle.serde_json.specs.View.{view};
 
+use node_name::NodeName;
 use serde_json::{Map, Value, json};
 use std::alloc::{AllocError, Global};
 use tao_base::{Answer, Data, Edge, OType, Object};
-use tao_link::NodeName;
 use topology::Config;
 
 /// An object with one member more, at its place in the order of the names.

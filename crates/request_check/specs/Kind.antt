@@ -1,7 +1,7 @@
 -- Which nodes a request takes.
 use Rattle.std.specs.Prelude.{Bool, true, false}
-use Rattle.tao_link.specs.declared.NodeName.{NodeName}
-use Rattle.tao_link.specs.declared.NodeName.TheVariants.{Store, Leader, Follower}
+use Rattle.node_name.specs.declared.NodeName.{NodeName}
+use Rattle.node_name.specs.declared.NodeName.TheVariants.{Store, Leader, Follower}
 use Rattle.request_check.specs.declared.kind.NodeKind.{NodeKind}
 use Rattle.request_check.specs.declared.kind.NodeKind.TheVariants as of_kind
 

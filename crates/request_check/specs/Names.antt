@@ -6,7 +6,7 @@ use Rattle.tao_base.specs.declared.id.OType.{OType}
 use Rattle.tao_schema.specs.AssocTypes.{atype_at, names_of}
 use Rattle.tao_schema.specs.Names.{place_of}
 use Rattle.tao_schema.specs.ObjectTypes.{otype_at}
-use Rattle.tao_link.specs.declared.NodeName.{NodeName}
+use Rattle.node_name.specs.declared.NodeName.{NodeName}
 use Rattle.topology.specs.Config.{Settings}
 use Rattle.topology.specs.Lookup.{node_at, tier_in}
 use Rattle.topology.specs.Regions.{region_at}

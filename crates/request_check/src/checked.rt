@@ -1,6 +1,6 @@
 //! Requests, with the places of what they name.
+use node_name::NodeName;
 use tao_base::{Key, Query, Write};
-use tao_link::NodeName;
 
 /// A session's write, by its number.
 #[derive(Debug, Drop)]

@@ -2,7 +2,7 @@
 ghost use Rattle.std.specs.Prelude.{◌≡◌};
 ghost use Rattle.request_check.specs.Kind.{takes};
 
-use tao_link::NodeName;
+use node_name::NodeName;
 
 /// Which nodes a request takes.
 #[derive(Clone, Copy, Debug, PartialEq, Eq)]

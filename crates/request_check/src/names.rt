@@ -5,9 +5,9 @@ ghost use Rattle.request_check.specs.Refusal.{Gives};
 
 use crate::kind::NodeKind;
 use crate::refusal::NameError;
+use node_name::NodeName;
 use std::alloc::{AllocError, Global};
 use tao_base::{AType, Id, OType, Text};
-use tao_link::NodeName;
 use tao_wire::NameRefused;
 use topology::Config;
 
@@ -26,7 +26,7 @@ pub(crate) struct Names<'c> {
 }
 
 impl Names<'_> {
-    ghost use Rattle.std.specs.Prelude.{◌≡◌, IfOk, ◌++◌, codes};
+    ghost use Rattle.std.specs.Prelude.{◌≡◌, IfOk};
     ghost use Rattle.request_check.specs.Names.{settings, region_of, tier_of, atype_of, otype_of, has_shard, has_id, tier_text, node_of};
 
     pub(crate) fn region(&self, name: &str) -> Result<u16, NameError>

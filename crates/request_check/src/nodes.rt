@@ -1,7 +1,8 @@
 //! The requests about nodes.
 ghost use Rattle.request_check.specs.Refusal.{Gives};
 ghost use Rattle.request_check.specs.Names.{settings};
-ghost use Rattle.request_check.specs.Requests.{key_of, maybe_key_of, evict_of, show_of, leader_of, link_of};
+ghost use Rattle.request_check.specs.Requests.{key_of, maybe_key_of, evict_of, show_of, leader_of, link_of, checked_of};
+ghost use Rattle.request_json.specs.declared.request.Request.TheVariants.{Deliver, Again, Drop, Refill, Inbox, Down, Up};
 
 use crate::calls::list_type;
 use crate::checked::{Checked, LeaderPlace, LinkPlace};
@@ -9,7 +10,65 @@ use crate::kind::NodeKind;
 use crate::names::Names;
 use crate::refusal::NameError;
 use tao_base::{Key, Text};
-use tao_wire::{KeyName, LeaderName, LinkName};
+use tao_wire::{KeyName, LeaderName, LinkName, MessageName};
+
+// ---- messages
+
+pub(crate) fn deliver_of(names: &Names<'_>, name: &MessageName) -> Result<Checked, NameError>
+    ensures { Gives result (checked_of (settings names.now) (Deliver name.now)) }
+{
+    let node = names.node(NodeKind::Cache, &name.node)?;
+    let message = name.message;
+    Ok(Checked::Deliver { node, message })
+}
+
+pub(crate) fn again_of(names: &Names<'_>, name: &MessageName) -> Result<Checked, NameError>
+    ensures { Gives result (checked_of (settings names.now) (Again name.now)) }
+{
+    let node = names.node(NodeKind::Cache, &name.node)?;
+    let message = name.message;
+    Ok(Checked::Again { node, message })
+}
+
+pub(crate) fn drop_of(names: &Names<'_>, name: &MessageName) -> Result<Checked, NameError>
+    ensures { Gives result (checked_of (settings names.now) (Drop name.now)) }
+{
+    let node = names.node(NodeKind::Cache, &name.node)?;
+    let message = name.message;
+    Ok(Checked::Drop { node, message })
+}
+
+// ---- one node
+
+pub(crate) fn inbox_of(names: &Names<'_>, node: &Text) -> Result<Checked, NameError>
+    ensures { Gives result (checked_of (settings names.now) (Inbox node.now)) }
+{
+    let node = names.node(NodeKind::Cache, node)?;
+    Ok(Checked::Inbox { node })
+}
+
+pub(crate) fn down_of(names: &Names<'_>, node: &Text) -> Result<Checked, NameError>
+    ensures { Gives result (checked_of (settings names.now) (Down node.now)) }
+{
+    let node = names.node(NodeKind::Cache, node)?;
+    Ok(Checked::Down { node })
+}
+
+pub(crate) fn up_of(names: &Names<'_>, node: &Text) -> Result<Checked, NameError>
+    ensures { Gives result (checked_of (settings names.now) (Up node.now)) }
+{
+    let node = names.node(NodeKind::Cache, node)?;
+    Ok(Checked::Up { node })
+}
+
+// ---- items
+
+pub(crate) fn refill_of(names: &Names<'_>, node: &Text) -> Result<Checked, NameError>
+    ensures { Gives result (checked_of (settings names.now) (Refill node.now)) }
+{
+    let node = names.node(NodeKind::Follower, node)?;
+    Ok(Checked::Refill { node })
+}
 
 fn key_of(names: &Names<'_>, key: &KeyName) -> Result<Key, NameError>
     ensures { Gives result (key_of (settings names.now) key.now) }
@@ -54,6 +113,8 @@ pub(crate) fn show_of(names: &Names<'_>, node: &Text, key: &KeyName) -> Result<C
     let key = key_of(names, key)?;
     Ok(Checked::Show { node, key })
 }
+
+// ---- leaders and links
 
 pub(crate) fn leader_of(names: &Names<'_>, leader: &LeaderName) -> Result<LeaderPlace, NameError>
     ensures { Gives result (leader_of (settings names.now) leader.now) }

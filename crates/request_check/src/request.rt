@@ -5,9 +5,11 @@ ghost use Rattle.request_check.specs.Requests.{open_of, write_call_of, read_call
 
 use crate::calls::{query_of, write_of};
 use crate::checked::{Checked, CheckedCall, CheckedRead, CheckedWrite};
-use crate::kind::NodeKind;
 use crate::names::Names;
-use crate::nodes::{evict_of, leader_of, link_of, show_of};
+use crate::nodes::{
+    again_of, deliver_of, down_of, drop_of, evict_of, inbox_of, leader_of, link_of, refill_of,
+    show_of, up_of,
+};
 use crate::refusal::{CheckRefusal, NameError};
 use std::alloc::Global;
 use tao_base::Text;
@@ -34,29 +36,10 @@ fn checked_of(names: &Names<'_>, request: &Request) -> Result<Checked, NameError
         Request::Call(call) => call_of(names, call).map(Checked::Call),
         Request::Hold { plan, call } => held_of(names, *plan, call),
         Request::Advance { plan } => Ok(Checked::Advance { plan: *plan }),
-        Request::Deliver(name) => names
-            .node(NodeKind::Cache, &name.node)
-            .map(|node| Checked::Deliver {
-                node,
-                message: name.message,
-            }),
-        Request::Again(name) => names
-            .node(NodeKind::Cache, &name.node)
-            .map(|node| Checked::Again {
-                node,
-                message: name.message,
-            }),
-        Request::Drop(name) => names
-            .node(NodeKind::Cache, &name.node)
-            .map(|node| Checked::Drop {
-                node,
-                message: name.message,
-            }),
-        Request::Refill { node } => {
-            names
-                .node(NodeKind::Follower, node)
-                .map(|node| Checked::Refill { node })
-        }
+        Request::Deliver(name) => deliver_of(names, name),
+        Request::Again(name) => again_of(names, name),
+        Request::Drop(name) => drop_of(names, name),
+        Request::Refill { node } => refill_of(names, node),
         Request::Stream {
             region,
             shard,
@@ -65,15 +48,9 @@ fn checked_of(names: &Names<'_>, request: &Request) -> Result<Checked, NameError
         Request::Repair { shard } => repair_of(names, *shard),
         Request::Evict { node, key } => evict_of(names, node, key),
         Request::Show { node, key } => show_of(names, node, key),
-        Request::Inbox { node } => names
-            .node(NodeKind::Cache, node)
-            .map(|node| Checked::Inbox { node }),
-        Request::Down { node } => names
-            .node(NodeKind::Cache, node)
-            .map(|node| Checked::Down { node }),
-        Request::Up { node } => names
-            .node(NodeKind::Cache, node)
-            .map(|node| Checked::Up { node }),
+        Request::Inbox { node } => inbox_of(names, node),
+        Request::Down { node } => down_of(names, node),
+        Request::Up { node } => up_of(names, node),
         Request::Suspect(leader) => leader_of(names, leader).map(Checked::Suspect),
         Request::Trust(leader) => leader_of(names, leader).map(Checked::Trust),
         Request::Cut(link) => link_of(names, link).map(Checked::Cut),

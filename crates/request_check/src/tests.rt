@@ -1,9 +1,9 @@
 //! Which refusal comes first, and which places are found.
 use super::{CheckRefusal, Checked, LeaderPlace, check};
+use node_name::NodeName;
 use std::alloc::Global;
 use std::test::Fail;
 use tao_base::{Bytes, Text};
-use tao_link::NodeName;
 use tao_schema::{AssocLine, Schema};
 use tao_wire::{read_request, reply_text};
 use topology::{Config, Masters, Name, Region, Regions, Tier, Tiers};

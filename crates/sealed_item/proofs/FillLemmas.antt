@@ -10,7 +10,8 @@ use Rattle.graph_model.specs.Edges.{edge_list}
 use Rattle.graph_model.specs.Log.{version}
 use Rattle.shard_log.proofs.Beginnings.{begins-length}
 use Rattle.shard_log.proofs.GrowthLemmas.{list_stays, object_stays, versions_stay}
-use Rattle.shard_log.specs.View.{View, Grows, WhereTold}
+use Rattle.graph_model.specs.Told.{WhereTold}
+use Rattle.shard_log.specs.View.{View, Grows}
 use Rattle.sealed_item.specs.FillLaws.{BeginningIsSealed, FillsStay, front_of}
 use Rattle.sealed_item.specs.Fills.{SealedItem, IsExactContent, IsSealed, IsSince, with_note}
 use Rattle.sealed_item.specs.declared.content.Content.{Content}

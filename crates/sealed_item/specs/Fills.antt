@@ -5,7 +5,8 @@ use Rattle.tao_base.specs.declared.id.Key.{Key}
 use Rattle.tao_base.specs.declared.id.Key.TheVariants.{Obj, List as Assocs}
 use Rattle.graph_model.specs.Log.{version}
 use Rattle.graph_model.specs.Prefixes.{IsExactList, IsExactObject}
-use Rattle.shard_log.specs.View.{View, WhereTold}
+use Rattle.graph_model.specs.Told.{WhereTold}
+use Rattle.shard_log.specs.View.{View}
 use Rattle.sealed_item.specs.declared.content.Content.{Content}
 use Rattle.sealed_item.specs.declared.content.Content.TheVariants.{Object as ObjectIs, List as ListIs}
 

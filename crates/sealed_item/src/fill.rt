@@ -31,7 +31,8 @@ impl Model for Fill {
 impl Fill {
     ghost use Rattle.std.specs.Prelude.{◌≡◌, ◌≤◌, IfOk, length};
     ghost use Rattle.graph_model.specs.Soundness.{IsSound};
-    ghost use Rattle.shard_log.specs.View.{Grows, WhereTold};
+    ghost use Rattle.graph_model.specs.Told.{WhereTold};
+    ghost use Rattle.shard_log.specs.View.{Grows};
     ghost use Rattle.sealed_item.specs.Fills.{
       IsExactContent,
       IsSealed,
@@ -98,7 +99,8 @@ impl Fill {
         self.note.look()
     }
 
-    /// A second note with the view of the fill's, for another note to meet.
+    /// A second note with the view of the fill's, for another note to meet. The one error is want of
+    /// memory.
     pub fn split_note(&mut self) -> Result<Note, OutOfMemory>
         ensures same { self.new ≡ self.old }
         ensures view { IfOk result (λ note. note ≡ self.old.note) }

@@ -16,7 +16,8 @@ use Rattle.graph_model.specs.Prefixes.{IsExactList, IsExactObject}
 use Rattle.graph_model.specs.Soundness.{IsSound}
 use Rattle.shard_log.proofs.Beginnings.{begins-rest, begins-self, begins-shorter, begins-trans, begins-whole}
 use Rattle.shard_log.specs.GrowthLaws.{BeginningsAreSound, EntriesStay, GrowthGoesOn, ItemsStayExact, VersionsStay}
-use Rattle.shard_log.specs.View.{View, Grows, WhereTold}
+use Rattle.graph_model.specs.Told.{WhereTold}
+use Rattle.shard_log.specs.View.{View, Grows}
 
 pub grows-self : (v : View) → Grows v v
 grows-self v = record { log_is = refl; begins = begins-self v.entries }

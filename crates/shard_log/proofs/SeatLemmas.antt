@@ -9,7 +9,8 @@ use Rattle.shard_log.proofs.Beginnings.{longer_cases}
 use Rattle.shard_log.specs.declared.rule.Opening.{Opening}
 use Rattle.shard_log.specs.declared.rule.Seen.{Seen}
 use Rattle.shard_log.specs.Rule.{IsLog, IsNote, IsPen, IsSeated, first_seen, meeting, reading}
-use Rattle.shard_log.specs.View.{WhereTold, most_entries}
+use Rattle.graph_model.specs.Told.{WhereTold}
+use Rattle.shard_log.specs.View.{most_entries}
 
 -- a log with one more entry
 pub log_grows : (v : Seen) (e : Entry) → IsLog v → length v.entries < most_entries → WhereTold v.told (CanFollow v.entries e) → IsLog (record v { entries = v.entries ++ e ∷ [] })

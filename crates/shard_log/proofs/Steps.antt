@@ -15,7 +15,8 @@ use Rattle.shard_log.specs.declared.rule.Opening.{Opening}
 use Rattle.shard_log.specs.declared.rule.Role.TheVariants.{Writes, Reads, Spent}
 use Rattle.shard_log.specs.declared.rule.Seen.{Seen}
 use Rattle.shard_log.specs.Rule.{Adds, AllBegin, Confirms, Fits, IsKept, IsLog, Looks, first_seen, meeting, reading, spent, taking_in}
-use Rattle.shard_log.specs.View.{Begins, WhereTold, most_entries}
+use Rattle.graph_model.specs.Told.{WhereTold}
+use Rattle.shard_log.specs.View.{Begins, most_entries}
 
 -- few lists begin another
 none_begin : (whole : List Entry) → AllBegin [] whole

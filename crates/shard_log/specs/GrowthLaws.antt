@@ -10,7 +10,8 @@ use Rattle.graph_model.specs.Log.{version}
 use Rattle.graph_model.specs.Merges.{entry_at}
 use Rattle.graph_model.specs.Prefixes.{IsExactList, IsExactObject}
 use Rattle.graph_model.specs.Soundness.{IsSound}
-use Rattle.shard_log.specs.View.{View, Grows, WhereTold}
+use Rattle.graph_model.specs.Told.{WhereTold}
+use Rattle.shard_log.specs.View.{View, Grows}
 
 -- growth is a chain
 pub record GrowthGoesOn : Type 0 where

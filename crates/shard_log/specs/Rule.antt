@@ -8,7 +8,8 @@ use Rattle.tao_base.specs.declared.entry.Entry.{Entry}
 use Rattle.tao_base.specs.declared.entry.Kind.TheVariants.{ObjAdd}
 use Rattle.tao_base.specs.declared.entry.Origin.TheVariants.{Client}
 use Rattle.graph_model.specs.Soundness.{IsSound}
-use Rattle.shard_log.specs.View.{View, WhereTold, Begins, greater, longer, most_entries}
+use Rattle.graph_model.specs.Told.{WhereTold}
+use Rattle.shard_log.specs.View.{View, Begins, greater, longer, most_entries}
 use Rattle.shard_log.specs.declared.rule.Opening.{Opening}
 use Rattle.shard_log.specs.declared.rule.Role.TheVariants.{Writes, Reads, Spent}
 use Rattle.shard_log.specs.declared.rule.Seen.{Seen}

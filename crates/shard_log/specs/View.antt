@@ -1,5 +1,5 @@
 -- How contracts see a pen and a note: as a beginning of a log that was seen.
-use Rattle.std.specs.Prelude.{ℕ, ◌≡◌, Bool, true, List, [], ◌∷◌, length, take, max, nat_le, if◌then◌else◌}
+use Rattle.std.specs.Prelude.{ℕ, ◌≡◌, Bool, List, [], ◌∷◌, length, take, max, nat_le, if◌then◌else◌}
 use Rattle.atomic_table.specs.Seated.{TableId}
 use Rattle.tao_base.specs.declared.entry.Entry.{Entry}
 use Rattle.tao_base.specs.declared.id.Key.{Key}
@@ -22,10 +22,6 @@ pub record View : Type 0 where
   pub stored : List ℕ
   -- for each pin a version that what is read there is not below
   pub floors : List ℕ
-
--- what is said of a log, where it is told
-abbrev pub WhereTold : Bool → Type 0 → Type 0
-WhereTold told P = told ≡ true → P
 
 -- the whole list begins with the part
 abbrev pub Begins : List Entry → List Entry → Type 0

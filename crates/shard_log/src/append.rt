@@ -1,7 +1,8 @@
 //! The pen's step. A table can't be told an entry, so a ghost name carries it.
 ghost use Rattle.std.specs.Prelude.{◌≡◌, ◌<◌, ◌++◌, ◌∷◌, [], length};
 ghost use Rattle.graph_model.specs.Soundness.{CanFollow};
-ghost use Rattle.shard_log.specs.View.{WhereTold, most_entries};
+ghost use Rattle.graph_model.specs.Told.{WhereTold};
+ghost use Rattle.shard_log.specs.View.{most_entries};
 ghost use Rattle.shard_log.specs.declared.rule.Role.TheVariants.{Writes};
 
 use crate::rule::{Board, Place, Seen};

@@ -8,7 +8,8 @@ ghost use Rattle.shard_log.specs.GrowthLaws.{
   ItemsStayExact,
   VersionsStay,
 };
-ghost use Rattle.shard_log.specs.View.{WhereTold, most_entries};
+ghost use Rattle.graph_model.specs.Told.{WhereTold};
+ghost use Rattle.shard_log.specs.View.{most_entries};
 
 use crate::note::Note;
 

@@ -1,7 +1,8 @@
 //! A note: a beginning of the log that was seen.
 ghost use Rattle.std.specs.Prelude.{◌≡◌, ◌≤◌, length, IfOk};
 ghost use Rattle.graph_model.specs.Soundness.{IsSound};
-ghost use Rattle.shard_log.specs.View.{Grows, WhereTold, longer_view, most_entries};
+ghost use Rattle.graph_model.specs.Told.{WhereTold};
+ghost use Rattle.shard_log.specs.View.{Grows, longer_view, most_entries};
 
 use crate::rule::{Board, Confirm, Look, Meet, NewNote, Place};
 use std::alloc::Global;

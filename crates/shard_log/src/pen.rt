@@ -1,7 +1,8 @@
 //! The pen: who adds entries to the log.
 ghost use Rattle.std.specs.Prelude.{◌≡◌, ◌<◌, ◌≤◌, ◌++◌, ◌∷◌, [], length, IfOk, OnOk, OnErr};
 ghost use Rattle.graph_model.specs.Soundness.{CanFollow, IsSound};
-ghost use Rattle.shard_log.specs.View.{Grows, WhereTold, as_note, greater, most_entries};
+ghost use Rattle.graph_model.specs.Told.{WhereTold};
+ghost use Rattle.shard_log.specs.View.{Grows, as_note, greater, most_entries};
 
 use crate::append::append;
 use crate::note::Note;
@@ -88,6 +89,19 @@ impl Pen {
         let board = Arc::try_clone(&self.board)?;
         let place = self.board.shared.split_seat::<NewNote>(&mut self.place);
         Ok(Note { board, place })
+    }
+
+    /// A note that has seen the whole log, in place of a note of the log. Takes no memory, so that one who took a note
+    /// before entries were added sees them for certain.
+    #[tactic(auto, using(crate::proofs::Steps::splits))]
+    pub fn renew(&mut self, note: Note) -> Note
+        requires { self.old.log ≡ note.log }
+        ensures same { self.new ≡ self.old }
+        ensures view { result ≡ as_note self.old }
+    {
+        let Note { board, place: _ } = note;
+        let place = self.board.shared.split_seat::<NewNote>(&mut self.place);
+        Note { board, place }
     }
 
     // What the note has seen begins the log.

@@ -53,6 +53,17 @@ fn a_note_sees_an_entry_once_it_looks(rt: HostRuntime) -> Result<(), Fail> {
 }
 
 #[test]
+fn a_note_that_is_renewed_has_seen_all(rt: HostRuntime) -> Result<(), Fail> {
+    let alloc = rt.alloc();
+    let mut pen = ShardLog::make(alloc, Vec::new(alloc), true)?;
+    let note = pen.note()?;
+    let entry = first_edge(alloc, id(1)?, id(2)?)?;
+    pen.append(&entry);
+    assert_eq!(rt; pen.renew(note).look(), 1);
+    Ok(())
+}
+
+#[test]
 fn notes_and_the_pen_meet(rt: HostRuntime) -> Result<(), Fail> {
     let alloc = rt.alloc();
     let first = vec![in alloc; first_edge(alloc, id(1)?, id(2)?)?]?;

@@ -1,5 +1,5 @@
 -- What a keeper tells of its stores, and what calls do to it.
-use Rattle.std.specs.Prelude.{◌≡◌, ◌≢◌, ℕ, Bool, true, List, [], ◌∷◌, ◌++◌, Option, Some, None, unwrap_or, count_by, IsSomeAnd, Result, MatchResult}
+use Rattle.std.specs.Prelude.{◌≡◌, ◌≢◌, ℕ, List, [], ◌∷◌, ◌++◌, Option, Some, None, unwrap_or, count_by, IsSomeAnd, Result, MatchResult}
 use Rattle.tao_base.specs.declared.entry.Entry.{Entry}
 use Rattle.tao_base.specs.declared.entry.Origin.{Origin}
 use Rattle.tao_base.specs.declared.id.StoreName.{StoreName}
@@ -20,10 +20,6 @@ Tables = StoreName → Table
 -- a store that was not opened yet
 abbrev pub empty_table : Table
 empty_table = record { log = []; line = None }
-
--- what is said of the tables, where the keeper tells them
-abbrev pub WhereTold : Bool → Type 0 → Type 0
-WhereTold tells P = tells ≡ true → P
 
 -- no table changes
 abbrev pub Stays : Tables → Tables → Type 0

@@ -7,7 +7,8 @@ ghost use Rattle.graph_model.specs.Soundness.{CanFollow, IsSound};
 ghost use Rattle.tao_base.specs.declared.id.StoreName.{StoreName as Store};
 ghost use Rattle.tao_keeper.specs.Cause.{IsCaused};
 ghost use Rattle.tao_keeper.specs.Given.{AreGiven, HaveSmallStamps, IsGivenEntry, IsPosition};
-ghost use Rattle.tao_keeper.specs.Table.{Table, WhereTold, Stays, Changes, OpensAs, StandsAt, additions, after_commit, after_open};
+ghost use Rattle.graph_model.specs.Told.{WhereTold};
+ghost use Rattle.tao_keeper.specs.Table.{Table, Stays, Changes, OpensAs, StandsAt, additions, after_commit, after_open};
 
 use std::alloc::{AllocError, AllocFailed};
 use std::error::Error;

@@ -3,8 +3,8 @@ use Rattle.std.specs.Prelude.{ℕ, Bool, ◌==◌, ◌&&◌, ◌||◌, List, len
 use Rattle.std.specs.Bool.{then_some}
 use Rattle.std.specs.List.{position_or_len, before_first, after_first}
 use Rattle.std.specs.Str.Parse.{digits_value}
-use Rattle.tao_link.specs.declared.NodeName.{NodeName}
-use Rattle.tao_link.specs.declared.NodeName.TheVariants.{Store, Leader, Follower}
+use Rattle.node_name.specs.declared.NodeName.{NodeName}
+use Rattle.node_name.specs.declared.NodeName.TheVariants.{Store, Leader, Follower}
 use Rattle.topology.specs.Config.{Settings}
 use Rattle.topology.specs.Regions.{region_at}
 use Rattle.topology.specs.Tiers.{tier_at}

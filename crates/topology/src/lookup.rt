@@ -4,8 +4,8 @@ ghost use Rattle.topology.specs.Lookup.{leaders_of, followers_of, number_below, 
 
 use super::config::Config;
 use super::regions::Region;
+use node_name::NodeName;
 use tao_base::StoreName;
-use tao_link::NodeName;
 
 impl Config {
     ghost use Rattle.std.specs.Prelude.{◌≡◌};

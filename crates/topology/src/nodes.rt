@@ -4,9 +4,9 @@ ghost use Rattle.topology.specs.Nodes.{region_name, tier_name, spelled};
 
 use super::config::Config;
 use super::regions::Region;
+use node_name::NodeName;
 use std::alloc::{AllocError, Global};
 use tao_base::Text;
-use tao_link::NodeName;
 
 impl Config {
     ghost use Rattle.std.specs.Prelude.{◌≡◌, IfOk};

@@ -1,6 +1,6 @@
 use Rattle.std.proofs.Common.{subst}
 use Rattle.graph_model.specs.Soundness.{IsSound}
-use Rattle.shard_log.specs.View.{WhereTold}
+use Rattle.graph_model.specs.Told.{WhereTold}
 use Rattle.shard_log.proofs.growth.notes_are_sound.Goals as goal
 
 pub returns-clause-sound : goal.returns-clause-sound

@@ -1,6 +1,7 @@
 use Rattle.std.proofs.Common.{◌<◌, length, sym, subst}
 use Rattle.graph_model.specs.Soundness.{CanFollow}
-use Rattle.shard_log.specs.View.{WhereTold, most_entries}
+use Rattle.graph_model.specs.Told.{WhereTold}
+use Rattle.shard_log.specs.View.{most_entries}
 use Rattle.shard_log.proofs.SeatLemmas.{pen_adds}
 use Rattle.shard_log.proofs.pen.Pen.append.Goals as goal
 

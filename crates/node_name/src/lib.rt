@@ -1,4 +1,4 @@
-//! The nodes of the store, and the links between them.
+//! The nodes of the store, as places of the configuration.
 #![tactic(auto)]
 
 use tao_base::StoreName;

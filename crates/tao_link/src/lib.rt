@@ -1,0 +1,12 @@
+//! Links: what carries calls from node to node, with a count of the carries that failed.
+#![tactic(auto)]
+
+mod link;
+mod planned;
+mod steady;
+#[cfg(test)]
+mod tests;
+
+pub use link::{Carry, Link, LinkFailed};
+pub use planned::PlannedLink;
+pub use steady::SteadyLink;

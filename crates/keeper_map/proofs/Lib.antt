@@ -1,9 +1,6 @@
-pub mod Changes
 pub mod Few
 pub mod Given
 pub mod Grown
-pub mod Mapped
-pub mod Objects
-pub mod Records
 pub mod Stamps
 pub mod StoreLemmas
+pub mod Told

@@ -14,7 +14,7 @@ use crate::log;
 use crate::plan::{Fails, FaultPlan};
 use crate::stores::Stores;
 use std::alloc::Global;
-use tao_base::{AType, EdgeState, Edges, Entry, Id, Key, Object, Origin, StoreName};
+use tao_base::{AType, EdgeState, Edges, Entry, Id, Key, Object, Origin, OutOfMemory, StoreName};
 use tao_keeper::{Commit, KeepFail, Keeper, MOST_ENTRIES, Opened, SERIAL_LIMIT, STAMP_LIMIT};
 
 /// A keeper that holds its tables in memory. It fails exactly where its plan says so, and tells everything.
@@ -43,6 +43,13 @@ impl MapKeeper {
             plan: FaultPlan::of(fails),
         }
     }
+}
+
+/// Want of memory, as a keeper tells it.
+fn no_memory(_: OutOfMemory) -> KeepFail
+    ensures { result ≡ KeepFail.OutOfMemory }
+{
+    KeepFail::OutOfMemory
 }
 
 impl Keeper for MapKeeper {
@@ -85,7 +92,7 @@ impl Keeper for MapKeeper {
         ensures plan { CallsAsPlanned (plan_of self.old) (plan_of self.new) result }
     {
         self.plan.begin_call()?;
-        Ok(log::record_of(self.alloc, self.stores.log(at), id1, atype, id2)?)
+        plain_graph::record_of(self.alloc, self.stores.log(at), id1, atype, id2).map_err(no_memory)
     }
 
     /// Reads the log once, and keeps the list in order through each of its changes, in time of their product. Refers to
@@ -104,7 +111,9 @@ impl Keeper for MapKeeper {
         ensures plan { CallsAsPlanned (plan_of self.old) (plan_of self.new) result }
     {
         self.plan.begin_call()?;
-        Ok(log::edges_of(self.alloc, self.stores.log(at), id1, atype, pos, most)?)
+        plain_graph::edges_of(self.alloc, self.stores.log(at), id1, atype, pos, most).map_err(
+            no_memory,
+        )
     }
 
     /// Reads the log once, refers to each change of the object, and copies the object.
@@ -114,7 +123,7 @@ impl Keeper for MapKeeper {
         ensures plan { CallsAsPlanned (plan_of self.old) (plan_of self.new) result }
     {
         self.plan.begin_call()?;
-        Ok(log::object_of(self.alloc, self.stores.log(at), id)?)
+        plain_graph::object_of(self.alloc, self.stores.log(at), id).map_err(no_memory)
     }
 
     /// Takes the time of `edges`. Refers to each change of the list, and copies nothing.
@@ -125,7 +134,7 @@ impl Keeper for MapKeeper {
         ensures plan { CallsAsPlanned (plan_of self.old) (plan_of self.new) result }
     {
         self.plan.begin_call()?;
-        Ok(log::count_of(self.alloc, self.stores.log(at), id1, atype)?)
+        plain_graph::count_of(self.alloc, self.stores.log(at), id1, atype).map_err(no_memory)
     }
 
     /// Reads the log once, and takes no memory.
@@ -136,7 +145,7 @@ impl Keeper for MapKeeper {
         ensures plan { CallsAsPlanned (plan_of self.old) (plan_of self.new) result }
     {
         self.plan.begin_call()?;
-        Ok(log::version_of(self.stores.log(at), &key))
+        Ok(plain_graph::version_of(self.stores.log(at), &key))
     }
 
     /// Reads no entry, and takes no memory.

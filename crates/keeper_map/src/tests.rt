@@ -132,47 +132,20 @@ fn a_commit_that_failed_is_made_again(rt: HostRuntime) -> Result<(), Fail> {
     );
     assert!(rt; keeper.edge(STORE, one, LIKES, two)?.is_some());
     assert!(rt; keeper.edge(STORE, two, LIKES, one)?.is_none());
-    assert_eq!(rt; (keeper.calls(), keeper.faults()), (11, 1));
+    assert_eq!(rt; keeper.edges(STORE, one, LIKES, 0, 9)?.as_slice().len(), 1);
+    assert_eq!(rt; (keeper.calls(), keeper.faults()), (12, 1));
     Ok(())
 }
 
-/// The change that puts an object with this many pairs, of which there is one at most.
-fn put(alloc: Global, pairs: usize) -> Result<Change, Fail> {
-    let mut payload = Vec::new(alloc);
-    if pairs == 1 {
-        payload.push((
-            String::from_str(alloc, "name")?,
-            String::from_str(alloc, "Ada")?,
-        ))?;
-    }
-    Ok(Change::PutObject(Object {
-        otype: OType(0),
-        payload: Data::of_pairs(alloc, payload)?,
-    }))
-}
-
-/// How many pairs the object 1 has, its version, and the last serial.
-fn object_in(alloc: Global, entries: &[Entry]) -> Result<(Option<usize>, u64, u64), Fail> {
-    let object = log::object_of(alloc, entries, id(1)?)?;
-    Ok((
-        object.map(|object| object.payload.pairs().len()),
-        log::version_of(entries, &Key::Obj(id(1)?)),
-        log::additions_in(entries),
-    ))
-}
-
 #[test]
-fn an_object_is_what_was_put_last_until_it_is_dropped(rt: HostRuntime) -> Result<(), Fail> {
+fn an_entry_stands_at_its_position(rt: HostRuntime) -> Result<(), Fail> {
     let alloc = rt.alloc();
     let key = Key::Obj(id(1)?);
     let mut entries = Vec::new(alloc);
-    assert_eq!(rt; object_in(alloc, &entries)?, (None, 0, 0));
-    entries.push(entry(alloc, 1, Kind::ObjAdd, key, put(alloc, 0)?)?)?;
-    assert_eq!(rt; object_in(alloc, &entries)?, (Some(0), 1, 1));
-    entries.push(entry(alloc, 2, Kind::ObjUpdate, key, put(alloc, 1)?)?)?;
-    assert_eq!(rt; object_in(alloc, &entries)?, (Some(1), 2, 1));
-    entries.push(entry(alloc, 3, Kind::ObjDelete, key, Change::DropObject)?)?;
-    assert_eq!(rt; object_in(alloc, &entries)?, (None, 3, 1));
+    for (position, kind) in [(1, Kind::ObjAdd), (2, Kind::ObjDelete), (3, Kind::ObjAdd)] {
+        entries.push(entry(alloc, position, kind, key, Change::DropObject)?)?;
+    }
+    assert_eq!(rt; log::additions_in(&entries), 2);
     for (position, found) in [
         (0, None),
         (1, Some(1)),
@@ -183,26 +156,6 @@ fn an_object_is_what_was_put_last_until_it_is_dropped(rt: HostRuntime) -> Result
         let entry = log::entry_of(&entries, position)?;
         assert_eq!(rt; entry.map(|entry| entry.position), found);
     }
-    Ok(())
-}
-
-#[test]
-fn a_cut_edge_counts_no_more(rt: HostRuntime) -> Result<(), Fail> {
-    let alloc = rt.alloc();
-    let (one, two, three) = (id(1)?, id(2)?, id(3)?);
-    let mut entries = Vec::new(alloc);
-    for (id2, count) in [(two, 1), (three, 2), (two, 2)] {
-        entries.push(set_edge(alloc, one, id2, 5)?)?;
-        assert_eq!(rt; log::count_of(alloc, &entries, one, LIKES)?, count);
-    }
-    let cut = Change::CutEdge {
-        id2: two,
-        stamp: stamp(one),
-        was: Some(5),
-    };
-    let key = Key::List(one, LIKES);
-    entries.push(entry(alloc, 4, Kind::AssocDelete, key, cut)?)?;
-    assert_eq!(rt; log::count_of(alloc, &entries, one, LIKES)?, 1);
     Ok(())
 }
 
@@ -250,38 +203,5 @@ fn a_call_that_failed_is_made_again(rt: HostRuntime) -> Result<(), Fail> {
     assert_eq!(rt; keeper.last_serial(STORE), Err(KeepFail::Failed));
     assert_eq!(rt; keeper.last_serial(STORE), Ok(1));
     assert_eq!(rt; (keeper.calls(), keeper.faults()), (9, 4));
-    Ok(())
-}
-
-/// The ids of the edges at some places of a list into which edges with the ids and times were set one after another.
-fn ids_at(alloc: Global, edges: &[(u64, Time)], pos: u64, most: u64) -> Result<Vec<u64>, Fail> {
-    let mut entries = Vec::new(alloc);
-    for (id2, time) in edges {
-        entries.push(set_edge(alloc, id(1)?, id(*id2)?, *time)?)?;
-    }
-    let found = log::edges_of(alloc, &entries, id(1)?, LIKES, pos, most)?;
-    Ok(
-        found
-            .as_slice()
-            .iter()
-            .map(|edge| edge.id2.number())
-            .collect(alloc)?,
-    )
-}
-
-#[test]
-fn edges_stand_newest_first_and_once(rt: HostRuntime) -> Result<(), Fail> {
-    let alloc = rt.alloc();
-    let edges = [(3, 7), (9, 7), (5, 7), (2, 9), (9, 8)];
-    for (pos, most, ids) in [
-        (0, 9, [2, 9, 5, 3].as_slice()),
-        (1, 2, [9, 5].as_slice()),
-        (3, 2, [3].as_slice()),
-        (4, 1, [].as_slice()),
-        (u64::MAX, u64::MAX, [].as_slice()),
-    ] {
-        let found = ids_at(alloc, &edges, pos, most)?;
-        assert_eq!(rt; found.as_slice(), ids, "{most} at {pos}");
-    }
     Ok(())
 }

@@ -1,6 +1,0 @@
-use Rattle.std.proofs.Common.{rules}
-use Rattle.keeper_map.proofs.Mapped.{put_in_place}
-use Rattle.keeper_map.proofs.log.put_in.Goals as goal
-
-pub returns : goal.returns
-returns c = rw (← put_in_place c.args.edge c.args.edges.now.items) (search rules)

@@ -1,0 +1,5 @@
+pub mod Chosen
+pub mod LastObject
+pub mod LastRecord
+pub mod Listed
+pub mod Mapped

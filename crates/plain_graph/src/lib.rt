@@ -1,0 +1,22 @@
+//! The plain table: what the entries of a log say of its graph, read from the entries themselves.
+//!
+//! Each function reads all entries of the log. That is what they are for: they stand as close to
+//! the definitions as code can, and faster answers are checked against them.
+#![tactic(auto)]
+
+mod answering;
+mod as_edge;
+mod changes;
+mod lists;
+mod objects;
+mod records;
+mod selecting;
+#[cfg(test)]
+mod tests;
+
+pub use answering::answer;
+pub use changes::version_of;
+pub use lists::{count_of, edges_of};
+pub use objects::object_of;
+pub use records::record_of;
+pub use selecting::select;

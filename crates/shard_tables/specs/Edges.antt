@@ -1,5 +1,5 @@
 -- The records that a write gives at id1, over the records that stand there.
-use Rattle.std.specs.Prelude.{◌+◌, ◌<◌, ◌≤◌, Bool, List, [], ◌∷◌, All, Option, Some, None, ◌==◌}
+use Rattle.std.specs.Prelude.{ℕ, ◌≡◌, ◌+◌, ◌<◌, ◌≤◌, Bool, List, [], ◌∷◌, All, Option, Some, None, ◌==◌, ⊤}
 use Rattle.std.specs.List.{AllByRecursion}
 use Rattle.tao_base.specs.Ids.{shard_of}
 use Rattle.tao_base.specs.Stamps.{stamp_of}
@@ -7,9 +7,14 @@ use Rattle.tao_base.specs.declared.edge.EdgeState.{EdgeState}
 use Rattle.tao_base.specs.declared.edge.EdgeState.TheVariants.{Live, Cut}
 use Rattle.tao_base.specs.declared.edge.Stamp.{Stamp}
 use Rattle.tao_base.specs.declared.id.AType.{AType}
+use Rattle.tao_base.specs.declared.entry.Touch.{Touch}
 use Rattle.tao_base.specs.declared.id.Id.{Id}
+use Rattle.tao_base.specs.declared.id.Key.TheVariants.{List as Assocs}
+use Rattle.tao_base.specs.declared.write.Write.{Write}
+use Rattle.tao_base.specs.declared.write.Write.TheVariants.{ObjAdd, ObjUpdate, ObjDelete, AssocAdd, AssocDelete, AssocChangeType}
 use Rattle.graph_model.specs.Edges.{number_of}
 use Rattle.graph_model.specs.Soundness.{EdgeUpdate}
+use Rattle.graph_model.specs.Writes.{change_to}
 
 -- the stamp after that of the record
 abbrev pub stamp_after : Id → Option EdgeState → Stamp
@@ -39,3 +44,25 @@ pub record AreNext (us : List EdgeUpdate) : Type 0 where
 -- the stamps' numbers are below it
 pub record AreStamped (us : List EdgeUpdate) : Type 0 where
   pub each : All (λ u. (stamp_of u.3).number < 4611686018427387904) us
+
+-- the records are those of the write over some records, of which nothing is said
+abbrev pub AreOverSome : Write → List EdgeUpdate → Type 0
+AreOverSome (AssocAdd id1 atype id2 time payload) us = (old : Option EdgeState) × (us ≡ (id1, atype, id2, Live time payload (stamp_after id1 old)) ∷ [])
+AreOverSome (AssocDelete id1 atype id2) us = (old : Option EdgeState) × (us ≡ cut_over id1 atype id2 old)
+AreOverSome (AssocChangeType id1 atype id2 newtype) us = (old : Option EdgeState) × (there : Option EdgeState) × (us ≡ move_over id1 atype id2 newtype old there)
+AreOverSome (ObjAdd shard otype payload) us = us ≡ []
+AreOverSome (ObjUpdate id payload) us = us ≡ []
+AreOverSome (ObjDelete id) us = us ≡ []
+
+-- the touch writes the record
+pub record WritesRecord (u : EdgeUpdate) (t : Touch) : Type 0 where
+  pub was : Option ℕ
+  pub key_is : t.key ≡ Assocs u.0 u.1
+  pub change_is : t.change ≡ change_to u.2 u.3 was
+
+-- each touch writes the record in its place
+abbrev pub WriteRecords : List EdgeUpdate → List Touch → Type 0
+WriteRecords [] [] = ⊤
+WriteRecords [] (t ∷ ts) = ⊥
+WriteRecords (u ∷ us) [] = ⊥
+WriteRecords (u ∷ us) (t ∷ ts) = WritesRecord u t × WriteRecords us ts

@@ -1,5 +1,5 @@
 -- Whether an entry is one that a write could have made, as a test.
-use Rattle.std.specs.Prelude.{Bool, true, false, List, [], ◌∷◌, ◌==◌, ◌&&◌, bytes_eq}
+use Rattle.std.specs.Prelude.{ℕ, ◌≡◌, Bool, true, false, List, [], ◌∷◌, Option, Some, None, ◌==◌, ◌&&◌, bytes_eq, ⊤}
 use Rattle.std.specs.Cmp.Lexicographic.{pointwise}
 use Rattle.tao_base.specs.Ids.{shard_of}
 use Rattle.tao_base.specs.declared.data.Pair.{Pair}
@@ -7,6 +7,7 @@ use Rattle.tao_base.specs.declared.edge.Edge.{Edge}
 use Rattle.tao_base.specs.declared.edge.Object.{Object}
 use Rattle.tao_base.specs.declared.entry.Change.{Change}
 use Rattle.tao_base.specs.declared.entry.Change.TheVariants.{PutObject, DropObject, SetEdge, CutEdge}
+use Rattle.tao_base.specs.declared.entry.Entry.{Entry}
 use Rattle.tao_base.specs.declared.entry.Touch.{Touch}
 use Rattle.tao_base.specs.declared.id.AType.{AType}
 use Rattle.tao_base.specs.declared.id.Id.{Id}
@@ -14,6 +15,7 @@ use Rattle.tao_base.specs.declared.id.Key.{Key}
 use Rattle.tao_base.specs.declared.id.Key.TheVariants.{Obj, List as Assocs}
 use Rattle.tao_base.specs.declared.write.Write.{Write}
 use Rattle.tao_base.specs.declared.write.Write.TheVariants.{ObjAdd, ObjUpdate, ObjDelete, AssocAdd, AssocDelete, AssocChangeType}
+use Rattle.graph_model.specs.Writes.{Names}
 
 -- the same key with the same value
 abbrev pub same_pair : Pair → Pair → Bool
@@ -80,3 +82,46 @@ fits_second (AssocDelete id1 atype id2) ts = true
 abbrev pub names : Write → List Touch → Bool
 names write [] = false
 names write (t ∷ ts) = fits_first write t.key t.change && fits_second write ts
+
+-- the touches say what the write names, where there are any
+abbrev pub NameWrite : Write → List Touch → Type 0
+NameWrite write [] = ⊤
+NameWrite write (t ∷ ts) = Names write (t ∷ ts)
+
+-- there is one touch, which changes the key so
+pub record IsOneChange (key : Key) (change : Change) (ts : List Touch) : Type 0 where
+  pub version : ℕ
+  pub touches_are : ts ≡ (record { key = key; change = change; version = version }) ∷ []
+
+-- the object that a change puts at the key
+abbrev pub put_at : Key → Change → Option Id
+put_at (Obj id) (PutObject object) = Some id
+put_at (Obj id) DropObject = None
+put_at (Obj id) (SetEdge edge was) = None
+put_at (Obj id) (CutEdge id2 stamp was) = None
+put_at (Assocs id1 atype) change = None
+
+-- the object that the first touch puts
+abbrev pub object_put : List Touch → Option Id
+object_put [] = None
+object_put (t ∷ ts) = put_at t.key t.change
+
+-- an object that is added has its entry
+abbrev pub HasEntry : Write → Option Entry → Type 0
+HasEntry (ObjAdd shard otype payload) None = ⊥
+HasEntry (ObjAdd shard otype payload) (Some entry) = ⊤
+HasEntry (ObjUpdate id payload) entry = ⊤
+HasEntry (ObjDelete id) entry = ⊤
+HasEntry (AssocAdd id1 atype id2 time payload) entry = ⊤
+HasEntry (AssocDelete id1 atype id2) entry = ⊤
+HasEntry (AssocChangeType id1 atype id2 newtype) entry = ⊤
+
+-- an object's addition has a touch
+abbrev pub HasTouch : Write → List Touch → Type 0
+HasTouch (ObjAdd shard otype payload) [] = ⊥
+HasTouch (ObjAdd shard otype payload) (t ∷ ts) = ⊤
+HasTouch (ObjUpdate id payload) ts = ⊤
+HasTouch (ObjDelete id) ts = ⊤
+HasTouch (AssocAdd id1 atype id2 time payload) ts = ⊤
+HasTouch (AssocDelete id1 atype id2) ts = ⊤
+HasTouch (AssocChangeType id1 atype id2 newtype) ts = ⊤

@@ -1,12 +1,28 @@
 -- What contracts see of a store.
 use Rattle.std.specs.Prelude.{ℕ}
 use Rattle.tao_base.specs.declared.id.StoreName.{StoreName}
+use Rattle.shard_log.specs.View.{View}
+use Rattle.shard_tables.specs.declared.store.Held.{Held}
+use Rattle.shard_tables.specs.declared.store.Held.TheVariants.{Whole, Seen}
+use Rattle.shard_tables.specs.declared.store.Role.{Role}
+use Rattle.shard_tables.specs.declared.store.Role.TheVariants.{Master, Slave}
 use Rattle.shard_tables.specs.declared.store.StoreNode.TheInside.{Inside}
 
--- its name, and how many entries its log may have
+-- its name, how many entries its log may have, its role, and what it has seen of the log: a master the whole
 pub record Store : Type 0 where
   pub name : StoreName
   pub log_max : ℕ
+  pub role : Role
+  pub view : View
+
+-- who has the pen is the master
+abbrev pub role_of : Held → Role
+role_of (Whole pen) = Master
+role_of (Seen note) = Slave
+
+abbrev pub view_of : Held → View
+view_of (Whole pen) = pen
+view_of (Seen note) = note
 
 abbrev pub store_of : Inside → Store
-store_of s = record { name = s.name; log_max = s.log_max }
+store_of s = record { name = s.name; log_max = s.log_max; role = role_of s.held; view = view_of s.held }

@@ -16,7 +16,7 @@ use Rattle.graph_model.specs.Writes.{FitsWrite, forward_entry, kind_of, own_upda
 use Rattle.tao_keeper.specs.Table.{Tables, Stays, Becomes, additions, after_commit}
 use Rattle.shard_tables.specs.declared.refusal.StoreRefusal.{StoreRefusal}
 use Rattle.shard_tables.specs.declared.refusal.StoreRefusal.TheVariants.{KeeperFault, LogFull, ShardFull, StampFull, SeqReused, OutOfMemory}
-use Rattle.shard_tables.specs.declared.store.Wrote.{Wrote}
+use Rattle.shard_tables.specs.declared.writes.Wrote.{Wrote}
 
 -- the shard of a write: the one that it names, or that of its object or of the edge's id1
 abbrev pub shard_of_write : Write → ℕ

@@ -4,12 +4,14 @@ ghost use Rattle.std.specs.List.{list_any};
 ghost use Rattle.graph_model.specs.Edges.{live_time, number_of, state_left};
 ghost use Rattle.graph_model.specs.Writes.{change_to, edge_touch};
 ghost use Rattle.shard_tables.specs.Causes.{HasCause};
-ghost use Rattle.shard_tables.specs.Edges.{AreStamped, is_past_stamps};
+ghost use Rattle.shard_tables.specs.Edges.{AreStamped, WriteRecords, WritesRecord, is_past_stamps};
+ghost use Rattle.shard_tables.specs.Fitting.{NameWrite};
 ghost use Rattle.shard_tables.specs.Written.{AreTouches, HasNone, IsEdgeWrite};
 ghost use Rattle.tao_base.specs.Stamps.{stamp_of};
 ghost use Rattle.tao_keeper.specs.Cause.{IsCaused};
 ghost use Rattle.tao_keeper.specs.Given.{HaveSmallStamps};
-ghost use Rattle.tao_keeper.specs.Table.{WhereTold, Stays};
+ghost use Rattle.graph_model.specs.Told.{WhereTold};
+ghost use Rattle.tao_keeper.specs.Table.{Stays};
 ghost use Rattle.tao_schema.specs.Schema.{types_of};
 
 use super::near_ends::with_near_ends;
@@ -68,6 +70,7 @@ fn edge_touch<M: Keeper>(
 ) -> Result<Touch, KeepFail>
     requires { (stamp_of update.now.3).number < STAMP_LIMIT }
     ensures touch { WhereTold M.TELLS (IfOk result (λ t. t ≡ edge_touch (M.told keeper.old at).log update.now)) }
+    ensures writes { IfOk result (WritesRecord update.now) }
     ensures small { IfOk result (λ t. number_of (state_left t.change) < STAMP_LIMIT) }
     ensures stays { WhereTold M.TELLS (Stays (M.told keeper.old) (M.told keeper.new)) }
     ensures calls { M.calls keeper.old ≤ M.calls keeper.new }
@@ -93,6 +96,7 @@ fn edge_touches<M: Keeper>(
 ) -> Result<Vec<Touch>, KeepFail>
     requires { AreStamped updates.now }
     ensures touches { WhereTold M.TELLS (IfOk result (λ ts. ts.items ≡ map (edge_touch (M.told keeper.old at).log) updates.now)) }
+    ensures write { IfOk result (λ ts. WriteRecords updates.now ts.items) }
     ensures small { IfOk result (λ ts. HaveSmallStamps ts.items) }
     ensures stays { WhereTold M.TELLS (Stays (M.told keeper.old) (M.told keeper.new)) }
     ensures calls { M.calls keeper.old ≤ M.calls keeper.new }
@@ -123,6 +127,7 @@ pub fn edge_write<M: Keeper>(
 ) -> Result<Vec<Touch>, StoreRefusal>
     requires { IsEdgeWrite write.now }
     ensures touches { WhereTold M.TELLS (MatchResult result (λ ts. AreTouches (types_of schema.now) (M.told keeper.old at).log write.now ts.items) (HasNone (M.told keeper.old at).log write.now)) }
+    ensures names { IfOk result (λ ts. NameWrite write.now ts.items) }
     ensures small { IfOk result (λ ts. HaveSmallStamps ts.items) }
     ensures stays { WhereTold M.TELLS (Stays (M.told keeper.old) (M.told keeper.new)) }
     ensures calls { M.calls keeper.old ≤ M.calls keeper.new }

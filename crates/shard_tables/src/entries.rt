@@ -2,9 +2,11 @@
 ghost use Rattle.std.specs.Prelude.{◌≡◌, ◌≤◌, ◌<◌, ◌+◌, IfOk, MatchResult};
 ghost use Rattle.graph_model.specs.Writes.{kind_of};
 ghost use Rattle.shard_tables.specs.Causes.{HasCause};
+ghost use Rattle.shard_tables.specs.Fitting.{HasTouch, NameWrite};
 ghost use Rattle.shard_tables.specs.Written.{AreTouches, HasNone, made_entry};
 ghost use Rattle.tao_keeper.specs.Given.{HaveSmallStamps};
-ghost use Rattle.tao_keeper.specs.Table.{WhereTold, Stays};
+ghost use Rattle.graph_model.specs.Told.{WhereTold};
+ghost use Rattle.tao_keeper.specs.Table.{Stays};
 ghost use Rattle.tao_schema.specs.Schema.{types_of};
 
 use super::edge_writes::edge_write;
@@ -25,6 +27,8 @@ pub fn touches_of<M: Keeper>(
     write: &Write,
 ) -> Result<Vec<Touch>, StoreRefusal>
     ensures touches { WhereTold M.TELLS (MatchResult result (λ ts. AreTouches (types_of schema.now) (M.told keeper.old at).log write.now ts.items) (HasNone (M.told keeper.old at).log write.now)) }
+    ensures names { IfOk result (λ ts. NameWrite write.now ts.items) }
+    ensures one { IfOk result (λ ts. HasTouch write.now ts.items) }
     ensures small { IfOk result (λ ts. HaveSmallStamps ts.items) }
     ensures stays { WhereTold M.TELLS (Stays (M.told keeper.old) (M.told keeper.new)) }
     ensures calls { M.calls keeper.old ≤ M.calls keeper.new }

@@ -1,22 +1,33 @@
 //! The tables of one shard at its store, and what a client's write makes of them.
 //!
-//! The store stands on a keeper, which holds the shard's log. A write that was made before is answered
-//! with its entry, and one that finds nothing to change with none. Any other adds the one entry that
+//! The store stands on a keeper, which holds the shard's log, and has the pen of the log that threads share, or a slave a
+//! note of it. Where the keeper tells its tables, its log is the pen's view, and begins the note's. A write that was made
+//! before is answered with its entry, and one that finds nothing to change with none. Any other adds the one entry that
 //! the graph's definition gives for it, or is refused and adds nothing.
 #![tactic(auto)]
 
+mod added;
 mod edge_writes;
 mod entries;
 mod fitting;
 mod near_ends;
 mod object_writes;
+mod opening;
 mod own_records;
+mod read_out;
+mod reads;
 mod refusal;
 mod same_data;
 mod store;
 #[cfg(test)]
 mod tests;
+mod writes;
 
+pub use added::object_added;
 pub use fitting::fits;
+pub use opening::log_of;
+pub use read_out::{ReadOut, answer_of_fill};
+pub use reads::Found;
 pub use refusal::StoreRefusal;
-pub use store::{StoreNode, Wrote};
+pub use store::{Role, StoreNode};
+pub use writes::Wrote;

@@ -3,10 +3,12 @@ ghost use Rattle.std.specs.Prelude.{◌≡◌, ◌≤◌, ◌<◌, ◌+◌, ◌*
 ghost use Rattle.graph_model.specs.Edges.{state_left};
 ghost use Rattle.graph_model.specs.Writes.{object_touches, touch_of};
 ghost use Rattle.shard_tables.specs.Causes.{HasCause};
+ghost use Rattle.shard_tables.specs.Fitting.{HasTouch, IsOneChange, NameWrite};
 ghost use Rattle.shard_tables.specs.Written.{HasNone, lacks_serial};
 ghost use Rattle.tao_keeper.specs.Cause.{IsCaused};
 ghost use Rattle.tao_keeper.specs.Given.{HaveSmallStamps};
-ghost use Rattle.tao_keeper.specs.Table.{WhereTold, Stays};
+ghost use Rattle.graph_model.specs.Told.{WhereTold};
+ghost use Rattle.tao_keeper.specs.Table.{Stays};
 
 use super::refusal::StoreRefusal;
 use std::alloc::Global;
@@ -26,6 +28,7 @@ fn object_touch<M: Keeper>(
 ) -> Result<Vec<Touch>, KeepFail>
     requires { state_left change ≡ None }
     ensures touches { WhereTold M.TELLS (IfOk result (λ ts. ts.items ≡ touch_of (M.told keeper.old at).log (Key.Obj id) change ∷ [])) }
+    ensures one { IfOk result (λ ts. IsOneChange (Key.Obj id) change ts.items) }
     ensures small { IfOk result (λ ts. HaveSmallStamps ts.items) }
     ensures stays { WhereTold M.TELLS (Stays (M.told keeper.old) (M.told keeper.new)) }
     ensures calls { M.calls keeper.old ≤ M.calls keeper.new }
@@ -62,6 +65,8 @@ pub fn add_object<M: Keeper>(
     payload: &Data,
 ) -> Result<Vec<Touch>, StoreRefusal>
     ensures touches { WhereTold M.TELLS (MatchResult result (λ ts. ts.items ≡ object_touches (M.told keeper.old at).log (Write.ObjAdd shard otype payload.now)) (HasNone (M.told keeper.old at).log (Write.ObjAdd shard otype payload.now))) }
+    ensures names { IfOk result (λ ts. NameWrite (Write.ObjAdd shard otype payload.now) ts.items) }
+    ensures one { IfOk result (λ ts. HasTouch (Write.ObjAdd shard otype payload.now) ts.items) }
     ensures serial { WhereTold M.TELLS (IfOk result (λ _. lacks_serial (M.told keeper.old at).log (Write.ObjAdd shard otype payload.now) ≡ false)) }
     ensures small { IfOk result (λ ts. HaveSmallStamps ts.items) }
     ensures stays { WhereTold M.TELLS (Stays (M.told keeper.old) (M.told keeper.new)) }
@@ -89,6 +94,7 @@ pub fn update_object<M: Keeper>(
     payload: &Data,
 ) -> Result<Vec<Touch>, KeepFail>
     ensures touches { WhereTold M.TELLS (IfOk result (λ ts. ts.items ≡ object_touches (M.told keeper.old at).log (Write.ObjUpdate id payload.now))) }
+    ensures names { IfOk result (λ ts. NameWrite (Write.ObjUpdate id payload.now) ts.items) }
     ensures small { IfOk result (λ ts. HaveSmallStamps ts.items) }
     ensures stays { WhereTold M.TELLS (Stays (M.told keeper.old) (M.told keeper.new)) }
     ensures calls { M.calls keeper.old ≤ M.calls keeper.new }
@@ -115,6 +121,7 @@ pub fn delete_object<M: Keeper>(
     id: Id,
 ) -> Result<Vec<Touch>, KeepFail>
     ensures touches { WhereTold M.TELLS (IfOk result (λ ts. ts.items ≡ object_touches (M.told keeper.old at).log (Write.ObjDelete id))) }
+    ensures names { IfOk result (λ ts. NameWrite (Write.ObjDelete id) ts.items) }
     ensures small { IfOk result (λ ts. HaveSmallStamps ts.items) }
     ensures stays { WhereTold M.TELLS (Stays (M.told keeper.old) (M.told keeper.new)) }
     ensures calls { M.calls keeper.old ≤ M.calls keeper.new }

@@ -2,9 +2,10 @@
 ghost use Rattle.std.specs.Prelude.{◌≡◌, ◌≤◌, ◌<◌, ◌∷◌, [], IfOk};
 ghost use Rattle.graph_model.specs.Edges.{number_of};
 ghost use Rattle.graph_model.specs.Writes.{own_updates};
-ghost use Rattle.shard_tables.specs.Edges.{AreNext, cut_over, move_over, stamp_after};
+ghost use Rattle.shard_tables.specs.Edges.{AreNext, AreOverSome, cut_over, move_over, stamp_after};
 ghost use Rattle.tao_keeper.specs.Cause.{IsCaused};
-ghost use Rattle.tao_keeper.specs.Table.{WhereTold, Stays};
+ghost use Rattle.graph_model.specs.Told.{WhereTold};
+ghost use Rattle.tao_keeper.specs.Table.{Stays};
 
 use std::alloc::{AllocError, Global};
 use tao_base::{AType, Data, EdgeState, Id, Stamp, StoreName, Time, Write};
@@ -112,6 +113,7 @@ pub fn own_updates<M: Keeper>(
     write: &Write,
 ) -> Result<Vec<EdgeUpdate>, KeepFail>
     ensures updates { WhereTold M.TELLS (IfOk result (λ us. us.items ≡ own_updates (M.told keeper.old at).log write.now)) }
+    ensures over { IfOk result (λ us. AreOverSome write.now us.items) }
     ensures next { IfOk result (λ us. AreNext us.items) }
     ensures stays { WhereTold M.TELLS (Stays (M.told keeper.old) (M.told keeper.new)) }
     ensures calls { M.calls keeper.old ≤ M.calls keeper.new }

@@ -2,6 +2,7 @@
 use std::alloc::AllocError;
 use std::error::Error;
 use std::fmt;
+use tao_base::OutOfMemory;
 use tao_keeper::KeepFail;
 
 /// Why a store gave no answer. No table has changed then.
@@ -61,6 +62,17 @@ impl From<AllocError> for StoreRefusal {
     ghost from_gives = { λ _ refusal. refusal ≡ OutOfMemory };
 
     fn from(_: AllocError) -> StoreRefusal {
+        StoreRefusal::OutOfMemory
+    }
+}
+
+impl From<OutOfMemory> for StoreRefusal {
+    ghost use Rattle.std.specs.Prelude.{◌≡◌};
+    ghost use Rattle.shard_tables.specs.declared.refusal.StoreRefusal.TheVariants.{OutOfMemory};
+
+    ghost from_gives = { λ _ refusal. refusal ≡ OutOfMemory };
+
+    fn from(_: OutOfMemory) -> StoreRefusal {
         StoreRefusal::OutOfMemory
     }
 }

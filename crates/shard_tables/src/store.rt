@@ -1,38 +1,39 @@
-//! A store of one shard, and the writes of clients to it.
-ghost use Rattle.std.specs.Prelude.{◌≡◌, ◌≤◌, ℕ, IsTrue, None, Some};
-ghost use Rattle.tao_base.specs.EdgeTypes.{EdgeTypes, InversesMatch};
-ghost use Rattle.tao_base.specs.declared.entry.Origin.{Origin};
-ghost use Rattle.graph_model.specs.Soundness.{IsSoundOf, is_client};
-ghost use Rattle.graph_model.specs.WriteLaws.{ChangesType, IsNewOrigin};
-ghost use Rattle.shard_tables.specs.Causes.{HasCause};
-ghost use Rattle.shard_tables.specs.Written.{Answers, Gains, added_entry, shard_of_write};
-ghost use Rattle.tao_keeper.specs.Table.{WhereTold, Stays, StandsAt};
-ghost use Rattle.tao_schema.specs.Schema.{types_of};
+//! A store of one shard: its name, and what it holds of the shard's log.
+ghost use Rattle.std.specs.Prelude.{◌≡◌, ◌≤◌, ◌<◌, ◌↔◌, IfOk, IsTrue, Some, length};
+ghost use Rattle.graph_model.specs.Soundness.{CanFollow};
+ghost use Rattle.graph_model.specs.Told.{WhereTold};
+ghost use Rattle.shard_log.specs.View.{as_note, most_entries};
+ghost use Rattle.shard_tables.specs.StoreView.{Store};
+ghost use Rattle.shard_tables.specs.Stores.{gained, note_of};
+ghost use Rattle.shard_tables.specs.declared.store.Role.TheVariants.{Master, Slave};
 
-use super::entries::{entry_of, touches_of};
-use super::fitting::fits;
-use super::refusal::StoreRefusal;
-use std::alloc::Global;
+use shard_log::{Note, Pen};
 use std::marker::Model;
-use tao_base::{AType, Entry, Origin, StoreName, Write};
-use tao_keeper::{Commit, Keeper};
-use tao_schema::Schema;
+use tao_base::{Entry, OutOfMemory, StoreName};
 
-/// What a write did.
-#[derive(Debug, Drop)]
-pub struct Wrote {
-    /// The entry of the write; none where nothing was there to change.
-    pub entry: Option<Entry>,
-    /// Whether the entry was there already: the write was made before.
-    pub retry: bool,
+/// What a store is for its shard.
+#[derive(Clone, Copy, Debug, PartialEq, Eq)]
+pub enum Role {
+    /// It makes the writes.
+    Master,
+    /// It takes the master's entries.
+    Slave,
 }
 
-/// The master store of a shard: its name, and how many entries its log may have. What is stored lies
-/// with the keeper that each call is given.
-#[derive(Debug, Drop)]
+/// What a store holds of its shard's log.
+#[derive(Drop)]
+enum Held {
+    Whole(Pen),
+    Seen(Note),
+}
+
+/// A store of a shard: its name, how many entries its log may have, and the log's pen for the master, or a note of the
+/// log for a slave. What is stored lies with the keeper that each call is given.
+#[derive(Drop)]
 pub struct StoreNode {
     name: StoreName,
     log_max: u64,
+    held: Held,
 }
 
 impl Model for StoreNode {
@@ -47,142 +48,104 @@ impl Model for StoreNode {
 }
 
 impl StoreNode {
-    /// The master store of that name. Its log may have `log_max` entries, at most 65,536.
-    pub fn master(name: StoreName, log_max: u64) -> StoreNode
+    /// The master store of that name, which adds the entries of the pen's log: `log_max` at most, of 65,536. Takes no
+    /// memory.
+    pub fn master(name: StoreName, pen: Pen, log_max: u64) -> StoreNode
         requires { log_max ≤ 65536 }
-        ensures named { result.name ≡ name }
-        ensures limit { result.log_max ≡ log_max }
+        ensures { result ≡ record { name = name; log_max = log_max; role = Master; view = pen } }
     {
-        StoreNode { name, log_max }
+        StoreNode {
+            name,
+            log_max,
+            held: Held::Whole(pen),
+        }
     }
 
-    /// Makes the write of a client: adds its entry to the log, in one transaction. A write whose origin
-    /// stands in the log is answered with that entry, and one that finds nothing to change with none;
-    /// neither adds anything. A refusal changes no table.
-    ///
-    /// Refused, in this order: a write whose origin stands in the log with an entry of another write
-    /// (`SeqReused`), an object without a serial (`ShardFull`), an edge without a next stamp
-    /// (`StampFull`), an entry for which the log has no room (`LogFull`). `KeeperFault` comes only where
-    /// the keeper's count of faults rose, and `OutOfMemory` where there was no memory.
-    ///
-    /// Costs at most 13 calls of the keeper: one for the origin, and where that stands in the log one
-    /// for its entry. Else one for the object, the last serial or the record at id1, or two for the
-    /// records at id1 of both types; one for an object's touch and two for each touch of an edge, of
-    /// which there are four at most; one for the length, and one for the commit.
-    pub fn write<M: Keeper>(
-        &mut self,
-        alloc: Global,
-        keeper: &mut M,
-        schema: &Schema,
-        origin: Origin,
-        write: &Write,
-    ) -> Result<Wrote, StoreRefusal>
-        requires client { IsTrue (is_client origin) }
-        requires here { shard_of_write write.now ≡ self.old.name.shard }
-        requires changes { ChangesType (types_of schema.now) write.now }
-        requires sound { WhereTold M.TELLS (IsSoundOf (types_of schema.now) self.old.name.shard (M.told keeper.old self.old.name).log) }
-        ensures answer { WhereTold M.TELLS (Answers (types_of schema.now) self.old.log_max (M.told keeper.old self.old.name).log origin write.now result) }
-        ensures tables { WhereTold M.TELLS (Gains (M.told keeper.old) (M.told keeper.new) self.old.name (added_entry result)) }
-        ensures sound { WhereTold M.TELLS (IsSoundOf (types_of schema.now) self.old.name.shard (M.told keeper.new self.old.name).log) }
-        ensures calls { M.calls keeper.old ≤ M.calls keeper.new }
-        ensures cause { HasCause (M.faults keeper.old) (M.faults keeper.new) result }
+    /// A slave store of that name, which has seen what the note has. Takes no memory.
+    pub fn slave(name: StoreName, note: Note, log_max: u64) -> StoreNode
+        requires { log_max ≤ 65536 }
+        ensures { result ≡ record { name = name; log_max = log_max; role = Slave; view = note } }
+    {
+        StoreNode {
+            name,
+            log_max,
+            held: Held::Seen(note),
+        }
+    }
+
+    /// The store's name, under which the keeper has its tables.
+    pub fn name(&self) -> StoreName
+        ensures { result ≡ self.now.name }
+    {
+        self.name
+    }
+
+    /// How many entries the store's log may have.
+    pub fn log_max(&self) -> u64
+        ensures limit { result ≡ self.now.log_max }
+        ensures few { result ≤ 65536 }
+    {
+        self.log_max
+    }
+
+    /// Whether the store makes the writes of its shard, or takes those of its master.
+    pub fn role(&self) -> Role
+        ensures { result ≡ self.now.role }
+    {
+        match &self.held {
+            Held::Whole(_) => Role::Master,
+            Held::Seen(_) => Role::Slave,
+        }
+    }
+
+    /// A note that has seen all that the store has: for the master the whole log.
+    pub fn note(&mut self) -> Result<Note, OutOfMemory>
         ensures same { self.new ≡ self.old }
+        ensures view { IfOk result (λ note. note ≡ note_of self.old) }
     {
-        let found = keeper.origin(self.name, origin)?;
-        match found {
-            Some(position) => write_again(keeper, self.name, position, write),
-            None => {
-                write_first(
-                    alloc,
-                    keeper,
-                    self.name,
-                    self.log_max,
-                    schema,
-                    origin,
-                    write,
-                )
-            }
+        match &mut self.held {
+            Held::Whole(pen) => pen.note(),
+            Held::Seen(note) => note.split(),
         }
     }
-}
 
-/// Answers a write whose origin stands at the position.
-fn write_again<M: Keeper>(
-    keeper: &mut M,
-    at: StoreName,
-    position: u64,
-    write: &Write,
-) -> Result<Wrote, StoreRefusal>
-    ensures answer { WhereTold M.TELLS ((types : EdgeTypes) (most : ℕ) (origin : Origin) → StandsAt (M.told keeper.old at).log origin (Some position) → Answers types most (M.told keeper.old at).log origin write.now result) }
-    ensures nothing { added_entry result ≡ None }
-    ensures stays { WhereTold M.TELLS (Stays (M.told keeper.old) (M.told keeper.new)) }
-    ensures calls { M.calls keeper.old ≤ M.calls keeper.new }
-    ensures cause { HasCause (M.faults keeper.old) (M.faults keeper.new) result }
-{
-    let found = keeper.entry(at, position)?;
-    match found {
-        Some(entry) => {
-            if fits(&entry, write) {
-                Ok(Wrote {
-                    entry: Some(entry),
-                    retry: true,
-                })
-            } else {
-                Err(StoreRefusal::SeqReused { position })
-            }
+    /// How many entries the master's log has. Takes no memory, and no call of a keeper.
+    pub(crate) fn log_length(&self) -> u64
+        requires master { self.now.role ≡ Master }
+        ensures length { result ≡ length self.now.view.entries }
+        ensures few { result ≤ most_entries }
+    {
+        match &self.held {
+            Held::Whole(pen) => pen.len(),
+            Held::Seen(_) => unreachable!(),
         }
-        // Not of a keeper that tells its tables: it knows the origin, and not the entry.
-        None => Err(StoreRefusal::SeqReused { position }),
     }
-}
 
-/// Each type of a schema is the inverse of its inverse, as the schema says with each inverse that it
-/// gives.
-fn inverses_match(schema: &Schema)
-    ensures { InversesMatch (types_of schema.now) }
-{
-    let _inverse = schema.inverse(AType(0));
-}
+    /// Adds an entry at the end of the master's log. Takes no memory.
+    pub(crate) fn append(&mut self, entry: &Entry)
+        requires master { self.old.role ≡ Master }
+        requires room { length self.old.view.entries < most_entries }
+        requires follows { WhereTold self.old.view.log.told (CanFollow self.old.view.entries entry.now) }
+        ensures { self.new ≡ gained self.old (Some entry.now) }
+    {
+        match &mut self.held {
+            Held::Whole(pen) => {
+                pen.append(entry);
+            }
+            Held::Seen(_) => unreachable!(),
+        }
+    }
 
-/// Makes a write whose origin doesn't stand in the log.
-fn write_first<M: Keeper>(
-    alloc: Global,
-    keeper: &mut M,
-    at: StoreName,
-    log_max: u64,
-    schema: &Schema,
-    origin: Origin,
-    write: &Write,
-) -> Result<Wrote, StoreRefusal>
-    requires limit { log_max ≤ 65536 }
-    requires here { shard_of_write write.now ≡ at.shard }
-    requires changes { ChangesType (types_of schema.now) write.now }
-    requires sound { WhereTold M.TELLS (IsSoundOf (types_of schema.now) at.shard (M.told keeper.old at).log) }
-    requires new { WhereTold M.TELLS (IsNewOrigin (M.told keeper.old at).log origin) }
-    ensures answer { WhereTold M.TELLS (Answers (types_of schema.now) log_max (M.told keeper.old at).log origin write.now result) }
-    ensures tables { WhereTold M.TELLS (Gains (M.told keeper.old) (M.told keeper.new) at (added_entry result)) }
-    ensures sound { WhereTold M.TELLS (IsSoundOf (types_of schema.now) at.shard (M.told keeper.new at).log) }
-    ensures calls { M.calls keeper.old ≤ M.calls keeper.new }
-    ensures cause { HasCause (M.faults keeper.old) (M.faults keeper.new) result }
-{
-    let touches = touches_of(alloc, keeper, at, schema, write)?;
-    if touches.is_empty() {
-        return Ok(Wrote {
-            entry: None,
-            retry: false,
-        });
+    /// A note that has seen the master's whole log, in place of a note that was taken before. Takes no memory.
+    pub(crate) fn renew(&mut self, note: Note) -> Note
+        requires master { self.old.role ≡ Master }
+        requires one_log { self.old.view.log ≡ note.log }
+        ensures same { self.new ≡ self.old }
+        ensures view { result ≡ as_note self.old.view }
+    {
+        match &mut self.held {
+            Held::Whole(pen) => pen.renew(note),
+            Held::Seen(_) => unreachable!(),
+        }
     }
-    let length = keeper.length(at)?;
-    if length >= log_max {
-        return Err(StoreRefusal::LogFull { length });
-    }
-    let commit = Commit {
-        entry: entry_of(length, origin, write, touches),
-    };
-    inverses_match(schema);
-    keeper.commit(at, &commit)?;
-    Ok(Wrote {
-        entry: Some(commit.entry),
-        retry: false,
-    })
 }

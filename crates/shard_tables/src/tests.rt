@@ -1,19 +1,27 @@
 //! Writes over the keeper in memory, and what comes of them.
-ghost use Rattle.std.specs.Prelude.{◌≡◌, ◌≤◌, IfOk, IsTrue};
+ghost use Rattle.std.specs.Prelude.{◌≡◌, ◌≤◌, IfOk, IsTrue, true};
 ghost use Rattle.graph_model.specs.Soundness.{IsSoundOf};
 ghost use Rattle.graph_model.specs.WriteLaws.{ChangesType};
 ghost use Rattle.keeper_map.specs.MapKeeper.{told_by};
+ghost use Rattle.shard_tables.specs.Stores.{IsStoreOf};
 ghost use Rattle.shard_tables.specs.Written.{shard_of_write};
+ghost use Rattle.shard_tables.specs.declared.store.Role.TheVariants.{Master};
 ghost use Rattle.tao_base.specs.EdgeTypes.{EdgeTypes};
 ghost use Rattle.tao_schema.specs.Schema.{types_of};
 
-use crate::{StoreNode, StoreRefusal, Wrote};
+use crate::{Role, StoreNode, StoreRefusal, Wrote, object_added};
 use keeper_map::{Fails, MapKeeper};
+use shard_log::ShardLog;
 use std::alloc::{AllocError, Global};
 use std::process::Abort;
 use std::test::Fail;
-use tao_base::{AType, Data, Id, OType, Origin, StoreName, Text, Time, Write};
+use tao_base::{
+    AType, Change, Data, Entry, Id, Key, Kind, OType, Object, Origin, StoreName, Text, Time, Touch,
+    Touches, Write,
+};
 use tao_schema::{AssocLine, Schema};
+
+mod reads;
 
 const NAME: StoreName = StoreName {
     region: 0,
@@ -156,16 +164,22 @@ fn changes_type(write: &Write) -> bool
     }
 }
 
-/// What came of a write: its entry's position and how many touches it has, or why there is none.
-fn text_of(alloc: Global, made: &Result<Wrote, StoreRefusal>) -> Result<String, AllocError> {
+/// What came of a write: how many entries its note sees and how many touches its own has, or why there is none.
+fn text_of(alloc: Global, made: Result<Wrote, StoreRefusal>) -> Result<String, AllocError> {
     match made {
-        Ok(wrote) => match &wrote.entry {
+        Ok(
+            Wrote {
+                entry,
+                retry,
+                mut note,
+            },
+        ) => match entry {
             Some(entry) => {
-                if wrote.retry {
+                if retry {
                     format!(in alloc; "retry {}", entry.position)
                 } else {
                     let touches = entry.touches.as_slice().len();
-                    format!(in alloc; "entry {}, touches {touches}", entry.position)
+                    format!(in alloc; "entry {}, touches {touches}", note.look())
                 }
             }
             None => String::from_str(alloc, "none"),
@@ -190,26 +204,51 @@ fn empty_keeper(alloc: Global, schema: &Schema, commits: &[u64]) -> Result<MapKe
 fn outcome(
     alloc: Global,
     keeper: &mut MapKeeper,
+    store: &mut StoreNode,
     schema: &Schema,
-    log_max: u64,
     seq: u64,
     write: &Write,
 ) -> Result<String, Fail>
-    requires limit { log_max ≤ 65536 }
+    requires named { store.old.name ≡ NAME }
+    requires master { store.old.role ≡ Master }
+    requires keeper { IsStoreOf true (told_by keeper.old) store.old }
     requires sound { IsSoundOf (types_of schema.now) 0 (told_by keeper.old NAME).log }
+    ensures named { store.new.name ≡ NAME }
+    ensures master { store.new.role ≡ Master }
+    ensures keeper { IsStoreOf true (told_by keeper.new) store.new }
     ensures sound { IsSoundOf (types_of schema.now) 0 (told_by keeper.new NAME).log }
 {
     if shard_of(write) != 0 || !changes_type(write) {
         return Err("a write that the store doesn't take")?;
     }
-    let mut store = StoreNode::master(NAME, log_max);
     let origin = Origin::Client { session: 1, seq };
     let made = store.write(alloc, keeper, schema, origin, write);
-    Ok(text_of(alloc, &made)?)
+    Ok(text_of(alloc, made)?)
 }
 
-/// Makes the writes on an empty store, in their order, and compares what came of each. The commits of
-/// these numbers fail.
+/// Makes the writes on a master store that is opened over the keeper, in their order, and compares what came of each.
+fn assert_writes(
+    rt: &impl Abort,
+    alloc: Global,
+    keeper: &mut MapKeeper,
+    schema: &Schema,
+    log_max: u64,
+    rows: &[(u64, Ask, &str)],
+) -> Result<(), Fail>
+    requires limit { log_max ≤ 65536 }
+    requires sound { IsSoundOf (types_of schema.now) 0 (told_by keeper.old NAME).log }
+    ensures sound { IsSoundOf (types_of schema.now) 0 (told_by keeper.new NAME).log }
+{
+    let mut store = StoreNode::open_master(alloc, keeper, NAME, log_max)?;
+    for (seq, ask, expected) in rows {
+        let write = write_of(alloc, *ask)?;
+        let found = outcome(alloc, keeper, &mut store, schema, *seq, &write)?;
+        assert_eq!(rt; found.as_str(), *expected, "write {seq}");
+    }
+    Ok(())
+}
+
+/// Makes the writes on an empty store. The commits of these numbers fail.
 fn assert_outcomes(
     rt: &impl Abort,
     alloc: Global,
@@ -221,12 +260,7 @@ fn assert_outcomes(
 {
     let schema = schema(alloc)?;
     let mut keeper = empty_keeper(alloc, &schema, commits)?;
-    for (seq, ask, expected) in rows {
-        let write = write_of(alloc, *ask)?;
-        let found = outcome(alloc, &mut keeper, &schema, log_max, *seq, &write)?;
-        assert_eq!(rt; found.as_str(), *expected, "write {seq}");
-    }
-    Ok(())
+    assert_writes(rt, alloc, &mut keeper, &schema, log_max, rows)
 }
 
 #[test]
@@ -339,6 +373,58 @@ fn both_ends_stand_in_one_entry(rt: HostRuntime) -> Result<(), Fail> {
         (8, Ask::Cut(2, FRIEND, 1), "entry 7, touches 2"),
     ];
     assert_outcomes(&rt, rt.alloc(), 9, &[], &rows)
+}
+
+#[test]
+fn a_store_is_opened_over_the_log_of_its_keeper(rt: HostRuntime) -> Result<(), Fail> {
+    let alloc = rt.alloc();
+    let schema = schema(alloc)?;
+    let mut keeper = empty_keeper(alloc, &schema, &[])?;
+    let first = [(1, Ask::Add(USER, "Ada"), "entry 1, touches 1")];
+    assert_writes(&rt, alloc, &mut keeper, &schema, 9, &first)?;
+    let then = [
+        (1, Ask::Add(USER, "Ada"), "retry 1"),
+        (2, Ask::Add(USER, "Eve"), "entry 2, touches 1"),
+    ];
+    assert_writes(&rt, alloc, &mut keeper, &schema, 9, &then)
+}
+
+/// Nothing is added by an entry that puts no object first.
+#[test]
+fn the_object_that_an_entry_adds(rt: HostRuntime) -> Result<(), Fail> {
+    let alloc = rt.alloc();
+    let touch = Touch {
+        key: Key::Obj(id(7)?),
+        change: Change::PutObject(Object {
+            otype: USER,
+            payload: named(alloc, "Ada")?,
+        }),
+        version: 1,
+    };
+    let mut entry = Entry {
+        position: 1,
+        kind: Kind::ObjAdd,
+        origin: Origin::Client { session: 1, seq: 1 },
+        touches: Touches::of(vec![in alloc; touch]?),
+    };
+    assert_eq!(rt; object_added(&entry), Some(id(7)?));
+    entry.touches = Touches::of(Vec::new(alloc));
+    assert_eq!(rt; object_added(&entry), None);
+    Ok(())
+}
+
+#[test]
+fn a_slave_has_its_note(rt: HostRuntime) -> Result<(), Fail> {
+    let alloc = rt.alloc();
+    let mut pen = ShardLog::make(alloc, Vec::new(alloc), true)?;
+    let mut store = StoreNode::slave(NAME, pen.note()?, 9);
+    assert_eq!(rt;
+        (store.role(), store.name(), store.log_max()),
+        (Role::Slave, NAME, 9)
+    );
+    assert_eq!(rt; store.note()?.look(), 0);
+    assert_eq!(rt; StoreNode::master(NAME, pen, 9).role(), Role::Master);
+    Ok(())
 }
 
 #[test]

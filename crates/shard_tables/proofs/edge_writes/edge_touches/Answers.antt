@@ -2,6 +2,7 @@ use Rattle.std.proofs.Common.{sym, subst, ◌∙◌, arith, ◌<◌}
 use Rattle.std.proofs.lemmas.List.Elements.{All-push}
 use Rattle.graph_model.specs.Edges.{number_of, state_left}
 use Rattle.tao_keeper.specs.Given.{HaveSmallStamps}
+use Rattle.shard_tables.proofs.RecordLemmas.{records_done}
 use Rattle.shard_tables.proofs.TouchLemmas.{touch_more}
 use Rattle.shard_tables.proofs.edge_writes.edge_touches.Goals as goal
 
@@ -10,6 +11,9 @@ loop-update-preserved g c = record {
   touches = λ told.
       touch_more _ _ c.args.updates.now c.loop-update.update-index c.update-item.result _ _ _ (c.loop-update.invariant.stays told c.args.at) c.loop-update-test.true
       c.update-item.is (c.loop-update.invariant.touches told) (c.in_ok-edge_touch.ensures.touch told) c.in_ok-push.ensures.items;
+  write =
+      records_done c.args.updates.now c.loop-update.update-index c.update-item.result _ _ _ c.loop-update-test.true c.update-item.is c.loop-update.invariant.write
+      c.in_ok-edge_touch.ensures.writes c.in_ok-push.ensures.items;
   small =
       subst HaveSmallStamps (sym c.in_ok-push.ensures.items)
       (All-push (λ t. number_of (state_left t.change) < 4611686018427387904) _ _ c.loop-update.invariant.small c.in_ok-edge_touch.ensures.small);

@@ -1,0 +1,95 @@
+-- What a read of a store hands out: a fill, or the answer to a query that no front within the bound decides.
+use Rattle.std.specs.Prelude.{ℕ, ◌+◌, ◌≤◌, ◌≡◌, ⊤, true, List, length, min, take}
+use Rattle.tao_base.specs.EdgeTypes.{EdgeTypes}
+use Rattle.tao_base.specs.declared.edge.Edge.{Edge}
+use Rattle.tao_base.specs.declared.entry.Entry.{Entry}
+use Rattle.tao_base.specs.declared.id.AType.{AType}
+use Rattle.tao_base.specs.declared.id.Id.{Id}
+use Rattle.tao_base.specs.declared.id.Key.{Key}
+use Rattle.tao_base.specs.declared.id.Key.TheVariants.{Obj, List as Assocs}
+use Rattle.tao_base.specs.declared.query.Query.{Query}
+use Rattle.tao_base.specs.declared.query.Query.TheVariants.{ObjGet, AssocGet, AssocCount, AssocRange, AssocTimeRange}
+use Rattle.graph_model.specs.Answers.{key_of}
+use Rattle.graph_model.specs.Edges.{edge_list}
+use Rattle.graph_model.specs.Log.{object, version as version_of}
+use Rattle.graph_model.specs.Prefixes.{decides}
+use Rattle.list_prefix.specs.Fronts.{IsLeftOpen, IsShortestFront}
+use Rattle.list_prefix.specs.ListPrefix.{ListPrefix, list_prefix}
+use Rattle.shard_log.specs.View.{View}
+use Rattle.sealed_item.specs.Fills.{SealedItem}
+use Rattle.sealed_item.specs.declared.content.Content.{Content}
+use Rattle.sealed_item.specs.declared.content.Content.TheVariants.{Object as ObjectIs, List as ListIs}
+use Rattle.shard_tables.specs.Reads.{Reads}
+use Rattle.shard_tables.specs.declared.read_out.ReadOut.{ReadOut}
+use Rattle.shard_tables.specs.declared.read_out.ReadOut.TheVariants.{Filled, Past}
+
+-- all edges of a list, with their number
+abbrev pub whole_list : List Entry → Id → AType → ListPrefix
+whole_list log id1 atype = list_prefix (edge_list log id1 atype) (length (edge_list log id1 atype))
+
+-- what the log has at the key for the query: the object, or the shortest front of the list that decides the query
+abbrev pub IsContentFor : EdgeTypes → List Entry → Query → Key → Content → Type 0
+IsContentFor types log query (Obj id) (ObjectIs found) = found ≡ object log id
+IsContentFor types log query (Obj id) (ListIs prefix) = ⊥
+IsContentFor types log query (Assocs id1 atype) (ListIs prefix) = IsShortestFront (whole_list log id1 atype) query (types.bound atype) prefix
+IsContentFor types log query (Assocs id1 atype) (ObjectIs found) = ⊥
+
+-- the fill is what the whole log has at the query's key
+pub record IsFilled (types : EdgeTypes) (log : List Entry) (query : Query) (fill : SealedItem) : Type 0 where
+  pub version_is : fill.version ≡ version_of log (key_of query)
+  pub as_of_is : fill.as_of ≡ length log
+  pub content_is : IsContentFor types log query (key_of query) fill.content
+
+-- the list has that length, and none of its fronts within the bound decides the query
+pub record IsOpenList (types : EdgeTypes) (log : List Entry) (query : Query) (id1 : Id) (atype : AType) (total : ℕ) : Type 0 where
+  pub total_is : total ≡ length (edge_list log id1 atype)
+  pub left_open : IsLeftOpen (types.bound atype) (edge_list log id1 atype) (length (edge_list log id1 atype)) query
+
+abbrev pub IsOpenAt : EdgeTypes → List Entry → Query → Key → ℕ → Type 0
+IsOpenAt types log query (Obj id) total = ⊥
+IsOpenAt types log query (Assocs id1 atype) total = IsOpenList types log query id1 atype total
+
+-- what is read of the log: a fill where a front within the bound decides the query, and else the answer
+abbrev pub ReadsOut : EdgeTypes → List Entry → Query → ReadOut → Type 0
+ReadsOut types log query (Filled fill) = IsFilled types log query fill
+ReadsOut types log query (Past answer version total note) = Reads types log query answer version × IsOpenAt types log query (key_of query) total
+
+-- the first edges of a list decide the query, and are no more than the bound
+pub record IsServing (bound : ℕ) (query : Query) (prefix : ListPrefix) : Type 0 where
+  pub few : length prefix.edges ≤ bound
+  pub decided : decides bound prefix.edges prefix.total query ≡ true
+
+-- the content is of the key's kind, and answers the query
+abbrev pub Serves : EdgeTypes → Query → Key → Content → Type 0
+Serves types query (Obj id) (ObjectIs found) = ⊤
+Serves types query (Obj id) (ListIs prefix) = ⊥
+Serves types query (Assocs id1 atype) (ListIs prefix) = IsServing (types.bound atype) query prefix
+Serves types query (Assocs id1 atype) (ObjectIs found) = ⊥
+
+-- told or not, the fill is of the query's key, and answers the query
+pub record IsFillFor (types : EdgeTypes) (query : Query) (fill : SealedItem) : Type 0 where
+  pub key_is : fill.key ≡ key_of query
+  pub serves : Serves types query (key_of query) fill.content
+
+-- told or not, what is read is for the query
+abbrev pub IsFor : EdgeTypes → Query → ReadOut → Type 0
+IsFor types query (Filled fill) = IsFillFor types query fill
+IsFor types query (Past answer version total note) = ⊤
+
+-- the note of the log that was read
+abbrev pub read_note : ReadOut → View
+read_note (Filled fill) = fill.note
+read_note (Past answer version total note) = note
+
+-- how many of a list's first edges show whether a front within the bound decides the query
+abbrev pub needed_count : ℕ → Query → ℕ
+needed_count bound (AssocCount id1 atype) = 0
+needed_count bound (AssocRange id1 atype pos limit) = min (pos + min limit bound) bound
+needed_count bound (AssocTimeRange id1 atype high low limit) = bound
+needed_count bound (AssocGet id1 atype ids high low) = bound
+needed_count bound (ObjGet id) = 0
+
+-- those first edges, and the list's length
+pub record AreNeeded (bound : ℕ) (query : Query) (list : List Edge) (edges : List Edge) (total : ℕ) : Type 0 where
+  pub edges_are : edges ≡ take (needed_count bound query) list
+  pub total_is : total ≡ length list

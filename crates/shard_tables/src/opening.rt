@@ -1,0 +1,126 @@
+//! A master store over the log that its keeper has, and what a store asks of that log.
+ghost use Rattle.std.specs.Prelude.{◌≡◌, ◌≤◌, IfErr, IfOk, IfSome, length};
+ghost use Rattle.graph_model.specs.Merges.{entry_at};
+ghost use Rattle.graph_model.specs.Told.{WhereTold};
+ghost use Rattle.shard_tables.specs.Causes.{HasCause, IsOfReads};
+ghost use Rattle.shard_tables.specs.Stores.{IsStoreOf};
+ghost use Rattle.shard_tables.specs.declared.store.Role.TheVariants.{Master};
+ghost use Rattle.tao_keeper.specs.Cause.{IsCaused};
+ghost use Rattle.tao_keeper.specs.Given.{IsGivenEntry};
+ghost use Rattle.tao_keeper.specs.Table.{Stays};
+
+use super::refusal::StoreRefusal;
+use super::store::StoreNode;
+use shard_log::ShardLog;
+use std::alloc::Global;
+use tao_base::{Entry, StoreName};
+use tao_keeper::{KeepFail, Keeper, MOST_ENTRIES};
+
+/// The first entries of the keeper's log, so many. A keeper that gives no entry at one of these positions tells nothing:
+/// then the entries before it are all that there are.
+fn first_entries<M: Keeper>(
+    alloc: Global,
+    keeper: &mut M,
+    at: StoreName,
+    count: u64,
+) -> Result<Vec<Entry>, KeepFail>
+    requires few { count ≤ MOST_ENTRIES }
+    requires all { WhereTold M.TELLS (count ≡ length (M.told keeper.old at).log) }
+    ensures entries { WhereTold M.TELLS (IfOk result (λ entries. entries.items ≡ (M.told keeper.old at).log)) }
+    ensures few { IfOk result (λ entries. length entries.items ≤ MOST_ENTRIES) }
+    ensures stays { WhereTold M.TELLS (Stays (M.told keeper.old) (M.told keeper.new)) }
+    ensures calls { M.calls keeper.old ≤ M.calls keeper.new }
+    ensures cause { IsCaused (M.faults keeper.old) (M.faults keeper.new) result }
+{
+    let mut entries = Vec::new(alloc);
+    for place in 0..count {
+        let found = keeper.entry(at, place + 1)?;
+        match found {
+            Some(entry) => entries.push(entry)?,
+            None => return Ok(entries),
+        }
+    }
+    Ok(entries)
+}
+
+/// All entries of the log that a keeper has under the name, in order. `Failed` comes only where the keeper's count of
+/// faults rose, and `OutOfMemory` where there was no memory. No table changes. Costs a call of the keeper for the length,
+/// and one for each entry.
+pub fn log_of<M: Keeper>(
+    alloc: Global,
+    keeper: &mut M,
+    at: StoreName,
+) -> Result<Vec<Entry>, KeepFail>
+    ensures entries { WhereTold M.TELLS (IfOk result (λ entries. entries.items ≡ (M.told keeper.old at).log)) }
+    ensures few { IfOk result (λ entries. length entries.items ≤ MOST_ENTRIES) }
+    ensures stays { WhereTold M.TELLS (Stays (M.told keeper.old) (M.told keeper.new)) }
+    ensures calls { M.calls keeper.old ≤ M.calls keeper.new }
+    ensures cause { IsCaused (M.faults keeper.old) (M.faults keeper.new) result }
+{
+    let count = keeper.length(at)?;
+    first_entries(alloc, keeper, at, count)
+}
+
+impl StoreNode {
+    /// The master store of that name, over a new shared log that begins with the entries that the keeper has under it. The
+    /// log may have `log_max` entries, at most 65,536.
+    ///
+    /// `KeeperFault` comes only where the keeper's count of faults rose, and `OutOfMemory` where there was no memory. No
+    /// table changes. Costs a call of the keeper for the length, and one for each entry.
+    pub fn open_master<M: Keeper>(
+        alloc: Global,
+        keeper: &mut M,
+        name: StoreName,
+        log_max: u64,
+    ) -> Result<StoreNode, StoreRefusal>
+        requires { log_max ≤ 65536 }
+        ensures named { IfOk result (λ store. store.name ≡ name) }
+        ensures limit { IfOk result (λ store. store.log_max ≡ log_max) }
+        ensures master { IfOk result (λ store. store.role ≡ Master) }
+        ensures keeper { IfOk result (λ store. IsStoreOf M.TELLS (M.told keeper.new) store) }
+        ensures refused { IfErr result IsOfReads }
+        ensures tables { WhereTold M.TELLS (Stays (M.told keeper.old) (M.told keeper.new)) }
+        ensures calls { M.calls keeper.old ≤ M.calls keeper.new }
+        ensures cause { HasCause (M.faults keeper.old) (M.faults keeper.new) result }
+    {
+        let log = log_of(alloc, keeper, name)?;
+        let pen = ShardLog::make(alloc, log, M::TELLS)?;
+        Ok(StoreNode::master(name, pen, log_max))
+    }
+
+    /// How many entries the keeper's log has. `KeeperFault` comes only where the keeper's count of faults rose, and
+    /// `OutOfMemory` where there was no memory. One call of the keeper.
+    pub fn length<M: Keeper>(&mut self, keeper: &mut M) -> Result<u64, StoreRefusal>
+        requires keeper { IsStoreOf M.TELLS (M.told keeper.old) self.old }
+        ensures answer { WhereTold M.TELLS (IfOk result (λ count. count ≡ length (M.told keeper.old self.old.name).log)) }
+        ensures few { IfOk result (λ count. count ≤ MOST_ENTRIES) }
+        ensures refused { IfErr result IsOfReads }
+        ensures tables { WhereTold M.TELLS (Stays (M.told keeper.old) (M.told keeper.new)) }
+        ensures same { self.new ≡ self.old }
+        ensures keeper { IsStoreOf M.TELLS (M.told keeper.new) self.new }
+        ensures calls { M.calls keeper.old ≤ M.calls keeper.new }
+        ensures cause { HasCause (M.faults keeper.old) (M.faults keeper.new) result }
+    {
+        Ok(keeper.length(self.name())?)
+    }
+
+    /// The entry at a position of the keeper's log, where there is one: none at 0 and past the end. `KeeperFault` comes
+    /// only where the keeper's count of faults rose, and `OutOfMemory` where there was no memory. One call of the keeper.
+    pub fn entry<M: Keeper>(
+        &mut self,
+        keeper: &mut M,
+        position: u64,
+    ) -> Result<Option<Entry>, StoreRefusal>
+        requires keeper { IsStoreOf M.TELLS (M.told keeper.old) self.old }
+        ensures answer { WhereTold M.TELLS (IfOk result (λ found. found ≡ entry_at (M.told keeper.old self.old.name).log position)) }
+        ensures given { IfOk result (λ found. IfSome found IsGivenEntry) }
+        ensures refused { IfErr result IsOfReads }
+        ensures tables { WhereTold M.TELLS (Stays (M.told keeper.old) (M.told keeper.new)) }
+        ensures same { self.new ≡ self.old }
+        ensures keeper { IsStoreOf M.TELLS (M.told keeper.new) self.new }
+        ensures calls { M.calls keeper.old ≤ M.calls keeper.new }
+        ensures cause { HasCause (M.faults keeper.old) (M.faults keeper.new) result }
+    {
+        Ok(keeper.entry(self.name(), position)?)
+    }
+}

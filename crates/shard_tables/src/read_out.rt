@@ -1,0 +1,361 @@
+//! Reads of a store's own log, as fills for the caches above it.
+ghost use Rattle.std.specs.Prelude.{◌≡◌, ◌≤◌, ℕ, List, IfErr, IfOk, length};
+ghost use Rattle.graph_model.specs.Answers.{answer as log_answer, key_of, list_answer};
+ghost use Rattle.graph_model.specs.Edges.{edge_list};
+ghost use Rattle.graph_model.specs.Log.{object, version as version_of};
+ghost use Rattle.graph_model.specs.Told.{WhereTold};
+ghost use Rattle.list_prefix.specs.Fronts.{IsFrontFor};
+ghost use Rattle.list_prefix.specs.ListPrefix.{CanBegin, list_prefix};
+ghost use Rattle.list_prefix.specs.Verdicts.{IsOfList};
+ghost use Rattle.shard_log.specs.View.{Begins};
+ghost use Rattle.shard_tables.specs.Causes.{HasCause, IsOfReads};
+ghost use Rattle.shard_tables.specs.ReadOuts.{AreNeeded, IsContentFor, IsFillFor, IsFilled, IsFor, ReadsOut, Serves, needed_count, read_note};
+ghost use Rattle.shard_tables.specs.Stores.{IsStoreOf, note_of};
+ghost use Rattle.tao_base.specs.declared.entry.Entry.{Entry};
+ghost use Rattle.tao_keeper.specs.Cause.{IsCaused};
+ghost use Rattle.tao_keeper.specs.Table.{Stays};
+ghost use Rattle.tao_schema.specs.Schema.{types_of};
+
+use super::reads::{Found, queried_key, select};
+use super::refusal::StoreRefusal;
+use super::store::StoreNode;
+use list_prefix::{Prefix, Verdict, shortest_front};
+use sealed_item::{Content, Fill};
+use shard_log::Note;
+use std::alloc::Global;
+use tao_base::{AType, Answer, Edges, Id, Key, Object, OutOfMemory, Query, StoreName};
+use tao_keeper::{KeepFail, Keeper};
+use tao_schema::Schema;
+
+/// What a read of a store hands out.
+#[derive(Drop)]
+pub enum ReadOut {
+    /// The object, or the shortest front of the list that decides the query.
+    Filled(Fill),
+    /// No front of the list within its bound decides the query. The answer, the list's version and
+    /// its length, and a note of the log.
+    Past {
+        answer: Answer,
+        version: u64,
+        total: u64,
+        note: Note,
+    },
+}
+
+impl ReadOut {
+    ghost use Rattle.std.specs.Prelude.{IfOk, List};
+    ghost use Rattle.shard_tables.specs.ReadOuts.{IsFor, ReadsOut};
+    ghost use Rattle.shard_tables.specs.Reads.{Reads};
+    ghost use Rattle.tao_base.specs.declared.entry.Entry.{Entry};
+    ghost use Rattle.tao_schema.specs.Schema.{types_of};
+
+    /// The answer to the query that this was read for, with the version at which it is true: that of
+    /// each log of which this is what the query reads. Copies what the answer gives of a fill.
+    pub fn found(self, schema: &Schema, query: &Query) -> Result<Found, OutOfMemory>
+        requires { IsFor (types_of schema.now) query.now self }
+        ensures { IfOk result (λ found. (log : List Entry) → ReadsOut (types_of schema.now) log query.now self → Reads (types_of schema.now) log query.now found.answer found.version) }
+    {
+        match self {
+            ReadOut::Filled(fill) => {
+                let answer = answer_of_fill(&fill, schema, query)?;
+                let version = fill.version();
+                Ok(Found { answer, version })
+            }
+            ReadOut::Past {
+                answer,
+                version,
+                ..
+            } => Ok(Found { answer, version }),
+        }
+    }
+}
+
+/// The answer to a query for which a fill was read: that of each log of which the fill is what the
+/// query reads. Copies what the answer gives.
+pub fn answer_of_fill(fill: &Fill, schema: &Schema, query: &Query) -> Result<Answer, OutOfMemory>
+    requires { IsFillFor (types_of schema.now) query.now fill.now }
+    ensures { IfOk result (λ answer. (log : List Entry) → IsFilled (types_of schema.now) log query.now fill.now → answer ≡ log_answer (types_of schema.now) log query.now) }
+{
+    answer_of_content(fill.content(), schema, query)
+}
+
+fn answer_of_content(
+    content: &Content,
+    schema: &Schema,
+    query: &Query,
+) -> Result<Answer, OutOfMemory>
+    requires { Serves (types_of schema.now) query.now (key_of query.now) content.now }
+    ensures { IfOk result (λ answer. (log : List Entry) → IsContentFor (types_of schema.now) log query.now (key_of query.now) content.now → answer ≡ log_answer (types_of schema.now) log query.now) }
+{
+    match content {
+        Content::Object(found) => {
+            let object = copy_of_object(found)?;
+            Ok(Answer::Object(object))
+        }
+        Content::List(front) => answer_of_front(front, schema, query),
+    }
+}
+
+fn copy_of_object(found: &Option<Object>) -> Result<Option<Object>, OutOfMemory>
+    ensures { IfOk result (λ copy. copy ≡ found.now) }
+{
+    match found {
+        Some(object) => Ok(Some(object.clone()?)),
+        None => Ok(None),
+    }
+}
+
+fn answer_of_front(front: &Prefix, schema: &Schema, query: &Query) -> Result<Answer, OutOfMemory>
+    requires { Serves (types_of schema.now) query.now (key_of query.now) (Content.List front.now) }
+    ensures { IfOk result (λ answer. (log : List Entry) → IsContentFor (types_of schema.now) log query.now (key_of query.now) (Content.List front.now) → answer ≡ log_answer (types_of schema.now) log query.now) }
+{
+    let bound = match queried_key(query) {
+        Key::Obj(_) => unreachable!(),
+        Key::List(_, atype) => schema.bound(atype),
+    };
+    let verdict = front.read(query, bound)?;
+    match verdict {
+        Verdict::Decided(answer) => Ok(answer),
+        Verdict::Undecided => unreachable!(),
+    }
+}
+
+/// How far a log has come.
+#[derive(Clone, Copy)]
+struct Reach {
+    /// The version of a key.
+    version: u64,
+    /// How many entries the log has.
+    length: u64,
+}
+
+/// First edges of a list, and how many the list has.
+#[derive(Drop)]
+struct FirstEdges {
+    edges: Edges,
+    total: u64,
+}
+
+impl StoreNode {
+    /// Reads what the store's log has for a query: a fill with the object, or with the shortest front of
+    /// the list that decides the query, as of the log's length; or the answer, exactly where the list's
+    /// first edges, as many as its type's bound, leave the query undecided. No table changes.
+    ///
+    /// `KeeperFault` comes only where the keeper's count of faults rose, and `OutOfMemory` where there
+    /// was no memory.
+    ///
+    /// Costs three calls of the keeper for an object or a count, four for another query of a list, and
+    /// one more where the list's first edges leave it undecided. At most as many edges are asked for as
+    /// the bound of the list's type, and where they leave the query undecided those of the answer, or
+    /// for a time range and for edges to some ids the whole list.
+    pub fn read<M: Keeper>(
+        &mut self,
+        alloc: Global,
+        keeper: &mut M,
+        schema: &Schema,
+        query: &Query,
+    ) -> Result<ReadOut, StoreRefusal>
+        requires keeper { IsStoreOf M.TELLS (M.told keeper.old) self.old }
+        ensures found { WhereTold M.TELLS (IfOk result (ReadsOut (types_of schema.now) (M.told keeper.old self.old.name).log query.now)) }
+        ensures fits { IfOk result (IsFor (types_of schema.now) query.now) }
+        ensures note { IfOk result (λ out. read_note out ≡ note_of self.old) }
+        ensures refused { IfErr result IsOfReads }
+        ensures tables { WhereTold M.TELLS (Stays (M.told keeper.old) (M.told keeper.new)) }
+        ensures same { self.new ≡ self.old }
+        ensures keeper { IsStoreOf M.TELLS (M.told keeper.new) self.new }
+        ensures calls { M.calls keeper.old ≤ M.calls keeper.new }
+        ensures cause { HasCause (M.faults keeper.old) (M.faults keeper.new) result }
+    {
+        let note = self.note()?;
+        read_out(alloc, keeper, self.name(), note, schema, query)
+    }
+}
+
+/// Reads what the keeper's log has for a query, with a note of that log.
+fn read_out<M: Keeper>(
+    alloc: Global,
+    keeper: &mut M,
+    at: StoreName,
+    note: Note,
+    schema: &Schema,
+    query: &Query,
+) -> Result<ReadOut, StoreRefusal>
+    requires told { note.log.told ≡ M.TELLS }
+    requires begins { WhereTold M.TELLS (Begins (M.told keeper.old at).log note.entries) }
+    ensures found { WhereTold M.TELLS (IfOk result (ReadsOut (types_of schema.now) (M.told keeper.old at).log query.now)) }
+    ensures fits { IfOk result (IsFor (types_of schema.now) query.now) }
+    ensures note { IfOk result (λ out. read_note out ≡ note) }
+    ensures refused { IfErr result IsOfReads }
+    ensures stays { WhereTold M.TELLS (Stays (M.told keeper.old) (M.told keeper.new)) }
+    ensures calls { M.calls keeper.old ≤ M.calls keeper.new }
+    ensures cause { HasCause (M.faults keeper.old) (M.faults keeper.new) result }
+{
+    let found = match queried_key(query) {
+        Key::Obj(id) => read_object(keeper, at, note, schema, query, id)?,
+        Key::List(id1, atype) => read_list(alloc, keeper, at, note, schema, query, id1, atype)?,
+    };
+    Ok(found)
+}
+
+fn read_object<M: Keeper>(
+    keeper: &mut M,
+    at: StoreName,
+    note: Note,
+    schema: &Schema,
+    query: &Query,
+    id: Id,
+) -> Result<ReadOut, KeepFail>
+    requires key { key_of query.now ≡ Key.Obj id }
+    requires told { note.log.told ≡ M.TELLS }
+    requires begins { WhereTold M.TELLS (Begins (M.told keeper.old at).log note.entries) }
+    ensures found { WhereTold M.TELLS (IfOk result (ReadsOut (types_of schema.now) (M.told keeper.old at).log query.now)) }
+    ensures fits { IfOk result (IsFor (types_of schema.now) query.now) }
+    ensures note { IfOk result (λ out. read_note out ≡ note) }
+    ensures stays { WhereTold M.TELLS (Stays (M.told keeper.old) (M.told keeper.new)) }
+    ensures calls { M.calls keeper.old ≤ M.calls keeper.new }
+    ensures cause { IsCaused (M.faults keeper.old) (M.faults keeper.new) result }
+{
+    let Reach { version, length } = reached(keeper, at, Key::Obj(id))?;
+    let content = Content::Object(keeper.object(at, id)?);
+    Ok(ReadOut::Filled(Fill::seal(Key::Obj(id), version, length, content, note)))
+}
+
+fn read_list<M: Keeper>(
+    alloc: Global,
+    keeper: &mut M,
+    at: StoreName,
+    note: Note,
+    schema: &Schema,
+    query: &Query,
+    id1: Id,
+    atype: AType,
+) -> Result<ReadOut, KeepFail>
+    requires key { key_of query.now ≡ Key.List id1 atype }
+    requires told { note.log.told ≡ M.TELLS }
+    requires begins { WhereTold M.TELLS (Begins (M.told keeper.old at).log note.entries) }
+    ensures found { WhereTold M.TELLS (IfOk result (ReadsOut (types_of schema.now) (M.told keeper.old at).log query.now)) }
+    ensures fits { IfOk result (IsFor (types_of schema.now) query.now) }
+    ensures note { IfOk result (λ out. read_note out ≡ note) }
+    ensures stays { WhereTold M.TELLS (Stays (M.told keeper.old) (M.told keeper.new)) }
+    ensures calls { M.calls keeper.old ≤ M.calls keeper.new }
+    ensures cause { IsCaused (M.faults keeper.old) (M.faults keeper.new) result }
+{
+    let bound = schema.bound(atype);
+    let Reach { version, length } = reached(keeper, at, Key::List(id1, atype))?;
+    let first = first_edges(alloc, keeper, at, id1, atype, bound, query)?;
+    let total = first.total;
+    match shortest_of(first, query, bound) {
+        Some(front) => {
+            let key = Key::List(id1, atype);
+            let content = Content::List(front);
+            Ok(ReadOut::Filled(Fill::seal(key, version, length, content, note)))
+        }
+        None => {
+            let answer = answer_past(keeper, at, id1, atype, total, bound, query)?;
+            Ok(ReadOut::Past {
+                answer,
+                version,
+                total,
+                note,
+            })
+        }
+    }
+}
+
+/// The version of a key and the log's length, by two calls of the keeper.
+fn reached<M: Keeper>(keeper: &mut M, at: StoreName, key: Key) -> Result<Reach, KeepFail>
+    ensures version { WhereTold M.TELLS (IfOk result (λ reached. reached.version ≡ version_of (M.told keeper.old at).log key)) }
+    ensures length { WhereTold M.TELLS (IfOk result (λ reached. reached.length ≡ length (M.told keeper.old at).log)) }
+    ensures stays { WhereTold M.TELLS (Stays (M.told keeper.old) (M.told keeper.new)) }
+    ensures calls { M.calls keeper.old ≤ M.calls keeper.new }
+    ensures cause { IsCaused (M.faults keeper.old) (M.faults keeper.new) result }
+{
+    let version = keeper.version(at, key)?;
+    let length = keeper.length(at)?;
+    Ok(Reach { version, length })
+}
+
+/// The list's length, by one call of the keeper, and but for a count by one more as many of its
+/// first edges as show whether a front within the bound decides the query. A keeper that doesn't
+/// tell may count fewer than the edges that it gives; the length is then their number.
+fn first_edges<M: Keeper>(
+    alloc: Global,
+    keeper: &mut M,
+    at: StoreName,
+    id1: Id,
+    atype: AType,
+    bound: u64,
+    query: &Query,
+) -> Result<FirstEdges, KeepFail>
+    ensures needed { WhereTold M.TELLS (IfOk result (λ first. AreNeeded bound query.now (edge_list (M.told keeper.old at).log id1 atype) first.edges first.total)) }
+    ensures begins { IfOk result (λ first. CanBegin first.edges first.total) }
+    ensures stays { WhereTold M.TELLS (Stays (M.told keeper.old) (M.told keeper.new)) }
+    ensures calls { M.calls keeper.old ≤ M.calls keeper.new }
+    ensures cause { IsCaused (M.faults keeper.old) (M.faults keeper.new) result }
+{
+    let count = keeper.count(at, id1, atype)?;
+    let most = count_needed(query, bound);
+    let edges = if most == 0 {
+        Edges::of(Vec::new(alloc))
+    } else {
+        keeper.edges(at, id1, atype, 0, most)?
+    };
+    let total = count.max(edges.as_slice().len() as u64);
+    Ok(FirstEdges { edges, total })
+}
+
+fn count_needed(query: &Query, bound: u64) -> u64
+    ensures { result ≡ needed_count bound query.now }
+{
+    match query {
+        Query::ObjGet { .. } | Query::AssocCount { .. } => 0,
+        Query::AssocRange { pos, limit, .. } => {
+            let end = u64::from(*pos) + u64::from(*limit).min(bound);
+            end.min(bound)
+        }
+        Query::AssocTimeRange { .. } | Query::AssocGet { .. } => bound,
+    }
+}
+
+/// The shortest front that decides the query, where one within the bound does. Takes no memory.
+fn shortest_of(first: FirstEdges, query: &Query, bound: u64) -> Option<Prefix>
+    requires { CanBegin first.edges first.total }
+    ensures { IsFrontFor (list_prefix first.edges first.total) query.now bound result }
+{
+    let FirstEdges { edges, total } = first;
+    let count = shortest_front(edges.as_slice(), total, query, bound)?;
+    let mut front = edges.into_vec();
+    front.truncate(count);
+    Some(Prefix::of(Edges::of(front), total))
+}
+
+/// What a list of that length answers to a query that its first edges leave undecided. One call of
+/// the keeper.
+fn answer_past<M: Keeper>(
+    keeper: &mut M,
+    at: StoreName,
+    id1: Id,
+    atype: AType,
+    total: u64,
+    bound: u64,
+    query: &Query,
+) -> Result<Answer, KeepFail>
+    requires of_list { IsOfList query.now }
+    requires total { WhereTold M.TELLS (total ≡ length (edge_list (M.told keeper.old at).log id1 atype)) }
+    ensures answer { WhereTold M.TELLS (IfOk result (λ answer. answer ≡ list_answer bound (edge_list (M.told keeper.old at).log id1 atype) (length (edge_list (M.told keeper.old at).log id1 atype)) query.now)) }
+    ensures stays { WhereTold M.TELLS (Stays (M.told keeper.old) (M.told keeper.new)) }
+    ensures calls { M.calls keeper.old ≤ M.calls keeper.new }
+    ensures cause { IsCaused (M.faults keeper.old) (M.faults keeper.new) result }
+{
+    match query {
+        Query::ObjGet { .. } => unreachable!(),
+        Query::AssocCount { .. } => Ok(Answer::Count(total)),
+        Query::AssocRange { pos, limit, .. } => {
+            let used = u64::from(*limit).min(bound);
+            let edges = keeper.edges(at, id1, atype, u64::from(*pos), used)?;
+            Ok(Answer::Edges(edges))
+        }
+        Query::AssocTimeRange { .. } => select(keeper, at, id1, atype, total, bound, query),
+        Query::AssocGet { .. } => select(keeper, at, id1, atype, total, bound, query),
+    }
+}

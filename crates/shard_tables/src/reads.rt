@@ -1,0 +1,75 @@
+//! What a store's own log answers to a query.
+ghost use Rattle.std.specs.Prelude.{◌≡◌, ◌≤◌, IfOk, length, min};
+ghost use Rattle.graph_model.specs.Answers.{answer as log_answer, key_of, list_answer};
+ghost use Rattle.graph_model.specs.Edges.{IsInOrder, edge_list};
+ghost use Rattle.graph_model.specs.Told.{WhereTold};
+ghost use Rattle.list_prefix.specs.Verdicts.{IsOfList};
+ghost use Rattle.shard_tables.specs.Reads.{Reads};
+ghost use Rattle.tao_keeper.specs.Cause.{IsCaused};
+ghost use Rattle.tao_keeper.specs.Table.{Stays};
+ghost use Rattle.tao_schema.specs.Schema.{types_of};
+
+use list_prefix::{Prefix, Verdict};
+use tao_base::{AType, Answer, Edges, Id, Key, OutOfMemory, Query, StoreName};
+use tao_keeper::{KeepFail, Keeper};
+use tao_schema::Schema;
+
+/// What a read found.
+#[derive(Debug, Drop)]
+pub struct Found {
+    /// The answer to the query.
+    pub answer: Answer,
+    /// The version of the queried key at which the answer is true.
+    pub version: u64,
+}
+
+/// The object or the list that a query reads.
+pub fn queried_key(query: &Query) -> Key
+    ensures { result ≡ key_of query.now }
+{
+    match query {
+        Query::ObjGet { id } => Key::Obj(*id),
+        Query::AssocGet { id1, atype, .. } => Key::List(*id1, *atype),
+        Query::AssocCount { id1, atype } => Key::List(*id1, *atype),
+        Query::AssocRange { id1, atype, .. } => Key::List(*id1, *atype),
+        Query::AssocTimeRange { id1, atype, .. } => Key::List(*id1, *atype),
+    }
+}
+
+/// What a list of that length answers to a query, from all its edges. One call of the keeper.
+pub fn select<M: Keeper>(
+    keeper: &mut M,
+    at: StoreName,
+    id1: Id,
+    atype: AType,
+    count: u64,
+    bound: u64,
+    query: &Query,
+) -> Result<Answer, KeepFail>
+    requires of_list { IsOfList query.now }
+    requires count { WhereTold M.TELLS (count ≡ length (edge_list (M.told keeper.old at).log id1 atype)) }
+    ensures answer { WhereTold M.TELLS (IfOk result (λ answer. answer ≡ list_answer bound (edge_list (M.told keeper.old at).log id1 atype) (length (edge_list (M.told keeper.old at).log id1 atype)) query.now)) }
+    ensures stays { WhereTold M.TELLS (Stays (M.told keeper.old) (M.told keeper.new)) }
+    ensures calls { M.calls keeper.old ≤ M.calls keeper.new }
+    ensures cause { IsCaused (M.faults keeper.old) (M.faults keeper.new) result }
+{
+    let edges = keeper.edges(at, id1, atype, 0, count)?;
+    match answer_of_list(edges, query, bound) {
+        Ok(answer) => Ok(answer),
+        Err(OutOfMemory) => Err(KeepFail::OutOfMemory),
+    }
+}
+
+/// What a list answers that has these edges and no others.
+fn answer_of_list(edges: Edges, query: &Query, bound: u64) -> Result<Answer, OutOfMemory>
+    requires in_order { IsInOrder edges }
+    requires of_list { IsOfList query.now }
+    ensures { IfOk result (λ answer. answer ≡ list_answer bound edges (length edges) query.now) }
+{
+    let total = edges.as_slice().len() as u64;
+    let verdict = Prefix::of(edges, total).read(query, bound)?;
+    match verdict {
+        Verdict::Decided(answer) => Ok(answer),
+        Verdict::Undecided => unreachable!(),
+    }
+}

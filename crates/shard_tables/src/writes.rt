@@ -1,0 +1,206 @@
+//! The writes of clients to a store.
+ghost use Rattle.std.specs.Prelude.{◌≡◌, ◌≤◌, ◌<◌, ℕ, IfOk, IfSome, IsTrue, MatchResult, None, Some, length};
+ghost use Rattle.graph_model.specs.Soundness.{CanFollow, IsSoundOf, is_client};
+ghost use Rattle.graph_model.specs.Told.{WhereTold};
+ghost use Rattle.graph_model.specs.WriteLaws.{ChangesType, IsNewOrigin};
+ghost use Rattle.graph_model.specs.Writes.{FitsWrite};
+ghost use Rattle.shard_log.specs.View.{Grows, as_note, most_entries};
+ghost use Rattle.shard_tables.specs.Causes.{HasCause};
+ghost use Rattle.shard_tables.specs.Fitting.{HasEntry};
+ghost use Rattle.shard_tables.specs.Stores.{IsStoreOf, gained};
+ghost use Rattle.shard_tables.specs.Written.{Answers, Gains, added_entry, shard_of_write};
+ghost use Rattle.shard_tables.specs.declared.store.Role.TheVariants.{Master};
+ghost use Rattle.tao_base.specs.EdgeTypes.{EdgeTypes, InversesMatch};
+ghost use Rattle.tao_base.specs.declared.entry.Origin.{Origin};
+ghost use Rattle.tao_keeper.specs.Cause.{IsCaused};
+ghost use Rattle.tao_keeper.specs.Given.{HaveSmallStamps};
+ghost use Rattle.tao_keeper.specs.Table.{Changes, StandsAt, Stays, after_commit};
+ghost use Rattle.tao_schema.specs.Schema.{types_of};
+
+use super::entries::{entry_of, touches_of};
+use super::fitting::fits;
+use super::refusal::StoreRefusal;
+use super::store::StoreNode;
+use shard_log::Note;
+use std::alloc::Global;
+use tao_base::{AType, Entry, Origin, StoreName, Write};
+use tao_keeper::{Commit, KeepFail, Keeper};
+use tao_schema::Schema;
+
+/// What a write did.
+#[derive(Drop)]
+pub struct Wrote {
+    /// The entry of the write; none where nothing was there to change.
+    pub entry: Option<Entry>,
+    /// Whether the entry was there already: the write was made before.
+    pub retry: bool,
+    /// What the store has of its shard's log after the write, which is all.
+    pub note: Note,
+}
+
+impl StoreNode {
+    /// Makes the write of a client at the shard's master: adds its entry to the log, in one transaction. A write whose
+    /// origin stands in the log is answered with that entry, and one that finds nothing to change with none; neither adds
+    /// anything. A refusal changes no table, and not the log. An entry that is answered is one that the write could have
+    /// made, and an object's addition has one, also over a keeper that tells nothing.
+    ///
+    /// Refused, in this order: a write whose origin stands in the log with an entry of another write
+    /// (`SeqReused`), an object without a serial (`ShardFull`), an edge without a next stamp
+    /// (`StampFull`), an entry for which the log has no room (`LogFull`). `KeeperFault` comes only where
+    /// the keeper's count of faults rose, and `OutOfMemory` where there was no memory.
+    ///
+    /// Costs at most 12 calls of the keeper: one for the origin, and where that stands in the log one
+    /// for its entry. Else one for the object, the last serial or the record at id1, or two for the
+    /// records at id1 of both types; one for an object's touch and two for each touch of an edge, of
+    /// which there are four at most; and one for the commit.
+    pub fn write<M: Keeper>(
+        &mut self,
+        alloc: Global,
+        keeper: &mut M,
+        schema: &Schema,
+        origin: Origin,
+        write: &Write,
+    ) -> Result<Wrote, StoreRefusal>
+        requires master { self.old.role ≡ Master }
+        requires keeper { IsStoreOf M.TELLS (M.told keeper.old) self.old }
+        requires client { IsTrue (is_client origin) }
+        requires here { shard_of_write write.now ≡ self.old.name.shard }
+        requires changes { ChangesType (types_of schema.now) write.now }
+        requires sound { WhereTold M.TELLS (IsSoundOf (types_of schema.now) self.old.name.shard (M.told keeper.old self.old.name).log) }
+        ensures answer { WhereTold M.TELLS (Answers (types_of schema.now) self.old.log_max (M.told keeper.old self.old.name).log origin write.now result) }
+        ensures fits { IfOk result (λ wrote. IfSome wrote.entry (λ e. FitsWrite e write.now)) }
+        ensures entry { IfOk result (λ wrote. HasEntry write.now wrote.entry) }
+        ensures tables { WhereTold M.TELLS (Gains (M.told keeper.old) (M.told keeper.new) self.old.name (added_entry result)) }
+        ensures log { self.new ≡ gained self.old (added_entry result) }
+        ensures grows { Grows self.old.view self.new.view }
+        ensures note { IfOk result (λ wrote. wrote.note ≡ as_note self.new.view) }
+        ensures keeper { IsStoreOf M.TELLS (M.told keeper.new) self.new }
+        ensures sound { WhereTold M.TELLS (IsSoundOf (types_of schema.now) self.old.name.shard (M.told keeper.new self.old.name).log) }
+        ensures calls { M.calls keeper.old ≤ M.calls keeper.new }
+        ensures cause { HasCause (M.faults keeper.old) (M.faults keeper.new) result }
+    {
+        let note = self.note()?;
+        let found = keeper.origin(self.name(), origin)?;
+        match found {
+            Some(position) => write_again(keeper, self.name(), position, write, note),
+            None => write_first(alloc, self, keeper, schema, origin, write, note),
+        }
+    }
+}
+
+/// Answers a write whose origin stands at the position.
+fn write_again<M: Keeper>(
+    keeper: &mut M,
+    at: StoreName,
+    position: u64,
+    write: &Write,
+    note: Note,
+) -> Result<Wrote, StoreRefusal>
+    ensures answer { WhereTold M.TELLS ((types : EdgeTypes) (most : ℕ) (origin : Origin) → StandsAt (M.told keeper.old at).log origin (Some position) → Answers types most (M.told keeper.old at).log origin write.now result) }
+    ensures fits { IfOk result (λ wrote. IfSome wrote.entry (λ e. FitsWrite e write.now)) }
+    ensures entry { IfOk result (λ wrote. HasEntry write.now wrote.entry) }
+    ensures nothing { added_entry result ≡ None }
+    ensures note { IfOk result (λ wrote. wrote.note ≡ note) }
+    ensures stays { WhereTold M.TELLS (Stays (M.told keeper.old) (M.told keeper.new)) }
+    ensures calls { M.calls keeper.old ≤ M.calls keeper.new }
+    ensures cause { HasCause (M.faults keeper.old) (M.faults keeper.new) result }
+{
+    let found = keeper.entry(at, position)?;
+    match found {
+        Some(entry) => {
+            if fits(&entry, write) {
+                Ok(Wrote {
+                    entry: Some(entry),
+                    retry: true,
+                    note,
+                })
+            } else {
+                Err(StoreRefusal::SeqReused { position })
+            }
+        }
+        // Not of a keeper that tells its tables: it knows the origin, and not the entry.
+        None => Err(StoreRefusal::SeqReused { position }),
+    }
+}
+
+/// Each type of a schema is the inverse of its inverse, as the schema says with each inverse that it
+/// gives.
+fn inverses_match(schema: &Schema)
+    ensures { InversesMatch (types_of schema.now) }
+{
+    let _inverse = schema.inverse(AType(0));
+}
+
+/// Adds an entry to the keeper's log and then to the master's, or to neither.
+fn add_entry<M: Keeper>(
+    store: &mut StoreNode,
+    keeper: &mut M,
+    entry: Entry,
+) -> Result<Entry, KeepFail>
+    requires master { store.old.role ≡ Master }
+    requires keeper { IsStoreOf M.TELLS (M.told keeper.old) store.old }
+    requires stamps { HaveSmallStamps entry.touches }
+    requires room { length store.old.view.entries < most_entries }
+    requires follows { WhereTold M.TELLS (CanFollow (M.told keeper.old store.old.name).log entry) }
+    ensures entry { IfOk result (λ added. added ≡ entry) }
+    ensures log { MatchResult result (λ _. store.new ≡ gained store.old (Some entry)) (λ _. store.new ≡ store.old) }
+    ensures tables { WhereTold M.TELLS (Changes result (M.told keeper.old) (M.told keeper.new) store.old.name (after_commit (M.told keeper.old store.old.name) entry)) }
+    ensures keeper { IsStoreOf M.TELLS (M.told keeper.new) store.new }
+    ensures calls { M.calls keeper.old ≤ M.calls keeper.new }
+    ensures cause { IsCaused (M.faults keeper.old) (M.faults keeper.new) result }
+{
+    let commit = Commit { entry };
+    keeper.commit(store.name(), &commit)?;
+    store.append(&commit.entry);
+    Ok(commit.entry)
+}
+
+/// Makes a write whose origin doesn't stand in the log. The note has seen the whole log before.
+fn write_first<M: Keeper>(
+    alloc: Global,
+    store: &mut StoreNode,
+    keeper: &mut M,
+    schema: &Schema,
+    origin: Origin,
+    write: &Write,
+    note: Note,
+) -> Result<Wrote, StoreRefusal>
+    requires master { store.old.role ≡ Master }
+    requires note { note ≡ as_note store.old.view }
+    requires keeper { IsStoreOf M.TELLS (M.told keeper.old) store.old }
+    requires here { shard_of_write write.now ≡ store.old.name.shard }
+    requires changes { ChangesType (types_of schema.now) write.now }
+    requires sound { WhereTold M.TELLS (IsSoundOf (types_of schema.now) store.old.name.shard (M.told keeper.old store.old.name).log) }
+    requires new { WhereTold M.TELLS (IsNewOrigin (M.told keeper.old store.old.name).log origin) }
+    ensures answer { WhereTold M.TELLS (Answers (types_of schema.now) store.old.log_max (M.told keeper.old store.old.name).log origin write.now result) }
+    ensures fits { IfOk result (λ wrote. IfSome wrote.entry (λ e. FitsWrite e write.now)) }
+    ensures entry { IfOk result (λ wrote. HasEntry write.now wrote.entry) }
+    ensures tables { WhereTold M.TELLS (Gains (M.told keeper.old) (M.told keeper.new) store.old.name (added_entry result)) }
+    ensures log { store.new ≡ gained store.old (added_entry result) }
+    ensures note { IfOk result (λ wrote. wrote.note ≡ as_note store.new.view) }
+    ensures keeper { IsStoreOf M.TELLS (M.told keeper.new) store.new }
+    ensures sound { WhereTold M.TELLS (IsSoundOf (types_of schema.now) store.old.name.shard (M.told keeper.new store.old.name).log) }
+    ensures calls { M.calls keeper.old ≤ M.calls keeper.new }
+    ensures cause { HasCause (M.faults keeper.old) (M.faults keeper.new) result }
+{
+    let touches = touches_of(alloc, keeper, store.name(), schema, write)?;
+    if touches.is_empty() {
+        return Ok(Wrote {
+            entry: None,
+            retry: false,
+            note,
+        });
+    }
+    let length = store.log_length();
+    if length >= store.log_max() {
+        return Err(StoreRefusal::LogFull { length });
+    }
+    let entry = entry_of(length, origin, write, touches);
+    inverses_match(schema);
+    let entry = add_entry(store, keeper, entry)?;
+    Ok(Wrote {
+        entry: Some(entry),
+        retry: false,
+        note: store.renew(note),
+    })
+}

@@ -1,0 +1,21 @@
+-- What contracts see of a core.
+use Rattle.std.specs.Prelude.{List, Bool}
+use Rattle.shard_tables.specs.StoreView.{Store}
+use Rattle.tao_keeper.specs.Table.{Tables}
+use Rattle.topology.specs.Config.{Settings}
+use Rattle.tao_core.specs.Stores.{AreStoresOf}
+use Rattle.tao_core.specs.declared.serving.Core.TheInside.{Inside}
+use Rattle.tao_core.specs.declared.sessions.OpenSession.{OpenSession}
+
+-- its configuration, the sessions that are open, and the stores of the shards
+pub record CoreState : Type 0 where
+  pub settings : Settings
+  pub sessions : List OpenSession
+  pub stores : List Store
+
+abbrev pub state_of : Inside → CoreState
+state_of core = record { settings = core.config.now; sessions = core.sessions; stores = core.stores.items }
+
+-- the core may be used with keepers that tell these tables: the log of each shard is sound
+abbrev pub IsCoreOf : Bool → Tables → CoreState → Type 0
+IsCoreOf tells tables core = AreStoresOf tells core.settings tables core.stores

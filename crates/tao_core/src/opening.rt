@@ -1,0 +1,126 @@
+//! The stores of a configuration, one for each shard, in order.
+ghost use Rattle.std.specs.Prelude.{◌≡◌, IfErr, IfOk};
+ghost use Rattle.graph_model.specs.Told.{WhereTold};
+ghost use Rattle.shard_tables.specs.Stores.{IsStoreOf};
+ghost use Rattle.tao_core.specs.Opening.{HasOpenCause, IsOpened, IsUnmade, OpensOne, RefusesOpening, refusal_of};
+ghost use Rattle.tao_core.specs.Shown.{IsLater, shown};
+ghost use Rattle.tao_core.specs.Stores.{AreStores, HaveSeen, IsMasterOf, store_of};
+ghost use Rattle.tao_keeper.specs.Table.{Stays};
+
+use shard_tables::{StoreNode, StoreRefusal};
+use std::alloc::Global;
+use tao_base::StoreName;
+use tao_keeper::{KeepFail, Keeper, Opened};
+use tao_wire::OpenRefusal;
+use topology::Config;
+
+/// The name of a shard's store: in the shard's master region.
+pub(crate) fn store_of(config: &Config, shard: u16) -> StoreName
+    ensures { result ≡ store_of config.now shard }
+{
+    let masters = config.masters.as_slice();
+    let region = masters[usize::from(shard) % masters.len()];
+    StoreName { region, shard }
+}
+
+fn refusal_of(fail: KeepFail) -> OpenRefusal
+    ensures { result ≡ refusal_of fail }
+{
+    match fail {
+        KeepFail::Failed => OpenRefusal::KeeperFault,
+        KeepFail::OutOfMemory => OpenRefusal::OutOfMemory,
+    }
+}
+
+/// Opens the store of a shard with the line. One call of the keeper.
+fn open_line<K: Keeper>(
+    config: &Config,
+    line: &[u8],
+    keepers: &mut K,
+    shard: u16,
+) -> Result<(), OpenRefusal>
+    ensures opens { WhereTold K.TELLS (OpensOne config.now line.now shard (K.told keepers.old) (K.told keepers.new) result) }
+    ensures cause { IfErr result (HasOpenCause (K.faults keepers.old) (K.faults keepers.new)) }
+    ensures later { IsLater (shown K.told K.calls K.faults keepers.old) (shown K.told K.calls K.faults keepers.new) }
+{
+    match keepers.open(store_of(config, shard), line) {
+        Ok(Opened::Ready) => Ok(()),
+        Ok(Opened::OtherLine) => Err(OpenRefusal::OtherLine),
+        Err(fail) => Err(refusal_of(fail)),
+    }
+}
+
+/// Opens the stores of all shards with the line, in order. One call of the keeper for each.
+fn open_lines<K: Keeper>(config: &Config, line: &[u8], keepers: &mut K) -> Result<(), OpenRefusal>
+    ensures opened { WhereTold K.TELLS (IfOk result (λ _. IsOpened config.now line.now (K.told keepers.old) (K.told keepers.new))) }
+    ensures refused { IfErr result (RefusesOpening K.TELLS config.now line.now (shown K.told K.calls K.faults keepers.old) (shown K.told K.calls K.faults keepers.new)) }
+    ensures later { IsLater (shown K.told K.calls K.faults keepers.old) (shown K.told K.calls K.faults keepers.new) }
+{
+    for shard in 0..config.shards {
+        open_line(config, line, keepers, shard)?;
+    }
+    Ok(())
+}
+
+/// Makes the master's store of a shard, over the log that the keeper has for it. Costs what
+/// `StoreNode::open_master` does.
+fn make_store<K: Keeper>(
+    alloc: Global,
+    config: &Config,
+    keepers: &mut K,
+    shard: u16,
+) -> Result<StoreNode, OpenRefusal>
+    ensures store { IfOk result (IsMasterOf config.now shard) }
+    ensures seen { IfOk result (IsStoreOf K.TELLS (K.told keepers.new)) }
+    ensures unmade { IfErr result (IsUnmade (K.faults keepers.old) (K.faults keepers.new)) }
+    ensures stays { WhereTold K.TELLS (Stays (K.told keepers.old) (K.told keepers.new)) }
+    ensures later { IsLater (shown K.told K.calls K.faults keepers.old) (shown K.told K.calls K.faults keepers.new) }
+{
+    match StoreNode::open_master(alloc, keepers, store_of(config, shard), config.log_max) {
+        Ok(store) => Ok(store),
+        Err(StoreRefusal::KeeperFault) => Err(OpenRefusal::KeeperFault),
+        Err(StoreRefusal::OutOfMemory) => Err(OpenRefusal::OutOfMemory),
+        Err(_) => unreachable!(),
+    }
+}
+
+/// Makes the stores of all shards, in order, which changes no table. Costs what
+/// `StoreNode::open_master` does for each.
+fn make_stores<K: Keeper>(
+    alloc: Global,
+    config: &Config,
+    keepers: &mut K,
+) -> Result<Vec<StoreNode>, OpenRefusal>
+    ensures stores { IfOk result (λ stores. AreStores config.now config.now.shards stores.items) }
+    ensures seen { IfOk result (λ stores. HaveSeen K.TELLS (K.told keepers.new) stores.items) }
+    ensures unmade { IfErr result (IsUnmade (K.faults keepers.old) (K.faults keepers.new)) }
+    ensures stays { WhereTold K.TELLS (Stays (K.told keepers.old) (K.told keepers.new)) }
+    ensures later { IsLater (shown K.told K.calls K.faults keepers.old) (shown K.told K.calls K.faults keepers.new) }
+{
+    let mut stores = Vec::new(alloc);
+    for shard in 0..config.shards {
+        let store = make_store(alloc, config, keepers, shard)?;
+        if stores.push(store).is_err() {
+            return Err(OpenRefusal::OutOfMemory);
+        }
+    }
+    Ok(stores)
+}
+
+/// Opens the stores of all shards with the line, in order, and then makes them. Costs one call of the
+/// keeper for each, and what `StoreNode::open_master` does.
+pub(crate) fn open_stores<K: Keeper>(
+    alloc: Global,
+    config: &Config,
+    line: &[u8],
+    keepers: &mut K,
+) -> Result<Vec<StoreNode>, OpenRefusal>
+    ensures stores { IfOk result (λ stores. AreStores config.now config.now.shards stores.items) }
+    ensures seen { IfOk result (λ stores. HaveSeen K.TELLS (K.told keepers.new) stores.items) }
+    ensures opened { WhereTold K.TELLS (IfOk result (λ _. IsOpened config.now line.now (K.told keepers.old) (K.told keepers.new))) }
+    ensures refused { IfErr result (RefusesOpening K.TELLS config.now line.now (shown K.told K.calls K.faults keepers.old) (shown K.told K.calls K.faults keepers.new)) }
+    ensures later { IsLater (shown K.told K.calls K.faults keepers.old) (shown K.told K.calls K.faults keepers.new) }
+{
+    open_lines(config, line, keepers)?;
+    make_stores(alloc, config, keepers)
+}

@@ -1,5 +1,5 @@
 //! The program: `tao run` reads a configuration line and one request a line from standard input, and
-//! writes one reply a line to standard output, over one store in memory.
+//! writes one reply a line to standard output, over stores in memory.
 #![tactic(auto)]
 
 use keeper_map::{Fails, MapKeeper};

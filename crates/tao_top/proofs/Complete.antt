@@ -1,17 +1,13 @@
 -- A good run where nothing fails ends well, or for want of memory.
-use Rattle.std.proofs.Common.{◌≡◌, ◌⊎◌, ◌<◌, ◌≤◌, ◌^◌, ℕ, Bool, List, [], ◌∷◌, ◌++◌, length, Option, Some, None, Contains, IfSome, inl, inr, refl, sym, ap, subst, ◌∙◌, lit<, arith}
+use Rattle.std.proofs.Common.{◌≡◌, ◌⊎◌, ◌<◌, ◌≤◌, ◌^◌, ℕ, Bool, List, [], ◌∷◌, ◌++◌, length, Option, IfSome, inl, inr, refl, sym, subst, ◌∙◌, lit<, arith}
 use Rattle.tao_io.specs.Lines.{lines_of}
-use Rattle.tao_keeper.specs.Table.{OpensAs}
-use Rattle.tao_keeper.specs.declared.keeper.Opened.TheVariants.{Ready, OtherLine}
-use Rattle.tao_top.specs.Config.{config_in}
-use Rattle.tao_top.specs.Machine.{Shown, the_store}
+use Rattle.tao_core.specs.Opening.{AreReady}
+use Rattle.tao_core.specs.Shown.{Shown}
 use Rattle.tao_top.specs.Served.{AreLines, LinesBegin, RefusesConfiguration, IsRefused}
 use Rattle.tao_top.specs.Status.{IsGood, IsStatus, NoFault}
 use Rattle.tao_top.specs.Step.{Configures, ended}
 use Rattle.tao_top.specs.Stop.{Faults, StopHasCause, stop_code}
-use Rattle.tao_top.specs.declared.reply.ConfigField.{ConfigField}
-use Rattle.tao_top.specs.declared.reply.ConfigField.TheVariants.{Whole, File}
-use Rattle.tao_top.specs.declared.reply.Reply.TheVariants.{BadConfiguration}
+use Rattle.reply_json.specs.declared.reply.Reply.TheVariants.{BadConfiguration}
 use Rattle.tao_top.specs.declared.stop.Interrupt.TheVariants.{Source, Sink, Memory, InputTooLong}
 use Rattle.tao_top.specs.declared.stop.Stop.{Stop}
 use Rattle.tao_top.specs.declared.stop.Stop.TheVariants.{Configuration, Keepers, Interrupted}
@@ -25,11 +21,16 @@ known_status (Interrupted Memory) = (6, lit< tt, refl)
 known_status (Interrupted InputTooLong) = (7, lit< tt, refl)
 
 module _ (tells : Bool) (words : List (List ℕ)) (old now : Shown) (left before after : Option (List ℕ)) (good : IsGood tells words old left) where
-  not_refused_line : (field : ConfigField) → Configures tells old good.first (BadConfiguration field) ended now → ⊥
-  not_refused_line Whole is = let none = is.0 in let some = good.accepted in cc (none, some)
-  not_refused_line File is = (is.1 good.told).0 good.opens
+  not_refused_line : (field : List ℕ) → Configures tells old good.first (BadConfiguration field) ended now → ⊥
+  not_refused_line field (inl is) = let none = is.refused in let some = good.accepted in cc (none, some)
+  not_refused_line field (inr is) =
+      let one = is.configured in
+      let accepted = good.accepted in
+      let same : is.settings ≡ good.settings = cc (one, accepted) in
+      let other = is.other good.told in
+      other.other (subst (λ s. AreReady s good.first s.shards old.told) (sym same) good.ready other.shard other.configured)
 
-  not_refused : (field : ConfigField) → IsRefused tells old now left field → ⊥
+  not_refused : (field : List ℕ) → IsRefused tells old now left field → ⊥
   not_refused field (inl missing) =
       let none : lines_of good.bytes ≡ [] = subst (λ l. AreLines l []) good.known missing.0 in
       let some = good.lines in

@@ -1,10 +1,8 @@
-pub mod Adds
 pub mod Complete
 pub mod FirstLine
-pub mod Names
-pub mod NoFloat
+pub mod GoingOn
+pub mod Growing
+pub mod Keeping
 pub mod OneLine
-pub mod Pairs
-pub mod Refusing
-pub mod Serving
+pub mod Placed
 pub mod WholeRun

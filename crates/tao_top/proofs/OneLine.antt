@@ -1,39 +1,55 @@
 -- One line that is served: as it was read, answered, and its reply written.
-use Rattle.std.proofs.Common.{◌≡◌, ℕ, nat_le, Bool, false, List, [], ◌∷◌, length, Option, None, Result, Ok, Err, OnErr, refl, sym, ap, subst, arith}
+use Rattle.std.proofs.Common.{◌≡◌, ℕ, nat_le, Bool, false, List, [], ◌∷◌, length, Option, None, Result, Ok, Err, OnErr, OnOk, inl, inr, refl, sym, ap, subst, arith}
 use Rattle.std.proofs.lemmas.Bool.Decides.{nat_tests}
 use Rattle.std.specs.Io.KnownBytes.{Appends}
 use Rattle.std.proofs.KnownBytes.{Appends-nil}
+use Rattle.config_json.specs.Config.{config_in}
+use Rattle.config_json.specs.declared.refusal.ConfigRefusal.TheVariants.{BadConfig}
+use Rattle.json_fields.specs.Json.{json_of}
+use Rattle.reply_json.specs.declared.refusals.LineRefused.TheVariants as line
+use Rattle.reply_json.specs.declared.refusals.Refusal.TheVariants.{Line as OfLine}
+use Rattle.reply_json.specs.declared.reply.Reply.{Reply}
+use Rattle.reply_json.specs.declared.reply.Reply.TheVariants.{Refused}
+use Rattle.request_json.specs.Requests.{request_in}
+use Rattle.request_json.specs.declared.refusal.LineRefusal.TheVariants.{BadLine}
+use Rattle.tao_core.specs.Core.{CoreState}
+use Rattle.tao_core.specs.Shown.{Shown}
 use Rattle.tao_io.specs.Lines.{GivesLines, IsTooLong, NextLineIs}
 use Rattle.tao_io.specs.declared.lines.NextLine.{NextLine}
 use Rattle.tao_io.specs.declared.lines.NextLine.TheVariants.{Line, TooLong, End}
-use Rattle.tao_top.proofs.Refusing.{refused}
-use Rattle.tao_top.proofs.Serving.{part_none, part_one, served_one, still_refl}
-use Rattle.json_fields.specs.Json.{json_of}
-use Rattle.tao_top.specs.Machine.{Shown, IsLater}
-use Rattle.tao_top.specs.Reply.{line_of}
-use Rattle.tao_top.specs.Request.{asked_in}
-use Rattle.tao_top.specs.Served.{AppendsPart, Replies, Served, ServedInPart, serves}
-use Rattle.tao_top.specs.Step.{State, Step}
-use Rattle.tao_top.specs.declared.config.Config.{Config}
-use Rattle.tao_top.specs.declared.reply.Reply.TheVariants.{Refused}
-use Rattle.tao_top.specs.declared.request.Refusal.TheVariants.{BadLine}
+use Rattle.tao_top.proofs.GoingOn.{part_none, part_one, served_one, still_refl}
+use Rattle.tao_top.specs.Begun.{RepliesInPart}
+use Rattle.tao_top.specs.Served.{AppendsPart, Served, ServedInPart, serves}
+use Rattle.tao_top.specs.Step.{State, Replies, Serves, Step, line_of, serving}
 
 -- what holds, holds where there was an error
 pub OnErr-any : {T E : Type 0} (result : Result T E) (P : Type 0) → P → OnErr result P
 OnErr-any (Ok x) P p = tt
 OnErr-any (Err e) P p = p
 
--- a line that is too long says nothing
-pub no_json : (line : List ℕ) → IsTooLong line → json_of line ≡ None
+-- ---- a line that is too long
+
+no_json : (line : List ℕ) → IsTooLong line → json_of line ≡ None
 no_json line long = let over : nat_le (length line) 1048576 ≡ false = grind (arith, nat_tests) in rw over refl
 
-module _ (tells : Bool) (config : Config) (session : Option ℕ) (keepers : Shown) where
-  -- so it is refused
-  pub long_line : (line : List ℕ) → IsTooLong line → Step tells (serves config session keepers) line (Refused BadLine) (serves config session keepers)
+pub no_request : (line : List ℕ) → IsTooLong line → request_in line ≡ Err (BadLine [])
+no_request line long = rw (no_json line long) refl
+
+pub no_configuration : (line : List ℕ) → IsTooLong line → config_in line ≡ Err (BadConfig [])
+no_configuration line long = rw (no_json line long) refl
+
+-- its reply
+abbrev pub refused_whole : Reply
+refused_whole = Refused (OfLine (line.BadLine []))
+
+module _ (tells : Bool) (core : CoreState) (keepers : Shown) where
+  long_line : (line : List ℕ) → IsTooLong line → Step tells (serves core keepers) line refused_whole (serves core keepers)
   long_line line long = record {
-    does = (refl, refused tells session keepers (asked_in config session line) BadLine (rw (no_json line long) refl));
+    does = subst (λ asked. Serves tells core keepers asked refused_whole core keepers) (sym (no_request line long)) (refl, refl, refl);
     later = record { calls = omega arith; faults = omega arith };
   }
+
+-- ---- what was read
 
 module _ (next : NextLine) (left rest : Option (List ℕ)) (line : List ℕ) (is : NextLineIs next left rest line) where
   pub line_of_Line : next ≡ Line → GivesLines left rest (line ∷ [])
@@ -49,25 +65,39 @@ module _ (next : NextLine) (left rest : Option (List ℕ)) (line : List ℕ) (is
 pub part_unread : (tells : Bool) (s : State) (left before : Option (List ℕ)) → ServedInPart tells s s.keepers left before before
 part_unread tells s left before = part_none tells s s.keepers left before before (Appends-nil before) (still_refl tells s.keepers s refl)
 
-module _ (tells : Bool) (config : Config) (session : Option ℕ) (keepers : Shown) (left rest before after : Option (List ℕ)) where
-  -- a line was answered, and of its reply a front was written
-  pub part_answered : (line said : List ℕ) (next : Option ℕ) (now : Shown) → GivesLines left rest (line ∷ []) → said ≡ line
-      → Replies tells (serves config session keepers) said (serves config next now) (AppendsPart before after) → ServedInPart tells (serves config session keepers) now left before after
-  part_answered line said next now read same replies =
-      part_one tells (serves config session keepers) (serves config next now) now left rest before after line read
-      (subst (λ l. Replies tells (serves config session keepers) l (serves config next now) (AppendsPart before after)) same replies)
-      (still_refl tells now (serves config next now) refl)
+-- ---- what was answered
 
-  pub served_answered : (line said : List ℕ) (next : Option ℕ) (now : Shown) → GivesLines left rest (line ∷ []) → said ≡ line
-      → Replies tells (serves config session keepers) said (serves config next now) (Appends before after) → Served tells (serves config session keepers) (serves config next now) left rest before after
-  served_answered line said next now read same replies =
-      served_one tells (serves config session keepers) (serves config next now) left rest before after line read
-      (subst (λ l. Replies tells (serves config session keepers) l (serves config next now) (Appends before after)) same replies)
+pub replies_ok : {T E : Type 0} (result : Result T E) (tells : Bool) (old new : State) (line : List ℕ) (reply : Reply) (before after : Option (List ℕ)) → Step tells old line reply new
+    → OnOk result (Appends before after (line_of new.stage reply)) → OnOk result (Replies tells old line new (Appends before after))
+replies_ok (Ok x) tells old new line reply before after step written = (reply, step, written)
+replies_ok (Err e) tells old new line reply before after step written = tt
+
+pub replies_err : {T E : Type 0} (result : Result T E) (tells : Bool) (old new : State) (line : List ℕ) (reply : Reply) (before after : Option (List ℕ)) → Step tells old line reply new
+    → OnErr result (AppendsPart before after (line_of new.stage reply)) → OnErr result (RepliesInPart tells old line new before after)
+replies_err (Ok x) tells old new line reply before after step written = tt
+replies_err (Err e) tells old new line reply before after step written = inr (reply, step, written)
+
+module _ (tells : Bool) (core : CoreState) (keepers : Shown) (left rest before after : Option (List ℕ)) where
+  -- a line was answered, and perhaps of its reply a front was written
+  pub part_answered : (line said : List ℕ) (next : CoreState) (now : Shown) → GivesLines left rest (line ∷ []) → said ≡ line
+      → RepliesInPart tells (serves core keepers) said (serves next now) before after → ServedInPart tells (serves core keepers) now left before after
+  part_answered line said next now read same (inl nothing) =
+      part_none tells (serves core keepers) now left before after nothing.1 (still_refl tells now (serves core keepers) (ap (λ s. s.keepers) (sym nothing.0)))
+  part_answered line said next now read same (inr replied) =
+      part_one tells (serves core keepers) (serves next now) now left rest before after line read
+      (subst (λ l. Replies tells (serves core keepers) l (serves next now) (AppendsPart before after)) same replied)
+      (still_refl tells now (serves next now) refl)
+
+  pub served_answered : (line said : List ℕ) (next : CoreState) (now : Shown) → GivesLines left rest (line ∷ []) → said ≡ line
+      → Replies tells (serves core keepers) said (serves next now) (Appends before after) → Served tells (serves core keepers) (serves next now) left rest before after
+  served_answered line said next now read same replied =
+      served_one tells (serves core keepers) (serves next now) left rest before after line read
+      (subst (λ l. Replies tells (serves core keepers) l (serves next now) (Appends before after)) same replied)
 
   -- a line was too long
-  pub part_refused : ((whole : List ℕ) × IsTooLong whole × GivesLines left rest (whole ∷ [])) → AppendsPart before after (line_of (Refused BadLine)) → ServedInPart tells (serves config session keepers) keepers left before after
-  part_refused long written = part_answered long.0 long.0 session keepers long.2 refl (Refused BadLine, long_line tells config session keepers long.0 long.1, written)
+  pub part_refused : ((whole : List ℕ) × IsTooLong whole × GivesLines left rest (whole ∷ [])) → AppendsPart before after (line_of (serving core) refused_whole) → ServedInPart tells (serves core keepers) keepers left before after
+  part_refused long written = part_answered long.0 long.0 core keepers long.2 refl (inr (refused_whole, long_line tells core keepers long.0 long.1, written))
 
-  pub served_refused : ((whole : List ℕ) × IsTooLong whole × GivesLines left rest (whole ∷ [])) → Appends before after (line_of (Refused BadLine))
-      → Served tells (serves config session keepers) (serves config session keepers) left rest before after
-  served_refused long written = served_answered long.0 long.0 session keepers long.2 refl (Refused BadLine, long_line tells config session keepers long.0 long.1, written)
+  pub served_refused : ((whole : List ℕ) × IsTooLong whole × GivesLines left rest (whole ∷ [])) → Appends before after (line_of (serving core) refused_whole)
+      → Served tells (serves core keepers) (serves core keepers) left rest before after
+  served_refused long written = served_answered long.0 long.0 core keepers long.2 refl (refused_whole, long_line tells core keepers long.0 long.1, written)

@@ -1,29 +1,49 @@
--- The first line of a run, as it was taken.
-use Rattle.std.specs.Prelude.{◌⊎◌, ℕ, Bool, List, [], Option}
+-- The parts of a run: its first line, as it was read and taken, and each later one.
+use Rattle.std.specs.Prelude.{◌≡◌, ◌⊎◌, ℕ, Bool, List, [], Option, Err}
 use Rattle.std.specs.Io.KnownBytes.{Appends}
+use Rattle.config_json.specs.Config.{config_in}
+use Rattle.config_json.specs.declared.refusal.ConfigRefusal.TheVariants.{BadConfig}
 use Rattle.counts.specs.Count.{Rose}
-use Rattle.tao_top.specs.Machine.{Shown}
-use Rattle.tao_top.specs.Reply.{line_of}
-use Rattle.tao_top.specs.Served.{AppendsPart, IsStill, Replies, start}
-use Rattle.tao_top.specs.Step.{State, ended, Configures}
+use Rattle.reply_json.specs.declared.reply.Reply.TheVariants.{BadConfiguration}
+use Rattle.tao_core.specs.Shown.{Shown}
+use Rattle.tao_top.specs.Served.{AppendsPart, DoneInPart, IsStill, OpensInPart, RefusesConfiguration, refusal_line, start}
+use Rattle.tao_top.specs.Step.{State, ended, Configures, Replies}
 use Rattle.tao_top.specs.Stop.{InterruptsWriting}
-use Rattle.tao_top.specs.declared.reply.ConfigField.{ConfigField}
-use Rattle.tao_top.specs.declared.reply.Reply.TheVariants.{BadConfiguration}
 use Rattle.tao_top.specs.declared.stop.Stop.{Stop}
 use Rattle.tao_top.specs.declared.stop.Stop.TheVariants as stop
 
--- the line got no reply, or one of which a front was written; since then no table changed
+-- the line is no configuration, and its refusal is written so
+abbrev pub RefusesFor : List ℕ → (List ℕ → Type 0) → Type 0
+RefusesFor line Writes = (field : List ℕ) × (config_in line ≡ Err (BadConfig field)) × Writes (refusal_line field)
+
+-- nothing was written, or a front of that refusal
+abbrev pub RefusesInPart : List ℕ → Option (List ℕ) → Option (List ℕ) → Type 0
+RefusesInPart line before after = Appends before after [] ⊎ RefusesFor line (AppendsPart before after)
+
+-- whatever keepers show, they are left alone, and the run is done in part
+abbrev pub EndsAtFirst : Option (List ℕ) → Option (List ℕ) → Option (List ℕ) → Type 0
+EndsAtFirst left before after = (tells : Bool) (keepers : Shown) → DoneInPart tells keepers keepers left before after
+
+-- and there is no configuration
+abbrev pub RefusesFirst : Option (List ℕ) → Option (List ℕ) → Option (List ℕ) → Type 0
+RefusesFirst left before after = (tells : Bool) (keepers : Shown) → RefusesConfiguration tells keepers keepers left before after
+
+-- the configuration got no reply, or one of which a front was written; since then no table changed
 abbrev pub BegunInPart : Bool → Shown → Shown → List ℕ → Option (List ℕ) → Option (List ℕ) → Type 0
 BegunInPart tells old now line before after =
-    (IsStill tells (start old) now × Appends before after []) ⊎ ((last : State) × Replies tells (start old) line last (AppendsPart before after) × IsStill tells last now)
+    OpensInPart tells old now line before after ⊎ ((last : State) × Replies tells (start old) line last (AppendsPart before after) × IsStill tells last now)
 
 -- the line was refused as the configuration, and the line that says so was written
 pub record RefusesLine (tells : Bool) (old now : Shown) (line : List ℕ) (before after : Option (List ℕ)) : Type 0 where
-  pub field : ConfigField
+  pub field : List ℕ
   pub refused : Configures tells old line (BadConfiguration field) ended now
-  pub written : Appends before after (line_of (BadConfiguration field))
+  pub written : Appends before after (refusal_line field)
 
--- what stops a run at its first line, once that was read
+-- a line got no reply and changed nothing, or got one of which a front was written
+abbrev pub RepliesInPart : Bool → State → List ℕ → State → Option (List ℕ) → Option (List ℕ) → Type 0
+RepliesInPart tells old line new before after = ((new ≡ old) × Appends before after []) ⊎ Replies tells old line new (AppendsPart before after)
+
+-- what stops a run at its configuration, once that was read
 abbrev pub StopsBeginning : ℕ → ℕ → ℕ → ℕ → Stop → Type 0
 StopsBeginning sink_before sink_now keepers_before keepers_now stop.Configuration = Unit {0}
 StopsBeginning sink_before sink_now keepers_before keepers_now stop.Keepers = Rose keepers_before keepers_now

@@ -1,9 +1,4 @@
-pub mod Word
-pub mod Reply
-pub mod Config
-pub mod Request
-pub mod StoreFail
-pub mod Machine
+pub mod Kept
 pub mod Step
 pub mod Stop
 pub mod Served

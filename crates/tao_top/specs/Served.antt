@@ -1,16 +1,16 @@
 -- What a run has read and written by its end.
-use Rattle.std.specs.Prelude.{◌≡◌, ◌⊎◌, ℕ, Bool, false, ⊤, List, [], ◌∷◌, ◌++◌, Option, Some, None, take, codes, bytes_eq}
+use Rattle.std.specs.Prelude.{◌≡◌, ◌⊎◌, ℕ, Bool, false, ⊤, List, [], ◌∷◌, ◌++◌, Option, Some, None, take, codes, bytes_eq, Ok}
 use Rattle.std.specs.List.{flat_map}
 use Rattle.std.specs.Io.KnownBytes.{Appends}
+use Rattle.config_json.specs.Config.{config_in}
+use Rattle.graph_model.specs.Told.{WhereTold}
+use Rattle.reply_json.specs.declared.reply.Reply.TheVariants.{BadConfiguration}
+use Rattle.tao_core.specs.Core.{CoreState}
+use Rattle.tao_core.specs.Opening.{IsOpenedInPart}
+use Rattle.tao_core.specs.Shown.{Shown, IsLater, KeepsTables}
 use Rattle.tao_io.specs.Lines.{lines_of, GivesLines}
-use Rattle.tao_top.specs.Machine.{Shown, IsLater, KeepsTables}
-use Rattle.tao_top.specs.Reply.{line_of}
-use Rattle.tao_top.specs.Step.{State, waiting, serving, ended, Configures, Step, Run}
-use Rattle.tao_top.specs.declared.config.Config.{Config}
-use Rattle.tao_top.specs.declared.reply.ConfigField.{ConfigField}
-use Rattle.tao_top.specs.declared.reply.ConfigField.TheVariants.{Whole}
-use Rattle.tao_top.specs.declared.reply.Reply.{Reply}
-use Rattle.tao_top.specs.declared.reply.Reply.TheVariants.{BadConfiguration}
+use Rattle.tao_top.specs.Step.{State, waiting, serving, ended, Configures, Run, line_of}
+use Rattle.topology.specs.Config.{Settings}
 
 -- the one word run
 abbrev pub is_run : List (List ℕ) → Bool
@@ -28,9 +28,9 @@ abbrev pub LinesBegin : Option (List ℕ) → List (List ℕ) → Type 0
 LinesBegin None lines = ⊤
 LinesBegin (Some bytes) lines = (more : List (List ℕ)) × (lines_of bytes ≡ lines ++ more)
 
--- the texts of replies, in order
-abbrev pub texts_of : List Reply → List ℕ
-texts_of replies = flat_map line_of replies
+-- texts, one after another
+abbrev pub joined : List (List ℕ) → List ℕ
+joined texts = flat_map (λ text. text) texts
 
 -- known bytes grow by a front of these
 abbrev pub AppendsPart : Option (List ℕ) → Option (List ℕ) → List ℕ → Type 0
@@ -40,72 +40,77 @@ AppendsPart before after bytes = (size : ℕ) × Appends before after (take size
 abbrev pub start : Shown → State
 start keepers = record { stage = waiting; keepers = keepers }
 
--- a run serves by a configuration
-abbrev pub serves : Config → Option ℕ → Shown → State
-serves config session keepers = record { stage = serving config session; keepers = keepers }
+-- a run serves by its configuration
+abbrev pub serves : CoreState → Shown → State
+serves core keepers = record { stage = serving core; keepers = keepers }
 
 -- since a state no table changed, and no count fell
 pub record IsStill (tells : Bool) (state : State) (now : Shown) : Type 0 where
   pub tables : KeepsTables tells state.keepers now
   pub later : IsLater state.keepers now
 
--- the line has a reply, whose text is written so
-abbrev pub Replies : Bool → State → List ℕ → State → (List ℕ → Type 0) → Type 0
-Replies tells old line new Writes = (r : Reply) × Step tells old line r new × Writes (line_of r)
-
 -- some lines came out of the known bytes, each has its reply, and the replies' texts were written
 pub record Served (tells : Bool) (old new : State) (left rest before after : Option (List ℕ)) : Type 0 where
   pub lines : List (List ℕ)
-  pub replies : List Reply
+  pub texts : List (List ℕ)
   pub read : GivesLines left rest lines
-  pub run : Run tells old lines replies new
-  pub written : Appends before after (texts_of replies)
+  pub run : Run tells old lines texts new
+  pub written : Appends before after (joined texts)
 
 -- each line of the known bytes has its reply, and the replies' texts were written, in order
 pub record ServedAll (tells : Bool) (old new : State) (left before after : Option (List ℕ)) : Type 0 where
   pub lines : List (List ℕ)
-  pub replies : List Reply
+  pub texts : List (List ℕ)
   pub read : AreLines left lines
-  pub run : Run tells old lines replies new
-  pub written : Appends before after (texts_of replies)
-
--- a run that serves by a configuration from its first request on came to the end of its input, whichever session is open then
-abbrev pub ServesAll : Bool → Config → Shown → Shown → Option (List ℕ) → Option (List ℕ) → Option (List ℕ) → Type 0
-ServesAll tells config old new left before after = (session : Option ℕ) × ServedAll tells (serves config None old) (serves config session new) left before after
+  pub run : Run tells old lines texts new
+  pub written : Appends before after (joined texts)
 
 -- some first lines of the known bytes have their replies, of whose texts a front was written; since the last reply no table changed
 pub record ServedInPart (tells : Bool) (old : State) (now : Shown) (left before after : Option (List ℕ)) : Type 0 where
   pub last : State
   pub lines : List (List ℕ)
-  pub replies : List Reply
+  pub texts : List (List ℕ)
   pub read : LinesBegin left lines
-  pub run : Run tells old lines replies last
-  pub written : AppendsPart before after (texts_of replies)
+  pub run : Run tells old lines texts last
+  pub written : AppendsPart before after (joined texts)
   pub still : IsStill tells last now
+
+-- the line is a configuration, of whose stores some are open, and nothing was written
+pub record OpensInPart (tells : Bool) (old now : Shown) (line : List ℕ) (before after : Option (List ℕ)) : Type 0 where
+  pub settings : Settings
+  pub configured : config_in line ≡ Ok settings
+  pub opened : WhereTold tells (IsOpenedInPart settings line old.told now.told)
+  pub later : IsLater old now
+  pub written : Appends before after []
+
+-- the line that refuses the configuration for this field
+abbrev pub refusal_line : List ℕ → List ℕ
+refusal_line field = line_of ended (BadConfiguration field)
 
 -- the input has no line, and of the refusal of its configuration a front was written
 pub record LacksConfiguration (old now : Shown) (left before after : Option (List ℕ)) : Type 0 where
   pub read : AreLines left []
-  pub written : AppendsPart before after (line_of (BadConfiguration Whole))
+  pub written : AppendsPart before after (refusal_line [])
   pub same : now ≡ old
 
 -- the run was configured, and each line of the input has its reply, written whole
 pub record Done (tells : Bool) (old new : Shown) (left before after : Option (List ℕ)) : Type 0 where
-  pub config : Config
-  pub session : Option ℕ
-  pub served : ServedAll tells (start old) (serves config session new) left before after
+  pub core : CoreState
+  pub served : ServedAll tells (start old) (serves core new) left before after
 
 -- what was written is a front of the texts of the replies to the first lines
 abbrev pub DoneInPart : Bool → Shown → Shown → Option (List ℕ) → Option (List ℕ) → Option (List ℕ) → Type 0
-DoneInPart tells old now left before after = LacksConfiguration old now left before after ⊎ ServedInPart tells (start old) now left before after
+DoneInPart tells old now left before after = LacksConfiguration old now left before after
+    ⊎ ((line : List ℕ) × LinesBegin left (line ∷ []) × OpensInPart tells old now line before after)
+    ⊎ ServedInPart tells (start old) now left before after
 
 -- the first line is refused as the configuration, or the input has none
-abbrev pub IsRefused : Bool → Shown → Shown → Option (List ℕ) → ConfigField → Type 0
+abbrev pub IsRefused : Bool → Shown → Shown → Option (List ℕ) → List ℕ → Type 0
 IsRefused tells old now left field =
-    (AreLines left [] × (field ≡ Whole) × (now ≡ old)) ⊎ ((line : List ℕ) × LinesBegin left (line ∷ []) × Configures tells old line (BadConfiguration field) ended now)
+    (AreLines left [] × (field ≡ []) × (now ≡ old)) ⊎ ((line : List ℕ) × LinesBegin left (line ∷ []) × Configures tells old line (BadConfiguration field) ended now)
 
 -- the configuration was refused, and the line that says so was written, and nothing else
 pub record RefusesConfiguration (tells : Bool) (old now : Shown) (left before after : Option (List ℕ)) : Type 0 where
-  pub field : ConfigField
+  pub field : List ℕ
   pub refused : IsRefused tells old now left field
-  pub written : Appends before after (line_of (BadConfiguration field))
+  pub written : Appends before after (refusal_line field)

@@ -1,30 +1,29 @@
 -- A line and its reply: from one state of a run to the next.
-use Rattle.std.specs.Prelude.{◌≡◌, ℕ, Bool, List, [], ◌∷◌, Option, Some, None, IsSome, Result, Ok, Err}
-use Rattle.tao_keeper.specs.Table.{WhereTold, Becomes, OpensAs, after_open}
-use Rattle.tao_keeper.specs.declared.keeper.Opened.{Opened as Opening}
-use Rattle.tao_keeper.specs.declared.keeper.Opened.TheVariants.{Ready, OtherLine}
-use Rattle.tao_top.specs.Config.{config_in}
-use Rattle.tao_top.specs.Machine.{Shown, IsLater, DoesAdd, DoesRange, the_store}
-use Rattle.tao_top.specs.Request.{Asks, asked_in}
-use Rattle.tao_top.specs.declared.config.Config.{Config}
-use Rattle.tao_top.specs.declared.word.Word.{Word}
-use Rattle.tao_top.specs.declared.word.Word.TheVariants.{AssocAdd, AssocRange}
-use Rattle.tao_top.specs.declared.request.Add.{Add}
-use Rattle.tao_top.specs.declared.request.Range.{Range}
-use Rattle.tao_top.specs.declared.request.Asked.{Asked}
-use Rattle.tao_top.specs.declared.request.Asked.TheVariants as asked
-use Rattle.tao_top.specs.declared.reply.ConfigField.TheVariants.{Whole, File}
-use Rattle.tao_top.specs.declared.reply.Reply.{Reply}
-use Rattle.tao_top.specs.declared.reply.Reply.TheVariants.{Configured, BadConfiguration, Opened, Added, Listed, Refused}
-use Rattle.tao_top.specs.declared.request.Refusal.{Refusal}
-use Rattle.tao_top.specs.declared.request.Refusal.TheVariants as refusal
-use Rattle.tao_top.specs.declared.store.StoreFail.{StoreFail}
-use Rattle.tao_top.specs.declared.store.StoreFail.TheVariants as fail
+use Rattle.std.specs.Prelude.{◌≡◌, ◌⊎◌, ℕ, Bool, List, [], ◌∷◌, ◌++◌, Result, Ok, Err, codes}
+use Rattle.config_json.specs.Config.{config_in}
+use Rattle.config_json.specs.declared.refusal.ConfigRefusal.TheVariants.{BadConfig}
+use Rattle.graph_model.specs.Told.{WhereTold}
+use Rattle.reply_json.specs.Reply.{reply_text}
+use Rattle.reply_json.specs.declared.refusals.LineRefused.TheVariants as line
+use Rattle.reply_json.specs.declared.refusals.Refusal.TheVariants.{Line}
+use Rattle.reply_json.specs.declared.reply.Reply.{Reply}
+use Rattle.reply_json.specs.declared.reply.Reply.TheVariants.{Configured, BadConfiguration, Refused}
+use Rattle.request_json.specs.Requests.{request_in}
+use Rattle.request_json.specs.declared.refusal.LineRefusal.{LineRefusal}
+use Rattle.request_json.specs.declared.refusal.LineRefusal.TheVariants.{BadLine, TooLarge, OutOfMemory}
+use Rattle.request_json.specs.declared.request.Request.{Request}
+use Rattle.tao_core.specs.Core.{CoreState}
+use Rattle.tao_core.specs.Opening.{IsOpened, IsOtherLine}
+use Rattle.tao_core.specs.Replies.{Answers}
+use Rattle.tao_core.specs.Shown.{Shown, IsLater}
+use Rattle.topology.specs.Config.{Settings}
 
--- how far a run has come: it waits for its configuration, serves by it while a session may be open, or has refused it
+-- ---- states
+
+-- how far a run has come: it waits for its configuration, serves by it, or has refused it
 pub data Stage : Type 0 where
   waiting : Stage
-  serving : Config → Option ℕ → Stage
+  serving : CoreState → Stage
   ended : Stage
 
 -- between two lines: the stage, and what the keepers show
@@ -32,84 +31,82 @@ pub record State : Type 0 where
   pub stage : Stage
   pub keepers : Shown
 
--- the reply where the store gave no answer
-abbrev pub fail_reply : ℕ → Word → StoreFail → Reply
-fail_reply faults word fail.NotBuilt = Refused (refusal.NotBuilt word)
-fail_reply faults word fail.KeeperFault = Refused (refusal.KeeperFault faults)
-fail_reply faults word fail.OutOfMemory = Refused refusal.Memory
+-- ---- the text of a reply
 
--- an add is refused by the log, by a fault that came now, or for want of memory
-abbrev pub AddRefused : Bool → Shown → Shown → Add → Refusal → Type 0
-AddRefused tells old new add (refusal.NotBuilt word) = (word ≡ AssocAdd) × DoesAdd tells old new add (Err fail.NotBuilt)
-AddRefused tells old new add (refusal.KeeperFault count) = (count ≡ new.faults) × DoesAdd tells old new add (Err fail.KeeperFault)
-AddRefused tells old new add refusal.Memory = DoesAdd tells old new add (Err fail.OutOfMemory)
-AddRefused tells old new add refusal.BadLine = ⊥
-AddRefused tells old new add (refusal.UnknownType name) = ⊥
+-- settings without any name
+abbrev pub no_settings : Settings
+no_settings = record { schema = record { objects = []; assocs = [] }; shards = 0; regions = []; masters = []; log_max = 0; cache_items = 0 }
 
-abbrev pub AddReply : Bool → Shown → Shown → Add → Reply → Type 0
-AddReply tells old new add (Added position) = DoesAdd tells old new add (Ok position)
-AddReply tells old new add (Refused refused) = AddRefused tells old new add refused
-AddReply tells old new add other = ⊥
+-- the settings that names are spelled by. There are none before the configuration, and no name is spelled then
+abbrev pub settings_of : Stage → Settings
+settings_of waiting = no_settings
+settings_of (serving core) = core.settings
+settings_of ended = no_settings
 
--- a range is refused by a fault that came now, or for want of memory
-abbrev pub RangeRefused : Bool → Shown → Shown → Range → Refusal → Type 0
-RangeRefused tells old new range (refusal.KeeperFault count) = (count ≡ new.faults) × DoesRange tells old new range (Err fail.KeeperFault)
-RangeRefused tells old new range refusal.Memory = DoesRange tells old new range (Err fail.OutOfMemory)
-RangeRefused tells old new range refusal.BadLine = ⊥
-RangeRefused tells old new range (refusal.NotBuilt word) = ⊥
-RangeRefused tells old new range (refusal.UnknownType name) = ⊥
+-- a reply's line: its text and a line feed
+abbrev pub line_of : Stage → Reply → List ℕ
+line_of stage reply = reply_text (settings_of stage) reply ++ 10 ∷ []
 
-abbrev pub RangeReply : Bool → Shown → Shown → Range → Reply → Type 0
-RangeReply tells old new range (Listed edges version) = DoesRange tells old new range (Ok (edges, version))
-RangeReply tells old new range (Refused refused) = RangeRefused tells old new range refused
-RangeReply tells old new range other = ⊥
+-- ---- the first line
 
--- a line that asks nothing gets its refusal, or want of memory
-abbrev pub Refuses : Refusal → Reply → Type 0
-Refuses expected (Refused refused) = Asks (Err refused) (Err expected)
-Refuses expected other = ⊥
+-- the line is a configuration, each store takes it, and no session is open yet
+pub record TakesLine (tells : Bool) (old : Shown) (line : List ℕ) (core : CoreState) (new : Shown) : Type 0 where
+  pub configured : config_in line ≡ Ok core.settings
+  pub sessions : core.sessions ≡ []
+  pub opened : WhereTold tells (IsOpened core.settings line old.told new.told)
 
--- a session is opened, or memory was wanting
-abbrev pub OpenReply : ℕ → Option ℕ → Reply → Option ℕ → Type 0
-OpenReply session current (Opened opened) next = (opened ≡ session) × (next ≡ Some session)
-OpenReply session current (Refused refusal.Memory) next = next ≡ current
-OpenReply session current other next = ⊥
+-- the line is no configuration: this field breaks a rule
+pub record IsNoConfiguration (old : Shown) (line field : List ℕ) (new : Shown) : Type 0 where
+  pub refused : config_in line ≡ Err (BadConfig field)
+  pub same : new ≡ old
 
--- what a request's reply says of the keepers and of the session that is open after it
-abbrev pub Answers : Bool → Option ℕ → Shown → Result Asked Refusal → Reply → Option ℕ → Shown → Type 0
-Answers tells current old (Err expected) r next new = Refuses expected r × (next ≡ current) × (new ≡ old)
-Answers tells current old (Ok (asked.Open session)) r next new = OpenReply session current r next × (new ≡ old)
-Answers tells current old (Ok (asked.Add add)) r next new = AddReply tells old new add r × (next ≡ current)
-Answers tells current old (Ok (asked.Range range)) r next new = RangeReply tells old new range r × (next ≡ current)
+-- the line is a configuration, but not the line that a store was first opened with
+pub record IsAnotherLine (tells : Bool) (old : Shown) (line field : List ℕ) (new : Shown) : Type 0 where
+  pub settings : Settings
+  pub configured : config_in line ≡ Ok settings
+  pub field_is : field ≡ codes "file"
+  pub other : WhereTold tells (IsOtherLine settings line old.told new.told)
 
--- the store takes the line that it is opened with or not, and keeps the one that it was first opened with
-abbrev pub Opens : Bool → Opening → Shown → Shown → List ℕ → Type 0
-Opens tells opened old new line =
-    WhereTold tells (OpensAs opened (old.told the_store) line × Becomes old.told new.told the_store (after_open (old.told the_store) line))
-
--- the first line is taken as the configuration and opens the store, is none, or isn't the line that the store was first opened with
+-- what the reply to the first line says
 abbrev pub Configures : Bool → Shown → List ℕ → Reply → Stage → Shown → Type 0
-Configures tells old line Configured (serving config current) new =
-    (config_in line ≡ Some config) × (current ≡ None) × Opens tells Ready old new line
-Configures tells old line (BadConfiguration Whole) ended new = (config_in line ≡ None) × (new ≡ old)
-Configures tells old line (BadConfiguration File) ended new = IsSome (config_in line) × Opens tells OtherLine old new line
-Configures tells old line r stage new = ⊥
+Configures tells old line Configured (serving core) new = TakesLine tells old line core new
+Configures tells old line (BadConfiguration field) ended new = IsNoConfiguration old line field new ⊎ IsAnotherLine tells old line field new
+Configures tells old line reply stage new = ⊥
+
+-- ---- each later line
+
+-- a line that is no request gets its refusal
+abbrev pub IsRefusal : LineRefusal → Reply → Type 0
+IsRefusal (BadLine field) reply = reply ≡ Refused (Line (line.BadLine field))
+IsRefusal (TooLarge bytes pairs) reply = reply ≡ Refused (Line (line.TooLarge bytes pairs))
+IsRefusal OutOfMemory reply = ⊥
+
+-- what the reply to what a line asks says. The configuration stays
+abbrev pub Serves : Bool → CoreState → Shown → Result Request LineRefusal → Reply → CoreState → Shown → Type 0
+Serves tells core old (Err refused) reply next new = IsRefusal refused reply × (next ≡ core) × (new ≡ old)
+Serves tells core old (Ok request) reply next new = Answers tells core.settings core.sessions old request reply next.sessions new × (next.settings ≡ core.settings)
+
+-- ---- the run
 
 abbrev pub StepIn : Bool → Stage → Shown → List ℕ → Reply → Stage → Shown → Type 0
-StepIn tells waiting old line r stage new = Configures tells old line r stage new
-StepIn tells (serving config current) old line r (serving config2 next) new = (config2 ≡ config) × Answers tells current old (asked_in config current line) r next new
-StepIn tells (serving config current) old line r waiting new = ⊥
-StepIn tells (serving config current) old line r ended new = ⊥
-StepIn tells ended old line r stage new = ⊥
+StepIn tells waiting old line reply stage new = Configures tells old line reply stage new
+StepIn tells (serving core) old line reply (serving next) new = Serves tells core old (request_in line) reply next new
+StepIn tells (serving core) old line reply waiting new = ⊥
+StepIn tells (serving core) old line reply ended new = ⊥
+StepIn tells ended old line reply stage new = ⊥
 
 -- one line and its reply
-pub record Step (tells : Bool) (old : State) (line : List ℕ) (r : Reply) (new : State) : Type 0 where
-  pub does : StepIn tells old.stage old.keepers line r new.stage new.keepers
+pub record Step (tells : Bool) (old : State) (line : List ℕ) (reply : Reply) (new : State) : Type 0 where
+  pub does : StepIn tells old.stage old.keepers line reply new.stage new.keepers
   pub later : IsLater old.keepers new.keepers
 
--- each line gets one reply, one after another
-abbrev pub Run : Bool → State → List (List ℕ) → List Reply → State → Type 0
+-- the line has a reply, whose text is written so
+abbrev pub Replies : Bool → State → List ℕ → State → (List ℕ → Type 0) → Type 0
+Replies tells old line new Writes = (reply : Reply) × Step tells old line reply new × Writes (line_of new.stage reply)
+
+-- each line gets one reply, one after another, with these texts
+abbrev pub Run : Bool → State → List (List ℕ) → List (List ℕ) → State → Type 0
 Run tells old [] [] new = new ≡ old
-Run tells old (line ∷ lines) (r ∷ replies) new = (mid : State) × Step tells old line r mid × Run tells mid lines replies new
-Run tells old [] (r ∷ replies) new = ⊥
+Run tells old (line ∷ lines) (text ∷ texts) new = (mid : State) × Replies tells old line mid (λ said. text ≡ said) × Run tells mid lines texts new
+Run tells old [] (text ∷ texts) new = ⊥
 Run tells old (line ∷ lines) [] new = ⊥

@@ -1,76 +1,63 @@
-//! The first line of a run: its configuration, with which the store is opened.
-ghost use Rattle.std.specs.Prelude.{◌≡◌, ◌≢◌, ◌≤◌, ◌^◌, Ok, Err, None, IfErr, IfOk, OnErr, IsErrOf};
-ghost use Rattle.std.specs.Io.KnownBytes.{Appends, Keeps};
+//! The first line of a run: its configuration, with which the stores are opened.
+ghost use Rattle.std.specs.Prelude.{◌≡◌, ◌≤◌, ◌^◌, Ok, Err, [], ◌∷◌, IfErr, IfOk, OnErr};
+ghost use Rattle.std.specs.Io.KnownBytes.{Appends};
+ghost use Rattle.config_json.specs.Config.{config_in};
+ghost use Rattle.graph_model.specs.Told.{WhereTold};
+ghost use Rattle.tao_core.specs.Shown.{shown};
 ghost use Rattle.tao_io.specs.LineReader.{to_come};
-ghost use Rattle.tao_io.specs.Lines.{CountsTaken};
-ghost use Rattle.tao_top.specs.Begun.{BegunInPart, RefusesLine, StopsBeginning};
-ghost use Rattle.tao_top.specs.Machine.{shown};
-ghost use Rattle.tao_top.specs.Reply.{line_of};
-ghost use Rattle.tao_top.specs.Served.{AppendsPart, DoneInPart, RefusesConfiguration, Replies, Served, serves, start};
+ghost use Rattle.tao_io.specs.Lines.{CountsTaken, GivesLines};
+ghost use Rattle.tao_top.specs.Begun.{BegunInPart, EndsAtFirst, RefusesFirst, RefusesFor, RefusesInPart, RefusesLine, StopsBeginning};
+ghost use Rattle.tao_top.specs.Kept.{AreKept, IsServing};
+ghost use Rattle.tao_top.specs.Served.{serves, start};
+ghost use Rattle.tao_top.specs.Step.{Replies};
 ghost use Rattle.tao_top.specs.Stop.{FaultsGrow, StopHasCause, faults};
 
-use crate::config::Config;
-use crate::reply::{ConfigField, Reply};
-use crate::serve::say;
+use crate::lines::refuse;
+use crate::serving::Serving;
 use crate::stop::{Interrupt, Stop};
-use crate::store::STORE;
 use std::alloc::Global;
 use tao_io::{LineReader, NextLine, Sink, Source};
-use tao_keeper::{KeepFail, Keeper, Opened};
+use tao_keeper::Keeper;
+use tao_wire::{ConfigRefusal, OpenRefusal, Reply, read_config};
+use topology::Config;
 
-/// Writes the line that refuses the configuration. The stop says whether it was written whole.
-fn refuse<S: Sink>(alloc: Global, output: &mut S, field: ConfigField) -> Stop
-    ensures whole { result ≡ Stop.Configuration → Appends (S.taken output.old) (S.taken output.new) (line_of (Reply.BadConfiguration field)) }
-    ensures part { AppendsPart (S.taken output.old) (S.taken output.new) (line_of (Reply.BadConfiguration field)) }
-    ensures cause { StopsBeginning (S.faults output.old) (S.faults output.new) 0 0 result }
-    ensures not_keepers { result ≢ Stop.Keepers }
+/// The first line, and the configuration that it is.
+#[derive(Drop)]
+pub(crate) struct First {
+    line: Vec<u8>,
+    config: Config,
+}
+
+/// Takes a line as the configuration, or writes its refusal.
+fn take_line<S: Sink>(alloc: Global, output: &mut S, line: Vec<u8>) -> Result<First, Stop>
+    ensures line { IfOk result (λ first. first.line.items ≡ line.items) }
+    ensures configured { IfOk result (λ first. config_in line.items ≡ Ok first.config) }
+    ensures silent { IfOk result (λ _. output.new ≡ output.old) }
+    ensures err { OnErr result (RefusesInPart line.items (S.taken output.old) (S.taken output.new)) }
+    ensures refused { result ≡ Err Stop.Configuration → RefusesFor line.items (Appends (S.taken output.old) (S.taken output.new)) }
+    ensures cause { IfErr result (StopsBeginning (S.faults output.old) (S.faults output.new) 0 0) }
     ensures later { S.faults output.old ≤ S.faults output.new }
 {
-    match say(alloc, output, &Reply::BadConfiguration { field }) {
-        Ok(()) => Stop::Configuration,
-        Err(interrupt) => Stop::Interrupted(interrupt),
+    match read_config(alloc, &line) {
+        Ok(config) => Ok(First { line, config }),
+        Err(ConfigRefusal::BadConfig { field }) => Err(refuse(alloc, output, field.as_str())),
+        Err(ConfigRefusal::OutOfMemory) => Err(Stop::Interrupted(Interrupt::Memory)),
     }
 }
 
-/// Takes a line as the configuration, opens the store with it, and writes the reply.
-fn configure<S: Sink, K: Keeper>(
-    alloc: Global,
-    output: &mut S,
-    keepers: &mut K,
-    line: &[u8],
-) -> Result<Config, Stop>
-    ensures ok { IfOk result (λ config. Replies K.TELLS (start (shown K.told K.calls K.faults keepers.old)) line.now (serves config None (shown K.told K.calls K.faults keepers.new)) (Appends (S.taken output.old) (S.taken output.new))) }
-    ensures err { OnErr result (BegunInPart K.TELLS (shown K.told K.calls K.faults keepers.old) (shown K.told K.calls K.faults keepers.new) line.now (S.taken output.old) (S.taken output.new)) }
-    ensures refused { result ≡ Err Stop.Configuration → RefusesLine K.TELLS (shown K.told K.calls K.faults keepers.old) (shown K.told K.calls K.faults keepers.new) line.now (S.taken output.old) (S.taken output.new) }
-    ensures cause { IfErr result (StopsBeginning (S.faults output.old) (S.faults output.new) (K.faults keepers.old) (K.faults keepers.new)) }
-    ensures later { S.faults output.old ≤ S.faults output.new }
-{
-    let Some(config) = Config::read(alloc, line)? else {
-        return Err(refuse(alloc, output, ConfigField::Whole));
-    };
-    match keepers.open(STORE, line) {
-        Ok(Opened::Ready) => {
-            say(alloc, output, &Reply::Configured)?;
-            Ok(config)
-        }
-        Ok(Opened::OtherLine) => Err(refuse(alloc, output, ConfigField::File)),
-        Err(KeepFail::Failed) => Err(Stop::Keepers),
-        Err(KeepFail::OutOfMemory) => Err(Stop::Interrupted(Interrupt::Memory)),
-    }
-}
-
-/// Reads the first line, and begins the run with it.
-pub(crate) fn begin<R: Source, S: Sink, K: Keeper>(
+/// Reads the first line as the configuration. Writes nothing but a refusal.
+pub(crate) fn read_first<R: Source, S: Sink>(
     alloc: Global,
     reader: &mut LineReader,
     input: &mut R,
     output: &mut S,
-    keepers: &mut K,
-) -> Result<Config, Stop>
-    ensures ok { IfOk result (λ config. Served K.TELLS (start (shown K.told K.calls K.faults keepers.old)) (serves config None (shown K.told K.calls K.faults keepers.new)) (to_come reader.old (R.left input.old)) (to_come reader.new (R.left input.new)) (S.taken output.old) (S.taken output.new)) }
-    ensures err { OnErr result (DoneInPart K.TELLS (shown K.told K.calls K.faults keepers.old) (shown K.told K.calls K.faults keepers.new) (to_come reader.old (R.left input.old)) (S.taken output.old) (S.taken output.new)) }
-    ensures refused { result ≡ Err Stop.Configuration → RefusesConfiguration K.TELLS (shown K.told K.calls K.faults keepers.old) (shown K.told K.calls K.faults keepers.new) (to_come reader.old (R.left input.old)) (S.taken output.old) (S.taken output.new) }
-    ensures cause { IfErr result (StopHasCause (faults (R.faults input.old) (S.faults output.old)) (faults (R.faults input.new) (S.faults output.new)) (K.faults keepers.old) (K.faults keepers.new)) }
+) -> Result<First, Stop>
+    ensures line { IfOk result (λ first. GivesLines (to_come reader.old (R.left input.old)) (to_come reader.new (R.left input.new)) (first.line.items ∷ [])) }
+    ensures configured { IfOk result (λ first. config_in first.line.items ≡ Ok first.config) }
+    ensures silent { IfOk result (λ _. output.new ≡ output.old) }
+    ensures err { OnErr result (EndsAtFirst (to_come reader.old (R.left input.old)) (S.taken output.old) (S.taken output.new)) }
+    ensures refused { result ≡ Err Stop.Configuration → RefusesFirst (to_come reader.old (R.left input.old)) (S.taken output.old) (S.taken output.new) }
+    ensures cause { IfErr result (StopHasCause (faults (R.faults input.old) (S.faults output.old)) (faults (R.faults input.new) (S.faults output.new)) 0 0) }
     ensures long { result ≡ Err (Stop.Interrupted Interrupt.InputTooLong) → reader.new.taken ≡ 2 ^ 40 }
 
     ensures counted { CountsTaken (R.left input.old) (R.left input.new) reader.old.taken reader.new.taken }
@@ -78,9 +65,37 @@ pub(crate) fn begin<R: Source, S: Sink, K: Keeper>(
 {
     let mut line = Vec::new(alloc);
     match reader.next(input, &mut line) {
-        Ok(NextLine::Line) => configure(alloc, output, keepers, &line),
-        Ok(NextLine::TooLong) => Err(refuse(alloc, output, ConfigField::Whole)),
-        Ok(NextLine::End) => Err(refuse(alloc, output, ConfigField::Whole)),
+        Ok(NextLine::Line) => take_line(alloc, output, line),
+        Ok(NextLine::TooLong) => Err(refuse(alloc, output, "")),
+        Ok(NextLine::End) => Err(refuse(alloc, output, "")),
         Err(fault) => Err(Stop::Interrupted(Interrupt::from(fault))),
+    }
+}
+
+/// Opens the stores with the configuration, and writes the reply to its line.
+pub(crate) fn begin<'c, S: Sink, K: Keeper>(
+    alloc: Global,
+    first: &'c First,
+    output: &mut S,
+    keepers: &mut K,
+) -> Result<Serving<'c>, Stop>
+    requires configured { config_in first.now.line.items ≡ Ok first.now.config }
+    requires kept { WhereTold K.TELLS (AreKept (K.told keepers.old)) }
+    ensures ok { IfOk result (λ serving. Replies K.TELLS (start (shown K.told K.calls K.faults keepers.old)) first.now.line.items (serves serving (shown K.told K.calls K.faults keepers.new)) (Appends (S.taken output.old) (S.taken output.new))) }
+    ensures serving { IfOk result (λ serving. IsServing K.TELLS serving (K.told keepers.new)) }
+    ensures err { OnErr result (BegunInPart K.TELLS (shown K.told K.calls K.faults keepers.old) (shown K.told K.calls K.faults keepers.new) first.now.line.items (S.taken output.old) (S.taken output.new)) }
+    ensures refused { result ≡ Err Stop.Configuration → RefusesLine K.TELLS (shown K.told K.calls K.faults keepers.old) (shown K.told K.calls K.faults keepers.new) first.now.line.items (S.taken output.old) (S.taken output.new) }
+    ensures kept { WhereTold K.TELLS (AreKept (K.told keepers.new)) }
+    ensures cause { IfErr result (StopsBeginning (S.faults output.old) (S.faults output.new) (K.faults keepers.old) (K.faults keepers.new)) }
+    ensures later { S.faults output.old ≤ S.faults output.new }
+{
+    match Serving::open(alloc, &first.config, &first.line, keepers) {
+        Ok(serving) => {
+            serving.say(alloc, output, &Reply::Configured)?;
+            Ok(serving)
+        }
+        Err(OpenRefusal::OtherLine) => Err(refuse(alloc, output, "file")),
+        Err(OpenRefusal::KeeperFault) => Err(Stop::Keepers),
+        Err(OpenRefusal::OutOfMemory) => Err(Stop::Interrupted(Interrupt::Memory)),
     }
 }

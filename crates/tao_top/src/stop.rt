@@ -3,6 +3,7 @@ ghost use Rattle.std.specs.Prelude.{◌≡◌};
 ghost use Rattle.tao_top.specs.Stop.{interrupt_code, stop_code};
 
 use std::alloc::AllocError;
+use tao_base::OutOfMemory;
 use tao_io::{ReadFault, SinkFailed};
 
 /// What may end a run at any line.
@@ -12,7 +13,7 @@ pub(crate) enum Interrupt {
     Source,
     /// The sink failed.
     Sink,
-    /// There was no memory to read a line or to spell its reply.
+    /// There was no memory to read a line, to open the stores or to spell a reply.
     Memory,
     /// The input has 2^40 bytes or more.
     InputTooLong,
@@ -44,6 +45,17 @@ impl From<AllocError> for Interrupt {
     }
 }
 
+impl From<OutOfMemory> for Interrupt {
+    ghost use Rattle.std.specs.Prelude.{◌≡◌};
+    ghost use Rattle.tao_top.specs.declared.stop.Interrupt.TheVariants.{Memory};
+
+    ghost from_gives = { λ _ interrupt. interrupt ≡ Memory };
+
+    fn from(_: OutOfMemory) -> Interrupt {
+        Interrupt::Memory
+    }
+}
+
 impl From<SinkFailed> for Interrupt {
     ghost use Rattle.std.specs.Prelude.{◌≡◌};
     ghost use Rattle.tao_top.specs.declared.stop.Interrupt.TheVariants.{Sink};
@@ -71,9 +83,9 @@ impl Interrupt {
 /// Why a run ends before the end of its input.
 #[derive(Clone, Copy, Debug, PartialEq, Eq)]
 pub(crate) enum Stop {
-    /// The first line is no configuration, or not the one that the store was first opened with.
+    /// The first line is no configuration, or not the one that a store was first opened with.
     Configuration,
-    /// The keepers failed at the opening of the store.
+    /// The keepers failed at the opening of the stores.
     Keepers,
     Interrupted(Interrupt),
 }

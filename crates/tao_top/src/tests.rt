@@ -1,4 +1,13 @@
 //! Whole runs over a source, a sink and keepers in memory.
+ghost use Rattle.std.specs.Prelude.{IfOk};
+ghost use Rattle.keeper_map.specs.MapKeeper.{told_by};
+ghost use Rattle.tao_top.specs.Kept.{AreKept};
+
+mod first_line;
+mod lists;
+mod objects;
+mod refusals;
+mod shards;
 mod streams;
 
 use crate::run;
@@ -8,178 +17,138 @@ use std::process::Abort;
 use std::test::Fail;
 use tao_io::{MemorySink, MemorySource, Status};
 
-/// The lines that most scripts begin with, and their replies.
-const FRONT: &str =
-    r#"{"assocs":[{"name":"likes"}],"objects":["user"],"regions":[{"name":"east","tiers":[{"name":"t1"}]}],"shards":1}
-{"do":"open","session":1,"region":"east","tier":"t1"}
-"#;
+/// One shard and one tier: the configuration of most scripts.
+const ONE_SHARD: &str =
+    r#"{"assocs":[{"name":"likes"}],"objects":["user"],"regions":[{"name":"east","tiers":[{"name":"t1"}]}],"shards":1}"#;
 
-const FRONT_REPLIES: &str = r#"{"ok":"configured"}
-{"ok":"open","session":1}
-"#;
+const OPEN: &str = r#"{"do":"open","session":1,"region":"east","tier":"t1"}"#;
 
-/// A request for an edge, and one for its list.
-const EDGE: &str =
-    r#"{"do":"assoc_add","session":1,"seq":1,"id1":1,"atype":"likes","id2":2,"time":5,"data":{}}
-{"do":"assoc_range","session":1,"id1":1,"atype":"likes","pos":0,"limit":10}
-"#;
+/// The whole list of the edges that go out from 1.
+const LIST: &str = r#"{"do":"assoc_range","session":1,"id1":1,"atype":"likes","pos":0,"limit":10}"#;
 
-const EDGE_REPLIES: &str =
-    r#"{"changed":true,"inverse":"none","ok":"assoc_add","position":1,"retry":false}
-{"edges":[{"data":{},"id2":2,"time":5}],"ok":"assoc_range","version":1}
-"#;
+/// A line that is no request.
+const BAD_LINE: &str = r#"{"field":"","no":"bad_line"}"#;
+
+/// The lines of a run, and the replies that they are to have.
+#[derive(Drop)]
+struct Script {
+    alloc: Global,
+    lines: String,
+    replies: String,
+}
+
+impl Script {
+    /// A script over a configuration, in which session 1 is open.
+    fn over(alloc: Global, configuration: &str) -> Result<Script, AllocError> {
+        let mut script = Script {
+            alloc,
+            lines: String::new(alloc),
+            replies: String::new(alloc),
+        };
+        script.line(configuration, r#"{"ok":"configured"}"#)?;
+        script.line(OPEN, r#"{"ok":"open","session":1}"#)?;
+        Ok(script)
+    }
+
+    /// A script over one shard.
+    fn begin(alloc: Global) -> Result<Script, AllocError> {
+        Script::over(alloc, ONE_SHARD)
+    }
+
+    /// One more line, with its reply.
+    fn line(&mut self, line: &str, reply: &str) -> Result<(), AllocError> {
+        self.lines.push_str(line)?;
+        self.lines.push_str("\n")?;
+        self.replies.push_str(reply)?;
+        self.replies.push_str("\n")
+    }
+
+    /// An edge from 1 that is new, as the log's entry at the position.
+    fn add(&mut self, position: u64, id2: u64, time: u32) -> Result<(), AllocError> {
+        let line = add_line(self.alloc, position, id2, time)?;
+        let reply = added(self.alloc, position, "false")?;
+        self.line(&line, &reply)
+    }
+
+    /// Asserts that a run over the lines ends well, with the replies.
+    fn assert_run(&self, rt: &impl Abort, keepers: &mut MapKeeper) -> Result<(), Fail>
+        requires { AreKept (told_by keepers.old) }
+        ensures { AreKept (told_by keepers.new) }
+    {
+        assert_ends(rt, self.alloc, keepers, &self.lines, 0, &self.replies)
+    }
+}
+
+/// An addition of an edge from 1.
+fn add_line(alloc: Global, seq: u64, id2: u64, time: u32) -> Result<String, AllocError> {
+    format!(in alloc;
+        r#"{{"do":"assoc_add","session":1,"seq":{seq},"id1":1,"atype":"likes","id2":{id2},"time":{time},"data":{{}}}}"#
+    )
+}
+
+/// The reply to the addition of an edge.
+fn added(alloc: Global, position: u64, retry: &str) -> Result<String, AllocError> {
+    format!(in alloc;
+        r#"{{"changed":true,"inverse":"none","ok":"assoc_add","position":{position},"retry":{retry}}}"#
+    )
+}
+
+/// The reply to the range of a list of such edges.
+fn listed(alloc: Global, edges: &[(u64, u32)], version: u64) -> Result<String, AllocError> {
+    let mut text = String::from_str(alloc, r#"{"edges":["#)?;
+    let mut comma = "";
+    for (id2, time) in edges {
+        let edge = format!(in alloc; r#"{comma}{{"data":{{}},"id2":{id2},"time":{time}}}"#)?;
+        text.push_str(&edge)?;
+        comma = ",";
+    }
+    let end = format!(in alloc; r#"],"ok":"assoc_range","version":{version}}}"#)?;
+    text.push_str(&end)?;
+    Ok(text)
+}
 
 /// The words of a run.
 fn words(alloc: Global) -> Result<Vec<String>, AllocError> {
     Ok(vec![in alloc; String::from_str(alloc, "run")?]?)
 }
 
-/// A keeper whose calls of these numbers fail.
-fn keeper(alloc: Global, fails: &[u64]) -> Result<MapKeeper, AllocError> {
+/// Keepers of which the calls and the commits of these numbers fail.
+#[tactic(auto, using(crate::proofs::Keeping::empty_kept))]
+fn failing(alloc: Global, calls: &[u64], commits: &[u64]) -> Result<MapKeeper, AllocError>
+    ensures { IfOk result (λ keepers. AreKept (told_by keepers)) }
+{
     Ok(MapKeeper::make(
         alloc,
         Fails {
-            calls: fails.to_vec(alloc)?,
-            commits: Vec::new(alloc),
+            calls: calls.to_vec(alloc)?,
+            commits: commits.to_vec(alloc)?,
         },
     ))
 }
 
+/// Keepers that don't fail.
+fn keepers(alloc: Global) -> Result<MapKeeper, AllocError>
+    ensures { IfOk result (λ keepers. AreKept (told_by keepers)) }
+{
+    failing(alloc, &[], &[])
+}
+
 /// Asserts how a run over these lines ends, and what it writes.
-fn assert_run(
+fn assert_ends(
     rt: &impl Abort,
     alloc: Global,
     keepers: &mut MapKeeper,
-    lines: &[u8],
+    lines: &str,
     code: u8,
     replies: &str,
-) -> Result<(), Fail> {
-    let mut input = MemorySource::of(lines.to_vec(alloc)?, Vec::new(alloc));
+) -> Result<(), Fail>
+    requires { AreKept (told_by keepers.old) }
+    ensures { AreKept (told_by keepers.new) }
+{
+    let mut input = MemorySource::of(lines.as_bytes().to_vec(alloc)?, Vec::new(alloc));
     let mut output = MemorySink::make(alloc, Vec::new(alloc));
     let status = run(alloc, &words(alloc)?, &mut input, &mut output, keepers);
     assert_eq!(rt; str::from_utf8(output.bytes())?, replies);
     assert_eq!(rt; status, Status { code }, "after {replies}");
     Ok(())
-}
-
-/// Asserts the replies to the requests after the front.
-fn assert_replies(
-    rt: &impl Abort,
-    alloc: Global,
-    keepers: &mut MapKeeper,
-    requests: &str,
-    replies: &str,
-) -> Result<(), Fail> {
-    let lines = format!(in alloc; "{FRONT}{requests}")?;
-    let replies = format!(in alloc; "{FRONT_REPLIES}{replies}")?;
-    assert_run(rt, alloc, keepers, lines.as_bytes(), 0, &replies)
-}
-
-#[test]
-fn first_edge(rt: HostRuntime) -> Result<(), Fail> {
-    let mut keepers = keeper(rt.alloc(), &[])?;
-    assert_replies(&rt, rt.alloc(), &mut keepers, EDGE, EDGE_REPLIES)
-}
-
-#[test]
-fn other_words_are_refused(rt: HostRuntime) -> Result<(), Fail> {
-    let alloc = rt.alloc();
-    for words in ["", "walk", "run run"] {
-        let mut given = Vec::new(alloc);
-        for word in words.split_whitespace() {
-            given.push(String::from_str(alloc, word)?)?;
-        }
-        let mut input = MemorySource::of(FRONT.as_bytes().to_vec(alloc)?, Vec::new(alloc));
-        let mut output = MemorySink::make(alloc, Vec::new(alloc));
-        let mut keepers = keeper(alloc, &[])?;
-        let status = run(alloc, &given, &mut input, &mut output, &mut keepers);
-        assert_eq!(rt; status, Status { code: 2 }, "at {words:?}");
-        assert!(rt; output.bytes().is_empty(), "at {words:?}");
-    }
-    Ok(())
-}
-
-#[test]
-fn a_missing_or_broken_first_line_is_refused(rt: HostRuntime) -> Result<(), Fail> {
-    let broken = FRONT.replace(rt.alloc(), "\"shards\":1", "\"shards\":0")?;
-    let reply = "{\"bad\":\"configuration\",\"field\":\"\"}\n";
-    for lines in ["", "\n\n", broken.as_str()] {
-        let mut keepers = keeper(rt.alloc(), &[])?;
-        assert_run(&rt, rt.alloc(), &mut keepers, lines.as_bytes(), 3, reply)?;
-    }
-    Ok(())
-}
-
-#[test]
-fn another_line_is_refused(rt: HostRuntime) -> Result<(), Fail> {
-    let mut keepers = keeper(rt.alloc(), &[])?;
-    assert_replies(&rt, rt.alloc(), &mut keepers, EDGE, EDGE_REPLIES)?;
-    let other = FRONT.replace(rt.alloc(), "user", "page")?;
-    let reply = "{\"bad\":\"configuration\",\"field\":\"file\"}\n";
-    assert_run(&rt, rt.alloc(), &mut keepers, other.as_bytes(), 3, reply)
-}
-
-#[test]
-fn a_line_that_is_too_long_and_a_last_line_without_its_end_are_answered(
-    rt: HostRuntime,
-) -> Result<(), Fail> {
-    let alloc = rt.alloc();
-    let long = "x".repeat(alloc, 1_048_577)?;
-    let requests = format!(in alloc; "{long}\n{EDGE}\n{{\"do\":\"settle\"")?;
-    let bad = "{\"field\":\"\",\"no\":\"bad_line\"}\n";
-    let replies = format!(in alloc; "{bad}{EDGE_REPLIES}{bad}")?;
-    let mut keepers = keeper(alloc, &[])?;
-    assert_replies(&rt, rt.alloc(), &mut keepers, &requests, &replies)
-}
-
-#[test]
-fn a_failed_commit_is_a_fault_and_the_same_line_again_is_written(
-    rt: HostRuntime,
-) -> Result<(), Fail> {
-    let alloc = rt.alloc();
-    let add = EDGE.lines().next().ok_or("no add")?;
-    let requests = format!(in alloc; "{add}\n{EDGE}")?;
-    let replies = format!(in alloc; "{{\"count\":1,\"no\":\"keeper_fault\"}}\n{EDGE_REPLIES}")?;
-    let fails = Fails {
-        calls: Vec::new(alloc),
-        commits: vec![in alloc; 1]?,
-    };
-    let mut keepers = MapKeeper::make(alloc, fails);
-    assert_replies(&rt, rt.alloc(), &mut keepers, &requests, &replies)
-}
-
-#[test]
-fn keepers_that_fail_at_opening_end_with_6(rt: HostRuntime) -> Result<(), Fail> {
-    let mut keepers = keeper(rt.alloc(), &[1])?;
-    assert_run(&rt, rt.alloc(), &mut keepers, FRONT.as_bytes(), 6, "")
-}
-
-/// The script of examples/newest_first.jsonl.
-#[test]
-fn newest_first(rt: HostRuntime) -> Result<(), Fail> {
-    let requests =
-        r#"{"do":"assoc_add","session":1,"seq":1,"id1":1,"atype":"likes","id2":3,"time":7,"data":{}}
-{"do":"assoc_add","session":1,"seq":2,"id1":1,"atype":"likes","id2":9,"time":7,"data":{}}
-{"do":"assoc_add","session":1,"seq":3,"id1":1,"atype":"likes","id2":5,"time":8,"data":{}}
-{"do":"assoc_range","session":1,"id1":1,"atype":"likes","pos":0,"limit":10}
-{"do":"assoc_add","session":1,"seq":4,"id1":1,"atype":"likes","id2":3,"time":9,"data":{}}
-{"do":"assoc_range","session":1,"id1":1,"atype":"likes","pos":0,"limit":2}
-{"do":"assoc_range","session":1,"id1":1,"atype":"likes","pos":2,"limit":2}
-{"do":"assoc_add","session":1,"seq":4,"id1":1,"atype":"likes","id2":3,"time":9,"data":{}}
-{"do":"assoc_add","session":1,"seq":5,"id1":1,"atype":"hates","id2":3,"time":9,"data":{}}
-{"do":"assoc_range","session":1,"id1":2,"atype":"likes","pos":0,"limit":10}
-"#;
-    let replies = r#"{"changed":true,"inverse":"none","ok":"assoc_add","position":1,"retry":false}
-{"changed":true,"inverse":"none","ok":"assoc_add","position":2,"retry":false}
-{"changed":true,"inverse":"none","ok":"assoc_add","position":3,"retry":false}
-{"edges":[{"data":{},"id2":5,"time":8},{"data":{},"id2":9,"time":7},{"data":{},"id2":3,"time":7}],"ok":"assoc_range","version":3}
-{"changed":true,"inverse":"none","ok":"assoc_add","position":4,"retry":false}
-{"edges":[{"data":{},"id2":3,"time":9},{"data":{},"id2":5,"time":8}],"ok":"assoc_range","version":4}
-{"edges":[{"data":{},"id2":9,"time":7}],"ok":"assoc_range","version":4}
-{"do":"assoc_add","no":"not_built"}
-{"name":"hates","no":"unknown_type"}
-{"edges":[],"ok":"assoc_range","version":0}
-"#;
-    let mut keepers = keeper(rt.alloc(), &[])?;
-    assert_replies(&rt, rt.alloc(), &mut keepers, requests, replies)
 }

@@ -1,13 +1,15 @@
 //! The top call.
 ghost use Rattle.std.specs.Prelude.{◌≡◌, ◌⊎◌, ◌↔◌, ◌<◌, ◌≤◌, ◌^◌, false, map, length, string_bytes, Err, IfErr, OnOk, OnErr, IfSome};
 ghost use Rattle.counts.specs.Count.{Rose};
-ghost use Rattle.tao_top.specs.Machine.{shown};
+ghost use Rattle.graph_model.specs.Told.{WhereTold};
+ghost use Rattle.tao_core.specs.Shown.{shown};
+ghost use Rattle.tao_top.specs.Kept.{AreKept};
 ghost use Rattle.tao_top.specs.Served.{Done, DoneInPart, RefusesConfiguration, is_run};
 ghost use Rattle.tao_top.specs.Stop.{StopHasCause, faults};
 ghost use Rattle.tao_top.specs.declared.stop.Interrupt.TheVariants.{InputTooLong};
 ghost use Rattle.tao_top.specs.Status.{IsGood, IsStatus, NoFault};
 
-use crate::begin::begin;
+use crate::begin::{begin, read_first};
 use crate::serve::serve;
 use crate::stop::Stop;
 use std::alloc::Global;
@@ -21,6 +23,8 @@ fn go<R: Source, S: Sink, K: Keeper>(
     output: &mut S,
     keepers: &mut K,
 ) -> Result<(), Stop>
+    requires kept { WhereTold K.TELLS (AreKept (K.told keepers.old)) }
+    ensures kept { WhereTold K.TELLS (AreKept (K.told keepers.new)) }
     ensures ok { OnOk result (Done K.TELLS (shown K.told K.calls K.faults keepers.old) (shown K.told K.calls K.faults keepers.new) (R.left input.old) (S.taken output.old) (S.taken output.new)) }
     ensures short { OnOk result (IfSome (R.left input.old) (λ bytes. length bytes < 2 ^ 40)) }
     ensures err { OnErr result (DoneInPart K.TELLS (shown K.told K.calls K.faults keepers.old) (shown K.told K.calls K.faults keepers.new) (R.left input.old) (S.taken output.old) (S.taken output.new)) }
@@ -29,8 +33,9 @@ fn go<R: Source, S: Sink, K: Keeper>(
     ensures long { result ≡ Err (Stop.Interrupted InputTooLong) → IfSome (R.left input.old) (λ bytes. 2 ^ 40 ≤ length bytes) }
 {
     let mut reader = LineReader::new(alloc)?;
-    let config = begin(alloc, &mut reader, input, output, keepers)?;
-    serve(alloc, &config, &mut reader, input, output, keepers)?;
+    let first = read_first(alloc, &mut reader, input, output)?;
+    let mut serving = begin(alloc, &first, output, keepers)?;
+    serve(alloc, &mut serving, &mut reader, input, output, keepers)?;
     Ok(())
 }
 
@@ -49,10 +54,10 @@ fn is_run(words: &[String]) -> bool
 ///
 /// - 0 where the input was read to its end, and each reply written whole;
 /// - 2 where the words aren't the one word `run`;
-/// - 3 where the first line is missing, is no configuration, or isn't the one that the store was
-///   first opened with: a line says so;
+/// - 3 where the first line is missing, is no configuration, or isn't the one that a store was first
+///   opened with: a line says so;
 /// - 4, 5, 6 where the source, the sink, or the keepers at their opening failed;
-/// - 7 where there was no memory to read a line or to spell its reply;
+/// - 7 where there was no memory to read a line, to open the stores, or to spell a reply;
 /// - 9 where 2^40 bytes were taken and the end had not come.
 ///
 /// What was written before any status is a front of the replies' lines.
@@ -63,6 +68,10 @@ pub fn run<R: Source, S: Sink, K: Keeper>(
     output: &mut S,
     keepers: &mut K,
 ) -> Status
+    // What the stores hold is sound, and stays so: what an earlier run left may be handed in again.
+    requires kept { WhereTold K.TELLS (AreKept (K.told keepers.old)) }
+    ensures kept { WhereTold K.TELLS (AreKept (K.told keepers.new)) }
+
     ensures done { result.code ≡ 0 → Done K.TELLS (shown K.told K.calls K.faults keepers.old) (shown K.told K.calls K.faults keepers.new) (R.left input.old) (S.taken output.old) (S.taken output.new) }
     ensures in_part { DoneInPart K.TELLS (shown K.told K.calls K.faults keepers.old) (shown K.told K.calls K.faults keepers.new) (R.left input.old) (S.taken output.old) (S.taken output.new) }
 

@@ -1,10 +1,10 @@
 //! Runs whose source or sink fails, or takes little.
 ghost use Rattle.std.specs.Prelude.{Some};
 
-use super::{EDGE, EDGE_REPLIES, FRONT, FRONT_REPLIES, keeper, words};
+use super::{LIST, Script, keepers, listed, words};
 use crate::run;
 use counts::Count;
-use std::alloc::Global;
+use std::alloc::{AllocError, Global};
 use std::test::Fail;
 use tao_io::{MemorySink, MemorySource, Sink, SinkFailed, Status};
 
@@ -33,12 +33,20 @@ impl Sink for SlowSink {
     }
 }
 
+/// A script of four lines.
+fn script(alloc: Global) -> Result<Script, AllocError> {
+    let mut script = Script::begin(alloc)?;
+    script.add(1, 2, 5)?;
+    let list = listed(alloc, &[(2, 5)], 1)?;
+    script.line(LIST, &list)?;
+    Ok(script)
+}
+
 /// A source and a sink whose calls of these numbers fail, and a run in which neither does.
 #[test]
 fn streams_that_fail_end_with_4_and_5(rt: HostRuntime) -> Result<(), Fail> {
     let alloc = rt.alloc();
-    let lines = format!(in alloc; "{FRONT}{EDGE}")?;
-    let whole = format!(in alloc; "{FRONT_REPLIES}{EDGE_REPLIES}")?;
+    let script = script(alloc)?;
     for (source, sink, code) in [
         (1, 0, 4),
         (2, 0, 4),
@@ -48,13 +56,16 @@ fn streams_that_fail_end_with_4_and_5(rt: HostRuntime) -> Result<(), Fail> {
         (0, 4, 5),
         (3, 5, 0),
     ] {
-        let mut input = MemorySource::of(lines.as_bytes().to_vec(alloc)?, vec![in alloc; source]?);
+        let mut input = MemorySource::of(
+            script.lines.as_bytes().to_vec(alloc)?,
+            vec![in alloc; source]?,
+        );
         let mut output = MemorySink::make(alloc, vec![in alloc; sink]?);
-        let mut keepers = keeper(alloc, &[])?;
+        let mut keepers = keepers(alloc)?;
         let status = run(alloc, &words(alloc)?, &mut input, &mut output, &mut keepers);
         assert_eq!(rt; status, Status { code }, "at {source} and {sink}");
         let written = str::from_utf8(output.bytes())?;
-        assert!(rt; whole.as_str().starts_with(written), "{written}");
+        assert!(rt; script.replies.as_str().starts_with(written), "{written}");
     }
     Ok(())
 }
@@ -62,19 +73,21 @@ fn streams_that_fail_end_with_4_and_5(rt: HostRuntime) -> Result<(), Fail> {
 #[test]
 fn a_sink_of_one_byte_takes_all_until_it_takes_none(rt: HostRuntime) -> Result<(), Fail> {
     let alloc = rt.alloc();
-    let lines = format!(in alloc; "{FRONT}{EDGE}")?;
-    let whole = format!(in alloc; "{FRONT_REPLIES}{EDGE_REPLIES}")?;
-    for (room, code) in [(0, 5), (1, 5), (60, 5), (whole.len(), 0)] {
-        let mut input = MemorySource::of(lines.as_bytes().to_vec(alloc)?, Vec::new(alloc));
+    let script = script(alloc)?;
+    for (room, code) in [(0, 5), (1, 5), (60, 5), (script.replies.len(), 0)] {
+        let mut input = MemorySource::of(script.lines.as_bytes().to_vec(alloc)?, Vec::new(alloc));
         let mut output = SlowSink {
             bytes: Vec::new(alloc),
             room,
             faults: Count::new(),
         };
-        let mut keepers = keeper(alloc, &[])?;
+        let mut keepers = keepers(alloc)?;
         let status = run(alloc, &words(alloc)?, &mut input, &mut output, &mut keepers);
         assert_eq!(rt; status, Status { code }, "with room for {room}");
-        assert_eq!(rt; Some(output.bytes.as_slice()), whole.as_bytes().get(..room));
+        assert_eq!(rt;
+            Some(output.bytes.as_slice()),
+            script.replies.as_bytes().get(..room)
+        );
     }
     Ok(())
 }

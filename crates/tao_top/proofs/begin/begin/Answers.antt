@@ -1,36 +1,37 @@
-use Rattle.std.proofs.Common.{inl, inr, refl}
-use Rattle.tao_top.proofs.FirstLine.{begun_of, begun_part_of, lacks, long_part, refuses_lacking}
-use Rattle.tao_top.proofs.OneLine.{end_of_End, line_of_Line, line_of_TooLong, part_unread}
-use Rattle.tao_top.specs.Machine.{shown}
-use Rattle.tao_top.specs.Served.{start}
+use Rattle.std.proofs.Common.{◌≡◌, subst}
+use Rattle.graph_model.specs.Told.{WhereTold}
+use Rattle.tao_core.specs.Opening.{IsOpened, IsOtherLine, RefusesOpening}
+use Rattle.tao_core.specs.Shown.{shown}
+use Rattle.tao_top.proofs.FirstLine.{begins, begun_other, begun_silent, refuses_other}
+use Rattle.tao_top.proofs.OneLine.{OnErr-any}
+use Rattle.tao_top.specs.declared.stop.Stop.TheVariants.{Configuration}
 use Rattle.tao_top.proofs.begin.begin.Goals as goal
 
-pub returns-in-Ok-Line-clause-ok : goal.returns-in-Ok-Line-clause-ok
-returns-in-Ok-Line-clause-ok g c =
+pub returns-in_err-say-in-Ok-clause-err : goal.returns-in_err-say-in-Ok-clause-err
+returns-in_err-say-in-Ok-clause-err g c =
     let keepers = shown g.K.Keeper.told g.K.Keeper.calls g.K.Keeper.faults in
-    begun_of g.K.Keeper.TELLS (keepers c.args.keepers.now) (keepers c.configure.new.keepers) _ _ _ _ c.configure.result c.next.new.line.items c.deref.result.now
-    (line_of_Line _ _ _ _ c.in-Ok-Line.ensures.next c.in-Ok-Line.field-0-is) c.deref.ensures.value c.configure.ensures.ok
+    let opened = subst (λ l. WhereTold g.K.Keeper.TELLS (IsOpened c.args.first.now.config l (g.K.Keeper.told c.args.keepers.now) (g.K.Keeper.told c.open.new.keepers))) c.deref.ensures.value c.in-Ok.ensures.opened in
+    OnErr-any _ _ (begun_silent g.K.Keeper.TELLS (keepers c.args.keepers.now) (keepers c.open.new.keepers) c.args.first.now.line.items c.args.first.now.config c.requires.configured c.in-Ok.ensures.later _ _
+    c.in-Ok.serving c.in-Ok.ensures.settings c.in-Ok.ensures.sessions opened c.in_err-say-in-Ok.ensures.err)
 
-pub returns-in-Ok-Line-clause-err : goal.returns-in-Ok-Line-clause-err
-returns-in-Ok-Line-clause-err g c =
+pub returns-in_ok-say-in-Ok-clause-ok : goal.returns-in_ok-say-in-Ok-clause-ok
+returns-in_ok-say-in-Ok-clause-ok g c =
     let keepers = shown g.K.Keeper.told g.K.Keeper.calls g.K.Keeper.faults in
-    begun_part_of g.K.Keeper.TELLS (keepers c.args.keepers.now) (keepers c.configure.new.keepers) _ _ _ _ c.configure.result c.next.new.line.items c.deref.result.now
-    (line_of_Line _ _ _ _ c.in-Ok-Line.ensures.next c.in-Ok-Line.field-0-is) c.deref.ensures.value c.configure.ensures.err
+    let opened = subst (λ l. WhereTold g.K.Keeper.TELLS (IsOpened c.args.first.now.config l (g.K.Keeper.told c.args.keepers.now) (g.K.Keeper.told c.open.new.keepers))) c.deref.ensures.value c.in-Ok.ensures.opened in
+    begins g.K.Keeper.TELLS (keepers c.args.keepers.now) (keepers c.open.new.keepers) c.args.first.now.line.items c.args.first.now.config c.requires.configured c.in-Ok.ensures.later _ _
+    c.in-Ok.serving c.in-Ok.ensures.settings c.in-Ok.ensures.sessions opened c.in_ok-say-in-Ok.ensures.ok
 
-pub returns-in-Ok-TooLong-clause-err : goal.returns-in-Ok-TooLong-clause-err
-returns-in-Ok-TooLong-clause-err g c =
+pub returns-in-Err-OtherLine-clause-err : goal.returns-in-Err-OtherLine-clause-err
+returns-in-Err-OtherLine-clause-err g c =
     let keepers = shown g.K.Keeper.told g.K.Keeper.calls g.K.Keeper.faults in
-    long_part g.K.Keeper.TELLS (keepers c.args.keepers.now) _ _ _ _ (line_of_TooLong _ _ _ _ c.in-Ok-TooLong.ensures.next c.in-Ok-TooLong.field-0-is) c.refuse.ensures.part
+    let refused = subst (λ r. RefusesOpening g.K.Keeper.TELLS c.args.first.now.config c.deref.result.now (keepers c.args.keepers.now) (keepers c.open.new.keepers) r) c.in-Err-OtherLine.field-0-is c.in-Err-OtherLine.ensures.refused in
+    let other = subst (λ l. WhereTold g.K.Keeper.TELLS (IsOtherLine c.args.first.now.config l (g.K.Keeper.told c.args.keepers.now) (g.K.Keeper.told c.open.new.keepers))) c.deref.ensures.value refused in
+    begun_other g.K.Keeper.TELLS (keepers c.args.keepers.now) (keepers c.open.new.keepers) c.args.first.now.line.items c.args.first.now.config c.requires.configured c.in-Err-OtherLine.ensures.later _ _ other c.refuse.ensures.part
 
-pub returns-in-Ok-End-clause-err : goal.returns-in-Ok-End-clause-err
-returns-in-Ok-End-clause-err g c =
+pub returns-in-Err-OtherLine-clause-refused : goal.returns-in-Err-OtherLine-clause-refused
+returns-in-Err-OtherLine-clause-refused g c = λ e.
     let keepers = shown g.K.Keeper.told g.K.Keeper.calls g.K.Keeper.faults in
-    lacks g.K.Keeper.TELLS (keepers c.args.keepers.now) _ _ _ _ _ _ c.in-Ok-End.ensures.next c.in-Ok-End.field-0-is c.refuse-in-Ok-End.ensures.part
-
-pub returns-in-Ok-End-clause-refused : goal.returns-in-Ok-End-clause-refused
-returns-in-Ok-End-clause-refused g c = λ e.
-    let keepers = shown g.K.Keeper.told g.K.Keeper.calls g.K.Keeper.faults in
-    refuses_lacking g.K.Keeper.TELLS (keepers c.args.keepers.now) _ _ _ _ _ _ c.in-Ok-End.ensures.next c.in-Ok-End.field-0-is (c.refuse-in-Ok-End.ensures.whole (cc e))
-
-pub returns-clause-err : goal.returns-clause-err
-returns-clause-err g c = inr (part_unread g.K.Keeper.TELLS (start (shown g.K.Keeper.told g.K.Keeper.calls g.K.Keeper.faults c.args.keepers.now)) _ _)
+    let refused = subst (λ r. RefusesOpening g.K.Keeper.TELLS c.args.first.now.config c.deref.result.now (keepers c.args.keepers.now) (keepers c.open.new.keepers) r) c.in-Err-OtherLine.field-0-is c.in-Err-OtherLine.ensures.refused in
+    let other = subst (λ l. WhereTold g.K.Keeper.TELLS (IsOtherLine c.args.first.now.config l (g.K.Keeper.told c.args.keepers.now) (g.K.Keeper.told c.open.new.keepers))) c.deref.ensures.value refused in
+    let whole : c.refuse.result ≡ Configuration = cc e in
+    refuses_other g.K.Keeper.TELLS (keepers c.args.keepers.now) (keepers c.open.new.keepers) c.args.first.now.line.items c.args.first.now.config c.requires.configured c.in-Err-OtherLine.ensures.later _ _ other (c.refuse.ensures.whole whole)

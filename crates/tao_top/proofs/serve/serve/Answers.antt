@@ -1,11 +1,11 @@
 use Rattle.std.proofs.Common.{Ok, ap, arith}
 use Rattle.tao_io.proofs.GivenLines.{CountsTaken-nil, CountsTaken-trans}
 use Rattle.tao_top.proofs.OneLine.{OnErr-any}
-use Rattle.tao_top.proofs.Serving.{served_all, served_none, served_then_part, served_trans}
+use Rattle.tao_top.proofs.GoingOn.{served_all, served_none, served_then_part, served_trans}
 use Rattle.tao_top.proofs.serve.serve.Goals as goal
 
 pub lines-init : goal.lines-init
-lines-init g c = record { served = served_none _ _ _ _; counted = CountsTaken-nil _ _; later = record { source = omega arith; sink = omega arith } }
+lines-init g c = record { served = served_none _ _ _ _; serving = c.requires.serving; counted = CountsTaken-nil _ _; later = record { source = omega arith; sink = omega arith } }
 
 pub returns-in_err-serve_line-clause-err : goal.returns-in_err-serve_line-clause-err
 returns-in_err-serve_line-clause-err g c = OnErr-any _ _ (served_then_part _ _ _ _ _ _ _ _ _ c.lines.invariant.served c.in_err-serve_line.ensures.err)
@@ -14,10 +14,8 @@ pub returns-in_err-serve_line-clause-counted : goal.returns-in_err-serve_line-cl
 returns-in_err-serve_line-clause-counted g c = CountsTaken-trans _ _ _ _ _ _ c.lines.invariant.counted c.serve_line.ensures.counted
 
 pub returns-then-not-branch-clause-ok : goal.returns-then-not-branch-clause-ok
-returns-then-not-branch-clause-ok g c = (
-  c.serve_line.new.session,
-  served_all _ _ _ _ _ _ _ (served_trans _ _ _ _ _ _ _ _ _ _ c.lines.invariant.served c.in_ok-serve_line.ensures.ok) (c.in_ok-serve_line.ensures.end (ap (λ b. Ok b) c.if-not-branch.true)),
-)
+returns-then-not-branch-clause-ok g c =
+    served_all _ _ _ _ _ _ _ (served_trans _ _ _ _ _ _ _ _ _ _ c.lines.invariant.served c.in_ok-serve_line.ensures.ok) (c.in_ok-serve_line.ensures.end (ap (λ b. Ok b) c.if-not-branch.true))
 
 pub returns-then-not-branch-clause-counted : goal.returns-then-not-branch-clause-counted
 returns-then-not-branch-clause-counted g c = CountsTaken-trans _ _ _ _ _ _ c.lines.invariant.counted c.serve_line.ensures.counted
@@ -25,6 +23,7 @@ returns-then-not-branch-clause-counted g c = CountsTaken-trans _ _ _ _ _ _ c.lin
 pub lines-preserved : goal.lines-preserved
 lines-preserved g c = record {
   served = served_trans _ _ _ _ _ _ _ _ _ _ c.lines.invariant.served c.in_ok-serve_line.ensures.ok;
+  serving = c.serve_line.ensures.serving;
   counted = CountsTaken-trans _ _ _ _ _ _ c.lines.invariant.counted c.serve_line.ensures.counted;
   later = record { source = omega arith; sink = omega arith };
 }

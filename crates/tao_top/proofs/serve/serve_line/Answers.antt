@@ -1,21 +1,21 @@
 use Rattle.tao_top.proofs.OneLine.{OnErr-any, line_of_Line, line_of_TooLong, part_answered, part_refused, part_unread, served_answered, served_refused}
-use Rattle.tao_top.specs.Machine.{shown}
+use Rattle.tao_core.specs.Shown.{shown}
 use Rattle.tao_top.specs.Served.{serves}
 use Rattle.tao_top.proofs.serve.serve_line.Goals as goal
 
 pub returns-in_err-next-clause-err : goal.returns-in_err-next-clause-err
-returns-in_err-next-clause-err g c = OnErr-any _ _ (part_unread _ (serves c.args.config.now c.args.session.now (shown g.K.Keeper.told g.K.Keeper.calls g.K.Keeper.faults c.args.keepers.now)) _ _)
+returns-in_err-next-clause-err g c = OnErr-any _ _ (part_unread _ (serves c.args.serving.now (shown g.K.Keeper.told g.K.Keeper.calls g.K.Keeper.faults c.args.keepers.now)) _ _)
 
-pub returns-in_err-say-in-TooLong-clause-err : goal.returns-in_err-say-in-TooLong-clause-err
-returns-in_err-say-in-TooLong-clause-err g c = OnErr-any _ _ (part_refused _ _ _ _ _ _ _ _ (line_of_TooLong _ _ _ _ c.in_ok-next.ensures.next c.in-TooLong.is) c.in_err-say-in-TooLong.ensures.err)
+pub returns-in_err-refuse_line-in-TooLong-clause-err : goal.returns-in_err-refuse_line-in-TooLong-clause-err
+returns-in_err-refuse_line-in-TooLong-clause-err g c = OnErr-any _ _ (part_refused _ _ _ _ _ _ _ (line_of_TooLong _ _ _ _ c.in_ok-next.ensures.next c.in-TooLong.is) c.in_err-refuse_line-in-TooLong.ensures.err)
 
 pub returns-in_err-answer_line-in-Line-clause-err : goal.returns-in_err-answer_line-in-Line-clause-err
 returns-in_err-answer_line-in-Line-clause-err g c =
-    OnErr-any _ _ (part_answered _ _ _ _ _ _ _ _ _ _ _ _ (line_of_Line _ _ _ _ c.in_ok-next.ensures.next c.in-Line.is) c.deref.ensures.value c.in_err-answer_line-in-Line.ensures.err)
+    OnErr-any _ _ (part_answered _ _ _ _ _ _ _ _ _ _ _ (line_of_Line _ _ _ _ c.in_ok-next.ensures.next c.in-Line.is) c.deref.ensures.value c.in_err-answer_line-in-Line.ensures.err)
 
-pub returns-in_ok-say-in-TooLong-clause-ok : goal.returns-in_ok-say-in-TooLong-clause-ok
-returns-in_ok-say-in-TooLong-clause-ok g c = served_refused _ _ _ _ _ _ _ _ (line_of_TooLong _ _ _ _ c.in_ok-next.ensures.next c.in-TooLong.is) c.in_ok-say-in-TooLong.ensures.ok
+pub returns-in-TooLong-clause-ok : goal.returns-in-TooLong-clause-ok
+returns-in-TooLong-clause-ok g c = served_refused _ _ _ _ _ _ _ (line_of_TooLong _ _ _ _ c.in_ok-next.ensures.next c.in-TooLong.is) c.in_ok-refuse_line-in-TooLong.ensures.ok
 
-pub returns-in_ok-answer_line-in-Line-clause-ok : goal.returns-in_ok-answer_line-in-Line-clause-ok
-returns-in_ok-answer_line-in-Line-clause-ok g c =
-    served_answered _ _ _ _ _ _ _ _ _ _ _ _ (line_of_Line _ _ _ _ c.in_ok-next.ensures.next c.in-Line.is) c.deref.ensures.value c.in_ok-answer_line-in-Line.ensures.ok
+pub returns-clause-ok : goal.returns-clause-ok
+returns-clause-ok g c =
+    served_answered _ _ _ _ _ _ _ _ _ _ _ (line_of_Line _ _ _ _ c.in_ok-next.ensures.next c.in-Line.is) c.deref.ensures.value c.in_ok-answer_line-in-Line.ensures.ok

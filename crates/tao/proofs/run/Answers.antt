@@ -1,0 +1,5 @@
+use Rattle.tao_top.proofs.Keeping.{empty_kept}
+use Rattle.tao.proofs.run.Goals as goal
+
+pub run-requires : goal.run-requires
+run-requires c = record { kept = λ told. empty_kept _ c.make-keepers.ensures.empty }

@@ -1,0 +1,219 @@
+-- What keepers hold stays kept through a request: lines stay, and only logs of the shards' stores grow.
+use Rattle.std.proofs.Common.{◌≡◌, ◌≢◌, ◌⊎◌, ℕ, ◌<◌, Bool, true, List, Option, Some, None, Result, Ok, Err, refl, sym, ap, subst, ◌∙◌, inl, inr}
+use Rattle.config_json.specs.Config.{config_in}
+use Rattle.graph_model.specs.Soundness.{IsSoundOf}
+use Rattle.reply_json.specs.declared.calls.CallReply.TheVariants as called
+use Rattle.reply_json.specs.declared.refusals.Refusal.{Refusal}
+use Rattle.reply_json.specs.declared.refusals.Refusal.TheVariants.{Line, Plan as OfPlan, Session, Name, Node as OfNode, Store, Memory}
+use Rattle.reply_json.specs.declared.refusals.StoreRefused.{StoreRefused}
+use Rattle.reply_json.specs.declared.refusals.StoreRefused.TheVariants.{SeqReused, ShardFull, StampFull, LogFull, KeeperFault, LinkFault, Unsettled}
+use Rattle.reply_json.specs.declared.reply.Reply.{Reply}
+use Rattle.reply_json.specs.declared.reply.Reply.TheVariants.{Configured, BadConfiguration, BadStores, Opened, Called, Plan, Node, Settled, Audited, Refused}
+use Rattle.request_check.specs.declared.checked.Checked.{Checked}
+use Rattle.request_check.specs.declared.checked.Checked.TheVariants as checked
+use Rattle.request_check.specs.declared.checked.CheckedCall.TheVariants as checked_call
+use Rattle.request_check.specs.declared.checked.CheckedRead.{CheckedRead}
+use Rattle.request_check.specs.declared.checked.CheckedWrite.{CheckedWrite}
+use Rattle.request_json.specs.declared.refusal.LineRefusal.{LineRefusal}
+use Rattle.request_json.specs.declared.request.Request.{Request}
+use Rattle.shard_tables.specs.Written.{Gains, shard_of_write}
+use Rattle.tao_base.specs.declared.entry.Entry.{Entry}
+use Rattle.tao_base.specs.declared.id.StoreName.{StoreName}
+use Rattle.tao_core.specs.Asked.{asked_of}
+use Rattle.tao_core.specs.Core.{CoreState, IsCoreOf}
+use Rattle.tao_core.specs.Replies.{Answers, Does, DoesAudit, DoesRead, DoesWrite, ReadRefused, WriteRefused, gained}
+use Rattle.tao_core.specs.Shown.{Shown, KeepsTables}
+use Rattle.tao_core.specs.Stores.{store_of}
+use Rattle.tao_core.specs.declared.sessions.OpenSession.{OpenSession}
+use Rattle.tao_keeper.specs.Table.{Table, Tables, Stays}
+use Rattle.tao_schema.specs.Schema.{types_of}
+use Rattle.tao_top.proofs.Keeping.{first_or_other, same_or_other}
+use Rattle.tao_top.proofs.Placed.{asked_placed}
+use Rattle.tao_top.specs.Kept.{AreKept, AreOpenedWith, IsKept, IsOpenedWith, IsServing}
+use Rattle.tao_top.specs.Step.{Serves}
+use Rattle.topology.specs.Config.{Settings}
+
+-- ---- what changes
+
+-- lines stay, and only tables of the shards' stores change
+record OnlyGrow (s : Settings) (old new : Tables) : Type 0 where
+  lines : (at : StoreName) → (new at).line ≡ (old at).line
+  others : (at : StoreName) → ((shard : ℕ) → shard < s.shards → at ≢ store_of s shard) → new at ≡ old at
+
+stays : (s : Settings) (old new : Tables) → Stays old new → OnlyGrow s old new
+stays s old new h = record { lines = λ at. ap (λ t. t.line) (h at); others = λ at other. h at }
+
+same : (s : Settings) (old new : Shown) → new ≡ old → OnlyGrow s old.told new.told
+same s old new is = stays s old.told new.told (λ at. ap (λ k. k.told at) is)
+
+gains : (s : Settings) (old new : Tables) (shard : ℕ) (entry : Option Entry) → shard < s.shards → Gains old new (store_of s shard) entry → OnlyGrow s old new
+gains s old new shard None within h = stays s old new h
+gains s old new shard (Some entry) within h = record { lines = λ at. by_store at (same_or_other at (store_of s shard)); others = λ at other. h.others at (other shard within) }
+  where
+    by_store : (at : StoreName) → (at ≡ store_of s shard) ⊎ (at ≢ store_of s shard) → (new at).line ≡ (old at).line
+    by_store at (inl is) = subst (λ a. (new a).line ≡ (old a).line) (sym is) (ap (λ t. t.line) h.here)
+    by_store at (inr other) = ap (λ t. t.line) (h.others at other)
+
+module _ (tells : Bool) (s : Settings) (old new : Shown) (told : tells ≡ true) where
+  keeps : KeepsTables tells old new → OnlyGrow s old.told new.told
+  keeps h = stays s old.told new.told (h told)
+
+  refused_write : (w : CheckedWrite) (refused : StoreRefused) → WriteRefused tells s old w refused new → OnlyGrow s old.told new.told
+  refused_write w (KeeperFault count) h = keeps h.tables
+  refused_write w (SeqReused position) h = keeps h.1
+  refused_write w (ShardFull serial) h = keeps h.1
+  refused_write w (StampFull number) h = keeps h.1
+  refused_write w (LogFull count) h = keeps h.1
+  refused_write w (LinkFault count when) h = keeps h.1
+  refused_write w (Unsettled shard why) h = keeps h.1
+
+  refused_read : (refused : StoreRefused) → ReadRefused tells old refused new → OnlyGrow s old.told new.told
+  refused_read (KeeperFault count) h = keeps h.tables
+  refused_read (SeqReused position) h = absurd h
+  refused_read (ShardFull serial) h = absurd h
+  refused_read (StampFull number) h = absurd h
+  refused_read (LogFull count) h = absurd h
+  refused_read (LinkFault count when) h = absurd h
+  refused_read (Unsettled shard why) h = absurd h
+
+  wrote : (w : CheckedWrite) (reply : Reply) → shard_of_write w.write < s.shards → DoesWrite tells s old w reply new → OnlyGrow s old.told new.told
+  wrote w (Called (called.Write reply)) within h = gains s old.told new.told (shard_of_write w.write) (gained h.retry h.entry) within (h.gains told)
+  wrote w (Refused (Store refused)) within h = refused_write w refused h
+  wrote w (Refused (Memory position)) within h = keeps h.tables
+  wrote w (Refused (Line refused)) within h = absurd h
+  wrote w (Refused (OfPlan refused)) within h = absurd h
+  wrote w (Refused (Session refused)) within h = absurd h
+  wrote w (Refused (Name refused)) within h = absurd h
+  wrote w (Refused (OfNode refused)) within h = absurd h
+  wrote w (Called (called.Read reply)) within h = absurd h
+  wrote w Configured within h = absurd h
+  wrote w (BadConfiguration field) within h = absurd h
+  wrote w (BadStores store position) within h = absurd h
+  wrote w (Opened session) within h = absurd h
+  wrote w (Plan reply) within h = absurd h
+  wrote w (Node reply) within h = absurd h
+  wrote w (Settled logs) within h = absurd h
+  wrote w (Audited given position) within h = absurd h
+
+  did_read : (r : CheckedRead) (reply : Reply) → DoesRead tells s old r reply new → OnlyGrow s old.told new.told
+  did_read r (Called (called.Read reply)) h = keeps h.2
+  did_read r (Refused (Store refused)) h = refused_read refused h
+  did_read r (Refused (Memory position)) h = keeps h.tables
+  did_read r (Refused (Line refused)) h = absurd h
+  did_read r (Refused (OfPlan refused)) h = absurd h
+  did_read r (Refused (Session refused)) h = absurd h
+  did_read r (Refused (Name refused)) h = absurd h
+  did_read r (Refused (OfNode refused)) h = absurd h
+  did_read r (Called (called.Write reply)) h = absurd h
+  did_read r Configured h = absurd h
+  did_read r (BadConfiguration field) h = absurd h
+  did_read r (BadStores store position) h = absurd h
+  did_read r (Opened session) h = absurd h
+  did_read r (Plan reply) h = absurd h
+  did_read r (Node reply) h = absurd h
+  did_read r (Settled logs) h = absurd h
+  did_read r (Audited given position) h = absurd h
+
+  audited : (r : CheckedRead) (reply : Reply) → DoesAudit tells s old r reply new → OnlyGrow s old.told new.told
+  audited r (Audited given position) h = keeps h.1
+  audited r (Refused (Store refused)) h = refused_read refused h
+  audited r (Refused (Memory position)) h = keeps h.tables
+  audited r (Refused (Line refused)) h = absurd h
+  audited r (Refused (OfPlan refused)) h = absurd h
+  audited r (Refused (Session refused)) h = absurd h
+  audited r (Refused (Name refused)) h = absurd h
+  audited r (Refused (OfNode refused)) h = absurd h
+  audited r (Called (called.Write reply)) h = absurd h
+  audited r (Called (called.Read reply)) h = absurd h
+  audited r Configured h = absurd h
+  audited r (BadConfiguration field) h = absurd h
+  audited r (BadStores store position) h = absurd h
+  audited r (Opened session) h = absurd h
+  audited r (Plan reply) h = absurd h
+  audited r (Node reply) h = absurd h
+  audited r (Settled logs) h = absurd h
+
+  module _ (sessions next : List OpenSession) (request : Request) (reply : Reply) where
+    did : (expected : Result Checked Refusal) → asked_of s sessions request ≡ expected → Does tells s sessions old expected reply next new → OnlyGrow s old.told new.told
+    did (Err refused) is h = same s old new h.2
+    did (Ok (checked.Open session region tier)) is h = same s old new h.1
+    did (Ok (checked.Call (checked_call.Write w))) is h = wrote w reply (asked_placed s sessions request w is) h.0
+    did (Ok (checked.Call (checked_call.Read r))) is h = did_read r reply h.0
+    did (Ok (checked.Audit r)) is h = audited r reply h.0
+    did (Ok (checked.Hold plan call)) is h = absurd h
+    did (Ok (checked.Advance plan)) is h = absurd h
+    did (Ok (checked.Deliver node message)) is h = absurd h
+    did (Ok (checked.Again node message)) is h = absurd h
+    did (Ok (checked.Drop node message)) is h = absurd h
+    did (Ok (checked.Refill node)) is h = absurd h
+    did (Ok (checked.Stream region shard position)) is h = absurd h
+    did (Ok (checked.Repair shard)) is h = absurd h
+    did (Ok (checked.Evict node key)) is h = absurd h
+    did (Ok (checked.Show node key)) is h = absurd h
+    did (Ok (checked.Inbox node)) is h = absurd h
+    did (Ok (checked.Down node)) is h = absurd h
+    did (Ok (checked.Up node)) is h = absurd h
+    did (Ok (checked.Suspect leader)) is h = absurd h
+    did (Ok (checked.Trust leader)) is h = absurd h
+    did (Ok (checked.Cut link)) is h = absurd h
+    did (Ok (checked.Mend link)) is h = absurd h
+    did (Ok checked.Settle) is h = absurd h
+
+    -- a request changes no other tables
+    grows : Answers tells s sessions old request reply next new → OnlyGrow s old.told new.told
+    grows h = did (asked_of s sessions request) refl h
+
+-- ---- what stays so
+
+opened_grown : (s : Settings) (old new : Tables) → OnlyGrow s old new → AreOpenedWith s old → AreOpenedWith s new
+opened_grown s old new only opened = λ shard within.
+    let o = opened shard within in
+    record { line = o.line; first = only.lines (store_of s shard) ∙ o.first; configured = o.configured }
+
+-- a store that was opened with the configuration is kept while its log is sound
+kept_sound : (at : StoreName) (table : Table) (s : Settings) → IsOpenedWith s table → IsSoundOf (types_of s.schema) at.shard table.log → IsKept at table
+kept_sound at table s opened sound = record {
+  fresh = λ none. let some = opened.first in absurd (cc (none, some));
+  sound = λ line t is configured.
+      let first = opened.first in
+      let same_line : opened.line ≡ line = cc (first, is) in
+      let here : config_in line ≡ Ok s = subst (λ l. config_in l ≡ Ok s) same_line opened.configured in
+      let same_settings : s ≡ t = cc (here, configured) in
+      subst (λ u. IsSoundOf (types_of u.schema) at.shard table.log) same_settings sound;
+}
+
+kept_grown : (tells : Bool) (core : CoreState) (old new : Tables) → tells ≡ true → OnlyGrow core.settings old new → AreOpenedWith core.settings new → IsCoreOf tells new core → AreKept old → AreKept new
+kept_grown tells core old new told only opened of_core kept at = by_store (first_or_other core.settings core.settings.shards at)
+  where
+    by_store : ((at.shard < core.settings.shards) × (at ≡ store_of core.settings at.shard)) ⊎ ((shard : ℕ) → shard < core.settings.shards → at ≢ store_of core.settings shard) → IsKept at (new at)
+    by_store (inl first) =
+        subst (λ a. IsKept a (new a)) (sym first.1)
+        (kept_sound (store_of core.settings at.shard) (new (store_of core.settings at.shard)) core.settings (opened at.shard first.0) (of_core.sound told at.shard first.0))
+    by_store (inr other) = subst (IsKept at) (sym (only.others at other)) (kept at)
+
+-- a core goes on serving after a request
+pub serves_on : (tells : Bool) (core next : CoreState) (old new : Shown) (request : Request) (reply : Reply) → IsServing tells core old.told → Answers tells core.settings core.sessions old request reply next.sessions new
+    → next.settings ≡ core.settings → IsCoreOf tells new.told next → IsServing tells next new.told
+serves_on tells core next old new request reply serving answers is of_core = record {
+  of_core = of_core;
+  opened = λ told. opened_now told;
+  kept = λ told. kept_grown tells next old.told new.told told (only told) (opened_now told) of_core (serving.kept told);
+}
+  where
+    only : tells ≡ true → OnlyGrow next.settings old.told new.told
+    only told = subst (λ s. OnlyGrow s old.told new.told) (sym is) (grows tells core.settings old new told core.sessions next.sessions request reply answers)
+
+    opened_now : tells ≡ true → AreOpenedWith next.settings new.told
+    opened_now told = opened_grown next.settings old.told new.told (only told) (subst (λ s. AreOpenedWith s old.told) (sym is) (serving.opened told))
+
+-- ---- a line that is answered, where the core stands within a value
+
+pub call_serves : (tells : Bool) (core within next : CoreState) (old new : Shown) (asked : Result Request LineRefusal) (request : Request) (reply : Reply) → within ≡ core → asked ≡ Ok request
+    → Answers tells within.settings within.sessions old request reply next.sessions new → next.settings ≡ within.settings → Serves tells core old asked reply next new
+call_serves tells core within next old new asked request reply is asks answers settings =
+    subst (λ a. Serves tells core old a reply next new) (sym asks) (subst (λ c. Answers tells c.settings c.sessions old request reply next.sessions new × (next.settings ≡ c.settings)) is (answers, settings))
+
+pub call_serves_on : (tells : Bool) (core within next : CoreState) (old new : Shown) (request : Request) (reply : Reply) → within ≡ core → IsServing tells core old.told
+    → Answers tells within.settings within.sessions old request reply next.sessions new → next.settings ≡ within.settings → IsCoreOf tells new.told next → IsServing tells next new.told
+call_serves_on tells core within next old new request reply is serving answers settings of_core =
+    serves_on tells within next old new request reply (subst (λ c. IsServing tells c old.told) (sym is) serving) answers settings of_core

@@ -1,5 +1,0 @@
-use Rattle.tao_top.proofs.FirstLine.{whole_part}
-use Rattle.tao_top.proofs.begin.refuse.Goals as goal
-
-pub returns-in-Ok-clause-part : goal.returns-in-Ok-clause-part
-returns-in-Ok-clause-part g c = whole_part _ _ _ c.in-Ok.ensures.ok

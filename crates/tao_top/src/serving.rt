@@ -1,0 +1,157 @@
+//! A core that serves by its configuration: a line answered, and its reply written.
+ghost use Rattle.std.specs.Prelude.{◌≡◌, ◌≤◌, [], Ok, IfOk, IfErr, OnOk, OnErr};
+ghost use Rattle.std.specs.Io.KnownBytes.{Appends};
+ghost use Rattle.config_json.specs.Config.{config_in};
+ghost use Rattle.graph_model.specs.Told.{WhereTold};
+ghost use Rattle.request_json.specs.Requests.{request_in};
+ghost use Rattle.tao_core.specs.Opening.{IsOpened, RefusesOpening};
+ghost use Rattle.tao_core.specs.Shown.{IsLater, shown};
+ghost use Rattle.tao_top.specs.Begun.{RepliesInPart};
+ghost use Rattle.tao_top.specs.Kept.{AreKept, IsServing};
+ghost use Rattle.tao_top.specs.Served.{AppendsPart, serves};
+ghost use Rattle.tao_top.specs.Step.{Replies, Serves, line_of, serving};
+ghost use Rattle.tao_top.specs.Stop.{InterruptsWriting};
+
+use crate::lines::say;
+use crate::stop::Interrupt;
+use std::alloc::{AllocError, Global};
+use std::marker::Model;
+use tao_base::Text;
+use tao_core::Core;
+use tao_io::Sink;
+use tao_keeper::Keeper;
+use tao_wire::{LineRefusal, LineRefused, OpenRefusal, Refusal, Reply, Request, read_request};
+use topology::Config;
+
+/// A core, beside the configuration that it serves by and that spells the names in its replies.
+#[derive(Drop)]
+pub(crate) struct Serving<'c> {
+    config: &'c Config,
+    core: Core<'c>,
+}
+
+impl<'c> Model for Serving<'c> {
+    ghost use Rattle.std.specs.Prelude.{◌≡◌};
+    ghost use Rattle.tao_core.specs.Core.{CoreState};
+
+    ghost Value = { CoreState };
+
+    ghost view = { λ s. s.core };
+
+    ghost invariant = { λ s. s.core.settings ≡ s.config.now };
+}
+
+/// The refusal of a line that is too long.
+fn too_long(alloc: Global) -> Result<Reply, AllocError>
+    ensures { IfOk result (λ reply. reply ≡ Reply.Refused (Refusal.Line (LineRefused.BadLine []))) }
+{
+    let field = Text::copy_of(alloc, "")?;
+    Ok(Reply::Refused(Refusal::Line(LineRefused::BadLine { field })))
+}
+
+impl<'c> Serving<'c> {
+    /// Opens the stores of a configuration with its line.
+    pub(crate) fn open<K: Keeper>(
+        alloc: Global,
+        config: &'c Config,
+        line: &[u8],
+        keepers: &mut K,
+    ) -> Result<Serving<'c>, OpenRefusal>
+        requires configured { config_in line.now ≡ Ok config.now }
+        requires kept { WhereTold K.TELLS (AreKept (K.told keepers.old)) }
+        ensures settings { IfOk result (λ serving. serving.settings ≡ config.now) }
+        ensures sessions { IfOk result (λ serving. serving.sessions ≡ []) }
+        ensures opened { IfOk result (λ serving. WhereTold K.TELLS (IsOpened config.now line.now (K.told keepers.old) (K.told keepers.new))) }
+        ensures serving { IfOk result (λ serving. IsServing K.TELLS serving (K.told keepers.new)) }
+        ensures refused { IfErr result (RefusesOpening K.TELLS config.now line.now (shown K.told K.calls K.faults keepers.old) (shown K.told K.calls K.faults keepers.new)) }
+        ensures kept { WhereTold K.TELLS (AreKept (K.told keepers.new)) }
+        ensures later { IsLater (shown K.told K.calls K.faults keepers.old) (shown K.told K.calls K.faults keepers.new) }
+    {
+        let core = Core::open(alloc, config, line, keepers)?;
+        Ok(Serving { config, core })
+    }
+
+    /// Writes the line of a reply.
+    pub(crate) fn say<S: Sink>(
+        &self,
+        alloc: Global,
+        output: &mut S,
+        reply: &Reply,
+    ) -> Result<(), Interrupt>
+        ensures ok { OnOk result (Appends (S.taken output.old) (S.taken output.new) (line_of (serving self.now) reply.now)) }
+        ensures err { OnErr result (AppendsPart (S.taken output.old) (S.taken output.new) (line_of (serving self.now) reply.now)) }
+        ensures cause { IfErr result (InterruptsWriting (S.faults output.old) (S.faults output.new)) }
+        ensures later { S.faults output.old ≤ S.faults output.new }
+    {
+        say(alloc, self.config, output, reply)
+    }
+
+    /// The core's reply to a request.
+    fn call<K: Keeper>(&mut self, alloc: Global, keepers: &mut K, request: &Request) -> Reply
+        requires serving { IsServing K.TELLS self.old (K.told keepers.old) }
+        ensures does { Serves K.TELLS self.old (shown K.told K.calls K.faults keepers.old) (Ok request.now) result self.new (shown K.told K.calls K.faults keepers.new) }
+        ensures serving { IsServing K.TELLS self.new (K.told keepers.new) }
+        ensures later { IsLater (shown K.told K.calls K.faults keepers.old) (shown K.told K.calls K.faults keepers.new) }
+    {
+        self.core.call(alloc, keepers, request)
+    }
+
+    /// The reply to a line.
+    fn answer<K: Keeper>(
+        &mut self,
+        alloc: Global,
+        keepers: &mut K,
+        line: &[u8],
+    ) -> Result<Reply, AllocError>
+        requires serving { IsServing K.TELLS self.old (K.told keepers.old) }
+        ensures does { IfOk result (λ reply. Serves K.TELLS self.old (shown K.told K.calls K.faults keepers.old) (request_in line.now) reply self.new (shown K.told K.calls K.faults keepers.new)) }
+        ensures same { OnErr result ((self.new ≡ self.old) × (keepers.new ≡ keepers.old)) }
+        ensures serving { IsServing K.TELLS self.new (K.told keepers.new) }
+        ensures later { IsLater (shown K.told K.calls K.faults keepers.old) (shown K.told K.calls K.faults keepers.new) }
+    {
+        match read_request(alloc, line) {
+            Ok(request) => Ok(self.call(alloc, keepers, &request)),
+            Err(LineRefusal::BadLine { field }) => {
+                Ok(Reply::Refused(Refusal::Line(LineRefused::BadLine { field })))
+            }
+            Err(LineRefusal::TooLarge { bytes, pairs }) => {
+                Ok(Reply::Refused(Refusal::Line(LineRefused::TooLarge { bytes, pairs })))
+            }
+            Err(LineRefusal::OutOfMemory) => Err(AllocError),
+        }
+    }
+
+    /// Answers a line, and writes the reply.
+    pub(crate) fn answer_line<S: Sink, K: Keeper>(
+        &mut self,
+        alloc: Global,
+        keepers: &mut K,
+        output: &mut S,
+        line: &[u8],
+    ) -> Result<(), Interrupt>
+        requires serving { IsServing K.TELLS self.old (K.told keepers.old) }
+        ensures ok { OnOk result (Replies K.TELLS (serves self.old (shown K.told K.calls K.faults keepers.old)) line.now (serves self.new (shown K.told K.calls K.faults keepers.new)) (Appends (S.taken output.old) (S.taken output.new))) }
+        ensures err { OnErr result (RepliesInPart K.TELLS (serves self.old (shown K.told K.calls K.faults keepers.old)) line.now (serves self.new (shown K.told K.calls K.faults keepers.new)) (S.taken output.old) (S.taken output.new)) }
+        ensures serving { IsServing K.TELLS self.new (K.told keepers.new) }
+        ensures cause { IfErr result (InterruptsWriting (S.faults output.old) (S.faults output.new)) }
+        ensures later { S.faults output.old ≤ S.faults output.new }
+    {
+        let reply = self.answer(alloc, keepers, line)?;
+        self.say(alloc, output, &reply)
+    }
+
+    /// Refuses a line that is too long.
+    pub(crate) fn refuse_line<S: Sink>(
+        &self,
+        alloc: Global,
+        output: &mut S,
+    ) -> Result<(), Interrupt>
+        ensures ok { OnOk result (Appends (S.taken output.old) (S.taken output.new) (line_of (serving self.now) (Reply.Refused (Refusal.Line (LineRefused.BadLine []))))) }
+        ensures err { OnErr result (AppendsPart (S.taken output.old) (S.taken output.new) (line_of (serving self.now) (Reply.Refused (Refusal.Line (LineRefused.BadLine []))))) }
+        ensures cause { IfErr result (InterruptsWriting (S.faults output.old) (S.faults output.new)) }
+        ensures later { S.faults output.old ≤ S.faults output.new }
+    {
+        let reply = too_long(alloc)?;
+        self.say(alloc, output, &reply)
+    }
+}

@@ -1,0 +1,123 @@
+#!/usr/bin/env python3
+"""Measures the program. Times on a shared machine mean little: compare ratios and growth.
+
+usage: bench.py TAO [YARDSTICK]
+
+TAO is the built program (crates/tao/out/tao once ./tao was run), YARDSTICK that of bench/yardstick.
+Prints the lines that a second takes of 20,000 mixed calls, what a call costs as the log of its shard
+grows, and, with a yardstick, the ratio of the times on one script of ranges (below 1 TAO is faster).
+"""
+import json
+import subprocess
+import sys
+import time
+
+SHARDS = 8
+REGION = {"name": "east", "tiers": [{"name": "t1"}]}
+EMPTY = {}
+
+
+def line(**fields):
+    return json.dumps(fields, separators=(",", ":"))
+
+
+def front(shards):
+    yield line(assocs=[{"name": "likes"}, {"name": "follows"}], objects=["user"], regions=[REGION], shards=shards)
+    yield line(do="open", session=1, region="east", tier="t1")
+
+
+class Draws:
+    """Numbers below a bound, the same in each run."""
+
+    def __init__(self, seed):
+        self.state = seed
+
+    def below(self, bound):
+        self.state = (self.state * 6364136223846793005 + 1442695040888963407) % 2**64
+        return (self.state >> 33) % bound
+
+
+def write(draws, seq):
+    call = dict(session=1, seq=seq)
+    edge = dict(id1=identity(draws), atype="likes", id2=identity(draws))
+    kind = draws.below(6)
+    if kind == 0:
+        return line(do="obj_add", shard=draws.below(SHARDS), otype="user", data={"name": "Ann"}, **call)
+    if kind == 1:
+        return line(do="obj_update", id=identity(draws), data=EMPTY, **call)
+    if kind == 2:
+        return line(do="assoc_delete", **edge, **call)
+    if kind == 3:
+        return line(do="assoc_change_type", newtype="follows", **edge, **call)
+    return line(do="assoc_add", time=draws.below(1000), data=EMPTY, **edge, **call)
+
+
+def read(draws):
+    asked = dict(session=1, id1=identity(draws), atype="likes")
+    kind = draws.below(5)
+    if kind == 0:
+        return line(do="obj_get", session=1, id=identity(draws))
+    if kind == 1:
+        return line(do="assoc_get", ids=[identity(draws) for _ in range(5)], **asked)
+    if kind == 2:
+        return line(do="assoc_count", **asked)
+    if kind == 3:
+        return line(do="assoc_time_range", high=900, low=100, limit=10, **asked)
+    return line(do="assoc_range", pos=0, limit=10, **asked)
+
+
+def identity(draws):
+    return (draws.below(SHARDS) << 48) + 1 + draws.below(50)
+
+
+def mixed(calls):
+    """Three writes in ten calls."""
+    draws = Draws(1)
+    yield from front(SHARDS)
+    for call in range(calls):
+        yield write(draws, call + 1) if draws.below(10) < 3 else read(draws)
+
+
+def adds(count):
+    for i in range(count):
+        yield line(do="assoc_add", session=1, seq=i + 1, id1=1, atype="likes", id2=i + 2, time=i, data=EMPTY)
+
+
+def ranges(count):
+    yield from [line(do="assoc_range", session=1, id1=1, atype="likes", pos=0, limit=10)] * count
+
+
+def script(*parts):
+    return "".join(one + "\n" for part in parts for one in part).encode()
+
+
+def best(command, data):
+    times = []
+    for _ in range(3):
+        start = time.perf_counter()
+        subprocess.run(command, input=data, stdout=subprocess.DEVNULL, check=True)
+        times.append(time.perf_counter() - start)
+    return min(times)
+
+
+def main():
+    tao = [sys.argv[1], "run"]
+    calls = 20_000
+    took = best(tao, script(mixed(calls)))
+    print(f"{calls:,} mixed calls on {SHARDS} shards: {calls / took:,.0f} lines a second")
+    for length in (1_000, 2_000, 4_000, 8_000):
+        grown = best(tao, script(front(1), adds(length)))
+        asked = best(tao, script(front(1), adds(length), ranges(500)))
+        print(
+            f"a log of {length:,} entries: an add {grown / length * 1e6:,.0f} microseconds on the way there,"
+            f" a range {(asked - grown) / 500 * 1e6:,.0f} at its end"
+        )
+    if len(sys.argv) > 2:
+        lines = 100_000
+        data = script(front(1), adds(10), ranges(lines))
+        ours, theirs = best(tao, data), best([sys.argv[2]], data)
+        print(f"{lines:,} ranges of ten edges: {ours / theirs:.2f} of the yardstick's time")
+
+
+if __name__ == "__main__":
+    main()

@@ -54,7 +54,7 @@ version_follows log e k = version-append log (e ∷ []) k ∙ ap (λ n. version 
 elsewhere : (k : Key) (t : Touch) (ts : List Touch) → t.key ≢ k → changes_at k (t ∷ ts) ≡ changes_at k ts
 elsewhere k t ts ne = rw (same_key-apart k t.key (λ q. ne (sym q))) refl
 
-none_else : (k : Key) (ts : List Touch) → All (λ t. k ≢ t.key) ts → changes_at k ts ≡ []
+pub none_else : (k : Key) (ts : List Touch) → All (λ t. k ≢ t.key) ts → changes_at k ts ≡ []
 none_else k [] h = refl
 none_else k (t ∷ ts) h = elsewhere k t ts (λ q. h 0 t (omega arith) (sym q)) ∙ none_else k ts (All-tail (λ t. k ≢ t.key) t ts h)
 

@@ -1,9 +1,9 @@
 -- A touch takes a prefix that is exact to one that is exact at the next version.
-use Rattle.std.proofs.Common.{◌≡◌, ℕ, ◌+◌, ◌-◌, ◌^◌, ◌<◌, ◌≤◌, Bool, not, List, ◌++◌, length, take, drop, Option, Some, None, refl, sym, ◌∙◌, ap, subst, arith, inl, inr, length-append, Result, Ok, Err, OnOk}
+use Rattle.std.proofs.Common.{◌≡◌, ℕ, ◌+◌, ◌-◌, ◌^◌, ◌<◌, ◌≤◌, Bool, not, List, ◌++◌, length, max, take, drop, Option, Some, None, refl, sym, ◌∙◌, ap, subst, arith, inl, inr, length-append, Result, Ok, Err, OnOk}
 use Rattle.std.specs.Prelude.{◌==◌, ◌||◌, nat_eq, nat_lt, filter, option_to_list, IfSome}
-use Rattle.std.proofs.lemmas.Bool.{cases_Bool, lt-ltb}
+use Rattle.std.proofs.lemmas.Bool.{cases_Bool, lt-ltb, ltb-false}
 use Rattle.std.proofs.lemmas.Bool.Decides.{nat_tests}
-use Rattle.std.proofs.lemmas.List.{take-append-drop, take_all}
+use Rattle.std.proofs.lemmas.List.{length-take, take-append-drop, take_all}
 use Rattle.std.proofs.lemmas.List.Elements.{All-contains, filter-append}
 use Rattle.std.proofs.lemmas.List.Filters.{length-filter_both}
 use Rattle.tao_base.specs.declared.edge.Edge.{Edge}
@@ -16,8 +16,9 @@ use Rattle.tao_base.specs.declared.entry.Touch.{Touch}
 use Rattle.tao_base.specs.declared.id.AType.{AType}
 use Rattle.tao_base.specs.declared.id.Id.{Id}
 use Rattle.tao_base.specs.declared.id.Key.TheVariants.{List as Assocs}
-use Rattle.graph_model.proofs.Applied.{length_insert}
+use Rattle.graph_model.proofs.Applied.{length_insert, prefix_take}
 use Rattle.graph_model.proofs.Exact.{exact_follows}
+use Rattle.graph_model.proofs.Lengths.{item_within}
 use Rattle.graph_model.proofs.Lists.{edge_list_law}
 use Rattle.graph_model.specs.Edges.{edge_list, edge_record, edges_to, live_edge, live_time, without_edge}
 use Rattle.graph_model.specs.Log.{IsTouchOf, changes_of, version}
@@ -25,7 +26,7 @@ use Rattle.graph_model.specs.Prefixes.{IsExactList, IsPrefixOf, SaysWas, edges_a
 use Rattle.graph_model.specs.Soundness.{IsSound, TouchFollows, update_at, was_of}
 use Rattle.list_prefix.proofs.Changed.{length_rest}
 use Rattle.list_prefix.specs.Changes.{StaysExact, fallen, prefix_after, risen, shortened}
-use Rattle.list_prefix.specs.ListPrefix.{ListPrefix, list_prefix}
+use Rattle.list_prefix.specs.ListPrefix.{IsExactPrefix, ListPrefix, list_prefix}
 
 -- of the first edges no more are left than of all
 fewer_left : (id2 n : ℕ) (whole : List Edge) → length (without_edge id2 (take n whole)) ≤ length (without_edge id2 whole)
@@ -55,10 +56,17 @@ rise_is : (was : Option ℕ) (total : ℕ) → total < 2 ^ 64 - 1 → risen (tot
 rise_is None total small = omega arith
 rise_is (Some time) total small = omega arith
 
-shortened_is : (bound : ℕ) (xs : List Edge) → length xs ≤ bound + 1 → shortened bound xs ≡ take bound xs
-shortened_is bound xs most = elim (cases_Bool (nat_lt bound (length xs))) [
-  | inl k ↦ (let e : length xs - 1 ≡ bound = grind (arith, nat_tests) in rw k (ap (λ n. take n xs) e))
-  | inr k ↦ (let fits : length xs ≤ bound = grind (arith, nat_tests) in rw k (sym (take_all bound xs fits)))
+-- what is shortened is a front
+shortened_front : (bound : ℕ) (xs : List Edge) → (n : ℕ) × (take n xs ≡ shortened bound xs)
+shortened_front bound xs = elim (cases_Bool (nat_lt bound (length xs))) [
+  | inl k ↦ (length xs - 1, rw k refl)
+  | inr k ↦ (length xs, rw k (take_all (length xs) xs (omega arith)))
+]
+
+length_shortened : (bound : ℕ) (xs : List Edge) → length (shortened bound xs) ≤ max (length xs - 1) bound
+length_shortened bound xs = elim (cases_Bool (nat_lt bound (length xs))) [
+  | inl k ↦ rw k (let cut = length-take (length xs - 1) xs in omega arith)
+  | inr k ↦ rw k (let fits = ltb-false bound (length xs) k in omega arith)
 ]
 
 length_among : (e : Edge) (xs : List Edge) (total : ℕ) → length (put_among e xs total) ≤ length xs + 1
@@ -70,24 +78,41 @@ length_among e xs total = let more = length_insert e xs in elim (cases_Bool (nat
 prefix_same : (xs ys : List Edge) (m n : ℕ) → xs ≡ ys → m ≡ n → list_prefix xs m ≡ list_prefix ys n
 prefix_same xs ys m n e f = rw (e, f) refl
 
-set_is : (e : Edge) (edges : List Edge) (fell total bound : ℕ) → fell ≡ total → length (without_edge e.id2 edges) ≤ bound
-    → shortened bound (put_among e (without_edge e.id2 edges) fell) ≡ take bound (put_among e (without_edge e.id2 edges) total)
-set_is e edges fell total bound same most =
-    ap (λ n. shortened bound (put_among e (without_edge e.id2 edges) n)) same
-    ∙ (let more = length_among e (without_edge e.id2 edges) total in shortened_is bound (put_among e (without_edge e.id2 edges) total) (omega arith))
+-- a prefix after a change is a front of what the plain rule gives
+record IsFrontAfter (change : Change) (p new : ListPrefix) : Type 0 where
+  pub count : ℕ
+  pub is : list_prefix (take count (edges_after change p.edges p.total)) (total_after change p.total) ≡ new
 
--- for a prefix of a list that the change is one of, the rule is the plain one
-after_is : (change : Change) (p : ListPrefix) (bound : ℕ) (whole : List Edge) → IsPrefixOf p.edges p.total whole → SaysWas change whole → length p.edges ≤ bound → p.total < 2 ^ 64 - 1
-    → list_prefix (take bound (edges_after change p.edges p.total)) (total_after change p.total) ≡ prefix_after change p bound
-after_is (SetEdge e was) p bound whole begins says most small =
+after_is : (change : Change) (p : ListPrefix) (bound : ℕ) (whole : List Edge) → IsPrefixOf p.edges p.total whole → SaysWas change whole → p.total < 2 ^ 64 - 1
+    → IsFrontAfter change p (prefix_after change p bound)
+after_is (SetEdge e was) p bound whole begins says small =
+    let rest : List Edge = without_edge e.id2 p.edges in
     let fall = fall_is e.id2 was p.edges whole p.total begins says in
+    let front = shortened_front bound (put_among e rest (fallen was (length rest) p.total)) in
+    record {
+      count = front.0;
+      is = prefix_same _ _ _ _ (ap (λ n. take front.0 (put_among e rest n)) (sym fall) ∙ front.1) (sym (ap risen fall ∙ rise_is was p.total small));
+    }
+after_is (CutEdge id2 stamp was) p bound whole begins says small =
+    let front = shortened_front bound (without_edge id2 p.edges) in
+    record { count = front.0; is = prefix_same _ _ _ _ front.1 (sym (fall_is id2 was p.edges whole p.total begins says)) }
+after_is (PutObject object) p bound whole begins says small = record { count = length p.edges; is = prefix_same _ _ _ _ (take_all (length p.edges) p.edges (omega arith)) refl }
+after_is DropObject p bound whole begins says small = record { count = length p.edges; is = prefix_same _ _ _ _ (take_all (length p.edges) p.edges (omega arith)) refl }
+
+-- no more edges than the bound, or than there were
+pub after_bounded : (change : Change) (p : ListPrefix) (bound : ℕ) → length (prefix_after change p bound).edges ≤ max (length p.edges) bound
+after_bounded (SetEdge e was) p bound =
+    let rest : List Edge = without_edge e.id2 p.edges in
     let fewer = length_rest e.id2 p.edges in
-    sym (prefix_same _ _ _ _ (set_is e p.edges (fallen was (length (without_edge e.id2 p.edges)) p.total) (total_without was p.total) bound fall (omega arith)) (ap risen fall ∙ rise_is was p.total small))
-after_is (CutEdge id2 stamp was) p bound whole begins says most small =
+    let more = length_among e rest (fallen was (length rest) p.total) in
+    let short = length_shortened bound (put_among e rest (fallen was (length rest) p.total)) in
+    omega arith
+after_bounded (CutEdge id2 stamp was) p bound =
     let fewer = length_rest id2 p.edges in
-    sym (prefix_same _ _ _ _ (shortened_is bound (without_edge id2 p.edges) (omega arith)) (fall_is id2 was p.edges whole p.total begins says))
-after_is (PutObject object) p bound whole begins says most small = prefix_same _ _ _ _ (take_all bound p.edges most) refl
-after_is DropObject p bound whole begins says most small = prefix_same _ _ _ _ (take_all bound p.edges most) refl
+    let short = length_shortened bound (without_edge id2 p.edges) in
+    omega arith
+after_bounded (PutObject object) p bound = omega arith
+after_bounded DropObject p bound = omega arith
 
 length-live_edge : (id2 : ℕ) (found : Option EdgeState) (was : Option ℕ) → was ≡ live_time found → length (live_edge id2 found) ≡ length (option_to_list was)
 length-live_edge id2 None was h = ap (λ o. length (option_to_list o)) (sym h)
@@ -123,14 +148,43 @@ stood log t id1 atype v sound touch key next =
       says = says_was (take n log) id1 atype t.change (subst (λ k. IfSome (update_at k t.change) (λ u. was_of t.change ≡ live_time (edge_record (take n log) u.0 u.1 u.2))) key fits.was_is);
     }
 
-pub stays_exact : (change : Change) (old new : ListPrefix) (bound : ℕ) → new ≡ prefix_after change old bound → StaysExact change old new bound
-stays_exact change old new bound is log t id1 atype v sound touch key same next small exact =
+-- a front of an exact prefix is exact
+front_is_exact : (log : List Entry) (id1 : Id) (atype : AType) (bound v n : ℕ) (edges : List Edge) (total : ℕ) → IsExactList log id1 atype bound v edges total
+    → IsExactPrefix log id1 atype v (list_prefix (take n edges) total)
+front_is_exact log id1 atype bound v n edges total exact = record {
+  exact = record { reached = exact.exact.reached; gives = λ m h. prefix_take n edges (edge_list (take m log) id1 atype) total (exact.exact.gives m h) };
+  bounded = omega arith;
+}
+
+-- the plain rule keeps all edges exact
+plain_is_exact : (log : List Entry) (t : Touch) (id1 : Id) (atype : AType) (v : ℕ) (p : ListPrefix) → IsSound log → IsTouchOf log t → t.key ≡ Assocs id1 atype
+    → t.version ≡ v + 1 → IsExactPrefix log id1 atype v p → IsExactPrefix log id1 atype (v + 1) (list_prefix (edges_after t.change p.edges p.total) (total_after t.change p.total))
+plain_is_exact log t id1 atype v p sound touch key next exact =
+    let after : List Edge = edges_after t.change p.edges p.total in
+    let room : ℕ = length p.edges + length after in
+    let next_is = (exact_follows log t).list_follows sound touch id1 atype room v p.edges p.total key next (record { exact = exact.exact; bounded = omega arith }) in
+    let all : take room after ≡ after = take_all room after (omega arith) in
+    let whole = subst (λ es. IsExactList log id1 atype room (v + 1) es (total_after t.change p.total)) all next_is in
+    record { exact = whole.exact; bounded = omega arith }
+
+follows : (change : Change) (old new : ListPrefix) (bound : ℕ) → new ≡ prefix_after change old bound → (log : List Entry) (t : Touch) (id1 : Id) (atype : AType) (v : ℕ)
+    → IsSound log → IsTouchOf log t → t.key ≡ Assocs id1 atype → t.change ≡ change → t.version ≡ v + 1 → t.version < 2 ^ 64
+    → IsExactPrefix log id1 atype v old → IsExactPrefix log id1 atype (v + 1) new
+follows change old new bound is log t id1 atype v sound touch key same next small exact =
     let before = stood log t id1 atype v sound touch key next in
     let begins : IsPrefixOf old.edges old.total (edge_list (take before.place log) id1 atype) = exact.exact.gives before.place before.at in
     let begun : IsPrefixOf old.edges old.total (edge_list (take touch.place log) id1 atype) = subst (IsPrefixOf old.edges old.total) before.is begins in
-    let after = after_is t.change old bound (edge_list (take touch.place log) id1 atype) begun before.says exact.bounded small in
-    let next_is : list_prefix (take bound (edges_after t.change old.edges old.total)) (total_after t.change old.total) ≡ new = after ∙ ap (λ c. prefix_after c old bound) same ∙ sym is in
-    subst (λ p. IsExactList log id1 atype bound (v + 1) p.edges p.total) next_is ((exact_follows log t).list_follows sound touch id1 atype bound v old.edges old.total key next exact)
+    let short = item_within log id1 atype sound (length old.edges) v old.edges old.total exact in
+    let front = after_is t.change old bound (edge_list (take touch.place log) id1 atype) begun before.says (omega arith) in
+    let plain = plain_is_exact log t id1 atype v old sound touch key next exact in
+    let cut = front_is_exact log id1 atype _ (v + 1) front.count (edges_after t.change old.edges old.total) (total_after t.change old.total) plain in
+    subst (λ p. IsExactPrefix log id1 atype (v + 1) p) (front.is ∙ ap (λ c. prefix_after c old bound) same ∙ sym is) cut
+
+pub stays_exact : (change : Change) (old new : ListPrefix) (bound : ℕ) → new ≡ prefix_after change old bound → StaysExact change old new bound
+stays_exact change old new bound is = record {
+  exact = follows change old new bound is;
+  bounded = subst (λ p. length p.edges ≤ max (length old.edges) bound) (sym is) (after_bounded change old bound);
+}
 
 pub exact_on_ok : {X E : Type 0} (change : Change) (old new : ListPrefix) (bound : ℕ) (r : Result X E) → OnOk r (new ≡ prefix_after change old bound) → OnOk r (StaysExact change old new bound)
 exact_on_ok change old new bound (Ok x) is = stays_exact change old new bound is

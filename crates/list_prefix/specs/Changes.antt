@@ -1,5 +1,5 @@
 -- What a change does to a cached list.
-use Rattle.std.specs.Prelude.{ℕ, ⊤, ◌≡◌, ◌+◌, ◌-◌, ◌^◌, ◌<◌, ◌&&◌, nat_lt, is_some, if◌then◌else◌, min, List, length, take, Option}
+use Rattle.std.specs.Prelude.{ℕ, ⊤, ◌≡◌, ◌+◌, ◌-◌, ◌^◌, ◌<◌, ◌≤◌, ◌&&◌, nat_lt, is_some, if◌then◌else◌, max, min, List, length, take, Option}
 use Rattle.tao_base.specs.declared.edge.Edge.{Edge}
 use Rattle.tao_base.specs.declared.entry.Change.{Change}
 use Rattle.tao_base.specs.declared.entry.Change.TheVariants.{PutObject, DropObject, SetEdge, CutEdge}
@@ -10,9 +10,9 @@ use Rattle.tao_base.specs.declared.id.Id.{Id}
 use Rattle.tao_base.specs.declared.id.Key.TheVariants.{List as Assocs}
 use Rattle.graph_model.specs.Edges.{without_edge}
 use Rattle.graph_model.specs.Log.{IsTouchOf}
-use Rattle.graph_model.specs.Prefixes.{IsExactList, put_among}
+use Rattle.graph_model.specs.Prefixes.{put_among}
 use Rattle.graph_model.specs.Soundness.{IsSound}
-use Rattle.list_prefix.specs.ListPrefix.{ListPrefix, list_prefix}
+use Rattle.list_prefix.specs.ListPrefix.{IsExactPrefix, ListPrefix, list_prefix}
 
 -- the length, less one where the edge was live, unless that would leave it below the number of the edges
 abbrev pub fallen : Option ℕ → ℕ → ℕ → ℕ
@@ -49,8 +49,10 @@ SetsEdge (PutObject object) = ⊥
 SetsEdge DropObject = ⊥
 
 -- where the change is that of a touch of a sound log, a prefix that is exact at the version below the touch's is exact at the touch's version after
--- it. The one list that is left out has as many edges as there are numbers of 64 bits
-abbrev pub StaysExact : Change → ListPrefix → ListPrefix → ℕ → Type 0
-StaysExact change old new bound = (log : List Entry) (touch : Touch) (id1 : Id) (atype : AType) (v : ℕ) → IsSound log → IsTouchOf log touch
-    → touch.key ≡ Assocs id1 atype → touch.change ≡ change → touch.version ≡ v + 1 → old.total < 2 ^ 64 - 1
-    → IsExactList log id1 atype bound v old.edges old.total → IsExactList log id1 atype bound (v + 1) new.edges new.total
+-- it, however many edges it holds and its list has: a version is a number of 64 bits, and no length is greater. It then has no more edges than the
+-- bound, or than it had
+pub record StaysExact (change : Change) (old new : ListPrefix) (bound : ℕ) : Type 0 where
+  pub exact : (log : List Entry) (touch : Touch) (id1 : Id) (atype : AType) (v : ℕ) → IsSound log → IsTouchOf log touch
+      → touch.key ≡ Assocs id1 atype → touch.change ≡ change → touch.version ≡ v + 1 → touch.version < 2 ^ 64
+      → IsExactPrefix log id1 atype v old → IsExactPrefix log id1 atype (v + 1) new
+  pub bounded : length new.edges ≤ max (length old.edges) bound

@@ -1,7 +1,11 @@
 -- What a contract sees of a cached list.
 use Rattle.std.specs.Prelude.{ℕ, ◌≤◌, List, length}
 use Rattle.tao_base.specs.declared.edge.Edge.{Edge}
+use Rattle.tao_base.specs.declared.entry.Entry.{Entry}
+use Rattle.tao_base.specs.declared.id.AType.{AType}
+use Rattle.tao_base.specs.declared.id.Id.{Id}
 use Rattle.graph_model.specs.Edges.{IsInOrder}
+use Rattle.graph_model.specs.Prefixes.{IsExactList}
 
 -- the first edges of a list, and how many edges the list has
 pub record ListPrefix : Type 0 where
@@ -15,3 +19,7 @@ list_prefix edges total = record { edges = edges; total = total }
 pub record CanBegin (edges : List Edge) (total : ℕ) : Type 0 where
   pub in_order : IsInOrder edges
   pub within : length edges ≤ total
+
+-- the prefix is exact at a version that the log has reached: the first edges of the list at that version, and its length. Any number of them is
+abbrev pub IsExactPrefix : List Entry → Id → AType → ℕ → ListPrefix → Type 0
+IsExactPrefix log id1 atype v p = IsExactList log id1 atype (length p.edges) v p.edges p.total

@@ -79,9 +79,9 @@ impl Prefix {
         self.total
     }
 
-    /// Takes a change of the list, the next after those that the prefix has taken. `bound` is how
-    /// many edges of such a list a cache holds at most: a prefix that is longer loses its last
-    /// edge. A change of an object leaves the prefix as it is.
+    /// Takes a change of the list, the next after those that the prefix has taken, and stays exact.
+    /// `bound` is how many edges of such a list a cache holds at most: a prefix that is longer
+    /// loses its last edge. A change of an object leaves the prefix as it is.
     ///
     /// Costs a pass over the edges, and one copy of an edge that is set. The one error is want of
     /// memory for that copy, which leaves the prefix as it was.

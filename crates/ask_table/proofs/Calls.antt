@@ -8,7 +8,7 @@ use Rattle.graph_model.specs.Keys.{same_key}
 use Rattle.graph_model.proofs.Members.{IsIn, in_from_contains, contains_from_in, in_append_left, in_append_right, in_append_cases, in_filter, in_filter_parts}
 use Rattle.ask_table.specs.declared.ask.Ask.{Ask}
 use Rattle.ask_table.specs.Asks.{IsTable, is_full, fresh, with_ask}
-use Rattle.ask_table.specs.History.{Call, Begin, Raise, End, EndShard, asks_after, greatest_raised, ends, IsOpen, AsksAreOpen}
+use Rattle.ask_table.specs.History.{Call, Begin, Raise, End, EndAll, EndShard, asks_after, greatest_raised, ends, IsOpen, AsksAreOpen}
 use Rattle.ask_table.specs.Open.{raised, is_numbered, is_on_shard}
 use Rattle.ask_table.proofs.Tables.{not_full, table_push, table_filter, table_raised}
 
@@ -43,6 +43,7 @@ ends_alike a floor (Begin key mark ∷ later) = ends_alike a floor later
 ends_alike a floor (Raise key version ∷ later) = ends_alike a floor later
 ends_alike a floor (End number ∷ later) = ap (λ b. is_numbered number a || b) (ends_alike a floor later)
 ends_alike a floor (EndShard shard ∷ later) = ap (λ b. is_on_shard shard a || b) (ends_alike a floor later)
+ends_alike a floor (EndAll ∷ later) = refl
 
 later_raise : (calls : List Call) (a : Ask) (key : Key) (version : ℕ) → Begun calls a → Begun (Raise key version ∷ calls) (raised key version a)
 later_raise calls a key version b = elim (cases_Bool (same_key a.key key)) [
@@ -73,6 +74,7 @@ begun_of (End number ∷ earlier) a h =
 begun_of (EndShard shard ∷ earlier) a h =
     let p = in_filter_parts (λ b. not (is_on_shard shard b)) (asks_after earlier).asks a h in
     later_end_shard earlier a shard (not-true (is_on_shard shard a) p.1) (begun_of earlier a p.0)
+begun_of (EndAll ∷ earlier) a h = absurd h
 
 -- an ask that is open is in the table
 with_parts : (a : Ask) (number floor : ℕ) → a.number ≡ number → a.floor ≡ floor → (record { number = number; key = a.key; mark = a.mark; floor = floor }) ≡ a
@@ -108,6 +110,7 @@ open_in (EndShard shard ∷ later) earlier a k =
     let p = or_parts (is_on_shard shard a) (list_any (ends a) later) k.not_ended in
     let before = open_in later earlier a (record { room = k.room; number = k.number; floor = k.floor; not_ended = p.1 }) in
     in_filter (λ b. not (is_on_shard shard b)) (asks_after (later ++ Begin a.key a.mark ∷ earlier)).asks a before (not_from_false (is_on_shard shard a) p.0)
+open_in (EndAll ∷ later) earlier a k = absurd (let ended = k.not_ended in cc)
 
 full_stays : (earlier : List Call) (key : Key) (mark : ℕ) → is_full (asks_after earlier) ≡ true → asks_after (Begin key mark ∷ earlier) ≡ asks_after earlier
 full_stays earlier key mark full = rw full refl
@@ -124,6 +127,7 @@ table_after (Begin key mark ∷ earlier) = elim (cases_Bool (is_full (asks_after
 table_after (Raise key version ∷ earlier) = table_raised key version (asks_after earlier).asks (asks_after earlier).given (table_after earlier)
 table_after (End number ∷ earlier) = table_filter (λ a. not (is_numbered number a)) (asks_after earlier).asks (asks_after earlier).given (table_after earlier)
 table_after (EndShard shard ∷ earlier) = table_filter (λ a. not (is_on_shard shard a)) (asks_after earlier).asks (asks_after earlier).given (table_after earlier)
+table_after (EndAll ∷ earlier) = record { rising = tt; few = omega arith }
 
 given_after : (call : Call) (calls : List Call) → (asks_after calls).given ≤ (asks_after (call ∷ calls)).given
 given_after (Begin key mark) calls = elim (cases_Bool (is_full (asks_after calls))) [
@@ -133,6 +137,7 @@ given_after (Begin key mark) calls = elim (cases_Bool (is_full (asks_after calls
 given_after (Raise key version) calls = omega arith
 given_after (End number) calls = omega arith
 given_after (EndShard shard) calls = omega arith
+given_after EndAll calls = omega arith
 
 pub asks_open : (calls : List Call) → AsksAreOpen calls
 asks_open calls = record {

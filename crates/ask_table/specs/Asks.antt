@@ -34,6 +34,10 @@ without_ask number t = asks_of (filter (λ a. not (is_numbered number a)) t.asks
 abbrev pub without_shard : ℕ → Asks → Asks
 without_shard shard t = asks_of (filter (λ a. not (is_on_shard shard a)) t.asks) t.given
 
+-- no ask is open, and the numbers that were given stay given
+abbrev pub without_asks : Asks → Asks
+without_asks t = asks_of [] t.given
+
 -- what an ask gives at its end: its key, mark and floor
 abbrev pub told : Ask → Key × ℕ × ℕ
 told a = (a.key, a.mark, a.floor)

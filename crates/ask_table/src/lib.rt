@@ -5,7 +5,7 @@
 //! were given.
 #![tactic(auto)]
 
-ghost use Rattle.ask_table.specs.Asks.{IsTable, asks_of, is_full, told, with_ask, with_floor, without_ask, without_shard};
+ghost use Rattle.ask_table.specs.Asks.{IsTable, asks_of, is_full, told, with_ask, with_floor, without_ask, without_asks, without_shard};
 ghost use Rattle.ask_table.specs.Open.{is_numbered};
 ghost use Rattle.std.specs.Option.{option_map};
 ghost use Rattle.std.specs.Prelude.{◌≡◌, ◌+◌, ◌↔◌, [], find as find_word, IfNone, IfOk, IfSome, IsNone, IsTrue, OnSome};
@@ -117,5 +117,12 @@ impl AskTable {
         ensures { self.new ≡ without_shard shard self.old }
     {
         self.asks.retain(|open| !open.is_on_shard(shard));
+    }
+
+    /// Ends every open ask. Takes no memory.
+    pub fn end_all(&mut self)
+        ensures { self.new ≡ without_asks self.old }
+    {
+        self.asks.clear();
     }
 }

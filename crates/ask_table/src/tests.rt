@@ -56,3 +56,16 @@ fn the_asks_of_a_shard_end_together(rt: HostRuntime) -> Result<(), Fail> {
     assert_eq!(rt; table.end(first), Some((here, 1, 0)));
     Ok(())
 }
+
+#[test]
+fn all_asks_end_together(rt: HostRuntime) -> Result<(), Fail> {
+    let (here, there) = (object(HERE)?, object(THERE)?);
+    let mut table = AskTable::make(rt.alloc())?;
+    let first = table.begin(here, 1).ok_or("room")?;
+    let second = table.begin(there, 2).ok_or("room")?;
+    table.end_all();
+    assert_eq!(rt; table.end(first), None);
+    assert_eq!(rt; table.end(second), None);
+    assert_eq!(rt; table.begin(here, 3).map(|ask| ask.number()), Some(3));
+    Ok(())
+}

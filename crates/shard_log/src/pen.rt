@@ -1,4 +1,5 @@
 //! The pen: who adds entries to the log.
+ghost use Rattle.std.specs.Arc.{arc_value};
 ghost use Rattle.std.specs.Prelude.{◌≡◌, ◌<◌, ◌≤◌, ◌++◌, ◌∷◌, [], length, IfOk, OnOk, OnErr};
 ghost use Rattle.graph_model.specs.Soundness.{CanFollow, IsSound};
 ghost use Rattle.graph_model.specs.Told.{WhereTold};
@@ -91,30 +92,35 @@ impl Pen {
         Ok(Note { board, place })
     }
 
-    /// A note that has seen the whole log, in place of a note of the log. Takes no memory, so that one who took a note
-    /// before entries were added sees them for certain.
+    /// A note that has seen the whole log, in place of a note of the log, whose view has grown into it. Its floors are the
+    /// pen's, and those of the old note are forgotten. Takes no memory, so that one who took a note before entries were
+    /// added sees them for certain.
     #[tactic(auto, using(crate::proofs::Steps::splits))]
     pub fn renew(&mut self, note: Note) -> Note
         requires { self.old.log ≡ note.log }
         ensures same { self.new ≡ self.old }
         ensures view { result ≡ as_note self.old }
+        ensures grows { Grows note result }
+        ensures floors { result.floors ≡ self.old.floors }
     {
-        let Note { board, place: _ } = note;
+        let board = self.take_in(note);
         let place = self.board.shared.split_seat::<NewNote>(&mut self.place);
         Note { board, place }
     }
 
-    // What the note has seen begins the log.
-    fn take_in(&mut self, note: Note)
+    // What the note has seen begins the log. Gives the note's share of the log's word back.
+    fn take_in(&mut self, note: Note) -> Arc<Board, Global>
         requires { self.old.log ≡ note.log }
         ensures same { self.new ≡ self.old }
         ensures grows { Grows note self.new }
+        ensures board { (arc_value result).shared.table_id ≡ self.old.log.table }
     {
-        let Note { board: _, place } = note;
+        let Note { board, place } = note;
         self.board
             .shared
             .join_seat::<TakeIn>(&mut self.place, place);
         self.board.shared.load::<Confirm>(&mut self.place, 0);
+        board
     }
 
     /// The note's view becomes the whole log, which its old view begins. Where that fails the

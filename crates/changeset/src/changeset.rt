@@ -52,6 +52,7 @@ impl Changeset {
         requires place { place < length entry.now.touches }
         requires entry { WhereTold note.log.told (entry_at note.entries entry.now.position ≡ Some entry.now) }
         ensures made { IfOk result (λ made. change_at entry.now place note ≡ Some made) }
+        ensures one_touch { IfOk result IsOneTouch }
         ensures touch { IfOk result (λ made. WhereTold note.log.told (slice_get entry.now.touches place ≡ Some (touch_of made))) }
     {
         Changeset::by(&entry.touches.as_slice()[place], note)
@@ -60,6 +61,7 @@ impl Changeset {
     fn by(touch: &Touch, note: Note) -> Result<Changeset, OutOfMemory>
         requires { WhereTold note.log.told (IsTouchOf note.entries touch.now) }
         ensures made { IfOk result (λ made. made ≡ change_by touch.now note) }
+        ensures one_touch { IfOk result IsOneTouch }
         ensures touch { IfOk result (λ made. WhereTold note.log.told (touch_of made ≡ touch.now)) }
     {
         notes_are_sound(&note);
@@ -109,6 +111,7 @@ impl Changeset {
     /// One load; takes no memory.
     pub fn look(&mut self) -> u64
         ensures same { self.new ≡ with_note self.old self.new.note }
+        ensures one_touch { IsOneTouch self.new }
         ensures length { result ≡ length self.new.note.entries }
         ensures grows { Grows self.old.note self.new.note }
         ensures pins { (self.new.note.stored ≡ self.old.note.stored) × (self.new.note.floors ≡ self.old.note.floors) }
@@ -125,8 +128,7 @@ impl Changeset {
         ensures after { result.2 ≡ self.after }
         ensures change { result.3 ≡ self.change }
         ensures note { result.4 ≡ self.note }
-        ensures next { self.after ≡ self.before + 1 }
-        ensures touched { WhereTold self.note.log.told (IsTouchOf self.note.entries (touch_of self)) }
+        ensures one_touch { IsOneTouch self }
     {
         (self.key, self.before, self.after, self.change, self.note)
     }

@@ -12,13 +12,13 @@ use Rattle.shard_log.proofs.Beginnings.{begins-length}
 use Rattle.shard_log.proofs.GrowthLemmas.{list_stays, object_stays, versions_stay}
 use Rattle.graph_model.specs.Told.{WhereTold}
 use Rattle.shard_log.specs.View.{View, Grows}
-use Rattle.sealed_item.specs.FillLaws.{BeginningIsSealed, FillsStay, front_of}
+use Rattle.sealed_item.specs.FillLaws.{BeginningIsSealed, ContentsStay, FillsStay, front_of}
 use Rattle.sealed_item.specs.Fills.{SealedItem, IsExactContent, IsSealed, IsSince, with_note}
 use Rattle.sealed_item.specs.declared.content.Content.{Content}
 use Rattle.sealed_item.specs.declared.content.Content.TheVariants.{Object as ObjectIs, List as ListIs}
 
 -- a content that is exact in a view is exact in what it grew into
-content_stays : (v w : View) (key : Key) (at : ℕ) (content : Content) → Grows v w
+pub content_stays : (v w : View) (key : Key) (at : ℕ) (content : Content) → Grows v w
     → WhereTold v.log.told (IsExactContent v.entries key at content) → WhereTold w.log.told (IsExactContent w.entries key at content)
 content_stays v w (Obj id) at (ObjectIs found) grows = object_stays v w id at found grows
 content_stays v w (Obj id) at (ListIs prefix) grows = λ was told. was (ap (λ l. l.told) (sym grows.log_is) ∙ told)
@@ -30,6 +30,9 @@ since_stays v w key at as_of grows was = record {
   within = let longer = begins-length v.entries w.entries grows.begins in let within = was.within in omega arith;
   since = subst (λ n. n ≤ at) (sym (versions_stay.version_stays v w key as_of grows was.within)) was.since;
 }
+
+pub contents_stay : ContentsStay
+contents_stay = record { stays = content_stays }
 
 pub fill_stays : (item : SealedItem) (seen : View) → Grows item.note seen → IsSealed item → IsSealed (with_note item seen)
 fill_stays item seen grows was told =

@@ -3,13 +3,21 @@ use Rattle.std.specs.Prelude.{ℕ, ◌≤◌, List, length, take}
 use Rattle.tao_base.specs.declared.entry.Entry.{Entry}
 use Rattle.tao_base.specs.declared.id.AType.{AType}
 use Rattle.tao_base.specs.declared.id.Id.{Id}
+use Rattle.tao_base.specs.declared.id.Key.{Key}
 use Rattle.tao_base.specs.declared.id.Key.TheVariants.{Obj, List as Assocs}
 use Rattle.graph_model.specs.Edges.{edge_list}
 use Rattle.graph_model.specs.Log.{object, version}
+use Rattle.graph_model.specs.Told.{WhereTold}
 use Rattle.list_prefix.specs.ListPrefix.{ListPrefix, list_prefix}
 use Rattle.shard_log.specs.View.{View, Grows}
+use Rattle.sealed_item.specs.declared.content.Content.{Content}
 use Rattle.sealed_item.specs.declared.content.Content.TheVariants.{Object as ObjectIs, List as ListIs}
-use Rattle.sealed_item.specs.Fills.{SealedItem, IsFill, IsSealed, with_note}
+use Rattle.sealed_item.specs.Fills.{SealedItem, IsExactContent, IsFill, IsSealed, with_note}
+
+-- a content that is exact in a view is exact in each view that it grew into
+pub record ContentsStay : Type 0 where
+  pub stays : (v w : View) (key : Key) (at : ℕ) (content : Content) → Grows v w
+      → WhereTold v.log.told (IsExactContent v.entries key at content) → WhereTold w.log.told (IsExactContent w.entries key at content)
 
 -- a fill is one in each view that its note's grew into
 pub record FillsStay : Type 0 where

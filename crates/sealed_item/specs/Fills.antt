@@ -4,8 +4,9 @@ use Rattle.tao_base.specs.declared.entry.Entry.{Entry}
 use Rattle.tao_base.specs.declared.id.Key.{Key}
 use Rattle.tao_base.specs.declared.id.Key.TheVariants.{Obj, List as Assocs}
 use Rattle.graph_model.specs.Log.{version}
-use Rattle.graph_model.specs.Prefixes.{IsExactList, IsExactObject}
+use Rattle.graph_model.specs.Prefixes.{IsExactObject}
 use Rattle.graph_model.specs.Told.{WhereTold}
+use Rattle.list_prefix.specs.ListPrefix.{IsExactPrefix}
 use Rattle.shard_log.specs.View.{View}
 use Rattle.sealed_item.specs.declared.content.Content.{Content}
 use Rattle.sealed_item.specs.declared.content.Content.TheVariants.{Object as ObjectIs, List as ListIs}
@@ -29,7 +30,7 @@ with_note item note = record item { note = note }
 abbrev pub IsExactContent : List Entry → Key → ℕ → Content → Type 0
 IsExactContent log (Obj id) at (ObjectIs found) = IsExactObject log id at found
 IsExactContent log (Obj id) at (ListIs prefix) = ⊥
-IsExactContent log (Assocs id1 atype) at (ListIs prefix) = IsExactList log id1 atype (length prefix.edges) at prefix.edges prefix.total
+IsExactContent log (Assocs id1 atype) at (ListIs prefix) = IsExactPrefix log id1 atype at prefix
 IsExactContent log (Assocs id1 atype) at (ObjectIs found) = ⊥
 
 -- the version is at least that of the key in so many first entries, which the log has

@@ -45,7 +45,8 @@ impl Fill {
     /// least that of the key in the view's first `as_of` entries. Takes no memory.
     pub fn seal(key: Key, version: u64, as_of: u64, content: Content, note: Note) -> Fill
         requires { IsSealed (sealed_item key version as_of content note) }
-        ensures { result ≡ sealed_item key version as_of content note }
+        ensures value { result ≡ sealed_item key version as_of content note }
+        ensures sealed { IsSealed result }
     {
         Fill {
             key,
@@ -91,6 +92,7 @@ impl Fill {
     /// load; takes no memory.
     pub fn look(&mut self) -> u64
         ensures same { self.new ≡ with_note self.old self.new.note }
+        ensures sealed { IsSealed self.new }
         ensures length { result ≡ length self.new.note.entries }
         ensures grows { Grows self.old.note self.new.note }
         ensures pins { (self.new.note.stored ≡ self.old.note.stored) × (self.new.note.floors ≡ self.old.note.floors) }

@@ -1,7 +1,23 @@
-//! What makes a fill, and keeps it. Each law is the contract of a function with an empty body.
-ghost use Rattle.sealed_item.specs.FillLaws.{BeginningIsSealed, FillsStay};
+//! What makes a fill, and keeps it. Each law is the contract of a function that does nothing.
+ghost use Rattle.sealed_item.specs.FillLaws.{BeginningIsSealed, ContentsStay, FillsStay};
+ghost use Rattle.sealed_item.specs.Fills.{IsSealed};
 
+use crate::fill::Fill;
 use tao_base::Entry;
+
+/// Each fill is one in its note's view.
+pub fn fills_are_sealed(fill: &Fill)
+    ensures { IsSealed fill.now }
+{
+    let _ = fill.content();
+    let _ = fill.as_of();
+}
+
+/// A content that is exact in a view stays exact while the view grows, with no more said of it.
+#[tactic(auto, using(crate::proofs::FillLemmas::contents_stay))]
+pub fn contents_stay()
+    ensures { ContentsStay }
+{}
 
 /// A fill stays true while its note's view grows, so also in the view of a note that met its note.
 #[tactic(auto, using(crate::proofs::FillLemmas::fills_stay))]

@@ -15,7 +15,7 @@ returns-in-Some-clause-found g c = λ told.
     list_filled (g.M.Keeper.told c.args.keeper.now c.args.at).log (g.M.Keeper.told c.reached.new.keeper c.args.at).log c.args.id1 c.args.atype c.args.query.now c.bound-bound.result
     c.in_ok-first.first.total c.in_ok-first.first.edges (ap (λ t. t.log) (c.in_ok-version.ensures.stays told c.args.at)) (c.in_ok-first.ensures.needed told)
     (types_of c.args.schema.now) c.args.note _ _ _ _ c.requires.key c.bound-bound.ensures.value
-    (c.in_ok-version.ensures.version told) (c.in_ok-version.ensures.length told) c.in-Some.ensures c.seal.ensures
+    (c.in_ok-version.ensures.version told) (c.in_ok-version.ensures.length told) c.in-Some.ensures c.seal.ensures.value
 
 pub returns-in_ok-answer-in-None-clause-found : goal.returns-in_ok-answer-in-None-clause-found
 returns-in_ok-answer-in-None-clause-found g c = λ told.

@@ -1,0 +1,138 @@
+ghost use Rattle.std.specs.Prelude.{◌≡◌, [], false, IfOk};
+
+use crate::{Inbox, InboxRefusal, KeyVersion, Maint};
+use shard_log::{Note, ShardLog};
+use std::alloc::{AllocError, Global};
+use std::test::Fail;
+use tao_base::{
+    AType, Change, Data, Edge, Entry, Id, Key, Kind, Origin, OutOfMemory, Stamp, Touch, Touches,
+};
+
+const LIKES: AType = AType(0);
+
+const FRIEND: AType = AType(1);
+
+fn id(number: u64) -> Result<Id, &'static str> {
+    Id::read(number).ok_or("an id")
+}
+
+/// An entry that makes a friend of what was liked.
+fn befriending(alloc: Global, position: u64, id1: Id, id2: Id) -> Result<Entry, AllocError> {
+    let stamp = Stamp {
+        number: 2,
+        shard: 0,
+    };
+    let edge = Edge {
+        id2,
+        time: 5,
+        payload: Data::empty(alloc),
+        stamp,
+    };
+    let cut = Touch {
+        key: Key::List(id1, LIKES),
+        change: Change::CutEdge {
+            id2,
+            stamp,
+            was: Some(5),
+        },
+        version: 3,
+    };
+    let set = Touch {
+        key: Key::List(id1, FRIEND),
+        change: Change::SetEdge { edge, was: None },
+        version: 8,
+    };
+    Ok(Entry {
+        position,
+        kind: Kind::AssocChangeType,
+        origin: Origin::Client {
+            session: 1,
+            seq: position,
+        },
+        touches: Touches::of(vec![in alloc; cut, set]?),
+    })
+}
+
+/// A note of a log that isn't told.
+fn untold_note(alloc: Global) -> Result<Note, OutOfMemory>
+    ensures { IfOk result (λ note. note.log.told ≡ false) }
+{
+    let mut pen = ShardLog::make(alloc, Vec::new(alloc), false)?;
+    pen.note()
+}
+
+/// Of a log that isn't told, a message may be of any entry.
+fn message_of(alloc: Global, entry: &Entry, shard: u16) -> Result<Maint, OutOfMemory> {
+    let note = untold_note(alloc)?;
+    Maint::of(alloc, entry, shard, note)
+}
+
+#[test]
+fn a_message_names_the_touched_keys(rt: HostRuntime) -> Result<(), Fail> {
+    let alloc = rt.alloc();
+    let (one, two) = (id(7)?, id(9)?);
+    let mut message = message_of(alloc, &befriending(alloc, 4, one, two)?, 0)?;
+    assert_eq!(rt;
+        (message.shard(), message.position(), message.look()),
+        (0, 4, 0)
+    );
+    let named = [(Key::List(one, LIKES), 3), (Key::List(one, FRIEND), 8)].map(|(
+        key,
+        version,
+    )| KeyVersion { key, version });
+    assert_eq!(rt; message.keys().as_slice(), named.as_slice());
+    let (shard, position, keys, mut note) = message.into_parts();
+    assert_eq!(rt; (shard, position, note.look()), (0, 4, 0));
+    assert_eq!(rt; keys.as_slice(), named.as_slice());
+    Ok(())
+}
+
+/// Puts the message of an entry without touches. Of a message that was handed back the position.
+fn put(alloc: Global, inbox: &mut Inbox, position: u64) -> Result<Option<u64>, OutOfMemory> {
+    let entry = Entry {
+        position,
+        kind: Kind::ObjDelete,
+        origin: Origin::Client {
+            session: 1,
+            seq: position,
+        },
+        touches: Touches::of(Vec::new(alloc)),
+    };
+    match inbox.put(message_of(alloc, &entry, 0)?) {
+        Ok(()) => Ok(None),
+        Err(InboxRefusal::Full(back)) => Ok(Some(back.position())),
+        Err(InboxRefusal::OutOfMemory(_)) => Err(OutOfMemory),
+    }
+}
+
+#[test]
+fn an_inbox_keeps_its_order(rt: HostRuntime) -> Result<(), Fail> {
+    let alloc = rt.alloc();
+    let mut inbox = Inbox::make(alloc);
+    assert!(rt; inbox.is_empty() && inbox.take(0).is_none());
+    for position in 1..4 {
+        assert_eq!(rt; put(alloc, &mut inbox, position)?, None);
+    }
+    assert_eq!(rt; inbox.len(), 3);
+    assert!(rt; matches!(inbox.take(1), Some(second) if second.position() == 2));
+    assert!(rt; matches!(inbox.at(0), Some(first) if first.position() == 1));
+    assert!(rt; matches!(inbox.at(1), Some(third) if third.position() == 3));
+    assert!(rt; inbox.at(2).is_none() && inbox.take(2).is_none());
+    inbox.clear();
+    assert!(rt; inbox.is_empty());
+    Ok(())
+}
+
+#[test]
+fn a_full_inbox_hands_the_message_back(rt: HostRuntime) -> Result<(), Fail> {
+    let alloc = rt.alloc();
+    let mut inbox = Inbox::make(alloc);
+    for position in 0..4096 {
+        assert_eq!(rt; put(alloc, &mut inbox, position)?, None);
+    }
+    assert_eq!(rt; put(alloc, &mut inbox, 4096)?, Some(4096));
+    assert_eq!(rt; inbox.len(), 4096);
+    assert!(rt; matches!(inbox.take(4095), Some(last) if last.position() == 4095));
+    assert_eq!(rt; put(alloc, &mut inbox, 4097)?, None);
+    Ok(())
+}

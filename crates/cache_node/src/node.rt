@@ -1,0 +1,288 @@
+//! `CacheNode`.
+ghost use Rattle.std.specs.Prelude.{◌≡◌, ◌↔◌, ◌+◌, ◌-◌, ◌≤◌, ℕ, [], All, Some, if◌then◌else◌, drop, is_some, length, option_copied, take, true, IfNone, IfOk, IfSome, IsNone, IsSome, IsTrue, OnErr, OnSome};
+ghost use Rattle.std.specs.List.{IsDistinct};
+ghost use Rattle.std.specs.Map.{keys_of as keys_held};
+ghost use Rattle.lru.specs.LruCache.{last_entry, promoted};
+ghost use Rattle.ask_table.specs.Asks.{IsTable, is_full};
+ghost use Rattle.graph_model.specs.Answers.{key_of};
+ghost use Rattle.graph_model.specs.Keys.{key_shard, same_key};
+ghost use Rattle.graph_model.specs.Told.{WhereTold};
+ghost use Rattle.changeset.specs.Changes.{IsOneTouch};
+ghost use Rattle.maint_msg.specs.Maints.{IsMaint};
+ghost use Rattle.sealed_item.specs.Fills.{IsSealed};
+ghost use Rattle.tao_schema.specs.Schema.{types_of};
+ghost use Rattle.cache_node.specs.Answered.{LookAnswers, ViewAnswers};
+ghost use Rattle.cache_node.specs.Delivered.{AreSome, dropped_lists};
+ghost use Rattle.cache_node.specs.Fields.{AreNotesOf, AreReached, begun_at, empty_node, emptied};
+ghost use Rattle.cache_node.specs.Kept.{GivesKept, ask_at, kept_of, own_kept_of, took};
+ghost use Rattle.cache_node.specs.Look.{content_answer, content_decides, look_of, looked_at};
+ghost use Rattle.cache_node.specs.Node.{IsLowWater, caught_up, delivered, drop_count, with_ended, item_at, log_at, low_at, met, served_at, top_at, view_at, with_opened, without, without_last};
+ghost use Rattle.cache_node.specs.Taken.{ChangesItems, with_change};
+ghost use Rattle.cache_node.specs.True.{IsTrueNode};
+
+use crate::delivered::Delivered;
+use crate::holdings::Holdings;
+use crate::item::{Item, shard_of};
+use crate::look::{Kept, Look};
+use ask_table::AskNo;
+use changeset::Changeset;
+use maint_msg::Maint;
+use sealed_item::Fill;
+use shard_log::Note;
+use shard_log::growth::notes_are_sound;
+use std::alloc::Global;
+use std::marker::Model;
+use tao_base::{Answer, Entry, Key, OutOfMemory, Query};
+use tao_schema::Schema;
+
+/// A cache node. It serves some shards, and holds at most so many items of them.
+///
+/// Where the log of a shard is told, each item of the shard is exact in what the node has seen of that
+/// log, and takes in each touch of its key at a position that the node has processed; and the floors
+/// of the open asks hold every touch since they began.
+#[derive(Drop)]
+pub struct CacheNode {
+    holdings: Holdings,
+}
+
+impl Model for CacheNode {
+    ghost use Rattle.cache_node.specs.Node.{Node};
+    ghost use Rattle.cache_node.specs.True.{IsTrueNode};
+
+    ghost Value = { Node };
+
+    ghost view = { λ n. n.holdings };
+
+    ghost invariant = { λ n. IsTrueNode n.holdings };
+}
+
+/// Every node is true of the logs that it has seen, and holds no key twice.
+pub fn nodes_are_true(node: &CacheNode)
+    ensures truth { IsTrueNode node.now }
+    ensures apart { IsDistinct same_key (keys_held node.now.items) }
+    ensures few { length node.now.items ≤ node.now.most }
+    ensures asks { IsTable node.now.asks }
+{
+    node.holdings.keys_differ();
+}
+
+fn is_sealed(fill: &Fill)
+    ensures { IsSealed fill.now }
+{
+    let _ = fill.content();
+    let _ = fill.as_of();
+}
+
+fn is_one_touch(change: &Changeset)
+    ensures { IsOneTouch change.now }
+{
+    let _ = change.change();
+    let _ = change.before();
+}
+
+fn is_message(message: &Maint)
+    ensures { IsMaint message.now }
+{
+    let _ = message.keys();
+}
+
+impl CacheNode {
+    /// A node without items and asks, with a mark and a note for each shard that it serves.
+    pub fn make(
+        alloc: Global,
+        items: usize,
+        served: &[u16],
+        lows: &[u64],
+        notes: Vec<Note>,
+    ) -> Result<CacheNode, OutOfMemory>
+        requires some { 1 ≤ items }
+        requires each { length served.now ≡ length lows.now }
+        requires reached { AreReached lows.now notes.items }
+        ensures { IfOk result (λ node. node ≡ empty_node items (begun_at served.now lows.now notes.items)) }
+    {
+        let holdings = Holdings::make(alloc, items, served, lows, notes)?;
+        Ok(CacheNode { holdings })
+    }
+
+    /// A second note of the log of a shard: what the node has seen of it, in which its items are exact.
+    pub fn note(&mut self, shard: u16) -> Result<Note, OutOfMemory>
+        requires { IsSome (served_at shard self.old.served) }
+        ensures same { self.new ≡ self.old }
+        ensures view { IfOk result (λ note. view_at shard self.old.served ≡ Some note) }
+    {
+        self.holdings.note(shard)
+    }
+
+    /// The low-water mark of the shard: every position up to it was processed. 0 where the shard isn't
+    /// served. Takes no memory.
+    pub fn low(&self, shard: u16) -> u64
+        ensures value { result ≡ low_at shard self.now.served }
+        ensures marks { IfSome (served_at shard self.now.served) (λ s. IsLowWater s.marks) }
+    {
+        self.holdings.low(shard)
+    }
+
+    /// The item at the key. The order stays.
+    pub fn item(&self, key: Key) -> Option<&Item>
+        ensures { option_copied result ≡ item_at self.now.items key }
+    {
+        self.holdings.item(&key)
+    }
+
+    /// The answer to a query: a hit where the key's item has the floor's version or more and decides
+    /// the query. That item then stands first; a miss leaves the order. After want of memory nothing
+    /// has changed.
+    pub fn look(&mut self, schema: &Schema, query: &Query, floor: u64) -> Result<Look, OutOfMemory>
+        ensures look { IfOk result (λ look. look ≡ look_of (types_of schema.now) (item_at self.old.items (key_of query.now)) query.now floor) }
+        ensures node { IfOk result (λ look. self.new ≡ looked_at (key_of query.now) look self.old) }
+        ensures err { OnErr result (self.new ≡ self.old) }
+        ensures legal { IfOk result (LookAnswers (types_of schema.now) self.old.served query.now) }
+    {
+        self.holdings.keys_differ();
+        self.holdings.look(schema, query, floor)
+    }
+
+    /// Opens an ask on the key, with the low-water mark of its shard and floor 0, and forgets what is
+    /// marked ahead of that mark. None, and nothing changed, exactly where 256 are open or the numbers
+    /// are used up. Takes no memory.
+    pub fn begin_ask(&mut self, key: Key) -> Option<AskNo>
+        requires { IsSome (served_at (key_shard key) self.old.served) }
+        ensures full { IsNone result ↔ IsTrue (is_full self.old.asks) }
+        ensures number { IfSome result (λ ask. ask ≡ self.old.asks.given + 1) }
+        ensures begun { OnSome result (self.new ≡ with_opened key self.old) }
+        ensures none { IfNone result (self.new ≡ self.old) }
+    {
+        self.holdings.begin_ask(&key)
+    }
+
+    /// Ends an ask without a fill. One that isn't open is ignored. Takes no memory.
+    pub fn end_ask(&mut self, ask: AskNo)
+        ensures { self.new ≡ with_ended (Some ask) self.old }
+    {
+        self.holdings.end_ask(ask);
+    }
+
+    /// Answers from the fill, and keeps it where its ask is open and it has the ask's mark and floor.
+    /// The ask ends. A kept fill stands first, and raises the other asks on its key.
+    ///
+    /// The one error is want of memory for the answer: the ask has ended, and nothing else changed.
+    pub fn take_fill(
+        &mut self,
+        schema: &Schema,
+        ask: Option<AskNo>,
+        query: &Query,
+        fill: Fill,
+    ) -> Result<(Answer, Kept), OutOfMemory>
+        requires key { fill.key ≡ key_of query.now }
+        requires decides { content_decides (types_of schema.now) fill.content query.now ≡ true }
+        requires log { log_at (key_shard fill.key) self.old.served ≡ Some fill.note.log }
+        requires ask { IfSome ask (λ no. IfSome (ask_at no self.old.asks) (λ a. a.key ≡ fill.key)) }
+        ensures answer { IfOk result (λ r. r.0 ≡ content_answer (types_of schema.now) fill.content query.now) }
+        ensures kept { IfOk result (λ r. GivesKept (kept_of ask self.old.asks fill.version fill.as_of) r.1) }
+        ensures node { IfOk result (λ r. self.new ≡ took fill r.1 (with_ended ask self.old)) }
+        ensures err { OnErr result (self.new ≡ with_ended ask self.old) }
+        ensures legal { IfOk result (λ r. ViewAnswers (types_of schema.now) fill.note query.now r.0 fill.version) }
+    {
+        is_sealed(&fill);
+        self.holdings.keys_differ();
+        self.holdings.take_fill(schema, ask, query, fill)
+    }
+
+    /// Answers from the fill, and keeps it where it is as of every position that is marked. It needs no
+    /// ask, and forgets no mark.
+    ///
+    /// The one error is want of memory for the answer, after which nothing has changed.
+    pub fn keep_own(
+        &mut self,
+        schema: &Schema,
+        query: &Query,
+        fill: Fill,
+    ) -> Result<(Answer, Kept), OutOfMemory>
+        requires key { fill.key ≡ key_of query.now }
+        requires decides { content_decides (types_of schema.now) fill.content query.now ≡ true }
+        requires log { log_at (key_shard fill.key) self.old.served ≡ Some fill.note.log }
+        ensures answer { IfOk result (λ r. r.0 ≡ content_answer (types_of schema.now) fill.content query.now) }
+        ensures kept { IfOk result (λ r. GivesKept (own_kept_of (top_at (key_shard fill.key) self.old.served) fill.as_of) r.1) }
+        ensures node { IfOk result (λ r. self.new ≡ took fill r.1 self.old) }
+        ensures err { OnErr result (self.new ≡ self.old) }
+        ensures legal { IfOk result (λ r. ViewAnswers (types_of schema.now) fill.note query.now r.0 fill.version) }
+    {
+        is_sealed(&fill);
+        self.holdings.keys_differ();
+        self.holdings.keep_own(schema, query, fill)
+    }
+
+    /// Takes one touch of the log: an item of the version before it takes the change, an older one is
+    /// dropped, and so is one for which memory is wanted. Raises the asks on its key. Nothing is
+    /// marked. A changeset of a shard that isn't served changes nothing.
+    pub fn take_changeset(&mut self, schema: &Schema, change: Changeset)
+        requires { IfSome (log_at (key_shard change.key) self.old.served) (λ log. log ≡ change.note.log) }
+        ensures items { OnSome (served_at (key_shard change.key) self.old.served) (ChangesItems (types_of schema.now) change self.old.items self.new.items) }
+        ensures node { OnSome (served_at (key_shard change.key) self.old.served) (self.new ≡ with_change change self.new.items self.old) }
+        ensures unserved { IfNone (served_at (key_shard change.key) self.old.served) (self.new ≡ self.old) }
+    {
+        is_one_touch(&change);
+        if self.holdings.serves(shard_of(&change.key())) {
+            self.holdings.keys_differ();
+            self.holdings.take_changeset(schema, change);
+        }
+    }
+
+    /// Processes a message: drops each named item that is below its version, raises the asks on the
+    /// named keys, and marks the position.
+    ///
+    /// Whatever memory there is, the message is processed; a row for a dropped list is left out where
+    /// none is found for it.
+    pub fn deliver(&mut self, message: Maint) -> Delivered
+        requires { log_at message.shard self.old.served ≡ Some message.note.log }
+        ensures count { result.dropped ≡ drop_count self.old.items message.keys }
+        ensures lists { AreSome result.lists (dropped_lists self.old.items message.keys) }
+        ensures node { self.new ≡ delivered message self.old }
+    {
+        is_message(&message);
+        self.holdings.keys_differ();
+        self.holdings.deliver(message)
+    }
+
+    /// Processes the entries of the log that follow the low-water mark. Takes no memory.
+    pub fn catch_up(&mut self, shard: u16, entries: &[Entry], note: Note)
+        requires log { log_at shard self.old.served ≡ Some note.log }
+        requires next { WhereTold note.log.told (entries.now ≡ take (length entries.now) (drop (low_at shard self.old.served) note.entries)) }
+        requires here { WhereTold note.log.told (All (λ e. All (λ t. key_shard t.key ≡ shard) e.touches) entries.now) }
+        ensures { self.new ≡ caught_up shard entries.now (met shard note self.old) }
+    {
+        notes_are_sound(&note);
+        self.holdings.keys_differ();
+        self.holdings.meet(shard, note);
+        self.holdings.catch_up(shard, entries);
+    }
+
+    /// Drops the item at the key, and answers whether there was one. Takes no memory.
+    pub fn evict(&mut self, key: Key) -> bool
+        ensures held { result ≡ is_some (item_at self.old.items key) }
+        ensures rest { self.new ≡ record self.old { items = without key self.old.items } }
+    {
+        self.holdings.keys_differ();
+        self.holdings.evict(&key)
+    }
+
+    /// Drops the item that was used least recently, and answers whether there was one. Takes no
+    /// memory.
+    pub fn evict_last(&mut self) -> bool
+        ensures held { result ≡ is_some (last_entry self.old.items) }
+        ensures rest { self.new ≡ record self.old { items = without_last self.old.items } }
+    {
+        self.holdings.keys_differ();
+        self.holdings.evict_last()
+    }
+
+    /// Drops every item, ends every ask, and begins anew at these marks, with these notes met. Takes no
+    /// memory.
+    pub fn reset(&mut self, lows: &[u64], notes: Vec<Note>)
+        requires logs { AreNotesOf self.old.served notes.items }
+        requires reached { AreReached lows.now notes.items }
+        ensures { self.new ≡ emptied lows.now notes.items self.old }
+    {
+        self.holdings.reset(lows, notes);
+    }
+}

@@ -21,11 +21,11 @@ use Rattle.list_prefix.specs.ListPrefix.{ListPrefix}
 use Rattle.sealed_item.specs.Fills.{IsExactContent, IsSealed, SealedItem}
 use Rattle.sealed_item.specs.declared.content.Content.{Content}
 use Rattle.sealed_item.specs.declared.content.Content.TheVariants.{Object as ObjectIs, List as ListIs}
-use Rattle.cache_node.specs.declared.item.Item.{Item}
-use Rattle.cache_node.specs.declared.look.Look.{Look}
+use Rattle.cache_items.specs.declared.item.Item.{Item}
+use Rattle.cache_items.specs.declared.look.Look.{Look}
 use Rattle.cache_node.specs.Answered.{IsExactAnswer, LookAnswers, ViewAnswers}
-use Rattle.cache_node.specs.Look.{content_answer, content_decides, look_of}
-use Rattle.cache_node.specs.Node.{Node, ServedShard, item_at, served_at}
+use Rattle.cache_items.specs.Look.{content_answer, content_decides, look_of}
+use Rattle.cache_items.specs.Node.{Node, ServedShard, item_at, served_at}
 use Rattle.cache_node.specs.True.{AreTold, IsTrueNode}
 
 -- first edges that decide a query answer as each list of which they are exact

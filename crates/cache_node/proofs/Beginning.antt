@@ -10,9 +10,9 @@ use Rattle.low_water.specs.Marks.{is_marked, marks}
 use Rattle.ask_table.specs.declared.ask.Ask.{Ask}
 use Rattle.ask_table.specs.Asks.{Asks, asks_of, without_shard}
 use Rattle.ask_table.specs.Open.{is_on_shard}
-use Rattle.cache_node.specs.Fields.{AreReached, begun_at, empty_node, emptied, ended_on, restarted}
-use Rattle.cache_node.specs.Meetings.{AreSeenSound, MeetEach}
-use Rattle.cache_node.specs.Node.{Items, Node, ServedShard, restarting, served_at}
+use Rattle.cache_items.specs.Fields.{AreReached, begun_at, empty_node, emptied, ended_on, restarted}
+use Rattle.cache_items.specs.Meetings.{AreSeenSound, MeetEach}
+use Rattle.cache_items.specs.Node.{Items, Node, ServedShard, restarting, served_at}
 use Rattle.cache_node.specs.True.{IsServed, IsTrueNode, IsTrueServed}
 
 -- a node without items and asks is true where its shards are
@@ -72,33 +72,3 @@ restarted_true (s ∷ ss) (low ∷ lows) (note ∷ notes) reached meets k after 
 
 pub emptied_is_true : (n : Node) (lows : List ℕ) (notes : List View) → AreReached lows notes → MeetEach n.served notes → IsTrueNode (emptied lows notes n)
 emptied_is_true n lows notes reached meets = empty_is_true (emptied lows notes n) refl refl (restarted_true n.served lows notes reached meets)
-
--- a key whose shard isn't this one is of one of the others
-other_served : (s : ServedShard) (ss : List ServedShard) (k : ℕ) → (k == s.shard) ≡ false → IsServed (s ∷ ss) k → IsServed ss k
-other_served s ss k apart served =
-    let off : (s.shard == k) ≡ false = ne_eqb s.shard k (λ e. eqb-false k s.shard apart (sym e)) in
-    rw off at served
-
-filtered : (s : ServedShard) (ss : List ServedShard) (asks : List Ask) → AllByRecursion (λ a. IsServed (s ∷ ss) (key_shard a.key)) asks
-    → AllByRecursion (λ a. IsServed ss (key_shard a.key)) (filter (λ a. not (is_on_shard s.shard a)) asks)
-filtered s ss [] here = tt
-filtered s ss (a ∷ asks) here = elim (cases_Bool (key_shard a.key == s.shard)) [
-  | inl on ↦ rw on (filtered s ss asks here.1)
-  | inr off ↦ rw off (other_served s ss (key_shard a.key) off here.0, filtered s ss asks here.1)
-]
-
--- where each ask is on a key of a served shard, no ask is left without those
-pub none_left : (ss : List ServedShard) (t : Asks) → AllByRecursion (λ a. IsServed ss (key_shard a.key)) t.asks → ended_on ss t ≡ asks_of [] t.given
-none_left [] t here = ap (λ l. asks_of l t.given) (no_asks t.asks here)
-  where
-    no_asks : (l : List Ask) → AllByRecursion (λ a. IsServed [] (key_shard a.key)) l → l ≡ []
-    no_asks [] here = refl
-    no_asks (a ∷ l) here = absurd (let none = here.0 in cc)
-none_left (s ∷ ss) t here = none_left ss (without_shard s.shard t) (filtered s ss t.asks here)
-
-abbrev pub node_with : Items → ℕ → Asks → List ServedShard → Node
-node_with items most asks served = record { items = items; most = most; asks = asks; served = served }
-
-pub node_is : (items items2 : Items) (most most2 : ℕ) (asks asks2 : Asks) (served served2 : List ServedShard) → items ≡ items2 → most ≡ most2 → asks ≡ asks2 → served ≡ served2
-    → node_with items most asks served ≡ node_with items2 most2 asks2 served2
-node_is items items2 most most2 asks asks2 served served2 a b c d = λ i. record { items = a i; most = b i; asks = c i; served = d i }

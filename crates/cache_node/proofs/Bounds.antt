@@ -1,35 +1,25 @@
 -- Items stay no longer than the bounds of their types.
-use Rattle.std.proofs.Common.{◌≡◌, ℕ, ◌+◌, ◌-◌, ◌≤◌, List, [], ◌∷◌, length, Option, Some, None, sym, subst, inl, inr, ◌⊎◌, arith}
-use Rattle.std.proofs.lemmas.Bool.{cases_Bool, ltb-false}
-use Rattle.std.proofs.lemmas.List.{length-take}
+use Rattle.std.proofs.Common.{◌≡◌, ℕ, ◌+◌, ◌-◌, ◌≤◌, List, [], ◌∷◌, length, Option, Some, None, refl, sym, subst, inl, inr, ◌⊎◌, arith}
 use Rattle.std.specs.List.{IsDistinct}
 use Rattle.std.specs.Map.{keys_of as keys_held}
-use Rattle.std.specs.Prelude.{◌||◌, nat_eq, nat_lt}
 use Rattle.tao_base.specs.EdgeTypes.{EdgeTypes}
-use Rattle.tao_base.specs.declared.edge.Edge.{Edge}
 use Rattle.tao_base.specs.declared.entry.Change.{Change}
-use Rattle.tao_base.specs.declared.entry.Change.TheVariants.{PutObject, DropObject, SetEdge, CutEdge}
 use Rattle.tao_base.specs.declared.entry.Entry.{Entry}
 use Rattle.tao_base.specs.declared.id.Key.{Key}
 use Rattle.tao_base.specs.declared.id.Key.TheVariants.{Obj, List as Assocs}
-use Rattle.graph_model.proofs.Applied.{length_insert}
-use Rattle.graph_model.specs.Edges.{without_edge}
 use Rattle.graph_model.specs.Keys.{same_key}
-use Rattle.graph_model.specs.Prefixes.{is_before_last, put_among}
-use Rattle.list_prefix.proofs.Changed.{length_rest}
-use Rattle.list_prefix.specs.Changes.{fallen, prefix_after, shortened}
-use Rattle.list_prefix.specs.ListPrefix.{ListPrefix}
+use Rattle.list_prefix.proofs.Exact.{after_bounded}
 use Rattle.changeset.specs.Changes.{SeenChange}
 use Rattle.maint_msg.specs.KeyVersions.{keys_of}
 use Rattle.sealed_item.specs.declared.content.Content.{Content}
 use Rattle.sealed_item.specs.declared.content.Content.TheVariants.{Object as ObjectIs, List as ListIs}
 use Rattle.cache_node.proofs.Keys.{held_fewer, held_kept, held_promoted, held_set, held_take}
 use Rattle.cache_node.proofs.Processing.{distinct_dropped, held_dropped}
-use Rattle.cache_node.specs.declared.item.Item.{Item}
-use Rattle.cache_node.specs.Kept.{kept_items}
+use Rattle.cache_items.specs.declared.item.Item.{Item}
+use Rattle.cache_items.specs.Kept.{kept_items}
 use Rattle.cache_node.specs.Laws.{ItemsAreFewer, ItemsStayWithin}
-use Rattle.cache_node.specs.Node.{Items, Node, caught_up, item_at, processed}
-use Rattle.cache_node.specs.Taken.{CanTake, TakesChange, changed_content, changed_item, key_bound}
+use Rattle.cache_items.specs.Node.{Items, Node, caught_up, item_at, processed}
+use Rattle.cache_items.specs.Taken.{TakesChange, changed_content, changed_item, key_bound}
 use Rattle.cache_node.specs.Within.{AreFewer, AreWithin, IsWithinBound}
 
 pub items_are_fewer : (items : Items) (distinct : IsDistinct same_key (keys_held items)) → ItemsAreFewer items distinct
@@ -40,32 +30,12 @@ items_are_fewer items distinct = record {
   left = λ keys q item h. (held_dropped keys items q item distinct h).0;
 }
 
-length_shortened : (bound : ℕ) (xs : List Edge) → length xs ≤ bound + 1 → length (shortened bound xs) ≤ bound
-length_shortened bound xs le = elim (cases_Bool (nat_lt bound (length xs))) [
-  | inl over ↦ rw over (let cut = length-take (length xs - 1) xs in omega arith)
-  | inr fits ↦ rw fits (ltb-false bound (length xs) fits)
-]
-
-length_among : (e : Edge) (xs : List Edge) (total : ℕ) → length (put_among e xs total) ≤ length xs + 1
-length_among e xs total = let more = length_insert e xs in elim (cases_Bool (nat_eq (length xs) total || is_before_last e xs)) [
-  | inl k ↦ rw k (omega arith)
-  | inr k ↦ rw k (omega arith)
-]
-
-length_after : (change : Change) (p : ListPrefix) (bound : ℕ) → length p.edges ≤ bound → length (prefix_after change p bound).edges ≤ bound
-length_after (SetEdge e was) p bound le =
-    let rest = length_rest e.id2 p.edges in
-    let more = length_among e (without_edge e.id2 p.edges) (fallen was (length (without_edge e.id2 p.edges)) p.total) in
-    length_shortened bound (put_among e (without_edge e.id2 p.edges) (fallen was (length (without_edge e.id2 p.edges)) p.total)) (omega arith)
-length_after (CutEdge id2 stamp was) p bound le = let rest = length_rest id2 p.edges in length_shortened bound (without_edge id2 p.edges) (omega arith)
-length_after (PutObject object) p bound le = le
-length_after DropObject p bound le = le
-
-content_within : (types : EdgeTypes) (key : Key) (content : Content) (change : Change) → CanTake (key_bound types key) content → IsWithinBound types key (changed_content content change (key_bound types key))
-content_within types (Obj id) (ObjectIs found) change can = tt
-content_within types (Obj id) (ListIs prefix) change can = tt
-content_within types (Assocs id1 atype) (ObjectIs found) change can = tt
-content_within types (Assocs id1 atype) (ListIs prefix) change can = length_after change prefix (types.bound atype) can.0
+content_within : (types : EdgeTypes) (key : Key) (content : Content) (change : Change) → IsWithinBound types key content
+    → IsWithinBound types key (changed_content content change (key_bound types key))
+content_within types (Obj id) (ObjectIs found) change within = tt
+content_within types (Obj id) (ListIs prefix) change within = tt
+content_within types (Assocs id1 atype) (ObjectIs found) change within = tt
+content_within types (Assocs id1 atype) (ListIs prefix) change within = let few = after_bounded change prefix (types.bound atype) in omega arith
 
 added_within : (types : EdgeTypes) (items new : Items) (key : Key) (item : Item) → ((q : Key) (other : Item) → item_at new q ≡ Some other → ((q ≡ key) × (other ≡ item)) ⊎ (item_at items q ≡ Some other))
     → IsWithinBound types key item.content → AreWithin types items → AreWithin types new
@@ -74,14 +44,14 @@ added_within types items new key item cases bound within q other h = elim (cases
   | inr was ↦ within q other was
 ]
 
-changed_within : (types : EdgeTypes) (items : Items) (c : SeenChange) (new : Items) (o : Option Item) → IsDistinct same_key (keys_held items) → TakesChange (key_bound types c.key) o c items new → AreWithin types items → AreWithin types new
-changed_within types items c new None distinct same within = subst (AreWithin types) (sym same) within
-changed_within types items c new (Some item) distinct (inl stays) within = subst (AreWithin types) (sym stays.1) within
-changed_within types items c new (Some item) distinct (inr (inl takes)) within =
+changed_within : (types : EdgeTypes) (items : Items) (c : SeenChange) (new : Items) (o : Option Item) → IsDistinct same_key (keys_held items) → item_at items c.key ≡ o → TakesChange (key_bound types c.key) o c items new → AreWithin types items → AreWithin types new
+changed_within types items c new None distinct held same within = subst (AreWithin types) (sym same) within
+changed_within types items c new (Some item) distinct held (inl stays) within = subst (AreWithin types) (sym stays.1) within
+changed_within types items c new (Some item) distinct held (inr (inl takes)) within =
     added_within types items new c.key (changed_item item c.change c.after (key_bound types c.key))
-    (λ q other h. held_set items c.key (changed_item item c.change c.after (key_bound types c.key)) q other (subst (λ xs. item_at xs q ≡ Some other) takes.2 h))
-    (content_within types c.key item.content c.change takes.1) within
-changed_within types items c new (Some item) distinct (inr (inr goes)) within = λ q other h. within q other (held_fewer c.key q items other distinct (subst (λ xs. item_at xs q ≡ Some other) goes.1 h))
+    (λ q other h. held_set items c.key (changed_item item c.change c.after (key_bound types c.key)) q other (subst (λ xs. item_at xs q ≡ Some other) takes.1 h))
+    (content_within types c.key item.content c.change (within c.key item held)) within
+changed_within types items c new (Some item) distinct held (inr (inr goes)) within = λ q other h. within q other (held_fewer c.key q items other distinct (subst (λ xs. item_at xs q ≡ Some other) goes.1 h))
 
 caught_fewer : (shard : ℕ) (entries : List Entry) (n : Node) → IsDistinct same_key (keys_held n.items) → AreFewer n.items (caught_up shard entries n).items
 caught_fewer shard [] n distinct q item h = h
@@ -92,7 +62,7 @@ pub items_stay_within : (types : EdgeTypes) (items : Items) → ItemsStayWithin 
 items_stay_within types items = record {
   fewer = λ new less within q item h. within q item (less q item h);
   kept = λ most key item distinct bound within. added_within types items (kept_items items most key item) key item (λ q other h. held_kept items most key item q other distinct h) bound within;
-  changed = λ c new distinct takes within. changed_within types items c new (item_at items c.key) distinct takes within;
+  changed = λ c new distinct takes within. changed_within types items c new (item_at items c.key) distinct refl takes within;
   caught = λ shard entries n same distinct within q item h.
       within q item (subst (λ xs. item_at xs q ≡ Some item) same (caught_fewer shard entries n (subst (λ xs. IsDistinct same_key (keys_held xs)) (sym same) distinct) q item h));
 }

@@ -1,5 +1,5 @@
 -- A node that takes a changeset stays true of its logs.
-use Rattle.std.proofs.Common.{◌≡◌, ℕ, ◌+◌, ◌≤◌, List, Option, Some, None, refl, sym, subst, inl, inr, arith, take}
+use Rattle.std.proofs.Common.{◌≡◌, ℕ, ◌+◌, ◌<◌, ◌≤◌, ◌^◌, List, Option, Some, None, refl, sym, subst, inl, inr, arith, take}
 use Rattle.std.proofs.lemmas.List.Elements.{All-contains}
 use Rattle.std.specs.List.{IsDistinct}
 use Rattle.std.specs.Map.{keys_of as keys_held}
@@ -24,21 +24,20 @@ use Rattle.cache_node.proofs.Keys.{held_fewer, held_set}
 use Rattle.cache_node.proofs.Raised.{raised_is_true}
 use Rattle.cache_node.proofs.ServedAt.{changed_here, changed_served, told_before}
 use Rattle.cache_node.proofs.Truth.{added_is_true, fewer_is_true, seeing_keeps, met_is_true}
-use Rattle.cache_node.specs.declared.item.Item.{Item}
-use Rattle.cache_node.specs.Meetings.{MeetsAt}
-use Rattle.cache_node.specs.Node.{Items, Node, ServedShard, changed_at, item_at, seeing, met, served_at}
-use Rattle.cache_node.specs.Taken.{CanTake, TakesChange, changed_content, changed_item, with_change}
+use Rattle.cache_items.specs.declared.item.Item.{Item}
+use Rattle.cache_items.specs.Meetings.{MeetsAt}
+use Rattle.cache_items.specs.Node.{Items, Node, ServedShard, changed_at, item_at, seeing, met, served_at}
+use Rattle.cache_items.specs.Taken.{TakesChange, changed_content, changed_item, with_change}
 use Rattle.cache_node.specs.True.{AreTold, IsServed, IsTrueNode}
 
 -- a content that is exact below a touch's version is exact at it after the touch's change
-content_follows : (log : List Entry) (t : Touch) (key : Key) (v : ℕ) (content : Content) (bound : ℕ) → IsSound log → IsTouchOf log t → t.key ≡ key → t.version ≡ v + 1 → CanTake bound content
+content_follows : (log : List Entry) (t : Touch) (key : Key) (v : ℕ) (content : Content) (bound : ℕ) → IsSound log → IsTouchOf log t → t.key ≡ key → t.version ≡ v + 1 → t.version < 2 ^ 64
     → IsExactContent log key v content → IsExactContent log key (v + 1) (changed_content content t.change bound)
-content_follows log t (Obj id) v (ObjectIs found) bound sound touch key next can exact = (exact_follows log t).object_follows sound touch id v found key next exact
-content_follows log t (Obj id) v (ListIs prefix) bound sound touch key next can exact = absurd exact
-content_follows log t (Assocs id1 atype) v (ObjectIs found) bound sound touch key next can exact = absurd exact
-content_follows log t (Assocs id1 atype) v (ListIs prefix) bound sound touch key next can exact =
-    let after = stays_exact t.change prefix (prefix_after t.change prefix bound) bound refl log t id1 atype v sound touch key refl next can.1 (record { exact = exact.exact; bounded = can.0 }) in
-    record { exact = after.exact; bounded = omega arith }
+content_follows log t (Obj id) v (ObjectIs found) bound sound touch key next bits exact = (exact_follows log t).object_follows sound touch id v found key next exact
+content_follows log t (Obj id) v (ListIs prefix) bound sound touch key next bits exact = absurd exact
+content_follows log t (Assocs id1 atype) v (ObjectIs found) bound sound touch key next bits exact = absurd exact
+content_follows log t (Assocs id1 atype) v (ListIs prefix) bound sound touch key next bits exact =
+    (stays_exact t.change prefix (prefix_after t.change prefix bound) bound refl).exact log t id1 atype v sound touch key refl next bits exact
 
 -- the version of a touch is one that its key has reached
 touch_reached : (log : List Entry) (t : Touch) → IsSound log → IsTouchOf log t → t.version ≤ version log t.key
@@ -49,8 +48,8 @@ touch_reached log t sound touch =
 
 -- a changeset was taken
 pub changed_is_true : (n : Node) (c : SeenChange) (bound : ℕ) (items : Items) → IsDistinct same_key (keys_held n.items) → IsTrueNode n → IsServed n.served (key_shard c.key)
-    → MeetsAt (key_shard c.key) c.note n.served → IsOneTouch c → TakesChange bound (item_at n.items c.key) c n.items items → IsTrueNode (with_change c items n)
-changed_is_true n c bound items distinct is served meets touch takes =
+    → MeetsAt (key_shard c.key) c.note n.served → IsOneTouch c → c.after < 2 ^ 64 → TakesChange bound (item_at n.items c.key) c n.items items → IsTrueNode (with_change c items n)
+changed_is_true n c bound items distinct is served meets touch bits takes =
     let m : Node = met (key_shard c.key) c.note n in
     let met_true = met_is_true n (key_shard c.key) c.note is meets in
     let taken = by_item met_true (item_at n.items c.key) refl takes in
@@ -75,7 +74,7 @@ changed_is_true n c bound items distinct is served meets touch takes =
         fewer_is_true (met (key_shard c.key) c.note n) items met_true (λ key other h. held_fewer c.key key n.items other distinct (subst (λ xs. item_at xs key ≡ Some other) goes.1 h))
     by_item met_true (Some item) some (inr (inl takes)) =
         let new = changed_item item c.change c.after bound in
-        added_is_true (met (key_shard c.key) c.note n) items c.key new met_true (λ q other h. held_set n.items c.key new q other (subst (λ xs. item_at xs q ≡ Some other) takes.2 h))
+        added_is_true (met (key_shard c.key) c.note n) items c.key new met_true (λ q other h. held_set n.items c.key new q other (subst (λ xs. item_at xs q ≡ Some other) takes.1 h))
         (changed_served (key_shard c.key) (key_shard c.key) (seeing c.note) n.served (seeing_keeps c.note) served)
         (λ s told was at.
         let before = was.items c.key item s some at in
@@ -83,6 +82,6 @@ changed_is_true n c bound items distinct is served meets touch takes =
         let version : c.after ≡ item.version + 1 = let same = takes.0 in omega arith in
         record {
           exact = subst (λ v. IsExactContent s.view.entries c.key v (changed_content item.content c.change bound)) (sym version)
-              (content_follows s.view.entries (touch_of c) c.key item.version item.content bound (was.served (key_shard c.key) s at).sound (in_view s told at) refl version takes.1 before.exact);
+              (content_follows s.view.entries (touch_of c) c.key item.version item.content bound (was.served (key_shard c.key) s at).sound (in_view s told at) refl version bits before.exact);
           reaches = λ p v on there. let le = before.reaches p v on there in omega arith;
         })

@@ -28,11 +28,11 @@ use Rattle.cache_node.proofs.Marked.{version_is}
 use Rattle.cache_node.proofs.Raised.{raised_is_true}
 use Rattle.cache_node.proofs.ServedAt.{changed_here, changed_served, told_before}
 use Rattle.cache_node.proofs.Truth.{added_is_true, asks_are_true, seeing_keeps, met_is_true, touched_back}
-use Rattle.cache_node.specs.declared.look.Kept.{Kept}
-use Rattle.cache_node.specs.declared.look.Kept.TheVariants.{Yes, Asks as NoAsk, Lost, Mark, Floor, Memory}
-use Rattle.cache_node.specs.Kept.{GivesKept, admits, ask_at, is_yes, item_of, kept_items, kept_of, own_kept_of, took, with_item}
-use Rattle.cache_node.specs.Meetings.{Meets, MeetsAt}
-use Rattle.cache_node.specs.Node.{Node, ServedShard, with_ended, seeing, met, served_at, top_at}
+use Rattle.cache_items.specs.declared.look.Kept.{Kept}
+use Rattle.cache_items.specs.declared.look.Kept.TheVariants.{Yes, Asks as NoAsk, Lost, Mark, Floor, Memory}
+use Rattle.cache_items.specs.Kept.{GivesKept, admits, ask_at, is_yes, item_of, kept_items, kept_of, own_kept_of, took, with_item}
+use Rattle.cache_items.specs.Meetings.{Meets, MeetsAt}
+use Rattle.cache_items.specs.Node.{Node, ServedShard, with_ended, seeing, met, served_at, top_at}
 use Rattle.cache_node.specs.True.{AreTold, IsServed, IsTrueAsk, IsTrueAskOf, IsTrueNode, IsTrueOfLogs, IsTrueServed, touched}
 
 -- an exact content's version is one that the key has reached

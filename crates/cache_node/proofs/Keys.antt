@@ -12,9 +12,9 @@ use Rattle.lru.specs.LruCache.{lru_cache, promoted, put_entries}
 use Rattle.tao_base.specs.declared.id.Key.{Key}
 use Rattle.graph_model.proofs.Keys.{same_key-same, same_key-self}
 use Rattle.graph_model.specs.Keys.{same_key}
-use Rattle.cache_node.specs.declared.item.Item.{Item}
-use Rattle.cache_node.specs.Kept.{kept_items, stays}
-use Rattle.cache_node.specs.Node.{Items, item_at, without}
+use Rattle.cache_items.specs.declared.item.Item.{Item}
+use Rattle.cache_items.specs.Kept.{kept_items, stays}
+use Rattle.cache_items.specs.Node.{Items, item_at, without}
 
 same_key-symm : (x y : Key) → same_key x y ≡ same_key y x
 same_key-symm x y = elim (cases_Bool (same_key x y)) [

@@ -1,5 +1,5 @@
 -- What each call leaves is true of its logs.
-use Rattle.std.proofs.Common.{◌≡◌, ℕ, ◌-◌, Bool, true, false, List, [], ◌∷◌, length, take, Option, Some, None, Result, Ok, Err, IfOk, OnErr, refl, sym, ◌∙◌, ap, subst, arith}
+use Rattle.std.proofs.Common.{◌≡◌, ℕ, ◌-◌, ◌<◌, ◌^◌, Bool, true, false, List, [], ◌∷◌, length, take, Option, Some, None, Result, Ok, Err, IfOk, OnErr, refl, sym, ◌∙◌, ap, subst, arith}
 use Rattle.std.specs.List.{IsDistinct}
 use Rattle.std.specs.Map.{keys_of as keys_held}
 use Rattle.std.specs.Option.{option_map}
@@ -29,14 +29,14 @@ use Rattle.cache_node.proofs.Keys.{held_fewer, held_promoted, held_take}
 use Rattle.cache_node.proofs.Processing.{caught_up_is_true, follow_named, processed_is_true}
 use Rattle.cache_node.proofs.ServedAt.{changed_here, changed_served, changed_there}
 use Rattle.cache_node.proofs.Truth.{asks_are_true, fewer_is_true, forgetting_keeps, forgot_is_true, forgotten, seeing_keeps, met_is_true}
-use Rattle.cache_node.specs.declared.look.Kept.{Kept}
-use Rattle.cache_node.specs.declared.look.Look.{Look}
-use Rattle.cache_node.specs.Kept.{GivesKept, ask_at, kept_of, own_kept_of, took}
+use Rattle.cache_items.specs.declared.look.Kept.{Kept}
+use Rattle.cache_items.specs.declared.look.Look.{Look}
+use Rattle.cache_items.specs.Kept.{GivesKept, ask_at, kept_of, own_kept_of, took}
 use Rattle.cache_node.specs.Answered.{LookAnswers, ViewAnswers}
-use Rattle.cache_node.specs.Look.{content_answer, content_decides, is_hit, look_of}
-use Rattle.cache_node.specs.Meetings.{MeetsAt}
-use Rattle.cache_node.specs.Node.{Node, ServedShard, caught_up, changed_at, delivered, with_ended, forgetting, item_at, log_at, low_at, seeing, met, served_at, top_at, with_opened, without, without_last}
-use Rattle.cache_node.specs.Taken.{TakesChange, with_change}
+use Rattle.cache_items.specs.Look.{content_answer, content_decides, is_hit, look_of}
+use Rattle.cache_items.specs.Meetings.{MeetsAt}
+use Rattle.cache_items.specs.Node.{Node, ServedShard, caught_up, changed_at, delivered, with_ended, forgetting, item_at, log_at, low_at, seeing, met, served_at, top_at, with_opened, without, without_last}
+use Rattle.cache_items.specs.Taken.{TakesChange, with_change}
 use Rattle.cache_node.specs.True.{IsServed, IsTrueAskOf, IsTrueNode}
 
 -- what is had of a shard whose log is known
@@ -117,8 +117,8 @@ filled_own old new fill (Ok x) distinct is log sealed meets due same same_err =
 filled_own old new fill (Err e) distinct is log sealed meets due same same_err = subst IsTrueNode (sym same_err) is
 
 pub changed : (old new : Node) (c : SeenChange) (bound : ℕ) → IsDistinct same_key (keys_held old.items) → IsTrueNode old → IsServed old.served (key_shard c.key) → MeetsAt (key_shard c.key) c.note old.served
-    → IsOneTouch c → TakesChange bound (item_at old.items c.key) c old.items new.items → new ≡ with_change c new.items old → IsTrueNode new
-changed old new c bound distinct is served meets touch takes same = subst IsTrueNode (sym same) (changed_is_true old c bound new.items distinct is served meets touch takes)
+    → IsOneTouch c → c.after < 2 ^ 64 → TakesChange bound (item_at old.items c.key) c old.items new.items → new ≡ with_change c new.items old → IsTrueNode new
+changed old new c bound distinct is served meets touch bits takes same = subst IsTrueNode (sym same) (changed_is_true old c bound new.items distinct is served meets touch bits takes)
 
 pub message_came : (old new : Node) (m : SeenMaint) → IsDistinct same_key (keys_held old.items) → IsTrueNode old → log_at m.shard old.served ≡ Some m.note.log → IsMaint m
     → MeetsAt m.shard m.note old.served → new ≡ delivered m old → IsTrueNode new

@@ -14,7 +14,7 @@ use Rattle.maint_msg.specs.declared.key_versions.KeyVersion.{KeyVersion}
 use Rattle.lru.proofs.Splits.{all_map}
 use Rattle.graph_model.proofs.Later.{all_map as all_weaker}
 use Rattle.cache_node.proofs.Truth.{asks_are_true}
-use Rattle.cache_node.specs.Node.{Node, ServedShard, raised_all, served_at}
+use Rattle.cache_items.specs.Node.{Node, ServedShard, raised_all, served_at}
 use Rattle.cache_node.specs.True.{AreTold, IsServed, IsTrueAsk, IsTrueAskOf, IsTrueNode, IsTrueOfLogs, touched, version_among}
 
 -- a raise keeps the key and the mark, and raises the floor to the version where the ask is on the key

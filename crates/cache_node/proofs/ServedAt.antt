@@ -4,7 +4,7 @@ use Rattle.std.proofs.lemmas.Bool.{cases_Bool, eqb-true, eqb-false, ne_eqb}
 use Rattle.std.specs.Option.{option_map}
 use Rattle.std.specs.Prelude.{◌==◌, IsSome}
 use Rattle.cache_node.specs.Laws.{KeepsShard, ServedChanges}
-use Rattle.cache_node.specs.Node.{ServedShard, changed_at, served_at}
+use Rattle.cache_items.specs.Node.{ServedShard, changed_at, served_at}
 use Rattle.cache_node.specs.True.{AreTold, IsServed}
 
 -- it stays what is had of that shard's log

@@ -16,15 +16,13 @@ use Rattle.low_water.proofs.AddedMarks.{mark_adds}
 use Rattle.low_water.specs.Marks.{Marks, is_marked, marks, with_mark}
 use Rattle.ask_table.specs.declared.ask.Ask.{Ask}
 use Rattle.ask_table.specs.Asks.{Asks}
-use Rattle.sealed_item.proofs.FillLemmas.{fill_stays}
-use Rattle.sealed_item.specs.Fills.{IsExactContent, sealed_item}
-use Rattle.sealed_item.specs.declared.content.Content.{Content}
+use Rattle.sealed_item.proofs.FillLemmas.{content_stays}
 use Rattle.cache_node.proofs.ServedAt.{KeepsLog, changed_cases, changed_served, told_before}
-use Rattle.cache_node.specs.Meetings.{Meets, MeetsAt}
-use Rattle.cache_node.specs.Node.{Items, Node, ServedShard, changed_at, forgetting, item_at, marking, seeing, met, served_at}
+use Rattle.cache_items.specs.Meetings.{Meets, MeetsAt}
+use Rattle.cache_items.specs.Node.{Items, Node, ServedShard, changed_at, forgetting, item_at, marking, seeing, met, served_at}
 use Rattle.cache_node.specs.True.{AreTold, IsServed, IsTrueAsk, IsTrueAskOf, IsTrueItem, IsTrueNode, IsTrueOfLogs, IsTrueServed, touched}
 use Rattle.cache_node.specs.Within.{AreFewer}
-use Rattle.cache_node.specs.declared.item.Item.{Item}
+use Rattle.cache_items.specs.declared.item.Item.{Item}
 
 -- what is had of a shard after a change of it is true where it was
 pub record Step (n : Node) (shard : ℕ) (s after : ServedShard) : Type 0 where
@@ -74,10 +72,6 @@ touched_back v w (suc m) key x grows le h = by_place (slice_get_cases v.entries 
         let there : slice_get w.entries m ≡ Some here.0 = entry_stays v w (suc m) here.0 grows here.2 in
         rw here.2 (rw there at h)
 
-exact_stays : (v w : View) (key : Key) (at : ℕ) (content : Content) → Grows v w → w.log.told ≡ true → IsExactContent v.entries key at content → IsExactContent w.entries key at content
-exact_stays v w key at content grows told exact =
-    (fill_stays (sealed_item key at 0 content v) w grows (λ on. record { exact = exact; since = record { within = omega arith; since = omega arith } }) told).exact
-
 pub seeing_keeps : (note : View) → KeepsLog (seeing note)
 seeing_keeps note = record { shard = λ s. refl; log = λ s. refl }
 
@@ -91,7 +85,7 @@ meets_step n shard note s meets told =
         within = λ p on. let le = is.within p on in let longer = begins-length v.entries w.entries meets.grows.begins in omega arith;
       };
       items = λ key item here h served is. record {
-        exact = exact_stays v w key item.version item.content meets.grows told is.exact;
+        exact = content_stays v w key item.version item.content meets.grows (λ on. is.exact) told;
         reaches = λ p x on at. is.reaches p x on (touched_back v w p key x meets.grows (served.within p on) at);
       };
       asks = λ a here in_asks served is. record {

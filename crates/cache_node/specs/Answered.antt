@@ -9,10 +9,10 @@ use Rattle.graph_model.specs.Keys.{key_shard}
 use Rattle.graph_model.specs.Prefixes.{IsExact}
 use Rattle.graph_model.specs.Told.{WhereTold}
 use Rattle.shard_log.specs.View.{View}
-use Rattle.cache_node.specs.Node.{ServedShard, served_at}
+use Rattle.cache_items.specs.Node.{ServedShard, served_at}
 use Rattle.cache_node.specs.True.{AreTold}
-use Rattle.cache_node.specs.declared.look.Look.{Look}
-use Rattle.cache_node.specs.declared.look.Look.TheVariants.{Hit, Miss}
+use Rattle.cache_items.specs.declared.look.Look.{Look}
+use Rattle.cache_items.specs.declared.look.Look.TheVariants.{Hit, Miss}
 
 -- the log has reached the version, and each beginning of that version answers so
 abbrev pub IsExactAnswer : EdgeTypes → List Entry → Query → Answer → ℕ → Type 0

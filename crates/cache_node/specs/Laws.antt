@@ -17,12 +17,12 @@ use Rattle.lru.specs.LruCache.{promoted}
 use Rattle.changeset.specs.Changes.{SeenChange}
 use Rattle.maint_msg.specs.declared.key_versions.KeyVersion.{KeyVersion}
 use Rattle.cache_node.specs.Answered.{IsExactAnswer}
-use Rattle.cache_node.specs.Kept.{kept_items}
-use Rattle.cache_node.specs.Node.{Items, Node, ServedShard, caught_up as node_caught_up, changed_at, dropped, served_at, without, without_last}
-use Rattle.cache_node.specs.Taken.{ChangesItems}
+use Rattle.cache_items.specs.Kept.{kept_items}
+use Rattle.cache_items.specs.Node.{Items, Node, ServedShard, caught_up as node_caught_up, changed_at, dropped, served_at, without, without_last}
+use Rattle.cache_items.specs.Taken.{ChangesItems}
 use Rattle.cache_node.specs.True.{IsTrueItem, IsTrueServed}
 use Rattle.cache_node.specs.Within.{AreFewer, AreWithin, IsWithinBound}
-use Rattle.cache_node.specs.declared.item.Item.{Item}
+use Rattle.cache_items.specs.declared.item.Item.{Item}
 
 -- an answer of what was seen of a log is a legal one of each log that it begins, for each floor that its version has reached
 pub record AnswersAreLegal : Type 0 where

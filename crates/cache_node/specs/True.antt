@@ -13,8 +13,8 @@ use Rattle.ask_table.specs.declared.ask.Ask.{Ask}
 use Rattle.maint_msg.specs.KeyVersions.{keys_of}
 use Rattle.maint_msg.specs.declared.key_versions.KeyVersion.{KeyVersion}
 use Rattle.sealed_item.specs.Fills.{IsExactContent}
-use Rattle.cache_node.specs.declared.item.Item.{Item}
-use Rattle.cache_node.specs.Node.{Node, ServedShard, item_at, served_at}
+use Rattle.cache_items.specs.declared.item.Item.{Item}
+use Rattle.cache_items.specs.Node.{Node, ServedShard, item_at, served_at}
 
 -- the version that a touch of the key gives it, if there is one
 abbrev pub version_among : List KeyVersion → Key → Option ℕ

@@ -5,8 +5,8 @@ use Rattle.tao_base.specs.declared.id.Key.{Key}
 use Rattle.tao_base.specs.declared.id.Key.TheVariants.{Obj, List as Assocs}
 use Rattle.sealed_item.specs.declared.content.Content.{Content}
 use Rattle.sealed_item.specs.declared.content.Content.TheVariants.{Object as ObjectIs, List as ListIs}
-use Rattle.cache_node.specs.declared.item.Item.{Item}
-use Rattle.cache_node.specs.Node.{Items, item_at}
+use Rattle.cache_items.specs.declared.item.Item.{Item}
+use Rattle.cache_items.specs.Node.{Items, item_at}
 
 -- a list has no more edges than the bound of its type
 abbrev pub IsWithinBound : EdgeTypes → Key → Content → Type 0

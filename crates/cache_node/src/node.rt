@@ -7,27 +7,24 @@ ghost use Rattle.ask_table.specs.Asks.{IsTable, is_full};
 ghost use Rattle.graph_model.specs.Answers.{key_of};
 ghost use Rattle.graph_model.specs.Keys.{key_shard, same_key};
 ghost use Rattle.graph_model.specs.Told.{WhereTold};
-ghost use Rattle.changeset.specs.Changes.{IsOneTouch};
-ghost use Rattle.maint_msg.specs.Maints.{IsMaint};
-ghost use Rattle.sealed_item.specs.Fills.{IsSealed};
 ghost use Rattle.tao_schema.specs.Schema.{types_of};
 ghost use Rattle.cache_node.specs.Answered.{LookAnswers, ViewAnswers};
-ghost use Rattle.cache_node.specs.Delivered.{AreSome, dropped_lists};
-ghost use Rattle.cache_node.specs.Fields.{AreNotesOf, AreReached, begun_at, empty_node, emptied};
-ghost use Rattle.cache_node.specs.Kept.{GivesKept, ask_at, kept_of, own_kept_of, took};
-ghost use Rattle.cache_node.specs.Look.{content_answer, content_decides, look_of, looked_at};
-ghost use Rattle.cache_node.specs.Node.{IsLowWater, caught_up, delivered, drop_count, with_ended, item_at, log_at, low_at, met, served_at, top_at, view_at, with_opened, without, without_last};
-ghost use Rattle.cache_node.specs.Taken.{ChangesItems, with_change};
+ghost use Rattle.cache_items.specs.Delivered.{AreSome, dropped_lists};
+ghost use Rattle.cache_items.specs.Fields.{AreNotesOf, AreReached, begun_at, empty_node, emptied};
+ghost use Rattle.cache_items.specs.Kept.{GivesKept, ask_at, kept_of, own_kept_of, took};
+ghost use Rattle.cache_items.specs.Look.{content_answer, content_decides, look_of, looked_at};
+ghost use Rattle.cache_items.specs.Node.{IsLowWater, caught_up, delivered, drop_count, with_ended, item_at, log_at, low_at, met, served_at, top_at, view_at, with_opened, without, without_last};
+ghost use Rattle.cache_items.specs.Taken.{ChangesItems, with_change};
 ghost use Rattle.cache_node.specs.True.{IsTrueNode};
 
-use crate::delivered::Delivered;
-use crate::holdings::Holdings;
-use crate::item::{Item, shard_of};
-use crate::look::{Kept, Look};
 use ask_table::AskNo;
+use cache_items::{Delivered, Holdings, Item, Kept, Look};
 use changeset::Changeset;
+use changeset::laws::changesets_are_of_one_touch;
 use maint_msg::Maint;
+use maint_msg::laws::messages_name_entries;
 use sealed_item::Fill;
+use sealed_item::laws::fills_are_sealed;
 use shard_log::Note;
 use shard_log::growth::notes_are_sound;
 use std::alloc::Global;
@@ -46,7 +43,7 @@ pub struct CacheNode {
 }
 
 impl Model for CacheNode {
-    ghost use Rattle.cache_node.specs.Node.{Node};
+    ghost use Rattle.cache_items.specs.Node.{Node};
     ghost use Rattle.cache_node.specs.True.{IsTrueNode};
 
     ghost Value = { Node };
@@ -64,26 +61,6 @@ pub fn nodes_are_true(node: &CacheNode)
     ensures asks { IsTable node.now.asks }
 {
     node.holdings.keys_differ();
-}
-
-fn is_sealed(fill: &Fill)
-    ensures { IsSealed fill.now }
-{
-    let _ = fill.content();
-    let _ = fill.as_of();
-}
-
-fn is_one_touch(change: &Changeset)
-    ensures { IsOneTouch change.now }
-{
-    let _ = change.change();
-    let _ = change.before();
-}
-
-fn is_message(message: &Maint)
-    ensures { IsMaint message.now }
-{
-    let _ = message.keys();
 }
 
 impl CacheNode {
@@ -183,7 +160,7 @@ impl CacheNode {
         ensures err { OnErr result (self.new ≡ with_ended ask self.old) }
         ensures legal { IfOk result (λ r. ViewAnswers (types_of schema.now) fill.note query.now r.0 fill.version) }
     {
-        is_sealed(&fill);
+        fills_are_sealed(&fill);
         self.holdings.keys_differ();
         self.holdings.take_fill(schema, ask, query, fill)
     }
@@ -207,7 +184,7 @@ impl CacheNode {
         ensures err { OnErr result (self.new ≡ self.old) }
         ensures legal { IfOk result (λ r. ViewAnswers (types_of schema.now) fill.note query.now r.0 fill.version) }
     {
-        is_sealed(&fill);
+        fills_are_sealed(&fill);
         self.holdings.keys_differ();
         self.holdings.keep_own(schema, query, fill)
     }
@@ -221,8 +198,8 @@ impl CacheNode {
         ensures node { OnSome (served_at (key_shard change.key) self.old.served) (self.new ≡ with_change change self.new.items self.old) }
         ensures unserved { IfNone (served_at (key_shard change.key) self.old.served) (self.new ≡ self.old) }
     {
-        is_one_touch(&change);
-        if self.holdings.serves(shard_of(&change.key())) {
+        changesets_are_of_one_touch(&change);
+        if self.holdings.serves(&change.key()) {
             self.holdings.keys_differ();
             self.holdings.take_changeset(schema, change);
         }
@@ -239,7 +216,7 @@ impl CacheNode {
         ensures lists { AreSome result.lists (dropped_lists self.old.items message.keys) }
         ensures node { self.new ≡ delivered message self.old }
     {
-        is_message(&message);
+        messages_name_entries(&message);
         self.holdings.keys_differ();
         self.holdings.deliver(message)
     }

@@ -1,7 +1,7 @@
 use Rattle.std.proofs.Common.{sym, subst}
 use Rattle.cache_node.proofs.Beginning.{made_is_true}
-use Rattle.cache_node.specs.Meetings.{AreSeenSound}
-use Rattle.cache_node.specs.Node.{Node}
+use Rattle.cache_items.specs.Meetings.{AreSeenSound}
+use Rattle.cache_items.specs.Node.{Node}
 use Rattle.cache_node.specs.True.{IsTrueNode}
 use Rattle.cache_node.proofs.node.CacheNode.make.Goals as goal
 

@@ -1,0 +1,5 @@
+pub mod KeyTest
+pub mod Places
+pub mod Rounds
+pub mod Rows
+pub mod TakenItems

@@ -1,0 +1,50 @@
+-- What the fields of a served shard stand for, and the shards that a node begins with.
+use Rattle.std.specs.Prelude.{◌≡◌, ℕ, ⊤, ◌≤◌, Bool, ◌==◌, List, [], ◌∷◌, length}
+use Rattle.graph_model.specs.Told.{WhereTold}
+use Rattle.low_water.specs.Marks.{marks}
+use Rattle.shard_log.specs.View.{View}
+use Rattle.cache_items.specs.declared.shards.Shard.{Shard}
+use Rattle.cache_items.specs.Node.{Node, ServedShard, restarting}
+use Rattle.ask_table.specs.Asks.{asks_of, without_asks}
+
+abbrev pub served_of : Shard → ServedShard
+served_of s = record { shard = s.number; marks = s.water; view = s.note }
+
+abbrev pub is_of_shard : ℕ → Shard → Bool
+is_of_shard n s = s.number == n
+
+-- shards of which everything up to a position is processed, each with what was seen of its log
+abbrev pub begun_at : List ℕ → List ℕ → List View → List ServedShard
+begun_at [] lows notes = []
+begun_at (shard ∷ shards) [] notes = []
+begun_at (shard ∷ shards) (low ∷ lows) [] = []
+begun_at (shard ∷ shards) (low ∷ lows) (note ∷ notes) = record { shard = shard; marks = marks low []; view = note } ∷ begun_at shards lows notes
+
+-- each position is at most the length of what was seen of its log, where that is told
+abbrev pub AreReached : List ℕ → List View → Type 0
+AreReached [] [] = ⊤
+AreReached [] (note ∷ notes) = ⊥
+AreReached (low ∷ lows) [] = ⊥
+AreReached (low ∷ lows) (note ∷ notes) = WhereTold note.log.told (low ≤ length note.entries) × AreReached lows notes
+
+-- the notes are of the served shards' logs, in their order
+abbrev pub AreNotesOf : List ServedShard → List View → Type 0
+AreNotesOf [] [] = ⊤
+AreNotesOf [] (note ∷ notes) = ⊥
+AreNotesOf (s ∷ ss) [] = ⊥
+AreNotesOf (s ∷ ss) (note ∷ notes) = (s.view.log ≡ note.log) × AreNotesOf ss notes
+
+-- each shard begun anew at a position, its note met
+abbrev pub restarted : List ServedShard → List ℕ → List View → List ServedShard
+restarted [] lows notes = []
+restarted (s ∷ ss) [] notes = s ∷ ss
+restarted (s ∷ ss) (low ∷ lows) [] = s ∷ ss
+restarted (s ∷ ss) (low ∷ lows) (note ∷ notes) = restarting low note s ∷ restarted ss lows notes
+
+-- a node that holds nothing yet
+abbrev pub empty_node : ℕ → List ServedShard → Node
+empty_node most served = record { items = []; most = most; asks = asks_of [] 0; served = served }
+
+-- a node emptied, and begun anew
+abbrev pub emptied : List ℕ → List View → Node → Node
+emptied lows notes n = record { items = []; most = n.most; asks = without_asks n.asks; served = restarted n.served lows notes }

@@ -1,0 +1,84 @@
+//! What a message dropped.
+ghost use Rattle.std.specs.Prelude.{◌≡◌};
+
+use crate::item::Item;
+use list_prefix::Prefix;
+use sealed_item::Content;
+use std::alloc::Global;
+use std::marker::Model;
+use tao_base::Key;
+
+/// A list that was dropped, and how many of its edges were held.
+#[derive(Debug, Clone, Copy, PartialEq, Eq)]
+pub struct DroppedList {
+    pub key: Key,
+    pub length: u64,
+}
+
+/// Lists that were dropped, in the order in which a message names them.
+#[derive(Debug, Drop)]
+pub struct DroppedLists {
+    rows: Vec<DroppedList>,
+}
+
+impl Model for DroppedLists {
+    ghost use Rattle.std.specs.Prelude.{List};
+    ghost use Rattle.cache_items.specs.declared.delivered.DroppedList.{DroppedList};
+
+    ghost Value = { List DroppedList };
+
+    ghost view = { λ d. d.rows.items };
+}
+
+impl DroppedLists {
+    ghost use Rattle.std.specs.Prelude.{[]};
+    ghost use Rattle.cache_items.specs.Delivered.{AddsRow, content_row, row_of};
+
+    pub(crate) fn none(alloc: Global) -> DroppedLists
+        ensures { result ≡ [] }
+    {
+        DroppedLists {
+            rows: Vec::new(alloc),
+        }
+    }
+
+    /// Adds a row where the item is a list and there is memory for the row.
+    pub(crate) fn add(&mut self, key: &Key, item: &Option<Item>)
+        ensures { AddsRow (row_of key.now item.now) self.old self.new }
+    {
+        if let Some(item) = item {
+            self.add_content(key, &item.content);
+        }
+    }
+
+    fn add_content(&mut self, key: &Key, content: &Content)
+        ensures { AddsRow (content_row key.now content.now) self.old self.new }
+    {
+        if let Content::List(prefix) = content {
+            self.add_list(key, prefix);
+        }
+    }
+
+    fn add_list(&mut self, key: &Key, prefix: &Prefix)
+        ensures { AddsRow (content_row key.now (Content.List prefix.now)) self.old self.new }
+    {
+        let row = DroppedList {
+            key: *key,
+            length: prefix.edges().len() as u64,
+        };
+        let _ = self.rows.push(row);
+    }
+
+    pub fn as_slice(&self) -> &[DroppedList]
+        ensures { result.now ≡ self.now }
+    {
+        self.rows.as_slice()
+    }
+}
+
+/// How many items a message dropped, and a row for each list among them for which there was memory.
+#[derive(Debug, Drop)]
+pub struct Delivered {
+    pub dropped: u64,
+    pub lists: DroppedLists,
+}

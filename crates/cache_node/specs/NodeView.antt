@@ -1,8 +1,0 @@
--- The node that the fields stand for.
-use Rattle.std.specs.Prelude.{map}
-use Rattle.cache_node.specs.declared.holdings.Holdings.TheInside.{Inside}
-use Rattle.cache_node.specs.Fields.{served_of}
-use Rattle.cache_node.specs.Node.{Node}
-
-abbrev pub node_seen : Inside → Node
-node_seen n = record { items = n.items.entries; most = n.items.cap; asks = n.asks; served = map served_of n.shards.items }

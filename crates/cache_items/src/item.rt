@@ -50,9 +50,7 @@ impl Item {
         if after <= self.version {
             return true;
         }
-        if self.version != before
-            || change_content(&mut self.content, change, bound).is_err()
-        {
+        if self.version != before || change_content(&mut self.content, change, bound).is_err() {
             return false;
         }
         self.version = after;

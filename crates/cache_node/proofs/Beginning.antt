@@ -1,19 +1,14 @@
 -- A node that begins, or begins anew, is true of its logs.
 use Rattle.std.proofs.Common.{◌≡◌, ℕ, ◌≤◌, true, false, List, [], ◌∷◌, length, Some, None, refl, sym, ◌∙◌, ap, subst, inl, inr, arith}
-use Rattle.std.proofs.lemmas.Bool.{cases_Bool, eqb-false, leb-true, ne_eqb, or_cases}
-use Rattle.std.specs.List.{AllByRecursion}
-use Rattle.std.specs.Prelude.{◌==◌, filter, nat_le, not}
-use Rattle.graph_model.specs.Keys.{key_shard}
+use Rattle.std.proofs.lemmas.Bool.{cases_Bool, leb-true, or_cases}
+use Rattle.std.specs.Prelude.{◌==◌, nat_le}
 use Rattle.shard_log.proofs.Beginnings.{begins-length}
 use Rattle.shard_log.specs.View.{View, longer_view}
 use Rattle.low_water.specs.Marks.{is_marked, marks}
-use Rattle.ask_table.specs.declared.ask.Ask.{Ask}
-use Rattle.ask_table.specs.Asks.{Asks, asks_of, without_shard}
-use Rattle.ask_table.specs.Open.{is_on_shard}
-use Rattle.cache_items.specs.Fields.{AreReached, begun_at, empty_node, emptied, ended_on, restarted}
+use Rattle.cache_items.specs.Fields.{AreReached, begun_at, empty_node, emptied, restarted}
 use Rattle.cache_items.specs.Meetings.{AreSeenSound, MeetEach}
-use Rattle.cache_items.specs.Node.{Items, Node, ServedShard, restarting, served_at}
-use Rattle.cache_node.specs.True.{IsServed, IsTrueNode, IsTrueServed}
+use Rattle.cache_items.specs.Node.{Node, ServedShard, restarting, served_at}
+use Rattle.cache_node.specs.True.{IsTrueNode, IsTrueServed}
 
 -- a node without items and asks is true where its shards are
 empty_is_true : (n : Node) → n.items ≡ [] → n.asks.asks ≡ [] → ((shard : ℕ) (s : ServedShard) → served_at shard n.served ≡ Some s → s.view.log.told ≡ true → IsTrueServed s) → IsTrueNode n

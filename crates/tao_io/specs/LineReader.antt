@@ -6,6 +6,10 @@ use Rattle.std.specs.Io.KnownBytes.{prepend_known}
 abbrev pub input_limit : ℕ
 input_limit = 2 ^ 40
 
+-- the most bytes that are taken at a time, and so the most that are ahead
+abbrev pub most_ahead : ℕ
+most_ahead = 65536
+
 -- the bytes that it took and hasn't given yet, and how many it took in all
 pub record LineReading : Type 0 where
   pub ahead : List ℕ
@@ -21,4 +25,4 @@ may_give reader = length reader.ahead + (input_limit - reader.taken)
 
 -- the bytes ahead stand within the chunk, and no more was taken than may be
 abbrev pub IsWithin : List ℕ → ℕ → ℕ → ℕ → Type 0
-IsWithin chunk at end taken = (length chunk ≡ 65536) × (at ≤ end) × (end ≤ 65536) × (taken ≤ input_limit)
+IsWithin chunk at end taken = (length chunk ≡ most_ahead) × (at ≤ end) × (end ≤ most_ahead) × (taken ≤ input_limit)

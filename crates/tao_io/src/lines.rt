@@ -2,7 +2,7 @@
 ghost use Rattle.std.specs.Prelude.{◌≡◌, ◌+◌, ◌<◌, ◌≤◌, ◌++◌, [], Ok, true, false, IfOk, OnOk, IsErrOf, length, take, vec_len};
 ghost use Rattle.std.specs.Io.KnownBytes.{ReadConsumes, Keeps, IsAtEnd};
 ghost use Rattle.counts.specs.Count.{Rose, HasCause};
-ghost use Rattle.tao_io.specs.LineReader.{to_come, may_give, input_limit};
+ghost use Rattle.tao_io.specs.LineReader.{to_come, may_give, input_limit, most_ahead};
 ghost use Rattle.tao_io.specs.Lines.{line_limit, NextLineIs, UsesSome, CountsTaken};
 ghost use Rattle.tao_io.specs.LineParts.{held, EndsLineAt, TakesToEnd, TakesAll, line_kind};
 
@@ -176,6 +176,7 @@ impl LineReader {
             Rose (R.faults source.old) (R.faults source.new) }
         ensures long { IsErrOf result ReadFault.InputTooLong → self.new.taken ≡ input_limit }
         ensures looked { IsErrOf result ReadFault.InputTooLong → self.new.ahead ≡ [] }
+        ensures near { length self.new.ahead ≤ most_ahead }
     {
         if self.at < self.end {
             return Ok(true);
@@ -201,6 +202,7 @@ impl LineReader {
             TakesAll self.old.ahead self.new.ahead line.old.items line.new.items }
         ensures taken { self.new.taken ≡ self.old.taken }
         ensures bounded { vec_len line.new ≤ HELD_LIMIT }
+        ensures near { length self.new.ahead ≤ most_ahead }
     {
         let ahead = &self.chunk[self.at..self.end];
         match line_end(ahead) {
@@ -220,6 +222,9 @@ impl LineReader {
     /// Reads the next line into `line`, in place of what it held. A line ends at byte 10 or at the end of the
     /// input; an empty one is skipped. It costs time for each byte of the line, and `line` never holds more than
     /// `LINE_LIMIT` + 1 bytes.
+    ///
+    /// No more is taken of the source than the chunk in which the line ended, so what is then ahead is a part of that
+    /// one chunk.
     ///
     /// Where the line is too long, and after an error, what `line` holds is left open. After an error it is also
     /// open which bytes of the line the reader has passed.
@@ -242,6 +247,7 @@ impl LineReader {
             Rose (R.faults source.old) (R.faults source.new) }
         ensures long { IsErrOf result ReadFault.InputTooLong → self.new.taken ≡ input_limit }
         ensures looked { IsErrOf result ReadFault.InputTooLong → self.new.ahead ≡ [] }
+        ensures near { length self.new.ahead ≤ most_ahead }
     {
         line.clear();
         'chunks: loop {

@@ -1,12 +1,13 @@
 -- The parts of a run: its first line, as it was read and taken, and each later one.
-use Rattle.std.specs.Prelude.{◌≡◌, ◌⊎◌, ℕ, Bool, List, [], Option, Err}
+use Rattle.std.specs.Prelude.{◌≡◌, ◌⊎◌, ◌≤◌, ℕ, Bool, List, [], length, Option, Err}
 use Rattle.std.specs.Io.KnownBytes.{Appends}
 use Rattle.config_json.specs.Config.{config_in}
 use Rattle.config_json.specs.declared.refusal.ConfigRefusal.TheVariants.{BadConfig}
 use Rattle.counts.specs.Count.{Rose}
 use Rattle.reply_json.specs.declared.reply.Reply.TheVariants.{BadConfiguration}
 use Rattle.tao_core.specs.Shown.{Shown}
-use Rattle.tao_top.specs.Served.{AppendsPart, DoneInPart, IsStill, OpensInPart, RefusesConfiguration, refusal_line, start}
+use Rattle.tao_io.specs.Lines.{GivesLines}
+use Rattle.tao_top.specs.Served.{AppendsPart, DoneInPart, IsOpeningStatus, IsStill, OpensInPart, RefusesConfiguration, refusal_line, start}
 use Rattle.tao_top.specs.Step.{State, ended, Configures, Replies}
 use Rattle.tao_top.specs.Stop.{InterruptsWriting}
 use Rattle.tao_top.specs.declared.stop.Stop.{Stop}
@@ -28,10 +29,14 @@ EndsAtFirst left before after = (tells : Bool) (keepers : Shown) → DoneInPart 
 abbrev pub RefusesFirst : Option (List ℕ) → Option (List ℕ) → Option (List ℕ) → Type 0
 RefusesFirst left before after = (tells : Bool) (keepers : Shown) → RefusesConfiguration tells keepers keepers left before after
 
--- the configuration got no reply, or one of which a front was written; since then no table changed
-abbrev pub BegunInPart : Bool → Shown → Shown → List ℕ → Option (List ℕ) → Option (List ℕ) → Type 0
-BegunInPart tells old now line before after =
-    OpensInPart tells old now line before after ⊎ ((last : State) × Replies tells (start old) line last (AppendsPart before after) × IsStill tells last now)
+-- at most one line came out of the known bytes
+abbrev pub GivesOne : Option (List ℕ) → Option (List ℕ) → Type 0
+GivesOne left rest = (lines : List (List ℕ)) × (length lines ≤ 1) × GivesLines left rest lines
+
+-- the configuration got a reply of which a front was written, and since then no table changed; or its stores were opened in part, which ends with 6 and 7 alone
+abbrev pub BegunInPart : ℕ → Bool → Shown → Shown → List ℕ → Option (List ℕ) → Option (List ℕ) → Type 0
+BegunInPart code tells old now line before after = (IsOpeningStatus code × OpensInPart tells old now line before after)
+    ⊎ ((last : State) × Replies tells (start old) line last (AppendsPart before after) × IsStill tells last now)
 
 -- the line was refused as the configuration, and the line that says so was written
 pub record RefusesLine (tells : Bool) (old now : Shown) (line : List ℕ) (before after : Option (List ℕ)) : Type 0 where

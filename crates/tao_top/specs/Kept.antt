@@ -1,23 +1,29 @@
--- What the tables of keepers hold between runs, and while one serves.
-use Rattle.std.specs.Prelude.{ℕ, ◌≡◌, ◌<◌, Bool, List, [], Some, None, Ok}
+-- What a run asks of the keepers' tables, what it keeps while it serves, and what it leaves.
+use Rattle.std.specs.Prelude.{ℕ, ◌≡◌, ◌<◌, Bool, List, [], ◌∷◌, Option, Some, Ok}
 use Rattle.config_json.specs.Config.{config_in}
-use Rattle.graph_model.specs.Soundness.{IsSoundOf}
 use Rattle.graph_model.specs.Told.{WhereTold}
-use Rattle.tao_base.specs.declared.id.StoreName.{StoreName}
 use Rattle.tao_core.specs.Core.{CoreState, IsCoreOf}
+use Rattle.tao_core.specs.Opening.{MayOpen}
 use Rattle.tao_core.specs.Stores.{store_of}
 use Rattle.tao_keeper.specs.Table.{Table, Tables}
-use Rattle.tao_schema.specs.Schema.{types_of}
+use Rattle.tao_top.specs.Served.{LinesBegin}
 use Rattle.topology.specs.Config.{Settings}
 
--- a store that wasn't opened yet is empty, and the log of another is sound with the configuration that the store was first opened with
-pub record IsKept (at : StoreName) (table : Table) : Type 0 where
-  pub fresh : table.line ≡ None → table.log ≡ []
-  pub sound : (line : List ℕ) (s : Settings) → table.line ≡ Some line → config_in line ≡ Ok s → IsSoundOf (types_of s.schema) at.shard table.log
+-- a run may begin with the line: where it is a configuration, the logs of the stores that take it are sound with its types
+abbrev pub MayBegin : List ℕ → Tables → Type 0
+MayBegin line tables = (s : Settings) → config_in line ≡ Ok s → MayOpen s line tables
 
--- so is every store
+-- so it may with the first of the known lines
+abbrev pub MayRun : Option (List ℕ) → Tables → Type 0
+MayRun left tables = (line : List ℕ) → LinesBegin left (line ∷ []) → MayBegin line tables
+
+-- a run may begin with any line
 abbrev pub AreKept : Tables → Type 0
-AreKept tables = (at : StoreName) → IsKept at (tables at)
+AreKept tables = (line : List ℕ) → MayBegin line tables
+
+-- a run may begin with each line with which one could before
+abbrev pub StillBegin : Tables → Tables → Type 0
+StillBegin old new = (line : List ℕ) → MayBegin line old → MayBegin line new
 
 -- the store was first opened with the configuration
 pub record IsOpenedWith (s : Settings) (table : Table) : Type 0 where
@@ -29,8 +35,7 @@ pub record IsOpenedWith (s : Settings) (table : Table) : Type 0 where
 abbrev pub AreOpenedWith : Settings → Tables → Type 0
 AreOpenedWith s tables = (shard : ℕ) → shard < s.shards → IsOpenedWith s (tables (store_of s shard))
 
--- a core serves from these tables: its stores were opened with its configuration, and the tables may be handed to a later run
+-- a core serves from these tables: its stores were opened with its configuration
 pub record IsServing (tells : Bool) (core : CoreState) (tables : Tables) : Type 0 where
   pub of_core : IsCoreOf tells tables core
   pub opened : WhereTold tells (AreOpenedWith core.settings tables)
-  pub kept : WhereTold tells (AreKept tables)

@@ -4,3 +4,4 @@ pub mod Stop
 pub mod Served
 pub mod Begun
 pub mod Status
+pub mod Taken

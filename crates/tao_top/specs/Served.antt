@@ -3,6 +3,7 @@ use Rattle.std.specs.Prelude.{◌≡◌, ◌⊎◌, ℕ, Bool, false, ⊤, List,
 use Rattle.std.specs.List.{flat_map}
 use Rattle.std.specs.Io.KnownBytes.{Appends}
 use Rattle.config_json.specs.Config.{config_in}
+use Rattle.counts.specs.Count.{Rose}
 use Rattle.graph_model.specs.Told.{WhereTold}
 use Rattle.reply_json.specs.declared.reply.Reply.TheVariants.{BadConfiguration}
 use Rattle.tao_core.specs.Core.{CoreState}
@@ -100,9 +101,25 @@ pub record Done (tells : Bool) (old new : Shown) (left before after : Option (Li
 
 -- what was written is a front of the texts of the replies to the first lines
 abbrev pub DoneInPart : Bool → Shown → Shown → Option (List ℕ) → Option (List ℕ) → Option (List ℕ) → Type 0
-DoneInPart tells old now left before after = LacksConfiguration old now left before after
-    ⊎ ((line : List ℕ) × LinesBegin left (line ∷ []) × OpensInPart tells old now line before after)
-    ⊎ ServedInPart tells (start old) now left before after
+DoneInPart tells old now left before after = LacksConfiguration old now left before after ⊎ ServedInPart tells (start old) now left before after
+
+-- the first line is a configuration, at the opening of whose stores the run stopped, and nothing was written
+abbrev pub StopsOpening : Bool → Shown → Shown → Option (List ℕ) → Option (List ℕ) → Option (List ℕ) → Type 0
+StopsOpening tells old now left before after = (line : List ℕ) × LinesBegin left (line ∷ []) × OpensInPart tells old now line before after
+
+-- so it stopped because the keepers failed there
+pub record FailsOpening (tells : Bool) (old now : Shown) (left before after : Option (List ℕ)) : Type 0 where
+  pub opening : StopsOpening tells old now left before after
+  pub rose : Rose old.faults now.faults
+
+-- the statuses of a run that stopped at the opening of its stores: the keepers failed there, or memory was wanting
+abbrev pub IsOpeningStatus : ℕ → Type 0
+IsOpeningStatus code = (code ≡ 6) ⊎ (code ≡ 7)
+
+-- what a run has done that ends with this status: a part of its lines, or of the opening of its stores with 6 and 7 alone
+abbrev pub EndsInPart : ℕ → Bool → Shown → Shown → Option (List ℕ) → Option (List ℕ) → Option (List ℕ) → Type 0
+EndsInPart code tells old now left before after =
+    (IsOpeningStatus code × StopsOpening tells old now left before after) ⊎ DoneInPart tells old now left before after
 
 -- the first line is refused as the configuration, or the input has none
 abbrev pub IsRefused : Bool → Shown → Shown → Option (List ℕ) → List ℕ → Type 0

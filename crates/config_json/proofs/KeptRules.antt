@@ -24,7 +24,7 @@ said_of field None said is = ap result_ok is
 said_of field (Some other) said is = ap result_ok is
 
 -- what passes a test
-passed : {A : Type 0} (test : Bool) (x y : A) → then_some test x ≡ Some y → (test ≡ true) × (x ≡ y)
+pub passed : {A : Type 0} (test : Bool) (x y : A) → then_some test x ≡ Some y → (test ≡ true) × (x ≡ y)
 passed true x y is = (refl, same_Some x y is)
 passed false x y is = absurd (none-some y is)
 

@@ -1,1 +1,2 @@
-pub mod KeptRules
+pub mod Inverses
+mod KeptRules

@@ -38,7 +38,7 @@ const FIELDS: [&str; 7] = [
 /// memory for what it says.
 pub fn read_config(alloc: Global, line: &[u8]) -> Result<Config, ConfigRefusal>
     ensures ok { IfOk result (λ config. config_in line.now ≡ Ok config) }
-    ensures single { IfOk result IsWithoutInverses }
+    ensures no_inverse { IfOk result IsWithoutInverses }
     ensures refused { IfErr result (λ refusal. refusal ≢ ConfigRefusal.OutOfMemory → config_in line.now ≡ Err refusal) }
 {
     match object_in(alloc, line)? {

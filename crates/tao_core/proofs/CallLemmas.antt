@@ -12,6 +12,7 @@ use Rattle.request_check.specs.declared.refusal.CheckRefusal.{CheckRefusal}
 use Rattle.request_check.specs.declared.refusal.CheckRefusal.TheVariants as check
 use Rattle.topology.specs.Config.{Settings}
 use Rattle.tao_core.specs.Asked.{asked_of}
+use Rattle.config_json.specs.Stage.{IsWithoutInverses}
 use Rattle.tao_core.specs.Core.{CoreState, IsCoreOf}
 use Rattle.tao_core.specs.Stores.{AreStoresOf}
 use Rattle.tao_keeper.specs.Table.{Tables}
@@ -54,7 +55,9 @@ answers_unasked tells core s sessions old asked refusal is_s is_sessions h =
     subst (λ x. Answers tells core.settings x old asked (reply_as refusal) x old) is_sessions one
 
 -- a core whose stores were lent, and came back
-pub core_after : (tells : Bool) (tables : Tables) (core : CoreState) (s : Settings) (stores : List Store) → AreStoresOf tells s tables stores → core.settings ≡ s → core.stores ≡ stores → IsCoreOf tells tables core
-core_after tells tables core s stores are is_s back =
-    let one = subst (λ l. AreStoresOf tells s tables l) (sym back) are in
-    subst (λ x. AreStoresOf tells x tables core.stores) (sym is_s) one
+pub core_after : (tells : Bool) (tables : Tables) (core : CoreState) (s : Settings) (stores : List Store) → AreStoresOf tells s tables stores → IsWithoutInverses s → core.settings ≡ s → core.stores ≡ stores
+    → IsCoreOf tells tables core
+core_after tells tables core s stores are no_inverse is_s back = record {
+  stores = subst (λ x. AreStoresOf tells x tables core.stores) (sym is_s) (subst (λ l. AreStoresOf tells s tables l) (sym back) are);
+  no_inverse = subst IsWithoutInverses (sym is_s) no_inverse;
+}

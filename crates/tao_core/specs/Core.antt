@@ -1,5 +1,6 @@
 -- What contracts see of a core.
 use Rattle.std.specs.Prelude.{List, Bool}
+use Rattle.config_json.specs.Stage.{IsWithoutInverses}
 use Rattle.shard_tables.specs.StoreView.{Store}
 use Rattle.tao_keeper.specs.Table.{Tables}
 use Rattle.topology.specs.Config.{Settings}
@@ -16,6 +17,7 @@ pub record CoreState : Type 0 where
 abbrev pub state_of : Inside → CoreState
 state_of core = record { settings = core.config.now; sessions = core.sessions; stores = core.stores.items }
 
--- the core may be used with keepers that tell these tables: the log of each shard is sound
-abbrev pub IsCoreOf : Bool → Tables → CoreState → Type 0
-IsCoreOf tells tables core = AreStoresOf tells core.settings tables core.stores
+-- the core may be used with keepers that tell these tables: the log of each shard is sound. No type of its configuration has an inverse
+pub record IsCoreOf (tells : Bool) (tables : Tables) (core : CoreState) : Type 0 where
+  pub stores : AreStoresOf tells core.settings tables core.stores
+  pub no_inverse : IsWithoutInverses core.settings

@@ -105,7 +105,7 @@ kind_of (write.AssocAdd id1 atype id2 time payload) entry = Some write_kind.Asso
 kind_of (write.AssocDelete id1 atype id2) entry = Some write_kind.AssocDelete
 kind_of (write.AssocChangeType id1 atype id2 newtype) entry = Some write_kind.AssocChangeType
 
--- what was written: an entry that stood there before, one that was added, or none. No type of this stage has an inverse
+-- what was written: an entry that stood there before, one that was added, or none. No type has an inverse, since a core serves configurations without one
 abbrev pub written_of : Bool → Option Entry → Written
 written_of retry None = record { changed = false; inverse = inverse.None; position = 0; retry = retry }
 written_of retry (Some entry) = record { changed = true; inverse = inverse.None; position = entry.position; retry = retry }

@@ -1,5 +1,6 @@
 //! The core.
 ghost use Rattle.std.specs.Prelude.{◌≡◌, [], false, IfOk, IfErr};
+ghost use Rattle.config_json.specs.Stage.{IsWithoutInverses};
 ghost use Rattle.graph_model.specs.Told.{WhereTold};
 ghost use Rattle.tao_core.specs.Core.{IsCoreOf};
 ghost use Rattle.tao_core.specs.Opening.{IsOpened, MayOpen, RefusesOpening};
@@ -41,7 +42,8 @@ impl<'c> Model for Core<'c> {
 
 impl<'c> Core<'c> {
     /// Opens the store of each shard with the configuration's line, the shards in order. No session is
-    /// open then. Makes one call of the keeper for each shard.
+    /// open then. Makes one call of the keeper for each shard. The configuration is one without inverses, as each
+    /// that `read_config` takes: the far ends of edges aren't written yet.
     ///
     /// `OtherLine` comes exactly where a store was first opened with another line: the stores before it
     /// are open then. `KeeperFault` comes only where the keepers' count of faults rose, and
@@ -53,6 +55,7 @@ impl<'c> Core<'c> {
         keepers: &mut K,
     ) -> Result<Core<'c>, OpenRefusal>
         requires sound { WhereTold K.TELLS (MayOpen config.now line.now (K.told keepers.old)) }
+        requires no_inverse { IsWithoutInverses config.now }
         ensures settings { IfOk result (λ core. core.settings ≡ config.now) }
         ensures sessions { IfOk result (λ core. core.sessions ≡ []) }
         ensures opened { IfOk result (λ core. WhereTold K.TELLS (IsOpened config.now line.now (K.told keepers.old) (K.told keepers.new))) }

@@ -14,8 +14,8 @@ use Rattle.tao_io.specs.declared.lines.NextLine.{NextLine}
 use Rattle.tao_io.specs.declared.lines.NextLine.TheVariants.{End}
 use Rattle.tao_top.proofs.GoingOn.{GivesLines-all, GivesLines-begin, part_none, part_one, served_one, still_refl}
 use Rattle.tao_top.proofs.OneLine.{no_configuration}
-use Rattle.tao_top.specs.Begun.{BegunInPart, EndsAtFirst, RefusesFirst, RefusesFor, RefusesInPart, RefusesLine}
-use Rattle.tao_top.specs.Served.{AppendsPart, AreLines, DoneInPart, RefusesConfiguration, Served, refusal_line, serves, start}
+use Rattle.tao_top.specs.Begun.{BegunInPart, EndsAtFirst, GivesOne, RefusesFirst, RefusesFor, RefusesInPart, RefusesLine}
+use Rattle.tao_top.specs.Served.{AppendsPart, AreLines, EndsInPart, OpensInPart, RefusesConfiguration, Served, StopsOpening, refusal_line, serves, start}
 use Rattle.tao_top.specs.Step.{State, ended, Configures, Replies, Step, line_of, serving}
 use Rattle.topology.specs.Config.{Settings}
 
@@ -36,15 +36,25 @@ no_step tells keepers line field is = record { does = inl (record { refused = is
 
 -- ---- the reading of the first line
 
+module _ (left rest : Option (List ℕ)) where
+  pub gives_one : (line : List ℕ) → GivesLines left rest (line ∷ []) → GivesOne left rest
+  gives_one line read = (line ∷ [], omega arith, read)
+
+  pub gives_long : ((whole : List ℕ) × IsTooLong whole × GivesLines left rest (whole ∷ [])) → GivesOne left rest
+  gives_long long = gives_one long.0 long.2
+
+  pub gives_none : GivesLines left rest [] → GivesOne left rest
+  gives_none read = ([], omega arith, read)
+
 module _ (left rest before after : Option (List ℕ)) where
   pub ends_unread : Appends before after [] → EndsAtFirst left before after
-  ends_unread written = λ tells keepers. inr (inr (part_none tells (start keepers) keepers left before after written (still_refl tells keepers (start keepers) refl)))
+  ends_unread written = λ tells keepers. inr (part_none tells (start keepers) keepers left before after written (still_refl tells keepers (start keepers) refl))
 
   pub ends_at_first : (line : List ℕ) → GivesLines left rest (line ∷ []) → RefusesInPart line before after → EndsAtFirst left before after
   ends_at_first line read (inl nothing) = ends_unread nothing
   ends_at_first line read (inr refused) = λ tells keepers.
-      inr (inr (part_one tells (start keepers) (refusing keepers) keepers left rest before after line read
-      (BadConfiguration refused.0, no_step tells keepers line refused.0 refused.1, refused.2) (still_refl tells keepers (refusing keepers) refl)))
+      inr (part_one tells (start keepers) (refusing keepers) keepers left rest before after line read
+      (BadConfiguration refused.0, no_step tells keepers line refused.0 refused.1, refused.2) (still_refl tells keepers (refusing keepers) refl))
 
   pub ends_at_first_of : {T E : Type 0} (result : Result T E) (line : List ℕ) → GivesLines left rest (line ∷ []) → OnErr result (RefusesInPart line before after) → OnErr result (EndsAtFirst left before after)
   ends_at_first_of (Ok x) line read part = tt
@@ -95,24 +105,27 @@ module _ (tells : Bool) (old now : Shown) (line : List ℕ) (s : Settings) (conf
     begins core is sessions opened written = (Configured, takes core is sessions opened, written)
 
     pub begun_silent : (core : CoreState) → core.settings ≡ s → core.sessions ≡ [] → WhereTold tells (IsOpened s line old.told now.told) → AppendsPart before after (line_of (serving core) Configured)
-        → BegunInPart tells old now line before after
-    begun_silent core is sessions opened written = inr (serves core now, (Configured, takes core is sessions opened, written), still_refl tells now (serves core now) refl)
+        → (code : ℕ) → BegunInPart code tells old now line before after
+    begun_silent core is sessions opened written code = inr (serves core now, (Configured, takes core is sessions opened, written), still_refl tells now (serves core now) refl)
 
-    pub begun_other : WhereTold tells (IsOtherLine s line old.told now.told) → AppendsPart before after (refusal_line (codes "file")) → BegunInPart tells old now line before after
-    begun_other other written = inr (refusing now, (BadConfiguration (codes "file"), record { does = other_line other; later = later }, written), still_refl tells now (refusing now) refl)
+    pub begun_other : WhereTold tells (IsOtherLine s line old.told now.told) → AppendsPart before after (refusal_line (codes "file")) → (code : ℕ) → BegunInPart code tells old now line before after
+    begun_other other written code = inr (refusing now, (BadConfiguration (codes "file"), record { does = other_line other; later = later }, written), still_refl tells now (refusing now) refl)
 
     pub refuses_other : WhereTold tells (IsOtherLine s line old.told now.told) → Appends before after (refusal_line (codes "file")) → RefusesLine tells old now line before after
     refuses_other other written = record { field = codes "file"; refused = other_line other; written = written }
 
-    pub begun_opening : WhereTold tells (IsOpenedInPart s line old.told now.told) → Appends before after [] → BegunInPart tells old now line before after
-    begun_opening opened written = inl (record { settings = s; configured = configured; opened = opened; later = later; written = written })
+    pub opens_in_part : WhereTold tells (IsOpenedInPart s line old.told now.told) → Appends before after [] → OpensInPart tells old now line before after
+    opens_in_part opened written = record { settings = s; configured = configured; opened = opened; later = later; written = written }
 
 -- ---- both
 
 module _ (tells : Bool) (old now : Shown) (left rest before after : Option (List ℕ)) (line : List ℕ) (read : GivesLines left rest (line ∷ [])) where
-  pub begun_part : BegunInPart tells old now line before after → DoneInPart tells old now left before after
-  begun_part (inl opens) = inr (inl (line, GivesLines-begin left rest (line ∷ []) read, opens))
-  begun_part (inr said) = inr (inr (part_one tells (start old) said.0 now left rest before after line read said.1 said.2))
+  pub stops_opening : OpensInPart tells old now line before after → StopsOpening tells old now left before after
+  stops_opening opens = (line, GivesLines-begin left rest (line ∷ []) read, opens)
+
+  pub begun_part : (code : ℕ) → BegunInPart code tells old now line before after → EndsInPart code tells old now left before after
+  begun_part code (inl opens) = inl (opens.0, stops_opening opens.1)
+  begun_part code (inr said) = inr (inr (part_one tells (start old) said.0 now left rest before after line read said.1 said.2))
 
   pub refuses_line : RefusesLine tells old now line before after → RefusesConfiguration tells old now left before after
   refuses_line r = record { field = r.field; refused = inr (line, GivesLines-begin left rest (line ∷ []) read, r.refused); written = r.written }

@@ -1,7 +1,8 @@
--- What keepers hold stays kept through a request: lines stay, and only logs of the shards' stores grow.
-use Rattle.std.proofs.Common.{◌≡◌, ◌≢◌, ◌⊎◌, ℕ, ◌<◌, Bool, true, List, Option, Some, None, Result, Ok, Err, refl, sym, ap, subst, ◌∙◌, inl, inr}
+-- What the keepers' tables allow, they still allow after a request: lines stay, and only logs of the shards' stores grow.
+use Rattle.std.proofs.Common.{◌≡◌, ◌≢◌, ◌⊎◌, ℕ, ◌<◌, Bool, true, List, Option, Some, None, Result, Ok, Err, unwrap_or, refl, sym, ap, subst, ◌∙◌, inl, inr}
 use Rattle.config_json.specs.Config.{config_in}
 use Rattle.graph_model.specs.Soundness.{IsSoundOf}
+use Rattle.graph_model.specs.Told.{WhereTold}
 use Rattle.reply_json.specs.declared.calls.CallReply.TheVariants as called
 use Rattle.reply_json.specs.declared.refusals.Refusal.{Refusal}
 use Rattle.reply_json.specs.declared.refusals.Refusal.TheVariants.{Line, Plan as OfPlan, Session, Name, Node as OfNode, Store, Memory}
@@ -23,13 +24,14 @@ use Rattle.tao_core.specs.Asked.{asked_of}
 use Rattle.tao_core.specs.Core.{CoreState, IsCoreOf}
 use Rattle.tao_core.specs.Replies.{Answers, Does, DoesAudit, DoesRead, DoesWrite, ReadRefused, WriteRefused, gained}
 use Rattle.tao_core.specs.Shown.{Shown, KeepsTables}
-use Rattle.tao_core.specs.Stores.{store_of}
+use Rattle.tao_core.specs.Stores.{AreSound, store_of}
 use Rattle.tao_core.specs.declared.sessions.OpenSession.{OpenSession}
-use Rattle.tao_keeper.specs.Table.{Table, Tables, Stays}
+use Rattle.tao_keeper.specs.Table.{Tables, OpensAs, Stays}
+use Rattle.tao_keeper.specs.declared.keeper.Opened.TheVariants.{Ready}
 use Rattle.tao_schema.specs.Schema.{types_of}
 use Rattle.tao_top.proofs.Keeping.{first_or_other, same_or_other}
 use Rattle.tao_top.proofs.Placed.{asked_placed}
-use Rattle.tao_top.specs.Kept.{AreKept, AreOpenedWith, IsKept, IsOpenedWith, IsServing}
+use Rattle.tao_top.specs.Kept.{AreOpenedWith, IsServing, StillBegin}
 use Rattle.tao_top.specs.Step.{Serves}
 use Rattle.topology.specs.Config.{Settings}
 
@@ -170,41 +172,40 @@ opened_grown s old new only opened = λ shard within.
     let o = opened shard within in
     record { line = o.line; first = only.lines (store_of s shard) ∙ o.first; configured = o.configured }
 
--- a store that was opened with the configuration is kept while its log is sound
-kept_sound : (at : StoreName) (table : Table) (s : Settings) → IsOpenedWith s table → IsSoundOf (types_of s.schema) at.shard table.log → IsKept at table
-kept_sound at table s opened sound = record {
-  fresh = λ none. let some = opened.first in absurd (cc (none, some));
-  sound = λ line t is configured.
-      let first = opened.first in
-      let same_line : opened.line ≡ line = cc (first, is) in
-      let here : config_in line ≡ Ok s = subst (λ l. config_in l ≡ Ok s) same_line opened.configured in
-      let same_settings : s ≡ t = cc (here, configured) in
-      subst (λ u. IsSoundOf (types_of u.schema) at.shard table.log) same_settings sound;
-}
-
-kept_grown : (tells : Bool) (core : CoreState) (old new : Tables) → tells ≡ true → OnlyGrow core.settings old new → AreOpenedWith core.settings new → IsCoreOf tells new core → AreKept old → AreKept new
-kept_grown tells core old new told only opened of_core kept at = by_store (first_or_other core.settings core.settings.shards at)
+-- with tables of a core that serves, whose logs are sound, a run may begin as before
+still_grown : (s : Settings) (old new : Tables) → OnlyGrow s old new → AreOpenedWith s old → AreSound s new → StillBegin old new
+still_grown s old new only opened sound line may t configured shard within ready = by_store (first_or_other s s.shards (store_of t shard))
   where
-    by_store : ((at.shard < core.settings.shards) × (at ≡ store_of core.settings at.shard)) ⊎ ((shard : ℕ) → shard < core.settings.shards → at ≢ store_of core.settings shard) → IsKept at (new at)
+    IsSoundAs : Settings → StoreName → Type 0
+    IsSoundAs u at = IsSoundOf (types_of u.schema) shard (new at).log
+
+    by_store : ((shard < s.shards) × (store_of t shard ≡ store_of s shard)) ⊎ ((n : ℕ) → n < s.shards → store_of t shard ≢ store_of s n) → IsSoundAs t (store_of t shard)
     by_store (inl first) =
-        subst (λ a. IsKept a (new a)) (sym first.1)
-        (kept_sound (store_of core.settings at.shard) (new (store_of core.settings at.shard)) core.settings (opened at.shard first.0) (of_core.sound told at.shard first.0))
-    by_store (inr other) = subst (IsKept at) (sym (only.others at other)) (kept at)
+        let o = opened shard first.0 in
+        let now : (new (store_of t shard)).line ≡ Some o.line = ap (λ at. (new at).line) first.1 ∙ only.lines (store_of s shard) ∙ o.first in
+        let same_line : o.line ≡ line = sym (ap (λ l. unwrap_or l line) now) ∙ ready in
+        let here : config_in line ≡ Ok s = subst (λ l. config_in l ≡ Ok s) same_line o.configured in
+        let same_settings : s ≡ t = cc (here, configured) in
+        subst (IsSoundAs t) (sym first.1) (subst (λ u. IsSoundAs u (store_of s shard)) same_settings (sound shard first.0))
+    by_store (inr none) =
+        let same = only.others (store_of t shard) none in
+        subst (λ table. IsSoundOf (types_of t.schema) shard table.log) (sym same) (may t configured shard within (subst (λ table. OpensAs Ready table line) same ready))
 
--- a core goes on serving after a request
-pub serves_on : (tells : Bool) (core next : CoreState) (old new : Shown) (request : Request) (reply : Reply) → IsServing tells core old.told → Answers tells core.settings core.sessions old request reply next.sessions new
-    → next.settings ≡ core.settings → IsCoreOf tells new.told next → IsServing tells next new.told
-serves_on tells core next old new request reply serving answers is of_core = record {
-  of_core = of_core;
-  opened = λ told. opened_now told;
-  kept = λ told. kept_grown tells next old.told new.told told (only told) (opened_now told) of_core (serving.kept told);
-}
-  where
-    only : tells ≡ true → OnlyGrow next.settings old.told new.told
-    only told = subst (λ s. OnlyGrow s old.told new.told) (sym is) (grows tells core.settings old new told core.sessions next.sessions request reply answers)
+module _ (tells : Bool) (core next : CoreState) (old new : Shown) (request : Request) (reply : Reply) (serving : IsServing tells core old.told)
+  (answers : Answers tells core.settings core.sessions old request reply next.sessions new) (is : next.settings ≡ core.settings) (of_core : IsCoreOf tells new.told next) where
+  only : tells ≡ true → OnlyGrow core.settings old.told new.told
+  only told = grows tells core.settings old new told core.sessions next.sessions request reply answers
 
-    opened_now : tells ≡ true → AreOpenedWith next.settings new.told
-    opened_now told = opened_grown next.settings old.told new.told (only told) (subst (λ s. AreOpenedWith s old.told) (sym is) (serving.opened told))
+  -- a core goes on serving after a request
+  pub serves_on : IsServing tells next new.told
+  serves_on = record {
+    of_core = of_core;
+    opened = λ told. subst (λ s. AreOpenedWith s new.told) (sym is) (opened_grown core.settings old.told new.told (only told) (serving.opened told));
+  }
+
+  -- and a run may begin as before
+  pub begins_on : WhereTold tells (StillBegin old.told new.told)
+  begins_on told = still_grown core.settings old.told new.told (only told) (serving.opened told) (subst (λ s. AreSound s new.told) is (of_core.stores.sound told))
 
 -- ---- a line that is answered, where the core stands within a value
 
@@ -217,3 +218,8 @@ pub call_serves_on : (tells : Bool) (core within next : CoreState) (old new : Sh
     → Answers tells within.settings within.sessions old request reply next.sessions new → next.settings ≡ within.settings → IsCoreOf tells new.told next → IsServing tells next new.told
 call_serves_on tells core within next old new request reply is serving answers settings of_core =
     serves_on tells within next old new request reply (subst (λ c. IsServing tells c old.told) (sym is) serving) answers settings of_core
+
+pub call_begins_on : (tells : Bool) (core within next : CoreState) (old new : Shown) (request : Request) (reply : Reply) → within ≡ core → IsServing tells core old.told
+    → Answers tells within.settings within.sessions old request reply next.sessions new → next.settings ≡ within.settings → IsCoreOf tells new.told next → WhereTold tells (StillBegin old.told new.told)
+call_begins_on tells core within next old new request reply is serving answers settings of_core =
+    begins_on tells within next old new request reply (subst (λ c. IsServing tells c old.told) (sym is) serving) answers settings of_core

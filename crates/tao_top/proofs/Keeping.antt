@@ -1,4 +1,4 @@
--- What keepers hold stays kept while stores are opened.
+-- What the keepers' tables allow, they still allow once stores were opened.
 use Rattle.std.proofs.Common.{◌≡◌, ◌≢◌, ℕ, ◌+◌, ◌<◌, ◌⊎◌, ◌&&◌, ◌==◌, nat_lt, Bool, true, false, List, [], Option, Some, None, Ok, unwrap_or, refl, sym, ap, subst, ◌∙◌, inl, inr, arith}
 use Rattle.std.proofs.lemmas.Bool.{cases_Bool, false≢true}
 use Rattle.std.proofs.lemmas.Bool.Decides.{nat_tests}
@@ -10,13 +10,13 @@ use Rattle.tao_base.specs.EdgeTypes.{EdgeTypes}
 use Rattle.tao_base.specs.declared.entry.Entry.{Entry}
 use Rattle.tao_base.specs.declared.id.StoreName.{StoreName}
 use Rattle.tao_core.specs.Core.{CoreState, IsCoreOf}
-use Rattle.tao_core.specs.Opening.{AreOpened, IsOpened, MayOpen, RefusesOpening}
+use Rattle.tao_core.specs.Opening.{AreOpened, IsOpened, RefusesOpening}
 use Rattle.tao_core.specs.Shown.{Shown}
 use Rattle.tao_core.specs.Stores.{store_of}
 use Rattle.tao_keeper.specs.Table.{Table, Tables, OpensAs, after_open, empty_table}
 use Rattle.tao_keeper.specs.declared.keeper.Opened.TheVariants.{Ready}
 use Rattle.tao_schema.specs.Schema.{types_of}
-use Rattle.tao_top.specs.Kept.{AreKept, AreOpenedWith, IsKept, IsServing}
+use Rattle.tao_top.specs.Kept.{AreKept, AreOpenedWith, IsServing, StillBegin}
 use Rattle.tao_wire.specs.declared.refusal.OpenRefusal.{OpenRefusal}
 use Rattle.tao_wire.specs.declared.refusal.OpenRefusal.TheVariants as refusal
 use Rattle.topology.specs.Config.{Settings}
@@ -55,55 +55,44 @@ first_or_other s count at = by_shard (cases_Bool (nat_lt at.shard count)) (same_
 
 -- ---- one table
 
+-- a store that takes a line once it is open took it before
+ready_before : (table : Table) (line other : List ℕ) → OpensAs Ready (after_open table line) other → OpensAs Ready table other
+ready_before table line other ready = by_line table.line refl
+  where
+    by_line : (first : Option (List ℕ)) → table.line ≡ first → OpensAs Ready table other
+    by_line None none = ap (λ o. unwrap_or o other) none
+    by_line (Some first) some = ap (λ o. unwrap_or o other) some ∙ sym (ap (λ o. unwrap_or o line) some) ∙ ready
+
 sound_nil : (types : EdgeTypes) (shard : ℕ) (log : List Entry) → log ≡ [] → IsSoundOf types shard log
 sound_nil types shard log is = subst (IsSoundOf types shard) (sym is) (record { sound = λ n e h. absurd (cc h); ends = All-nil (KeepsEnds types shard) })
 
--- a store that is opened keeps what it keeps
-kept_open : (at : StoreName) (table : Table) (line : List ℕ) → IsKept at table → IsKept at (after_open table line)
-kept_open at table line kept = by_line table.line refl
-  where
-    by_line : (first : Option (List ℕ)) → table.line ≡ first → IsKept at (after_open table line)
-    by_line None none = record { fresh = λ h. absurd (cc h); sound = λ l s is configured. sound_nil (types_of s.schema) at.shard table.log (kept.fresh none) }
-    by_line (Some first) some = record {
-      fresh = λ h. absurd (cc h);
-      sound = λ l s is configured.
-          let now : Some (unwrap_or table.line line) ≡ Some first = ap (λ o. Some (unwrap_or o line)) some in
-          kept.sound l s (some ∙ sym now ∙ is) configured;
-    }
-
--- a store that takes the line is sound with its configuration
-sound_ready : (at : StoreName) (table : Table) (line : List ℕ) (s : Settings) → IsKept at table → config_in line ≡ Ok s → OpensAs Ready table line → IsSoundOf (types_of s.schema) at.shard table.log
-sound_ready at table line s kept configured ready = by_line table.line refl
-  where
-    by_line : (first : Option (List ℕ)) → table.line ≡ first → IsSoundOf (types_of s.schema) at.shard table.log
-    by_line None none = sound_nil (types_of s.schema) at.shard table.log (kept.fresh none)
-    by_line (Some first) some =
-        let first_is : first ≡ line = sym (ap (λ o. unwrap_or o line) some) ∙ ready in
-        kept.sound line s (some ∙ ap (λ l. Some l) first_is) configured
-
 -- ---- all tables
 
--- stores that were not opened yet keep nothing
+-- with stores that were not opened yet a run may begin with any line
 pub empty_kept : (tables : Tables) → ((at : StoreName) → tables at ≡ empty_table) → AreKept tables
-empty_kept tables empty at = subst (IsKept at) (sym (empty at)) (record { fresh = λ none. refl; sound = λ line s is configured. absurd (cc is) })
+empty_kept tables empty line s configured shard within ready = sound_nil (types_of s.schema) shard (tables (store_of s shard)).log (ap (λ t. t.log) (empty (store_of s shard)))
 
-pub may_open : (s : Settings) (line : List ℕ) (tables : Tables) → config_in line ≡ Ok s → AreKept tables → MayOpen s line tables
-may_open s line tables configured kept = λ shard within ready. sound_ready (store_of s shard) (tables (store_of s shard)) line s (kept (store_of s shard)) configured ready
-
-pub kept_opened : (s : Settings) (line : List ℕ) (count : ℕ) (old new : Tables) → AreOpened s line count old new → AreKept old → AreKept new
-kept_opened s line count old new opened kept at = by_store (first_or_other s count at)
+-- with stores that were opened a run may begin as before
+pub still_opened : (s : Settings) (line : List ℕ) (count : ℕ) (old new : Tables) → AreOpened s line count old new → StillBegin old new
+still_opened s line count old new opened other may t configured shard within ready = by_store (first_or_other s count (store_of t shard))
   where
-    by_store : ((at.shard < count) × (at ≡ store_of s at.shard)) ⊎ ((shard : ℕ) → shard < count → at ≢ store_of s shard) → IsKept at (new at)
-    by_store (inl first) =
-        let becomes : new at ≡ after_open (old at) line = subst (λ a. new a ≡ after_open (old a) line) (sym first.1) (opened.stores at.shard first.0) in
-        subst (IsKept at) (sym becomes) (kept_open at (old at) line (kept at))
-    by_store (inr other) = subst (IsKept at) (sym (opened.others at other)) (kept at)
+    IsSoundHere : Table → Type 0
+    IsSoundHere table = IsSoundOf (types_of t.schema) shard table.log
 
--- stores that were not opened, or only in part, keep what they keep
-pub kept_refused : (tells : Bool) (s : Settings) (line : List ℕ) (old new : Shown) (refused : OpenRefusal) → RefusesOpening tells s line old new refused → WhereTold tells (AreKept old.told) → WhereTold tells (AreKept new.told)
-kept_refused tells s line old new refusal.KeeperFault h kept = λ told. let part = h.1 told in kept_opened s line part.count old.told new.told part.opened (kept told)
-kept_refused tells s line old new refusal.OtherLine h kept = λ told. let other = h told in kept_opened s line (other.shard + 1) old.told new.told other.opened (kept told)
-kept_refused tells s line old new refusal.OutOfMemory h kept = λ told. let part = h told in kept_opened s line part.count old.told new.told part.opened (kept told)
+    kept : (table : Table) → new (store_of t shard) ≡ table → (OpensAs Ready table other → IsSoundHere table) → IsSoundHere (new (store_of t shard))
+    kept table is sound = subst IsSoundHere (sym is) (sound (subst (λ x. OpensAs Ready x other) is ready))
+
+    by_store : ((shard < count) × (store_of t shard ≡ store_of s shard)) ⊎ ((n : ℕ) → n < count → store_of t shard ≢ store_of s n) → IsSoundHere (new (store_of t shard))
+    by_store (inl first) =
+        let becomes : new (store_of t shard) ≡ after_open (old (store_of t shard)) line = subst (λ a. new a ≡ after_open (old a) line) (sym first.1) (opened.stores shard first.0) in
+        kept (after_open (old (store_of t shard)) line) becomes (λ now. may t configured shard within (ready_before (old (store_of t shard)) line other now))
+    by_store (inr none) = kept (old (store_of t shard)) (opened.others (store_of t shard) none) (λ before. may t configured shard within before)
+
+-- so it may where the opening stopped
+pub still_refused : (tells : Bool) (s : Settings) (line : List ℕ) (old new : Shown) (refused : OpenRefusal) → RefusesOpening tells s line old new refused → WhereTold tells (StillBegin old.told new.told)
+still_refused tells s line old new refusal.KeeperFault h = λ told. let part = h.1 told in still_opened s line part.count old.told new.told part.opened
+still_refused tells s line old new refusal.OtherLine h = λ told. let other = h told in still_opened s line (other.shard + 1) old.told new.told other.opened
+still_refused tells s line old new refusal.OutOfMemory h = λ told. let part = h told in still_opened s line part.count old.told new.told part.opened
 
 -- ---- a core that serves
 
@@ -115,9 +104,8 @@ opened_with s line old new configured opened = λ shard within. record {
 }
 
 pub serves_opened : (tells : Bool) (s : Settings) (line : List ℕ) (core : CoreState) (old new : Tables) → config_in line ≡ Ok s → core.settings ≡ s → WhereTold tells (IsOpened s line old new)
-    → WhereTold tells (AreKept old) → IsCoreOf tells new core → IsServing tells core new
-serves_opened tells s line core old new configured is opened kept of_core = record {
+    → IsCoreOf tells new core → IsServing tells core new
+serves_opened tells s line core old new configured is opened of_core = record {
   of_core = of_core;
   opened = λ told. subst (λ t. AreOpenedWith t new) (sym is) (opened_with s line old new configured (opened told));
-  kept = λ told. kept_opened s line s.shards old new (opened told).opened (kept told);
 }

@@ -1,5 +1,5 @@
 -- One line that is served: as it was read, answered, and its reply written.
-use Rattle.std.proofs.Common.{◌≡◌, ℕ, nat_le, Bool, false, List, [], ◌∷◌, length, Option, None, Result, Ok, Err, OnErr, OnOk, inl, inr, refl, sym, ap, subst, arith}
+use Rattle.std.proofs.Common.{◌≡◌, ℕ, nat_le, Bool, false, List, [], ◌∷◌, length, Option, None, Result, Ok, Err, IfErr, OnErr, OnOk, inl, inr, refl, sym, ap, subst, arith}
 use Rattle.std.proofs.lemmas.Bool.Decides.{nat_tests}
 use Rattle.std.specs.Io.KnownBytes.{Appends}
 use Rattle.std.proofs.KnownBytes.{Appends-nil}
@@ -26,6 +26,10 @@ use Rattle.tao_top.specs.Step.{State, Replies, Serves, Step, line_of, serving}
 pub OnErr-any : {T E : Type 0} (result : Result T E) (P : Type 0) → P → OnErr result P
 OnErr-any (Ok x) P p = tt
 OnErr-any (Err e) P p = p
+
+pub IfErr-any : {T E : Type 0} (result : Result T E) (P : E → Type 0) → ((e : E) → P e) → IfErr result P
+IfErr-any (Ok x) P p = tt
+IfErr-any (Err e) P p = p e
 
 -- ---- a line that is too long
 

@@ -1,17 +1,28 @@
 -- A whole run: its first line, and then all others.
-use Rattle.std.proofs.Common.{◌≡◌, ℕ, ◌+◌, ◌<◌, ◌≤◌, ◌^◌, Bool, List, [], ◌∷◌, length, length-append, Option, Some, None, IfSome, inr, sym, ap, subst, ◌∙◌, arith}
-use Rattle.std.proofs.KnownBytes.{prepend_known-nil}
-use Rattle.std.specs.Io.KnownBytes.{IsAtEnd, prepend_known}
-use Rattle.tao_io.specs.LineReader.{LineReading, to_come}
-use Rattle.tao_io.specs.Lines.{CountsTaken, GivesLines}
-use Rattle.std.specs.Io.KnownBytes.{Appends}
-use Rattle.tao_top.proofs.FirstLine.{begun, begun_part, refuses_line}
-use Rattle.tao_top.specs.Begun.{BegunInPart, EndsAtFirst, RefusesFirst, RefusesLine}
-use Rattle.tao_top.specs.Step.{Replies}
-use Rattle.tao_top.proofs.GoingOn.{served_then_all, served_then_part, served_all_part}
+use Rattle.std.proofs.Common.{◌≡◌, ℕ, ◌+◌, ◌<◌, ◌≤◌, ◌^◌, Bool, List, [], ◌∷◌, length, length-append, Option, Some, None, Ok, IfSome, inr, refl, sym, ap, subst, ◌∙◌, arith}
+use Rattle.std.proofs.KnownBytes.{Consumes-nil, prepend_known-nil}
+use Rattle.std.proofs.lemmas.List.{nil_from_length}
+use Rattle.std.specs.Io.KnownBytes.{Appends, IsAtEnd, prepend_known}
+use Rattle.config_json.specs.Config.{config_in}
+use Rattle.graph_model.specs.Told.{WhereTold}
 use Rattle.tao_core.specs.Core.{CoreState}
+use Rattle.tao_core.specs.Opening.{MayOpen}
 use Rattle.tao_core.specs.Shown.{Shown}
-use Rattle.tao_top.specs.Served.{Done, DoneInPart, RefusesConfiguration, Served, ServedAll, ServedInPart, serves, start}
+use Rattle.tao_io.specs.LineReader.{LineReading, most_ahead, to_come}
+use Rattle.tao_io.specs.Lines.{CountsTaken, GivesLines}
+use Rattle.tao_keeper.specs.Table.{Tables}
+use Rattle.tao_top.proofs.FirstLine.{begun, begun_part, refuses_line, stops_opening}
+use Rattle.tao_top.proofs.GoingOn.{GivesLines-begin, served_then_all, served_then_part, served_all_part}
+use Rattle.tao_top.specs.Begun.{BegunInPart, EndsAtFirst, GivesOne, RefusesFirst, RefusesLine}
+use Rattle.tao_top.specs.Kept.{MayRun}
+use Rattle.tao_top.specs.Served.{Done, DoneInPart, EndsInPart, FailsOpening, LinesBegin, OpensInPart, RefusesConfiguration, Served, ServedAll, ServedInPart, StopsOpening, serves, start}
+use Rattle.tao_top.specs.Step.{Replies}
+use Rattle.tao_top.specs.Stop.{Faults, StopHasCause, stop_code}
+use Rattle.tao_top.specs.Taken.{Takes, TakesFirst}
+use Rattle.tao_top.specs.declared.stop.Interrupt.TheVariants.{Source, Sink, Memory, InputTooLong}
+use Rattle.tao_top.specs.declared.stop.Stop.{Stop}
+use Rattle.tao_top.specs.declared.stop.Stop.TheVariants.{Configuration, Keepers, Interrupted}
+use Rattle.topology.specs.Config.{Settings}
 
 -- a reader that took nothing leaves all to come
 pub fresh : (reader : LineReading) (left : Option (List ℕ)) → reader.ahead ≡ [] → to_come reader left ≡ left
@@ -28,8 +39,13 @@ module _ (tells : Bool) (keepers : Shown) (known left before after : Option (Lis
 
 -- it was read, and nothing was written until its reply
 module _ (tells : Bool) (old mid : Shown) (known left rest before silent after : Option (List ℕ)) (line : List ℕ) (is : known ≡ left) (same : silent ≡ before) (read : GivesLines known rest (line ∷ [])) where
-  pub begun_in_part : BegunInPart tells old mid line silent after → DoneInPart tells old mid left before after
-  begun_in_part part = subst (λ l. DoneInPart tells old mid l before after) is (subst (λ w. DoneInPart tells old mid known w after) same (begun_part tells old mid known rest silent after line read part))
+  pub begun_in_part : (code : ℕ) → BegunInPart code tells old mid line silent after → EndsInPart code tells old mid left before after
+  begun_in_part code part =
+      subst (λ l. EndsInPart code tells old mid l before after) is (subst (λ w. EndsInPart code tells old mid known w after) same (begun_part tells old mid known rest silent after line read code part))
+
+  pub begun_opening : OpensInPart tells old mid line silent after → StopsOpening tells old mid left before after
+  begun_opening opens =
+      subst (λ l. StopsOpening tells old mid l before after) is (subst (λ w. StopsOpening tells old mid known w after) same (stops_opening tells old mid known rest silent after line read opens))
 
   pub begun_refused : RefusesLine tells old mid line silent after → RefusesConfiguration tells old mid left before after
   begun_refused refuses = subst (λ l. RefusesConfiguration tells old mid l before after) is (subst (λ w. RefusesConfiguration tells old mid known w after) same (refuses_line tells old mid known rest silent after line read refuses))
@@ -46,11 +62,11 @@ module _ (tells : Bool) (old mid now : Shown) (core : CoreState) (left rest befo
   done next all = record { core = next; served = served_then_all tells (start old) (serves core mid) (serves next now) left rest before middle after first all }
 
   pub done_part : ServedInPart tells (serves core mid) now rest middle after → DoneInPart tells old now left before after
-  done_part part = inr (inr (served_then_part tells (start old) (serves core mid) now left rest before middle after first part))
+  done_part part = inr (served_then_part tells (start old) (serves core mid) now left rest before middle after first part)
 
 -- what is done whole is done in part
 pub done_whole : (tells : Bool) (old now : Shown) (left before after : Option (List ℕ)) → Done tells old now left before after → DoneInPart tells old now left before after
-done_whole tells old now left before after d = inr (inr (served_all_part tells (start old) (serves d.core now) left before after d.served))
+done_whole tells old now left before after d = inr (served_all_part tells (start old) (serves d.core now) left before after d.served)
 
 -- ---- how long the input is, by what was taken of it
 
@@ -70,3 +86,43 @@ short_input (Some x) (Some y) ahead k n none taken end short =
     let rest : length ahead + length y ≡ 0 = sym (length-append ahead y) ∙ ap length end in
     let count = taken.count in
     omega arith
+
+-- ---- what was taken of it
+
+-- nothing was
+pub takes_none : (left : Option (List ℕ)) → Takes left left
+takes_none left = record { bytes = []; consumed = Consumes-nil left; few = omega arith }
+
+pub takes_counted : (a b : Option (List ℕ)) (k n : ℕ) → k ≡ 0 → CountsTaken a b k n → n ≤ 2 ^ 40 → Takes a b
+takes_counted a b k n none taken limited = let count = taken.count in record { bytes = taken.bytes; consumed = taken.consumed; few = omega arith }
+
+-- nothing is left where nothing is to come
+pub end_of_source : (ahead : List ℕ) (left : Option (List ℕ)) → IsAtEnd (prepend_known ahead left) → IsAtEnd left
+end_of_source ahead None end = tt
+end_of_source ahead (Some bytes) end = let long : length bytes ≡ 0 = omega (arith, length-append ahead bytes, ap length end) in nil_from_length bytes long
+
+pub takes_first : (known left rest : Option (List ℕ)) (ahead : List ℕ) → known ≡ left → length ahead ≤ most_ahead → GivesOne known (prepend_known ahead rest) → TakesFirst left rest
+takes_first known left rest ahead is near one =
+    subst (λ l. TakesFirst l rest) is (record { lines = one.0; past = ahead; read = one.2; one = one.1; short = near })
+
+-- ---- the first line may be opened
+
+pub may_open : (tells : Bool) (tables : Tables) (known left rest : Option (List ℕ)) (line : List ℕ) (s : Settings) → known ≡ left → GivesLines known rest (line ∷ []) → config_in line ≡ Ok s
+    → WhereTold tells (MayRun left tables) → WhereTold tells (MayOpen s line tables)
+may_open tells tables known left rest line s is read configured may =
+    λ told. may told line (subst (λ l. LinesBegin l (line ∷ [])) is (GivesLines-begin known rest (line ∷ []) read)) s configured
+
+-- ---- a run that failed at the opening of its stores
+
+only_keepers : (stop : Stop) → stop_code stop ≡ 6 → stop ≡ Keepers
+only_keepers Configuration is = absurd (omega arith)
+only_keepers Keepers is = refl
+only_keepers (Interrupted Source) is = absurd (omega arith)
+only_keepers (Interrupted Sink) is = absurd (omega arith)
+only_keepers (Interrupted Memory) is = absurd (omega arith)
+only_keepers (Interrupted InputTooLong) is = absurd (omega arith)
+
+pub fails_opening : (tells : Bool) (old now : Shown) (left before after : Option (List ℕ)) (old_faults new_faults : Faults) (stop : Stop) → stop_code stop ≡ 6
+    → (stop ≡ Keepers → StopsOpening tells old now left before after) → StopHasCause old_faults new_faults old.faults now.faults stop → FailsOpening tells old now left before after
+fails_opening tells old now left before after old_faults new_faults stop is opening cause =
+    let same = only_keepers stop is in record { opening = opening same; rose = subst (StopHasCause old_faults new_faults old.faults now.faults) same cause }

@@ -1,16 +1,17 @@
 //! The first line of a run: its configuration, with which the stores are opened.
-ghost use Rattle.std.specs.Prelude.{◌≡◌, ◌≤◌, ◌^◌, Ok, Err, [], ◌∷◌, IfErr, IfOk, OnErr};
+ghost use Rattle.std.specs.Prelude.{◌≡◌, ◌≢◌, ◌≤◌, ◌^◌, Ok, Err, [], ◌∷◌, length, IfErr, IfOk, OnErr};
 ghost use Rattle.std.specs.Io.KnownBytes.{Appends};
 ghost use Rattle.config_json.specs.Config.{config_in};
 ghost use Rattle.graph_model.specs.Told.{WhereTold};
+ghost use Rattle.tao_core.specs.Opening.{MayOpen};
 ghost use Rattle.tao_core.specs.Shown.{shown};
-ghost use Rattle.tao_io.specs.LineReader.{to_come};
+ghost use Rattle.tao_io.specs.LineReader.{most_ahead, to_come};
 ghost use Rattle.tao_io.specs.Lines.{CountsTaken, GivesLines};
-ghost use Rattle.tao_top.specs.Begun.{BegunInPart, EndsAtFirst, RefusesFirst, RefusesFor, RefusesInPart, RefusesLine, StopsBeginning};
-ghost use Rattle.tao_top.specs.Kept.{AreKept, IsServing};
-ghost use Rattle.tao_top.specs.Served.{serves, start};
+ghost use Rattle.tao_top.specs.Begun.{BegunInPart, EndsAtFirst, GivesOne, RefusesFirst, RefusesFor, RefusesInPart, RefusesLine, StopsBeginning};
+ghost use Rattle.tao_top.specs.Kept.{IsServing, StillBegin};
+ghost use Rattle.tao_top.specs.Served.{OpensInPart, serves, start};
 ghost use Rattle.tao_top.specs.Step.{Replies};
-ghost use Rattle.tao_top.specs.Stop.{FaultsGrow, StopHasCause, faults};
+ghost use Rattle.tao_top.specs.Stop.{FaultsGrow, StopHasCause, faults, stop_code};
 
 use crate::lines::refuse;
 use crate::serving::Serving;
@@ -35,6 +36,7 @@ fn take_line<S: Sink>(alloc: Global, output: &mut S, line: Vec<u8>) -> Result<Fi
     ensures silent { IfOk result (λ _. output.new ≡ output.old) }
     ensures err { OnErr result (RefusesInPart line.items (S.taken output.old) (S.taken output.new)) }
     ensures refused { result ≡ Err Stop.Configuration → RefusesFor line.items (Appends (S.taken output.old) (S.taken output.new)) }
+    ensures not_keepers { result ≢ Err Stop.Keepers }
     ensures cause { IfErr result (StopsBeginning (S.faults output.old) (S.faults output.new) 0 0) }
     ensures later { S.faults output.old ≤ S.faults output.new }
 {
@@ -57,10 +59,14 @@ pub(crate) fn read_first<R: Source, S: Sink>(
     ensures silent { IfOk result (λ _. output.new ≡ output.old) }
     ensures err { OnErr result (EndsAtFirst (to_come reader.old (R.left input.old)) (S.taken output.old) (S.taken output.new)) }
     ensures refused { result ≡ Err Stop.Configuration → RefusesFirst (to_come reader.old (R.left input.old)) (S.taken output.old) (S.taken output.new) }
+    ensures once { result ≡ Err Stop.Configuration → GivesOne (to_come reader.old (R.left input.old)) (to_come reader.new (R.left input.new)) }
+    ensures not_keepers { result ≢ Err Stop.Keepers }
     ensures cause { IfErr result (StopHasCause (faults (R.faults input.old) (S.faults output.old)) (faults (R.faults input.new) (S.faults output.new)) 0 0) }
     ensures long { result ≡ Err (Stop.Interrupted Interrupt.InputTooLong) → reader.new.taken ≡ 2 ^ 40 }
 
     ensures counted { CountsTaken (R.left input.old) (R.left input.new) reader.old.taken reader.new.taken }
+    ensures limited { reader.new.taken ≤ 2 ^ 40 }
+    ensures near { length reader.new.ahead ≤ most_ahead }
     ensures later { FaultsGrow (faults (R.faults input.old) (S.faults output.old)) (faults (R.faults input.new) (S.faults output.new)) }
 {
     let mut line = Vec::new(alloc);
@@ -80,12 +86,13 @@ pub(crate) fn begin<'c, S: Sink, K: Keeper>(
     keepers: &mut K,
 ) -> Result<Serving<'c>, Stop>
     requires configured { config_in first.now.line.items ≡ Ok first.now.config }
-    requires kept { WhereTold K.TELLS (AreKept (K.told keepers.old)) }
+    requires sound { WhereTold K.TELLS (MayOpen first.now.config first.now.line.items (K.told keepers.old)) }
     ensures ok { IfOk result (λ serving. Replies K.TELLS (start (shown K.told K.calls K.faults keepers.old)) first.now.line.items (serves serving (shown K.told K.calls K.faults keepers.new)) (Appends (S.taken output.old) (S.taken output.new))) }
     ensures serving { IfOk result (λ serving. IsServing K.TELLS serving (K.told keepers.new)) }
-    ensures err { OnErr result (BegunInPart K.TELLS (shown K.told K.calls K.faults keepers.old) (shown K.told K.calls K.faults keepers.new) first.now.line.items (S.taken output.old) (S.taken output.new)) }
+    ensures err { IfErr result (λ stop. BegunInPart (stop_code stop) K.TELLS (shown K.told K.calls K.faults keepers.old) (shown K.told K.calls K.faults keepers.new) first.now.line.items (S.taken output.old) (S.taken output.new)) }
+    ensures keepers { result ≡ Err Stop.Keepers → OpensInPart K.TELLS (shown K.told K.calls K.faults keepers.old) (shown K.told K.calls K.faults keepers.new) first.now.line.items (S.taken output.old) (S.taken output.new) }
     ensures refused { result ≡ Err Stop.Configuration → RefusesLine K.TELLS (shown K.told K.calls K.faults keepers.old) (shown K.told K.calls K.faults keepers.new) first.now.line.items (S.taken output.old) (S.taken output.new) }
-    ensures kept { WhereTold K.TELLS (AreKept (K.told keepers.new)) }
+    ensures still { WhereTold K.TELLS (StillBegin (K.told keepers.old) (K.told keepers.new)) }
     ensures cause { IfErr result (StopsBeginning (S.faults output.old) (S.faults output.new) (K.faults keepers.old) (K.faults keepers.new)) }
     ensures later { S.faults output.old ≤ S.faults output.new }
 {

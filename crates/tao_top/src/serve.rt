@@ -1,10 +1,11 @@
 //! The lines of a run after its first, each with its reply.
 ghost use Rattle.std.specs.Prelude.{◌≡◌, ◌<◌, ◌≤◌, ◌^◌, Ok, true, false, IfErr, OnOk, OnErr, IsErrOf};
 ghost use Rattle.std.specs.Io.KnownBytes.{IsAtEnd};
+ghost use Rattle.graph_model.specs.Told.{WhereTold};
 ghost use Rattle.tao_core.specs.Shown.{shown};
 ghost use Rattle.tao_io.specs.LineReader.{may_give, to_come};
 ghost use Rattle.tao_io.specs.Lines.{CountsTaken};
-ghost use Rattle.tao_top.specs.Kept.{IsServing};
+ghost use Rattle.tao_top.specs.Kept.{IsServing, StillBegin};
 ghost use Rattle.tao_top.specs.Served.{Served, ServedAll, ServedInPart, serves};
 ghost use Rattle.tao_top.specs.Stop.{FaultsGrow, InterruptHasCause, faults};
 
@@ -29,12 +30,14 @@ fn serve_line<R: Source, S: Sink, K: Keeper>(
     ensures end { result ≡ Ok false → IsAtEnd (to_come reader.new (R.left input.new)) }
     ensures short { result ≡ Ok false → reader.new.taken < 2 ^ 40 }
     ensures serving { IsServing K.TELLS serving.new (K.told keepers.new) }
+    ensures still { WhereTold K.TELLS (StillBegin (K.told keepers.old) (K.told keepers.new)) }
 
     ensures err { OnErr result (ServedInPart K.TELLS (serves serving.old (shown K.told K.calls K.faults keepers.old)) (shown K.told K.calls K.faults keepers.new) (to_come reader.old (R.left input.old)) (S.taken output.old) (S.taken output.new)) }
     ensures cause { IfErr result (InterruptHasCause (faults (R.faults input.old) (S.faults output.old)) (faults (R.faults input.new) (S.faults output.new))) }
     ensures long { IsErrOf result Interrupt.InputTooLong → reader.new.taken ≡ 2 ^ 40 }
 
     ensures counted { CountsTaken (R.left input.old) (R.left input.new) reader.old.taken reader.new.taken }
+    ensures limited { reader.new.taken ≤ 2 ^ 40 }
     ensures later { FaultsGrow (faults (R.faults input.old) (S.faults output.old)) (faults (R.faults input.new) (S.faults output.new)) }
 {
     let mut line = Vec::new(alloc);
@@ -65,12 +68,14 @@ pub(crate) fn serve<R: Source, S: Sink, K: Keeper>(
     ensures end { OnOk result (IsAtEnd (to_come reader.new (R.left input.new))) }
     ensures short { OnOk result (reader.new.taken < 2 ^ 40) }
     ensures serving { IsServing K.TELLS serving.new (K.told keepers.new) }
+    ensures still { WhereTold K.TELLS (StillBegin (K.told keepers.old) (K.told keepers.new)) }
 
     ensures err { OnErr result (ServedInPart K.TELLS (serves serving.old (shown K.told K.calls K.faults keepers.old)) (shown K.told K.calls K.faults keepers.new) (to_come reader.old (R.left input.old)) (S.taken output.old) (S.taken output.new)) }
     ensures cause { IfErr result (InterruptHasCause (faults (R.faults input.old) (S.faults output.old)) (faults (R.faults input.new) (S.faults output.new))) }
     ensures long { IsErrOf result Interrupt.InputTooLong → reader.new.taken ≡ 2 ^ 40 }
 
     ensures counted { CountsTaken (R.left input.old) (R.left input.new) reader.old.taken reader.new.taken }
+    ensures limited { reader.new.taken ≤ 2 ^ 40 }
     ensures later { FaultsGrow (faults (R.faults input.old) (S.faults output.old)) (faults (R.faults input.new) (S.faults output.new)) }
 {
     'lines: loop {

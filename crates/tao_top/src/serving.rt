@@ -4,10 +4,10 @@ ghost use Rattle.std.specs.Io.KnownBytes.{Appends};
 ghost use Rattle.config_json.specs.Config.{config_in};
 ghost use Rattle.graph_model.specs.Told.{WhereTold};
 ghost use Rattle.request_json.specs.Requests.{request_in};
-ghost use Rattle.tao_core.specs.Opening.{IsOpened, RefusesOpening};
+ghost use Rattle.tao_core.specs.Opening.{IsOpened, MayOpen, RefusesOpening};
 ghost use Rattle.tao_core.specs.Shown.{IsLater, shown};
 ghost use Rattle.tao_top.specs.Begun.{RepliesInPart};
-ghost use Rattle.tao_top.specs.Kept.{AreKept, IsServing};
+ghost use Rattle.tao_top.specs.Kept.{IsServing, StillBegin};
 ghost use Rattle.tao_top.specs.Served.{AppendsPart, serves};
 ghost use Rattle.tao_top.specs.Step.{Replies, Serves, line_of, serving};
 ghost use Rattle.tao_top.specs.Stop.{InterruptsWriting};
@@ -58,13 +58,13 @@ impl<'c> Serving<'c> {
         keepers: &mut K,
     ) -> Result<Serving<'c>, OpenRefusal>
         requires configured { config_in line.now ≡ Ok config.now }
-        requires kept { WhereTold K.TELLS (AreKept (K.told keepers.old)) }
+        requires sound { WhereTold K.TELLS (MayOpen config.now line.now (K.told keepers.old)) }
         ensures settings { IfOk result (λ serving. serving.settings ≡ config.now) }
         ensures sessions { IfOk result (λ serving. serving.sessions ≡ []) }
         ensures opened { IfOk result (λ serving. WhereTold K.TELLS (IsOpened config.now line.now (K.told keepers.old) (K.told keepers.new))) }
         ensures serving { IfOk result (λ serving. IsServing K.TELLS serving (K.told keepers.new)) }
         ensures refused { IfErr result (RefusesOpening K.TELLS config.now line.now (shown K.told K.calls K.faults keepers.old) (shown K.told K.calls K.faults keepers.new)) }
-        ensures kept { WhereTold K.TELLS (AreKept (K.told keepers.new)) }
+        ensures still { WhereTold K.TELLS (StillBegin (K.told keepers.old) (K.told keepers.new)) }
         ensures later { IsLater (shown K.told K.calls K.faults keepers.old) (shown K.told K.calls K.faults keepers.new) }
     {
         let core = Core::open(alloc, config, line, keepers)?;
@@ -91,6 +91,7 @@ impl<'c> Serving<'c> {
         requires serving { IsServing K.TELLS self.old (K.told keepers.old) }
         ensures does { Serves K.TELLS self.old (shown K.told K.calls K.faults keepers.old) (Ok request.now) result self.new (shown K.told K.calls K.faults keepers.new) }
         ensures serving { IsServing K.TELLS self.new (K.told keepers.new) }
+        ensures still { WhereTold K.TELLS (StillBegin (K.told keepers.old) (K.told keepers.new)) }
         ensures later { IsLater (shown K.told K.calls K.faults keepers.old) (shown K.told K.calls K.faults keepers.new) }
     {
         self.core.call(alloc, keepers, request)
@@ -107,6 +108,7 @@ impl<'c> Serving<'c> {
         ensures does { IfOk result (λ reply. Serves K.TELLS self.old (shown K.told K.calls K.faults keepers.old) (request_in line.now) reply self.new (shown K.told K.calls K.faults keepers.new)) }
         ensures same { OnErr result ((self.new ≡ self.old) × (keepers.new ≡ keepers.old)) }
         ensures serving { IsServing K.TELLS self.new (K.told keepers.new) }
+        ensures still { WhereTold K.TELLS (StillBegin (K.told keepers.old) (K.told keepers.new)) }
         ensures later { IsLater (shown K.told K.calls K.faults keepers.old) (shown K.told K.calls K.faults keepers.new) }
     {
         match read_request(alloc, line) {
@@ -133,6 +135,7 @@ impl<'c> Serving<'c> {
         ensures ok { OnOk result (Replies K.TELLS (serves self.old (shown K.told K.calls K.faults keepers.old)) line.now (serves self.new (shown K.told K.calls K.faults keepers.new)) (Appends (S.taken output.old) (S.taken output.new))) }
         ensures err { OnErr result (RepliesInPart K.TELLS (serves self.old (shown K.told K.calls K.faults keepers.old)) line.now (serves self.new (shown K.told K.calls K.faults keepers.new)) (S.taken output.old) (S.taken output.new)) }
         ensures serving { IsServing K.TELLS self.new (K.told keepers.new) }
+        ensures still { WhereTold K.TELLS (StillBegin (K.told keepers.old) (K.told keepers.new)) }
         ensures cause { IfErr result (InterruptsWriting (S.faults output.old) (S.faults output.new)) }
         ensures later { S.faults output.old ≤ S.faults output.new }
     {

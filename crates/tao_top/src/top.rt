@@ -1,13 +1,15 @@
 //! The top call.
-ghost use Rattle.std.specs.Prelude.{◌≡◌, ◌⊎◌, ◌↔◌, ◌<◌, ◌≤◌, ◌^◌, false, map, length, string_bytes, Err, IfErr, OnOk, OnErr, IfSome};
+ghost use Rattle.std.specs.Prelude.{◌≡◌, ◌⊎◌, ◌↔◌, ◌<◌, ◌≤◌, ◌^◌, false, map, length, string_bytes, Err, IfErr, OnOk, IfSome};
+ghost use Rattle.std.specs.Io.KnownBytes.{IsAtEnd};
 ghost use Rattle.counts.specs.Count.{Rose};
 ghost use Rattle.graph_model.specs.Told.{WhereTold};
 ghost use Rattle.tao_core.specs.Shown.{shown};
-ghost use Rattle.tao_top.specs.Kept.{AreKept};
-ghost use Rattle.tao_top.specs.Served.{Done, DoneInPart, RefusesConfiguration, is_run};
-ghost use Rattle.tao_top.specs.Stop.{StopHasCause, faults};
+ghost use Rattle.tao_top.specs.Kept.{MayRun, StillBegin};
+ghost use Rattle.tao_top.specs.Served.{Done, EndsInPart, FailsOpening, RefusesConfiguration, StopsOpening, is_run};
+ghost use Rattle.tao_top.specs.Stop.{StopHasCause, faults, stop_code};
 ghost use Rattle.tao_top.specs.declared.stop.Interrupt.TheVariants.{InputTooLong};
 ghost use Rattle.tao_top.specs.Status.{IsGood, IsStatus, NoFault};
+ghost use Rattle.tao_top.specs.Taken.{Takes, TakesFirst};
 
 use crate::begin::{begin, read_first};
 use crate::serve::serve;
@@ -23,14 +25,19 @@ fn go<R: Source, S: Sink, K: Keeper>(
     output: &mut S,
     keepers: &mut K,
 ) -> Result<(), Stop>
-    requires kept { WhereTold K.TELLS (AreKept (K.told keepers.old)) }
-    ensures kept { WhereTold K.TELLS (AreKept (K.told keepers.new)) }
+    requires sound { WhereTold K.TELLS (MayRun (R.left input.old) (K.told keepers.old)) }
+    ensures still { WhereTold K.TELLS (StillBegin (K.told keepers.old) (K.told keepers.new)) }
     ensures ok { OnOk result (Done K.TELLS (shown K.told K.calls K.faults keepers.old) (shown K.told K.calls K.faults keepers.new) (R.left input.old) (S.taken output.old) (S.taken output.new)) }
     ensures short { OnOk result (IfSome (R.left input.old) (λ bytes. length bytes < 2 ^ 40)) }
-    ensures err { OnErr result (DoneInPart K.TELLS (shown K.told K.calls K.faults keepers.old) (shown K.told K.calls K.faults keepers.new) (R.left input.old) (S.taken output.old) (S.taken output.new)) }
+    ensures err { IfErr result (λ stop. EndsInPart (stop_code stop) K.TELLS (shown K.told K.calls K.faults keepers.old) (shown K.told K.calls K.faults keepers.new) (R.left input.old) (S.taken output.old) (S.taken output.new)) }
+    ensures keepers { result ≡ Err Stop.Keepers → StopsOpening K.TELLS (shown K.told K.calls K.faults keepers.old) (shown K.told K.calls K.faults keepers.new) (R.left input.old) (S.taken output.old) (S.taken output.new) }
     ensures refused { result ≡ Err Stop.Configuration → RefusesConfiguration K.TELLS (shown K.told K.calls K.faults keepers.old) (shown K.told K.calls K.faults keepers.new) (R.left input.old) (S.taken output.old) (S.taken output.new) }
     ensures cause { IfErr result (StopHasCause (faults (R.faults input.old) (S.faults output.old)) (faults (R.faults input.new) (S.faults output.new)) (K.faults keepers.old) (K.faults keepers.new)) }
     ensures long { result ≡ Err (Stop.Interrupted InputTooLong) → IfSome (R.left input.old) (λ bytes. 2 ^ 40 ≤ length bytes) }
+
+    ensures taken { Takes (R.left input.old) (R.left input.new) }
+    ensures at_end { OnOk result (IsAtEnd (R.left input.new)) }
+    ensures at_first { result ≡ Err Stop.Configuration → TakesFirst (R.left input.old) (R.left input.new) }
 {
     let mut reader = LineReader::new(alloc)?;
     let first = read_first(alloc, &mut reader, input, output)?;
@@ -60,7 +67,9 @@ fn is_run(words: &[String]) -> bool
 /// - 7 where there was no memory to read a line, to open the stores, or to spell a reply;
 /// - 9 where 2^40 bytes were taken and the end had not come.
 ///
-/// What was written before any status is a front of the replies' lines.
+/// What was written before any status is a front of the replies' lines. With 6 nothing was: a keeper that
+/// fails later is told of in a reply. Of the source at most 2^40 bytes are taken, with 0 all of them, and with
+/// 3 none past those in which the first line's end came, 65,536 at a time.
 pub fn run<R: Source, S: Sink, K: Keeper>(
     alloc: Global,
     words: &[String],
@@ -68,22 +77,26 @@ pub fn run<R: Source, S: Sink, K: Keeper>(
     output: &mut S,
     keepers: &mut K,
 ) -> Status
-    // What the stores hold is sound, and stays so: what an earlier run left may be handed in again.
-    requires kept { WhereTold K.TELLS (AreKept (K.told keepers.old)) }
-    ensures kept { WhereTold K.TELLS (AreKept (K.told keepers.new)) }
+    // What the first line opens is sound with it. A later run may begin with each line with which this one might.
+    requires sound { WhereTold K.TELLS (MayRun (R.left input.old) (K.told keepers.old)) }
+    ensures still { WhereTold K.TELLS (StillBegin (K.told keepers.old) (K.told keepers.new)) }
 
     ensures done { result.code ≡ 0 → Done K.TELLS (shown K.told K.calls K.faults keepers.old) (shown K.told K.calls K.faults keepers.new) (R.left input.old) (S.taken output.old) (S.taken output.new) }
-    ensures in_part { DoneInPart K.TELLS (shown K.told K.calls K.faults keepers.old) (shown K.told K.calls K.faults keepers.new) (R.left input.old) (S.taken output.old) (S.taken output.new) }
+    ensures in_part { EndsInPart result.code K.TELLS (shown K.told K.calls K.faults keepers.old) (shown K.told K.calls K.faults keepers.new) (R.left input.old) (S.taken output.old) (S.taken output.new) }
 
     ensures words { (result.code ≡ 2) ↔ (is_run (map string_bytes words.now) ≡ false) }
     ensures idle { result.code ≡ 2 → (input.new ≡ input.old) × (output.new ≡ output.old) × (keepers.new ≡ keepers.old) }
     ensures configuration { result.code ≡ 3 → RefusesConfiguration K.TELLS (shown K.told K.calls K.faults keepers.old) (shown K.told K.calls K.faults keepers.new) (R.left input.old) (S.taken output.old) (S.taken output.new) }
     ensures source { result.code ≡ 4 → Rose (R.faults input.old) (R.faults input.new) }
     ensures sink { result.code ≡ 5 → Rose (S.faults output.old) (S.faults output.new) }
-    ensures keepers { result.code ≡ 6 → Rose (K.faults keepers.old) (K.faults keepers.new) }
+    ensures keepers { result.code ≡ 6 → FailsOpening K.TELLS (shown K.told K.calls K.faults keepers.old) (shown K.told K.calls K.faults keepers.new) (R.left input.old) (S.taken output.old) (S.taken output.new) }
     ensures long { result.code ≡ 9 → IfSome (R.left input.old) (λ bytes. 2 ^ 40 ≤ length bytes) }
     ensures short { result.code ≡ 0 → IfSome (R.left input.old) (λ bytes. length bytes < 2 ^ 40) }
     ensures known { IsStatus result.code }
+
+    ensures taken { Takes (R.left input.old) (R.left input.new) }
+    ensures at_end { result.code ≡ 0 → IsAtEnd (R.left input.new) }
+    ensures at_first { result.code ≡ 3 → TakesFirst (R.left input.old) (R.left input.new) }
 
     // Completeness: where the word and the first line are good and nothing fails, only want of memory stops it.
     ensures complete { IsGood K.TELLS (map string_bytes words.now) (shown K.told K.calls K.faults keepers.old) (R.left input.old)

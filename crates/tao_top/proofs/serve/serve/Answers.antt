@@ -5,13 +5,19 @@ use Rattle.tao_top.proofs.GoingOn.{served_all, served_none, served_then_part, se
 use Rattle.tao_top.proofs.serve.serve.Goals as goal
 
 pub lines-init : goal.lines-init
-lines-init g c = record { served = served_none _ _ _ _; serving = c.requires.serving; counted = CountsTaken-nil _ _; later = record { source = omega arith; sink = omega arith } }
+lines-init g c = record { served = served_none _ _ _ _; serving = c.requires.serving; counted = CountsTaken-nil _ _; still = λ told line may. may; later = record { source = omega arith; sink = omega arith } }
 
 pub returns-in_err-serve_line-clause-err : goal.returns-in_err-serve_line-clause-err
 returns-in_err-serve_line-clause-err g c = OnErr-any _ _ (served_then_part _ _ _ _ _ _ _ _ _ c.lines.invariant.served c.in_err-serve_line.ensures.err)
 
 pub returns-in_err-serve_line-clause-counted : goal.returns-in_err-serve_line-clause-counted
 returns-in_err-serve_line-clause-counted g c = CountsTaken-trans _ _ _ _ _ _ c.lines.invariant.counted c.serve_line.ensures.counted
+
+pub returns-in_err-serve_line-clause-still : goal.returns-in_err-serve_line-clause-still
+returns-in_err-serve_line-clause-still g c = λ told line may. c.serve_line.ensures.still told line (c.lines.invariant.still told line may)
+
+pub returns-then-not-branch-clause-still : goal.returns-then-not-branch-clause-still
+returns-then-not-branch-clause-still g c = λ told line may. c.serve_line.ensures.still told line (c.lines.invariant.still told line may)
 
 pub returns-then-not-branch-clause-ok : goal.returns-then-not-branch-clause-ok
 returns-then-not-branch-clause-ok g c =
@@ -25,5 +31,6 @@ lines-preserved g c = record {
   served = served_trans _ _ _ _ _ _ _ _ _ _ c.lines.invariant.served c.in_ok-serve_line.ensures.ok;
   serving = c.serve_line.ensures.serving;
   counted = CountsTaken-trans _ _ _ _ _ _ c.lines.invariant.counted c.serve_line.ensures.counted;
+  still = λ told line may. c.serve_line.ensures.still told line (c.lines.invariant.still told line may);
   later = record { source = omega arith; sink = omega arith };
 }

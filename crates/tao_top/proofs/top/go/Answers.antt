@@ -1,20 +1,22 @@
-use Rattle.std.proofs.Common.{◌≡◌, Err, ap, inr}
+use Rattle.std.proofs.Common.{◌≡◌, Err, ap, inr, subst, sym}
 use Rattle.std.proofs.lemmas.Result.{err_from_is_err_and}
 use Rattle.tao_core.specs.Shown.{shown}
 use Rattle.tao_io.proofs.GivenLines.{CountsTaken-trans}
-use Rattle.tao_top.proofs.OneLine.{OnErr-any, part_unread}
-use Rattle.tao_top.proofs.WholeRun.{begun_in_part, begun_refused, begun_well, done, done_part, first_in_part, first_refused, fresh, long_input, short_input}
-use Rattle.tao_top.specs.Served.{start}
+use Rattle.tao_top.proofs.FirstLine.{gives_one}
+use Rattle.tao_top.proofs.OneLine.{IfErr-any, part_unread}
+use Rattle.tao_top.proofs.WholeRun.{begun_in_part, begun_opening, begun_refused, begun_well, done, done_part, end_of_source, first_in_part, first_refused, fresh, long_input, may_open, short_input, takes_counted, takes_first, takes_none}
+use Rattle.tao_top.specs.Served.{EndsInPart, start}
+use Rattle.tao_top.specs.Stop.{stop_code}
 use Rattle.tao_top.specs.declared.stop.Interrupt.TheVariants.{InputTooLong}
-use Rattle.tao_top.specs.declared.stop.Stop.TheVariants.{Configuration}
+use Rattle.tao_top.specs.declared.stop.Stop.TheVariants.{Configuration, Keepers}
 use Rattle.tao_top.proofs.top.go.Goals as goal
 
 pub returns-in_err-reader-clause-err : goal.returns-in_err-reader-clause-err
-returns-in_err-reader-clause-err g c = OnErr-any _ _ (inr (inr (part_unread g.K.Keeper.TELLS (start (shown g.K.Keeper.told g.K.Keeper.calls g.K.Keeper.faults c.args.keepers.now)) _ _)))
+returns-in_err-reader-clause-err g c = IfErr-any _ _ (λ stop. inr (inr (part_unread g.K.Keeper.TELLS (start (shown g.K.Keeper.told g.K.Keeper.calls g.K.Keeper.faults c.args.keepers.now)) _ _)))
 
 pub returns-in_err-first-clause-err : goal.returns-in_err-first-clause-err
 returns-in_err-first-clause-err g c =
-    OnErr-any _ _ (first_in_part g.K.Keeper.TELLS (shown g.K.Keeper.told g.K.Keeper.calls g.K.Keeper.faults c.args.keepers.now) _ _ _ _ (fresh c.in_ok-reader.reader _ c.in_ok-reader.ensures.ahead) c.in_err-first.ensures.err)
+    IfErr-any _ _ (λ stop. inr (first_in_part g.K.Keeper.TELLS (shown g.K.Keeper.told g.K.Keeper.calls g.K.Keeper.faults c.args.keepers.now) _ _ _ _ (fresh c.in_ok-reader.reader _ c.in_ok-reader.ensures.ahead) c.in_err-first.ensures.err))
 
 pub returns-in_err-first-clause-refused : goal.returns-in_err-first-clause-refused
 returns-in_err-first-clause-refused g c = λ e.
@@ -26,8 +28,13 @@ returns-in_err-first-clause-refused g c = λ e.
 pub returns-in_err-serving-clause-err : goal.returns-in_err-serving-clause-err
 returns-in_err-serving-clause-err g c =
     let keepers = shown g.K.Keeper.told g.K.Keeper.calls g.K.Keeper.faults in
-    OnErr-any _ _ (begun_in_part g.K.Keeper.TELLS (keepers c.args.keepers.now) (keepers c.begin.new.keepers) _ _ _ _ _ _ c.in_ok-first.first.line.items
-    (fresh c.in_ok-reader.reader _ c.in_ok-reader.ensures.ahead) (ap g.S.Sink.taken c.in_ok-first.ensures.silent) c.in_ok-first.ensures.line c.in_err-serving.ensures.err)
+    let p = err_from_is_err_and c.from_residual-in_err-serving.result c.from_residual-in_err-serving.ensures.1 in
+    let part =
+    begun_in_part g.K.Keeper.TELLS (keepers c.args.keepers.now) (keepers c.begin.new.keepers) _ _ _ _ _ _ c.in_ok-first.first.line.items
+    (fresh c.in_ok-reader.reader _ c.in_ok-reader.ensures.ahead) (ap g.S.Sink.taken c.in_ok-first.ensures.silent) c.in_ok-first.ensures.line (stop_code c.in_err-serving.field-0.0) c.in_err-serving.ensures.err in
+    rw p.1 (subst
+    (λ stop. EndsInPart (stop_code stop) g.K.Keeper.TELLS (keepers c.args.keepers.now) (keepers c.begin.new.keepers) (g.R.Source.left c.args.input.now) (g.S.Sink.taken c.args.output.now) (g.S.Sink.taken c.begin.new.output))
+    (sym p.2) part)
 
 pub returns-in_err-serving-clause-refused : goal.returns-in_err-serving-clause-refused
 returns-in_err-serving-clause-refused g c = λ e.
@@ -40,10 +47,10 @@ returns-in_err-serving-clause-refused g c = λ e.
 pub returns-in_err-serve-clause-err : goal.returns-in_err-serve-clause-err
 returns-in_err-serve-clause-err g c =
     let keepers = shown g.K.Keeper.told g.K.Keeper.calls g.K.Keeper.faults in
-    OnErr-any _ _ (done_part g.K.Keeper.TELLS (keepers c.args.keepers.now) (keepers c.begin.new.keepers) (keepers c.serve.new.keepers) c.in_ok-serving.serving _ _ _ _ _
+    IfErr-any _ _ (λ stop. inr (done_part g.K.Keeper.TELLS (keepers c.args.keepers.now) (keepers c.begin.new.keepers) (keepers c.serve.new.keepers) c.in_ok-serving.serving _ _ _ _ _
     (begun_well g.K.Keeper.TELLS (keepers c.args.keepers.now) (keepers c.begin.new.keepers) _ _ _ _ _ _ c.in_ok-first.first.line.items
     (fresh c.in_ok-reader.reader _ c.in_ok-reader.ensures.ahead) (ap g.S.Sink.taken c.in_ok-first.ensures.silent) c.in_ok-first.ensures.line c.in_ok-serving.serving c.in_ok-serving.ensures.ok)
-    c.in_err-serve.ensures.err)
+    c.in_err-serve.ensures.err))
 
 pub returns-in_err-serve-clause-long : goal.returns-in_err-serve-clause-long
 returns-in_err-serve-clause-long g c = λ e.
@@ -63,3 +70,54 @@ pub returns-clause-short : goal.returns-clause-short
 returns-clause-short g c =
     short_input (g.R.Source.left c.args.input.now) (g.R.Source.left c.serve.new.input) c.serve.new.reader.ahead _ _ c.in_ok-reader.ensures.taken
     (CountsTaken-trans _ _ _ _ _ _ c.read_first.ensures.counted c.serve.ensures.counted) c.in_ok-serve.ensures.end c.in_ok-serve.ensures.short
+
+pub begin-requires-clause-sound : goal.begin-requires-clause-sound
+begin-requires-clause-sound g c =
+    may_open g.K.Keeper.TELLS (g.K.Keeper.told c.args.keepers.now) _ _ _ c.in_ok-first.first.line.items c.in_ok-first.first.config (fresh c.in_ok-reader.reader _ c.in_ok-reader.ensures.ahead)
+    c.in_ok-first.ensures.line c.in_ok-first.ensures.configured c.requires.sound
+
+pub returns-in_err-serving-clause-keepers : goal.returns-in_err-serving-clause-keepers
+returns-in_err-serving-clause-keepers g c = λ e.
+    let keepers = shown g.K.Keeper.told g.K.Keeper.calls g.K.Keeper.faults in
+    let p = err_from_is_err_and c.from_residual-in_err-serving.result c.from_residual-in_err-serving.ensures.1 in
+    let same : c.in_err-serving.field-0.0 ≡ Keepers = cc (e, p.1, p.2) in
+    begun_opening g.K.Keeper.TELLS (keepers c.args.keepers.now) (keepers c.begin.new.keepers) _ _ _ _ _ _ c.in_ok-first.first.line.items
+    (fresh c.in_ok-reader.reader _ c.in_ok-reader.ensures.ahead) (ap g.S.Sink.taken c.in_ok-first.ensures.silent) c.in_ok-first.ensures.line (c.in_err-serving.ensures.keepers (ap (λ s. Err s) same))
+
+-- ---- what was taken
+
+pub returns-in_err-reader-clause-taken : goal.returns-in_err-reader-clause-taken
+returns-in_err-reader-clause-taken g c = takes_none (g.R.Source.left c.args.input.now)
+
+pub returns-in_err-first-clause-taken : goal.returns-in_err-first-clause-taken
+returns-in_err-first-clause-taken g c = takes_counted _ _ _ _ c.in_ok-reader.ensures.taken c.read_first.ensures.counted c.read_first.ensures.limited
+
+pub returns-in_err-first-clause-at_first : goal.returns-in_err-first-clause-at_first
+returns-in_err-first-clause-at_first g c = λ e.
+    let p = err_from_is_err_and c.from_residual-in_err-first.result c.from_residual-in_err-first.ensures.1 in
+    let same : c.in_err-first.field-0.0 ≡ Configuration = cc (e, p.1, p.2) in
+    takes_first _ _ _ _ (fresh c.in_ok-reader.reader _ c.in_ok-reader.ensures.ahead) c.read_first.ensures.near (c.in_err-first.ensures.once (ap (λ s. Err s) same))
+
+pub returns-in_err-serving-clause-taken : goal.returns-in_err-serving-clause-taken
+returns-in_err-serving-clause-taken g c = takes_counted _ _ _ _ c.in_ok-reader.ensures.taken c.read_first.ensures.counted c.read_first.ensures.limited
+
+pub returns-in_err-serving-clause-at_first : goal.returns-in_err-serving-clause-at_first
+returns-in_err-serving-clause-at_first g c = λ _.
+    takes_first _ _ _ _ (fresh c.in_ok-reader.reader _ c.in_ok-reader.ensures.ahead) c.read_first.ensures.near (gives_one _ _ c.in_ok-first.first.line.items c.in_ok-first.ensures.line)
+
+pub returns-in_err-serve-clause-taken : goal.returns-in_err-serve-clause-taken
+returns-in_err-serve-clause-taken g c =
+    takes_counted _ _ _ _ c.in_ok-reader.ensures.taken (CountsTaken-trans _ _ _ _ _ _ c.read_first.ensures.counted c.serve.ensures.counted) c.serve.ensures.limited
+
+pub returns-in_err-serve-clause-still : goal.returns-in_err-serve-clause-still
+returns-in_err-serve-clause-still g c = λ told line may. c.serve.ensures.still told line (c.begin.ensures.still told line may)
+
+pub returns-clause-taken : goal.returns-clause-taken
+returns-clause-taken g c =
+    takes_counted _ _ _ _ c.in_ok-reader.ensures.taken (CountsTaken-trans _ _ _ _ _ _ c.read_first.ensures.counted c.serve.ensures.counted) c.serve.ensures.limited
+
+pub returns-clause-at_end : goal.returns-clause-at_end
+returns-clause-at_end g c = end_of_source c.serve.new.reader.ahead _ c.in_ok-serve.ensures.end
+
+pub returns-clause-still : goal.returns-clause-still
+returns-clause-still g c = λ told line may. c.serve.ensures.still told line (c.begin.ensures.still told line may)

@@ -1,10 +1,10 @@
-use Rattle.std.proofs.Common.{inr, subst, sym}
+use Rattle.std.proofs.Common.{Err, ap, inr, subst, sym, ◌∙◌}
 use Rattle.std.proofs.lemmas.Bool.{false≢true}
 use Rattle.tao_top.proofs.Complete.{known_status}
 use Rattle.tao_top.proofs.OneLine.{part_unread}
-use Rattle.tao_top.proofs.WholeRun.{done_whole}
+use Rattle.tao_top.proofs.WholeRun.{done_whole, fails_opening, takes_none}
 use Rattle.tao_core.specs.Shown.{shown}
-use Rattle.tao_top.specs.Served.{start}
+use Rattle.tao_top.specs.Served.{EndsInPart, start}
 use Rattle.tao_top.specs.Status.{IsStatus}
 use Rattle.tao_top.proofs.top.run.Goals as goal
 
@@ -14,7 +14,21 @@ returns-then-not-is_run-clause-in_part g c = inr (inr (part_unread g.K.Keeper.TE
 pub returns-in-Ok-clause-in_part : goal.returns-in-Ok-clause-in_part
 returns-in-Ok-clause-in_part g c =
     let keepers = shown g.K.Keeper.told g.K.Keeper.calls g.K.Keeper.faults in
-    done_whole g.K.Keeper.TELLS (keepers c.args.keepers.now) (keepers c.go.new.keepers) _ _ _ c.in-Ok.ensures.ok
+    inr (done_whole g.K.Keeper.TELLS (keepers c.args.keepers.now) (keepers c.go.new.keepers) _ _ _ c.in-Ok.ensures.ok)
+
+pub returns-in-Err-clause-in_part : goal.returns-in-Err-clause-in_part
+returns-in-Err-clause-in_part g c =
+    let keepers = shown g.K.Keeper.told g.K.Keeper.calls g.K.Keeper.faults in
+    subst (λ code. EndsInPart code g.K.Keeper.TELLS (keepers c.args.keepers.now) (keepers c.go.new.keepers) (g.R.Source.left c.args.input.now) (g.S.Sink.taken c.args.output.now) (g.S.Sink.taken c.go.new.output))
+    (sym c.code.ensures) c.in-Err.ensures.err
+
+pub returns-in-Err-clause-keepers : goal.returns-in-Err-clause-keepers
+returns-in-Err-clause-keepers g c = λ is.
+    let keepers = shown g.K.Keeper.told g.K.Keeper.calls g.K.Keeper.faults in
+    fails_opening g.K.Keeper.TELLS (keepers c.args.keepers.now) (keepers c.go.new.keepers) _ _ _ _ _ c.in-Err.stop (sym c.code.ensures ∙ is) (λ same. c.in-Err.ensures.keepers (ap (λ s. Err s) same)) c.in-Err.ensures.cause
+
+pub returns-then-not-is_run-clause-taken : goal.returns-then-not-is_run-clause-taken
+returns-then-not-is_run-clause-taken g c = takes_none (g.R.Source.left c.args.input.now)
 
 pub returns-in-Err-clause-known : goal.returns-in-Err-clause-known
 returns-in-Err-clause-known g c = subst IsStatus (sym c.code.ensures) (known_status c.in-Err.stop)

@@ -70,26 +70,40 @@ const ROWS: [(&str, &str); 12] = [
     ),
 ];
 
-#[test]
-fn a_run_serves_each_line(rt: HostRuntime) -> Result<(), Fail> {
-    let alloc = rt.alloc();
-    let mut lines = format!(in alloc; "{CONFIGURATION}\n")?;
+/// Asserts that a run over a configuration and the requests of the rows ends well, with their replies.
+fn assert_run(
+    rt: &impl Abort,
+    alloc: Global,
+    configuration: &str,
+    rows: &[(&str, &str)],
+) -> Result<(), Fail> {
+    let mut lines = format!(in alloc; "{configuration}\n")?;
     let mut replies = String::from_str(alloc, "{\"ok\":\"configured\"}\n")?;
-    for (line, reply) in &ROWS {
+    for (line, reply) in rows {
         lines.push_str(line)?;
         lines.push_str("\n")?;
         replies.push_str(reply)?;
         replies.push_str("\n")?;
     }
+    assert_replies(rt, alloc, &lines, &replies)
+}
+
+/// Asserts that a run over these lines ends well, with the replies.
+fn assert_replies(rt: &impl Abort, alloc: Global, lines: &str, replies: &str) -> Result<(), Fail> {
     let words = vec![in alloc; String::from_str(alloc, "run")?]?;
     let mut input = MemorySource::of(lines.as_bytes().to_vec(alloc)?, Vec::new(alloc));
     let mut output = MemorySink::make(alloc, Vec::new(alloc));
     let mut keepers = SilentKeeper::new(alloc);
     let status = tao_top::run(alloc, &words, &mut input, &mut output, &mut keepers);
-    assert_eq!(rt; str::from_utf8(output.bytes())?, replies.as_str());
+    assert_eq!(rt; str::from_utf8(output.bytes())?, replies);
     assert_eq!(rt; status, Status { code: 0 });
     assert_eq!(rt; keepers.faults(), 0);
     Ok(())
+}
+
+#[test]
+fn a_run_serves_each_line(rt: HostRuntime) -> Result<(), Fail> {
+    assert_run(&rt, rt.alloc(), CONFIGURATION, &ROWS)
 }
 
 /// Asserts the reply to a request.
@@ -111,23 +125,31 @@ fn assert_reply(
     Ok(())
 }
 
-#[test]
-fn a_core_answers_each_request(rt: HostRuntime) -> Result<(), Fail> {
-    let alloc = rt.alloc();
-    let line = CONFIGURATION.as_bytes();
+/// Asserts the replies of a core to the requests of the rows.
+fn assert_core(
+    rt: &impl Abort,
+    alloc: Global,
+    configuration: &str,
+    rows: &[(&str, &str)],
+) -> Result<(), Fail> {
+    let line = configuration.as_bytes();
     let config = read_config(alloc, line)?;
     let mut keepers = SilentKeeper::new(alloc);
     let mut core = Core::open(alloc, &config, line, &mut keepers)?;
-    for row in &ROWS {
-        assert_reply(&rt, alloc, &config, &mut core, &mut keepers, row)?;
+    for row in rows {
+        assert_reply(rt, alloc, &config, &mut core, &mut keepers, row)?;
     }
     Ok(())
 }
 
 #[test]
-fn a_store_writes_and_reads(rt: HostRuntime) -> Result<(), Fail> {
-    let alloc = rt.alloc();
-    let schema = read_config(alloc, CONFIGURATION.as_bytes())?.schema;
+fn a_core_answers_each_request(rt: HostRuntime) -> Result<(), Fail> {
+    assert_core(&rt, rt.alloc(), CONFIGURATION, &ROWS)
+}
+
+/// Asserts that a store makes a write once, and reads the object that it added.
+fn assert_store(rt: &impl Abort, alloc: Global, configuration: &str) -> Result<(), Fail> {
+    let schema = read_config(alloc, configuration.as_bytes())?.schema;
     let mut keeper = SilentKeeper::new(alloc);
     let name = StoreName {
         region: 0,
@@ -151,4 +173,9 @@ fn a_store_writes_and_reads(rt: HostRuntime) -> Result<(), Fail> {
     assert_eq!(rt; found.version, 1);
     assert!(rt; matches!(&found.answer, Answer::Object(Some(_))));
     Ok(())
+}
+
+#[test]
+fn a_store_writes_and_reads(rt: HostRuntime) -> Result<(), Fail> {
+    assert_store(&rt, rt.alloc(), CONFIGURATION)
 }

@@ -192,7 +192,7 @@ still_grown s old new only opened sound line may t configured shard within ready
         subst (λ table. IsSoundOf (types_of t.schema) shard table.log) (sym same) (may t configured shard within (subst (λ table. OpensAs Ready table line) same ready))
 
 module _ (tells : Bool) (core next : CoreState) (old new : Shown) (request : Request) (reply : Reply) (serving : IsServing tells core old.told)
-  (answers : Answers tells core.settings core.sessions old request reply next.sessions new) (is : next.settings ≡ core.settings) (of_core : IsCoreOf tells new.told next) where
+    (answers : Answers tells core.settings core.sessions old request reply next.sessions new) (is : next.settings ≡ core.settings) (of_core : IsCoreOf tells new.told next) where
   only : tells ≡ true → OnlyGrow core.settings old.told new.told
   only told = grows tells core.settings old new told core.sessions next.sessions request reply answers
 

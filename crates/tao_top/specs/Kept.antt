@@ -13,7 +13,7 @@ use Rattle.topology.specs.Config.{Settings}
 abbrev pub MayBegin : List ℕ → Tables → Type 0
 MayBegin line tables = (s : Settings) → config_in line ≡ Ok s → MayOpen s line tables
 
--- so it may with the first of the known lines
+-- so it may with the first of the known lines, and with any line where they aren't known
 abbrev pub MayRun : Option (List ℕ) → Tables → Type 0
 MayRun left tables = (line : List ℕ) → LinesBegin left (line ∷ []) → MayBegin line tables
 

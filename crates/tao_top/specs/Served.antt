@@ -124,7 +124,8 @@ EndsInPart code tells old now left before after =
 -- the first line is refused as the configuration, or the input has none
 abbrev pub IsRefused : Bool → Shown → Shown → Option (List ℕ) → List ℕ → Type 0
 IsRefused tells old now left field =
-    (AreLines left [] × (field ≡ []) × (now ≡ old)) ⊎ ((line : List ℕ) × LinesBegin left (line ∷ []) × Configures tells old line (BadConfiguration field) ended now)
+    (AreLines left [] × (field ≡ []) × (now ≡ old))
+    ⊎ ((line : List ℕ) × LinesBegin left (line ∷ []) × Configures tells old line (BadConfiguration field) ended now)
 
 -- the configuration was refused, and the line that says so was written, and nothing else
 pub record RefusesConfiguration (tells : Bool) (old now : Shown) (left before after : Option (List ℕ)) : Type 0 where

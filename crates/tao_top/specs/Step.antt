@@ -84,7 +84,8 @@ IsRefusal OutOfMemory reply = ⊥
 -- what the reply to what a line asks says. The configuration stays
 abbrev pub Serves : Bool → CoreState → Shown → Result Request LineRefusal → Reply → CoreState → Shown → Type 0
 Serves tells core old (Err refused) reply next new = IsRefusal refused reply × (next ≡ core) × (new ≡ old)
-Serves tells core old (Ok request) reply next new = Answers tells core.settings core.sessions old request reply next.sessions new × (next.settings ≡ core.settings)
+Serves tells core old (Ok request) reply next new =
+    Answers tells core.settings core.sessions old request reply next.sessions new × (next.settings ≡ core.settings)
 
 -- ---- the run
 

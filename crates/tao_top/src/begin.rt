@@ -54,7 +54,8 @@ pub(crate) fn read_first<R: Source, S: Sink>(
     input: &mut R,
     output: &mut S,
 ) -> Result<First, Stop>
-    ensures line { IfOk result (λ first. GivesLines (to_come reader.old (R.left input.old)) (to_come reader.new (R.left input.new)) (first.line.items ∷ [])) }
+    ensures line { IfOk result (λ first. GivesLines (to_come reader.old (R.left input.old)) (to_come reader.new (R.left input.new))
+        (first.line.items ∷ [])) }
     ensures configured { IfOk result (λ first. config_in first.line.items ≡ Ok first.config) }
     ensures silent { IfOk result (λ _. output.new ≡ output.old) }
     ensures err { OnErr result (EndsAtFirst (to_come reader.old (R.left input.old)) (S.taken output.old) (S.taken output.new)) }
@@ -87,11 +88,19 @@ pub(crate) fn begin<'c, S: Sink, K: Keeper>(
 ) -> Result<Serving<'c>, Stop>
     requires configured { config_in first.now.line.items ≡ Ok first.now.config }
     requires sound { WhereTold K.TELLS (MayOpen first.now.config first.now.line.items (K.told keepers.old)) }
-    ensures ok { IfOk result (λ serving. Replies K.TELLS (start (shown K.told K.calls K.faults keepers.old)) first.now.line.items (serves serving (shown K.told K.calls K.faults keepers.new)) (Appends (S.taken output.old) (S.taken output.new))) }
+    ensures ok { IfOk result (λ serving. Replies K.TELLS (start (shown K.told K.calls K.faults keepers.old))
+        first.now.line.items (serves serving (shown K.told K.calls K.faults keepers.new)) (Appends
+        (S.taken output.old) (S.taken output.new))) }
     ensures serving { IfOk result (λ serving. IsServing K.TELLS serving (K.told keepers.new)) }
-    ensures err { IfErr result (λ stop. BegunInPart (stop_code stop) K.TELLS (shown K.told K.calls K.faults keepers.old) (shown K.told K.calls K.faults keepers.new) first.now.line.items (S.taken output.old) (S.taken output.new)) }
-    ensures keepers { result ≡ Err Stop.Keepers → OpensInPart K.TELLS (shown K.told K.calls K.faults keepers.old) (shown K.told K.calls K.faults keepers.new) first.now.line.items (S.taken output.old) (S.taken output.new) }
-    ensures refused { result ≡ Err Stop.Configuration → RefusesLine K.TELLS (shown K.told K.calls K.faults keepers.old) (shown K.told K.calls K.faults keepers.new) first.now.line.items (S.taken output.old) (S.taken output.new) }
+    ensures err { IfErr result (λ stop. BegunInPart (stop_code stop) K.TELLS
+        (shown K.told K.calls K.faults keepers.old) (shown K.told K.calls K.faults keepers.new) first.now.line.items
+        (S.taken output.old) (S.taken output.new)) }
+    ensures keepers { result ≡ Err Stop.Keepers → OpensInPart K.TELLS
+        (shown K.told K.calls K.faults keepers.old) (shown K.told K.calls K.faults keepers.new) first.now.line.items
+        (S.taken output.old) (S.taken output.new) }
+    ensures refused { result ≡ Err Stop.Configuration → RefusesLine K.TELLS
+        (shown K.told K.calls K.faults keepers.old) (shown K.told K.calls K.faults keepers.new) first.now.line.items
+        (S.taken output.old) (S.taken output.new) }
     ensures still { WhereTold K.TELLS (StillBegin (K.told keepers.old) (K.told keepers.new)) }
     ensures cause { IfErr result (StopsBeginning (S.faults output.old) (S.faults output.new) (K.faults keepers.old) (K.faults keepers.new)) }
     ensures later { S.faults output.old ≤ S.faults output.new }

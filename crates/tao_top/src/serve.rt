@@ -25,14 +25,18 @@ fn serve_line<R: Source, S: Sink, K: Keeper>(
     keepers: &mut K,
 ) -> Result<bool, Interrupt>
     requires serving { IsServing K.TELLS serving.old (K.told keepers.old) }
-    ensures ok { OnOk result (Served K.TELLS (serves serving.old (shown K.told K.calls K.faults keepers.old)) (serves serving.new (shown K.told K.calls K.faults keepers.new)) (to_come reader.old (R.left input.old)) (to_come reader.new (R.left input.new)) (S.taken output.old) (S.taken output.new)) }
+    ensures ok { OnOk result (Served K.TELLS (serves serving.old (shown K.told K.calls K.faults keepers.old))
+        (serves serving.new (shown K.told K.calls K.faults keepers.new)) (to_come reader.old
+        (R.left input.old)) (to_come reader.new (R.left input.new)) (S.taken output.old) (S.taken output.new)) }
     ensures uses { result ≡ Ok true → may_give reader.new < may_give reader.old }
     ensures end { result ≡ Ok false → IsAtEnd (to_come reader.new (R.left input.new)) }
     ensures short { result ≡ Ok false → reader.new.taken < 2 ^ 40 }
     ensures serving { IsServing K.TELLS serving.new (K.told keepers.new) }
     ensures still { WhereTold K.TELLS (StillBegin (K.told keepers.old) (K.told keepers.new)) }
 
-    ensures err { OnErr result (ServedInPart K.TELLS (serves serving.old (shown K.told K.calls K.faults keepers.old)) (shown K.told K.calls K.faults keepers.new) (to_come reader.old (R.left input.old)) (S.taken output.old) (S.taken output.new)) }
+    ensures err { OnErr result (ServedInPart K.TELLS (serves serving.old
+        (shown K.told K.calls K.faults keepers.old)) (shown K.told K.calls K.faults keepers.new) (to_come reader.old
+        (R.left input.old)) (S.taken output.old) (S.taken output.new)) }
     ensures cause { IfErr result (InterruptHasCause (faults (R.faults input.old) (S.faults output.old)) (faults (R.faults input.new) (S.faults output.new))) }
     ensures long { IsErrOf result Interrupt.InputTooLong → reader.new.taken ≡ 2 ^ 40 }
 
@@ -64,13 +68,17 @@ pub(crate) fn serve<R: Source, S: Sink, K: Keeper>(
     keepers: &mut K,
 ) -> Result<(), Interrupt>
     requires serving { IsServing K.TELLS serving.old (K.told keepers.old) }
-    ensures ok { OnOk result (ServedAll K.TELLS (serves serving.old (shown K.told K.calls K.faults keepers.old)) (serves serving.new (shown K.told K.calls K.faults keepers.new)) (to_come reader.old (R.left input.old)) (S.taken output.old) (S.taken output.new)) }
+    ensures ok { OnOk result (ServedAll K.TELLS (serves serving.old (shown K.told K.calls K.faults keepers.old))
+        (serves serving.new (shown K.told K.calls K.faults keepers.new)) (to_come reader.old (R.left input.old))
+        (S.taken output.old) (S.taken output.new)) }
     ensures end { OnOk result (IsAtEnd (to_come reader.new (R.left input.new))) }
     ensures short { OnOk result (reader.new.taken < 2 ^ 40) }
     ensures serving { IsServing K.TELLS serving.new (K.told keepers.new) }
     ensures still { WhereTold K.TELLS (StillBegin (K.told keepers.old) (K.told keepers.new)) }
 
-    ensures err { OnErr result (ServedInPart K.TELLS (serves serving.old (shown K.told K.calls K.faults keepers.old)) (shown K.told K.calls K.faults keepers.new) (to_come reader.old (R.left input.old)) (S.taken output.old) (S.taken output.new)) }
+    ensures err { OnErr result (ServedInPart K.TELLS (serves serving.old
+        (shown K.told K.calls K.faults keepers.old)) (shown K.told K.calls K.faults keepers.new) (to_come reader.old
+        (R.left input.old)) (S.taken output.old) (S.taken output.new)) }
     ensures cause { IfErr result (InterruptHasCause (faults (R.faults input.old) (S.faults output.old)) (faults (R.faults input.new) (S.faults output.new))) }
     ensures long { IsErrOf result Interrupt.InputTooLong → reader.new.taken ≡ 2 ^ 40 }
 

@@ -63,7 +63,8 @@ impl<'c> Serving<'c> {
         ensures sessions { IfOk result (λ serving. serving.sessions ≡ []) }
         ensures opened { IfOk result (λ serving. WhereTold K.TELLS (IsOpened config.now line.now (K.told keepers.old) (K.told keepers.new))) }
         ensures serving { IfOk result (λ serving. IsServing K.TELLS serving (K.told keepers.new)) }
-        ensures refused { IfErr result (RefusesOpening K.TELLS config.now line.now (shown K.told K.calls K.faults keepers.old) (shown K.told K.calls K.faults keepers.new)) }
+        ensures refused { IfErr result (RefusesOpening K.TELLS config.now line.now
+            (shown K.told K.calls K.faults keepers.old) (shown K.told K.calls K.faults keepers.new)) }
         ensures still { WhereTold K.TELLS (StillBegin (K.told keepers.old) (K.told keepers.new)) }
         ensures later { IsLater (shown K.told K.calls K.faults keepers.old) (shown K.told K.calls K.faults keepers.new) }
     {
@@ -89,7 +90,8 @@ impl<'c> Serving<'c> {
     /// The core's reply to a request.
     fn call<K: Keeper>(&mut self, alloc: Global, keepers: &mut K, request: &Request) -> Reply
         requires serving { IsServing K.TELLS self.old (K.told keepers.old) }
-        ensures does { Serves K.TELLS self.old (shown K.told K.calls K.faults keepers.old) (Ok request.now) result self.new (shown K.told K.calls K.faults keepers.new) }
+        ensures does { Serves K.TELLS self.old
+            (shown K.told K.calls K.faults keepers.old) (Ok request.now) result self.new (shown K.told K.calls K.faults keepers.new) }
         ensures serving { IsServing K.TELLS self.new (K.told keepers.new) }
         ensures still { WhereTold K.TELLS (StillBegin (K.told keepers.old) (K.told keepers.new)) }
         ensures later { IsLater (shown K.told K.calls K.faults keepers.old) (shown K.told K.calls K.faults keepers.new) }
@@ -105,7 +107,8 @@ impl<'c> Serving<'c> {
         line: &[u8],
     ) -> Result<Reply, AllocError>
         requires serving { IsServing K.TELLS self.old (K.told keepers.old) }
-        ensures does { IfOk result (λ reply. Serves K.TELLS self.old (shown K.told K.calls K.faults keepers.old) (request_in line.now) reply self.new (shown K.told K.calls K.faults keepers.new)) }
+        ensures does { IfOk result (λ reply. Serves K.TELLS self.old
+            (shown K.told K.calls K.faults keepers.old) (request_in line.now) reply self.new (shown K.told K.calls K.faults keepers.new)) }
         ensures same { OnErr result ((self.new ≡ self.old) × (keepers.new ≡ keepers.old)) }
         ensures serving { IsServing K.TELLS self.new (K.told keepers.new) }
         ensures still { WhereTold K.TELLS (StillBegin (K.told keepers.old) (K.told keepers.new)) }
@@ -132,8 +135,12 @@ impl<'c> Serving<'c> {
         line: &[u8],
     ) -> Result<(), Interrupt>
         requires serving { IsServing K.TELLS self.old (K.told keepers.old) }
-        ensures ok { OnOk result (Replies K.TELLS (serves self.old (shown K.told K.calls K.faults keepers.old)) line.now (serves self.new (shown K.told K.calls K.faults keepers.new)) (Appends (S.taken output.old) (S.taken output.new))) }
-        ensures err { OnErr result (RepliesInPart K.TELLS (serves self.old (shown K.told K.calls K.faults keepers.old)) line.now (serves self.new (shown K.told K.calls K.faults keepers.new)) (S.taken output.old) (S.taken output.new)) }
+        ensures ok { OnOk result (Replies K.TELLS (serves self.old (shown K.told K.calls K.faults keepers.old)) line.now
+            (serves self.new (shown K.told K.calls K.faults keepers.new)) (Appends
+            (S.taken output.old) (S.taken output.new))) }
+        ensures err { OnErr result (RepliesInPart K.TELLS (serves self.old
+            (shown K.told K.calls K.faults keepers.old)) line.now
+            (serves self.new (shown K.told K.calls K.faults keepers.new)) (S.taken output.old) (S.taken output.new)) }
         ensures serving { IsServing K.TELLS self.new (K.told keepers.new) }
         ensures still { WhereTold K.TELLS (StillBegin (K.told keepers.old) (K.told keepers.new)) }
         ensures cause { IfErr result (InterruptsWriting (S.faults output.old) (S.faults output.new)) }
@@ -149,8 +156,10 @@ impl<'c> Serving<'c> {
         alloc: Global,
         output: &mut S,
     ) -> Result<(), Interrupt>
-        ensures ok { OnOk result (Appends (S.taken output.old) (S.taken output.new) (line_of (serving self.now) (Reply.Refused (Refusal.Line (LineRefused.BadLine []))))) }
-        ensures err { OnErr result (AppendsPart (S.taken output.old) (S.taken output.new) (line_of (serving self.now) (Reply.Refused (Refusal.Line (LineRefused.BadLine []))))) }
+        ensures ok { OnOk result (Appends
+            (S.taken output.old) (S.taken output.new) (line_of (serving self.now) (Reply.Refused (Refusal.Line (LineRefused.BadLine []))))) }
+        ensures err { OnErr result (AppendsPart
+            (S.taken output.old) (S.taken output.new) (line_of (serving self.now) (Reply.Refused (Refusal.Line (LineRefused.BadLine []))))) }
         ensures cause { IfErr result (InterruptsWriting (S.faults output.old) (S.faults output.new)) }
         ensures later { S.faults output.old ≤ S.faults output.new }
     {

@@ -27,12 +27,21 @@ fn go<R: Source, S: Sink, K: Keeper>(
 ) -> Result<(), Stop>
     requires sound { WhereTold K.TELLS (MayRun (R.left input.old) (K.told keepers.old)) }
     ensures still { WhereTold K.TELLS (StillBegin (K.told keepers.old) (K.told keepers.new)) }
-    ensures ok { OnOk result (Done K.TELLS (shown K.told K.calls K.faults keepers.old) (shown K.told K.calls K.faults keepers.new) (R.left input.old) (S.taken output.old) (S.taken output.new)) }
+    ensures ok { OnOk result (Done K.TELLS
+        (shown K.told K.calls K.faults keepers.old) (shown K.told K.calls K.faults keepers.new) (R.left input.old)
+        (S.taken output.old) (S.taken output.new)) }
     ensures short { OnOk result (IfSome (R.left input.old) (λ bytes. length bytes < 2 ^ 40)) }
-    ensures err { IfErr result (λ stop. EndsInPart (stop_code stop) K.TELLS (shown K.told K.calls K.faults keepers.old) (shown K.told K.calls K.faults keepers.new) (R.left input.old) (S.taken output.old) (S.taken output.new)) }
-    ensures keepers { result ≡ Err Stop.Keepers → StopsOpening K.TELLS (shown K.told K.calls K.faults keepers.old) (shown K.told K.calls K.faults keepers.new) (R.left input.old) (S.taken output.old) (S.taken output.new) }
-    ensures refused { result ≡ Err Stop.Configuration → RefusesConfiguration K.TELLS (shown K.told K.calls K.faults keepers.old) (shown K.told K.calls K.faults keepers.new) (R.left input.old) (S.taken output.old) (S.taken output.new) }
-    ensures cause { IfErr result (StopHasCause (faults (R.faults input.old) (S.faults output.old)) (faults (R.faults input.new) (S.faults output.new)) (K.faults keepers.old) (K.faults keepers.new)) }
+    ensures err { IfErr result (λ stop. EndsInPart (stop_code stop) K.TELLS
+        (shown K.told K.calls K.faults keepers.old) (shown K.told K.calls K.faults keepers.new) (R.left input.old)
+        (S.taken output.old) (S.taken output.new)) }
+    ensures keepers { result ≡ Err Stop.Keepers → StopsOpening K.TELLS
+        (shown K.told K.calls K.faults keepers.old) (shown K.told K.calls K.faults keepers.new) (R.left input.old)
+        (S.taken output.old) (S.taken output.new) }
+    ensures refused { result ≡ Err Stop.Configuration → RefusesConfiguration K.TELLS
+        (shown K.told K.calls K.faults keepers.old) (shown K.told K.calls K.faults keepers.new) (R.left input.old)
+        (S.taken output.old) (S.taken output.new) }
+    ensures cause { IfErr result (StopHasCause
+        (faults (R.faults input.old) (S.faults output.old)) (faults (R.faults input.new) (S.faults output.new)) (K.faults keepers.old) (K.faults keepers.new)) }
     ensures long { result ≡ Err (Stop.Interrupted InputTooLong) → IfSome (R.left input.old) (λ bytes. 2 ^ 40 ≤ length bytes) }
 
     ensures taken { Takes (R.left input.old) (R.left input.new) }
@@ -81,15 +90,23 @@ pub fn run<R: Source, S: Sink, K: Keeper>(
     requires sound { WhereTold K.TELLS (MayRun (R.left input.old) (K.told keepers.old)) }
     ensures still { WhereTold K.TELLS (StillBegin (K.told keepers.old) (K.told keepers.new)) }
 
-    ensures done { result.code ≡ 0 → Done K.TELLS (shown K.told K.calls K.faults keepers.old) (shown K.told K.calls K.faults keepers.new) (R.left input.old) (S.taken output.old) (S.taken output.new) }
-    ensures in_part { EndsInPart result.code K.TELLS (shown K.told K.calls K.faults keepers.old) (shown K.told K.calls K.faults keepers.new) (R.left input.old) (S.taken output.old) (S.taken output.new) }
+    ensures done { result.code ≡ 0 → Done K.TELLS
+        (shown K.told K.calls K.faults keepers.old) (shown K.told K.calls K.faults keepers.new) (R.left input.old)
+        (S.taken output.old) (S.taken output.new) }
+    ensures in_part { EndsInPart result.code K.TELLS
+        (shown K.told K.calls K.faults keepers.old) (shown K.told K.calls K.faults keepers.new) (R.left input.old)
+        (S.taken output.old) (S.taken output.new) }
 
     ensures words { (result.code ≡ 2) ↔ (is_run (map string_bytes words.now) ≡ false) }
     ensures idle { result.code ≡ 2 → (input.new ≡ input.old) × (output.new ≡ output.old) × (keepers.new ≡ keepers.old) }
-    ensures configuration { result.code ≡ 3 → RefusesConfiguration K.TELLS (shown K.told K.calls K.faults keepers.old) (shown K.told K.calls K.faults keepers.new) (R.left input.old) (S.taken output.old) (S.taken output.new) }
+    ensures configuration { result.code ≡ 3 → RefusesConfiguration K.TELLS
+        (shown K.told K.calls K.faults keepers.old) (shown K.told K.calls K.faults keepers.new) (R.left input.old)
+        (S.taken output.old) (S.taken output.new) }
     ensures source { result.code ≡ 4 → Rose (R.faults input.old) (R.faults input.new) }
     ensures sink { result.code ≡ 5 → Rose (S.faults output.old) (S.faults output.new) }
-    ensures keepers { result.code ≡ 6 → FailsOpening K.TELLS (shown K.told K.calls K.faults keepers.old) (shown K.told K.calls K.faults keepers.new) (R.left input.old) (S.taken output.old) (S.taken output.new) }
+    ensures keepers { result.code ≡ 6 → FailsOpening K.TELLS
+        (shown K.told K.calls K.faults keepers.old) (shown K.told K.calls K.faults keepers.new) (R.left input.old)
+        (S.taken output.old) (S.taken output.new) }
     ensures long { result.code ≡ 9 → IfSome (R.left input.old) (λ bytes. 2 ^ 40 ≤ length bytes) }
     ensures short { result.code ≡ 0 → IfSome (R.left input.old) (λ bytes. length bytes < 2 ^ 40) }
     ensures known { IsStatus result.code }
@@ -100,7 +117,8 @@ pub fn run<R: Source, S: Sink, K: Keeper>(
 
     // Completeness: where the word and the first line are good and nothing fails, only want of memory stops it.
     ensures complete { IsGood K.TELLS (map string_bytes words.now) (shown K.told K.calls K.faults keepers.old) (R.left input.old)
-        → NoFault (faults (R.faults input.old) (S.faults output.old)) (faults (R.faults input.new) (S.faults output.new)) (K.faults keepers.old) (K.faults keepers.new)
+        → NoFault (faults (R.faults input.old) (S.faults output.old)) (faults (R.faults input.new) (S.faults output.new))
+        (K.faults keepers.old) (K.faults keepers.new)
         → (result.code ≡ 0) ⊎ (result.code ≡ 7) }
 {
     let code = if !is_run(words) {

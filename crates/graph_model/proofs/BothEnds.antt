@@ -12,8 +12,9 @@ use Rattle.tao_base.specs.declared.entry.Entry.{Entry}
 use Rattle.tao_base.specs.declared.entry.Origin.{Origin}
 use Rattle.graph_model.proofs.Members.{IsIn, PairsByRecursion, if_some, in_any, in_append_cases, in_append_left, in_append_right, in_filter, in_filter_map, in_filter_map_parts, in_filter_parts, none_in, pairs_append, pairs_filter, pairs_filter_map, pairs_weaker}
 use Rattle.graph_model.proofs.NearEnds.{near_ends_are_paired}
-use Rattle.graph_model.proofs.Written.{AreApart, AreWritten, CutBefore, IsCutThenLive}
+use Rattle.graph_model.proofs.Written.{AreApart, AreWritten, CutBefore}
 use Rattle.graph_model.specs.Edges.{edge_record}
+use Rattle.graph_model.specs.MergeLaws.{IsCutThenLive}
 use Rattle.graph_model.specs.Merges.{is_later, is_news}
 use Rattle.graph_model.specs.Soundness.{EdgeUpdate, IsSoundOf, other_end}
 use Rattle.graph_model.specs.EndLaws.{InversesMatch}

@@ -48,7 +48,7 @@ new_or_there (e ∷ es) origin = elim (cases_origin e.origin origin) [
 ]
 
 -- the entry at a position stands at the place before it, and its position is that one
-at_place : (types : EdgeTypes) (shard : ℕ) (log : List Entry) (position : ℕ) (e : Entry) → IsSoundOf types shard log → entry_at log position ≡ Some e
+pub at_place : (types : EdgeTypes) (shard : ℕ) (log : List Entry) (position : ℕ) (e : Entry) → IsSoundOf types shard log → entry_at log position ≡ Some e
     → (place : ℕ) × (slice_get log place ≡ Some e) × (e.position ≡ position)
 at_place types shard log zero e sound h = absurd (cc)
 at_place types shard log (suc place) e sound h =
@@ -62,7 +62,7 @@ done_there log n us sound done =
     All-weaker (HasStamp (take n log)) (HasStamp log) (λ u h. subst (λ l. HasStamp l u) whole ((stamps_stay (take n log)).stays (drop n log) u (subst IsSound (sym whole) sound) h)) us done
 
 new_or_done : (types : EdgeTypes) (stores : Stores) (shard from position : ℕ) (e : Entry) → IsSoundOf types shard (log_of stores.logs shard) → AreCovered types stores
-    → IsClientEntry stores from position e → e.position ≡ position → IsNewOrDone types (log_of stores.logs shard) from e
+    → IsClientEntry (log_of stores.logs from) position e → e.position ≡ position → IsNewOrDone types (log_of stores.logs shard) from e
 new_or_done types stores shard from position e sound covered stands same = elim (new_or_there (log_of stores.logs shard) (Merge from e.position)) [
   | inl new ↦ inl new
   | inr there ↦ (

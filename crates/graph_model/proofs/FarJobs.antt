@@ -18,10 +18,10 @@ use Rattle.tao_base.specs.declared.entry.Touch.{Touch}
 use Rattle.graph_model.proofs.BothEnds.{one_inverse, other_end_is, other_mates, when_some}
 use Rattle.graph_model.proofs.Members.{IsIn, PairsByRecursion, All-from_in, All-in, all_in, in_filter_map_parts, in_from_contains, pairs_append, pairs_both, pairs_filter_map, pairs_from_in, pairs_prop, pairs_weaker, recursion_from_AllPairs}
 use Rattle.graph_model.proofs.Updates.{written}
-use Rattle.graph_model.proofs.Written.{AreApart, CutBefore, IsCutThenLive, update_of}
+use Rattle.graph_model.proofs.Written.{AreApart, CutBefore, update_of}
 use Rattle.graph_model.specs.EndLaws.{InversesMatch}
 use Rattle.graph_model.specs.Keys.{key_shard}
-use Rattle.graph_model.specs.MergeLaws.{IsEntryOf, IsFarEntry, JobsAreFar}
+use Rattle.graph_model.specs.MergeLaws.{IsCutThenLive, IsEntryOf, IsFarEntry, JobsAreFar}
 use Rattle.graph_model.specs.Merges.{job_of}
 use Rattle.graph_model.specs.Soundness.{AreInOrder, AreOpposite, EdgeUpdate, IsOneEnd, IsSoundOf, KeepsEnds, other_end, updates_of}
 use Rattle.graph_model.specs.Writes.{is_near, when}
@@ -165,7 +165,7 @@ module _ (types : EdgeTypes) (from : ℕ) (e : Entry) (far : IsEntryOf from e) w
     there = All-from_in (λ x. shard_of x.0 ≡ shard_of u.0) (job_of types e) (λ x k. ap shard_of (same_id x u k h));
   }
 
-entry_of_sound : (types : EdgeTypes) (from : ℕ) (source : List Entry) (place : ℕ) (e : Entry) → IsSoundOf types from source → slice_get source place ≡ Some e → IsEntryOf from e
+pub entry_of_sound : (types : EdgeTypes) (from : ℕ) (source : List Entry) (place : ℕ) (e : Entry) → IsSoundOf types from source → slice_get source place ≡ Some e → IsEntryOf from e
 entry_of_sound types from source place e sound h =
     let follows = sound.sound place e h in
     let within = slice_get_within source place e h in

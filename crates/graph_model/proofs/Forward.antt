@@ -121,7 +121,7 @@ two_records types log id1 atype id2 newtype time payload match other apart =
 no_records : (types : EdgeTypes) (log : List Entry) (id1 id2 : ℕ) → IsOneWrite types log id1 id2 []
 no_records types log id1 id2 = record { ids = λ u h. absurd h; news = λ u h. absurd h; own = λ u h. absurd h; mates = tt; single = λ u w h k l e. absurd h }
 
-abbrev cut_where_live : List Entry → Id → AType → Id → Option EdgeState → List EdgeUpdate
+abbrev pub cut_where_live : List Entry → Id → AType → Id → Option EdgeState → List EdgeUpdate
 cut_where_live log id1 atype id2 (Some (Live time payload stamp)) = (id1, atype, id2, Cut (next_stamp log id1 atype id2)) ∷ []
 cut_where_live log id1 atype id2 (Some (Cut stamp)) = []
 cut_where_live log id1 atype id2 None = []
@@ -131,7 +131,7 @@ cut_record types log id1 atype id2 (Some (Live time payload stamp)) = one_record
 cut_record types log id1 atype id2 (Some (Cut stamp)) = no_records types log id1 id2
 cut_record types log id1 atype id2 None = no_records types log id1 id2
 
-abbrev move_where_live : List Entry → Id → AType → Id → AType → Option EdgeState → List EdgeUpdate
+abbrev pub move_where_live : List Entry → Id → AType → Id → AType → Option EdgeState → List EdgeUpdate
 move_where_live log id1 atype id2 newtype (Some (Live time payload stamp)) = moved log id1 atype id2 newtype time payload
 move_where_live log id1 atype id2 newtype (Some (Cut stamp)) = []
 move_where_live log id1 atype id2 newtype None = []
@@ -142,7 +142,7 @@ moved_records types log id1 atype id2 newtype (Some (Live time payload stamp)) m
 moved_records types log id1 atype id2 newtype (Some (Cut stamp)) match other apart = no_records types log id1 id2
 moved_records types log id1 atype id2 newtype None match other apart = no_records types log id1 id2
 
-abbrev touch_where_there : List Entry → Id → (Object → Change) → Option Object → List Touch
+abbrev pub touch_where_there : List Entry → Id → (Object → Change) → Option Object → List Touch
 touch_where_there log id change (Some old) = touch_of log (Obj id) (change old) ∷ []
 touch_where_there log id change None = []
 

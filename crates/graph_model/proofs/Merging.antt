@@ -48,13 +48,13 @@ pub nothing_given : (log : List Entry) (kind : Kind) (origin : Origin) (us : Lis
 nothing_given log kind origin [] h = refl
 nothing_given log kind origin (u ∷ us) h = absurd (cc)
 
-not_news : (log : List Entry) (us : List EdgeUpdate) → filter (is_news log) us ≡ [] → All (HasStamp log) us
+pub not_news : (log : List Entry) (us : List EdgeUpdate) → filter (is_news log) us ≡ [] → All (HasStamp log) us
 not_news log us none = All-from_in (HasStamp log) us (λ u h. elim (cases_Bool (is_news log u)) [
   | inl news ↦ absurd (subst (IsIn u) none (in_filter (is_news log) us u h news))
   | inr old ↦ old
 ])
 
-no_news : (log : List Entry) (us : List EdgeUpdate) → All (HasStamp log) us → filter (is_news log) us ≡ []
+pub no_news : (log : List Entry) (us : List EdgeUpdate) → All (HasStamp log) us → filter (is_news log) us ≡ []
 no_news log [] h = refl
 no_news log (u ∷ us) h = rw (All-head (HasStamp log) u us h) (no_news log us (All-tail (HasStamp log) u us h))
 
@@ -64,7 +64,7 @@ merges_nothing log from e = record {
   nothing = λ types h. ap (λ us. next_entry log Merged (Merge from e.position) (map (edge_touch log) us)) (no_news log (job_of types e) h);
 }
 
-some_news : (types : EdgeTypes) (log : List Entry) (from : ℕ) (e m : Entry) → merge_entry types log from e ≡ Some m → 0 < length (filter (is_news log) (job_of types e))
+pub some_news : (types : EdgeTypes) (log : List Entry) (from : ℕ) (e m : Entry) → merge_entry types log from e ≡ Some m → 0 < length (filter (is_news log) (job_of types e))
 some_news types log from e m h =
     rw (length-map (filter (is_news log) (job_of types e)) (edge_touch log)) at
     (given_entry log Merged (Merge from e.position) (map (edge_touch log) (filter (is_news log) (job_of types e))) m h).0

@@ -17,7 +17,7 @@ use Rattle.graph_model.specs.Soundness.{EdgeUpdate, IsSoundOf, KeepsEnds, other_
 use Rattle.graph_model.proofs.Updates.{edge_record-append, record_of_update, update_of_record}
 
 -- an entry that keeps both ends leaves the same record at both
-other_end-is : (types : EdgeTypes) (inverse : AType) (u : EdgeUpdate) → types.inverse u.1 ≡ Some inverse → other_end types u ≡ Some (u.2, inverse, u.0, u.3)
+pub other_end-is : (types : EdgeTypes) (inverse : AType) (u : EdgeUpdate) → types.inverse u.1 ≡ Some inverse → other_end types u ≡ Some (u.2, inverse, u.0, u.3)
 other_end-is types inverse u h = rw h refl
 
 one_way : (types : EdgeTypes) (shard : ℕ) (e : Entry) (id1 : Id) (atype inverse : AType) (id2 : Id) (s : EdgeState) → AllPairs (λ r t. r.key ≢ t.key) e.touches

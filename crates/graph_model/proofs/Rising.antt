@@ -56,7 +56,7 @@ still_no_later : (found : Option EdgeState) (s new : EdgeState) → is_later s f
 still_no_later None s new h k = absurd (cc)
 still_no_later (Some old) s new h k = grind (arith, nat_tests)
 
-never_before_itself : (x : Stamp) → is_earlier x x ≡ false
+pub never_before_itself : (x : Stamp) → is_earlier x x ≡ false
 never_before_itself x = grind (arith, nat_tests)
 
 -- one more entry keeps each stamp that the log has reached

@@ -2,7 +2,7 @@
 use Rattle.std.proofs.Common.{◌≡◌, ℕ, ◌+◌, ◌<◌, ◌≢◌, true, List, [], ◌∷◌, ◌++◌, length, map, refl, ap, ◌∙◌, subst, arith}
 use Rattle.std.proofs.lemmas.List.{length-map, map-append}
 use Rattle.std.proofs.lemmas.Option.{same_Some}
-use Rattle.std.specs.Prelude.{All, AllPairs, Contains, Option, Some, IfSome, IsTrue, filter_map, ⊤}
+use Rattle.std.specs.Prelude.{All, AllPairs, Contains, Option, Some, IfSome, IsTrue, filter_map}
 use Rattle.tao_base.specs.EdgeTypes.{EdgeTypes}
 use Rattle.tao_base.specs.Ids.{shard_of}
 use Rattle.tao_base.specs.Stamps.{stamp_of}
@@ -17,16 +17,11 @@ use Rattle.graph_model.proofs.Members.{IsIn, PairsByRecursion, if_some, if_some_
 use Rattle.graph_model.proofs.Sound.{sound_of_grows}
 use Rattle.graph_model.proofs.Touches.{touch_follows}
 use Rattle.graph_model.specs.Keys.{key_shard}
+use Rattle.graph_model.specs.MergeLaws.{IsCutThenLive}
 use Rattle.graph_model.specs.Merges.{is_news}
 use Rattle.graph_model.specs.Soundness.{AreInOrder, AreOpposite, CanFollow, EdgeUpdate, IsOneEnd, IsSoundOf, KeepsEnds, TouchFollows, is_client, other_end, update_at}
 use Rattle.graph_model.specs.WriteLaws.{IsNewOrigin, StaysSound}
 use Rattle.graph_model.specs.Writes.{edge_touch, next_entry}
-
--- a cut, and then what is set in its place
-abbrev pub IsCutThenLive : EdgeState → EdgeState → Type 0
-IsCutThenLive (Cut stamp) (Live time payload later) = ⊤
-IsCutThenLive (Cut stamp) (Cut later) = ⊥
-IsCutThenLive (Live time payload stamp) state = ⊥
 
 -- a cut and then a set between the same ids
 pub record CutBefore (u v : EdgeUpdate) : Type 0 where
@@ -69,7 +64,7 @@ pub record AreWritten (types : EdgeTypes) (shard : ℕ) (log : List Entry) (orig
   pub here : (u : EdgeUpdate) → IsIn u us → shard_of u.0 ≡ shard
   pub both : (u : EdgeUpdate) → IsIn u us → shard_of u.2 ≡ shard → IfSome (other_end types u) (λ v. IsIn v us)
 
-one_cut : (x y z : EdgeState) → IsCutThenLive x y → IsCutThenLive y z → ⊥
+pub one_cut : (x y z : EdgeState) → IsCutThenLive x y → IsCutThenLive y z → ⊥
 one_cut (Live time payload stamp) y z h k = h
 one_cut (Cut stamp) (Live time payload later) z h k = k
 one_cut (Cut stamp) (Cut later) z h k = h

@@ -1,17 +1,19 @@
 -- Laws of merges: the entry that merges a job keeps the log sound, and leaves all of the job there.
-use Rattle.std.specs.Prelude.{ℕ, List, [], ◌∷◌, ◌++◌, fold, flat_map, filter_map, All, AllPairs, Contains, Option, Some, None, option_to_list, slice_get, ◌≡◌, ◌≢◌, ◌⊎◌, ◌↔◌}
+use Rattle.std.specs.Prelude.{ℕ, List, [], ◌∷◌, ◌++◌, fold, flat_map, filter_map, All, AllPairs, Contains, Option, Some, None, option_to_list, slice_get, ◌≡◌, ◌≢◌, ◌⊎◌, ◌↔◌, ⊤}
 use Rattle.tao_base.specs.EdgeTypes.{EdgeTypes}
 use Rattle.tao_base.specs.Ids.{shard_of}
 use Rattle.tao_base.specs.declared.id.Id.{Id}
 use Rattle.tao_base.specs.declared.id.AType.{AType}
 use Rattle.tao_base.specs.declared.edge.EdgeState.{EdgeState}
+use Rattle.tao_base.specs.declared.edge.EdgeState.TheVariants.{Live, Cut}
+use Rattle.tao_base.specs.declared.id.Key.TheVariants.{List as Assocs}
 use Rattle.tao_base.specs.declared.entry.Entry.{Entry}
 use Rattle.tao_base.specs.declared.entry.Origin.TheVariants.{Merge}
 use Rattle.graph_model.specs.Edges.{edge_record}
 use Rattle.graph_model.specs.EndLaws.{InversesMatch}
 use Rattle.graph_model.specs.Keys.{key_shard}
-use Rattle.graph_model.specs.Merges.{Agree, AreCovered, HasStamp, IsClientEntry, Stores, job_of, join, log_of, merge_entry}
-use Rattle.graph_model.specs.Soundness.{AreInOrder, EdgeUpdate, IsSoundOf}
+use Rattle.graph_model.specs.Merges.{Agree, AreCovered, HasStamp, IsClientEntry, Stores, job_of, join, log_of, merge_entry, merge_of}
+use Rattle.graph_model.specs.Soundness.{AreInOrder, CanFollow, EdgeUpdate, IsSoundOf}
 use Rattle.graph_model.specs.WriteLaws.{IsNewOrigin, StaysSound}
 use Rattle.graph_model.specs.Writes.{same_edge, when}
 
@@ -61,7 +63,8 @@ pub record JobsAreFar (from : ℕ) (source : List Entry) : Type 0 where
 -- in sound and covered stores the job of a client's entry may be merged where its records lie
 pub record CoveredJobsMayMerge : Type 0 where
   pub may : (types : EdgeTypes) (stores : Stores) → InversesMatch types → ((shard : ℕ) → IsSoundOf types shard (log_of stores.logs shard))
-      → AreCovered types stores → (from position : ℕ) (e : Entry) (u : EdgeUpdate) → IsClientEntry stores from position e → Contains (job_of types e) u
+      → AreCovered types stores → (from position : ℕ) (e : Entry) (u : EdgeUpdate) → IsClientEntry (log_of stores.logs from) position e
+      → Contains (job_of types e) u
       → IsMergeable types (shard_of u.0) (log_of stores.logs (shard_of u.0)) from e
 
 -- the log after the merge of a job, which is given by the shard and the entry that it is of
@@ -115,3 +118,47 @@ pub record OrderIsFree (shard : ℕ) (log : List Entry) : Type 0 where
   pub same : (types : EdgeTypes) (jobs others : List (ℕ × Entry)) → AreMergeable types shard log jobs → ((job : ℕ × Entry) → Contains jobs job ↔ Contains others job)
       → (id1 : Id) (atype : AType) (id2 : Id) → RecordsAgree types log jobs id1 atype id2
       → edge_record (merged_in_turn types log jobs) id1 atype id2 ≡ edge_record (merged_in_turn types log others) id1 atype id2
+
+-- a cut, and then what is set in its place
+abbrev pub IsCutThenLive : EdgeState → EdgeState → Type 0
+IsCutThenLive (Cut stamp) (Live time payload later) = ⊤
+IsCutThenLive (Cut stamp) (Cut later) = ⊥
+IsCutThenLive (Live time payload stamp) state = ⊥
+
+-- an edge is cut and set with another type, between the same ids
+pub record IsMove (cut set : EdgeUpdate) : Type 0 where
+  pub states : IsCutThenLive cut.3 set.3
+  pub id1 : cut.0 ≡ set.0
+  pub id2 : cut.2 ≡ set.2
+  pub apart : Assocs cut.0 cut.1 ≢ Assocs set.0 set.1
+
+-- the records of one entry's other ends: at most one, or a move
+abbrev pub AreOfOneJob : List EdgeUpdate → Type 0
+AreOfOneJob [] = ⊤
+AreOfOneJob (u ∷ []) = ⊤
+AreOfOneJob (cut ∷ set ∷ []) = IsMove cut set
+AreOfOneJob (u ∷ v ∷ w ∷ us) = ⊥
+
+-- the records of the other ends of another shard's entry, which are new to the log of this shard, or there
+pub record MayBeMerged (shard : ℕ) (log : List Entry) (from position : ℕ) (us : List EdgeUpdate) : Type 0 where
+  pub one : AreOfOneJob us
+  pub here : All (λ u. shard_of u.0 ≡ shard) us
+  pub there : All (λ u. shard_of u.2 ≡ from) us
+  pub away : from ≢ shard
+  pub origin : IsNewOrigin log (Merge from position) ⊎ All (HasStamp log) us
+
+-- the entry that merges such records follows the log, keeps it sound of its shard, and leaves all of them there
+pub record MergesFollow (shard : ℕ) (log : List Entry) (from position : ℕ) (us : List EdgeUpdate) (m : Entry) : Type 0 where
+  pub follows : MayBeMerged shard log from position us → merge_of log from position us ≡ Some m → CanFollow log m
+  pub stays : (types : EdgeTypes) → IsSoundOf types shard log → MayBeMerged shard log from position us → merge_of log from position us ≡ Some m
+      → StaysSound types shard log m
+
+-- nothing is merged exactly where all of the records are there
+pub record MergesNone (log : List Entry) (from position : ℕ) (us : List EdgeUpdate) : Type 0 where
+  pub done : merge_of log from position us ≡ None → All (HasStamp log) us
+  pub nothing : All (HasStamp log) us → merge_of log from position us ≡ None
+
+-- the records of a job that may be merged are such
+pub record JobsMayBeMerged : Type 0 where
+  pub may : (types : EdgeTypes) (shard : ℕ) (log : List Entry) (from : ℕ) (e : Entry) → IsMergeable types shard log from e
+      → MayBeMerged shard log from e.position (job_of types e)

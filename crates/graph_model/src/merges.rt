@@ -1,14 +1,20 @@
 //! What the entries that merge jobs of other shards keep of a log.
 ghost use Rattle.graph_model.specs.MergeLaws.{
   CoveredJobsMayMerge,
+  JobsMayBeMerged,
   JobsAreFar,
   MergeFollows,
+  MergesFollow,
   MergesJoin,
+  MergesNone,
   MergesNothing,
   OrderIsFree,
 };
 
-use tao_base::Entry;
+use tao_base::{AType, EdgeState, Entry, Id};
+
+/// A record of an edge at one end: its id1, type and id2, and the record.
+pub type EdgeUpdate = (Id, AType, Id, EdgeState);
 
 /// An entry of a sound log is far from where a record of its job lies.
 #[tactic(auto, using(crate::proofs::FarJobs::jobs_are_far))]
@@ -50,4 +56,29 @@ pub fn merges_join(_shard: u16, _log: &[Entry])
 #[tactic(auto, using(crate::proofs::MergesInTurn::order_is_free))]
 pub fn merge_order_is_free(_shard: u16, _log: &[Entry])
     ensures { OrderIsFree _shard _log.now }
+{}
+
+/// The records of a job that may be merged are such that may be merged, whatever entry they are of.
+#[tactic(auto, using(crate::proofs::MergeOf::jobs_may_be_merged))]
+pub fn jobs_may_be_merged()
+    ensures { JobsMayBeMerged }
+{}
+
+/// The entry that merges records of the other ends of another shard's entry follows the log, and keeps it sound.
+#[tactic(auto, using(crate::proofs::MergeOf::merges_follow))]
+pub fn merges_follow(
+    _shard: u16,
+    _log: &[Entry],
+    _from: u16,
+    _position: u64,
+    _updates: &[EdgeUpdate],
+    _merged: &Entry,
+)
+    ensures { MergesFollow _shard _log.now _from _position _updates.now _merged.now }
+{}
+
+/// No such entry is made exactly where all of the records are there.
+#[tactic(auto, using(crate::proofs::MergeOf::merges_none))]
+pub fn merges_none(_log: &[Entry], _from: u16, _position: u64, _updates: &[EdgeUpdate])
+    ensures { MergesNone _log.now _from _position _updates.now }
 {}

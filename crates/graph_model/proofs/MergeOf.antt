@@ -10,7 +10,8 @@ use Rattle.tao_base.specs.declared.entry.Kind.TheVariants.{Merge as Merged}
 use Rattle.tao_base.specs.declared.entry.Origin.TheVariants.{Merge}
 use Rattle.graph_model.proofs.FarJobs.{JobPair, from_there, job_pairs}
 use Rattle.graph_model.proofs.Members.{PairsByRecursion, All-from_in, All-in, in_filter_parts, pairs_filter, pairs_weaker}
-use Rattle.graph_model.proofs.Merging.{no_news, not_news, nothing_given}
+use Rattle.graph_model.proofs.Merging.{news_done, no_news, not_news, nothing_given}
+use Rattle.graph_model.proofs.Sound.{sound_grows}
 use Rattle.graph_model.proofs.Written.{AreApart, AreWritten, CutBefore, given_entry, one_cut, written_follows, written_stays}
 use Rattle.graph_model.specs.MergeLaws.{AreOfOneJob, JobsMayBeMerged, MayBeMerged, MergesFollow, MergesNone}
 use Rattle.graph_model.specs.Merges.{HasStamp, is_news, job_of, merge_of}
@@ -82,6 +83,8 @@ pub merges_follow : (shard : ℕ) (log : List Entry) (from position : ℕ) (us :
 merges_follow shard log from position us m = record {
   follows = λ may h. merge_of_follows shard log from position us m may h;
   stays = λ types sound may h. merge_of_stays shard log from position us m may h types sound;
+  done = λ sound may h.
+      news_done log (Merge from position) us m ((sound_grows log m).grows sound (merge_of_follows shard log from position us m may h)) h;
 }
 
 pub merges_none : (log : List Entry) (from position : ℕ) (us : List EdgeUpdate) → MergesNone log from position us

@@ -78,22 +78,28 @@ merge_stays types shard log from e m may h =
     written_stays types shard log Merged (Merge from e.position) (filter (is_news log) (job_of types e)) m may.sound (new_origin types log from e m may.origin h)
     (news_written types from shard e may.far may.inverses log (some_news types log from e m h)) h
 
--- the records that the merge writes
-pub merge_updates : (types : EdgeTypes) (log : List Entry) (from : ℕ) (e m : Entry) → merge_entry types log from e ≡ Some m → updates_of m ≡ filter (is_news log) (job_of types e)
-merge_updates types log from e m h =
-    ap updates_of (sym (given_entry log Merged (Merge from e.position) (map (edge_touch log) (filter (is_news log) (job_of types e))) m h).1)
-    ∙ updates-touches log (filter (is_news log) (job_of types e))
+-- the records that an entry of news writes
+news_updates : (log : List Entry) (origin : Origin) (us : List EdgeUpdate) (m : Entry) → next_entry log Merged origin (map (edge_touch log) (filter (is_news log) us)) ≡ Some m
+    → updates_of m ≡ filter (is_news log) us
+news_updates log origin us m h =
+    ap updates_of (sym (given_entry log Merged origin (map (edge_touch log) (filter (is_news log) us)) m h).1) ∙ updates-touches log (filter (is_news log) us)
 
--- after a merge all of the job is there: what was later is written, and what was there stays
+-- after it all of the records are there: what was later is written, and what was there stays
+pub news_done : (log : List Entry) (origin : Origin) (us : List EdgeUpdate) (m : Entry) → IsSound (log ++ m ∷ [])
+    → next_entry log Merged origin (map (edge_touch log) (filter (is_news log) us)) ≡ Some m → All (HasStamp (log ++ m ∷ [])) us
+news_done log origin us m sound h = All-from_in (HasStamp (log ++ m ∷ [])) us (λ u k. elim (cases_Bool (is_news log u)) [
+  | inl news ↦ (stamps_stay log).reached m u sound
+      (subst (λ vs. Contains vs u) (sym (news_updates log origin us m h)) (contains_from_in (filter (is_news log) us) u (in_filter (is_news log) us u k news)))
+  | inr old ↦ (stamps_stay log).stays (m ∷ []) u sound old
+])
+
+-- the records that the merge of a job writes
+pub merge_updates : (types : EdgeTypes) (log : List Entry) (from : ℕ) (e m : Entry) → merge_entry types log from e ≡ Some m → updates_of m ≡ filter (is_news log) (job_of types e)
+merge_updates types log from e m h = news_updates log (Merge from e.position) (job_of types e) m h
+
 pub merge_done : (types : EdgeTypes) (shard : ℕ) (log : List Entry) (from : ℕ) (e m : Entry) → IsMergeable types shard log from e → merge_entry types log from e ≡ Some m
     → All (HasStamp (log ++ m ∷ [])) (job_of types e)
-merge_done types shard log from e m may h =
-    let sound : IsSound (log ++ m ∷ []) = (merge_stays types shard log from e m may h).sound.sound in
-    All-from_in (HasStamp (log ++ m ∷ [])) (job_of types e) (λ u k. elim (cases_Bool (is_news log u)) [
-      | inl news ↦ (stamps_stay log).reached m u sound
-          (subst (λ us. Contains us u) (sym (merge_updates types log from e m h)) (contains_from_in (filter (is_news log) (job_of types e)) u (in_filter (is_news log) (job_of types e) u k news)))
-      | inr old ↦ (stamps_stay log).stays (m ∷ []) u sound old
-    ])
+merge_done types shard log from e m may h = news_done log (Merge from e.position) (job_of types e) m (merge_stays types shard log from e m may h).sound.sound h
 
 pub merge_follows : (shard : ℕ) (log : List Entry) (from : ℕ) (e m : Entry) → MergeFollows shard log from e m
 merge_follows shard log from e m = record {

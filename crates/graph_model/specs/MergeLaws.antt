@@ -13,7 +13,7 @@ use Rattle.graph_model.specs.Edges.{edge_record}
 use Rattle.graph_model.specs.EndLaws.{InversesMatch}
 use Rattle.graph_model.specs.Keys.{key_shard}
 use Rattle.graph_model.specs.Merges.{Agree, AreCovered, HasStamp, IsClientEntry, Stores, job_of, join, log_of, merge_entry, merge_of}
-use Rattle.graph_model.specs.Soundness.{AreInOrder, CanFollow, EdgeUpdate, IsSoundOf}
+use Rattle.graph_model.specs.Soundness.{AreInOrder, CanFollow, EdgeUpdate, IsSound, IsSoundOf}
 use Rattle.graph_model.specs.WriteLaws.{IsNewOrigin, StaysSound}
 use Rattle.graph_model.specs.Writes.{same_edge, when}
 
@@ -152,6 +152,7 @@ pub record MergesFollow (shard : ℕ) (log : List Entry) (from position : ℕ) (
   pub follows : MayBeMerged shard log from position us → merge_of log from position us ≡ Some m → CanFollow log m
   pub stays : (types : EdgeTypes) → IsSoundOf types shard log → MayBeMerged shard log from position us → merge_of log from position us ≡ Some m
       → StaysSound types shard log m
+  pub done : IsSound log → MayBeMerged shard log from position us → merge_of log from position us ≡ Some m → All (HasStamp (log ++ m ∷ [])) us
 
 -- nothing is merged exactly where all of the records are there
 pub record MergesNone (log : List Entry) (from position : ℕ) (us : List EdgeUpdate) : Type 0 where

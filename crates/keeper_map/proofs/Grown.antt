@@ -1,10 +1,14 @@
 -- A log that an entry may have been added to.
-use Rattle.std.proofs.Common.{◌≡◌, Bool, true, false, cond, List, [], ◌∷◌, ◌++◌, sym, subst}
+use Rattle.std.proofs.Common.{◌≡◌, ℕ, ◌+◌, ◌<◌, ◌≤◌, Bool, true, false, cond, List, [], ◌∷◌, ◌++◌, length, length-append, inl, inr, refl, ap, ◌∙◌, sym, subst, arith}
+use Rattle.std.proofs.lemmas.Bool.{cases_Bool}
+use Rattle.std.proofs.lemmas.Bool.Decides.{nat_tests}
 use Rattle.std.proofs.lemmas.List.Elements.{All-push}
-use Rattle.std.specs.Prelude.{All}
+use Rattle.std.specs.Prelude.{Option, Some, None, All, IfSome, ◌==◌}
 use Rattle.tao_base.specs.declared.entry.Entry.{Entry}
 use Rattle.graph_model.proofs.Sound.{sound_grows}
 use Rattle.graph_model.specs.Soundness.{CanFollow, IsSound}
+use Rattle.tao_keeper.specs.Table.{Jobs, with_job, with_opened}
+use Rattle.tao_keeper.specs.declared.jobs.Job.{Job}
 
 -- a fact that the longer log has too
 either : (P : List Entry → Type 0) (added : Bool) (log : List Entry) (entry : Entry) → P log → P (log ++ entry ∷ []) → P (cond added (log ++ entry ∷ []) log)
@@ -17,3 +21,32 @@ still_sound added log now entry is sound follows =
 
 pub still_all : (P : Entry → Type 0) (added : Bool) (log now : List Entry) (entry : Entry) → now ≡ cond added (log ++ entry ∷ []) log → All P log → P entry → All P now
 still_all P added log now entry is all here = subst (All P) (sym is) (either (All P) added log entry all (All-push P log entry all here))
+
+-- a job of the entry that comes next is past all others
+pub last_of_all : (log : List Entry) (entry : Entry) (jobs : Jobs) (job : Option Job) → CanFollow log entry → ((position : ℕ) → length log < position → jobs position ≡ None)
+    → IfSome job (λ j. j.position ≡ entry.position) → IfSome job (λ j. (position : ℕ) → j.position ≤ position → jobs position ≡ None)
+last_of_all log entry jobs None follows of_entries is = tt
+last_of_all log entry jobs (Some job) follows of_entries is = λ position past.
+    let at : entry.position ≡ length log + 1 = follows.position_is in
+    of_entries position (omega (arith, at, is, past))
+
+-- the open jobs stay those of entries
+pub still_of_entries : (added : Bool) (log now : List Entry) (entry : Entry) (jobs after : Jobs) (job : Option Job) → now ≡ cond added (log ++ entry ∷ []) log
+    → after ≡ cond added (with_opened jobs job) jobs → CanFollow log entry → ((position : ℕ) → length log < position → jobs position ≡ None)
+    → IfSome job (λ j. j.position ≡ entry.position) → (position : ℕ) → length now < position → after position ≡ None
+still_of_entries false log now entry jobs after job log_is jobs_is follows of_entries is position past =
+    ap (λ j. j position) jobs_is ∙ of_entries position (subst (λ l. length l < position) log_is past)
+still_of_entries true log now entry jobs after job log_is jobs_is follows of_entries is position past =
+    ap (λ j. j position) jobs_is ∙ opens job is
+  where
+    opens : (given : Option Job) → IfSome given (λ j. j.position ≡ entry.position) → with_opened jobs given position ≡ None
+    opens None same = of_entries position (let longer : length now ≡ length log + 1 = ap length log_is ∙ length-append log (entry ∷ []) in omega (arith, longer, past))
+    opens (Some given) same =
+        let longer : length now ≡ length log + 1 = ap length log_is ∙ length-append log (entry ∷ []) in
+        let at : entry.position ≡ length log + 1 = follows.position_is in
+        let apart : (position == given.position) ≡ false = grind (arith, nat_tests) in
+        rw apart (of_entries position (omega (arith, longer, past)))
+
+-- a job that is ended leaves none where there was none
+pub ended_of_entries : (jobs : Jobs) (at position : ℕ) → jobs position ≡ None → with_job jobs at None position ≡ None
+ended_of_entries jobs at position none = elim (cases_Bool (position == at)) [ inl h ↦ rw h refl | inr h ↦ rw h none ]

@@ -2,5 +2,6 @@ pub mod Few
 pub mod Given
 pub mod Grown
 pub mod Stamps
+pub mod JobLemmas
 pub mod StoreLemmas
 pub mod Told

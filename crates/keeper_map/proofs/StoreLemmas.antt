@@ -3,15 +3,17 @@ use Rattle.std.proofs.Common.{◌≡◌, ◌≢◌, ℕ, zero, suc, ◌<◌, ◌
 use Rattle.std.proofs.lemmas.Bool.{cases_Bool}
 use Rattle.std.proofs.lemmas.Bool.Decides.{nat_tests}
 use Rattle.std.proofs.lemmas.List.Quantifiers.{position-Some}
-use Rattle.std.proofs.lemmas.List.Folds.{position_or_len_push}
+use Rattle.std.proofs.lemmas.List.Folds.{find_at, position_or_len_push}
+use Rattle.std.proofs.lemmas.Option.{slice_get_past}
 use Rattle.std.proofs.lemmas.List.Sums.{prefix_len-le-length}
 use Rattle.std.specs.List.{position_or_len}
 use Rattle.std.specs.Prelude.{Some, None, Result, Ok, Err, find, position, is_ok, not, ◌==◌, ◌&&◌}
 use Rattle.std.specs.Option.{option_map_or}
 use Rattle.tao_base.specs.declared.id.StoreName.{StoreName}
+use Rattle.keeper_map.proofs.Grown.{ended_of_entries}
 use Rattle.keeper_map.specs.declared.store.StoreTable.{StoreTable}
 use Rattle.keeper_map.specs.Store.{is_of, table_of, tables_of}
-use Rattle.tao_keeper.specs.Table.{Becomes, Changes, Stays, Table, empty_table}
+use Rattle.tao_keeper.specs.Table.{Becomes, Changes, Stays, Table, after_end, empty_table}
 
 -- the name of a table tells the stores apart
 name_is : (store : StoreTable) (name : StoreName) → is_of name store ≡ true → store.name ≡ name
@@ -103,3 +105,31 @@ changes_there (Err e) old stores at place before now after stays h found same is
 pub push_stays : (stores : List StoreTable) (new : StoreTable) → table_of new ≡ empty_table → Stays (tables_of stores) (tables_of (stores ++ new ∷ []))
 push_stays [] new is name = elim (cases_Bool (is_of name new)) [ inl h ↦ rw h is | inr h ↦ rw h refl ]
 push_stays (store ∷ stores) new is name = elim (cases_Bool (is_of name store)) [ inl h ↦ rw h refl | inr h ↦ rw h (push_stays stores new is name) ]
+
+-- a table that is changed at a store's place
+pub becomes_there : (stores : List StoreTable) (at : StoreName) (place : ℕ) (before now : StoreTable) (after : Table → Table) → position (is_of at) stores ≡ Some place
+    → before ≡ get_or stores place before → now.name ≡ before.name → table_of now ≡ after (table_of before)
+    → Becomes (tables_of stores) (tables_of (set stores place now)) at (after (tables_of stores at))
+becomes_there stores at place before now after h found same is =
+    let changed = becomes stores at place before now h (same ∙ ap (λ t. t.name) found) in
+    record {
+      here = changed.here ∙ is ∙ ap after (told_there stores stores at place before (λ s. refl) h found);
+      others = changed.others;
+    }
+
+-- a store that has no table yet has no job to end
+pub nothing_ends : (stores : List StoreTable) (at : StoreName) (job_at : ℕ) → position (is_of at) stores ≡ None
+    → Becomes (tables_of stores) (tables_of stores) at (after_end (tables_of stores at) job_at)
+nothing_ends stores at job_at h = record { here = is_empty ∙ empty_ends ∙ ap (λ t. after_end t job_at) (sym is_empty); others = λ name apart. refl }
+  where
+    not_found : position (is_of at) stores ≡ None → find (is_of at) stores ≡ None
+    not_found e = elim (cases_Bool (ltb (position_or_len (is_of at) stores) (length stores))) [
+      | inl lt ↦ (let no : Some (position_or_len (is_of at) stores) ≡ None = rw lt at e in absurd (cc))
+      | inr ge ↦ find_at (is_of at) stores ∙ slice_get_past stores (position_or_len (is_of at) stores) (grind (arith, nat_tests))
+    ]
+
+    is_empty : tables_of stores at ≡ empty_table
+    is_empty = ap (λ found. option_map_or table_of found empty_table) (not_found h)
+
+    empty_ends : empty_table ≡ after_end empty_table job_at
+    empty_ends = λ i. record { log = []; jobs = λ p. sym (ended_of_entries (λ q. None) job_at p refl) i; line = None }

@@ -3,10 +3,11 @@ use Rattle.std.specs.Prelude.{Bool, ◌&&◌, ◌==◌, List, find}
 use Rattle.std.specs.Option.{option_map, option_map_or}
 use Rattle.tao_base.specs.declared.id.StoreName.{StoreName}
 use Rattle.tao_keeper.specs.Table.{Table, Tables, empty_table}
+use Rattle.keeper_map.specs.OpenJobs.{jobs_of}
 use Rattle.keeper_map.specs.declared.store.StoreTable.{StoreTable}
 
 abbrev pub table_of : StoreTable → Table
-table_of store = record { log = store.log.items; line = option_map (λ line. line.items) store.line }
+table_of store = record { log = store.log.items; jobs = jobs_of store.jobs; line = option_map (λ line. line.items) store.line }
 
 -- whether the table is of the store
 abbrev pub is_of : StoreName → StoreTable → Bool

@@ -1,6 +1,7 @@
 //! The keeper in memory, which fails exactly where its plan says so.
 #![tactic(auto)]
 
+mod jobs;
 mod log;
 mod map;
 mod plan;

@@ -1,21 +1,21 @@
 //! The keeper in memory.
-ghost use Rattle.std.specs.Prelude.{◌≡◌, ◌≤◌, ◌<◌, IfOk, IfSome, drop, length, take};
+ghost use Rattle.std.specs.Prelude.{◌≡◌, ◌≤◌, ◌<◌, IfOk, IfSome, drop, length, option_copied, take};
 ghost use Rattle.graph_model.specs.Edges.{edge_list, edge_record, number_of};
 ghost use Rattle.graph_model.specs.Log.{object, version};
 ghost use Rattle.graph_model.specs.Merges.{entry_at};
 ghost use Rattle.graph_model.specs.Soundness.{CanFollow};
 ghost use Rattle.tao_base.specs.declared.id.StoreName.{StoreName as Store};
-ghost use Rattle.tao_keeper.specs.Given.{AreGiven, HaveSmallStamps, IsGivenEntry, IsPosition};
+ghost use Rattle.tao_keeper.specs.Given.{AreGiven, HaveSmallStamps, IsGivenEntry, IsGivenJob, IsPosition};
 ghost use Rattle.keeper_map.specs.MapKeeper.{plan_of, told_by};
 ghost use Rattle.keeper_map.specs.Plan.{CallsAsPlanned, CommitsAsPlanned, from_one};
-ghost use Rattle.tao_keeper.specs.Table.{Changes, OpensAs, StandsAt, Stays, additions, after_commit, after_open, empty_table};
+ghost use Rattle.tao_keeper.specs.Table.{Changes, IsFirstJob, IsJobAt, OpensAs, StandsAt, Stays, additions, after_commit, after_end, after_open, empty_table};
 
 use crate::log;
 use crate::plan::{Fails, FaultPlan};
 use crate::stores::Stores;
-use std::alloc::Global;
+use std::alloc::{AllocError, Global};
 use tao_base::{AType, EdgeState, Edges, Entry, Id, Key, Object, Origin, OutOfMemory, StoreName};
-use tao_keeper::{Commit, KeepFail, Keeper, MOST_ENTRIES, Opened, SERIAL_LIMIT, STAMP_LIMIT};
+use tao_keeper::{Commit, Job, KeepFail, Keeper, MOST_ENTRIES, Opened, SERIAL_LIMIT, STAMP_LIMIT};
 
 /// A keeper that holds its tables in memory. It fails exactly where its plan says so, and tells everything.
 ///
@@ -50,6 +50,15 @@ fn no_memory(_: OutOfMemory) -> KeepFail
     ensures { result ≡ KeepFail.OutOfMemory }
 {
     KeepFail::OutOfMemory
+}
+
+fn copied(job: Option<&Job>) -> Result<Option<Job>, AllocError>
+    ensures { IfOk result (λ copy. copy ≡ option_copied job.entry) }
+{
+    match job {
+        Some(job) => Ok(Some(job.clone()?)),
+        None => Ok(None),
+    }
 }
 
 impl Keeper for MapKeeper {
@@ -192,17 +201,52 @@ impl Keeper for MapKeeper {
         Ok(log::position_of(self.stores.log(at), origin))
     }
 
-    /// Reads no entry, and copies the one that is added.
+    /// Reads no other job, and copies this one.
+    fn first_job(&mut self, at: StoreName) -> Result<Option<Job>, KeepFail>
+        ensures answer { IfOk result (IsFirstJob (told_by self.old at).jobs) }
+        ensures given { IfOk result (λ found. IfSome found IsGivenJob) }
+        ensures stays { Stays (told_by self.old) (told_by self.new) }
+        ensures plan { CallsAsPlanned (plan_of self.old) (plan_of self.new) result }
+    {
+        self.plan.begin_call()?;
+        Ok(copied(self.stores.first_job(at))?)
+    }
+
+    /// Goes through the store's open jobs, and copies this one.
+    fn job(&mut self, at: StoreName, position: u64) -> Result<Option<Job>, KeepFail>
+        ensures answer { IfOk result (IsJobAt (told_by self.old at).jobs position) }
+        ensures given { IfOk result (λ found. IfSome found IsGivenJob) }
+        ensures stays { Stays (told_by self.old) (told_by self.new) }
+        ensures plan { CallsAsPlanned (plan_of self.old) (plan_of self.new) result }
+    {
+        self.plan.begin_call()?;
+        Ok(copied(self.stores.job(at, position))?)
+    }
+
+    /// Goes through the store's open jobs, and takes no memory.
+    fn end_job(&mut self, at: StoreName, position: u64) -> Result<(), KeepFail>
+        ensures changes { Changes result (told_by self.old) (told_by self.new) at (after_end (told_by self.old at) position) }
+        ensures plan { CallsAsPlanned (plan_of self.old) (plan_of self.new) result }
+    {
+        self.plan.begin_call()?;
+        self.stores.end_job(at, position);
+        Ok(())
+    }
+
+    /// Reads no entry, and copies the one that is added and its job.
     fn commit(&mut self, at: StoreName, commit: &Commit) -> Result<(), KeepFail>
         requires stamps { HaveSmallStamps commit.now.entry.touches }
+        requires job { IfSome commit.now.job (λ job. job.position ≡ commit.now.entry.position) }
+        requires given { IfSome commit.now.job IsGivenJob }
         requires room { length (told_by self.old at).log < MOST_ENTRIES }
         requires follows { CanFollow (told_by self.old at).log commit.now.entry }
-        ensures changes { Changes result (told_by self.old) (told_by self.new) at (after_commit (told_by self.old at) commit.now.entry) }
+        ensures changes { Changes result (told_by self.old) (told_by self.new) at (after_commit (told_by self.old at) commit.now.entry commit.now.job) }
         ensures plan { CommitsAsPlanned (plan_of self.old) (plan_of self.new) result }
     {
         self.plan.begin_commit()?;
         let entry = commit.entry.clone()?;
-        self.stores.add(at, entry)?;
+        let job = copied(commit.job.as_ref())?;
+        self.stores.add(at, entry, job)?;
         Ok(())
     }
 

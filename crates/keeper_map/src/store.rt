@@ -1,30 +1,35 @@
 //! The tables of one store, in memory.
-ghost use Rattle.std.specs.Prelude.{◌≡◌, ◌<◌, ◌≤◌, All, length};
+ghost use Rattle.std.specs.Prelude.{◌≡◌, ◌<◌, ◌≤◌, ◌++◌, ◌∷◌, [], ℕ, All, IfSome, None, if◌then◌else◌, is_ok, length};
 ghost use Rattle.std.proofs.Props.{props};
 ghost use Rattle.graph_model.specs.Soundness.{IsSound};
-ghost use Rattle.tao_keeper.specs.Given.{HaveSmallStamps};
+ghost use Rattle.keeper_map.specs.OpenJobs.{jobs_of};
+ghost use Rattle.tao_keeper.specs.Given.{HaveSmallStamps, IsGivenJob};
+ghost use Rattle.tao_keeper.specs.Table.{with_opened};
 ghost use Rattle.tao_keeper.specs.declared.keeper.TheConstants.{MOST_ENTRIES};
 
+use crate::jobs::OpenJobs;
 use std::alloc::{AllocError, Global};
 use tao_base::{Entry, StoreName};
-use tao_keeper::{MOST_ENTRIES, Opened};
+use tao_keeper::{Job, MOST_ENTRIES, Opened};
 
 /// The tables of one store.
 #[derive(Drop)]
 pub struct StoreTable {
     pub name: StoreName,
     log: Vec<Entry>,
+    jobs: OpenJobs,
     line: Option<Vec<u8>>,
     ghost sound: { IsSound log.items } by { Prim.hlevel props },
     ghost short: { length log.items ≤ MOST_ENTRIES },
     ghost small: { All (λ entry. HaveSmallStamps entry.touches) log.items },
+    ghost of_entries: { (position : ℕ) → length log.items < position → jobs_of jobs position ≡ None },
 }
 
 impl StoreTable {
-    ghost use Rattle.std.specs.Prelude.{IfOk, is_ok, if◌then◌else◌};
+    ghost use Rattle.std.specs.Prelude.{IfOk, option_copied};
     ghost use Rattle.graph_model.specs.Soundness.{CanFollow};
     ghost use Rattle.keeper_map.specs.Store.{table_of};
-    ghost use Rattle.tao_keeper.specs.Table.{after_commit, after_open, empty_table, OpensAs};
+    ghost use Rattle.tao_keeper.specs.Table.{IsFirstJob, IsJobAt, OpensAs, after_commit, after_end, after_open, empty_table};
 
     /// A store that was not opened yet.
     pub fn new(alloc: Global, name: StoreName) -> StoreTable
@@ -34,6 +39,7 @@ impl StoreTable {
         StoreTable {
             name,
             log: Vec::new(alloc),
+            jobs: OpenJobs::new(alloc),
             line: None,
         }
     }
@@ -44,16 +50,41 @@ impl StoreTable {
         &self.log
     }
 
-    /// Adds an entry at the end of the log.
-    pub fn add(&mut self, entry: Entry) -> Result<(), AllocError>
+    /// The open job of the least position.
+    pub fn first_job(&self) -> Option<&Job>
+        ensures job { IsFirstJob (table_of self.now).jobs (option_copied result) }
+        ensures given { IfSome (option_copied result) IsGivenJob }
+    {
+        self.jobs.first()
+    }
+
+    /// The open job of a position.
+    pub fn job(&self, position: u64) -> Option<&Job>
+        ensures job { IsJobAt (table_of self.now).jobs position (option_copied result) }
+        ensures given { IfSome (option_copied result) IsGivenJob }
+    {
+        self.jobs.at(position)
+    }
+
+    /// Ends the job of a position, where one is open.
+    pub fn end_job(&mut self, position: u64)
+        ensures name { self.new.name ≡ self.old.name }
+        ensures table { table_of self.new ≡ after_end (table_of self.old) position }
+    {
+        self.jobs.end(position);
+    }
+
+    /// Adds an entry at the end of the log, and opens its job, where it has one. An error does neither.
+    pub fn add(&mut self, entry: Entry, job: Option<Job>) -> Result<(), AllocError>
         requires stamps { HaveSmallStamps entry.touches }
+        requires job { IfSome job (λ job. job.position ≡ entry.position) }
+        requires given { IfSome job IsGivenJob }
         requires room { length (table_of self.old).log < MOST_ENTRIES }
         requires follows { CanFollow (table_of self.old).log entry }
         ensures name { self.new.name ≡ self.old.name }
-        ensures table { table_of self.new ≡ (if is_ok result then after_commit (table_of self.old) entry else table_of self.old) }
+        ensures table { table_of self.new ≡ (if is_ok result then after_commit (table_of self.old) entry job else table_of self.old) }
     {
-        self.log.push(entry)?;
-        Ok(())
+        push_both(&mut self.log, &mut self.jobs, entry, job)
     }
 
     /// Opens the store with a line. It keeps the first that it was opened with.
@@ -76,4 +107,26 @@ impl StoreTable {
             }
         }
     }
+}
+
+/// Adds an entry at the end of a log and opens its job, where it has one, or does neither.
+fn push_both(
+    log: &mut Vec<Entry>,
+    jobs: &mut OpenJobs,
+    entry: Entry,
+    job: Option<Job>,
+) -> Result<(), AllocError>
+    requires given { IfSome job IsGivenJob }
+    requires last { IfSome job (λ job. (position : ℕ) → job.position ≤ position → jobs_of jobs.old position ≡ None) }
+    ensures log { log.new.items ≡ (if is_ok result then log.old.items ++ entry ∷ [] else log.old.items) }
+    ensures jobs { jobs_of jobs.new ≡ (if is_ok result then with_opened (jobs_of jobs.old) job else jobs_of jobs.old) }
+{
+    log.reserve(1)?;
+    if let Some(job) = job {
+        jobs.open(job)?;
+    }
+    if log.push(entry).is_err() {
+        unreachable!();
+    }
+    Ok(())
 }

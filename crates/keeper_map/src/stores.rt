@@ -1,15 +1,15 @@
 //! The tables of all stores, in memory.
-ghost use Rattle.std.specs.Prelude.{◌≡◌, ◌<◌, ◌≤◌, All, IfOk, find, length, option_copied, position};
+ghost use Rattle.std.specs.Prelude.{◌≡◌, ◌<◌, ◌≤◌, All, IfOk, IfSome, find, length, option_copied, position};
 ghost use Rattle.graph_model.specs.Soundness.{CanFollow, IsSound};
 ghost use Rattle.tao_base.specs.declared.id.StoreName.{StoreName as Store};
-ghost use Rattle.tao_keeper.specs.Given.{HaveSmallStamps};
+ghost use Rattle.tao_keeper.specs.Given.{HaveSmallStamps, IsGivenJob};
 ghost use Rattle.keeper_map.specs.Store.{is_of, tables_of};
-ghost use Rattle.tao_keeper.specs.Table.{Changes, OpensAs, Stays, after_commit, after_open, empty_table};
+ghost use Rattle.tao_keeper.specs.Table.{Becomes, Changes, IsFirstJob, IsJobAt, OpensAs, Stays, after_commit, after_end, after_open, empty_table};
 
 use super::store::StoreTable;
 use std::alloc::{AllocError, Global};
 use tao_base::{Entry, StoreName};
-use tao_keeper::{MOST_ENTRIES, Opened};
+use tao_keeper::{Job, MOST_ENTRIES, Opened};
 
 /// The tables of the stores that something was written to.
 #[derive(Drop)]
@@ -78,15 +78,43 @@ impl Stores {
         self.tables[place].open(self.alloc, line)
     }
 
-    /// Adds an entry at the end of a store's log.
-    pub fn add(&mut self, at: StoreName, entry: Entry) -> Result<(), AllocError>
+    /// The open job of the least position in a store.
+    pub fn first_job(&self, at: StoreName) -> Option<&Job>
+        ensures job { IsFirstJob (tables_of self.now.tables.items at).jobs (option_copied result) }
+        ensures given { IfSome (option_copied result) IsGivenJob }
+    {
+        self.table(at)?.first_job()
+    }
+
+    /// The open job of a position in a store.
+    pub fn job(&self, at: StoreName, position: u64) -> Option<&Job>
+        ensures job { IsJobAt (tables_of self.now.tables.items at).jobs position (option_copied result) }
+        ensures given { IfSome (option_copied result) IsGivenJob }
+    {
+        self.table(at)?.job(position)
+    }
+
+    /// Ends the job of a position in a store, where one is open.
+    pub fn end_job(&mut self, at: StoreName, position: u64)
+        ensures { Becomes (tables_of self.old.tables.items) (tables_of self.new.tables.items) at
+            (after_end (tables_of self.old.tables.items at) position) }
+    {
+        if let Some(place) = self.place_of(at) {
+            self.tables[place].end_job(position);
+        }
+    }
+
+    /// Adds an entry at the end of a store's log, and opens its job, where it has one. An error does neither.
+    pub fn add(&mut self, at: StoreName, entry: Entry, job: Option<Job>) -> Result<(), AllocError>
         requires stamps { HaveSmallStamps entry.touches }
+        requires job { IfSome job (λ job. job.position ≡ entry.position) }
+        requires given { IfSome job IsGivenJob }
         requires room { length (tables_of self.old.tables.items at).log < MOST_ENTRIES }
         requires follows { CanFollow (tables_of self.old.tables.items at).log entry }
         ensures { Changes result (tables_of self.old.tables.items) (tables_of self.new.tables.items) at
-            (after_commit (tables_of self.old.tables.items at) entry) }
+            (after_commit (tables_of self.old.tables.items at) entry job) }
     {
         let place = self.make_place(at)?;
-        self.tables[place].add(entry)
+        self.tables[place].add(entry, job)
     }
 }

@@ -1,17 +1,19 @@
-ghost use Rattle.std.specs.Prelude.{◌≡◌, ◌∷◌, [], IfOk};
+ghost use Rattle.std.specs.Prelude.{◌≡◌, ◌∷◌, [], IfOk, IfSome, None};
 ghost use Rattle.tao_base.specs.Ids.{shard_of};
 ghost use Rattle.graph_model.specs.Soundness.{CanFollow};
 ghost use Rattle.graph_model.specs.WriteLaws.{plain_add};
-ghost use Rattle.tao_keeper.specs.Given.{HaveSmallStamps};
+ghost use Rattle.tao_keeper.specs.Given.{HaveSmallStamps, IsGivenJob};
+ghost use Rattle.tao_keeper.specs.Table.{Stays, empty_table};
+ghost use Rattle.keeper_map.specs.MapKeeper.{told_by};
 
 use crate::{Fails, MapKeeper, log};
 use std::alloc::{AllocError, Global};
 use std::test::Fail;
 use tao_base::{
-    AType, Change, Data, Edge, Entry, Id, Key, Kind, OType, Object, Origin, Stamp, StoreName, Time,
-    Touch, Touches,
+    AType, Change, Data, Edge, EdgeState, Entry, Id, Key, Kind, OType, Object, Origin, Stamp,
+    StoreName, Time, Touch, Touches,
 };
-use tao_keeper::{Commit, KeepFail, Keeper, Opened};
+use tao_keeper::{Commit, Job, JobEdges, KeepFail, Keeper, Opened};
 
 const STORE: StoreName = StoreName {
     region: 0,
@@ -115,6 +117,7 @@ fn a_commit_that_failed_is_made_again(rt: HostRuntime) -> Result<(), Fail> {
     let (one, two) = (id(1)?, id(2)?);
     let commit = Commit {
         entry: set_edge(alloc, one, two, 5)?,
+        job: None,
     };
     let Err(KeepFail::Failed) = keeper.commit(STORE, &commit) else {
         return Err("the first commit fails")?;
@@ -163,6 +166,7 @@ fn an_entry_stands_at_its_position(rt: HostRuntime) -> Result<(), Fail> {
 fn new_object(alloc: Global, id: Id) -> Result<Commit, AllocError>
     ensures follows { IfOk result (λ commit. CanFollow [] commit.entry) }
     ensures stamps { IfOk result (λ commit. HaveSmallStamps commit.entry.touches) }
+    ensures no_job { IfOk result (λ commit. commit.job ≡ None) }
 {
     let object = Object {
         otype: OType(0),
@@ -175,7 +179,7 @@ fn new_object(alloc: Global, id: Id) -> Result<Commit, AllocError>
         Key::Obj(id),
         Change::PutObject(object),
     )?;
-    Ok(Commit { entry })
+    Ok(Commit { entry, job: None })
 }
 
 #[test]
@@ -203,5 +207,71 @@ fn a_call_that_failed_is_made_again(rt: HostRuntime) -> Result<(), Fail> {
     assert_eq!(rt; keeper.last_serial(STORE), Err(KeepFail::Failed));
     assert_eq!(rt; keeper.last_serial(STORE), Ok(1));
     assert_eq!(rt; (keeper.calls(), keeper.faults()), (9, 4));
+    Ok(())
+}
+
+/// A commit of the first entry of a log, which owes a record to another shard.
+fn owing_object(alloc: Global, id: Id) -> Result<Commit, AllocError>
+    ensures follows { IfOk result (λ commit. CanFollow [] commit.entry) }
+    ensures stamps { IfOk result (λ commit. HaveSmallStamps commit.entry.touches) }
+    ensures position { IfOk result (λ commit. IfSome commit.job (λ job. job.position ≡ commit.entry.position)) }
+    ensures given { IfOk result (λ commit. IfSome commit.job IsGivenJob) }
+{
+    let commit = new_object(alloc, id)?;
+    let cut = EdgeState::Cut { stamp: stamp(id) };
+    let edges = vec![in alloc; (id, LIKES, id, cut)]?;
+    Ok(Commit {
+        entry: commit.entry,
+        job: Some(Job {
+            position: 1,
+            edges: JobEdges::of(edges),
+        }),
+    })
+}
+
+/// Whether the log has this length and the first open job, if any, is the one at position 1.
+fn stands(keeper: &mut MapKeeper, length: u64, open: Option<u64>) -> Result<bool, KeepFail>
+    ensures { Stays (told_by keeper.old) (told_by keeper.new) }
+{
+    let count = keeper.length(STORE)?;
+    let first = keeper.first_job(STORE)?.map(|job| job.position);
+    let there = keeper.job(STORE, 1)?.map(|job| job.position);
+    Ok(count == length && first == open && there == open)
+}
+
+/// Makes the first commit of a keeper of which the first one fails. Says whether it failed, and left neither entry nor job.
+fn fails_and_commits(keeper: &mut MapKeeper, commit: &Commit) -> Result<bool, KeepFail>
+    requires empty { told_by keeper.old STORE ≡ empty_table }
+    requires follows { CanFollow [] commit.now.entry }
+    requires stamps { HaveSmallStamps commit.now.entry.touches }
+    requires position { IfSome commit.now.job (λ job. job.position ≡ commit.now.entry.position) }
+    requires given { IfSome commit.now.job IsGivenJob }
+{
+    let Err(KeepFail::Failed) = keeper.commit(STORE, commit) else {
+        return Ok(false);
+    };
+    let left_none = stands(keeper, 0, None)?;
+    keeper.commit(STORE, commit)?;
+    Ok(left_none)
+}
+
+#[test]
+fn a_commit_and_its_job_are_one(rt: HostRuntime) -> Result<(), Fail> {
+    let alloc = rt.alloc();
+    let mut keeper = MapKeeper::make(
+        alloc,
+        Fails {
+            calls: vec![in alloc]?,
+            commits: vec![in alloc; 1]?,
+        },
+    );
+    let commit = owing_object(alloc, id(1)?)?;
+    assert!(rt; fails_and_commits(&mut keeper, &commit)?);
+    assert!(rt; stands(&mut keeper, 1, Some(1))?);
+    keeper.end_job(STORE, 2)?;
+    keeper.end_job(OTHER_STORE, 1)?;
+    assert!(rt; stands(&mut keeper, 1, Some(1))?);
+    keeper.end_job(STORE, 1)?;
+    assert!(rt; stands(&mut keeper, 1, None)?);
     Ok(())
 }

@@ -1,17 +1,24 @@
 -- What a keeper tells of its stores, and what calls do to it.
-use Rattle.std.specs.Prelude.{◌≡◌, ◌≢◌, ℕ, List, [], ◌∷◌, ◌++◌, Option, Some, None, unwrap_or, count_by, IsSomeAnd, Result, MatchResult}
+use Rattle.std.specs.Prelude.{◌≡◌, ◌≢◌, ◌<◌, ◌==◌, if◌then◌else◌, ℕ, List, [], ◌∷◌, ◌++◌, Option, Some, None, unwrap_or, count_by, IsSomeAnd, Result, MatchResult}
 use Rattle.tao_base.specs.declared.entry.Entry.{Entry}
 use Rattle.tao_base.specs.declared.entry.Origin.{Origin}
 use Rattle.tao_base.specs.declared.id.StoreName.{StoreName}
 use Rattle.graph_model.specs.Merges.{entry_at}
+use Rattle.graph_model.specs.Soundness.{EdgeUpdate}
 use Rattle.graph_model.specs.WriteLaws.{IsNewOrigin}
 use Rattle.graph_model.specs.Writes.{is_addition}
+use Rattle.tao_keeper.specs.declared.jobs.Job.{Job}
 use Rattle.tao_keeper.specs.declared.keeper.Opened.{Opened}
 use Rattle.tao_keeper.specs.declared.keeper.Opened.TheVariants.{Ready, OtherLine}
 
--- the tables of one store: its log, and the line that it was first opened with
+-- the records of the open jobs, by position
+abbrev pub Jobs : Type 0
+Jobs = ℕ → Option (List EdgeUpdate)
+
+-- the tables of one store: its log, the open jobs of its entries, and the line that it was first opened with
 pub record Table : Type 0 where
   pub log : List Entry
+  pub jobs : Jobs
   pub line : Option (List ℕ)
 
 abbrev pub Tables : Type 0
@@ -19,7 +26,7 @@ Tables = StoreName → Table
 
 -- a store that was not opened yet
 abbrev pub empty_table : Table
-empty_table = record { log = []; line = None }
+empty_table = record { log = []; jobs = λ position. None; line = None }
 
 -- no table changes
 abbrev pub Stays : Tables → Tables → Type 0
@@ -46,8 +53,30 @@ OpensAs OtherLine table line = first_line table line ≢ line
 abbrev pub after_open : Table → List ℕ → Table
 after_open table line = record table { line = Some (first_line table line) }
 
-abbrev pub after_commit : Table → Entry → Table
-after_commit table entry = record table { log = table.log ++ entry ∷ [] }
+-- the jobs with this one, or none, at the position
+abbrev pub with_job : Jobs → ℕ → Option (List EdgeUpdate) → Jobs
+with_job jobs position given p = if p == position then given else jobs p
+
+-- the jobs with one that is opened, where there is one
+abbrev pub with_opened : Jobs → Option Job → Jobs
+with_opened jobs None = jobs
+with_opened jobs (Some job) = with_job jobs job.position (Some job.edges)
+
+abbrev pub after_commit : Table → Entry → Option Job → Table
+after_commit table entry job = record table { log = table.log ++ entry ∷ []; jobs = with_opened table.jobs job }
+
+abbrev pub after_end : Table → ℕ → Table
+after_end table position = record table { jobs = with_job table.jobs position None }
+
+-- the open job of the position, or none
+abbrev pub IsJobAt : Jobs → ℕ → Option Job → Type 0
+IsJobAt jobs position None = jobs position ≡ None
+IsJobAt jobs position (Some job) = (job.position ≡ position) × (jobs position ≡ Some job.edges)
+
+-- the open job of the least position, or none where no job is open
+abbrev pub IsFirstJob : Jobs → Option Job → Type 0
+IsFirstJob jobs None = (position : ℕ) → jobs position ≡ None
+IsFirstJob jobs (Some job) = (jobs job.position ≡ Some job.edges) × ((position : ℕ) → position < job.position → jobs position ≡ None)
 
 -- where the entry of an origin stands: at that position, or nowhere
 abbrev pub StandsAt : List Entry → Origin → Option ℕ → Type 0

@@ -6,10 +6,11 @@ ghost use Rattle.graph_model.specs.Merges.{entry_at};
 ghost use Rattle.graph_model.specs.Soundness.{CanFollow, IsSound};
 ghost use Rattle.tao_base.specs.declared.id.StoreName.{StoreName as Store};
 ghost use Rattle.tao_keeper.specs.Cause.{IsCaused};
-ghost use Rattle.tao_keeper.specs.Given.{AreGiven, HaveSmallStamps, IsGivenEntry, IsPosition};
+ghost use Rattle.tao_keeper.specs.Given.{AreGiven, HaveSmallStamps, IsGivenEntry, IsGivenJob, IsPosition};
 ghost use Rattle.graph_model.specs.Told.{WhereTold};
-ghost use Rattle.tao_keeper.specs.Table.{Table, Stays, Changes, OpensAs, StandsAt, additions, after_commit, after_open};
+ghost use Rattle.tao_keeper.specs.Table.{Table, Stays, Changes, IsFirstJob, IsJobAt, OpensAs, StandsAt, additions, after_commit, after_end, after_open};
 
+use super::jobs::Job;
 use std::alloc::{AllocError, AllocFailed};
 use std::error::Error;
 use std::fmt;
@@ -84,9 +85,11 @@ pub enum Opened {
 #[derive(Debug, Drop)]
 pub struct Commit {
     pub entry: Entry,
+    /// What the entry owes to another shard, which is open from then on until it is ended.
+    pub job: Option<Job>,
 }
 
-/// Keeps the tables of stores: their logs, and the lines that they were first opened with. A store that nothing was
+/// Keeps the tables of stores: their logs, the open jobs of their entries, and the lines that they were first opened with. A store that nothing was
 /// written to is empty.
 ///
 /// Where a keeper tells its tables, each answer is what the log of the store gives. Each call but the two that read
@@ -197,12 +200,36 @@ pub trait Keeper {
         ensures counted { Counted (calls self.old) (calls self.new) }
         ensures cause { IsCaused (faults self.old) (faults self.new) result };
 
-    /// Adds the entry at the end of the log, in one transaction.
+    /// The open job of the least position, where one is open.
+    fn first_job(&mut self, at: StoreName) -> Result<Option<Job>, KeepFail>
+        ensures answer { WhereTold TELLS (IfOk result (IsFirstJob (told self.old at).jobs)) }
+        ensures given { IfOk result (λ found. IfSome found IsGivenJob) }
+        ensures stays { WhereTold TELLS (Stays (told self.old) (told self.new)) }
+        ensures counted { Counted (calls self.old) (calls self.new) }
+        ensures cause { IsCaused (faults self.old) (faults self.new) result };
+
+    /// The open job of the entry at a position; none where none is open.
+    fn job(&mut self, at: StoreName, position: u64) -> Result<Option<Job>, KeepFail>
+        ensures answer { WhereTold TELLS (IfOk result (IsJobAt (told self.old at).jobs position)) }
+        ensures given { IfOk result (λ found. IfSome found IsGivenJob) }
+        ensures stays { WhereTold TELLS (Stays (told self.old) (told self.new)) }
+        ensures counted { Counted (calls self.old) (calls self.new) }
+        ensures cause { IsCaused (faults self.old) (faults self.new) result };
+
+    /// Ends the job of the entry at a position. Nothing changes where none is open.
+    fn end_job(&mut self, at: StoreName, position: u64) -> Result<(), KeepFail>
+        ensures changes { WhereTold TELLS (Changes result (told self.old) (told self.new) at (after_end (told self.old at) position)) }
+        ensures counted { Counted (calls self.old) (calls self.new) }
+        ensures cause { IsCaused (faults self.old) (faults self.new) result };
+
+    /// Adds the entry at the end of the log and opens its job, where it has one, in one transaction.
     fn commit(&mut self, at: StoreName, commit: &Commit) -> Result<(), KeepFail>
         requires stamps { HaveSmallStamps commit.now.entry.touches }
+        requires job { IfSome commit.now.job (λ job. job.position ≡ commit.now.entry.position) }
+        requires given { IfSome commit.now.job IsGivenJob }
         requires room { WhereTold TELLS (length (told self.old at).log < MOST_ENTRIES) }
         requires follows { WhereTold TELLS (CanFollow (told self.old at).log commit.now.entry) }
-        ensures changes { WhereTold TELLS (Changes result (told self.old) (told self.new) at (after_commit (told self.old at) commit.now.entry)) }
+        ensures changes { WhereTold TELLS (Changes result (told self.old) (told self.new) at (after_commit (told self.old at) commit.now.entry commit.now.job)) }
         ensures counted { Counted (calls self.old) (calls self.new) }
         ensures cause { IsCaused (faults self.old) (faults self.new) result };
 

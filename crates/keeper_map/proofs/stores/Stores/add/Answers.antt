@@ -19,5 +19,5 @@ add-requires-clause-follows c =
 
 pub returns : goal.returns
 returns c =
-    changes_there c.add.result c.args.self.now.tables.items c.make_place.new.self.tables.items c.args.at c.in_ok-place.place c.index_mut.result.now c.add.new.self (λ t. after_commit t c.args.entry)
+    changes_there c.add.result c.args.self.now.tables.items c.make_place.new.self.tables.items c.args.at c.in_ok-place.place c.index_mut.result.now c.add.new.self (λ t. after_commit t c.args.entry c.args.job)
     c.in_ok-place.ensures.stays c.in_ok-place.ensures.place c.index_mut.ensures.value c.add.ensures.name c.add.ensures.table

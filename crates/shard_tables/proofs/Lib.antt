@@ -1,4 +1,6 @@
 pub mod FitLemmas
+pub mod JobLemmas
+pub mod MergeLemmas
 pub mod OpenLemmas
 pub mod OwnRecords
 pub mod ReadLemmas

@@ -15,6 +15,7 @@ use Rattle.graph_model.specs.Soundness.{IsSoundOf}
 use Rattle.graph_model.specs.WriteLaws.{ChangesType, IsNewOrigin, IsOfShard, StaysSound}
 use Rattle.graph_model.specs.Writes.{forward_entry, kind_of, next_entry}
 use Rattle.tao_keeper.specs.Table.{Tables, Stays, Becomes, StandsAt, after_commit}
+use Rattle.tao_keeper.specs.declared.jobs.Job.{Job}
 use Rattle.shard_tables.specs.Stores.{HasSeen, IsStoreOf}
 use Rattle.shard_tables.specs.StoreView.{Store}
 use Rattle.shard_tables.specs.declared.refusal.StoreRefusal.{StoreRefusal}
@@ -41,10 +42,10 @@ here_is shard log (AssocDelete id1 atype id2) here room = here
 here_is shard log (AssocChangeType id1 atype id2 newtype) here room = here
 
 -- tables that stay, and then gain an entry
-pub becomes_from : (old mid new : Tables) (at : StoreName) (entry : Entry) → Stays old mid → Becomes mid new at (after_commit (mid at) entry)
-    → Becomes old new at (after_commit (old at) entry)
-becomes_from old mid new at entry stays gains = record {
-  here = gains.here ∙ ap (λ t. after_commit t entry) (stays at);
+pub becomes_from : (old mid new : Tables) (at : StoreName) (entry : Entry) (job : Option Job) → Stays old mid → Becomes mid new at (after_commit (mid at) entry job)
+    → Becomes old new at (after_commit (old at) entry job)
+becomes_from old mid new at entry job stays gains = record {
+  here = gains.here ∙ ap (λ t. after_commit t entry job) (stays at);
   others = λ s apart. gains.others s apart ∙ stays s;
 }
 

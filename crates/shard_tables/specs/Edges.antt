@@ -1,5 +1,5 @@
 -- The records that a write gives at id1, over the records that stand there.
-use Rattle.std.specs.Prelude.{ℕ, ◌≡◌, ◌+◌, ◌<◌, ◌≤◌, Bool, List, [], ◌∷◌, All, Option, Some, None, ◌==◌, ⊤}
+use Rattle.std.specs.Prelude.{ℕ, ◌≡◌, ◌+◌, ◌<◌, ◌≤◌, Bool, List, [], ◌∷◌, All, Option, Some, None, if◌then◌else◌, ◌==◌, ⊤}
 use Rattle.std.specs.List.{AllByRecursion}
 use Rattle.tao_base.specs.Ids.{shard_of}
 use Rattle.tao_base.specs.Stamps.{stamp_of}
@@ -7,14 +7,16 @@ use Rattle.tao_base.specs.declared.edge.EdgeState.{EdgeState}
 use Rattle.tao_base.specs.declared.edge.EdgeState.TheVariants.{Live, Cut}
 use Rattle.tao_base.specs.declared.edge.Stamp.{Stamp}
 use Rattle.tao_base.specs.declared.id.AType.{AType}
+use Rattle.tao_base.specs.declared.entry.Entry.{Entry}
 use Rattle.tao_base.specs.declared.entry.Touch.{Touch}
 use Rattle.tao_base.specs.declared.id.Id.{Id}
 use Rattle.tao_base.specs.declared.id.Key.TheVariants.{List as Assocs}
 use Rattle.tao_base.specs.declared.write.Write.{Write}
 use Rattle.tao_base.specs.declared.write.Write.TheVariants.{ObjAdd, ObjUpdate, ObjDelete, AssocAdd, AssocDelete, AssocChangeType}
-use Rattle.graph_model.specs.Edges.{number_of}
+use Rattle.graph_model.specs.Edges.{live_time, number_of}
+use Rattle.graph_model.specs.Merges.{is_news}
 use Rattle.graph_model.specs.Soundness.{EdgeUpdate}
-use Rattle.graph_model.specs.Writes.{change_to}
+use Rattle.graph_model.specs.Writes.{change_to, edge_touch, touch_of}
 
 -- the stamp after that of the record
 abbrev pub stamp_after : Id → Option EdgeState → Stamp
@@ -66,3 +68,11 @@ WriteRecords [] [] = ⊤
 WriteRecords [] (t ∷ ts) = ⊥
 WriteRecords (u ∷ us) [] = ⊥
 WriteRecords (u ∷ us) (t ∷ ts) = WritesRecord u t × WriteRecords us ts
+
+-- the touch that writes the record over this one
+abbrev pub touch_over : List Entry → EdgeUpdate → Option EdgeState → Touch
+touch_over log u old = touch_of log (Assocs u.0 u.1) (change_to u.2 u.3 (live_time old))
+
+-- the touch that writes the record, where it is later than the log's
+abbrev pub news_touch : List Entry → EdgeUpdate → Option Touch
+news_touch log u = if is_news log u then Some (edge_touch log u) else None

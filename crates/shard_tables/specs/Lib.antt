@@ -1,6 +1,7 @@
 pub mod Causes
 pub mod Edges
 pub mod Fitting
+pub mod Jobs
 pub mod ReadOuts
 pub mod Reads
 pub mod StoreView

@@ -14,6 +14,7 @@ use Rattle.graph_model.specs.Merges.{entry_at}
 use Rattle.graph_model.specs.WriteLaws.{IsNewOrigin}
 use Rattle.graph_model.specs.Writes.{FitsWrite, forward_entry, kind_of, own_updates, touches_of}
 use Rattle.tao_keeper.specs.Table.{Tables, Stays, Becomes, additions, after_commit}
+use Rattle.tao_keeper.specs.declared.jobs.Job.{Job}
 use Rattle.shard_tables.specs.declared.refusal.StoreRefusal.{StoreRefusal}
 use Rattle.shard_tables.specs.declared.refusal.StoreRefusal.TheVariants.{KeeperFault, LogFull, ShardFull, StampFull, SeqReused, OutOfMemory}
 use Rattle.shard_tables.specs.declared.writes.Wrote.{Wrote}
@@ -124,10 +125,10 @@ abbrev pub added_entry : Result Wrote StoreRefusal → Option Entry
 added_entry (Ok wrote) = if wrote.retry then None else wrote.entry
 added_entry (Err refusal) = None
 
--- the store's log gains the entry, where there is one, and nothing else changes
-abbrev pub Gains : Tables → Tables → StoreName → Option Entry → Type 0
-Gains old new at None = Stays old new
-Gains old new at (Some entry) = Becomes old new at (after_commit (old at) entry)
+-- the store's log gains the entry, where there is one, with its job, and nothing else changes
+abbrev pub Gains : Tables → Tables → StoreName → Option Entry → Option Job → Type 0
+Gains old new at None job = Stays old new
+Gains old new at (Some entry) job = Becomes old new at (after_commit (old at) entry job)
 
 -- the entry of a write that makes these touches after so many entries
 abbrev pub made_entry : ℕ → Origin → Write → List Touch → Entry

@@ -4,7 +4,7 @@ ghost use Rattle.std.specs.List.{list_any};
 ghost use Rattle.graph_model.specs.Edges.{live_time, number_of, state_left};
 ghost use Rattle.graph_model.specs.Writes.{change_to, edge_touch};
 ghost use Rattle.shard_tables.specs.Causes.{HasCause};
-ghost use Rattle.shard_tables.specs.Edges.{AreStamped, WriteRecords, WritesRecord, is_past_stamps};
+ghost use Rattle.shard_tables.specs.Edges.{AreStamped, WriteRecords, WritesRecord, is_past_stamps, touch_over};
 ghost use Rattle.shard_tables.specs.Fitting.{NameWrite};
 ghost use Rattle.shard_tables.specs.Written.{AreTouches, HasNone, IsEdgeWrite};
 ghost use Rattle.tao_base.specs.Stamps.{stamp_of};
@@ -61,6 +61,32 @@ fn change_to(id2: Id, state: &EdgeState, was: Option<Time>) -> Result<Change, Al
     }
 }
 
+/// The touch that writes a record over the one that stands there. Asks the keeper for the version of
+/// the list.
+pub fn touch_over<M: Keeper>(
+    keeper: &mut M,
+    at: StoreName,
+    update: &EdgeUpdate,
+    old: &Option<EdgeState>,
+) -> Result<Touch, KeepFail>
+    requires { (stamp_of update.now.3).number < STAMP_LIMIT }
+    ensures touch { WhereTold M.TELLS (IfOk result (λ t. t ≡ touch_over (M.told keeper.old at).log update.now old.now)) }
+    ensures writes { IfOk result (WritesRecord update.now) }
+    ensures small { IfOk result (λ t. number_of (state_left t.change) < STAMP_LIMIT) }
+    ensures stays { WhereTold M.TELLS (Stays (M.told keeper.old) (M.told keeper.new)) }
+    ensures calls { M.calls keeper.old ≤ M.calls keeper.new }
+    ensures cause { IsCaused (M.faults keeper.old) (M.faults keeper.new) result }
+{
+    let (id1, atype, id2, state) = update;
+    let version = keeper.version(at, Key::List(*id1, *atype))?;
+    let change = change_to(*id2, state, live_time(old))?;
+    Ok(Touch {
+        key: Key::List(*id1, *atype),
+        change,
+        version: version + 1,
+    })
+}
+
 /// The touch that writes a record. Asks the keeper for the record that stands there and for the
 /// version of the list.
 fn edge_touch<M: Keeper>(
@@ -76,15 +102,9 @@ fn edge_touch<M: Keeper>(
     ensures calls { M.calls keeper.old ≤ M.calls keeper.new }
     ensures cause { IsCaused (M.faults keeper.old) (M.faults keeper.new) result }
 {
-    let (id1, atype, id2, state) = update;
+    let (id1, atype, id2, _) = update;
     let old = keeper.edge(at, *id1, *atype, *id2)?;
-    let version = keeper.version(at, Key::List(*id1, *atype))?;
-    let change = change_to(*id2, state, live_time(&old))?;
-    Ok(Touch {
-        key: Key::List(*id1, *atype),
-        change,
-        version: version + 1,
-    })
+    touch_over(keeper, at, update, &old)
 }
 
 /// The touches that write records, in their order.

@@ -9,9 +9,12 @@
 mod added;
 mod edge_writes;
 mod entries;
+mod far_jobs;
 mod fitting;
+mod merges;
 mod near_ends;
 mod object_writes;
+mod open_jobs;
 mod opening;
 mod own_records;
 mod read_out;

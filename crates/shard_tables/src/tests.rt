@@ -19,6 +19,7 @@ use tao_base::{
     AType, Change, Data, Entry, Id, Key, Kind, OType, Object, Origin, StoreName, Text, Time, Touch,
     Touches, Write,
 };
+use tao_keeper::Job;
 use tao_schema::{AssocLine, Schema};
 
 mod reads;
@@ -164,14 +165,37 @@ fn changes_type(write: &Write) -> bool
     }
 }
 
-/// What came of a write: how many entries its note sees and how many touches its own has, or why there is none.
+/// How many records an entry owes to another shard.
+fn owes(job: &Option<Job>) -> usize {
+    match job {
+        Some(job) => job.edges.as_slice().len(),
+        None => 0,
+    }
+}
+
+/// What came of a write: how many entries its note sees and how many touches its own has, or why there is none; and how
+/// many records it owes to another shard, where it owes any.
 fn text_of(alloc: Global, made: Result<Wrote, StoreRefusal>) -> Result<String, AllocError> {
+    let owed = match &made {
+        Ok(wrote) => owes(&wrote.job),
+        Err(_) => 0,
+    };
+    let text = entry_text(alloc, made)?;
+    if owed == 0 {
+        Ok(text)
+    } else {
+        format!(in alloc; "{text}, owes {owed}")
+    }
+}
+
+fn entry_text(alloc: Global, made: Result<Wrote, StoreRefusal>) -> Result<String, AllocError> {
     match made {
         Ok(
             Wrote {
                 entry,
                 retry,
                 mut note,
+                ..
             },
         ) => match entry {
             Some(entry) => {
@@ -360,11 +384,42 @@ fn a_write_whose_commit_failed_is_made_by_the_same_again(rt: HostRuntime) -> Res
 }
 
 /// One where the other is on another shard, the type has no inverse, or both are the same.
+/// A record at the other end for each edge whose type has an inverse. A write that is made again finds its job still open.
+#[test]
+fn an_entry_owes_the_ends_on_another_shard(rt: HostRuntime) -> Result<(), Fail> {
+    let rows = [
+        (
+            1,
+            Ask::Set(1, LIKES, FAR, 5, "x"),
+            "entry 1, touches 1, owes 1",
+        ),
+        (2, Ask::Set(1, SAW, FAR, 5, "x"), "entry 2, touches 1"),
+        (
+            3,
+            Ask::Move(1, LIKES, FAR, FRIEND),
+            "entry 3, touches 2, owes 2",
+        ),
+        (
+            4,
+            Ask::Move(1, SAW, FAR, LIKES),
+            "entry 4, touches 2, owes 1",
+        ),
+        (5, Ask::Cut(1, FRIEND, FAR), "entry 5, touches 1, owes 1"),
+        (3, Ask::Move(1, LIKES, FAR, FRIEND), "retry 3, owes 2"),
+        (2, Ask::Set(1, SAW, FAR, 5, "x"), "retry 2"),
+    ];
+    assert_outcomes(&rt, rt.alloc(), 9, &[], &rows)
+}
+
 #[test]
 fn both_ends_stand_in_one_entry(rt: HostRuntime) -> Result<(), Fail> {
     let rows = [
         (1, Ask::Set(1, LIKES, 2, 5, "x"), "entry 1, touches 2"),
-        (2, Ask::Set(1, LIKES, FAR, 5, "x"), "entry 2, touches 1"),
+        (
+            2,
+            Ask::Set(1, LIKES, FAR, 5, "x"),
+            "entry 2, touches 1, owes 1",
+        ),
         (3, Ask::Set(1, SAW, 2, 5, "x"), "entry 3, touches 1"),
         (4, Ask::Set(1, FRIEND, 1, 5, "x"), "entry 4, touches 1"),
         (5, Ask::Set(1, LIKES, 1, 5, "x"), "entry 5, touches 2"),

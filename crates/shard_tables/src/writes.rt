@@ -1,5 +1,5 @@
 //! The writes of clients to a store.
-ghost use Rattle.std.specs.Prelude.{◌≡◌, ◌≤◌, ◌<◌, ℕ, IfOk, IfSome, IsTrue, MatchResult, None, Some, length};
+ghost use Rattle.std.specs.Prelude.{◌≡◌, ◌≤◌, ◌<◌, ℕ, IfOk, IfSome, IsTrue, MatchResult, None, Some, false, length};
 ghost use Rattle.graph_model.specs.Soundness.{CanFollow, IsSoundOf, is_client};
 ghost use Rattle.graph_model.specs.Told.{WhereTold};
 ghost use Rattle.graph_model.specs.WriteLaws.{ChangesType, IsNewOrigin};
@@ -7,24 +7,26 @@ ghost use Rattle.graph_model.specs.Writes.{FitsWrite};
 ghost use Rattle.shard_log.specs.View.{Grows, as_note, most_entries};
 ghost use Rattle.shard_tables.specs.Causes.{HasCause};
 ghost use Rattle.shard_tables.specs.Fitting.{HasEntry};
+ghost use Rattle.shard_tables.specs.Jobs.{FindsJob, OpensJob, job_with};
 ghost use Rattle.shard_tables.specs.Stores.{IsStoreOf, gained};
 ghost use Rattle.shard_tables.specs.Written.{Answers, Gains, added_entry, shard_of_write};
 ghost use Rattle.shard_tables.specs.declared.store.Role.TheVariants.{Master};
 ghost use Rattle.tao_base.specs.EdgeTypes.{EdgeTypes, InversesMatch};
 ghost use Rattle.tao_base.specs.declared.entry.Origin.{Origin};
 ghost use Rattle.tao_keeper.specs.Cause.{IsCaused};
-ghost use Rattle.tao_keeper.specs.Given.{HaveSmallStamps};
+ghost use Rattle.tao_keeper.specs.Given.{HaveSmallStamps, IsGivenJob};
 ghost use Rattle.tao_keeper.specs.Table.{Changes, StandsAt, Stays, after_commit};
 ghost use Rattle.tao_schema.specs.Schema.{types_of};
 
 use super::entries::{entry_of, touches_of};
+use super::far_jobs::far_job;
 use super::fitting::fits;
 use super::refusal::StoreRefusal;
 use super::store::StoreNode;
 use shard_log::Note;
 use std::alloc::Global;
 use tao_base::{AType, Entry, Origin, StoreName, Write};
-use tao_keeper::{Commit, KeepFail, Keeper};
+use tao_keeper::{Commit, Job, KeepFail, Keeper};
 use tao_schema::Schema;
 
 /// What a write did.
@@ -34,6 +36,9 @@ pub struct Wrote {
     pub entry: Option<Entry>,
     /// Whether the entry was there already: the write was made before.
     pub retry: bool,
+    /// What the entry owes to another shard: the job that was opened with it, or for a write that was made before the
+    /// one that is still open.
+    pub job: Option<Job>,
     /// What the store has of its shard's log after the write, which is all.
     pub note: Note,
 }
@@ -70,7 +75,10 @@ impl StoreNode {
         ensures answer { WhereTold M.TELLS (Answers (types_of schema.now) self.old.log_max (M.told keeper.old self.old.name).log origin write.now result) }
         ensures fits { IfOk result (λ wrote. IfSome wrote.entry (λ e. FitsWrite e write.now)) }
         ensures entry { IfOk result (λ wrote. HasEntry write.now wrote.entry) }
-        ensures tables { WhereTold M.TELLS (Gains (M.told keeper.old) (M.told keeper.new) self.old.name (added_entry result)) }
+        ensures job { IfOk result (λ wrote. OpensJob (types_of schema.now) wrote.retry wrote.entry wrote.job) }
+        ensures found { WhereTold M.TELLS (IfOk result (λ wrote. FindsJob (M.told keeper.old self.old.name).log (M.told keeper.old self.old.name).jobs wrote.retry wrote.entry wrote.job)) }
+        ensures given { IfOk result (λ wrote. IfSome wrote.job IsGivenJob) }
+        ensures tables { WhereTold M.TELLS (Gains (M.told keeper.old) (M.told keeper.new) self.old.name (added_entry result) (job_with (types_of schema.now) (added_entry result))) }
         ensures log { self.new ≡ gained self.old (added_entry result) }
         ensures grows { Grows self.old.view self.new.view }
         ensures note { IfOk result (λ wrote. wrote.note ≡ as_note self.new.view) }
@@ -100,6 +108,9 @@ fn write_again<M: Keeper>(
     ensures fits { IfOk result (λ wrote. IfSome wrote.entry (λ e. FitsWrite e write.now)) }
     ensures entry { IfOk result (λ wrote. HasEntry write.now wrote.entry) }
     ensures nothing { added_entry result ≡ None }
+    ensures retried { IfOk result (λ wrote. IsTrue wrote.retry) }
+    ensures found { WhereTold M.TELLS (IfOk result (λ wrote. FindsJob (M.told keeper.old at).log (M.told keeper.old at).jobs wrote.retry wrote.entry wrote.job)) }
+    ensures given { IfOk result (λ wrote. IfSome wrote.job IsGivenJob) }
     ensures note { IfOk result (λ wrote. wrote.note ≡ note) }
     ensures stays { WhereTold M.TELLS (Stays (M.told keeper.old) (M.told keeper.new)) }
     ensures calls { M.calls keeper.old ≤ M.calls keeper.new }
@@ -109,9 +120,11 @@ fn write_again<M: Keeper>(
     match found {
         Some(entry) => {
             if fits(&entry, write) {
+                let job = keeper.job(at, position)?;
                 Ok(Wrote {
                     entry: Some(entry),
                     retry: true,
+                    job,
                     note,
                 })
             } else {
@@ -131,28 +144,32 @@ fn inverses_match(schema: &Schema)
     let _inverse = schema.inverse(AType(0));
 }
 
-/// Adds an entry to the keeper's log and then to the master's, or to neither.
-fn add_entry<M: Keeper>(
+/// Adds an entry to the keeper's log, with its job, and then to the master's, or to neither.
+pub fn add_entry<M: Keeper>(
     store: &mut StoreNode,
     keeper: &mut M,
     entry: Entry,
-) -> Result<Entry, KeepFail>
+    job: Option<Job>,
+) -> Result<Commit, KeepFail>
+    requires job { IfSome job (λ j. j.position ≡ entry.position) }
+    requires given { IfSome job IsGivenJob }
     requires master { store.old.role ≡ Master }
     requires keeper { IsStoreOf M.TELLS (M.told keeper.old) store.old }
     requires stamps { HaveSmallStamps entry.touches }
     requires room { length store.old.view.entries < most_entries }
     requires follows { WhereTold M.TELLS (CanFollow (M.told keeper.old store.old.name).log entry) }
-    ensures entry { IfOk result (λ added. added ≡ entry) }
+    ensures entry { IfOk result (λ added. added.entry ≡ entry) }
+    ensures opened { IfOk result (λ added. added.job ≡ job) }
     ensures log { MatchResult result (λ _. store.new ≡ gained store.old (Some entry)) (λ _. store.new ≡ store.old) }
-    ensures tables { WhereTold M.TELLS (Changes result (M.told keeper.old) (M.told keeper.new) store.old.name (after_commit (M.told keeper.old store.old.name) entry)) }
+    ensures tables { WhereTold M.TELLS (Changes result (M.told keeper.old) (M.told keeper.new) store.old.name (after_commit (M.told keeper.old store.old.name) entry job)) }
     ensures keeper { IsStoreOf M.TELLS (M.told keeper.new) store.new }
     ensures calls { M.calls keeper.old ≤ M.calls keeper.new }
     ensures cause { IsCaused (M.faults keeper.old) (M.faults keeper.new) result }
 {
-    let commit = Commit { entry };
+    let commit = Commit { entry, job };
     keeper.commit(store.name(), &commit)?;
     store.append(&commit.entry);
-    Ok(commit.entry)
+    Ok(commit)
 }
 
 /// Makes a write whose origin doesn't stand in the log. The note has seen the whole log before.
@@ -175,7 +192,10 @@ fn write_first<M: Keeper>(
     ensures answer { WhereTold M.TELLS (Answers (types_of schema.now) store.old.log_max (M.told keeper.old store.old.name).log origin write.now result) }
     ensures fits { IfOk result (λ wrote. IfSome wrote.entry (λ e. FitsWrite e write.now)) }
     ensures entry { IfOk result (λ wrote. HasEntry write.now wrote.entry) }
-    ensures tables { WhereTold M.TELLS (Gains (M.told keeper.old) (M.told keeper.new) store.old.name (added_entry result)) }
+    ensures job { IfOk result (λ wrote. OpensJob (types_of schema.now) wrote.retry wrote.entry wrote.job) }
+    ensures new { IfOk result (λ wrote. wrote.retry ≡ false) }
+    ensures given { IfOk result (λ wrote. IfSome wrote.job IsGivenJob) }
+    ensures tables { WhereTold M.TELLS (Gains (M.told keeper.old) (M.told keeper.new) store.old.name (added_entry result) (job_with (types_of schema.now) (added_entry result))) }
     ensures log { store.new ≡ gained store.old (added_entry result) }
     ensures note { IfOk result (λ wrote. wrote.note ≡ as_note store.new.view) }
     ensures keeper { IsStoreOf M.TELLS (M.told keeper.new) store.new }
@@ -188,6 +208,7 @@ fn write_first<M: Keeper>(
         return Ok(Wrote {
             entry: None,
             retry: false,
+            job: None,
             note,
         });
     }
@@ -197,10 +218,12 @@ fn write_first<M: Keeper>(
     }
     let entry = entry_of(length, origin, write, touches);
     inverses_match(schema);
-    let entry = add_entry(store, keeper, entry)?;
+    let job = far_job(alloc, schema, &entry)?;
+    let added = add_entry(store, keeper, entry, job)?;
     Ok(Wrote {
-        entry: Some(entry),
+        entry: Some(added.entry),
         retry: false,
+        job: added.job,
         note: store.renew(note),
     })
 }

@@ -62,6 +62,11 @@ abbrev pub with_opened : Jobs → Option Job → Jobs
 with_opened jobs None = jobs
 with_opened jobs (Some job) = with_job jobs job.position (Some job.edges)
 
+-- the job that owes these records, none where there are none
+abbrev pub job_from : ℕ → List EdgeUpdate → Option Job
+job_from position [] = None
+job_from position (u ∷ us) = Some (record { position = position; edges = u ∷ us })
+
 abbrev pub after_commit : Table → Entry → Option Job → Table
 after_commit table entry job = record table { log = table.log ++ entry ∷ []; jobs = with_opened table.jobs job }
 

@@ -31,6 +31,6 @@ returns-clause-sound g c = λ told.
     let stays : StaysSound (types_of c.args.schema.now) c.args.store.now.name.shard (g.M.Keeper.told c.args.keeper.now c.args.store.now.name).log c.entry_of-entry.result =
     subst (StaysSound (types_of c.args.schema.now) c.args.store.now.name.shard (g.M.Keeper.told c.args.keeper.now c.args.store.now.name).log) (sym c.entry_of-entry.ensures)
     (stays_sound _ _ c.args.origin _ _ _ are some count _ c.inverses_match.ensures (c.requires.sound told) (c.requires.new told) c.requires.here c.requires.changes) in
-    let gains = becomes_from (g.M.Keeper.told c.args.keeper.now) (g.M.Keeper.told c.touches_of.new.keeper) (g.M.Keeper.told c.add_entry.new.keeper) c.args.store.now.name c.entry_of-entry.result
-    (c.in_ok-touches.ensures.stays told) (c.in_ok-entry.ensures.tables told) in
+    let gains = becomes_from (g.M.Keeper.told c.args.keeper.now) (g.M.Keeper.told c.touches_of.new.keeper) (g.M.Keeper.told c.add_entry.new.keeper) c.args.store.now.name c.entry_of-entry.result c.in_ok-job.job
+    (c.in_ok-touches.ensures.stays told) (c.in_ok-added.ensures.tables told) in
     subst (λ t. IsSoundOf (types_of c.args.schema.now) c.args.store.now.name.shard t.log) (sym gains.here) stays.sound

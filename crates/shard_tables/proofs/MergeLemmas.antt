@@ -1,0 +1,96 @@
+-- The touches and the entry of a merge.
+use Rattle.std.proofs.Common.{◌≡◌, ℕ, ◌+◌, ◌<◌, ◌≤◌, List, [], ◌∷◌, ◌++◌, length, map, take, get_or, inl, inr, refl, sym, ap, ◌∙◌, arith}
+use Rattle.std.proofs.lemmas.Bool.{cases_Bool}
+use Rattle.std.proofs.lemmas.List.{take_all}
+use Rattle.std.specs.Option.{option_to_list}
+use Rattle.std.specs.Prelude.{Some, None, All, filter, filter_map}
+use Rattle.tao_base.specs.EdgeTypes.{EdgeTypes}
+use Rattle.tao_base.specs.declared.entry.Entry.{Entry}
+use Rattle.tao_base.specs.declared.entry.Kind.TheVariants.{Merge as Merged}
+use Rattle.tao_base.specs.declared.entry.Origin.TheVariants.{Merge}
+use Rattle.tao_base.specs.declared.entry.Touch.{Touch}
+use Rattle.tao_base.specs.declared.id.StoreName.{StoreName}
+use Rattle.graph_model.proofs.MergeOf.{merges_follow, merges_none}
+use Rattle.graph_model.specs.MergeLaws.{MayBeMerged}
+use Rattle.graph_model.specs.Merges.{HasStamp, is_news, merge_of}
+use Rattle.graph_model.specs.Soundness.{CanFollow, EdgeUpdate, IsSound, IsSoundOf}
+use Rattle.graph_model.specs.Writes.{edge_touch, next_entry}
+use Rattle.tao_keeper.specs.Table.{Becomes, Stays, Table, Tables, after_commit}
+use Rattle.shard_tables.proofs.JobLemmas.{more}
+use Rattle.shard_tables.specs.Edges.{news_touch}
+use Rattle.shard_tables.specs.Jobs.{made_merge}
+
+-- one record more, over tables that stay
+pub news_more : (a b : Table) (us : List EdgeUpdate) (i : ℕ) (u : EdgeUpdate) (ts zs : List Touch) → b ≡ a → i < length us → u ≡ get_or us i u
+    → ts ≡ filter_map (news_touch a.log) (take i us) → zs ≡ ts ++ option_to_list (news_touch b.log u) → zs ≡ filter_map (news_touch a.log) (take (i + 1) us)
+news_more a b us i u ts zs stays lt is so_far put =
+    more (news_touch a.log) us i u ts zs lt is so_far (put ∙ ap (λ t. ts ++ option_to_list (news_touch t.log u)) stays)
+
+news_touches_are : (log : List Entry) (us : List EdgeUpdate) → filter_map (news_touch log) us ≡ map (edge_touch log) (filter (is_news log) us)
+news_touches_are log [] = refl
+news_touches_are log (u ∷ us) = elim (cases_Bool (is_news log u)) [
+  | inl h ↦ rw (h, news_touches_are log us) refl
+  | inr h ↦ rw (h, news_touches_are log us) refl
+]
+
+-- the touches make the entry
+module _ (log : List Entry) (from position : ℕ) (us : List EdgeUpdate) (ts : List Touch) (are : ts ≡ map (edge_touch log) (filter (is_news log) us)) where
+  given : merge_of log from position us ≡ next_entry log Merged (Merge from position) ts
+  given = ap (next_entry log Merged (Merge from position)) (sym are)
+
+  merged_is : (n : ℕ) → 0 < length ts → n ≡ length log → merge_of log from position us ≡ Some (made_merge n from position ts)
+  merged_is n some count = given ∙ by ts some
+    where
+      by : (xs : List Touch) → 0 < length xs → next_entry log Merged (Merge from position) xs ≡ Some (made_merge n from position xs)
+      by [] h = absurd (omega (arith, h))
+      by (x ∷ xs) h = ap (λ k. Some (made_merge k from position (x ∷ xs))) (sym count)
+
+  none_merged : length ts ≡ 0 → merge_of log from position us ≡ None
+  none_merged none = given ∙ by ts none
+    where
+      by : (xs : List Touch) → length xs ≡ 0 → next_entry log Merged (Merge from position) xs ≡ None
+      by [] h = refl
+      by (x ∷ xs) h = absurd (omega (arith, h))
+
+pub all_news : (log : List Entry) (us : List EdgeUpdate) (i : ℕ) (ts : List Touch) → length us ≤ i → ts ≡ filter_map (news_touch log) (take i us)
+    → ts ≡ map (edge_touch log) (filter (is_news log) us)
+all_news log us i ts past is = is ∙ ap (filter_map (news_touch log)) (take_all i us past) ∙ news_touches_are log us
+
+-- the touches that were asked for under the store's name, and of the job's records
+news_at : (tables : Tables) (at name : StoreName) (us vs : List EdgeUpdate) (ts : List Touch) → at ≡ name → us ≡ vs
+    → ts ≡ map (edge_touch (tables at).log) (filter (is_news (tables at).log) us) → ts ≡ map (edge_touch (tables name).log) (filter (is_news (tables name).log) vs)
+news_at tables at name us vs ts at_is us_is are =
+    are ∙ ap (λ n. map (edge_touch (tables n).log) (filter (is_news (tables n).log) us)) at_is ∙ ap (λ v. map (edge_touch (tables name).log) (filter (is_news (tables name).log) v)) us_is
+
+-- the entry merges the records: it follows the log, keeps it sound, and leaves all of them there
+pub record IsMade (shard : ℕ) (log : List Entry) (from position : ℕ) (us : List EdgeUpdate) (m : Entry) : Type 0 where
+  pub is : merge_of log from position us ≡ Some m
+  pub follows : CanFollow log m
+  pub sound : (types : EdgeTypes) → IsSoundOf types shard log → IsSoundOf types shard (log ++ m ∷ [])
+  pub done : IsSound log → All (HasStamp (log ++ m ∷ [])) us
+
+-- the touches of a merge, over tables that have this log
+module _ (tables : Tables) (at name : StoreName) (us vs : List EdgeUpdate) (ts : List Touch) (at_is : at ≡ name) (us_is : us ≡ vs)
+    (asked : ts ≡ map (edge_touch (tables at).log) (filter (is_news (tables at).log) us)) where
+  pub made_is : (shard from position n : ℕ) (m : Entry) → 0 < length ts → n ≡ length (tables name).log → m ≡ made_merge n from position ts
+      → MayBeMerged shard (tables name).log from position vs → IsMade shard (tables name).log from position vs m
+  made_is shard from position n m some count made may =
+      let is : merge_of (tables name).log from position vs ≡ Some m =
+      merged_is (tables name).log from position vs ts (news_at tables at name us vs ts at_is us_is asked) n some count ∙ ap Some (sym made) in
+      let law = merges_follow shard (tables name).log from position vs m in record {
+        is = is;
+        follows = law.follows may is;
+        sound = λ types sound. (law.stays types sound may is).sound;
+        done = λ sound. law.done sound may is;
+      }
+
+  pub none_left : (from position : ℕ) → length ts ≡ 0 → All (HasStamp (tables name).log) vs
+  none_left from position none =
+      (merges_none (tables name).log from position vs).done (none_merged (tables name).log from position vs ts (news_at tables at name us vs ts at_is us_is asked) none)
+
+-- a log that has gained the entry, over tables that stayed before
+pub grown_log : (old mid new : Tables) (at name : StoreName) (entry made : Entry) → at ≡ name → Stays old mid → Becomes mid new at (after_commit (mid at) entry None) → entry ≡ made
+    → (new name).log ≡ (old name).log ++ made ∷ []
+grown_log old mid new at name entry made at_is stays gains same =
+    ap (λ n. (new n).log) (sym at_is) ∙ ap (λ t. t.log) gains.here ∙ ap (λ t. t.log ++ entry ∷ []) (stays at) ∙ ap (λ n. (old n).log ++ entry ∷ []) at_is
+    ∙ ap (λ e. (old name).log ++ e ∷ []) same

@@ -1,0 +1,54 @@
+-- What the calls of a keeper do to the tables, seen as steps of the stores of all shards.
+use Rattle.std.specs.Prelude.{ℕ, ◌≡◌, ◌<◌, Contains, Some, None}
+use Rattle.tao_base.specs.EdgeTypes.{EdgeTypes}
+use Rattle.tao_base.specs.declared.entry.Entry.{Entry}
+use Rattle.tao_base.specs.declared.entry.Origin.{Origin}
+use Rattle.tao_base.specs.declared.write.Write.{Write}
+use Rattle.graph_model.specs.Machine.{IsFirstJob, Owed}
+use Rattle.graph_model.specs.Merges.{HasJob, job_of, log_of, merge_of}
+use Rattle.graph_model.specs.Soundness.{EdgeUpdate}
+use Rattle.graph_model.specs.Steps.{AreSoundAndCovered, CommitsWithJob, EndsJob, IsJobOf, IsOwed, JobsStay, MergesJob}
+use Rattle.graph_model.specs.Writes.{forward_entry}
+use Rattle.tao_keeper.specs.Table.{Becomes, Stays, Tables, IsFirstJob as IsFirst, after_commit, after_end, job_from}
+use Rattle.tao_keeper.specs.declared.jobs.Job.{Job}
+use Rattle.master_tables.specs.Masters.{Masters, stores_of}
+
+-- each shard's log and jobs are those of its master's table
+pub record TablesAreStores (m : Masters) (tables : Tables) : Type 0 where
+  pub log_is : (shard : ℕ) → shard < m.shards → log_of (stores_of m tables).logs shard ≡ (tables (m.name shard)).log
+  pub job_is : (shard position : ℕ) → shard < m.shards → (stores_of m tables).job shard position ≡ (tables (m.name shard)).jobs position
+
+-- the calls are the steps
+pub record CallsAreSteps (m : Masters) (old new : Tables) : Type 0 where
+  -- where no table changes, nothing does
+  pub stays : Stays old new → ((stores_of m new).logs ≡ (stores_of m old).logs) × JobsStay (stores_of m old) (stores_of m new)
+  -- the commit of a write's entry with its job
+  pub commits : (types : EdgeTypes) (shard : ℕ) (origin : Origin) (write : Write) (e : Entry) → shard < m.shards
+      → (old (m.name shard)).jobs e.position ≡ None → forward_entry types (old (m.name shard)).log origin write ≡ Some e
+      → Becomes old new (m.name shard) (after_commit (old (m.name shard)) e (job_from e.position (job_of types e)))
+      → CommitsWithJob types (stores_of m old) (stores_of m new) shard origin write e
+  -- the commit of a merge, without a job
+  pub merges : (types : EdgeTypes) (owed : Owed) (e : Entry) → owed.other < m.shards → IsOwed types (stores_of m old) owed
+      → merge_of (old (m.name owed.other)).log owed.shard owed.entry.position (job_of types owed.entry) ≡ Some e
+      → Becomes old new (m.name owed.other) (after_commit (old (m.name owed.other)) e None) → MergesJob types (stores_of m old) (stores_of m new) owed
+  -- a merge that has nothing to write
+  pub merges_none : (types : EdgeTypes) (owed : Owed) → owed.other < m.shards → IsOwed types (stores_of m old) owed
+      → merge_of (old (m.name owed.other)).log owed.shard owed.entry.position (job_of types owed.entry) ≡ None
+      → Stays old new → MergesJob types (stores_of m old) (stores_of m new) owed
+  -- the end of a job
+  pub ends : (types : EdgeTypes) (owed : Owed) → owed.shard < m.shards → IsOwed types (stores_of m old) owed
+      → HasJob types (log_of (stores_of m old).logs owed.other) owed.entry
+      → Becomes old new (m.name owed.shard) (after_end (old (m.name owed.shard)) owed.entry.position) → EndsJob types (stores_of m old) (stores_of m new) owed
+
+-- a store's first job is its shard's first job, and each of its records says where it may be merged
+pub record FirstJobsAreFirst (m : Masters) (tables : Tables) : Type 0 where
+  pub first : (types : EdgeTypes) (shard : ℕ) (job : Job) (u : EdgeUpdate) → shard < m.shards → AreSoundAndCovered types (stores_of m tables)
+      → IsFirst (tables (m.name shard)).jobs (Some job) → Contains job.edges u
+      → (by : Owed) × IsJobOf types (stores_of m tables) shard job.position job.edges u by × IsFirstJob types (stores_of m tables) by
+  pub none : (shard position : ℕ) → shard < m.shards → IsFirst (tables (m.name shard)).jobs None → (stores_of m tables).job shard position ≡ None
+
+-- these hold of all tables
+pub record TableLaws : Type 0 where
+  pub are_stores : (m : Masters) (tables : Tables) → TablesAreStores m tables
+  pub are_steps : (m : Masters) (old new : Tables) → CallsAreSteps m old new
+  pub are_first : (m : Masters) (tables : Tables) → FirstJobsAreFirst m tables

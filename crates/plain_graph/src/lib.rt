@@ -11,8 +11,6 @@ mod lists;
 mod objects;
 mod records;
 mod selecting;
-#[cfg(test)]
-mod tests;
 
 pub use answering::answer;
 pub use changes::version_of;

@@ -7,8 +7,6 @@ mod refusals;
 mod resolving;
 mod serving;
 mod sessions;
-#[cfg(test)]
-mod tests;
 mod writes;
 
 pub use serving::Core;

@@ -6,8 +6,6 @@ mod lines;
 mod serve;
 mod serving;
 mod stop;
-#[cfg(test)]
-mod tests;
 mod top;
 
 pub use top::run;

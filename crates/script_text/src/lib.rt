@@ -1,0 +1,12 @@
+//! Scripts of whole runs: what a text tells of them, and whether a run ended as it has to. `docs/SCRIPTS.md`
+//! has the format.
+#![tactic(auto)]
+
+mod compare;
+mod piece;
+mod reading;
+mod runs;
+
+pub use compare::{Fault, describe, fault_of};
+pub use reading::{Unread, read};
+pub use runs::{Run, Script};

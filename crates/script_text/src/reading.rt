@@ -1,0 +1,137 @@
+//! Reads a script.
+use crate::piece::{Piece, line_of, piece_of, push_piece};
+use crate::runs::{Run, Script};
+use std::alloc::{AllocError, Global};
+
+/// Why a text is no script.
+#[derive(Clone, Copy, Debug, PartialEq, Eq)]
+pub enum Unread {
+    /// The line of this number, from 1 on, has no meaning where it stands.
+    Line(usize),
+    OutOfMemory,
+}
+
+impl From<AllocError> for Unread {
+    fn from(_: AllocError) -> Unread {
+        Unread::OutOfMemory
+    }
+}
+
+/// Goes on with the numbers of calls by those of a text. Says whether it has numbers alone.
+fn push_numbers(fails: &mut Vec<u64>, numbers: &str) -> Result<bool, AllocError> {
+    for number in numbers.split_whitespace() {
+        let Ok(number) = number.parse::<u64>() else {
+            return Ok(false);
+        };
+        fails.push(number)?;
+    }
+    Ok(true)
+}
+
+/// The piece of input that a line tells.
+fn input_of(line: &str) -> Option<Piece<'_>> {
+    if let Some(rest) = line.strip_prefix('<') {
+        return Some(line_of(rest.strip_prefix(' ').unwrap_or(rest)));
+    }
+    if line.starts_with('_') || line.starts_with('*') {
+        return piece_of(line);
+    }
+    Some(line_of(line))
+}
+
+/// Goes on with a text by a piece. Says whether there is one.
+fn take_piece(
+    alloc: Global,
+    into: &mut String,
+    piece: Option<Piece<'_>>,
+) -> Result<bool, AllocError> {
+    match piece {
+        Some(piece) => {
+            push_piece(alloc, into, piece)?;
+            Ok(true)
+        }
+        None => Ok(false),
+    }
+}
+
+/// Takes the number that a text was read as. Says whether it was one.
+fn take_number<T: Copy>(into: &mut T, number: Option<T>) -> bool {
+    match number {
+        Some(number) => {
+            *into = number;
+            true
+        }
+        None => false,
+    }
+}
+
+/// Goes on with a run by a line of its text. Says whether the line has a meaning.
+fn take_run_line(alloc: Global, run: &mut Run, line: &str) -> Result<bool, AllocError> {
+    if let Some(reply) = line.strip_prefix('>') {
+        return take_piece(alloc, &mut run.replies, piece_of(reply));
+    }
+    if let Some(numbers) = line.strip_prefix("! take ") {
+        return push_numbers(&mut run.takes, numbers);
+    }
+    if let Some(numbers) = line.strip_prefix("! put ") {
+        return push_numbers(&mut run.puts, numbers);
+    }
+    if let Some(room) = line.strip_prefix("! room ") {
+        return Ok(take_number(&mut run.room, room.parse::<usize>().ok().map(Some)));
+    }
+    if let Some(code) = line.strip_prefix("= ") {
+        return Ok(take_number(&mut run.code, code.parse::<u8>().ok()));
+    }
+    take_piece(alloc, &mut run.input, input_of(line))
+}
+
+/// The words of the run that a line begins, and whether it goes over a keeper of its own.
+fn head_of(line: &str) -> Option<(&str, bool)> {
+    let (line, is_anew) = match line.strip_prefix("$$") {
+        Some(rest) => (rest, true),
+        None => (line.strip_prefix('$')?, false),
+    };
+    let words = line.strip_prefix(" tao")?;
+    if words.is_empty() || words.starts_with(' ') {
+        Some((words, is_anew))
+    } else {
+        None
+    }
+}
+
+/// Goes on with a script by a line of its text. Says whether the line has a meaning where it stands.
+fn take_line(alloc: Global, script: &mut Script, line: &str) -> Result<bool, AllocError> {
+    if line.is_empty() || line.starts_with('#') {
+        return Ok(true);
+    }
+    if line.starts_with('$') {
+        let Some((words, is_anew)) = head_of(line) else {
+            return Ok(false);
+        };
+        script.runs.push(Run::begin(alloc, words, is_anew)?)?;
+        return Ok(true);
+    }
+    if let Some(numbers) = line.strip_prefix("! call ") {
+        return push_numbers(&mut script.calls, numbers);
+    }
+    if let Some(numbers) = line.strip_prefix("! commit ") {
+        return push_numbers(&mut script.commits, numbers);
+    }
+    match script.runs.last_mut() {
+        Some(run) => take_run_line(alloc, run, line),
+        None => Ok(false),
+    }
+}
+
+/// Reads a script's text.
+pub fn read(alloc: Global, text: &str) -> Result<Script, Unread> {
+    let mut script = Script::new(alloc);
+    let mut number: usize = 0;
+    for line in text.lines() {
+        number = number.saturating_add(1);
+        if !take_line(alloc, &mut script, line)? {
+            return Err(Unread::Line(number));
+        }
+    }
+    Ok(script)
+}

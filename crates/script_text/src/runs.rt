@@ -1,0 +1,62 @@
+//! What a script tells.
+use std::alloc::{AllocError, Global};
+
+/// Runs, one after the other.
+#[derive(Debug, Drop)]
+pub struct Script {
+    /// The calls of a keeper that fail, by their numbers from 1 on.
+    pub calls: Vec<u64>,
+    /// A keeper's commits that fail.
+    pub commits: Vec<u64>,
+    pub runs: Vec<Run>,
+}
+
+/// One run: what it is given, and how it has to end.
+#[derive(Debug, Drop)]
+pub struct Run {
+    /// Whether it goes over a keeper without tables, and not over that of the run before it.
+    pub is_anew: bool,
+    pub words: Vec<String>,
+    /// The bytes of its source.
+    pub input: String,
+    /// The calls of the source that fail.
+    pub takes: Vec<u64>,
+    /// The calls of the sink that fail.
+    pub puts: Vec<u64>,
+    /// How many bytes a narrow sink takes in all, one of each piece; without it the sink takes whole pieces.
+    pub room: Option<usize>,
+    /// All that it has to write.
+    pub replies: String,
+    pub code: u8,
+}
+
+impl Script {
+    /// A script with no runs, whose keepers don't fail.
+    pub fn new(alloc: Global) -> Script {
+        Script {
+            calls: Vec::new(alloc),
+            commits: Vec::new(alloc),
+            runs: Vec::new(alloc),
+        }
+    }
+}
+
+impl Run {
+    /// A run with these words and no lines yet, which has to end with status 0.
+    pub fn begin(alloc: Global, words: &str, is_anew: bool) -> Result<Run, AllocError> {
+        let mut run = Run {
+            is_anew,
+            words: Vec::new(alloc),
+            input: String::new(alloc),
+            takes: Vec::new(alloc),
+            puts: Vec::new(alloc),
+            room: None,
+            replies: String::new(alloc),
+            code: 0,
+        };
+        for word in words.split_whitespace() {
+            run.words.push(String::from_str(alloc, word)?)?;
+        }
+        Ok(run)
+    }
+}

@@ -62,7 +62,7 @@ pub stores_same : (tells : Bool) (s : Settings) (old new : Tables) (xs : List St
 stores_same tells s old new xs place shard x y are here is same seen stays = record {
   masters = stores_set s s.shards xs place shard y are.masters here (subst (IsMasterOf s shard) (sym same) is);
   sound = λ told. sound_same s old new (are.sound told) (stays told);
-  seen = seen_set tells s old new xs place shard y None are.masters are.seen here seen stays;
+  seen = seen_set tells s old new xs place shard y None None are.masters are.seen here seen stays;
 }
 
 -- the stores, where no table changes

@@ -9,6 +9,7 @@ use Rattle.tao_base.specs.declared.id.StoreName.{StoreName}
 use Rattle.graph_model.specs.Soundness.{IsSoundOf}
 use Rattle.shard_tables.specs.StoreView.{Store}
 use Rattle.shard_tables.specs.Stores.{HasSeen, IsStoreOf, gained}
+use Rattle.tao_keeper.specs.declared.jobs.Job.{Job}
 use Rattle.shard_tables.specs.Written.{Gains}
 use Rattle.tao_keeper.specs.Table.{Table, Tables, Becomes, Stays, OpensAs, after_open}
 use Rattle.tao_keeper.specs.declared.keeper.Opened.TheVariants.{Ready, OtherLine}
@@ -35,10 +36,10 @@ sound_same s old new sound stays shard lt =
     let P : Table → Type 0 = λ t. IsSoundOf (types_of s.schema) shard t.log in subst P (sym (stays (store_of s shard))) (sound shard lt)
 
 -- the logs stay sound where one of them gains an entry and stays so
-pub sound_after : (s : Settings) (old new : Tables) (shard : ℕ) (e : Option Entry) → AreSound s old → Gains old new (store_of s shard) e
+pub sound_after : (s : Settings) (old new : Tables) (shard : ℕ) (e : Option Entry) (job : Option Job) → AreSound s old → Gains old new (store_of s shard) e job
     → IsSoundOf (types_of s.schema) shard (new (store_of s shard)).log → AreSound s new
-sound_after s old new shard None sound gains here n lt = sound_same s old new sound gains n lt
-sound_after s old new shard (Some entry) sound gains here n lt = elim (cases_eq n shard) [
+sound_after s old new shard None job sound gains here n lt = sound_same s old new sound gains n lt
+sound_after s old new shard (Some entry) job sound gains here n lt = elim (cases_eq n shard) [
   | inl same ↦ (let P : ℕ → Type 0 = λ k. IsSoundOf (types_of s.schema) k (new (store_of s k)).log in subst P (sym same) here)
   | inr differ ↦ (
       let P : Table → Type 0 = λ t. IsSoundOf (types_of s.schema) n t.log in
@@ -205,17 +206,17 @@ master_gained s shard x y e is grown =
     subst (IsMasterOf s shard) (sym grown) here
 
 -- only the table of that store changes
-other_stays : (old new : Tables) (at other : StoreName) (e : Option Entry) → Gains old new at e → other ≢ at → new other ≡ old other
-other_stays old new at other None gains differ = gains other
-other_stays old new at other (Some entry) gains differ = gains.others other differ
+other_stays : (old new : Tables) (at other : StoreName) (e : Option Entry) (job : Option Job) → Gains old new at e job → other ≢ at → new other ≡ old other
+other_stays old new at other None job gains differ = gains other
+other_stays old new at other (Some entry) job gains differ = gains.others other differ
 
 -- a store has seen its log at the place of one whose table alone changed
-pub seen_set : (tells : Bool) (s : Settings) (old new : Tables) (xs : List Store) (place shard : ℕ) (y : Store) (added : Option Entry) → AreStores s s.shards xs → HaveSeen tells old xs → place ≡ shard
-    → IsStoreOf tells new y → WhereTold tells (Gains old new (store_of s shard) added) → HaveSeen tells new (slice_set xs place y)
-seen_set tells s old new xs place shard y added are seen here is gains n store h = elim (slice_get_set xs place y n store h) [
+pub seen_set : (tells : Bool) (s : Settings) (old new : Tables) (xs : List Store) (place shard : ℕ) (y : Store) (added : Option Entry) (job : Option Job) → AreStores s s.shards xs → HaveSeen tells old xs → place ≡ shard
+    → IsStoreOf tells new y → WhereTold tells (Gains old new (store_of s shard) added job) → HaveSeen tells new (slice_set xs place y)
+seen_set tells s old new xs place shard y added job are seen here is gains n store h = elim (slice_get_set xs place y n store h) [
   | inl e ↦ (
       let named : store.name ≡ store_of s n = (are.each n store e.1).name_is in
       let differ : store.name ≢ store_of s shard = λ same. other_store s n shard (λ k. e.0 (k ∙ sym here)) (sym named ∙ same) in
-      seen_here tells old new store (seen n store e.1) (λ told. other_stays old new (store_of s shard) store.name added (gains told) differ))
+      seen_here tells old new store (seen n store e.1) (λ told. other_stays old new (store_of s shard) store.name added job (gains told) differ))
   | inr e ↦ subst (IsStoreOf tells new) e.1 is
 ]

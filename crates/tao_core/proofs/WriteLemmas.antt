@@ -8,6 +8,8 @@ use Rattle.reply_json.specs.declared.calls.WriteReply.{WriteReply}
 use Rattle.request_check.specs.declared.checked.CheckedWrite.{CheckedWrite}
 use Rattle.shard_tables.specs.StoreView.{Store}
 use Rattle.shard_tables.specs.Stores.{IsStoreOf, gained}
+use Rattle.tao_keeper.specs.declared.jobs.Job.{Job}
+use Rattle.shard_tables.specs.Jobs.{job_with}
 use Rattle.shard_tables.specs.Written.{Answers, Gains, added_entry, shard_of_write}
 use Rattle.shard_tables.specs.declared.refusal.StoreRefusal.{StoreRefusal}
 use Rattle.shard_tables.specs.declared.refusal.StoreRefusal.TheVariants as store
@@ -30,14 +32,15 @@ here_answers s old call schema x r of_s is h =
     let two = subst (λ n. Answers (types_of s.schema) n (old.told x.name).log (origin_of call) call.write r) is.limit_is one in
     subst (λ at. Answers (types_of s.schema) s.log_max (old.told at).log (origin_of call) call.write r) is.name_is two
 
-here_gains : (s : Settings) (old new : Tables) (shard : ℕ) (x : Store) (e : Option Entry) → IsMasterOf s shard x → Gains old new x.name e → Gains old new (store_of s shard) e
-here_gains s old new shard x e is h = subst (λ at. Gains old new at e) is.name_is h
+here_gains : (s : Settings) (old new : Tables) (shard : ℕ) (x : Store) (e : Option Entry) (job : Option Job) → IsMasterOf s shard x → Gains old new x.name e job
+    → Gains old new (store_of s shard) e job
+here_gains s old new shard x e job is h = subst (λ at. Gains old new at e job) is.name_is h
 
 -- a write that was carried out
 pub does_write : (tells : Bool) (s : Settings) (old new : Shown) (call : CheckedWrite) (schema : Schema) (x : Store) (wrote : Wrote) (reply : WriteReply) → schema ≡ s.schema
     → IsMasterOf s (shard_of_write call.write) x
     → WhereTold tells (Answers (types_of schema) x.log_max (old.told x.name).log (origin_of call) call.write (Ok wrote))
-    → WhereTold tells (Gains old.told new.told x.name (added_entry (Ok wrote)))
+    → WhereTold tells (Gains old.told new.told x.name (added_entry (Ok wrote)) (job_with (types_of schema) (added_entry (Ok wrote))))
     → kind_of call.write wrote.entry ≡ Some reply.kind → reply.written ≡ written_of wrote.retry wrote.entry → IsWrite tells s old call reply new
 does_write tells s old new call schema x wrote reply of_s is answer gains kind_is written_is = record {
   entry = wrote.entry;
@@ -45,7 +48,9 @@ does_write tells s old new call schema x wrote reply of_s is answer gains kind_i
   kind_is = kind_is;
   written_is = written_is;
   answers = λ told. here_answers s old call schema x (Ok wrote) of_s is (answer told);
-  gains = λ told. here_gains s old.told new.told (shard_of_write call.write) x (added_entry (Ok wrote)) is (gains told);
+  gains = λ told.
+      let one = subst (λ c. Gains old.told new.told x.name (added_entry (Ok wrote)) (job_with (types_of c) (added_entry (Ok wrote)))) of_s (gains told) in
+      here_gains s old.told new.told (shard_of_write call.write) x (added_entry (Ok wrote)) (job_with (types_of s.schema) (added_entry (Ok wrote))) is one;
 }
 
 -- a write that is refused
@@ -62,14 +67,14 @@ refuses_write tells s old new call schema x (store.StampFull number) of_s is ans
 refuses_write tells s old new call schema x (store.LogFull count) of_s is answer stays cause = (λ told. here_answers s old call schema x (Err (store.LogFull count)) of_s is (answer told), stays)
 
 -- the stores after a call of one of them, which gained an entry or none
-pub stores_after : (tells : Bool) (s : Settings) (old new : Tables) (schema : Schema) (xs : List Store) (place shard : ℕ) (x y : Store) (e : Option Entry) → AreStoresOf tells s old xs
-    → schema ≡ s.schema → place ≡ shard → IsMasterOf s shard x → y ≡ gained x e → IsStoreOf tells new y → WhereTold tells (Gains old new x.name e)
+pub stores_after : (tells : Bool) (s : Settings) (old new : Tables) (schema : Schema) (xs : List Store) (place shard : ℕ) (x y : Store) (e : Option Entry) (job : Option Job) → AreStoresOf tells s old xs
+    → schema ≡ s.schema → place ≡ shard → IsMasterOf s shard x → y ≡ gained x e → IsStoreOf tells new y → WhereTold tells (Gains old new x.name e job)
     → WhereTold tells (IsSoundOf (types_of schema) x.name.shard (new x.name).log) → AreStoresOf tells s new (slice_set xs place y)
-stores_after tells s old new schema xs place shard x y e are of_s here is grown seen gains sound = record {
+stores_after tells s old new schema xs place shard x y e job are of_s here is grown seen gains sound = record {
   masters = stores_set s s.shards xs place shard y are.masters here (master_gained s shard x y e is grown);
   sound = λ told.
       let one = subst (λ c. IsSoundOf (types_of c) x.name.shard (new x.name).log) of_s (sound told) in
-      sound_after s old new shard e (are.sound told) (here_gains s old new shard x e is (gains told))
+      sound_after s old new shard e job (are.sound told) (here_gains s old new shard x e job is (gains told))
       (subst (λ at. IsSoundOf (types_of s.schema) at.shard (new at).log) is.name_is one);
-  seen = seen_set tells s old new xs place shard y e are.masters are.seen here seen (λ told. here_gains s old new shard x e is (gains told));
+  seen = seen_set tells s old new xs place shard y e job are.masters are.seen here seen (λ told. here_gains s old new shard x e job is (gains told));
 }

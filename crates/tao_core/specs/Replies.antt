@@ -1,5 +1,5 @@
 -- What a reply says of what was asked, of the tables before, and of the tables after.
-use Rattle.std.specs.Prelude.{ℕ, ◌≡◌, ◌⊎◌, Bool, true, false, List, [], length, Option, None, Some, Result, Ok, Err, if◌then◌else◌, option_map, ⊤}
+use Rattle.std.specs.Prelude.{ℕ, ◌≡◌, ◌⊎◌, Bool, true, false, List, length, Option, None, Some, Result, Ok, Err, if◌then◌else◌, option_map, ⊤}
 use Rattle.counts.specs.Count.{Rose}
 use Rattle.tao_base.specs.EdgeTypes.{EdgeTypes}
 use Rattle.tao_base.specs.declared.entry.Entry.{Entry}
@@ -36,6 +36,7 @@ use Rattle.request_check.specs.declared.checked.CheckedWrite.{CheckedWrite}
 use Rattle.shard_tables.specs.Fitting.{object_put}
 use Rattle.shard_tables.specs.ReadOuts.{ReadsOut}
 use Rattle.shard_tables.specs.Reads.{Reads}
+use Rattle.shard_tables.specs.Jobs.{job_with}
 use Rattle.shard_tables.specs.Written.{AnswersAs, Gains, IsLogFull, IsReused, IsShardFull, IsStampFull, shard_of_write}
 use Rattle.shard_tables.specs.declared.read_out.ReadOut.{ReadOut}
 use Rattle.shard_tables.specs.declared.refusal.StoreRefusal.{StoreRefusal}
@@ -114,14 +115,15 @@ written_of retry (Some entry) = record { changed = true; inverse = inverse.None;
 abbrev pub gained : Bool → Option Entry → Option Entry
 gained retry entry = if retry then None else entry
 
--- a write that was carried out: its entry is that of the definitions, and the log of its shard gains it, unless it stood there before
+-- a write that was carried out: its entry is that of the definitions, and the log of its shard gains it with its job, unless it stood there before
 pub record IsWrite (tells : Bool) (s : Settings) (old : Shown) (call : CheckedWrite) (reply : WriteReply) (new : Shown) : Type 0 where
   pub entry : Option Entry
   pub retry : Bool
   pub kind_is : kind_of call.write entry ≡ Some reply.kind
   pub written_is : reply.written ≡ written_of retry entry
   pub answers : WhereTold tells (AnswersAs (types_of s.schema) s.log_max (log_of s old.told (shard_of_write call.write)) (origin_of call) call.write retry entry)
-  pub gains : WhereTold tells (Gains old.told new.told (store_of s (shard_of_write call.write)) (gained retry entry))
+  pub gains : WhereTold tells (Gains old.told new.told (store_of s (shard_of_write call.write)) (gained retry entry)
+      (job_with (types_of s.schema) (gained retry entry)))
 
 -- why the store refused a write, which changed no table
 abbrev pub RefusesWrite : EdgeTypes → ℕ → List Entry → CheckedWrite → StoreRefused → Type 0

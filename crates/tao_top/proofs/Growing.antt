@@ -17,6 +17,8 @@ use Rattle.request_check.specs.declared.checked.CheckedRead.{CheckedRead}
 use Rattle.request_check.specs.declared.checked.CheckedWrite.{CheckedWrite}
 use Rattle.request_json.specs.declared.refusal.LineRefusal.{LineRefusal}
 use Rattle.request_json.specs.declared.request.Request.{Request}
+use Rattle.tao_keeper.specs.declared.jobs.Job.{Job}
+use Rattle.shard_tables.specs.Jobs.{job_with}
 use Rattle.shard_tables.specs.Written.{Gains, shard_of_write}
 use Rattle.tao_base.specs.declared.entry.Entry.{Entry}
 use Rattle.tao_base.specs.declared.id.StoreName.{StoreName}
@@ -48,9 +50,9 @@ stays s old new h = record { lines = λ at. ap (λ t. t.line) (h at); others = �
 same : (s : Settings) (old new : Shown) → new ≡ old → OnlyGrow s old.told new.told
 same s old new is = stays s old.told new.told (λ at. ap (λ k. k.told at) is)
 
-gains : (s : Settings) (old new : Tables) (shard : ℕ) (entry : Option Entry) → shard < s.shards → Gains old new (store_of s shard) entry → OnlyGrow s old new
-gains s old new shard None within h = stays s old new h
-gains s old new shard (Some entry) within h = record { lines = λ at. by_store at (same_or_other at (store_of s shard)); others = λ at other. h.others at (other shard within) }
+gains : (s : Settings) (old new : Tables) (shard : ℕ) (entry : Option Entry) (job : Option Job) → shard < s.shards → Gains old new (store_of s shard) entry job → OnlyGrow s old new
+gains s old new shard None job within h = stays s old new h
+gains s old new shard (Some entry) job within h = record { lines = λ at. by_store at (same_or_other at (store_of s shard)); others = λ at other. h.others at (other shard within) }
   where
     by_store : (at : StoreName) → (at ≡ store_of s shard) ⊎ (at ≢ store_of s shard) → (new at).line ≡ (old at).line
     by_store at (inl is) = subst (λ a. (new a).line ≡ (old a).line) (sym is) (ap (λ t. t.line) h.here)
@@ -79,7 +81,7 @@ module _ (tells : Bool) (s : Settings) (old new : Shown) (told : tells ≡ true)
   refused_read (Unsettled shard why) h = absurd h
 
   wrote : (w : CheckedWrite) (reply : Reply) → shard_of_write w.write < s.shards → DoesWrite tells s old w reply new → OnlyGrow s old.told new.told
-  wrote w (Called (called.Write reply)) within h = gains s old.told new.told (shard_of_write w.write) (gained h.retry h.entry) within (h.gains told)
+  wrote w (Called (called.Write reply)) within h = gains s old.told new.told (shard_of_write w.write) (gained h.retry h.entry) (job_with (types_of s.schema) (gained h.retry h.entry)) within (h.gains told)
   wrote w (Refused (Store refused)) within h = refused_write w refused h
   wrote w (Refused (Memory position)) within h = keeps h.tables
   wrote w (Refused (Line refused)) within h = absurd h

@@ -1,5 +1,7 @@
 use Rattle.std.proofs.Common.{Err, ap, sym, subst, ◌∙◌}
 use Rattle.std.specs.Prelude.{slice_index_or}
+use Rattle.tao_schema.specs.Schema.{types_of}
+use Rattle.shard_tables.specs.Jobs.{job_with}
 use Rattle.shard_tables.specs.StoreView.{Store}
 use Rattle.shard_tables.specs.Written.{added_entry, shard_of_write}
 use Rattle.tao_core.specs.Replies.{DoesWrite, refused_as}
@@ -41,7 +43,7 @@ returns-in-Ok-clause-stores g c =
     let store : Store = slice_index_or c.args.stores.now c.from-place.result c.index-stores-place.result in
     let is = master_at c.args.config.now c.args.stores.now c.from-place.result (shard_of_write c.args.call.now.write) c.index-stores-place.result c.requires.stores.masters here c.requires.here.configured in
     stores_after g.K.Keeper.TELLS c.args.config.now (g.K.Keeper.told c.args.keepers.now) (g.K.Keeper.told c.write.new.keeper) c.config.inside.schema c.args.stores.now c.from-place.result
-    (shard_of_write c.args.call.now.write) store c.write.new.self (added_entry c.write.result) c.requires.stores (ap (λ s. s.schema) c.config.view_is) here is c.write.ensures.log c.write.ensures.keeper c.write.ensures.tables
+    (shard_of_write c.args.call.now.write) store c.write.new.self (added_entry c.write.result) (job_with (types_of c.config.inside.schema) (added_entry c.write.result)) c.requires.stores (ap (λ s. s.schema) c.config.view_is) here is c.write.ensures.log c.write.ensures.keeper c.write.ensures.tables
     c.write.ensures.sound
 
 pub returns-in-Err-clause-does : goal.returns-in-Err-clause-does
@@ -61,5 +63,5 @@ returns-in-Err-clause-stores g c =
     let store : Store = slice_index_or c.args.stores.now c.from-place.result c.index-stores-place.result in
     let is = master_at c.args.config.now c.args.stores.now c.from-place.result (shard_of_write c.args.call.now.write) c.index-stores-place.result c.requires.stores.masters here c.requires.here.configured in
     stores_after g.K.Keeper.TELLS c.args.config.now (g.K.Keeper.told c.args.keepers.now) (g.K.Keeper.told c.write.new.keeper) c.config.inside.schema c.args.stores.now c.from-place.result
-    (shard_of_write c.args.call.now.write) store c.write.new.self (added_entry c.write.result) c.requires.stores (ap (λ s. s.schema) c.config.view_is) here is c.write.ensures.log c.write.ensures.keeper c.write.ensures.tables
+    (shard_of_write c.args.call.now.write) store c.write.new.self (added_entry c.write.result) (job_with (types_of c.config.inside.schema) (added_entry c.write.result)) c.requires.stores (ap (λ s. s.schema) c.config.view_is) here is c.write.ensures.log c.write.ensures.keeper c.write.ensures.tables
     c.write.ensures.sound

@@ -5,10 +5,10 @@ use crate::log::Log;
 use counts::Count;
 use std::alloc::Global;
 use tao_base::{AType, EdgeState, Edges, Entry, Id, Key, Object, Origin, OutOfMemory, StoreName};
-use tao_keeper::{Commit, KeepFail, Keeper, MOST_ENTRIES, Opened};
+use tao_keeper::{Commit, Job, KeepFail, Keeper, MOST_ENTRIES, Opened};
 
 /// A keeper of one store, under whatever name, that tells nothing. Its answers are those of the entries that were
-/// committed to it. It fails only where an entry is committed that no log can have.
+/// committed to it; it keeps no jobs. It fails only where an entry is committed that no log can have.
 ///
 /// Each call reads all entries.
 #[derive(Drop)]
@@ -135,6 +135,21 @@ impl Keeper for SilentKeeper {
     fn origin(&mut self, _: StoreName, origin: Origin) -> Result<Option<u64>, KeepFail> {
         self.calls.rise();
         Ok(self.log.position_of(origin))
+    }
+
+    fn first_job(&mut self, _: StoreName) -> Result<Option<Job>, KeepFail> {
+        self.calls.rise();
+        Ok(None)
+    }
+
+    fn job(&mut self, _: StoreName, _: u64) -> Result<Option<Job>, KeepFail> {
+        self.calls.rise();
+        Ok(None)
+    }
+
+    fn end_job(&mut self, _: StoreName, _: u64) -> Result<(), KeepFail> {
+        self.calls.rise();
+        Ok(())
     }
 
     fn commit(&mut self, _: StoreName, commit: &Commit) -> Result<(), KeepFail> {

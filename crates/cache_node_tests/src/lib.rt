@@ -2,6 +2,7 @@
 //! fill that races with messages.
 #![tactic(auto)]
 
+#[cfg(test)]
 mod rig;
 #[cfg(test)]
 mod tests;

@@ -12,8 +12,6 @@ ghost use Rattle.std.specs.Prelude.{◌≡◌, ◌+◌, ◌↔◌, [], find as f
 
 pub mod ask;
 pub mod laws;
-#[cfg(test)]
-mod tests;
 
 pub use ask::{Ask, AskNo};
 use std::alloc::Global;

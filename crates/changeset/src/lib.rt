@@ -4,7 +4,5 @@
 
 mod changeset;
 pub mod laws;
-#[cfg(test)]
-mod tests;
 
 pub use changeset::Changeset;

@@ -12,6 +12,3 @@ mod types;
 
 pub use config::read_config;
 pub use refusal::ConfigRefusal;
-
-#[cfg(test)]
-mod tests;

@@ -22,8 +22,6 @@ mod entry_fields;
 mod reader;
 mod refusal;
 mod spelled;
-#[cfg(test)]
-mod tests;
 mod touch_fields;
 mod writing;
 

@@ -247,28 +247,3 @@ pub fn name_of(value: &Value) -> Option<&str>
     let text = value.as_str()?;
     is_name(text).then_some(text)
 }
-
-#[cfg(test)]
-mod tests {
-    use super::*;
-    use std::test::Fail;
-
-    #[test]
-    fn members_are_found_by_name_and_kind(rt: HostRuntime) -> Result<(), Fail> {
-        let text = r#"{"b":1,"z":"text","Z":null,"m":65537}"#;
-        let value = Value::from_str(rt.alloc(), text)?;
-        assert_eq!(rt; strange_at(&value, &["b"]), Some("Z"));
-        assert_eq!(rt; strange_at(&value, &["Z", "z", "m", "b", "a"]), None);
-        assert_eq!(rt; number_or(&value, "a", 9, 1, 1), Some(9));
-        assert_eq!(rt; number_or(&value, "b", 9, 2, 3), None);
-        assert_eq!(rt; short_or(&value, "m", 9, 1, u16::MAX), None);
-        assert_eq!(rt; maybe_text_at(&value, "z"), Some(Some("text")));
-        assert_eq!(rt; maybe_text_at(&value, "Z"), None);
-        assert_eq!(rt; maybe_text_at(&value, "a"), Some(None));
-        assert_eq!(rt; maybe_small_at(&value, "m", 65538), None);
-        assert_eq!(rt; maybe_number_at(&value, "a", 1, 2), Some(None));
-        assert_eq!(rt; maybe_id_at(&value, "b").is_some(), true);
-        assert_eq!(rt; object_at(&value, "b").is_none(), true);
-        Ok(())
-    }
-}

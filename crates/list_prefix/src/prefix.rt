@@ -14,9 +14,6 @@ use crate::fronts::shortest_front;
 use std::marker::Model;
 use tao_base::{Answer, Change, Edge, Edges, OutOfMemory, Query};
 
-#[cfg(test)]
-mod tests;
-
 /// What a prefix says to a query of its list.
 #[derive(Debug, Drop)]
 pub enum Verdict {

@@ -10,8 +10,6 @@ ghost use Rattle.std.specs.Prelude.{◌≡◌, ℕ, ◌≤◌, [], IfOk, IsTrue}
 
 pub mod laws;
 mod ring;
-#[cfg(test)]
-mod tests;
 
 use ring::{Ring, WINDOW};
 use std::alloc::Global;

@@ -27,6 +27,3 @@ pub use refusals::{
     UnsettledWhy, When,
 };
 pub use reply::{Reply, bad_configuration_text, reply_text};
-
-#[cfg(test)]
-mod tests;

@@ -11,8 +11,6 @@ mod names;
 mod nodes;
 mod refusal;
 mod request;
-#[cfg(test)]
-mod tests;
 
 pub use checked::{Checked, CheckedCall, CheckedRead, CheckedWrite, LeaderPlace, LinkPlace};
 pub use refusal::CheckRefusal;

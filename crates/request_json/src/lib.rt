@@ -8,8 +8,6 @@ mod plans;
 mod read;
 mod refusal;
 mod request;
-#[cfg(test)]
-mod tests;
 mod word;
 
 pub use read::read_request;

@@ -5,8 +5,6 @@
 mod content;
 mod fill;
 pub mod laws;
-#[cfg(test)]
-mod tests;
 
 pub use content::Content;
 pub use fill::Fill;

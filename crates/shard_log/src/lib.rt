@@ -10,8 +10,6 @@ pub mod growth;
 mod note;
 mod pen;
 mod rule;
-#[cfg(test)]
-mod tests;
 
 pub use note::Note;
 pub use pen::{Pen, ShardLog};

@@ -4,8 +4,6 @@
 mod link;
 mod planned;
 mod steady;
-#[cfg(test)]
-mod tests;
 
 pub use link::{Carry, Link, LinkFailed};
 pub use planned::PlannedLink;

@@ -17,6 +17,3 @@ pub use lines::{AssocLine, MAX_BOUND};
 pub use objects::ObjectTypes;
 pub use refusal::{SchemaField, SchemaRefusal};
 pub use schema::Schema;
-
-#[cfg(test)]
-mod tests;

@@ -19,6 +19,3 @@ pub use masters::Masters;
 pub use name::Name;
 pub use regions::{Region, Regions};
 pub use tiers::{Tier, Tiers};
-
-#[cfg(test)]
-mod tests;

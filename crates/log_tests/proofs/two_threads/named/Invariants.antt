@@ -1,4 +1,4 @@
-use Rattle.shard_log.proofs.tests.two_threads.named.Given as goal
+use Rattle.log_tests.proofs.two_threads.named.Given as goal
 
 -- the log that was just made
 abbrev pub ghosts-add_both : goal.ghosts-add_both

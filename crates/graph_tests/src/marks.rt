@@ -1,5 +1,5 @@
 //! A worked example, and a call of each kind.
-use super::LowWater;
+use low_water::LowWater;
 use std::test::Fail;
 
 #[test]

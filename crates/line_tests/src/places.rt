@@ -1,8 +1,8 @@
 //! That the rules are those that are meant, and that lists that keep them are taken.
-use super::{Masters, Name, Region, Regions, Tier, Tiers};
 use std::alloc::{AllocError, Global};
 use std::test::Fail;
 use tao_base::Text;
+use topology::{Masters, Name, Region, Regions, Tier, Tiers};
 
 fn name(alloc: Global, text: &str) -> Result<Option<Name>, AllocError> {
     Ok(Name::read(Text::copy_of(alloc, text)?))

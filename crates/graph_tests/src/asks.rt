@@ -1,5 +1,5 @@
 //! A call of each kind.
-use super::{AskTable, MAX_ASKS};
+use ask_table::{AskTable, MAX_ASKS};
 use std::test::Fail;
 use tao_base::{AType, Id, Key};
 

@@ -1,7 +1,8 @@
+//! What the first edges of a list hold after changes, and what they answer.
 ghost use Rattle.std.specs.Prelude.{IfOk};
 ghost use Rattle.list_prefix.specs.Verdicts.{IsOfList};
 
-use super::{Prefix, Verdict};
+use list_prefix::{Prefix, Verdict};
 use std::alloc::Global;
 use std::test::Fail;
 use tao_base::{AType, Answer, Change, Data, Edge, Edges, Id, IdSet, Query, Stamp, Time};

@@ -1,57 +1,14 @@
-ghost use Rattle.std.specs.Prelude.{◌≡◌, [], false, IfOk};
-ghost use Rattle.graph_model.specs.WriteLaws.{plain_add};
+//! Fills of a told log and of one that is not.
+ghost use Rattle.std.specs.Prelude.{◌≡◌, [], false};
 ghost use Rattle.sealed_item.specs.Fills.{sealed_item};
 
-use crate::laws::beginnings_are_sealed;
-use crate::{Content, Fill};
+use crate::given::{LIKES, first_edge, id, untold_note};
 use list_prefix::Prefix;
+use sealed_item::laws::beginnings_are_sealed;
+use sealed_item::{Content, Fill};
 use shard_log::{Note, ShardLog};
-use std::alloc::{AllocError, Global};
 use std::test::Fail;
-use tao_base::{
-    AType, Change, Data, Edge, Edges, Entry, Id, Key, Kind, Origin, OutOfMemory, Stamp, Touch,
-    Touches,
-};
-
-const LIKES: AType = AType(0);
-
-fn id(number: u64) -> Result<Id, &'static str> {
-    Id::read(number).ok_or("an id")
-}
-
-/// The entry that adds an edge to an empty log.
-fn first_edge(alloc: Global, id1: Id, id2: Id) -> Result<Entry, AllocError>
-    ensures { IfOk result (λ entry. entry ≡ plain_add [] (Origin.Client 1 1) id1 LIKES id2 5 []) }
-{
-    let edge = Edge {
-        id2,
-        time: 5,
-        payload: Data::empty(alloc),
-        stamp: Stamp {
-            number: 1,
-            shard: id1.shard(),
-        },
-    };
-    let touch = Touch {
-        key: Key::List(id1, LIKES),
-        change: Change::SetEdge { edge, was: None },
-        version: 1,
-    };
-    Ok(Entry {
-        position: 1,
-        kind: Kind::AssocAdd,
-        origin: Origin::Client { session: 1, seq: 1 },
-        touches: Touches::of(vec![in alloc; touch]?),
-    })
-}
-
-/// A note of a log that isn't told.
-fn untold_note(alloc: Global) -> Result<Note, OutOfMemory>
-    ensures { IfOk result (λ note. note.log.told ≡ false) }
-{
-    let mut pen = ShardLog::make(alloc, Vec::new(alloc), false)?;
-    pen.note()
-}
+use tao_base::{Edges, Id, Key};
 
 /// Of a log that isn't told, a fill says nothing.
 fn sealed(key: Key, version: u64, as_of: u64, content: Content, note: Note) -> Fill

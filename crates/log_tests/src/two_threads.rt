@@ -3,8 +3,8 @@ ghost use Rattle.std.specs.Prelude.{◌≡◌, false, Some, IfSome, OnSome};
 ghost use Rattle.graph_model.specs.Merges.{entry_at};
 ghost use Rattle.shard_log.specs.View.{Begins, Grows};
 
-use super::{first_edge, id};
-use crate::{Note, Pen, ShardLog};
+use crate::given::{first_edge, id};
+use shard_log::{Note, Pen, ShardLog};
 use std::marker::{Brand, Model, PhantomData};
 use std::sync::{Mutex, Wait};
 use std::test::Fail;

@@ -1,8 +1,8 @@
 //! What no clause shows: that the answers come, and that the rules are those that are meant.
-use super::{AssocLine, Schema, SchemaField, SchemaRefusal};
 use std::alloc::{AllocError, Global};
 use std::test::Fail;
 use tao_base::{AType, OType, Text};
+use tao_schema::{AssocLine, Schema, SchemaField, SchemaRefusal};
 
 /// The names in a text, a comma between two.
 fn names(alloc: Global, text: &str) -> Result<Vec<Text>, AllocError> {

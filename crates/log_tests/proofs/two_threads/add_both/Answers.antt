@@ -1,7 +1,7 @@
 use Rattle.std.proofs.Common.{◌∙◌, ap, sym}
 use Rattle.graph_model.specs.Merges.{entry_at}
 use Rattle.shard_log.proofs.GrowthLemmas.{entry_stays}
-use Rattle.shard_log.proofs.tests.two_threads.add_both.Goals as goal
+use Rattle.log_tests.proofs.two_threads.add_both.Goals as goal
 
 pub returns-clause-first : goal.returns-clause-first
 returns-clause-first g c =

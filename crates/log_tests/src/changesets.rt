@@ -1,63 +1,14 @@
-ghost use Rattle.std.specs.Prelude.{◌≡◌, ◌<◌, [], false, length, IfOk};
-ghost use Rattle.tao_base.specs.Ids.{shard_of};
-ghost use Rattle.graph_model.specs.WriteLaws.{plain_add};
+//! Changesets of a told log and of one that is not.
+ghost use Rattle.std.specs.Prelude.{◌≡◌, ◌<◌, length, IfOk};
 
-use crate::Changeset;
-use shard_log::{Note, ShardLog};
+use crate::given::{LIKES, first_edge, id, set_touch, stamp, untold_note};
+use changeset::Changeset;
+use shard_log::ShardLog;
 use std::alloc::{AllocError, Global};
 use std::test::Fail;
-use tao_base::{
-    AType, Change, Data, Edge, Entry, Id, Key, Kind, Origin, OutOfMemory, Stamp, Touch, Touches,
-};
-
-const LIKES: AType = AType(0);
+use tao_base::{AType, Change, Entry, Id, Key, Kind, Origin, OutOfMemory, Touch, Touches};
 
 const FOLLOWS: AType = AType(1);
-
-fn id(number: u64) -> Result<Id, &'static str> {
-    Id::read(number).ok_or("an id")
-}
-
-fn stamp(id1: Id) -> Stamp
-    ensures { result ≡ record { number = 1; shard = shard_of id1 } }
-{
-    Stamp {
-        number: 1,
-        shard: id1.shard(),
-    }
-}
-
-/// The touch that sets an edge of a list that has none yet.
-fn set(alloc: Global, id1: Id, atype: AType, id2: Id) -> Touch
-    ensures key { result.key ≡ Key.List id1 atype }
-    ensures change { result.change ≡ Change.SetEdge (record { id2 = id2; time = 5; payload = []; stamp = record { number = 1; shard = shard_of id1 } }) None }
-    ensures version { result.version ≡ 1 }
-{
-    let edge = Edge {
-        id2,
-        time: 5,
-        payload: Data::empty(alloc),
-        stamp: stamp(id1),
-    };
-    Touch {
-        key: Key::List(id1, atype),
-        change: Change::SetEdge { edge, was: None },
-        version: 1,
-    }
-}
-
-/// The entry that adds an edge to an empty log.
-fn first_edge(alloc: Global, id1: Id, id2: Id) -> Result<Entry, AllocError>
-    ensures { IfOk result (λ entry. entry ≡ plain_add [] (Origin.Client 1 1) id1 LIKES id2 5 []) }
-{
-    let touch = set(alloc, id1, LIKES, id2);
-    Ok(Entry {
-        position: 1,
-        kind: Kind::AssocAdd,
-        origin: Origin::Client { session: 1, seq: 1 },
-        touches: Touches::of(vec![in alloc; touch]?),
-    })
-}
 
 /// An entry that moves an edge: the third that touches the list that it leaves, and the first at the other.
 fn moved_edge(alloc: Global, id1: Id, id2: Id) -> Result<Entry, AllocError>
@@ -72,21 +23,13 @@ fn moved_edge(alloc: Global, id1: Id, id2: Id) -> Result<Entry, AllocError>
         },
         version: 3,
     };
-    let set = set(alloc, id1, FOLLOWS, id2);
+    let set = set_touch(alloc, id1, FOLLOWS, id2);
     Ok(Entry {
         position: 3,
         kind: Kind::AssocChangeType,
         origin: Origin::Client { session: 1, seq: 3 },
         touches: Touches::of(vec![in alloc; cut, set]?),
     })
-}
-
-/// A note of a log that isn't told.
-fn untold_note(alloc: Global) -> Result<Note, OutOfMemory>
-    ensures { IfOk result (λ note. note.log.told ≡ false) }
-{
-    let mut pen = ShardLog::make(alloc, Vec::new(alloc), false)?;
-    pen.note()
 }
 
 /// Of a log that isn't told, a changeset may be of any entry.

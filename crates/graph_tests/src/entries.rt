@@ -1,6 +1,6 @@
 //! Bytes from outside: the entry of one add and what is refused near it, each kind and each tag once
 //! there and back, and what is made of pairs and of ids.
-use super::*;
+use entry_codec::{EntryRefusal, Spelled};
 use std::test::Fail;
 use tao_base::{Data, DataRefusal, Entry, Id, IdSet, Kind};
 

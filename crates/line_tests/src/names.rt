@@ -1,6 +1,6 @@
 //! Which refusal comes first, and which places are found.
-use super::{CheckRefusal, Checked, LeaderPlace, check};
 use node_name::NodeName;
+use request_check::{CheckRefusal, Checked, LeaderPlace, check};
 use std::alloc::Global;
 use std::test::Fail;
 use tao_base::{Bytes, Text};

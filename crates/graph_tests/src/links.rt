@@ -1,7 +1,8 @@
-use crate::{Carry, Link, LinkFailed, PlannedLink, SteadyLink};
+//! Carries there and back.
 use node_name::NodeName;
 use std::test::Fail;
 use tao_base::StoreName;
+use tao_link::{Carry, Link, LinkFailed, PlannedLink, SteadyLink};
 
 const STORE: NodeName = NodeName::Store(StoreName {
     region: 0,

@@ -1,12 +1,12 @@
 //! That the texts of replies are those that are meant.
-use super::{
+use node_name::NodeName;
+use reply_json::{
     CacheReply, CallReply, DeliveryKind, HealthKind, InverseEnd, KeptOrNot, Lengths, LineRefused,
     LinkKind, Message, Messages, NameRefused, NodeRefused, NodeReply, NotKept, NotKeptWhy,
     PlanKind, PlanRefused, PlanReply, ReadKind, ReadReply, Refusal, Reply, ScheduledWhy,
     SessionRefused, Shown, ShownItem, Stage, StoreRefused, StreamVerdict, UnsettledWhy, When,
     WriteKind, WriteReply, Written, bad_configuration_text, reply_text,
 };
-use node_name::NodeName;
 use std::alloc::Global;
 use std::process::Abort;
 use std::test::Fail;

@@ -18,16 +18,26 @@ const LIKED_BY: AType = AType(1);
 /// An id of the shard of the other ends.
 const FAR: u64 = (1 << 48) + 1;
 
-/// The job of one write to an edge: its entry's position, the number of its stamp, and the time where it sets the edge.
+/// The job of one write to an edge: its entry's position, the number of its stamp, and the time and the name where it
+/// sets the edge.
 #[derive(Clone, Copy)]
 struct Due {
     position: u64,
     number: u64,
-    time: Option<Time>,
+    set: Option<(Time, &'static str)>,
 }
 
 fn id(number: u64) -> Result<Id, &'static str> {
     Id::read(number).ok_or("an id")
+}
+
+/// Data with this name.
+fn named(alloc: Global, name: &str) -> Result<Data, Fail> {
+    let name = (
+        String::from_str(alloc, "name")?,
+        String::from_str(alloc, name)?,
+    );
+    Ok(Data::of_pairs(alloc, vec![in alloc; name]?)?)
 }
 
 /// The record that the job has of the edge.
@@ -36,10 +46,10 @@ fn due_end(alloc: Global, due: Due) -> Result<JobEdge, Fail> {
         number: due.number,
         shard: 0,
     };
-    let state = match due.time {
-        Some(time) => EdgeState::Live {
+    let state = match due.set {
+        Some((time, name)) => EdgeState::Live {
             time,
-            payload: Data::empty(alloc),
+            payload: named(alloc, name)?,
             stamp,
         },
         None => EdgeState::Cut { stamp },
@@ -73,14 +83,16 @@ fn merge(
     }
 }
 
-/// The stamp's number and the time of the edge's record, where it has one.
-fn found(keeper: &mut MapKeeper) -> Result<Option<(u64, Option<Time>)>, Fail> {
+/// The edge's record, as text.
+fn found(alloc: Global, keeper: &mut MapKeeper) -> Result<String, Fail> {
     let found = keeper.edge(THERE, id(FAR)?, LIKED_BY, id(1)?)?;
-    Ok(match &found {
-        Some(EdgeState::Live { time, stamp, .. }) => Some((stamp.number, Some(*time))),
-        Some(EdgeState::Cut { stamp }) => Some((stamp.number, None)),
-        None => None,
-    })
+    Ok(format!(in alloc; "{found:?}")?)
+}
+
+/// The record of the job, as text.
+fn text_of(alloc: Global, due: Due) -> Result<String, Fail> {
+    let state = Some(due_end(alloc, due)?.3);
+    Ok(format!(in alloc; "{state:?}")?)
 }
 
 /// Merges jobs in their order on an empty store, and compares the entry that came of each, and the record that is left.
@@ -100,7 +112,8 @@ fn assert_merges(
         let position = merge(alloc, &mut keeper, &mut store, *due)?;
         assert_eq!(rt; position, *expected, "the job of entry {}", due.position);
     }
-    assert_eq!(rt; found(&mut keeper)?, Some((left.number, left.time)));
+    let expected = text_of(alloc, left)?;
+    assert_eq!(rt; found(alloc, &mut keeper)?.as_str(), expected.as_str());
     Ok(())
 }
 
@@ -108,20 +121,20 @@ fn assert_merges(
 const SET: Due = Due {
     position: 3,
     number: 1,
-    time: Some(5),
+    set: Some((5, "x")),
 };
 
 const SET_AGAIN: Due = Due {
     position: 4,
     number: 2,
-    time: Some(7),
+    set: Some((7, "y")),
 };
 
 /// And cut.
 const CUT: Due = Due {
     position: 6,
     number: 3,
-    time: None,
+    set: None,
 };
 
 #[test]

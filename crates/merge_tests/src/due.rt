@@ -41,7 +41,7 @@ fn is_new(keeper: &mut MapKeeper, position: u64) -> Result<bool, KeepFail>
 
 /// Whether the job of the position is new, or its record is there.
 pub(crate) fn is_due(keeper: &mut MapKeeper, position: u64, end: &JobEdge) -> Result<bool, KeepFail>
-    ensures due { IfOk result (λ due. IsTrue due → IsNewOrigin (told_by keeper.old THERE).log (Merge 0 position) ⊎ HasStamp (told_by keeper.old THERE).log end.now) }
+    ensures is { IfOk result (λ d. IsTrue d → IsNewOrigin (told_by keeper.old THERE).log (Merge 0 position) ⊎ HasStamp (told_by keeper.old THERE).log end.now) }
     ensures stays { Stays (told_by keeper.old) (told_by keeper.new) }
 {
     if is_new(keeper, position)? {

@@ -7,9 +7,23 @@ use crate::narrow::NarrowSink;
 use keeper_map::{Fails, MapKeeper};
 use script_text::{Run, Script, Unread, describe, fault_of, read};
 use std::alloc::{AllocError, Global};
-use tao_io::{MemorySink, MemorySource, Sink, Status};
+use tao_io::{MemorySink, MemorySource, Sink, Source, Status};
 
-/// The status of a run over the keeper, which writes to this sink. Another run may follow.
+/// The status of a run over the keeper, after which another may follow.
+fn run_kept<R: Source, S: Sink>(
+    alloc: Global,
+    words: &[String],
+    input: &mut R,
+    output: &mut S,
+    keeper: &mut MapKeeper,
+) -> Status
+    requires { AreKept (told_by keeper.old) }
+    ensures { AreKept (told_by keeper.new) }
+{
+    tao_top::run(alloc, words, input, output, keeper)
+}
+
+/// The status of a run of a script, which writes to this sink.
 fn run_over<S: Sink>(
     alloc: Global,
     keeper: &mut MapKeeper,
@@ -21,7 +35,7 @@ fn run_over<S: Sink>(
 {
     let input = run.input.as_bytes().to_vec(alloc)?;
     let mut source = MemorySource::of(input, run.takes.to_vec(alloc)?);
-    Ok(tao_top::run(alloc, &run.words, &mut source, output, keeper))
+    Ok(run_kept(alloc, &run.words, &mut source, output, keeper))
 }
 
 /// What is said of how a run ended, or nothing where it is right.

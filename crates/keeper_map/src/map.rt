@@ -1,14 +1,13 @@
 //! The keeper in memory.
 ghost use Rattle.std.specs.Prelude.{◌≡◌, ◌≤◌, ◌<◌, IfOk, IfSome, drop, length, option_copied, take};
 ghost use Rattle.graph_model.specs.Edges.{edge_list, edge_record, number_of};
-ghost use Rattle.graph_model.specs.Log.{object, version};
-ghost use Rattle.graph_model.specs.Merges.{entry_at};
+ghost use Rattle.graph_model.specs.Log.{object, version, entry_at, additions};
 ghost use Rattle.graph_model.specs.Soundness.{CanFollow};
 ghost use Rattle.tao_base.specs.declared.id.StoreName.{StoreName as Store};
 ghost use Rattle.tao_keeper.specs.Given.{AreGiven, HaveSmallStamps, IsGivenEntry, IsGivenJob, IsPosition};
 ghost use Rattle.keeper_map.specs.MapKeeper.{plan_of, told_by};
 ghost use Rattle.keeper_map.specs.Plan.{CallsAsPlanned, CommitsAsPlanned, from_one};
-ghost use Rattle.tao_keeper.specs.Table.{Changes, IsFirstJob, IsJobAt, OpensAs, StandsAt, Stays, additions, after_commit, after_end, after_open, empty_table};
+ghost use Rattle.tao_keeper.specs.Table.{Changes, IsFirstJob, IsJobAt, OpensAs, StandsAt, Stays, after_commit, after_end, after_open, empty_table};
 
 use crate::log;
 use crate::plan::{Fails, FaultPlan};

@@ -1,7 +1,7 @@
 ghost use Rattle.std.specs.Prelude.{◌≡◌, ◌∷◌, [], IfOk, IfSome, None};
 ghost use Rattle.tao_base.specs.Ids.{shard_of};
 ghost use Rattle.graph_model.specs.Soundness.{CanFollow};
-ghost use Rattle.graph_model.specs.WriteLaws.{plain_add};
+ghost use Rattle.write_model.specs.WriteLaws.{plain_add};
 ghost use Rattle.tao_keeper.specs.Given.{HaveSmallStamps, IsGivenJob};
 ghost use Rattle.tao_keeper.specs.Table.{Stays, empty_table};
 ghost use Rattle.keeper_map.specs.MapKeeper.{told_by};

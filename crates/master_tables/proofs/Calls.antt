@@ -7,12 +7,12 @@ use Rattle.tao_base.specs.EdgeTypes.{EdgeTypes}
 use Rattle.tao_base.specs.declared.entry.Entry.{Entry}
 use Rattle.tao_base.specs.declared.entry.Origin.{Origin}
 use Rattle.tao_base.specs.declared.write.Write.{Write}
-use Rattle.graph_model.proofs.OpenJobs.{open_jobs_are_owed}
-use Rattle.graph_model.specs.Machine.{Gains, Owed}
-use Rattle.graph_model.specs.Merges.{HasJob, job_of, log_of, merge_of}
+use Rattle.write_model.proofs.OpenJobs.{open_jobs_are_owed}
+use Rattle.write_model.specs.Machine.{Gains, Owed}
+use Rattle.write_model.specs.Merges.{HasJob, job_of, log_of, merge_of}
 use Rattle.graph_model.specs.Soundness.{EdgeUpdate}
-use Rattle.graph_model.specs.Steps.{CommitsWithJob, EndsJob, IsOwed, JobBecomes, JobsStay, MergesJob, opened_job}
-use Rattle.graph_model.specs.Writes.{forward_entry}
+use Rattle.write_model.specs.Steps.{CommitsWithJob, EndsJob, IsOwed, JobBecomes, JobsStay, MergesJob, opened_job}
+use Rattle.write_model.specs.Writes.{forward_entry}
 use Rattle.tao_keeper.specs.Table.{Becomes, Stays, Table, Tables, after_commit, after_end, job_from, with_opened}
 use Rattle.master_tables.proofs.Each.{each_at, each_length, each_same, each_set}
 use Rattle.master_tables.specs.Laws.{CallsAreSteps, FirstJobsAreFirst, TableLaws, TablesAreStores}

@@ -4,11 +4,11 @@ use Rattle.tao_base.specs.EdgeTypes.{EdgeTypes}
 use Rattle.tao_base.specs.declared.entry.Entry.{Entry}
 use Rattle.tao_base.specs.declared.entry.Origin.{Origin}
 use Rattle.tao_base.specs.declared.write.Write.{Write}
-use Rattle.graph_model.specs.Machine.{IsFirstJob, Owed}
-use Rattle.graph_model.specs.Merges.{HasJob, job_of, log_of, merge_of}
+use Rattle.write_model.specs.Machine.{IsFirstJob, Owed}
+use Rattle.write_model.specs.Merges.{HasJob, job_of, log_of, merge_of}
 use Rattle.graph_model.specs.Soundness.{EdgeUpdate}
-use Rattle.graph_model.specs.Steps.{AreSoundAndCovered, CommitsWithJob, EndsJob, IsJobOf, IsOwed, JobsStay, MergesJob}
-use Rattle.graph_model.specs.Writes.{forward_entry}
+use Rattle.write_model.specs.Steps.{AreSoundAndCovered, CommitsWithJob, EndsJob, IsJobOf, IsOwed, JobsStay, MergesJob}
+use Rattle.write_model.specs.Writes.{forward_entry}
 use Rattle.tao_keeper.specs.Table.{Becomes, Stays, Tables, IsFirstJob as IsFirst, after_commit, after_end, job_from}
 use Rattle.tao_keeper.specs.declared.jobs.Job.{Job}
 use Rattle.master_tables.specs.Masters.{Masters, stores_of}

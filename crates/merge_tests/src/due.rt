@@ -1,7 +1,7 @@
 //! Jobs of one record, and whether they may be merged.
 ghost use Rattle.std.specs.Prelude.{◌≡◌, ◌<◌, ◌⊎◌, [], ◌∷◌, IfOk, IsTrue};
-ghost use Rattle.graph_model.specs.Merges.{HasStamp};
-ghost use Rattle.graph_model.specs.WriteLaws.{IsNewOrigin};
+ghost use Rattle.graph_model.specs.Records.{HasStamp};
+ghost use Rattle.graph_model.specs.Soundness.{IsNewOrigin};
 ghost use Rattle.keeper_map.specs.MapKeeper.{told_by};
 ghost use Rattle.tao_base.specs.Ids.{shard_of};
 ghost use Rattle.tao_base.specs.Stamps.{stamp_of};

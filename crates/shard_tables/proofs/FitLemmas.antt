@@ -21,7 +21,8 @@ use Rattle.tao_base.specs.declared.id.Key.TheVariants.{Obj, List as Assocs}
 use Rattle.tao_base.specs.declared.write.Write.{Write}
 use Rattle.tao_base.specs.declared.write.Write.TheVariants.{ObjAdd, ObjUpdate, ObjDelete, AssocAdd, AssocDelete, AssocChangeType}
 use Rattle.graph_model.proofs.Lists.{eqb-self, eqb-same}
-use Rattle.graph_model.specs.Writes.{FitsWrite, Names, kind_of}
+use Rattle.write_model.specs.Writes.{FitsWrite, Names}
+use Rattle.tao_base.specs.Writes.{write_kind}
 use Rattle.shard_tables.specs.Fitting.{cuts, drops, is_list, names, puts, same_data, same_pair, sets}
 
 -- records of their parts
@@ -202,7 +203,7 @@ agree_more ps qs n m p q agree first second same is k d lt =
     below_more (λ j. (e : Pair) → get_or ps j e ≡ get_or qs j e) n (λ j h e. agree j e h) (λ e. sym (first e) ∙ (pair_decides p q).0 same ∙ second e) k (omega arith) d
 
 -- an entry of the write's kind fits it where the test holds of its touches
-pub fits_is : (e : Entry) (write : Write) (ts : List Touch) (b : Bool) → e.kind ≡ kind_of write → ts ≡ e.touches → b ≡ names write ts
+pub fits_is : (e : Entry) (write : Write) (ts : List Touch) (b : Bool) → e.kind ≡ write_kind write → ts ≡ e.touches → b ≡ names write ts
     → (IsTrue b → FitsWrite e write) × (FitsWrite e write → IsTrue b)
 fits_is e write ts b kind is h = (
   λ x. record { kind_is = kind; named = names_is write e.touches (ap (names write) (sym is) ∙ sym h ∙ x) },

@@ -14,10 +14,10 @@ use Rattle.tao_base.specs.declared.entry.Change.{Change}
 use Rattle.tao_base.specs.declared.entry.Change.TheVariants.{PutObject, DropObject, SetEdge, CutEdge}
 use Rattle.tao_base.specs.declared.id.Key.{Key}
 use Rattle.tao_base.specs.declared.id.Key.TheVariants.{Obj, List as Assocs}
-use Rattle.graph_model.proofs.BothEnds.{other_end_is, when_some}
+use Rattle.write_model.proofs.BothEnds.{other_end_is, when_some}
 use Rattle.graph_model.proofs.Members.{All-from_in, All-in, in_filter_map_parts}
 use Rattle.graph_model.specs.Edges.{number_of, state_left, state_of}
-use Rattle.graph_model.specs.Writes.{is_near}
+use Rattle.write_model.specs.Writes.{is_near}
 use Rattle.graph_model.specs.Soundness.{EdgeUpdate, other_end, update_at}
 use Rattle.tao_keeper.specs.Given.{HaveSmallRecords, HaveSmallStamps}
 use Rattle.tao_keeper.specs.Table.{job_from}

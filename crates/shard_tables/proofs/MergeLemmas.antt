@@ -10,11 +10,12 @@ use Rattle.tao_base.specs.declared.entry.Kind.TheVariants.{Merge as Merged}
 use Rattle.tao_base.specs.declared.entry.Origin.TheVariants.{Merge}
 use Rattle.tao_base.specs.declared.entry.Touch.{Touch}
 use Rattle.tao_base.specs.declared.id.StoreName.{StoreName}
-use Rattle.graph_model.proofs.MergeOf.{merges_follow, merges_none}
-use Rattle.graph_model.specs.MergeLaws.{MayBeMerged}
-use Rattle.graph_model.specs.Merges.{HasStamp, is_news, merge_of}
+use Rattle.write_model.proofs.MergeOf.{merges_follow, merges_none}
+use Rattle.write_model.specs.MergeLaws.{MayBeMerged}
+use Rattle.graph_model.specs.Records.{HasStamp, is_news}
+use Rattle.write_model.specs.Merges.{merge_of}
 use Rattle.graph_model.specs.Soundness.{CanFollow, EdgeUpdate, IsSound, IsSoundOf}
-use Rattle.graph_model.specs.Writes.{edge_touch, next_entry}
+use Rattle.write_model.specs.Writes.{edge_touch, next_entry}
 use Rattle.tao_keeper.specs.Table.{Becomes, Stays, Table, Tables, after_commit}
 use Rattle.shard_tables.proofs.JobLemmas.{more}
 use Rattle.shard_tables.specs.Edges.{news_touch}

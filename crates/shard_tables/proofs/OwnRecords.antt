@@ -11,7 +11,7 @@ use Rattle.tao_base.specs.declared.write.Write.{Write}
 use Rattle.tao_base.specs.declared.write.Write.TheVariants.{AssocAdd, AssocDelete, AssocChangeType}
 use Rattle.graph_model.specs.Edges.{edge_record}
 use Rattle.graph_model.specs.Soundness.{EdgeUpdate}
-use Rattle.graph_model.specs.Writes.{next_stamp, own_updates}
+use Rattle.write_model.specs.Writes.{next_stamp, own_updates}
 use Rattle.tao_keeper.specs.Table.{Table}
 use Rattle.shard_tables.specs.Edges.{cut_over, move_over, stamp_after}
 

@@ -16,7 +16,7 @@ use Rattle.tao_base.specs.declared.write.Write.TheVariants.{ObjAdd, ObjUpdate, O
 use Rattle.graph_model.proofs.Lists.{or_false}
 use Rattle.graph_model.specs.Edges.{edge_record, number_of}
 use Rattle.graph_model.specs.Soundness.{EdgeUpdate, other_end}
-use Rattle.graph_model.specs.Writes.{is_near, next_stamp, own_updates, same_edge, when, with_near_ends}
+use Rattle.write_model.specs.Writes.{is_near, next_stamp, own_updates, same_edge, when, with_near_ends}
 use Rattle.shard_tables.specs.Edges.{AreNext, AreStamped, is_past_stamps}
 use Rattle.shard_tables.specs.Written.{lacks_stamp}
 

@@ -8,7 +8,7 @@ use Rattle.tao_base.specs.declared.entry.Touch.{Touch}
 use Rattle.tao_base.specs.declared.write.Write.{Write}
 use Rattle.tao_base.specs.declared.write.Write.TheVariants.{ObjAdd, ObjUpdate, ObjDelete, AssocAdd, AssocDelete, AssocChangeType}
 use Rattle.graph_model.specs.Soundness.{EdgeUpdate}
-use Rattle.graph_model.specs.Writes.{edge_touch, own_updates, touches_of, with_near_ends}
+use Rattle.write_model.specs.Writes.{edge_touch, own_updates, touches_of, with_near_ends}
 use Rattle.tao_keeper.specs.Table.{Table}
 use Rattle.shard_tables.proofs.StampLemmas.{past_is}
 use Rattle.shard_tables.specs.Edges.{is_past_stamps}

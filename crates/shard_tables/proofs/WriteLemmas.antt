@@ -2,18 +2,18 @@
 use Rattle.std.proofs.Common.{◌≡◌, ℕ, ◌+◌, ◌<◌, ◌≤◌, Bool, true, false, List, [], ◌∷◌, length, sym, ap, ◌∙◌, subst, arith}
 use Rattle.std.proofs.lemmas.Bool.Decides.{nat_tests}
 use Rattle.std.specs.Prelude.{Option, Some, Result, nat_le}
-use Rattle.tao_base.specs.EdgeTypes.{EdgeTypes}
+use Rattle.tao_base.specs.EdgeTypes.{EdgeTypes, InversesMatch}
 use Rattle.tao_base.specs.declared.entry.Entry.{Entry}
 use Rattle.tao_base.specs.declared.entry.Origin.{Origin}
 use Rattle.tao_base.specs.declared.entry.Touch.{Touch}
 use Rattle.tao_base.specs.declared.id.StoreName.{StoreName}
 use Rattle.tao_base.specs.declared.write.Write.{Write}
 use Rattle.tao_base.specs.declared.write.Write.TheVariants.{ObjAdd, ObjUpdate, ObjDelete, AssocAdd, AssocDelete, AssocChangeType}
-use Rattle.graph_model.proofs.Forward.{forward_follows}
-use Rattle.graph_model.specs.EndLaws.{InversesMatch}
-use Rattle.graph_model.specs.Soundness.{IsSoundOf}
-use Rattle.graph_model.specs.WriteLaws.{ChangesType, IsNewOrigin, IsOfShard, StaysSound}
-use Rattle.graph_model.specs.Writes.{forward_entry, kind_of, next_entry}
+use Rattle.write_model.proofs.Forward.{forward_follows}
+use Rattle.graph_model.specs.Soundness.{IsSoundOf, IsNewOrigin}
+use Rattle.write_model.specs.WriteLaws.{ChangesType, IsOfShard, StaysSound}
+use Rattle.write_model.specs.Writes.{forward_entry, next_entry}
+use Rattle.tao_base.specs.Writes.{write_kind, write_shard}
 use Rattle.tao_keeper.specs.Table.{Tables, Stays, Becomes, StandsAt, after_commit}
 use Rattle.tao_keeper.specs.declared.jobs.Job.{Job}
 use Rattle.shard_tables.specs.Stores.{HasSeen, IsStoreOf}
@@ -21,16 +21,16 @@ use Rattle.shard_tables.specs.StoreView.{Store}
 use Rattle.shard_tables.specs.declared.refusal.StoreRefusal.{StoreRefusal}
 use Rattle.shard_tables.specs.declared.store.Role.TheVariants.{Master}
 use Rattle.shard_tables.specs.declared.writes.Wrote.{Wrote}
-use Rattle.shard_tables.specs.Written.{Answers, AreTouches, IsLogFull, lacks_serial, made_entry, shard_of_write}
+use Rattle.shard_tables.specs.Written.{Answers, AreTouches, IsLogFull, lacks_serial, made_entry}
 
 -- touches make the entry
 pub made_is : (types : EdgeTypes) (log : List Entry) (origin : Origin) (write : Write) (ts : List Touch) (n : ℕ) → AreTouches types log write ts → 0 < length ts → n ≡ length log
     → forward_entry types log origin write ≡ Some (made_entry n origin write ts)
 made_is types log origin write [] n are some count = absurd (omega arith)
 made_is types log origin write (t ∷ ts) n are some count =
-    ap (next_entry log (kind_of write) origin) (sym are.touches_are) ∙ ap (λ k. Some (made_entry k origin write (t ∷ ts))) (sym count)
+    ap (next_entry log (write_kind write) origin) (sym are.touches_are) ∙ ap (λ k. Some (made_entry k origin write (t ∷ ts))) (sym count)
 
-here_is : (shard : ℕ) (log : List Entry) (write : Write) → shard_of_write write ≡ shard → lacks_serial log write ≡ false → IsOfShard shard log write
+here_is : (shard : ℕ) (log : List Entry) (write : Write) → write_shard write ≡ shard → lacks_serial log write ≡ false → IsOfShard shard log write
 here_is shard log (ObjAdd on otype payload) here room = (here, has_room _ room)
   where
     has_room : (n : ℕ) → nat_le 281474976710655 (n + 1) ≡ false → n + 1 < 281474976710656
@@ -70,7 +70,7 @@ module _ (types : EdgeTypes) (log : List Entry) (origin : Origin) (write : Write
     count_is = count;
   }
 
-  pub stays_sound : (shard : ℕ) → InversesMatch types → IsSoundOf types shard log → IsNewOrigin log origin → shard_of_write write ≡ shard → ChangesType types write
+  pub stays_sound : (shard : ℕ) → InversesMatch types → IsSoundOf types shard log → IsNewOrigin log origin → write_shard write ≡ shard → ChangesType types write
       → StaysSound types shard log (made_entry n origin write ts)
   stays_sound shard match sound new here changes =
       (forward_follows shard log origin write (made_entry n origin write ts)).stays types

@@ -14,9 +14,9 @@ use Rattle.tao_base.specs.declared.id.Key.TheVariants.{List as Assocs}
 use Rattle.tao_base.specs.declared.write.Write.{Write}
 use Rattle.tao_base.specs.declared.write.Write.TheVariants.{ObjAdd, ObjUpdate, ObjDelete, AssocAdd, AssocDelete, AssocChangeType}
 use Rattle.graph_model.specs.Edges.{live_time, number_of}
-use Rattle.graph_model.specs.Merges.{is_news}
+use Rattle.graph_model.specs.Records.{is_news}
 use Rattle.graph_model.specs.Soundness.{EdgeUpdate}
-use Rattle.graph_model.specs.Writes.{change_to, edge_touch, touch_of}
+use Rattle.write_model.specs.Writes.{change_to, edge_touch, touch_of}
 
 -- the stamp after that of the record
 abbrev pub stamp_after : Id → Option EdgeState → Stamp

@@ -15,7 +15,7 @@ use Rattle.tao_base.specs.declared.id.Key.{Key}
 use Rattle.tao_base.specs.declared.id.Key.TheVariants.{Obj, List as Assocs}
 use Rattle.tao_base.specs.declared.write.Write.{Write}
 use Rattle.tao_base.specs.declared.write.Write.TheVariants.{ObjAdd, ObjUpdate, ObjDelete, AssocAdd, AssocDelete, AssocChangeType}
-use Rattle.graph_model.specs.Writes.{Names}
+use Rattle.write_model.specs.Writes.{Names}
 
 -- the same key with the same value
 abbrev pub same_pair : Pair → Pair → Bool

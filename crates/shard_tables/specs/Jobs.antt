@@ -5,9 +5,10 @@ use Rattle.tao_base.specs.declared.entry.Entry.{Entry}
 use Rattle.tao_base.specs.declared.entry.Kind.TheVariants.{Merge as Merged}
 use Rattle.tao_base.specs.declared.entry.Origin.TheVariants.{Merge}
 use Rattle.tao_base.specs.declared.entry.Touch.{Touch}
-use Rattle.graph_model.specs.Merges.{entry_at, job_of, merge_of}
+use Rattle.graph_model.specs.Log.{entry_at}
+use Rattle.write_model.specs.Merges.{job_of, merge_of}
 use Rattle.graph_model.specs.Soundness.{EdgeUpdate, other_end, update_at}
-use Rattle.graph_model.specs.Writes.{is_near, when}
+use Rattle.write_model.specs.Writes.{is_near, when}
 use Rattle.tao_keeper.specs.Table.{Jobs, IsJobAt, job_from}
 use Rattle.tao_keeper.specs.declared.jobs.Job.{Job}
 use Rattle.shard_tables.specs.declared.refusal.StoreRefusal.{StoreRefusal}

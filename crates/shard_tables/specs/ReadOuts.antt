@@ -9,7 +9,7 @@ use Rattle.tao_base.specs.declared.id.Key.{Key}
 use Rattle.tao_base.specs.declared.id.Key.TheVariants.{Obj, List as Assocs}
 use Rattle.tao_base.specs.declared.query.Query.{Query}
 use Rattle.tao_base.specs.declared.query.Query.TheVariants.{ObjGet, AssocGet, AssocCount, AssocRange, AssocTimeRange}
-use Rattle.graph_model.specs.Answers.{key_of}
+use Rattle.tao_base.specs.Queries.{query_key}
 use Rattle.graph_model.specs.Edges.{edge_list}
 use Rattle.graph_model.specs.Log.{object, version as version_of}
 use Rattle.graph_model.specs.Prefixes.{decides}
@@ -36,9 +36,9 @@ IsContentFor types log query (Assocs id1 atype) (ObjectIs found) = ⊥
 
 -- the fill is what the whole log has at the query's key
 pub record IsFilled (types : EdgeTypes) (log : List Entry) (query : Query) (fill : SealedItem) : Type 0 where
-  pub version_is : fill.version ≡ version_of log (key_of query)
+  pub version_is : fill.version ≡ version_of log (query_key query)
   pub as_of_is : fill.as_of ≡ length log
-  pub content_is : IsContentFor types log query (key_of query) fill.content
+  pub content_is : IsContentFor types log query (query_key query) fill.content
 
 -- the list has that length, and none of its fronts within the bound decides the query
 pub record IsOpenList (types : EdgeTypes) (log : List Entry) (query : Query) (id1 : Id) (atype : AType) (total : ℕ) : Type 0 where
@@ -52,7 +52,7 @@ IsOpenAt types log query (Assocs id1 atype) total = IsOpenList types log query i
 -- what is read of the log: a fill where a front within the bound decides the query, and else the answer
 abbrev pub ReadsOut : EdgeTypes → List Entry → Query → ReadOut → Type 0
 ReadsOut types log query (Filled fill) = IsFilled types log query fill
-ReadsOut types log query (Past answer version total note) = Reads types log query answer version × IsOpenAt types log query (key_of query) total
+ReadsOut types log query (Past answer version total note) = Reads types log query answer version × IsOpenAt types log query (query_key query) total
 
 -- the first edges of a list decide the query, and are no more than the bound
 pub record IsServing (bound : ℕ) (query : Query) (prefix : ListPrefix) : Type 0 where
@@ -68,8 +68,8 @@ Serves types query (Assocs id1 atype) (ObjectIs found) = ⊥
 
 -- told or not, the fill is of the query's key, and answers the query
 pub record IsFillFor (types : EdgeTypes) (query : Query) (fill : SealedItem) : Type 0 where
-  pub key_is : fill.key ≡ key_of query
-  pub serves : Serves types query (key_of query) fill.content
+  pub key_is : fill.key ≡ query_key query
+  pub serves : Serves types query (query_key query) fill.content
 
 -- told or not, what is read is for the query
 abbrev pub IsFor : EdgeTypes → Query → ReadOut → Type 0

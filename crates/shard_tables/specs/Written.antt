@@ -10,23 +10,15 @@ use Rattle.tao_base.specs.declared.id.StoreName.{StoreName}
 use Rattle.tao_base.specs.declared.write.Write.{Write}
 use Rattle.tao_base.specs.declared.write.Write.TheVariants.{ObjAdd, ObjUpdate, ObjDelete, AssocAdd, AssocDelete, AssocChangeType}
 use Rattle.graph_model.specs.Edges.{edge_record, number_of}
-use Rattle.graph_model.specs.Merges.{entry_at}
-use Rattle.graph_model.specs.WriteLaws.{IsNewOrigin}
-use Rattle.graph_model.specs.Writes.{FitsWrite, forward_entry, kind_of, own_updates, touches_of}
-use Rattle.tao_keeper.specs.Table.{Tables, Stays, Becomes, additions, after_commit}
+use Rattle.graph_model.specs.Log.{entry_at, additions}
+use Rattle.graph_model.specs.Soundness.{IsNewOrigin}
+use Rattle.write_model.specs.Writes.{FitsWrite, forward_entry, own_updates, touches_of}
+use Rattle.tao_base.specs.Writes.{write_kind}
+use Rattle.tao_keeper.specs.Table.{Tables, Stays, Becomes, after_commit}
 use Rattle.tao_keeper.specs.declared.jobs.Job.{Job}
 use Rattle.shard_tables.specs.declared.refusal.StoreRefusal.{StoreRefusal}
 use Rattle.shard_tables.specs.declared.refusal.StoreRefusal.TheVariants.{KeeperFault, LogFull, ShardFull, StampFull, SeqReused, OutOfMemory}
 use Rattle.shard_tables.specs.declared.writes.Wrote.{Wrote}
-
--- the shard of a write: the one that it names, or that of its object or of the edge's id1
-abbrev pub shard_of_write : Write → ℕ
-shard_of_write (ObjAdd shard otype payload) = shard
-shard_of_write (ObjUpdate id payload) = shard_of id
-shard_of_write (ObjDelete id) = shard_of id
-shard_of_write (AssocAdd id1 atype id2 time payload) = shard_of id1
-shard_of_write (AssocDelete id1 atype id2) = shard_of id1
-shard_of_write (AssocChangeType id1 atype id2 newtype) = shard_of id1
 
 -- whether the write adds an object whose serial would be 2^48 - 1, or greater
 abbrev pub lacks_serial : List Entry → Write → Bool
@@ -132,7 +124,7 @@ Gains old new at (Some entry) job = Becomes old new at (after_commit (old at) en
 
 -- the entry of a write that makes these touches after so many entries
 abbrev pub made_entry : ℕ → Origin → Write → List Touch → Entry
-made_entry count origin write touches = record { position = count + 1; kind = kind_of write; origin = origin; touches = touches }
+made_entry count origin write touches = record { position = count + 1; kind = write_kind write; origin = origin; touches = touches }
 
 -- the touches are those of the write, which has its serial and its stamps
 pub record AreTouches (types : EdgeTypes) (log : List Entry) (write : Write) (touches : List Touch) : Type 0 where

@@ -1,6 +1,6 @@
 //! Which object an entry puts.
 ghost use Rattle.std.specs.Prelude.{◌≡◌, ℕ, List, IsSomeAnd};
-ghost use Rattle.graph_model.specs.Writes.{FitsWrite};
+ghost use Rattle.write_model.specs.Writes.{FitsWrite};
 ghost use Rattle.shard_tables.specs.Fitting.{object_put, put_at};
 ghost use Rattle.tao_base.specs.Ids.{shard_of};
 ghost use Rattle.tao_base.specs.declared.data.Pair.{Pair};

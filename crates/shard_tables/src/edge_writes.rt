@@ -2,7 +2,7 @@
 ghost use Rattle.std.specs.Prelude.{◌≡◌, ◌≤◌, ◌<◌, IfOk, MatchResult, map};
 ghost use Rattle.std.specs.List.{list_any};
 ghost use Rattle.graph_model.specs.Edges.{live_time, number_of, state_left};
-ghost use Rattle.graph_model.specs.Writes.{change_to, edge_touch};
+ghost use Rattle.write_model.specs.Writes.{change_to, edge_touch};
 ghost use Rattle.shard_tables.specs.Causes.{HasCause};
 ghost use Rattle.shard_tables.specs.Edges.{AreStamped, WriteRecords, WritesRecord, is_past_stamps, touch_over};
 ghost use Rattle.shard_tables.specs.Fitting.{NameWrite};

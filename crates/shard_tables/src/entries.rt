@@ -1,6 +1,6 @@
 //! The entry of a write.
 ghost use Rattle.std.specs.Prelude.{◌≡◌, ◌≤◌, ◌<◌, ◌+◌, IfOk, MatchResult};
-ghost use Rattle.graph_model.specs.Writes.{kind_of};
+ghost use Rattle.tao_base.specs.Writes.{write_kind};
 ghost use Rattle.shard_tables.specs.Causes.{HasCause};
 ghost use Rattle.shard_tables.specs.Fitting.{HasTouch, NameWrite};
 ghost use Rattle.shard_tables.specs.Written.{AreTouches, HasNone, made_entry};
@@ -55,7 +55,7 @@ pub fn entry_of(length: u64, origin: Origin, write: &Write, touches: Vec<Touch>)
 {
     Entry {
         position: length + 1,
-        kind: kind_of(write),
+        kind: write_kind(write),
         origin,
         touches: Touches::of(touches),
     }

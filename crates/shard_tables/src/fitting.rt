@@ -1,6 +1,7 @@
 //! Whether an entry is one that a write could have made.
 ghost use Rattle.std.specs.Prelude.{◌≡◌, ◌↔◌, IsTrue, ◌&&◌, ◌==◌};
-ghost use Rattle.graph_model.specs.Writes.{FitsWrite, kind_of};
+ghost use Rattle.write_model.specs.Writes.{FitsWrite};
+ghost use Rattle.tao_base.specs.Writes.{write_kind};
 ghost use Rattle.shard_tables.specs.Fitting.{cuts, drops, fits_first, fits_second, is_list, names, puts, same_data, sets};
 ghost use Rattle.tao_base.specs.Ids.{shard_of};
 
@@ -9,8 +10,8 @@ use tao_base::edge::Time;
 use tao_base::{AType, Change, Data, Entry, Id, Key, Kind, OType, Touch, Write};
 
 /// The kind of the entry of a write.
-pub fn kind_of(write: &Write) -> Kind
-    ensures { result ≡ kind_of write.now }
+pub fn write_kind(write: &Write) -> Kind
+    ensures { result ≡ write_kind write.now }
 {
     match write {
         Write::ObjAdd { .. } => Kind::ObjAdd,
@@ -174,9 +175,9 @@ fn names(write: &Write, touches: &[Touch]) -> bool
 }
 
 fn is_of_kind(entry: &Entry, write: &Write) -> bool
-    ensures { IsTrue result ↔ (entry.now.kind ≡ kind_of write.now) }
+    ensures { IsTrue result ↔ (entry.now.kind ≡ write_kind write.now) }
 {
-    entry.kind == kind_of(write)
+    entry.kind == write_kind(write)
 }
 
 /// Whether the entry is one that the write could have made: it is of the write's kind, and its touches

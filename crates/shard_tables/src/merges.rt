@@ -1,11 +1,11 @@
 //! Merges of what entries of other shards owe to this one.
 ghost use Rattle.std.specs.Prelude.{◌≡◌, ◌≤◌, ◌<◌, ◌++◌, All, IfErr, IfOk, None, OnOk, false, filter, length, map};
 ghost use Rattle.std.specs.Option.{option_to_list};
-ghost use Rattle.graph_model.specs.MergeLaws.{MayBeMerged};
-ghost use Rattle.graph_model.specs.Merges.{HasStamp, is_later, is_news};
+ghost use Rattle.write_model.specs.MergeLaws.{MayBeMerged};
+ghost use Rattle.graph_model.specs.Records.{HasStamp, is_later, is_news};
 ghost use Rattle.graph_model.specs.Soundness.{IsSoundOf};
 ghost use Rattle.graph_model.specs.Told.{WhereTold};
-ghost use Rattle.graph_model.specs.Writes.{edge_touch};
+ghost use Rattle.write_model.specs.Writes.{edge_touch};
 ghost use Rattle.shard_log.specs.View.{Grows, as_note, most_entries};
 ghost use Rattle.shard_tables.specs.Causes.{HasCause};
 ghost use Rattle.shard_tables.specs.Edges.{news_touch};

@@ -3,7 +3,7 @@ ghost use Rattle.std.specs.Prelude.{◌≡◌, ◌++◌, IfOk, OnOk, filter, fil
 ghost use Rattle.std.specs.List.{list_any};
 ghost use Rattle.std.specs.Option.{option_to_list};
 ghost use Rattle.graph_model.specs.Soundness.{other_end};
-ghost use Rattle.graph_model.specs.Writes.{is_near, same_edge, when, with_near_ends};
+ghost use Rattle.write_model.specs.Writes.{is_near, same_edge, when, with_near_ends};
 ghost use Rattle.shard_tables.specs.Edges.{AreStamped};
 ghost use Rattle.tao_schema.specs.Schema.{types_of};
 

@@ -1,7 +1,7 @@
 //! The touch of a write to an object.
 ghost use Rattle.std.specs.Prelude.{◌≡◌, ◌≤◌, ◌<◌, ◌+◌, ◌*◌, ◌^◌, ◌∷◌, [], IfOk, MatchResult, None, false};
 ghost use Rattle.graph_model.specs.Edges.{state_left};
-ghost use Rattle.graph_model.specs.Writes.{object_touches, touch_of};
+ghost use Rattle.write_model.specs.Writes.{object_touches, touch_of};
 ghost use Rattle.shard_tables.specs.Causes.{HasCause};
 ghost use Rattle.shard_tables.specs.Fitting.{HasTouch, IsOneChange, NameWrite};
 ghost use Rattle.shard_tables.specs.Written.{HasNone, lacks_serial};

@@ -1,6 +1,6 @@
 //! A master store over the log that its keeper has, and what a store asks of that log.
 ghost use Rattle.std.specs.Prelude.{◌≡◌, ◌≤◌, IfErr, IfOk, IfSome, length};
-ghost use Rattle.graph_model.specs.Merges.{entry_at};
+ghost use Rattle.graph_model.specs.Log.{entry_at};
 ghost use Rattle.graph_model.specs.Told.{WhereTold};
 ghost use Rattle.shard_tables.specs.Causes.{HasCause, IsOfReads};
 ghost use Rattle.shard_tables.specs.Stores.{IsStoreOf};

@@ -1,7 +1,7 @@
 //! The records that a write to an edge gives at id1.
 ghost use Rattle.std.specs.Prelude.{◌≡◌, ◌≤◌, ◌<◌, ◌∷◌, [], IfOk};
 ghost use Rattle.graph_model.specs.Edges.{number_of};
-ghost use Rattle.graph_model.specs.Writes.{own_updates};
+ghost use Rattle.write_model.specs.Writes.{own_updates};
 ghost use Rattle.shard_tables.specs.Edges.{AreNext, AreOverSome, cut_over, move_over, stamp_after};
 ghost use Rattle.tao_keeper.specs.Cause.{IsCaused};
 ghost use Rattle.graph_model.specs.Told.{WhereTold};

@@ -1,6 +1,7 @@
 //! Reads of a store's own log, as fills for the caches above it.
 ghost use Rattle.std.specs.Prelude.{◌≡◌, ◌≤◌, ℕ, List, IfErr, IfOk, length};
-ghost use Rattle.graph_model.specs.Answers.{answer as log_answer, key_of, list_answer};
+ghost use Rattle.graph_model.specs.Answers.{answer as log_answer, list_answer};
+ghost use Rattle.tao_base.specs.Queries.{query_key};
 ghost use Rattle.graph_model.specs.Edges.{edge_list};
 ghost use Rattle.graph_model.specs.Log.{object, version as version_of};
 ghost use Rattle.graph_model.specs.Told.{WhereTold};
@@ -16,7 +17,7 @@ ghost use Rattle.tao_keeper.specs.Cause.{IsCaused};
 ghost use Rattle.tao_keeper.specs.Table.{Stays};
 ghost use Rattle.tao_schema.specs.Schema.{types_of};
 
-use super::reads::{Found, queried_key, select};
+use super::reads::{Found, select};
 use super::refusal::StoreRefusal;
 use super::store::StoreNode;
 use list_prefix::{Prefix, Verdict, shortest_front};
@@ -84,8 +85,8 @@ fn answer_of_content(
     schema: &Schema,
     query: &Query,
 ) -> Result<Answer, OutOfMemory>
-    requires { Serves (types_of schema.now) query.now (key_of query.now) content.now }
-    ensures { IfOk result (λ answer. (log : List Entry) → IsContentFor (types_of schema.now) log query.now (key_of query.now) content.now → answer ≡ log_answer (types_of schema.now) log query.now) }
+    requires { Serves (types_of schema.now) query.now (query_key query.now) content.now }
+    ensures { IfOk result (λ answer. (log : List Entry) → IsContentFor (types_of schema.now) log query.now (query_key query.now) content.now → answer ≡ log_answer (types_of schema.now) log query.now) }
 {
     match content {
         Content::Object(found) => {
@@ -106,10 +107,10 @@ fn copy_of_object(found: &Option<Object>) -> Result<Option<Object>, OutOfMemory>
 }
 
 fn answer_of_front(front: &Prefix, schema: &Schema, query: &Query) -> Result<Answer, OutOfMemory>
-    requires { Serves (types_of schema.now) query.now (key_of query.now) (Content.List front.now) }
-    ensures { IfOk result (λ answer. (log : List Entry) → IsContentFor (types_of schema.now) log query.now (key_of query.now) (Content.List front.now) → answer ≡ log_answer (types_of schema.now) log query.now) }
+    requires { Serves (types_of schema.now) query.now (query_key query.now) (Content.List front.now) }
+    ensures { IfOk result (λ answer. (log : List Entry) → IsContentFor (types_of schema.now) log query.now (query_key query.now) (Content.List front.now) → answer ≡ log_answer (types_of schema.now) log query.now) }
 {
-    let bound = match queried_key(query) {
+    let bound = match query.key() {
         Key::Obj(_) => unreachable!(),
         Key::List(_, atype) => schema.bound(atype),
     };
@@ -190,7 +191,7 @@ fn read_out<M: Keeper>(
     ensures calls { M.calls keeper.old ≤ M.calls keeper.new }
     ensures cause { HasCause (M.faults keeper.old) (M.faults keeper.new) result }
 {
-    let found = match queried_key(query) {
+    let found = match query.key() {
         Key::Obj(id) => read_object(keeper, at, note, schema, query, id)?,
         Key::List(id1, atype) => read_list(alloc, keeper, at, note, schema, query, id1, atype)?,
     };
@@ -205,7 +206,7 @@ fn read_object<M: Keeper>(
     query: &Query,
     id: Id,
 ) -> Result<ReadOut, KeepFail>
-    requires key { key_of query.now ≡ Key.Obj id }
+    requires key { query_key query.now ≡ Key.Obj id }
     requires told { note.log.told ≡ M.TELLS }
     requires begins { WhereTold M.TELLS (Begins (M.told keeper.old at).log note.entries) }
     ensures found { WhereTold M.TELLS (IfOk result (ReadsOut (types_of schema.now) (M.told keeper.old at).log query.now)) }
@@ -230,7 +231,7 @@ fn read_list<M: Keeper>(
     id1: Id,
     atype: AType,
 ) -> Result<ReadOut, KeepFail>
-    requires key { key_of query.now ≡ Key.List id1 atype }
+    requires key { query_key query.now ≡ Key.List id1 atype }
     requires told { note.log.told ≡ M.TELLS }
     requires begins { WhereTold M.TELLS (Begins (M.told keeper.old at).log note.entries) }
     ensures found { WhereTold M.TELLS (IfOk result (ReadsOut (types_of schema.now) (M.told keeper.old at).log query.now)) }

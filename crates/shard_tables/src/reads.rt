@@ -1,7 +1,8 @@
 //! What a store's own log answers to a query.
 ghost use Rattle.std.specs.Prelude.{◌≡◌, ◌≤◌, IfOk, length, min};
-ghost use Rattle.graph_model.specs.Answers.{answer as log_answer, key_of, list_answer};
-ghost use Rattle.graph_model.specs.Edges.{IsInOrder, edge_list};
+ghost use Rattle.graph_model.specs.Answers.{answer as log_answer, list_answer};
+ghost use Rattle.tao_base.specs.Queries.{query_key};
+ghost use Rattle.graph_model.specs.Edges.{IsInListOrder, edge_list};
 ghost use Rattle.graph_model.specs.Told.{WhereTold};
 ghost use Rattle.list_prefix.specs.Verdicts.{IsOfList};
 ghost use Rattle.shard_tables.specs.Reads.{Reads};
@@ -21,19 +22,6 @@ pub struct Found {
     pub answer: Answer,
     /// The version of the queried key at which the answer is true.
     pub version: u64,
-}
-
-/// The object or the list that a query reads.
-pub fn queried_key(query: &Query) -> Key
-    ensures { result ≡ key_of query.now }
-{
-    match query {
-        Query::ObjGet { id } => Key::Obj(*id),
-        Query::AssocGet { id1, atype, .. } => Key::List(*id1, *atype),
-        Query::AssocCount { id1, atype } => Key::List(*id1, *atype),
-        Query::AssocRange { id1, atype, .. } => Key::List(*id1, *atype),
-        Query::AssocTimeRange { id1, atype, .. } => Key::List(*id1, *atype),
-    }
 }
 
 /// What a list of that length answers to a query, from all its edges. One call of the keeper.
@@ -62,7 +50,7 @@ pub fn select<M: Keeper>(
 
 /// What a list answers that has these edges and no others.
 fn answer_of_list(edges: Edges, query: &Query, bound: u64) -> Result<Answer, OutOfMemory>
-    requires in_order { IsInOrder edges }
+    requires in_order { IsInListOrder edges }
     requires of_list { IsOfList query.now }
     ensures { IfOk result (λ answer. answer ≡ list_answer bound edges (length edges) query.now) }
 {

@@ -1,10 +1,10 @@
 //! Writes over the keeper in memory, and what comes of them.
 ghost use Rattle.std.specs.Prelude.{◌≡◌, ◌≤◌, IfOk, IsTrue, true};
 ghost use Rattle.graph_model.specs.Soundness.{IsSoundOf};
-ghost use Rattle.graph_model.specs.WriteLaws.{ChangesType};
+ghost use Rattle.write_model.specs.WriteLaws.{ChangesType};
 ghost use Rattle.keeper_map.specs.MapKeeper.{told_by};
 ghost use Rattle.shard_tables.specs.Stores.{IsStoreOf};
-ghost use Rattle.shard_tables.specs.Written.{shard_of_write};
+ghost use Rattle.tao_base.specs.Writes.{write_shard};
 ghost use Rattle.shard_tables.specs.declared.store.Role.TheVariants.{Master};
 ghost use Rattle.tao_base.specs.EdgeTypes.{EdgeTypes};
 ghost use Rattle.tao_schema.specs.Schema.{types_of};
@@ -134,7 +134,7 @@ fn write_of(alloc: Global, ask: Ask) -> Result<Write, Fail> {
 
 /// The shard that the write is for.
 fn shard_of(write: &Write) -> u16
-    ensures { result ≡ shard_of_write write.now }
+    ensures { result ≡ write_shard write.now }
 {
     match write {
         Write::ObjAdd { shard, .. } => *shard,

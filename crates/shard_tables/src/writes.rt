@@ -1,15 +1,16 @@
 //! The writes of clients to a store.
 ghost use Rattle.std.specs.Prelude.{◌≡◌, ◌≤◌, ◌<◌, ℕ, IfOk, IfSome, IsTrue, MatchResult, None, Some, false, length};
-ghost use Rattle.graph_model.specs.Soundness.{CanFollow, IsSoundOf, is_client};
+ghost use Rattle.graph_model.specs.Soundness.{CanFollow, IsSoundOf, is_client, IsNewOrigin};
 ghost use Rattle.graph_model.specs.Told.{WhereTold};
-ghost use Rattle.graph_model.specs.WriteLaws.{ChangesType, IsNewOrigin};
-ghost use Rattle.graph_model.specs.Writes.{FitsWrite};
+ghost use Rattle.write_model.specs.WriteLaws.{ChangesType};
+ghost use Rattle.write_model.specs.Writes.{FitsWrite};
 ghost use Rattle.shard_log.specs.View.{Grows, as_note, most_entries};
 ghost use Rattle.shard_tables.specs.Causes.{HasCause};
 ghost use Rattle.shard_tables.specs.Fitting.{HasEntry};
 ghost use Rattle.shard_tables.specs.Jobs.{FindsJob, OpensJob, job_with};
 ghost use Rattle.shard_tables.specs.Stores.{IsStoreOf, gained};
-ghost use Rattle.shard_tables.specs.Written.{Answers, Gains, added_entry, shard_of_write};
+ghost use Rattle.shard_tables.specs.Written.{Answers, Gains, added_entry};
+ghost use Rattle.tao_base.specs.Writes.{write_shard};
 ghost use Rattle.shard_tables.specs.declared.store.Role.TheVariants.{Master};
 ghost use Rattle.tao_base.specs.EdgeTypes.{EdgeTypes, InversesMatch};
 ghost use Rattle.tao_base.specs.declared.entry.Origin.{Origin};
@@ -69,7 +70,7 @@ impl StoreNode {
         requires master { self.old.role ≡ Master }
         requires keeper { IsStoreOf M.TELLS (M.told keeper.old) self.old }
         requires client { IsTrue (is_client origin) }
-        requires here { shard_of_write write.now ≡ self.old.name.shard }
+        requires here { write_shard write.now ≡ self.old.name.shard }
         requires changes { ChangesType (types_of schema.now) write.now }
         requires sound { WhereTold M.TELLS (IsSoundOf (types_of schema.now) self.old.name.shard (M.told keeper.old self.old.name).log) }
         ensures answer { WhereTold M.TELLS (Answers (types_of schema.now) self.old.log_max (M.told keeper.old self.old.name).log origin write.now result) }
@@ -185,7 +186,7 @@ fn write_first<M: Keeper>(
     requires master { store.old.role ≡ Master }
     requires note { note ≡ as_note store.old.view }
     requires keeper { IsStoreOf M.TELLS (M.told keeper.old) store.old }
-    requires here { shard_of_write write.now ≡ store.old.name.shard }
+    requires here { write_shard write.now ≡ store.old.name.shard }
     requires changes { ChangesType (types_of schema.now) write.now }
     requires sound { WhereTold M.TELLS (IsSoundOf (types_of schema.now) store.old.name.shard (M.told keeper.old store.old.name).log) }
     requires new { WhereTold M.TELLS (IsNewOrigin (M.told keeper.old store.old.name).log origin) }

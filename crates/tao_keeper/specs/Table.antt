@@ -3,10 +3,8 @@ use Rattle.std.specs.Prelude.{◌≡◌, ◌≢◌, ◌<◌, ◌==◌, if◌then
 use Rattle.tao_base.specs.declared.entry.Entry.{Entry}
 use Rattle.tao_base.specs.declared.entry.Origin.{Origin}
 use Rattle.tao_base.specs.declared.id.StoreName.{StoreName}
-use Rattle.graph_model.specs.Merges.{entry_at}
-use Rattle.graph_model.specs.Soundness.{EdgeUpdate}
-use Rattle.graph_model.specs.WriteLaws.{IsNewOrigin}
-use Rattle.graph_model.specs.Writes.{is_addition}
+use Rattle.graph_model.specs.Log.{entry_at, is_addition}
+use Rattle.graph_model.specs.Soundness.{EdgeUpdate, IsNewOrigin}
 use Rattle.tao_keeper.specs.declared.jobs.Job.{Job}
 use Rattle.tao_keeper.specs.declared.keeper.Opened.{Opened}
 use Rattle.tao_keeper.specs.declared.keeper.Opened.TheVariants.{Ready, OtherLine}
@@ -87,7 +85,3 @@ IsFirstJob jobs (Some job) = (jobs job.position ≡ Some job.edges) × ((positio
 abbrev pub StandsAt : List Entry → Origin → Option ℕ → Type 0
 StandsAt log origin (Some position) = IsSomeAnd (entry_at log position) (λ e. e.origin ≡ origin)
 StandsAt log origin None = IsNewOrigin log origin
-
--- how many objects were added
-abbrev pub additions : List Entry → ℕ
-additions log = count_by (λ e. is_addition e.kind) log

@@ -1,14 +1,13 @@
 ghost use Rattle.std.specs.Prelude.{◌≡◌, ◌≤◌, ◌<◌, ℕ, Bool, length, take, drop, IfOk, IfSome};
 ghost use Rattle.counts.specs.Count.{Counted};
 ghost use Rattle.graph_model.specs.Edges.{edge_list, edge_record, number_of};
-ghost use Rattle.graph_model.specs.Log.{object, version};
-ghost use Rattle.graph_model.specs.Merges.{entry_at};
+ghost use Rattle.graph_model.specs.Log.{object, version, entry_at, additions};
 ghost use Rattle.graph_model.specs.Soundness.{CanFollow, IsSound};
 ghost use Rattle.tao_base.specs.declared.id.StoreName.{StoreName as Store};
 ghost use Rattle.tao_keeper.specs.Cause.{IsCaused};
 ghost use Rattle.tao_keeper.specs.Given.{AreGiven, HaveSmallStamps, IsGivenEntry, IsGivenJob, IsPosition};
 ghost use Rattle.graph_model.specs.Told.{WhereTold};
-ghost use Rattle.tao_keeper.specs.Table.{Table, Stays, Changes, IsFirstJob, IsJobAt, OpensAs, StandsAt, additions, after_commit, after_end, after_open};
+ghost use Rattle.tao_keeper.specs.Table.{Table, Stays, Changes, IsFirstJob, IsJobAt, OpensAs, StandsAt, after_commit, after_end, after_open};
 
 use super::jobs::Job;
 use std::alloc::{AllocError, AllocFailed};

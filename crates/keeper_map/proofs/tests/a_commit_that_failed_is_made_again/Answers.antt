@@ -1,7 +1,7 @@
 use Rattle.std.proofs.Common.{◌∙◌, [], sym, subst, arith}
 use Rattle.tao_base.specs.declared.entry.Origin.TheVariants.{Client}
 use Rattle.tao_base.specs.declared.id.StoreName.{StoreName}
-use Rattle.graph_model.proofs.Forward.{plain_add_follows}
+use Rattle.write_model.proofs.Forward.{plain_add_follows}
 use Rattle.graph_model.specs.Soundness.{CanFollow}
 use Rattle.tao_keeper.specs.Table.{Table}
 use Rattle.keeper_map.proofs.tests.a_commit_that_failed_is_made_again.Goals as goal

@@ -1,5 +1,5 @@
 use Rattle.std.proofs.Common.{◌≡◌, ◌≤◌, map, take}
-use Rattle.graph_model.specs.Writes.{edge_touch}
+use Rattle.write_model.specs.Writes.{edge_touch}
 use Rattle.tao_keeper.specs.Given.{HaveSmallStamps}
 use Rattle.graph_model.specs.Told.{WhereTold}
 use Rattle.tao_keeper.specs.Table.{Stays}

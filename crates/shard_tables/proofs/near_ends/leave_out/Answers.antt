@@ -1,7 +1,7 @@
 use Rattle.std.proofs.Common.{rules, not}
 use Rattle.std.proofs.lemmas.Fn.{filter_same}
 use Rattle.std.specs.List.{list_any}
-use Rattle.graph_model.specs.Writes.{same_edge}
+use Rattle.write_model.specs.Writes.{same_edge}
 use Rattle.shard_tables.proofs.near_ends.leave_out.Goals as goal
 
 pub returns : goal.returns

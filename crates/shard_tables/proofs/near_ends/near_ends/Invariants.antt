@@ -1,7 +1,7 @@
 use Rattle.std.proofs.Common.{◌≡◌, take}
 use Rattle.std.specs.Prelude.{filter_map}
 use Rattle.graph_model.specs.Soundness.{other_end}
-use Rattle.graph_model.specs.Writes.{is_near, when}
+use Rattle.write_model.specs.Writes.{is_near, when}
 use Rattle.tao_schema.specs.Schema.{types_of}
 use Rattle.shard_tables.proofs.near_ends.near_ends.Given as goal
 

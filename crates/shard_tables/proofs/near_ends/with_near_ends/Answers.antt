@@ -1,5 +1,5 @@
 use Rattle.std.proofs.Common.{◌≡◌, rules, subst, sym}
-use Rattle.graph_model.specs.Writes.{with_near_ends}
+use Rattle.write_model.specs.Writes.{with_near_ends}
 use Rattle.shard_tables.proofs.StampLemmas.{near_ends_stamped}
 use Rattle.shard_tables.specs.Edges.{AreStamped}
 use Rattle.tao_schema.specs.Schema.{types_of}

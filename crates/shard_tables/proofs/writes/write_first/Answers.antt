@@ -1,7 +1,7 @@
 use Rattle.std.proofs.Common.{◌<◌, length, subst, sym, ap, ◌∙◌, arith}
 use Rattle.std.proofs.lemmas.Bool.Decides.{nat_tests}
 use Rattle.graph_model.specs.Soundness.{CanFollow, IsSoundOf}
-use Rattle.graph_model.specs.WriteLaws.{StaysSound}
+use Rattle.write_model.specs.WriteLaws.{StaysSound}
 use Rattle.shard_tables.proofs.WriteLemmas.{becomes_from, full_is, has_all, stays_sound, touches_at}
 use Rattle.tao_schema.specs.Schema.{types_of}
 use Rattle.shard_tables.proofs.writes.write_first.Goals as goal

@@ -2,7 +2,7 @@ use Rattle.std.proofs.Common.{◌≡◌, ◌<◌, length, refl, subst, sym, ap, 
 use Rattle.std.proofs.lemmas.Bool.Decides.{nat_tests}
 use Rattle.std.specs.Prelude.{All, Some}
 use Rattle.tao_base.specs.declared.id.StoreName.{StoreName}
-use Rattle.graph_model.specs.Merges.{HasStamp}
+use Rattle.graph_model.specs.Records.{HasStamp}
 use Rattle.graph_model.specs.Soundness.{CanFollow, IsSoundOf}
 use Rattle.shard_tables.proofs.MergeLemmas.{grown_log, made_is, none_left}
 use Rattle.shard_tables.proofs.WriteLemmas.{has_all}

@@ -10,7 +10,6 @@ ghost use Rattle.tao_keeper.specs.Table.{Stays};
 ghost use Rattle.tao_schema.specs.Schema.{types_of};
 
 use super::edge_writes::edge_write;
-use super::fitting::kind_of;
 use super::object_writes::{add_object, delete_object, update_object};
 use super::refusal::StoreRefusal;
 use std::alloc::Global;
@@ -55,7 +54,7 @@ pub fn entry_of(length: u64, origin: Origin, write: &Write, touches: Vec<Touch>)
 {
     Entry {
         position: length + 1,
-        kind: write_kind(write),
+        kind: write.kind(),
         origin,
         touches: Touches::of(touches),
     }

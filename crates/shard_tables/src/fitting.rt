@@ -7,21 +7,7 @@ ghost use Rattle.tao_base.specs.Ids.{shard_of};
 
 use super::same_data::is_same;
 use tao_base::edge::Time;
-use tao_base::{AType, Change, Data, Entry, Id, Key, Kind, OType, Touch, Write};
-
-/// The kind of the entry of a write.
-pub fn write_kind(write: &Write) -> Kind
-    ensures { result ≡ write_kind write.now }
-{
-    match write {
-        Write::ObjAdd { .. } => Kind::ObjAdd,
-        Write::ObjUpdate { .. } => Kind::ObjUpdate,
-        Write::ObjDelete { .. } => Kind::ObjDelete,
-        Write::AssocAdd { .. } => Kind::AssocAdd,
-        Write::AssocDelete { .. } => Kind::AssocDelete,
-        Write::AssocChangeType { .. } => Kind::AssocChangeType,
-    }
-}
+use tao_base::{AType, Change, Data, Entry, Id, Key, OType, Touch, Write};
 
 fn adds_object(touch: &Touch, shard: u16, otype: OType, payload: &Data) -> bool
     ensures { result ≡ puts (λ id object. shard_of id == shard && object.otype.0 == otype.0 && same_data object.payload payload.now) touch.now.key touch.now.change }
@@ -177,7 +163,7 @@ fn names(write: &Write, touches: &[Touch]) -> bool
 fn is_of_kind(entry: &Entry, write: &Write) -> bool
     ensures { IsTrue result ↔ (entry.now.kind ≡ write_kind write.now) }
 {
-    entry.kind == write_kind(write)
+    entry.kind == write.kind()
 }
 
 /// Whether the entry is one that the write could have made: it is of the write's kind, and its touches

@@ -25,7 +25,6 @@ pub record IsLegal (types : EdgeTypes) (log : List Entry) (query : Query) (least
   pub version_is : v ≡ version (take n log) (query_key query)
   pub reached : least ≤ v
 
--- besides, no write before the read began is missed
-pub record IsLegalCritical (types : EdgeTypes) (before log : List Entry) (query : Query) (least : ℕ) (given : Answer) (v : ℕ) : Type 0 where
-  pub legal : IsLegal types log query least given v
-  pub current : version before (query_key query) ≤ v
+-- nothing is missed that stood when a read began, as a critical one asks besides
+abbrev pub MissesNothing : List Entry → Query → ℕ → Type 0
+MissesNothing before query v = version before (query_key query) ≤ v

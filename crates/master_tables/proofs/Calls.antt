@@ -8,7 +8,7 @@ use Rattle.tao_base.specs.declared.entry.Entry.{Entry}
 use Rattle.tao_base.specs.declared.entry.Origin.{Origin}
 use Rattle.tao_base.specs.declared.write.Write.{Write}
 use Rattle.write_model.proofs.OpenJobs.{open_jobs_are_owed}
-use Rattle.write_model.specs.Machine.{Gains, Owed}
+use Rattle.write_model.specs.Machine.{ClientWrite, Gains, Owed}
 use Rattle.write_model.specs.Merges.{HasJob, job_of, log_of, merge_of}
 use Rattle.graph_model.specs.Soundness.{EdgeUpdate}
 use Rattle.write_model.specs.Steps.{CommitsWithJob, EndsJob, IsOwed, JobBecomes, JobsStay, MergesJob, opened_job}
@@ -84,7 +84,7 @@ module _ (m : Masters) (old new : Tables) where
   step_commits : (types : EdgeTypes) (shard : ℕ) (origin : Origin) (write : Write) (e : Entry) → shard < m.shards → (old (m.name shard)).jobs e.position ≡ None
       → forward_entry types (old (m.name shard)).log origin write ≡ Some e
       → Becomes old new (m.name shard) (after_commit (old (m.name shard)) e (job_from e.position (job_of types e)))
-      → CommitsWithJob types (stores_of m old) (stores_of m new) shard origin write e
+      → CommitsWithJob types (stores_of m old) (stores_of m new) (record { shard = shard; origin = origin; asked = write }) e
   step_commits types shard origin write e lt none is b = record {
     commits = record {
       is = ap (λ l. forward_entry types l origin write) (log_at old shard lt) ∙ is;
@@ -135,7 +135,7 @@ tables_are_stores m tables = record { log_is = log_at m tables tables tables; jo
 pub calls_are_steps : (m : Masters) (old new : Tables) → CallsAreSteps m old new
 calls_are_steps m old new = record {
   stays = λ stays. (logs_stay m old new (λ s. ap (λ t. t.log) (stays (m.name s))), jobs_stay m old new (λ s. ap (λ t. t.jobs) (stays (m.name s))));
-  commits = step_commits m old new;
+  commits = λ types w. step_commits m old new types w.shard w.origin w.asked;
   merges = step_merges m old new;
   merges_none = step_merges_none m old new;
   ends = step_ends m old new;

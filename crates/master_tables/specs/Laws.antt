@@ -2,9 +2,7 @@
 use Rattle.std.specs.Prelude.{ℕ, ◌≡◌, ◌<◌, Contains, Some, None}
 use Rattle.tao_base.specs.EdgeTypes.{EdgeTypes}
 use Rattle.tao_base.specs.declared.entry.Entry.{Entry}
-use Rattle.tao_base.specs.declared.entry.Origin.{Origin}
-use Rattle.tao_base.specs.declared.write.Write.{Write}
-use Rattle.write_model.specs.Machine.{IsFirstJob, Owed}
+use Rattle.write_model.specs.Machine.{ClientWrite, IsFirstJob, Owed}
 use Rattle.write_model.specs.Merges.{HasJob, job_of, log_of, merge_of}
 use Rattle.graph_model.specs.Soundness.{EdgeUpdate}
 use Rattle.write_model.specs.Steps.{AreSoundAndCovered, CommitsWithJob, EndsJob, IsJobOf, IsOwed, JobsStay, MergesJob}
@@ -23,10 +21,10 @@ pub record CallsAreSteps (m : Masters) (old new : Tables) : Type 0 where
   -- where no table changes, nothing does
   pub stays : Stays old new → ((stores_of m new).logs ≡ (stores_of m old).logs) × JobsStay (stores_of m old) (stores_of m new)
   -- the commit of a write's entry with its job
-  pub commits : (types : EdgeTypes) (shard : ℕ) (origin : Origin) (write : Write) (e : Entry) → shard < m.shards
-      → (old (m.name shard)).jobs e.position ≡ None → forward_entry types (old (m.name shard)).log origin write ≡ Some e
-      → Becomes old new (m.name shard) (after_commit (old (m.name shard)) e (job_from e.position (job_of types e)))
-      → CommitsWithJob types (stores_of m old) (stores_of m new) shard origin write e
+  pub commits : (types : EdgeTypes) (w : ClientWrite) (e : Entry) → w.shard < m.shards
+      → (old (m.name w.shard)).jobs e.position ≡ None → forward_entry types (old (m.name w.shard)).log w.origin w.asked ≡ Some e
+      → Becomes old new (m.name w.shard) (after_commit (old (m.name w.shard)) e (job_from e.position (job_of types e)))
+      → CommitsWithJob types (stores_of m old) (stores_of m new) w e
   -- the commit of a merge, without a job
   pub merges : (types : EdgeTypes) (owed : Owed) (e : Entry) → owed.other < m.shards → IsOwed types (stores_of m old) owed
       → merge_of (old (m.name owed.other)).log owed.shard owed.entry.position (job_of types owed.entry) ≡ Some e

@@ -110,7 +110,7 @@ no_merge (Merge shard position) from source client h = absurd (cc)
 
 module _ (types : EdgeTypes) (old new : Stores) (shard : ℕ) (origin : Origin) (write : Write) (e : Entry)
     (was : AreSoundAndCovered types old) (client : IsTrue (is_client origin)) (may : IsAdmitted types shard (log_of old.logs shard) origin write)
-    (c : CommitsWithJob types old new shard origin write e) where
+    (c : CommitsWithJob types old new (record { shard = shard; origin = origin; asked = write }) e) where
   gain : IsGain types old.logs new.logs shard e
   gain = record {
     within = c.commits.gained.0;
@@ -178,6 +178,6 @@ module _ (types : EdgeTypes) (old new : Stores) (shard : ℕ) (origin : Origin) 
 
 pub commits_keep : CommitsKeep
 commits_keep = record {
-  stands = λ types old new shard origin write e was client may c. commit_stands types old new shard origin write e was client may c;
-  keep = λ types old new shard origin write e was client may c. commit_keeps types old new shard origin write e was client may c;
+  stands = λ types old new w e was client may c. commit_stands types old new w.shard w.origin w.asked e was client may c;
+  keep = λ types old new w e was client may c. commit_keeps types old new w.shard w.origin w.asked e was client may c;
 }

@@ -3,9 +3,7 @@ use Rattle.std.specs.Prelude.{ℕ, List, [], ◌∷◌, ◌++◌, length, Contai
 use Rattle.tao_base.specs.EdgeTypes.{EdgeTypes, InversesMatch}
 use Rattle.tao_base.specs.Ids.{shard_of}
 use Rattle.tao_base.specs.declared.entry.Entry.{Entry}
-use Rattle.tao_base.specs.declared.entry.Origin.{Origin}
-use Rattle.tao_base.specs.declared.write.Write.{Write}
-use Rattle.write_model.specs.Machine.{ArePaired, Owed, Settles}
+use Rattle.write_model.specs.Machine.{ArePaired, ClientWrite, Owed, Settles}
 use Rattle.write_model.specs.MergeLaws.{IsMergeable}
 use Rattle.write_model.specs.Merges.{HasJob, IsClientEntry, Stores, job_of, log_of}
 use Rattle.graph_model.specs.Soundness.{EdgeUpdate, is_client}
@@ -19,12 +17,12 @@ pub record EmptyStoresAreKept : Type 0 where
 
 -- a commit with its job keeps the stores sound and covered
 pub record CommitsKeep : Type 0 where
-  pub keep : (types : EdgeTypes) (old new : Stores) (shard : ℕ) (origin : Origin) (write : Write) (e : Entry)
-      → AreSoundAndCovered types old → IsTrue (is_client origin) → IsAdmitted types shard (log_of old.logs shard) origin write
-      → CommitsWithJob types old new shard origin write e → AreSoundAndCovered types new
-  pub stands : (types : EdgeTypes) (old new : Stores) (shard : ℕ) (origin : Origin) (write : Write) (e : Entry)
-      → AreSoundAndCovered types old → IsTrue (is_client origin) → IsAdmitted types shard (log_of old.logs shard) origin write
-      → CommitsWithJob types old new shard origin write e → IsClientEntry (log_of new.logs shard) e.position e
+  pub keep : (types : EdgeTypes) (old new : Stores) (w : ClientWrite) (e : Entry)
+      → AreSoundAndCovered types old → IsTrue (is_client w.origin) → IsAdmitted types w.shard (log_of old.logs w.shard) w.origin w.asked
+      → CommitsWithJob types old new w e → AreSoundAndCovered types new
+  pub stands : (types : EdgeTypes) (old new : Stores) (w : ClientWrite) (e : Entry)
+      → AreSoundAndCovered types old → IsTrue (is_client w.origin) → IsAdmitted types w.shard (log_of old.logs w.shard) w.origin w.asked
+      → CommitsWithJob types old new w e → IsClientEntry (log_of new.logs w.shard) e.position e
 
 -- a merge keeps the stores sound and covered, and leaves all of the job there
 pub record MergesKeep : Type 0 where

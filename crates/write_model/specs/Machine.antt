@@ -49,38 +49,46 @@ abbrev pub MergeInTurn : EdgeTypes → List (List Entry) → List (List Entry) �
 MergeInTurn types old new [] = new ≡ old
 MergeInTurn types old new (owed ∷ more) = (between : List (List Entry)) × MayMerge types old between owed × MergeInTurn types between new more
 
+-- what a client asks to be written: on its shard, and under its origin
+pub record ClientWrite : Type 0 where
+  pub shard : ℕ
+  pub origin : Origin
+  pub asked : Write
+
 -- a write commits its entry
-pub record Commits (types : EdgeTypes) (old new : List (List Entry)) (shard : ℕ) (origin : Origin) (write : Write) (e : Entry) : Type 0 where
-  pub is : forward_entry types (log_of old shard) origin write ≡ Some e
-  pub gained : Gains old new shard e
+pub record Commits (types : EdgeTypes) (old new : List (List Entry)) (w : ClientWrite) (e : Entry) : Type 0 where
+  pub is : forward_entry types (log_of old w.shard) w.origin w.asked ≡ Some e
+  pub gained : Gains old new w.shard e
 
--- the entry at the position is one that was made for the write
-pub record StandsFor (logs : List (List Entry)) (shard : ℕ) (origin : Origin) (write : Write) (position : ℕ) (e : Entry) : Type 0 where
-  pub stands : entry_at (log_of logs shard) position ≡ Some e
-  pub origin_is : e.origin ≡ origin
-  pub fits : FitsWrite e write
+-- the entry stands at its position, and is one that was made for the write
+pub record StandsFor (logs : List (List Entry)) (w : ClientWrite) (e : Entry) : Type 0 where
+  pub stands : entry_at (log_of logs w.shard) e.position ≡ Some e
+  pub origin_is : e.origin ≡ w.origin
+  pub fits : FitsWrite e w.asked
 
--- a write that changed something: its entry, at the position, and then perhaps the merge at the other shard
-pub record Writes (types : EdgeTypes) (old new : List (List Entry)) (shard other : ℕ) (origin : Origin) (write : Write) (position : ℕ) (e : Entry) : Type 0 where
+-- what the entry of a write owes to the other shard
+abbrev pub owed_by : ClientWrite → Entry → ℕ → Owed
+owed_by w e other = record { shard = w.shard; entry = e; other = other }
+
+-- a write that changed something: its entry, and then perhaps the merge at the other shard
+pub record Writes (types : EdgeTypes) (old new : List (List Entry)) (w : ClientWrite) (e : Entry) (other : ℕ) : Type 0 where
   pub between : List (List Entry)
-  pub commits : Commits types old between shard origin write e
-  pub position_is : e.position ≡ position
-  pub merges : MayMerge types between new (record { shard = shard; entry = e; other = other })
+  pub commits : Commits types old between w e
+  pub merges : MayMerge types between new (owed_by w e other)
 
 -- a write that found nothing to change
-pub record ChangesNothing (types : EdgeTypes) (old new : List (List Entry)) (shard : ℕ) (origin : Origin) (write : Write) : Type 0 where
-  pub nothing : forward_entry types (log_of old shard) origin write ≡ None
+pub record ChangesNothing (types : EdgeTypes) (old new : List (List Entry)) (w : ClientWrite) : Type 0 where
+  pub nothing : forward_entry types (log_of old w.shard) w.origin w.asked ≡ None
   pub stays : new ≡ old
 
--- a write that was made before: the entry stands, and perhaps its merge is added
-pub record Repeats (types : EdgeTypes) (old new : List (List Entry)) (shard other : ℕ) (origin : Origin) (write : Write) (position : ℕ) (e : Entry) : Type 0 where
-  pub stood : StandsFor old shard origin write position e
-  pub merges : MayMerge types old new (record { shard = shard; entry = e; other = other })
+-- a write that was made before: its entry stands, and perhaps its merge is added
+pub record Repeats (types : EdgeTypes) (old new : List (List Entry)) (w : ClientWrite) (e : Entry) (other : ℕ) : Type 0 where
+  pub stood : StandsFor old w e
+  pub merges : MayMerge types old new (owed_by w e other)
 
 -- a write that was refused after its entry stood: that is new, or was there
-abbrev pub LeavesEntry : EdgeTypes → List (List Entry) → List (List Entry) → ℕ → ℕ → Origin → Write → ℕ → Entry → Type 0
-LeavesEntry types old new shard other origin write position e =
-    Writes types old new shard other origin write position e ⊎ Repeats types old new shard other origin write position e
+abbrev pub LeavesEntry : EdgeTypes → List (List Entry) → List (List Entry) → ClientWrite → Entry → ℕ → Type 0
+LeavesEntry types old new w e other = Writes types old new w e other ⊎ Repeats types old new w e other
 
 -- the job is open, and its entry stands
 pub record IsOpenJob (types : EdgeTypes) (stores : Stores) (owed : Owed) : Type 0 where

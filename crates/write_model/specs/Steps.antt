@@ -4,9 +4,7 @@ use Rattle.tao_base.specs.EdgeTypes.{EdgeTypes}
 use Rattle.tao_base.specs.Ids.{shard_of}
 use Rattle.tao_base.specs.Stamps.{stamp_of}
 use Rattle.tao_base.specs.declared.entry.Entry.{Entry}
-use Rattle.tao_base.specs.declared.entry.Origin.{Origin}
-use Rattle.tao_base.specs.declared.write.Write.{Write}
-use Rattle.write_model.specs.Machine.{ComesBefore, Commits, IsFirstJob, IsOpenJob, MergeInTurn, MergesNews, Owed}
+use Rattle.write_model.specs.Machine.{ClientWrite, ComesBefore, Commits, IsFirstJob, IsOpenJob, MergeInTurn, MergesNews, Owed}
 use Rattle.write_model.specs.Merges.{AreCovered, HasJob, IsClientEntry, Stores, job_of, log_of}
 use Rattle.graph_model.specs.Records.{HasStamp}
 use Rattle.graph_model.specs.Log.{entry_at}
@@ -40,9 +38,9 @@ opened_job [] = None
 opened_job (u ∷ us) = Some (u ∷ us)
 
 -- a write commits its entry and opens the job of it, in one step
-pub record CommitsWithJob (types : EdgeTypes) (old new : Stores) (shard : ℕ) (origin : Origin) (write : Write) (e : Entry) : Type 0 where
-  pub commits : Commits types old.logs new.logs shard origin write e
-  pub opens : JobBecomes old new shard e.position (opened_job (job_of types e))
+pub record CommitsWithJob (types : EdgeTypes) (old new : Stores) (w : ClientWrite) (e : Entry) : Type 0 where
+  pub commits : Commits types old.logs new.logs w e
+  pub opens : JobBecomes old new w.shard e.position (opened_job (job_of types e))
 
 -- a client's entry stands, and the records of its job lie on the other shard, whether that job is still open or not
 pub record IsOwed (types : EdgeTypes) (stores : Stores) (owed : Owed) : Type 0 where

@@ -17,13 +17,13 @@ abbrev pub refused_unless : {E : Type 0} → E → Bool → Result ⊤ E
 refused_unless refused true = Ok tt
 refused_unless refused false = Err refused
 
--- the same outcome, where a refusal is put in other words
-abbrev pub refused_as : {A E F : Type 0} → (E → F) → Result A E → Result A F
-refused_as words (Ok a) = Ok a
-refused_as words (Err refused) = Err (words refused)
+-- the outcome, with its refusal put in other words
+abbrev pub with_refusal : {A E F : Type 0} → (E → F) → Result A E → Result A F
+with_refusal words (Ok a) = Ok a
+with_refusal words (Err refused) = Err (words refused)
 
--- the outcome is the expected one, or there was no memory, of which there may be want at any place: an error's refusal is the
--- expected one, and an error without a refusal is want of memory
+-- the outcome is the expected one, or there was no memory, of which there may be want at any place. What of an error isn't want of
+-- memory is the expected refusal
 abbrev pub Gives : {A E F : Type 0} → (E → Option F) → Result A E → Result A F → Type 0
-Gives refusal_of (Ok a) expected = expected ≡ Ok a
-Gives refusal_of (Err error) expected = IfSome (refusal_of error) (λ refused. expected ≡ Err refused)
+Gives unless_memory (Ok a) expected = expected ≡ Ok a
+Gives unless_memory (Err error) expected = IfSome (unless_memory error) (λ refused. expected ≡ Err refused)

@@ -4,13 +4,9 @@ use Rattle.std.specs.Bool.{then_some}
 use Rattle.std.specs.List.{list_any}
 use Rattle.serde_json.specs.Data.{Data, object, Items, no_items, item, Members, no_members, member}
 use Rattle.serde_json.specs.Find.{get, as_number, as_u64, as_str, as_bool, as_object, as_array}
+use Rattle.outcomes.specs.Options.{◌>>=◌}
 use Rattle.tao_base.specs.Ids.{serial_of}
 use Rattle.tao_base.specs.Names.{is_name}
-
--- members are read one after another, and the first that isn't found ends the reading
-infixl 10 ◌>>=◌
-abbrev pub ◌>>=◌ : {A B : Type 0} → Option A → (A → Option B) → Option B
-o >>= f = option_and_then f o
 
 -- a whole number of 64 bits
 abbrev pub whole_at : List ℕ → Data → Option ℕ

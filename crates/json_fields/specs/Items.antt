@@ -1,7 +1,8 @@
 -- The items of an array, each read in the same way.
 use Rattle.std.specs.Prelude.{ℕ, List, [], ◌∷◌, Option, Some, option_and_then}
 use Rattle.serde_json.specs.Data.{Data, Items, no_items, item}
-use Rattle.json_fields.specs.Fields.{◌>>=◌, items_at}
+use Rattle.outcomes.specs.Options.{◌>>=◌}
+use Rattle.json_fields.specs.Fields.{items_at}
 
 -- what the items say, where each says something
 abbrev pub each : {A : Type 0} → (Data → Option A) → Items → Option (List A)

@@ -1,17 +1,24 @@
--- The text of a reply, from that of its value.
-use Rattle.std.proofs.Common.{◌≡◌, ◌∙◌, ℕ, List, false, ap, sym, subst}
+-- The text that is written for a value.
+use Rattle.std.proofs.Common.{◌≡◌, ◌∙◌, ◌++◌, ℕ, List, [], ap, sym, subst}
+use Rattle.json.specs.Print.{print}
+use Rattle.json.specs.Written.{Written}
+use Rattle.serde_json.proofs.Texts.{print-outline}
 use Rattle.serde_json.specs.Data.{Data}
-use Rattle.serde_json.specs.Written.{has_float, compact_text}
+use Rattle.serde_json.specs.Written.{compact_text}
 use Rattle.reply_json.proofs.OneLine.{text_free}
-use Rattle.reply_json.proofs.ReplyNoFloat.{no_float}
 use Rattle.reply_json.specs.OneLine.{IsOneLine}
-use Rattle.reply_json.specs.Reply.{data_of, reply_text}
-use Rattle.reply_json.specs.declared.reply.Reply.{Reply}
-use Rattle.topology.specs.Config.{Settings}
+use Rattle.reply_json.specs.Writing.{tokens_of}
 
-module _ (s : Settings) (reply : Reply) (d : Data) (bytes : List ℕ) (value : d ≡ data_of s reply) (text : has_float d ≡ false → bytes ≡ compact_text d) where
-  pub text_of : bytes ≡ reply_text s reply
-  text_of = text (ap has_float value ∙ no_float s reply) ∙ ap compact_text value
+printed : (d : Data) → print (tokens_of d) ≡ compact_text d
+unfolding tokens_of
+printed d = print-outline d
+
+-- what a writer has that began with nothing, once the value is written
+module _ (d : Data) (old new : Written) (bytes : List ℕ)
+    (nothing_before : old.before ≡ []) (no_tokens : old.tokens ≡ [])
+    (before : new.before ≡ old.before) (tokens : new.tokens ≡ old.tokens ++ tokens_of d) (items : bytes ≡ new.before ++ print new.tokens) where
+  pub text_of : bytes ≡ compact_text d
+  text_of = items ∙ (rw (before, nothing_before, tokens, no_tokens) (printed d))
 
   pub one_line : IsOneLine bytes
-  one_line = subst IsOneLine (sym text_of) (text_free (data_of s reply))
+  one_line = subst IsOneLine (sym text_of) (text_free d)

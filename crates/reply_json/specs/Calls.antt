@@ -1,70 +1,57 @@
 -- The replies to writes and reads.
-use Rattle.std.specs.Prelude.{ℕ, List, [], ◌∷◌, codes}
+use Rattle.std.specs.Prelude.{ℕ, List, [], ◌∷◌, Option, None as Nothing, Some, option_map, codes}
 use Rattle.serde_json.specs.Data.{Data, boolean}
-use Rattle.reply_json.specs.Json.{fields, text, whole, with_member}
+use Rattle.words.specs.Words.{word_text}
+use Rattle.words.specs.declared.Word.TheVariants as word
+use Rattle.replies.specs.Kinds.{kind_word}
+use Rattle.replies.specs.declared.calls.CallReply.{CallReply}
+use Rattle.replies.specs.declared.calls.CallReply.TheVariants.{Write, Read}
+use Rattle.replies.specs.declared.calls.InverseEnd.{InverseEnd}
+use Rattle.replies.specs.declared.calls.InverseEnd.TheVariants.{None, Written, Scheduled}
+use Rattle.replies.specs.declared.calls.ReadReply.{ReadReply}
+use Rattle.replies.specs.declared.calls.WriteKind.{WriteKind}
+use Rattle.replies.specs.declared.calls.WriteKind.TheVariants.{ObjAdd, ObjUpdate, ObjDelete, AssocAdd, AssocDelete, AssocChangeType}
+use Rattle.replies.specs.declared.calls.WriteReply.{WriteReply}
+use Rattle.reply_json.specs.Json.{fields, given, text, whole}
+use Rattle.reply_json.specs.Texts.{inverse_text, scheduled_text}
 use Rattle.reply_json.specs.Values.{answer_name, answer_data}
-use Rattle.reply_json.specs.declared.calls.CallReply.{CallReply}
-use Rattle.reply_json.specs.declared.calls.CallReply.TheVariants.{Write, Read}
-use Rattle.reply_json.specs.declared.calls.InverseEnd.{InverseEnd}
-use Rattle.reply_json.specs.declared.calls.InverseEnd.TheVariants.{None, Written, Scheduled}
-use Rattle.reply_json.specs.declared.calls.ReadKind.{ReadKind}
-use Rattle.reply_json.specs.declared.calls.ReadKind.TheVariants.{ObjGet, AssocGet, AssocCount, AssocRange, AssocTimeRange}
-use Rattle.reply_json.specs.declared.calls.ReadReply.{ReadReply}
-use Rattle.reply_json.specs.declared.calls.ScheduledWhy.{ScheduledWhy}
-use Rattle.reply_json.specs.declared.calls.ScheduledWhy.TheVariants.{LinkFault, KeeperFault, LogFull, NoServer, Memory}
-use Rattle.reply_json.specs.declared.calls.WriteKind.{WriteKind}
-use Rattle.reply_json.specs.declared.calls.WriteKind.TheVariants.{ObjAdd, ObjUpdate, ObjDelete, AssocAdd, AssocDelete, AssocChangeType}
-use Rattle.reply_json.specs.declared.calls.WriteReply.{WriteReply}
 use Rattle.topology.specs.Config.{Settings}
 
-abbrev pub write_word : WriteKind → List ℕ
-write_word (ObjAdd id) = codes "obj_add"
-write_word ObjUpdate = codes "obj_update"
-write_word ObjDelete = codes "obj_delete"
-write_word AssocAdd = codes "assoc_add"
-write_word AssocDelete = codes "assoc_delete"
-write_word AssocChangeType = codes "assoc_change_type"
+-- the id of an object that was added
+abbrev pub added_id : WriteKind → Option Data
+added_id (ObjAdd id) = Some (whole id)
+added_id ObjUpdate = Nothing
+added_id ObjDelete = Nothing
+added_id AssocAdd = Nothing
+added_id AssocDelete = Nothing
+added_id AssocChangeType = Nothing
 
-abbrev pub inverse_word : InverseEnd → List ℕ
-inverse_word None = codes "none"
-inverse_word Written = codes "written"
-inverse_word (Scheduled why) = codes "scheduled"
+-- why an inverse is not yet written
+abbrev pub scheduled_why : InverseEnd → Option Data
+scheduled_why None = Nothing
+scheduled_why Written = Nothing
+scheduled_why (Scheduled why) = Some (text (scheduled_text why))
 
-abbrev pub scheduled_word : ScheduledWhy → List ℕ
-scheduled_word LinkFault = codes "link_fault"
-scheduled_word KeeperFault = codes "keeper_fault"
-scheduled_word LogFull = codes "log_full"
-scheduled_word NoServer = codes "no_server"
-scheduled_word Memory = codes "memory"
+-- the number of a plan that came to its end
+abbrev pub plan_number : Option ℕ → Option Data
+plan_number plan = option_map whole plan
 
--- an added object's id is told too
-abbrev pub with_id : WriteKind → Data → Data
-with_id (ObjAdd id) d = with_member (codes "id") (whole id) d
-with_id other d = d
+-- a write is told by whether it changed anything, an added object's id, its inverse, its word, a plan's number, its entry's position,
+-- whether it stood there before, and why an inverse is not yet written
+abbrev pub write_data : Option ℕ → WriteReply → Data
+write_data plan w =
+    fields (given ((codes "changed", Some (boolean w.written.changed)) ∷ (codes "id", added_id w.kind)
+    ∷ (codes "inverse", Some (text (inverse_text w.written.inverse))) ∷ (codes "ok", Some (text (word_text (word.Write (kind_word w.kind)))))
+    ∷ (codes "plan", plan_number plan) ∷ (codes "position", Some (whole w.written.position)) ∷ (codes "retry", Some (boolean w.written.retry))
+    ∷ (codes "why", scheduled_why w.written.inverse) ∷ []))
 
--- and why an inverse is not yet written
-abbrev pub with_why : InverseEnd → Data → Data
-with_why (Scheduled why) d = with_member (codes "why") (text (scheduled_word why)) d
-with_why other d = d
+-- a read is told by its answer, its word, a plan's number and its version
+abbrev pub read_data : Settings → Option ℕ → ReadReply → Data
+read_data s plan r =
+    fields (given ((answer_name r.answer, Some (answer_data s r.answer)) ∷ (codes "ok", Some (text (word_text (word.Read r.word))))
+    ∷ (codes "plan", plan_number plan) ∷ (codes "version", Some (whole r.version)) ∷ []))
 
--- a write is told by whether it changed anything, its inverse, its word, its entry's position, and whether it stood there before
-abbrev pub written_data : WriteReply → Data
-written_data w = fields ((codes "changed", boolean w.written.changed) ∷ (codes "inverse", text (inverse_word w.written.inverse)) ∷ (codes "ok", text (write_word w.kind)) ∷ (codes "position", whole w.written.position) ∷ (codes "retry", boolean w.written.retry) ∷ [])
-
-abbrev pub write_data : WriteReply → Data
-write_data w = with_why w.written.inverse (with_id w.kind (written_data w))
-
-abbrev pub read_word : ReadKind → List ℕ
-read_word ObjGet = codes "obj_get"
-read_word AssocGet = codes "assoc_get"
-read_word AssocCount = codes "assoc_count"
-read_word AssocRange = codes "assoc_range"
-read_word AssocTimeRange = codes "assoc_time_range"
-
--- a read is told by its answer, its word and its version
-abbrev pub read_data : Settings → ReadReply → Data
-read_data s r = with_member (answer_name r.answer) (answer_data s r.answer) (fields ((codes "ok", text (read_word r.kind)) ∷ (codes "version", whole r.version) ∷ []))
-
-abbrev pub call_data : Settings → CallReply → Data
-call_data s (Write w) = write_data w
-call_data s (Read r) = read_data s r
+-- a call is told with the number of its plan, where it was carried out by one
+abbrev pub call_data : Settings → Option ℕ → CallReply → Data
+call_data s plan (Write w) = write_data plan w
+call_data s plan (Read r) = read_data s plan r

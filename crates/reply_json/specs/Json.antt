@@ -1,6 +1,6 @@
 -- JSON values.
-use Rattle.std.specs.Prelude.{ℕ, List, [], ◌∷◌}
-use Rattle.serde_json.specs.Data.{Data, number, unsigned, string, object, Members, no_members, member, put}
+use Rattle.std.specs.Prelude.{ℕ, List, [], ◌∷◌, Option, Some, None}
+use Rattle.serde_json.specs.Data.{Data, number, unsigned, string, object, Members, no_members, member}
 
 -- members, which are given in the order of their names
 abbrev pub members : List (List ℕ × Data) → Members
@@ -11,10 +11,15 @@ members (m ∷ ms) = member m.0 m.1 (members ms)
 abbrev pub fields : List (List ℕ × Data) → Data
 fields ms = object (members ms)
 
--- an object with one member more, at its place in the order of the names
-abbrev pub with_member : List ℕ → Data → Data → Data
-with_member name d (object ms) = object (put name d ms)
-with_member name d other = other
+-- a member before others, where it is there
+abbrev pub given_before : List ℕ → Option Data → List (List ℕ × Data) → List (List ℕ × Data)
+given_before name None ms = ms
+given_before name (Some d) ms = (name, d) ∷ ms
+
+-- those members that are there
+abbrev pub given : List (List ℕ × Option Data) → List (List ℕ × Data)
+given [] = []
+given (m ∷ ms) = given_before m.0 m.1 (given ms)
 
 -- a text
 abbrev pub text : List ℕ → Data

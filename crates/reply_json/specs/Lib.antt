@@ -5,4 +5,7 @@ pub mod OneLine
 pub mod Plans
 pub mod Refusals
 pub mod Reply
+pub mod Said
+pub mod Texts
 pub mod Values
+pub mod Writing

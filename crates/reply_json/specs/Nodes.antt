@@ -1,92 +1,102 @@
 -- The replies about nodes.
-use Rattle.std.specs.Prelude.{ℕ, Bool, true, false, List, [], ◌∷◌, map, codes}
-use Rattle.serde_json.specs.Data.{Data, boolean, array}
-use Rattle.serde_json.specs.View.{items_of}
-use Rattle.reply_json.specs.Json.{fields, text, whole}
-use Rattle.reply_json.specs.Values.{object_data, edges_data}
-use Rattle.reply_json.specs.declared.lists.Message.{Message}
-use Rattle.reply_json.specs.declared.nodes.CacheReply.{CacheReply}
-use Rattle.reply_json.specs.declared.nodes.CacheReply.TheVariants.{Delivered, Lost as MessageLost, Refilled, Evicted, Shown, Inbox}
-use Rattle.reply_json.specs.declared.nodes.DeliveryKind.{DeliveryKind}
-use Rattle.reply_json.specs.declared.nodes.DeliveryKind.TheVariants.{Deliver, Again}
-use Rattle.reply_json.specs.declared.nodes.HealthKind.{HealthKind}
-use Rattle.reply_json.specs.declared.nodes.HealthKind.TheVariants.{Down, Up, Suspect, Trust}
-use Rattle.reply_json.specs.declared.nodes.KeptOrNot.{KeptOrNot}
-use Rattle.reply_json.specs.declared.nodes.KeptOrNot.TheVariants.{Kept, Not}
-use Rattle.reply_json.specs.declared.nodes.LinkKind.{LinkKind}
-use Rattle.reply_json.specs.declared.nodes.LinkKind.TheVariants.{Cut, Mend}
-use Rattle.reply_json.specs.declared.nodes.NodeReply.{NodeReply}
-use Rattle.reply_json.specs.declared.nodes.NodeReply.TheVariants.{Cache, Streamed, Repaired, Health, Link}
-use Rattle.reply_json.specs.declared.nodes.NotKeptWhy.{NotKeptWhy}
-use Rattle.reply_json.specs.declared.nodes.NotKeptWhy.TheVariants.{Bound, Asks, Lost, Mark, Floor, Memory}
-use Rattle.reply_json.specs.declared.nodes.Shown.{Shown as ShownOf}
-use Rattle.reply_json.specs.declared.nodes.Shown.TheVariants.{Nothing, Held}
-use Rattle.reply_json.specs.declared.nodes.ShownItem.TheVariants.{Object as ObjectItem, List as ListItem}
-use Rattle.reply_json.specs.declared.nodes.StreamVerdict.{StreamVerdict}
-use Rattle.reply_json.specs.declared.nodes.StreamVerdict.TheVariants.{Applied, Old, Gap, None}
+use Rattle.std.specs.Prelude.{ℕ, Bool, true, false, List, [], ◌∷◌, Option, None, Some, codes}
+use Rattle.serde_json.specs.Data.{Data, boolean}
+use Rattle.words.specs.Words.{word_text}
+use Rattle.words.specs.declared.Word.TheVariants as word
+use Rattle.replies.specs.declared.nodes.CacheReply.{CacheReply}
+use Rattle.replies.specs.declared.nodes.CacheReply.TheVariants as cache
+use Rattle.replies.specs.declared.nodes.Delivered.{Delivered}
+use Rattle.replies.specs.declared.nodes.KeptOrNot.{KeptOrNot}
+use Rattle.replies.specs.declared.nodes.KeptOrNot.TheVariants.{Kept, Not}
+use Rattle.replies.specs.declared.nodes.NodeReply.{NodeReply}
+use Rattle.replies.specs.declared.nodes.NodeReply.TheVariants as node
+use Rattle.replies.specs.declared.nodes.Refilled.{Refilled}
+use Rattle.replies.specs.declared.nodes.Repaired.{Repaired}
+use Rattle.replies.specs.declared.nodes.Shown.{Shown}
+use Rattle.replies.specs.declared.nodes.Shown.TheVariants.{Nothing, Held}
+use Rattle.replies.specs.declared.nodes.ShownItem.{ShownItem}
+use Rattle.replies.specs.declared.nodes.ShownItem.TheVariants.{Object as ObjectItem, List as ListItem}
+use Rattle.replies.specs.declared.nodes.Streamed.{Streamed}
+use Rattle.reply_json.specs.Json.{fields, given, text, whole}
+use Rattle.reply_json.specs.Texts.{not_kept_text, verdict_text}
+use Rattle.reply_json.specs.Values.{object_data, edges_data, messages_data}
 use Rattle.topology.specs.Config.{Settings}
+
+-- ---- whether a fill was kept, and else why not
+
+abbrev pub is_kept : KeptOrNot → Bool
+is_kept Kept = true
+is_kept (Not n) = false
+
+-- what a fill had that was not kept
+abbrev pub had : KeptOrNot → Option Data
+had Kept = None
+had (Not n) = Some (whole n.have)
+
+-- what it needed
+abbrev pub needs : KeptOrNot → Option Data
+needs Kept = None
+needs (Not n) = Some (whole n.need)
+
+-- why it was not kept
+abbrev pub not_kept_why : KeptOrNot → Option Data
+not_kept_why Kept = None
+not_kept_why (Not n) = Some (text (not_kept_text n.why))
 
 -- ---- cache nodes
 
-abbrev pub delivery_word : DeliveryKind → List ℕ
-delivery_word Deliver = codes "deliver"
-delivery_word Again = codes "again"
-
-abbrev pub not_kept_word : NotKeptWhy → List ℕ
-not_kept_word Bound = codes "bound"
-not_kept_word Asks = codes "asks"
-not_kept_word Lost = codes "lost"
-not_kept_word Mark = codes "mark"
-not_kept_word Floor = codes "floor"
-not_kept_word Memory = codes "memory"
+-- a delivery is told by the items that it dropped, the node's mark, its word, and its message
+abbrev pub delivered_data : Delivered → Data
+delivered_data d =
+    fields ((codes "dropped", whole d.dropped) ∷ (codes "mark", whole d.mark) ∷ (codes "ok", text (word_text (word.Delivery d.word)))
+    ∷ (codes "position", whole d.message.position) ∷ (codes "shard", whole d.message.shard) ∷ [])
 
 -- a refill is told by its hops, whether a store was asked, the version, and why the list was not kept
-abbrev pub refill_data : ℕ → Bool → ℕ → KeptOrNot → Data
-refill_data hops store version Kept = fields ((codes "hops", whole hops) ∷ (codes "kept", boolean true) ∷ (codes "ok", text (codes "refill")) ∷ (codes "store", boolean store) ∷ (codes "version", whole version) ∷ [])
-refill_data hops store version (Not n) = fields ((codes "have", whole n.have) ∷ (codes "hops", whole hops) ∷ (codes "kept", boolean false) ∷ (codes "need", whole n.need) ∷ (codes "ok", text (codes "refill")) ∷ (codes "store", boolean store) ∷ (codes "version", whole version) ∷ (codes "why", text (not_kept_word n.why)) ∷ [])
+abbrev pub refilled_data : Refilled → Data
+refilled_data r =
+    fields (given ((codes "have", had r.kept) ∷ (codes "hops", Some (whole r.hops)) ∷ (codes "kept", Some (boolean (is_kept r.kept)))
+    ∷ (codes "need", needs r.kept) ∷ (codes "ok", Some (text (word_text word.Refill))) ∷ (codes "store", Some (boolean r.store))
+    ∷ (codes "version", Some (whole r.version)) ∷ (codes "why", not_kept_why r.kept) ∷ []))
+
+-- an item is told with its version and the node's mark
+abbrev pub item_data : Settings → ℕ → ℕ → ShownItem → Data
+item_data s mark version (ObjectItem o) =
+    fields ((codes "held", boolean true) ∷ (codes "mark", whole mark) ∷ (codes "object", object_data s o) ∷ (codes "ok", text (word_text word.Show))
+    ∷ (codes "version", whole version) ∷ [])
+item_data s mark version (ListItem edges total) =
+    fields ((codes "edges", edges_data edges) ∷ (codes "held", boolean true) ∷ (codes "mark", whole mark) ∷ (codes "ok", text (word_text word.Show))
+    ∷ (codes "total", whole total) ∷ (codes "version", whole version) ∷ [])
 
 -- what a node holds of a key is told with the node's mark
-abbrev pub shown_data : Settings → ℕ → ShownOf → Data
-shown_data s mark Nothing = fields ((codes "held", boolean false) ∷ (codes "mark", whole mark) ∷ (codes "ok", text (codes "show")) ∷ [])
-shown_data s mark (Held version (ObjectItem o)) = fields ((codes "held", boolean true) ∷ (codes "mark", whole mark) ∷ (codes "object", object_data s o) ∷ (codes "ok", text (codes "show")) ∷ (codes "version", whole version) ∷ [])
-shown_data s mark (Held version (ListItem edges total)) = fields ((codes "edges", edges_data edges) ∷ (codes "held", boolean true) ∷ (codes "mark", whole mark) ∷ (codes "ok", text (codes "show")) ∷ (codes "total", whole total) ∷ (codes "version", whole version) ∷ [])
+abbrev pub shown_data : Settings → ℕ → Shown → Data
+shown_data s mark Nothing = fields ((codes "held", boolean false) ∷ (codes "mark", whole mark) ∷ (codes "ok", text (word_text word.Show)) ∷ [])
+shown_data s mark (Held version item) = item_data s mark version item
 
--- a message is told by its entry's position and shard
-abbrev pub message_data : Message → Data
-message_data m = fields ((codes "position", whole m.position) ∷ (codes "shard", whole m.shard) ∷ [])
-
-abbrev pub messages_data : List Message → Data
-messages_data messages = array (items_of (map message_data messages))
-
+-- what is told of a cache node
 abbrev pub cache_data : Settings → CacheReply → Data
-cache_data s (Delivered kind dropped mark position shard) = fields ((codes "dropped", whole dropped) ∷ (codes "mark", whole mark) ∷ (codes "ok", text (delivery_word kind)) ∷ (codes "position", whole position) ∷ (codes "shard", whole shard) ∷ [])
-cache_data s (MessageLost position shard) = fields ((codes "ok", text (codes "drop")) ∷ (codes "position", whole position) ∷ (codes "shard", whole shard) ∷ [])
-cache_data s (Refilled hops store version kept) = refill_data hops store version kept
-cache_data s (Evicted evicted) = fields ((codes "evicted", boolean evicted) ∷ (codes "ok", text (codes "evict")) ∷ [])
-cache_data s (Shown mark item) = shown_data s mark item
-cache_data s (Inbox messages) = fields ((codes "messages", messages_data messages) ∷ (codes "ok", text (codes "inbox")) ∷ [])
+cache_data s (cache.Delivered d) = delivered_data d
+cache_data s (cache.Lost m) = fields ((codes "ok", text (word_text word.Drop)) ∷ (codes "position", whole m.position) ∷ (codes "shard", whole m.shard) ∷ [])
+cache_data s (cache.Refilled r) = refilled_data r
+cache_data s (cache.Evicted evicted) = fields ((codes "evicted", boolean evicted) ∷ (codes "ok", text (word_text word.Evict)) ∷ [])
+cache_data s (cache.Shown mark item) = shown_data s mark item
+cache_data s (cache.Inbox messages) = fields ((codes "messages", messages_data messages) ∷ (codes "ok", text (word_text word.Inbox)) ∷ [])
 
 -- ---- all nodes
 
-abbrev pub verdict_word : StreamVerdict → List ℕ
-verdict_word Applied = codes "applied"
-verdict_word Old = codes "old"
-verdict_word Gap = codes "gap"
-verdict_word None = codes "none"
+-- a stream is told by its hops, the position that the store takes next, and what it did with the entry
+abbrev pub streamed_data : Streamed → Data
+streamed_data r =
+    fields ((codes "hops", whole r.hops) ∷ (codes "next", whole r.next) ∷ (codes "ok", text (word_text word.Stream))
+    ∷ (codes "verdict", text (verdict_text r.verdict)) ∷ [])
 
-abbrev pub health_word : HealthKind → List ℕ
-health_word Down = codes "down"
-health_word Up = codes "up"
-health_word Suspect = codes "suspect"
-health_word Trust = codes "trust"
+-- a repair is told by its hops, its job, and whether it wrote an entry
+abbrev pub repaired_data : Repaired → Data
+repaired_data r = fields ((codes "hops", whole r.hops) ∷ (codes "job", whole r.job) ∷ (codes "ok", text (word_text word.Repair)) ∷ (codes "wrote", boolean r.wrote) ∷ [])
 
-abbrev pub link_word : LinkKind → List ℕ
-link_word Cut = codes "cut"
-link_word Mend = codes "mend"
-
-abbrev pub nodes_data : Settings → NodeReply → Data
-nodes_data s (Cache reply) = cache_data s reply
-nodes_data s (Streamed hops next verdict) = fields ((codes "hops", whole hops) ∷ (codes "next", whole next) ∷ (codes "ok", text (codes "stream")) ∷ (codes "verdict", text (verdict_word verdict)) ∷ [])
-nodes_data s (Repaired hops job wrote) = fields ((codes "hops", whole hops) ∷ (codes "job", whole job) ∷ (codes "ok", text (codes "repair")) ∷ (codes "wrote", boolean wrote) ∷ [])
-nodes_data s (Health kind changed) = fields ((codes "changed", boolean changed) ∷ (codes "ok", text (health_word kind)) ∷ [])
-nodes_data s (Link kind) = fields ((codes "ok", text (link_word kind)) ∷ [])
+-- what is told of a node
+abbrev pub node_data : Settings → NodeReply → Data
+node_data s (node.Cache reply) = cache_data s reply
+node_data s (node.Streamed r) = streamed_data r
+node_data s (node.Repaired r) = repaired_data r
+node_data s (node.Health which changed) = fields ((codes "changed", boolean changed) ∷ (codes "ok", text (word_text (word.Health which))) ∷ [])
+node_data s (node.Link which) = fields ((codes "ok", text (word_text (word.Link which))) ∷ [])

@@ -1,17 +1,16 @@
--- Objects, edges, answers and nodes.
+-- Objects, edges, answers, lengths and messages.
 use Rattle.std.specs.Prelude.{ℕ, List, [], ◌∷◌, map, Option, Some, None, unwrap_or, slice_get, codes}
 use Rattle.serde_json.specs.Data.{Data, null, array}
 use Rattle.serde_json.specs.View.{items_of}
 use Rattle.reply_json.specs.Json.{fields, text, whole}
+use Rattle.replies.specs.declared.lists.Message.{Message}
 use Rattle.tao_base.specs.declared.data.Pair.{Pair}
 use Rattle.tao_base.specs.declared.edge.Edge.{Edge}
 use Rattle.tao_base.specs.declared.edge.Object.{Object}
 use Rattle.tao_base.specs.declared.id.OType.{OType}
 use Rattle.tao_base.specs.declared.query.Answer.{Answer}
 use Rattle.tao_base.specs.declared.query.Answer.TheVariants.{Object as ObjectIs, Edges as EdgesAre, Count}
-use Rattle.node_name.specs.declared.NodeName.{NodeName}
 use Rattle.topology.specs.Config.{Settings}
-use Rattle.topology.specs.Nodes.{node_text}
 
 -- the data of an object or an edge: each key with its value
 abbrev pub pairs_data : List Pair → Data
@@ -46,6 +45,14 @@ answer_data s (ObjectIs o) = object_data s o
 answer_data s (EdgesAre edges) = edges_data edges
 answer_data s (Count n) = whole n
 
--- a node, by its text
-abbrev pub node_data : Settings → NodeName → Data
-node_data s node = text (node_text s node)
+-- lengths, in their order
+abbrev pub lengths_data : List ℕ → Data
+lengths_data lengths = array (items_of (map whole lengths))
+
+-- a message is told by its entry's position and shard
+abbrev pub message_data : Message → Data
+message_data m = fields ((codes "position", whole m.position) ∷ (codes "shard", whole m.shard) ∷ [])
+
+-- messages, in their order
+abbrev pub messages_data : List Message → Data
+messages_data messages = array (items_of (map message_data messages))

@@ -1,313 +1,340 @@
-//! Refusals.
-ghost use Rattle.std.specs.Prelude.{◌≡◌, IfOk};
-ghost use Rattle.reply_json.specs.Refusals.{named, line_refused, plan_refused, session_refused, name_refused, link_fault, node_down, when_word, when_position, node_refused, unsettled_word, store_refused, refusal_data};
-ghost use Rattle.serde_json.specs.View.{view};
+//! Refusals: each is told by its name, and by what it is about.
+ghost use Rattle.std.specs.Prelude.{◌≡◌};
+ghost use Rattle.reply_json.specs.Refusals.{about_name, line_refused, link_fault, name_refused, node_down, node_refused, plan_refused, refusal_data, session_refused, store_refused, when_position};
+ghost use Rattle.reply_json.specs.Writing.{Puts};
 
-use super::values::node_value;
-use node_name::NodeName;
-use serde_json::{Value, json};
+use crate::said::Said;
+use crate::spelled::put_members;
+use crate::texts::{unsettled_text, when_text};
+use json::Writer;
+use replies::{
+    LineRefused, NameRefused, NodeRefused, PlanRefused, Refusal, SessionRefused, StoreRefused, When,
+};
 use std::alloc::{AllocError, Global};
-use tao_base::{StoreName, Text};
 use topology::Config;
 
-/// Why a request was refused.
-#[derive(Debug, Drop)]
-pub enum Refusal {
-    Line(LineRefused),
-    Plan(PlanRefused),
-    Session(SessionRefused),
-    Name(NameRefused),
-    Node(NodeRefused),
-    Store(StoreRefused),
-    /// There was no memory. The position is that of the write's entry, 0 where none was committed.
-    Memory { position: u64 },
-}
-
-/// What of a line was refused.
-#[derive(Debug, Drop)]
-pub enum LineRefused {
-    /// The line says no request: its first bad field, the empty text for the line as a whole.
-    BadLine { field: Text },
-    /// The data has more pairs, or is spelled in more bytes, than data may.
-    TooLarge { bytes: u64, pairs: u64 },
-    /// The word is known, and not yet built.
-    NotBuilt { word: Text },
-    /// The word is none that a cluster of threads takes.
-    NotHere { word: Text },
-}
-
-/// Why a plan was not taken further.
-#[derive(Debug, Drop)]
-pub enum PlanRefused {
-    NoPlan { plan: u32 },
-    /// The plan is held already.
-    PlanThere { plan: u32 },
-    /// As many plans are held as may be.
-    PlanFull { plans: u64 },
-}
-
-/// What is wrong with a session.
-#[derive(Debug, Drop)]
-pub enum SessionRefused {
-    NoSession { session: u32 },
-    /// The session is open already.
-    SessionThere { session: u32 },
-    /// As many sessions are open as may be.
-    SessionFull { sessions: u64 },
-}
-
-/// What is wrong with a name that a request gave.
-#[derive(Debug, Drop)]
-pub enum NameRefused {
-    /// No such region, as `east`, or no such tier, as `east/t9`.
-    NoTier { name: Text },
-    NoNode { name: Text },
-    UnknownType { name: Text },
-    NoShard { shard: u16 },
-    /// The type that an edge is to have is the one that it has.
-    SameType { name: Text },
-    /// More ids are asked than edges of the type are kept: the bound, and how many ids.
-    Limit { bound: u64, count: u64 },
-}
-
-/// Why a node could not do what was asked.
-#[derive(Debug, Drop)]
-pub enum NodeRefused {
-    /// The inbox has no message at that place.
-    NoMessage { message: u32 },
-    /// The refill queue is empty.
-    NoRefill { node: NodeName },
-    /// The store is the master, which no stream goes into.
-    IsMaster { store: StoreName },
-    /// The master's log, of that length, has no entry at the position.
-    NoEntry { length: u64, position: u64 },
-    /// No follower or leader of the region can be chosen.
-    NoServer { region: u16 },
-    /// A node that a held plan needs is down.
-    NodeDown { node: NodeName, when: When },
-}
-
-/// Whether a plan ended before its entry was committed, or after, and at which position it stands.
-#[derive(Clone, Copy, Debug, PartialEq, Eq)]
-pub enum When {
-    Before,
-    After { position: u64 },
-}
-
-/// Why a store could not do what was asked.
-#[derive(Debug, Drop)]
-pub enum StoreRefused {
-    /// The session's write of that number stands at the position, and is another one.
-    SeqReused { position: u64 },
-    /// The shard has its last serial.
-    ShardFull { serial: u64 },
-    /// The edge's stamp has the last number.
-    StampFull { number: u64 },
-    /// The log has as many entries as it may.
-    LogFull { length: u64 },
-    /// A keeper's call failed: how many have.
-    KeeperFault { count: u64 },
-    /// A carry failed: how many have.
-    LinkFault { count: u64, when: When },
-    /// `settle` ended at this shard.
-    Unsettled { shard: u16, why: UnsettledWhy },
-}
-
-/// Why `settle` came to no end.
-#[derive(Clone, Copy, Debug, PartialEq, Eq)]
-pub enum UnsettledWhy {
-    LinkFault,
-    KeeperFault,
-    LogFull,
-}
-
-impl When {
-    fn word(self) -> &'static str
-        ensures { result.now ≡ when_word self }
-    {
-        match self {
-            When::Before => "before",
-            When::After { .. } => "after",
-        }
-    }
-
-    /// The position of the committed entry, 0 before.
-    fn position(self) -> u64
-        ensures { result ≡ when_position self }
-    {
-        match self {
-            When::Before => 0,
-            When::After { position } => position,
-        }
-    }
-}
-
-impl UnsettledWhy {
-    fn word(self) -> &'static str
-        ensures { result.now ≡ unsettled_word self }
-    {
-        match self {
-            UnsettledWhy::LinkFault => "link_fault",
-            UnsettledWhy::KeeperFault => "keeper_fault",
-            UnsettledWhy::LogFull => "log_full",
-        }
-    }
-}
-
-pub(crate) fn refusal_value(
+pub(crate) fn put_refusal(
     alloc: Global,
+    out: &mut Writer,
     config: &Config,
     refusal: &Refusal,
-) -> Result<Value, AllocError>
-    ensures { IfOk result (λ value. view value ≡ refusal_data config.now refusal.now) }
+) -> Result<(), AllocError>
+    ensures { Puts result out.old out.new (refusal_data config.now refusal.now) }
 {
     match refusal {
-        Refusal::Line(refused) => line_refused(alloc, refused),
-        Refusal::Plan(refused) => plan_refused(alloc, refused),
-        Refusal::Session(refused) => session_refused(alloc, refused),
-        Refusal::Name(refused) => name_refused(alloc, refused),
-        Refusal::Node(refused) => node_refused(alloc, config, refused),
-        Refusal::Store(refused) => store_refused(alloc, refused),
-        Refusal::Memory { position } => json!(in alloc; {"no": "memory", "position": *position}),
+        Refusal::Line(refused) => put_line_refused(out, refused),
+        Refusal::Plan(refused) => put_plan_refused(out, refused),
+        Refusal::Session(refused) => put_session_refused(out, refused),
+        Refusal::Name(refused) => put_name_refused(out, refused),
+        Refusal::Node(refused) => put_node_refused(alloc, out, config, refused),
+        Refusal::Store(refused) => put_store_refused(out, refused),
+        Refusal::Memory { position } => put_members(
+            out,
+            &[
+                ("no", Said::Text("memory")),
+                ("position", Said::Whole(*position)),
+            ],
+        ),
     }
 }
 
-fn line_refused(alloc: Global, refused: &LineRefused) -> Result<Value, AllocError>
-    ensures { IfOk result (λ value. view value ≡ line_refused refused.now) }
+fn put_line_refused(out: &mut Writer, refused: &LineRefused) -> Result<(), AllocError>
+    ensures { Puts result out.old out.new (line_refused refused.now) }
 {
     match refused {
         LineRefused::BadLine { field } => {
-            json!(in alloc; {"field": field.as_str(), "no": "bad_line"})
+            put_members(
+                out,
+                &[
+                    ("field", Said::Text(field.as_str())),
+                    ("no", Said::Text("bad_line")),
+                ],
+            )
         }
         LineRefused::TooLarge { bytes, pairs } => {
-            json!(in alloc; {"bytes": *bytes, "no": "too_large", "pairs": *pairs})
+            put_members(
+                out,
+                &[
+                    ("bytes", Said::Whole(*bytes)),
+                    ("no", Said::Text("too_large")),
+                    ("pairs", Said::Whole(*pairs)),
+                ],
+            )
         }
         LineRefused::NotBuilt { word } => {
-            json!(in alloc; {"do": word.as_str(), "no": "not_built"})
+            put_members(
+                out,
+                &[
+                    ("do", Said::Text(word.text())),
+                    ("no", Said::Text("not_built")),
+                ],
+            )
         }
         LineRefused::NotHere { word } => {
-            json!(in alloc; {"do": word.as_str(), "no": "not_here"})
+            put_members(
+                out,
+                &[
+                    ("do", Said::Text(word.text())),
+                    ("no", Said::Text("not_here")),
+                ],
+            )
         }
     }
 }
 
-fn plan_refused(alloc: Global, refused: &PlanRefused) -> Result<Value, AllocError>
-    ensures { IfOk result (λ value. view value ≡ plan_refused refused.now) }
+fn put_plan_refused(out: &mut Writer, refused: &PlanRefused) -> Result<(), AllocError>
+    ensures { Puts result out.old out.new (plan_refused refused.now) }
 {
     match refused {
-        PlanRefused::NoPlan { plan } => json!(in alloc; {"no": "no_plan", "plan": *plan}),
-        PlanRefused::PlanThere { plan } => json!(in alloc; {"no": "plan_there", "plan": *plan}),
-        PlanRefused::PlanFull { plans } => json!(in alloc; {"no": "plan_full", "plans": *plans}),
+        PlanRefused::NoPlan { plan } => put_members(
+            out,
+            &[
+                ("no", Said::Text("no_plan")),
+                ("plan", Said::Whole(*plan as u64)),
+            ],
+        ),
+        PlanRefused::PlanThere { plan } => put_members(
+            out,
+            &[
+                ("no", Said::Text("plan_there")),
+                ("plan", Said::Whole(*plan as u64)),
+            ],
+        ),
+        PlanRefused::PlanFull { plans } => put_members(
+            out,
+            &[
+                ("no", Said::Text("plan_full")),
+                ("plans", Said::Whole(*plans)),
+            ],
+        ),
     }
 }
 
-fn session_refused(alloc: Global, refused: &SessionRefused) -> Result<Value, AllocError>
-    ensures { IfOk result (λ value. view value ≡ session_refused refused.now) }
+fn put_session_refused(out: &mut Writer, refused: &SessionRefused) -> Result<(), AllocError>
+    ensures { Puts result out.old out.new (session_refused refused.now) }
 {
     match refused {
         SessionRefused::NoSession { session } => {
-            json!(in alloc; {"no": "no_session", "session": *session})
+            put_members(
+                out,
+                &[
+                    ("no", Said::Text("no_session")),
+                    ("session", Said::Whole(*session as u64)),
+                ],
+            )
         }
         SessionRefused::SessionThere { session } => {
-            json!(in alloc; {"no": "session_there", "session": *session})
+            put_members(
+                out,
+                &[
+                    ("no", Said::Text("session_there")),
+                    ("session", Said::Whole(*session as u64)),
+                ],
+            )
         }
         SessionRefused::SessionFull { sessions } => {
-            json!(in alloc; {"no": "session_full", "sessions": *sessions})
+            put_members(
+                out,
+                &[
+                    ("no", Said::Text("session_full")),
+                    ("sessions", Said::Whole(*sessions)),
+                ],
+            )
         }
     }
 }
 
-fn name_refused(alloc: Global, refused: &NameRefused) -> Result<Value, AllocError>
-    ensures { IfOk result (λ value. view value ≡ name_refused refused.now) }
+fn put_name_refused(out: &mut Writer, refused: &NameRefused) -> Result<(), AllocError>
+    ensures { Puts result out.old out.new (name_refused refused.now) }
 {
     match refused {
-        NameRefused::NoTier { name } => named(alloc, "no_tier", name.as_str()),
-        NameRefused::NoNode { name } => named(alloc, "no_node", name.as_str()),
-        NameRefused::UnknownType { name } => named(alloc, "unknown_type", name.as_str()),
-        NameRefused::NoShard { shard } => json!(in alloc; {"no": "no_shard", "shard": *shard}),
-        NameRefused::SameType { name } => named(alloc, "same_type", name.as_str()),
+        NameRefused::NoTier { name } => put_about_name(out, "no_tier", name.as_str()),
+        NameRefused::NoNode { name } => put_about_name(out, "no_node", name.as_str()),
+        NameRefused::UnknownType { name } => put_about_name(out, "unknown_type", name.as_str()),
+        NameRefused::NoShard { shard } => put_members(
+            out,
+            &[
+                ("no", Said::Text("no_shard")),
+                ("shard", Said::Whole(*shard as u64)),
+            ],
+        ),
+        NameRefused::SameType { name } => put_about_name(out, "same_type", name.as_str()),
         NameRefused::Limit { bound, count } => {
-            json!(in alloc; {"bound": *bound, "count": *count, "no": "limit"})
+            put_members(
+                out,
+                &[
+                    ("bound", Said::Whole(*bound)),
+                    ("count", Said::Whole(*count)),
+                    ("no", Said::Text("limit")),
+                ],
+            )
         }
     }
 }
 
-fn named(alloc: Global, word: &str, name: &str) -> Result<Value, AllocError>
-    ensures { IfOk result (λ value. view value ≡ named word.now name.now) }
+fn put_about_name(out: &mut Writer, word: &str, name: &str) -> Result<(), AllocError>
+    ensures { Puts result out.old out.new (about_name word.now name.now) }
 {
-    json!(in alloc; {"name": name, "no": word})
+    put_members(out, &[("name", Said::Text(name)), ("no", Said::Text(word))])
 }
 
-fn node_refused(alloc: Global, config: &Config, refused: &NodeRefused) -> Result<Value, AllocError>
-    ensures { IfOk result (λ value. view value ≡ node_refused config.now refused.now) }
+fn put_node_refused(
+    alloc: Global,
+    out: &mut Writer,
+    config: &Config,
+    refused: &NodeRefused,
+) -> Result<(), AllocError>
+    ensures { Puts result out.old out.new (node_refused config.now refused.now) }
 {
     match refused {
         NodeRefused::NoMessage { message } => {
-            json!(in alloc; {"message": *message, "no": "no_message"})
+            put_members(
+                out,
+                &[
+                    ("message", Said::Whole(*message as u64)),
+                    ("no", Said::Text("no_message")),
+                ],
+            )
         }
         NodeRefused::NoRefill { node } => {
-            let node = node_value(alloc, config, *node)?;
-            json!(in alloc; {"no": "no_refill", "node": node})
+            let node = config.node_text(alloc, *node)?;
+            put_members(
+                out,
+                &[
+                    ("no", Said::Text("no_refill")),
+                    ("node", Said::Text(node.as_str())),
+                ],
+            )
         }
         NodeRefused::IsMaster { store } => {
             let region = config.region_name(store.region);
-            json!(in alloc; {"no": "is_master", "region": region, "shard": store.shard})
+            put_members(
+                out,
+                &[
+                    ("no", Said::Text("is_master")),
+                    ("region", Said::Text(region)),
+                    ("shard", Said::Whole(store.shard as u64)),
+                ],
+            )
         }
         NodeRefused::NoEntry { length, position } => {
-            json!(in alloc; {"length": *length, "no": "no_entry", "position": *position})
+            put_members(
+                out,
+                &[
+                    ("length", Said::Whole(*length)),
+                    ("no", Said::Text("no_entry")),
+                    ("position", Said::Whole(*position)),
+                ],
+            )
         }
         NodeRefused::NoServer { region } => {
-            named(alloc, "no_server", config.region_name(*region))
+            put_about_name(out, "no_server", config.region_name(*region))
         }
-        NodeRefused::NodeDown { node, when } => node_down(alloc, config, *node, *when),
+        NodeRefused::NodeDown { node, when } => {
+            let name = config.node_text(alloc, *node)?;
+            put_node_down(out, name.as_str(), *when)
+        }
     }
 }
 
-fn node_down(
-    alloc: Global,
-    config: &Config,
-    node: NodeName,
-    when: When,
-) -> Result<Value, AllocError>
-    ensures { IfOk result (λ value. view value ≡ node_down config.now node when) }
+fn put_node_down(out: &mut Writer, name: &str, when: When) -> Result<(), AllocError>
+    ensures { Puts result out.old out.new (node_down name.now when) }
 {
-    let name = node_value(alloc, config, node)?;
-    let position = when.position();
-    let word = when.word();
-    json!(in alloc; {"name": name, "no": "node_down", "position": position, "when": word})
+    let word = when_text(when);
+    put_members(
+        out,
+        &[
+            ("name", Said::Text(name)),
+            ("no", Said::Text("node_down")),
+            ("position", Said::Whole(when_position(when))),
+            ("when", Said::Text(word)),
+        ],
+    )
 }
 
-fn store_refused(alloc: Global, refused: &StoreRefused) -> Result<Value, AllocError>
-    ensures { IfOk result (λ value. view value ≡ store_refused refused.now) }
+fn put_store_refused(out: &mut Writer, refused: &StoreRefused) -> Result<(), AllocError>
+    ensures { Puts result out.old out.new (store_refused refused.now) }
 {
     match refused {
         StoreRefused::SeqReused { position } => {
-            json!(in alloc; {"no": "seq_reused", "position": *position})
+            put_members(
+                out,
+                &[
+                    ("no", Said::Text("seq_reused")),
+                    ("position", Said::Whole(*position)),
+                ],
+            )
         }
         StoreRefused::ShardFull { serial } => {
-            json!(in alloc; {"no": "shard_full", "serial": *serial})
+            put_members(
+                out,
+                &[
+                    ("no", Said::Text("shard_full")),
+                    ("serial", Said::Whole(*serial)),
+                ],
+            )
         }
         StoreRefused::StampFull { number } => {
-            json!(in alloc; {"no": "stamp_full", "number": *number})
+            put_members(
+                out,
+                &[
+                    ("no", Said::Text("stamp_full")),
+                    ("number", Said::Whole(*number)),
+                ],
+            )
         }
         StoreRefused::LogFull { length } => {
-            json!(in alloc; {"length": *length, "no": "log_full"})
+            put_members(
+                out,
+                &[
+                    ("length", Said::Whole(*length)),
+                    ("no", Said::Text("log_full")),
+                ],
+            )
         }
         StoreRefused::KeeperFault { count } => {
-            json!(in alloc; {"count": *count, "no": "keeper_fault"})
+            put_members(
+                out,
+                &[
+                    ("count", Said::Whole(*count)),
+                    ("no", Said::Text("keeper_fault")),
+                ],
+            )
         }
-        StoreRefused::LinkFault { count, when } => link_fault(alloc, *count, *when),
+        StoreRefused::LinkFault { count, when } => put_link_fault(out, *count, *when),
         StoreRefused::Unsettled { shard, why } => {
-            let why = why.word();
-            json!(in alloc; {"no": "unsettled", "shard": *shard, "why": why})
+            put_members(
+                out,
+                &[
+                    ("no", Said::Text("unsettled")),
+                    ("shard", Said::Whole(*shard as u64)),
+                    ("why", Said::Text(unsettled_text(*why))),
+                ],
+            )
         }
     }
 }
 
-fn link_fault(alloc: Global, count: u64, when: When) -> Result<Value, AllocError>
-    ensures { IfOk result (λ value. view value ≡ link_fault count when) }
+fn put_link_fault(out: &mut Writer, count: u64, when: When) -> Result<(), AllocError>
+    ensures { Puts result out.old out.new (link_fault count when) }
 {
-    let position = when.position();
-    let word = when.word();
-    json!(in alloc; {"count": count, "no": "link_fault", "position": position, "when": word})
+    put_members(
+        out,
+        &[
+            ("count", Said::Whole(count)),
+            ("no", Said::Text("link_fault")),
+            ("position", Said::Whole(when_position(when))),
+            ("when", Said::Text(when_text(when))),
+        ],
+    )
+}
+
+/// The position of the committed entry, 0 before.
+fn when_position(when: When) -> u64
+    ensures { result ≡ when_position when }
+{
+    match when {
+        When::Before => 0,
+        When::After { position } => position,
+    }
 }

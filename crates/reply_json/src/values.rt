@@ -1,116 +1,84 @@
-//! Objects, edges and answers as JSON.
-ghost use Rattle.std.specs.Prelude.{◌≡◌, IfOk};
-ghost use Rattle.reply_json.specs.Json.{with_member};
-ghost use Rattle.reply_json.specs.Values.{pairs_data, otype_name, object_data, edge_data, edges_data, answer_name, answer_data, node_data};
-ghost use Rattle.serde_json.specs.View.{view};
+//! Edges, messages, lengths and data, each as it is spelled.
+ghost use Rattle.std.specs.Prelude.{◌≡◌};
+ghost use Rattle.reply_json.specs.Json.{whole};
+ghost use Rattle.reply_json.specs.Said.{part_value};
+ghost use Rattle.reply_json.specs.Values.{edge_data, message_data, pairs_data};
+ghost use Rattle.reply_json.specs.Writing.{Puts};
 
-use node_name::NodeName;
-use serde_json::{Map, Value, json};
-use std::alloc::{AllocError, Global};
-use tao_base::{Answer, Data, Edge, OType, Object};
-use topology::Config;
+use crate::spelled::{Spelled, put_members};
+use json::Writer;
+use replies::Message;
+use std::alloc::AllocError;
+use tao_base::{Data, Edge};
 
-/// An object with one member more, at its place in the order of the names.
-pub(crate) fn with_member(
-    alloc: Global,
-    object: Value,
-    name: &str,
-    member: Value,
-) -> Result<Value, AllocError>
-    ensures { IfOk result (λ made. view made ≡ with_member name.now (view member) (view object)) }
-{
-    match object {
-        Value::Object(mut members) => {
-            serde_json::put(&mut members, alloc, name, member)?;
-            Ok(Value::Object(members))
+/// A part of an object, an edge or a message.
+#[derive(Clone, Copy)]
+pub(crate) enum Part<'r> {
+    Whole(u64),
+    Text(&'r str),
+    /// Each key with its value.
+    Pairs(&'r Data),
+}
+
+impl Spelled for Part<'_> {
+    ghost value = { part_value };
+
+    #[tactic(auto, unfolding(crate::specs::Writing::tokens_of))]
+    fn put(&self, out: &mut Writer) -> Result<(), AllocError> {
+        match self {
+            Part::Whole(number) => out.u64(*number),
+            Part::Text(text) => out.string(text),
+            Part::Pairs(payload) => put_pairs(out, payload),
         }
-        other => Ok(other),
     }
 }
 
-/// The text of a node.
-pub(crate) fn node_value(
-    alloc: Global,
-    config: &Config,
-    node: NodeName,
-) -> Result<Value, AllocError>
-    ensures { IfOk result (λ value. view value ≡ node_data config.now node) }
-{
-    let text = config.node_text(alloc, node)?;
-    Value::try_from_str(alloc, text.as_str())
-}
+impl Spelled for u64 {
+    ghost value = { whole };
 
-pub(crate) fn answer_name(answer: &Answer) -> &'static str
-    ensures { result.now ≡ answer_name answer.now }
-{
-    match answer {
-        Answer::Object(_) => "object",
-        Answer::Edges(_) => "edges",
-        Answer::Count(_) => "count",
+    #[tactic(auto, unfolding(crate::specs::Writing::tokens_of))]
+    fn put(&self, out: &mut Writer) -> Result<(), AllocError> {
+        out.u64(*self)
     }
 }
 
-pub(crate) fn answer_value(
-    alloc: Global,
-    config: &Config,
-    answer: &Answer,
-) -> Result<Value, AllocError>
-    ensures { IfOk result (λ value. view value ≡ answer_data config.now answer.now) }
-{
-    match answer {
-        Answer::Object(object) => object_value(alloc, config, object),
-        Answer::Edges(edges) => edges_value(alloc, edges.as_slice()),
-        Answer::Count(count) => Ok(Value::from(*count)),
+impl Spelled for Message {
+    ghost value = { message_data };
+
+    fn put(&self, out: &mut Writer) -> Result<(), AllocError> {
+        put_members(
+            out,
+            &[
+                ("position", Part::Whole(self.position)),
+                ("shard", Part::Whole(self.shard as u64)),
+            ],
+        )
     }
 }
 
-pub(crate) fn object_value(
-    alloc: Global,
-    config: &Config,
-    object: &Option<Object>,
-) -> Result<Value, AllocError>
-    ensures { IfOk result (λ value. view value ≡ object_data config.now object.now) }
-{
-    let Some(object) = object else {
-        return Ok(Value::Null);
-    };
-    let data = pairs_value(alloc, &object.payload)?;
-    let otype = otype_name(config, object.otype);
-    json!(in alloc; {"data": data, "otype": otype})
-}
+impl Spelled for Edge {
+    ghost value = { edge_data };
 
-fn otype_name(config: &Config, otype: OType) -> &str
-    ensures { result.now ≡ otype_name config.now otype }
-{
-    config.schema.otype_name(otype)
-}
-
-pub(crate) fn edges_value(alloc: Global, edges: &[Edge]) -> Result<Value, AllocError>
-    ensures { IfOk result (λ value. view value ≡ edges_data edges.now) }
-{
-    let mut items = Vec::new(alloc);
-    for edge in edges {
-        items.push(edge_value(alloc, edge)?)?;
+    fn put(&self, out: &mut Writer) -> Result<(), AllocError> {
+        put_members(
+            out,
+            &[
+                ("data", Part::Pairs(&self.payload)),
+                ("id2", Part::Whole(self.id2.number())),
+                ("time", Part::Whole(self.time as u64)),
+            ],
+        )
     }
-    Ok(Value::from(items))
 }
 
-fn edge_value(alloc: Global, edge: &Edge) -> Result<Value, AllocError>
-    ensures { IfOk result (λ value. view value ≡ edge_data edge.now) }
+#[tactic(auto, unfolding(crate::specs::Writing::tokens_of))]
+fn put_pairs(out: &mut Writer, payload: &Data) -> Result<(), AllocError>
+    ensures { Puts result out.old out.new (pairs_data payload.now) }
 {
-    let data = pairs_value(alloc, &edge.payload)?;
-    let id2 = edge.id2.number();
-    let time = edge.time;
-    json!(in alloc; {"data": data, "id2": id2, "time": time})
-}
-
-fn pairs_value(alloc: Global, payload: &Data) -> Result<Value, AllocError>
-    ensures { IfOk result (λ value. view value ≡ pairs_data payload.now) }
-{
-    let mut members = Map::new(alloc);
+    out.begin_object()?;
     for pair in payload.pairs() {
-        let value = Value::try_from_str(alloc, pair.value.as_str())?;
-        serde_json::put(&mut members, alloc, pair.key.as_str(), value)?;
+        out.key(pair.key.as_str())?;
+        out.string(pair.value.as_str())?;
     }
-    Ok(Value::from(members))
+    out.end_object()
 }

@@ -8,16 +8,16 @@ use Rattle.tao_base.specs.declared.write.Write.TheVariants as to_write
 use Rattle.tao_base.specs.declared.data.Pair.{Pair}
 use Rattle.tao_schema.specs.Schema.{types_of}
 use Rattle.topology.specs.Config.{Settings}
-use Rattle.reply_json.specs.declared.refusals.NameRefused.{NameRefused}
-use Rattle.reply_json.specs.declared.refusals.NameRefused.TheVariants.{SameType, Limit}
-use Rattle.request_json.specs.declared.request.EdgeName.{EdgeName}
-use Rattle.request_json.specs.declared.request.ListName.{ListName}
-use Rattle.request_json.specs.declared.request.QueryText.{QueryText}
-use Rattle.request_json.specs.declared.request.QueryText.TheVariants.{ObjGet, AssocGet, AssocCount, AssocRange, AssocTimeRange}
-use Rattle.request_json.specs.declared.request.WriteText.{WriteText}
-use Rattle.request_json.specs.declared.request.WriteText.TheVariants.{ObjAdd, ObjUpdate, ObjDelete, AssocAdd, AssocDelete, AssocChangeType}
+use Rattle.replies.specs.declared.refusals.NameRefused.{NameRefused}
+use Rattle.replies.specs.declared.refusals.NameRefused.TheVariants.{SameType, Limit}
+use Rattle.requests.specs.declared.request.EdgeName.{EdgeName}
+use Rattle.requests.specs.declared.request.ListName.{ListName}
+use Rattle.requests.specs.declared.request.QueryText.{QueryText}
+use Rattle.requests.specs.declared.request.QueryText.TheVariants.{ObjGet, AssocGet, AssocCount, AssocRange, AssocTimeRange}
+use Rattle.requests.specs.declared.request.WriteText.{WriteText}
+use Rattle.requests.specs.declared.request.WriteText.TheVariants.{ObjAdd, ObjUpdate, ObjDelete, AssocAdd, AssocDelete, AssocChangeType}
 use Rattle.request_check.specs.Names.{atype_of, otype_of, has_shard, has_id}
-use Rattle.request_check.specs.Refusal.{◌>>=◌, refused_unless}
+use Rattle.outcomes.specs.Results.{◌>>=◌, refused_unless}
 
 -- the ends of an edge, id1 first
 abbrev pub has_ends : Settings → EdgeName → Result ⊤ NameRefused

@@ -10,13 +10,13 @@ use Rattle.node_name.specs.declared.NodeName.{NodeName}
 use Rattle.topology.specs.Config.{Settings}
 use Rattle.topology.specs.Lookup.{node_at, tier_in}
 use Rattle.topology.specs.Regions.{region_at}
-use Rattle.reply_json.specs.declared.refusals.NameRefused.{NameRefused}
-use Rattle.reply_json.specs.declared.refusals.NameRefused.TheVariants.{NoTier, NoNode, UnknownType, NoShard}
+use Rattle.replies.specs.declared.refusals.NameRefused.{NameRefused}
+use Rattle.replies.specs.declared.refusals.NameRefused.TheVariants.{NoTier, NoNode, UnknownType, NoShard}
 use Rattle.request_check.specs.declared.names.TierPlace.{TierPlace}
 use Rattle.request_check.specs.declared.kind.NodeKind.{NodeKind}
 use Rattle.request_check.specs.declared.names.Names.{Names}
 use Rattle.request_check.specs.Kind.{takes}
-use Rattle.request_check.specs.Refusal.{◌>>=◌, needed, refused_unless}
+use Rattle.outcomes.specs.Results.{◌>>=◌, needed, refused_unless}
 
 -- the configuration whose names are meant
 abbrev pub settings : Names → Settings

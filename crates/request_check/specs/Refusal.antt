@@ -1,44 +1,33 @@
--- What is found of a request, or why it is refused.
-use Rattle.std.specs.Prelude.{◌≡◌, Bool, true, false, Option, None, Some, Result, Ok, Err, ⊤}
-use Rattle.reply_json.specs.declared.refusals.NameRefused.{NameRefused}
-use Rattle.reply_json.specs.declared.refusals.Refusal.TheVariants.{Name}
-use Rattle.reply_json.specs.declared.reply.Reply.TheVariants as reply
+-- Why a request is refused, and how that is replied.
+use Rattle.std.specs.Prelude.{Option, None, Some, Result}
+use Rattle.outcomes.specs.Results.{with_refusal}
+use Rattle.replies.specs.declared.refusals.NameRefused.{NameRefused}
+use Rattle.replies.specs.declared.refusals.Refusal.{Refusal}
+use Rattle.replies.specs.declared.refusals.Refusal.TheVariants.{Name}
+use Rattle.replies.specs.declared.reply.Reply.{Reply}
+use Rattle.replies.specs.declared.reply.Reply.TheVariants as reply
 use Rattle.request_check.specs.declared.refusal.CheckRefusal.{CheckRefusal}
 use Rattle.request_check.specs.declared.refusal.CheckRefusal.TheVariants as refusal
 use Rattle.request_check.specs.declared.refusal.NameError.{NameError}
 use Rattle.request_check.specs.declared.refusal.NameError.TheVariants.{Refused, OutOfMemory}
 
--- names are looked up one after another, and the first that is refused ends the check
-infixl 10 ◌>>=◌
-abbrev pub ◌>>=◌ : {A B : Type 0} → Result A NameRefused → (A → Result B NameRefused) → Result B NameRefused
-Ok a >>= f = f a
-Err refused >>= f = Err refused
+-- the refused name, unless there was no memory
+abbrev pub unless_memory : NameError → Option NameRefused
+unless_memory (Refused refused) = Some refused
+unless_memory OutOfMemory = None
 
--- what is found, or this refusal
-abbrev pub needed : {A : Type 0} → NameRefused → Option A → Result A NameRefused
-needed refused None = Err refused
-needed refused (Some a) = Ok a
+-- what is replied, unless there was no memory
+abbrev pub reply_unless_memory : CheckRefusal → Option Reply
+reply_unless_memory (refusal.Refused reply) = Some reply
+reply_unless_memory refusal.OutOfMemory = None
 
--- this refusal, unless the test passes
-abbrev pub refused_unless : NameRefused → Bool → Result ⊤ NameRefused
-refused_unless refused true = Ok tt
-refused_unless refused false = Err refused
+-- a refused name is a refusal
+abbrev pub named : {A : Type 0} → Result A NameRefused → Result A Refusal
+named found = with_refusal Name found
 
--- the outcome is the expected one, or there was no memory, of which there may be want at any place
-abbrev pub Gives : {A : Type 0} → Result A NameError → Result A NameRefused → Type 0
-Gives (Err OutOfMemory) expected = Unit {0}
-Gives (Err (Refused refused)) expected = expected ≡ Err refused
-Gives (Ok found) expected = expected ≡ Ok found
-
--- a refused name, as it is replied
-abbrev pub replied : {A : Type 0} → Result A NameRefused → Result A CheckRefusal
-replied (Ok found) = Ok found
-replied (Err refused) = Err (refusal.Refused (reply.Refused (Name refused)))
-
--- the outcome is the expected one, where a refused name is replied, or there was no memory
-abbrev pub Answers : {A : Type 0} → Result A CheckRefusal → Result A NameRefused → Type 0
-Answers (Err refusal.OutOfMemory) expected = Unit {0}
-Answers outcome expected = replied expected ≡ outcome
+-- a refusal is replied
+abbrev pub replied : {A : Type 0} → Result A Refusal → Result A Reply
+replied found = with_refusal reply.Refused found
 
 -- why a name has no place is why the request is refused
 abbrev pub check_refusal : NameError → CheckRefusal

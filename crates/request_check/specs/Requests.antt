@@ -3,18 +3,18 @@ use Rattle.std.specs.Prelude.{ℕ, List, Option, None, Some, Result, Ok}
 use Rattle.tao_base.specs.declared.id.Key.{Key}
 use Rattle.tao_base.specs.declared.id.Key.TheVariants as of_key
 use Rattle.topology.specs.Config.{Settings}
-use Rattle.reply_json.specs.declared.refusals.NameRefused.{NameRefused}
-use Rattle.request_json.specs.declared.request.Call.{Call}
-use Rattle.request_json.specs.declared.request.Call.TheVariants.{Write, Read}
-use Rattle.request_json.specs.declared.request.KeyName.{KeyName}
-use Rattle.request_json.specs.declared.request.KeyName.TheVariants.{Object, List as Assocs}
-use Rattle.request_json.specs.declared.request.LeaderName.{LeaderName}
-use Rattle.request_json.specs.declared.request.LinkName.{LinkName}
-use Rattle.request_json.specs.declared.request.Opening.{Opening}
-use Rattle.request_json.specs.declared.request.ReadCall.{ReadCall}
-use Rattle.request_json.specs.declared.request.WriteCall.{WriteCall}
-use Rattle.request_json.specs.declared.request.Request.{Request}
-use Rattle.request_json.specs.declared.request.Request.TheVariants as request
+use Rattle.replies.specs.declared.refusals.NameRefused.{NameRefused}
+use Rattle.requests.specs.declared.request.Call.{Call}
+use Rattle.requests.specs.declared.request.Call.TheVariants.{Write, Read}
+use Rattle.requests.specs.declared.request.KeyName.{KeyName}
+use Rattle.requests.specs.declared.request.KeyName.TheVariants.{Object, List as Assocs}
+use Rattle.requests.specs.declared.request.LeaderName.{LeaderName}
+use Rattle.requests.specs.declared.request.LinkName.{LinkName}
+use Rattle.requests.specs.declared.request.Opening.{Opening}
+use Rattle.requests.specs.declared.request.ReadCall.{ReadCall}
+use Rattle.requests.specs.declared.request.WriteCall.{WriteCall}
+use Rattle.requests.specs.declared.request.Request.{Request}
+use Rattle.requests.specs.declared.request.Request.TheVariants as request
 use Rattle.request_check.specs.declared.checked.Checked.{Checked}
 use Rattle.request_check.specs.declared.checked.Checked.TheVariants as checked
 use Rattle.request_check.specs.declared.checked.CheckedCall.{CheckedCall}
@@ -26,7 +26,7 @@ use Rattle.request_check.specs.declared.checked.LinkPlace.{LinkPlace}
 use Rattle.request_check.specs.declared.kind.NodeKind.TheVariants.{Any, Cache, Leader, Follower}
 use Rattle.request_check.specs.Calls.{list_type, write_of, query_of}
 use Rattle.request_check.specs.Names.{region_of, tier_of, has_shard, has_id, node_of}
-use Rattle.request_check.specs.Refusal.{◌>>=◌}
+use Rattle.outcomes.specs.Results.{◌>>=◌}
 
 -- ---- sessions and plans
 

@@ -1,24 +1,26 @@
 //! The calls on objects and associations: their types first, then the shards of their ids, then what
 //! their own rules refuse.
-ghost use Rattle.request_check.specs.Refusal.{Gives};
+ghost use Rattle.outcomes.specs.Results.{Gives};
+ghost use Rattle.request_check.specs.Refusal.{unless_memory};
 ghost use Rattle.request_check.specs.Names.{settings};
 ghost use Rattle.request_check.specs.Calls.{has_ends, list_type, edge_type, obj_add_of, obj_update_of, obj_delete_of, assoc_add_of, assoc_delete_of, differs, assoc_change_type_of, write_of, within_bound, obj_get_of, assoc_get_of, assoc_count_of, assoc_range_of, assoc_time_range_of, query_of};
 
 use crate::names::Names;
 use crate::refusal::NameError;
 use tao_base::{AType, Data, Id, IdSet, Query, Text, Time, Write};
-use tao_wire::{EdgeName, ListName, NameRefused, QueryText, WriteText};
+use replies::NameRefused;
+use requests::{EdgeName, ListName, QueryText, WriteText};
 
 /// Refuses an edge one of whose ends lies on a shard that isn't configured.
 fn has_ends(names: &Names<'_>, edge: &EdgeName) -> Result<(), NameError>
-    ensures { Gives result (has_ends (settings names.now) edge.now) }
+    ensures { Gives unless_memory result (has_ends (settings names.now) edge.now) }
 {
     names.id(edge.list.id1)?;
     names.id(edge.id2)
 }
 
 pub(crate) fn list_type(names: &Names<'_>, list: &ListName) -> Result<AType, NameError>
-    ensures { Gives result (list_type (settings names.now) list.now) }
+    ensures { Gives unless_memory result (list_type (settings names.now) list.now) }
 {
     let atype = names.atype(list.atype.as_str())?;
     names.id(list.id1)?;
@@ -26,7 +28,7 @@ pub(crate) fn list_type(names: &Names<'_>, list: &ListName) -> Result<AType, Nam
 }
 
 fn edge_type(names: &Names<'_>, edge: &EdgeName) -> Result<AType, NameError>
-    ensures { Gives result (edge_type (settings names.now) edge.now) }
+    ensures { Gives unless_memory result (edge_type (settings names.now) edge.now) }
 {
     let atype = names.atype(edge.list.atype.as_str())?;
     has_ends(names, edge)?;
@@ -36,7 +38,7 @@ fn edge_type(names: &Names<'_>, edge: &EdgeName) -> Result<AType, NameError>
 // ---- writes
 
 pub(crate) fn write_of(names: &Names<'_>, write: &WriteText) -> Result<Write, NameError>
-    ensures { Gives result (write_of (settings names.now) write.now) }
+    ensures { Gives unless_memory result (write_of (settings names.now) write.now) }
 {
     match write {
         WriteText::ObjAdd {
@@ -62,7 +64,7 @@ fn obj_add_of(
     otype: &Text,
     payload: &Data,
 ) -> Result<Write, NameError>
-    ensures { Gives result (obj_add_of (settings names.now) shard otype.now payload.now) }
+    ensures { Gives unless_memory result (obj_add_of (settings names.now) shard otype.now payload.now) }
 {
     let otype = names.otype(otype.as_str())?;
     names.shard(shard)?;
@@ -74,7 +76,7 @@ fn obj_add_of(
 }
 
 fn obj_update_of(names: &Names<'_>, id: Id, payload: &Data) -> Result<Write, NameError>
-    ensures { Gives result (obj_update_of (settings names.now) id payload.now) }
+    ensures { Gives unless_memory result (obj_update_of (settings names.now) id payload.now) }
 {
     names.id(id)?;
     Ok(Write::ObjUpdate {
@@ -84,7 +86,7 @@ fn obj_update_of(names: &Names<'_>, id: Id, payload: &Data) -> Result<Write, Nam
 }
 
 fn obj_delete_of(names: &Names<'_>, id: Id) -> Result<Write, NameError>
-    ensures { Gives result (obj_delete_of (settings names.now) id) }
+    ensures { Gives unless_memory result (obj_delete_of (settings names.now) id) }
 {
     names.id(id)?;
     Ok(Write::ObjDelete { id })
@@ -96,7 +98,7 @@ fn assoc_add_of(
     time: Time,
     payload: &Data,
 ) -> Result<Write, NameError>
-    ensures { Gives result (assoc_add_of (settings names.now) edge.now time payload.now) }
+    ensures { Gives unless_memory result (assoc_add_of (settings names.now) edge.now time payload.now) }
 {
     let atype = edge_type(names, edge)?;
     Ok(Write::AssocAdd {
@@ -109,7 +111,7 @@ fn assoc_add_of(
 }
 
 fn assoc_delete_of(names: &Names<'_>, edge: &EdgeName) -> Result<Write, NameError>
-    ensures { Gives result (assoc_delete_of (settings names.now) edge.now) }
+    ensures { Gives unless_memory result (assoc_delete_of (settings names.now) edge.now) }
 {
     let atype = edge_type(names, edge)?;
     Ok(Write::AssocDelete {
@@ -121,7 +123,7 @@ fn assoc_delete_of(names: &Names<'_>, edge: &EdgeName) -> Result<Write, NameErro
 
 /// Refuses a change to the type that the edge has.
 fn differs(names: &Names<'_>, atype: AType, newtype: AType, name: &Text) -> Result<(), NameError>
-    ensures { Gives result (differs atype newtype name.now) }
+    ensures { Gives unless_memory result (differs atype newtype name.now) }
 {
     if atype.0 == newtype.0 {
         let name = Text::copy_of(names.alloc, name.as_str())?;
@@ -132,7 +134,7 @@ fn differs(names: &Names<'_>, atype: AType, newtype: AType, name: &Text) -> Resu
 }
 
 fn assoc_change_type_of(names: &Names<'_>, edge: &EdgeName, name: &Text) -> Result<Write, NameError>
-    ensures { Gives result (assoc_change_type_of (settings names.now) edge.now name.now) }
+    ensures { Gives unless_memory result (assoc_change_type_of (settings names.now) edge.now name.now) }
 {
     let oldtype = names.atype(edge.list.atype.as_str())?;
     let newtype = names.atype(name.as_str())?;
@@ -149,7 +151,7 @@ fn assoc_change_type_of(names: &Names<'_>, edge: &EdgeName, name: &Text) -> Resu
 // ---- reads
 
 pub(crate) fn query_of(names: &Names<'_>, query: &QueryText) -> Result<Query, NameError>
-    ensures { Gives result (query_of (settings names.now) query.now) }
+    ensures { Gives unless_memory result (query_of (settings names.now) query.now) }
 {
     match query {
         QueryText::ObjGet { id } => obj_get_of(names, *id),
@@ -172,7 +174,7 @@ pub(crate) fn query_of(names: &Names<'_>, query: &QueryText) -> Result<Query, Na
 
 /// Refuses more ids than edges of the type are kept.
 fn within_bound(names: &Names<'_>, atype: AType, ids: &IdSet) -> Result<(), NameError>
-    ensures { Gives result (within_bound (settings names.now) atype ids.now) }
+    ensures { Gives unless_memory result (within_bound (settings names.now) atype ids.now) }
 {
     let config = names.config;
     let bound = config.schema.bound(atype);
@@ -185,7 +187,7 @@ fn within_bound(names: &Names<'_>, atype: AType, ids: &IdSet) -> Result<(), Name
 }
 
 fn obj_get_of(names: &Names<'_>, id: Id) -> Result<Query, NameError>
-    ensures { Gives result (obj_get_of (settings names.now) id) }
+    ensures { Gives unless_memory result (obj_get_of (settings names.now) id) }
 {
     names.id(id)?;
     Ok(Query::ObjGet { id })
@@ -198,7 +200,7 @@ fn assoc_get_of(
     high: Option<Time>,
     low: Option<Time>,
 ) -> Result<Query, NameError>
-    ensures { Gives result (assoc_get_of (settings names.now) list.now ids.now high low) }
+    ensures { Gives unless_memory result (assoc_get_of (settings names.now) list.now ids.now high low) }
 {
     let atype = list_type(names, list)?;
     within_bound(names, atype, ids)?;
@@ -212,7 +214,7 @@ fn assoc_get_of(
 }
 
 fn assoc_count_of(names: &Names<'_>, list: &ListName) -> Result<Query, NameError>
-    ensures { Gives result (assoc_count_of (settings names.now) list.now) }
+    ensures { Gives unless_memory result (assoc_count_of (settings names.now) list.now) }
 {
     let atype = list_type(names, list)?;
     Ok(Query::AssocCount {
@@ -227,7 +229,7 @@ fn assoc_range_of(
     pos: u32,
     limit: u32,
 ) -> Result<Query, NameError>
-    ensures { Gives result (assoc_range_of (settings names.now) list.now pos limit) }
+    ensures { Gives unless_memory result (assoc_range_of (settings names.now) list.now pos limit) }
 {
     let atype = list_type(names, list)?;
     Ok(Query::AssocRange {
@@ -245,7 +247,7 @@ fn assoc_time_range_of(
     low: Time,
     limit: u32,
 ) -> Result<Query, NameError>
-    ensures { Gives result (assoc_time_range_of (settings names.now) list.now high low limit) }
+    ensures { Gives unless_memory result (assoc_time_range_of (settings names.now) list.now high low limit) }
 {
     let atype = list_type(names, list)?;
     Ok(Query::AssocTimeRange {

@@ -1,14 +1,15 @@
 //! The names of regions, tiers, types and shards, and the shards of ids.
 ghost use Rattle.std.specs.Prelude.{Ok, Err, IfOk, ◌≡◌};
-ghost use Rattle.reply_json.specs.declared.refusals.NameRefused.TheVariants.{NoShard};
-ghost use Rattle.request_check.specs.Refusal.{Gives};
+ghost use Rattle.replies.specs.declared.refusals.NameRefused.TheVariants.{NoShard};
+ghost use Rattle.outcomes.specs.Results.{Gives};
+ghost use Rattle.request_check.specs.Refusal.{unless_memory};
 
 use crate::kind::NodeKind;
 use crate::refusal::NameError;
 use node_name::NodeName;
 use std::alloc::{AllocError, Global};
 use tao_base::{AType, Id, OType, Text};
-use tao_wire::NameRefused;
+use replies::NameRefused;
 use topology::Config;
 
 /// A tier: the place of its region, and its own in that region.
@@ -30,7 +31,7 @@ impl Names<'_> {
     ghost use Rattle.request_check.specs.Names.{settings, region_of, tier_of, atype_of, otype_of, has_shard, has_id, tier_text, node_of};
 
     pub(crate) fn region(&self, name: &str) -> Result<u16, NameError>
-        ensures { Gives result (region_of (settings self.now) name.now) }
+        ensures { Gives unless_memory result (region_of (settings self.now) name.now) }
     {
         let config = self.config;
         match config.regions.find(name) {
@@ -43,7 +44,7 @@ impl Names<'_> {
     }
 
     pub(crate) fn tier(&self, region: &str, tier: &str) -> Result<TierPlace, NameError>
-        ensures { Gives result (tier_of (settings self.now) region.now tier.now) }
+        ensures { Gives unless_memory result (tier_of (settings self.now) region.now tier.now) }
     {
         let place = self.region(region)?;
         match self.config.find_tier(place, tier) {
@@ -66,7 +67,7 @@ impl Names<'_> {
     }
 
     pub(crate) fn atype(&self, name: &str) -> Result<AType, NameError>
-        ensures { Gives result (atype_of (settings self.now) name.now) }
+        ensures { Gives unless_memory result (atype_of (settings self.now) name.now) }
     {
         let config = self.config;
         match config.schema.atype(name) {
@@ -79,7 +80,7 @@ impl Names<'_> {
     }
 
     pub(crate) fn otype(&self, name: &str) -> Result<OType, NameError>
-        ensures { Gives result (otype_of (settings self.now) name.now) }
+        ensures { Gives unless_memory result (otype_of (settings self.now) name.now) }
     {
         let config = self.config;
         match config.schema.otype(name) {
@@ -93,7 +94,7 @@ impl Names<'_> {
 
     /// Refuses a shard that isn't configured.
     pub(crate) fn shard(&self, shard: u16) -> Result<(), NameError>
-        ensures { Gives result (has_shard (settings self.now) shard) }
+        ensures { Gives unless_memory result (has_shard (settings self.now) shard) }
     {
         let config = self.config;
         if shard < config.shards {
@@ -105,14 +106,14 @@ impl Names<'_> {
 
     /// Refuses an id of a shard that isn't configured.
     pub(crate) fn id(&self, id: Id) -> Result<(), NameError>
-        ensures { Gives result (has_id (settings self.now) id) }
+        ensures { Gives unless_memory result (has_id (settings self.now) id) }
     {
         self.shard(id.shard())
     }
 
     /// The node of a text, where it is of the kind.
     pub(crate) fn node(&self, kind: NodeKind, name: &Text) -> Result<NodeName, NameError>
-        ensures { Gives result (node_of (settings self.now) kind name.now) }
+        ensures { Gives unless_memory result (node_of (settings self.now) kind name.now) }
     {
         match self.config.node(name.as_str()) {
             Some(node) if kind.takes(node) => Ok(node),

@@ -1,8 +1,9 @@
 //! The requests about nodes.
-ghost use Rattle.request_check.specs.Refusal.{Gives};
+ghost use Rattle.outcomes.specs.Results.{Gives};
+ghost use Rattle.request_check.specs.Refusal.{unless_memory};
 ghost use Rattle.request_check.specs.Names.{settings};
 ghost use Rattle.request_check.specs.Requests.{key_of, maybe_key_of, evict_of, show_of, leader_of, link_of, checked_of};
-ghost use Rattle.request_json.specs.declared.request.Request.TheVariants.{Deliver, Again, Drop, Refill, Inbox, Down, Up};
+ghost use Rattle.requests.specs.declared.request.Request.TheVariants.{Deliver, Again, Drop, Refill, Inbox, Down, Up};
 
 use crate::calls::list_type;
 use crate::checked::{Checked, LeaderPlace, LinkPlace};
@@ -10,12 +11,12 @@ use crate::kind::NodeKind;
 use crate::names::Names;
 use crate::refusal::NameError;
 use tao_base::{Key, Text};
-use tao_wire::{KeyName, LeaderName, LinkName, MessageName};
+use requests::{KeyName, LeaderName, LinkName, MessageName};
 
 // ---- messages
 
 pub(crate) fn deliver_of(names: &Names<'_>, name: &MessageName) -> Result<Checked, NameError>
-    ensures { Gives result (checked_of (settings names.now) (Deliver name.now)) }
+    ensures { Gives unless_memory result (checked_of (settings names.now) (Deliver name.now)) }
 {
     let node = names.node(NodeKind::Cache, &name.node)?;
     let message = name.message;
@@ -23,7 +24,7 @@ pub(crate) fn deliver_of(names: &Names<'_>, name: &MessageName) -> Result<Checke
 }
 
 pub(crate) fn again_of(names: &Names<'_>, name: &MessageName) -> Result<Checked, NameError>
-    ensures { Gives result (checked_of (settings names.now) (Again name.now)) }
+    ensures { Gives unless_memory result (checked_of (settings names.now) (Again name.now)) }
 {
     let node = names.node(NodeKind::Cache, &name.node)?;
     let message = name.message;
@@ -31,7 +32,7 @@ pub(crate) fn again_of(names: &Names<'_>, name: &MessageName) -> Result<Checked,
 }
 
 pub(crate) fn drop_of(names: &Names<'_>, name: &MessageName) -> Result<Checked, NameError>
-    ensures { Gives result (checked_of (settings names.now) (Drop name.now)) }
+    ensures { Gives unless_memory result (checked_of (settings names.now) (Drop name.now)) }
 {
     let node = names.node(NodeKind::Cache, &name.node)?;
     let message = name.message;
@@ -41,21 +42,21 @@ pub(crate) fn drop_of(names: &Names<'_>, name: &MessageName) -> Result<Checked, 
 // ---- one node
 
 pub(crate) fn inbox_of(names: &Names<'_>, node: &Text) -> Result<Checked, NameError>
-    ensures { Gives result (checked_of (settings names.now) (Inbox node.now)) }
+    ensures { Gives unless_memory result (checked_of (settings names.now) (Inbox node.now)) }
 {
     let node = names.node(NodeKind::Cache, node)?;
     Ok(Checked::Inbox { node })
 }
 
 pub(crate) fn down_of(names: &Names<'_>, node: &Text) -> Result<Checked, NameError>
-    ensures { Gives result (checked_of (settings names.now) (Down node.now)) }
+    ensures { Gives unless_memory result (checked_of (settings names.now) (Down node.now)) }
 {
     let node = names.node(NodeKind::Cache, node)?;
     Ok(Checked::Down { node })
 }
 
 pub(crate) fn up_of(names: &Names<'_>, node: &Text) -> Result<Checked, NameError>
-    ensures { Gives result (checked_of (settings names.now) (Up node.now)) }
+    ensures { Gives unless_memory result (checked_of (settings names.now) (Up node.now)) }
 {
     let node = names.node(NodeKind::Cache, node)?;
     Ok(Checked::Up { node })
@@ -64,14 +65,14 @@ pub(crate) fn up_of(names: &Names<'_>, node: &Text) -> Result<Checked, NameError
 // ---- items
 
 pub(crate) fn refill_of(names: &Names<'_>, node: &Text) -> Result<Checked, NameError>
-    ensures { Gives result (checked_of (settings names.now) (Refill node.now)) }
+    ensures { Gives unless_memory result (checked_of (settings names.now) (Refill node.now)) }
 {
     let node = names.node(NodeKind::Follower, node)?;
     Ok(Checked::Refill { node })
 }
 
 fn key_of(names: &Names<'_>, key: &KeyName) -> Result<Key, NameError>
-    ensures { Gives result (key_of (settings names.now) key.now) }
+    ensures { Gives unless_memory result (key_of (settings names.now) key.now) }
 {
     match key {
         KeyName::Object(id) => {
@@ -86,7 +87,7 @@ fn key_of(names: &Names<'_>, key: &KeyName) -> Result<Key, NameError>
 }
 
 fn maybe_key_of(names: &Names<'_>, key: &Option<KeyName>) -> Result<Option<Key>, NameError>
-    ensures { Gives result (maybe_key_of (settings names.now) key.now) }
+    ensures { Gives unless_memory result (maybe_key_of (settings names.now) key.now) }
 {
     match key {
         None => Ok(None),
@@ -99,7 +100,7 @@ pub(crate) fn evict_of(
     node: &Text,
     key: &Option<KeyName>,
 ) -> Result<Checked, NameError>
-    ensures { Gives result (evict_of (settings names.now) node.now key.now) }
+    ensures { Gives unless_memory result (evict_of (settings names.now) node.now key.now) }
 {
     let node = names.node(NodeKind::Cache, node)?;
     let key = maybe_key_of(names, key)?;
@@ -107,7 +108,7 @@ pub(crate) fn evict_of(
 }
 
 pub(crate) fn show_of(names: &Names<'_>, node: &Text, key: &KeyName) -> Result<Checked, NameError>
-    ensures { Gives result (show_of (settings names.now) node.now key.now) }
+    ensures { Gives unless_memory result (show_of (settings names.now) node.now key.now) }
 {
     let node = names.node(NodeKind::Cache, node)?;
     let key = key_of(names, key)?;
@@ -117,7 +118,7 @@ pub(crate) fn show_of(names: &Names<'_>, node: &Text, key: &KeyName) -> Result<C
 // ---- leaders and links
 
 pub(crate) fn leader_of(names: &Names<'_>, leader: &LeaderName) -> Result<LeaderPlace, NameError>
-    ensures { Gives result (leader_of (settings names.now) leader.now) }
+    ensures { Gives unless_memory result (leader_of (settings names.now) leader.now) }
 {
     let place = names.tier(leader.region.as_str(), leader.tier.as_str())?;
     let node = names.node(NodeKind::Leader, &leader.node)?;
@@ -129,7 +130,7 @@ pub(crate) fn leader_of(names: &Names<'_>, leader: &LeaderName) -> Result<Leader
 }
 
 pub(crate) fn link_of(names: &Names<'_>, link: &LinkName) -> Result<LinkPlace, NameError>
-    ensures { Gives result (link_of (settings names.now) link.now) }
+    ensures { Gives unless_memory result (link_of (settings names.now) link.now) }
 {
     let from = names.node(NodeKind::Any, &link.from)?;
     let to = names.node(NodeKind::Any, &link.to)?;

@@ -2,7 +2,7 @@
 use std::alloc::AllocError;
 use std::error::Error;
 use std::fmt;
-use tao_wire::{NameRefused, Refusal, Reply};
+use replies::{NameRefused, Refusal, Reply};
 
 /// Why a request is refused before anything is done for it.
 #[derive(Debug, Drop)]

@@ -1,6 +1,7 @@
 //! The check of a request.
 ghost use Rattle.request_check.specs.Names.{settings};
-ghost use Rattle.request_check.specs.Refusal.{Answers, Gives};
+ghost use Rattle.outcomes.specs.Results.{Gives};
+ghost use Rattle.request_check.specs.Refusal.{named, replied, reply_unless_memory, unless_memory};
 ghost use Rattle.request_check.specs.Requests.{open_of, write_call_of, read_call_of, call_of, held_of, stream_of, repair_of, checked_of};
 
 use crate::calls::{query_of, write_of};
@@ -13,7 +14,7 @@ use crate::nodes::{
 use crate::refusal::{CheckRefusal, NameError};
 use std::alloc::Global;
 use tao_base::Text;
-use tao_wire::{Call, Opening, ReadCall, Request, WriteCall};
+use requests::{Call, Opening, ReadCall, Request, WriteCall};
 use topology::Config;
 
 /// The request with the places of what it names, or the first refusal of a name: an unknown region or
@@ -22,14 +23,14 @@ use topology::Config;
 /// the type are kept. A call within another request counts as that request. Copies data and ids, and
 /// takes time in their length; a name of a region or tier is compared with each.
 pub fn check(alloc: Global, config: &Config, request: &Request) -> Result<Checked, CheckRefusal>
-    ensures { Answers result (checked_of config.now request.now) }
+    ensures { Gives reply_unless_memory result (replied (named (checked_of config.now request.now))) }
 {
     let checked = checked_of(&Names { alloc, config }, request)?;
     Ok(checked)
 }
 
 fn checked_of(names: &Names<'_>, request: &Request) -> Result<Checked, NameError>
-    ensures { Gives result (checked_of (settings names.now) request.now) }
+    ensures { Gives unless_memory result (checked_of (settings names.now) request.now) }
 {
     match request {
         Request::Open(opening) => open_of(names, opening),
@@ -63,7 +64,7 @@ fn checked_of(names: &Names<'_>, request: &Request) -> Result<Checked, NameError
 // ---- sessions and plans
 
 fn open_of(names: &Names<'_>, opening: &Opening) -> Result<Checked, NameError>
-    ensures { Gives result (open_of (settings names.now) opening.now) }
+    ensures { Gives unless_memory result (open_of (settings names.now) opening.now) }
 {
     let place = names.tier(opening.region.as_str(), opening.tier.as_str())?;
     Ok(Checked::Open {
@@ -74,7 +75,7 @@ fn open_of(names: &Names<'_>, opening: &Opening) -> Result<Checked, NameError>
 }
 
 fn write_call_of(names: &Names<'_>, call: &WriteCall) -> Result<CheckedWrite, NameError>
-    ensures { Gives result (write_call_of (settings names.now) call.now) }
+    ensures { Gives unless_memory result (write_call_of (settings names.now) call.now) }
 {
     Ok(CheckedWrite {
         session: call.session,
@@ -84,7 +85,7 @@ fn write_call_of(names: &Names<'_>, call: &WriteCall) -> Result<CheckedWrite, Na
 }
 
 fn read_call_of(names: &Names<'_>, call: &ReadCall) -> Result<CheckedRead, NameError>
-    ensures { Gives result (read_call_of (settings names.now) call.now) }
+    ensures { Gives unless_memory result (read_call_of (settings names.now) call.now) }
 {
     Ok(CheckedRead {
         session: call.session,
@@ -94,7 +95,7 @@ fn read_call_of(names: &Names<'_>, call: &ReadCall) -> Result<CheckedRead, NameE
 }
 
 fn call_of(names: &Names<'_>, call: &Call) -> Result<CheckedCall, NameError>
-    ensures { Gives result (call_of (settings names.now) call.now) }
+    ensures { Gives unless_memory result (call_of (settings names.now) call.now) }
 {
     match call {
         Call::Write(call) => Ok(CheckedCall::Write(write_call_of(names, call)?)),
@@ -103,7 +104,7 @@ fn call_of(names: &Names<'_>, call: &Call) -> Result<CheckedCall, NameError>
 }
 
 fn held_of(names: &Names<'_>, plan: u32, call: &Call) -> Result<Checked, NameError>
-    ensures { Gives result (held_of (settings names.now) plan call.now) }
+    ensures { Gives unless_memory result (held_of (settings names.now) plan call.now) }
 {
     let call = call_of(names, call)?;
     Ok(Checked::Hold { plan, call })
@@ -117,7 +118,7 @@ fn stream_of(
     shard: u16,
     position: Option<u64>,
 ) -> Result<Checked, NameError>
-    ensures { Gives result (stream_of (settings names.now) region.now shard position) }
+    ensures { Gives unless_memory result (stream_of (settings names.now) region.now shard position) }
 {
     let region = names.region(region.as_str())?;
     names.shard(shard)?;
@@ -129,7 +130,7 @@ fn stream_of(
 }
 
 fn repair_of(names: &Names<'_>, shard: u16) -> Result<Checked, NameError>
-    ensures { Gives result (repair_of (settings names.now) shard) }
+    ensures { Gives unless_memory result (repair_of (settings names.now) shard) }
 {
     names.shard(shard)?;
     Ok(Checked::Repair { shard })

@@ -2,16 +2,16 @@
 use Rattle.std.specs.Prelude.{ℕ, ◌^◌, ◌-◌, [], ◌∷◌, codes, Result, Ok}
 use Rattle.serde_json.specs.Data.{Data}
 use Rattle.request_json.specs.declared.refusal.LineRefusal.{LineRefusal}
-use Rattle.request_json.specs.declared.request.WriteText.TheVariants as write
-use Rattle.request_json.specs.declared.request.QueryText.TheVariants as query
-use Rattle.request_json.specs.declared.request.WriteCall.{WriteCall}
-use Rattle.request_json.specs.declared.request.ReadCall.{ReadCall}
-use Rattle.request_json.specs.declared.word.WriteWord.{WriteWord}
-use Rattle.request_json.specs.declared.word.WriteWord.TheVariants.{ObjAdd, ObjUpdate, ObjDelete, AssocAdd, AssocDelete, AssocChangeType}
-use Rattle.request_json.specs.declared.word.ReadWord.{ReadWord}
-use Rattle.request_json.specs.declared.word.ReadWord.TheVariants.{ObjGet, AssocGet, AssocCount, AssocRange, AssocTimeRange}
+use Rattle.requests.specs.declared.request.WriteText.TheVariants as write
+use Rattle.requests.specs.declared.request.QueryText.TheVariants as query
+use Rattle.requests.specs.declared.request.WriteCall.{WriteCall}
+use Rattle.requests.specs.declared.request.ReadCall.{ReadCall}
+use Rattle.words.specs.declared.WriteWord.{WriteWord}
+use Rattle.words.specs.declared.WriteWord.TheVariants.{ObjAdd, ObjUpdate, ObjDelete, AssocAdd, AssocDelete, AssocChangeType}
+use Rattle.words.specs.declared.ReadWord.{ReadWord}
+use Rattle.words.specs.declared.ReadWord.TheVariants.{ObjGet, AssocGet, AssocCount, AssocRange, AssocTimeRange}
 use Rattle.request_json.specs.Fields.{number_field, maybe_number_field, id_field, ids_field, text_field, flag_field, only_fields, data_last, list_fields, edge_fields}
-use Rattle.request_json.specs.Refusal.{◌>>=◌}
+use Rattle.outcomes.specs.Results.{◌>>=◌}
 
 -- a session has a number from 1, and so has each of its writes
 abbrev pub session_field : Data → Result ℕ LineRefusal

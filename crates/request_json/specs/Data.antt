@@ -2,7 +2,7 @@
 use Rattle.std.specs.Prelude.{◌&&◌, List, [], ◌∷◌, length, nat_le, Option, Some, if◌then◌else◌, Result, Ok, Err}
 use Rattle.serde_json.specs.Data.{Members, no_members, member}
 use Rattle.serde_json.specs.Find.{as_str}
-use Rattle.json_fields.specs.Fields.{◌>>=◌}
+use Rattle.outcomes.specs.Options.{◌>>=◌}
 use Rattle.tao_base.specs.declared.data.Pair.{Pair}
 use Rattle.tao_base.specs.Data.{data_bytes}
 use Rattle.request_json.specs.declared.refusal.LineRefusal.{LineRefusal}

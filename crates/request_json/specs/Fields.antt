@@ -10,11 +10,11 @@ use Rattle.json_fields.specs.Items.{each_at}
 use Rattle.request_json.specs.declared.fields.Fields.{Fields}
 use Rattle.request_json.specs.declared.refusal.LineRefusal.{LineRefusal}
 use Rattle.request_json.specs.declared.refusal.LineRefusal.TheVariants.{BadLine}
-use Rattle.request_json.specs.declared.request.ListName.{ListName}
-use Rattle.request_json.specs.declared.request.EdgeName.{EdgeName}
+use Rattle.requests.specs.declared.request.ListName.{ListName}
+use Rattle.requests.specs.declared.request.EdgeName.{EdgeName}
 use Rattle.request_json.specs.IdSets.{id_set}
 use Rattle.request_json.specs.Data.{pairs_of, fitting}
-use Rattle.request_json.specs.Refusal.{◌>>=◌, needed}
+use Rattle.outcomes.specs.Results.{◌>>=◌, needed}
 
 -- the value whose fields are read
 abbrev pub said : Fields → Data
@@ -22,35 +22,35 @@ said fields = view fields.value.now
 
 -- a whole number from the least to the most
 abbrev pub number_field : List ℕ → ℕ → ℕ → Data → Result ℕ LineRefusal
-number_field name least most d = needed name (number_at name least most d)
+number_field name least most d = needed (BadLine name) (number_at name least most d)
 
 -- the same, which may be missing
 abbrev pub maybe_number_field : List ℕ → ℕ → ℕ → Data → Result (Option ℕ) LineRefusal
-maybe_number_field name least most d = needed name (maybe_number_at name least most d)
+maybe_number_field name least most d = needed (BadLine name) (maybe_number_at name least most d)
 
 -- an id, whose serial isn't 0
 abbrev pub id_field : List ℕ → Data → Result ℕ LineRefusal
-id_field name d = needed name (id_at name d)
+id_field name d = needed (BadLine name) (id_at name d)
 
 -- the same, which may be missing
 abbrev pub maybe_id_field : List ℕ → Data → Result (Option ℕ) LineRefusal
-maybe_id_field name d = needed name (maybe_id_at name d)
+maybe_id_field name d = needed (BadLine name) (maybe_id_at name d)
 
 -- ids, of which a repeated one counts once
 abbrev pub ids_field : List ℕ → Data → Result (List ℕ) LineRefusal
-ids_field name d = needed name (option_map id_set (each_at id_of name d))
+ids_field name d = needed (BadLine name) (option_map id_set (each_at id_of name d))
 
 -- a text
 abbrev pub text_field : List ℕ → Data → Result (List ℕ) LineRefusal
-text_field name d = needed name (text_at name d)
+text_field name d = needed (BadLine name) (text_at name d)
 
 -- the same, which may be missing
 abbrev pub maybe_text_field : List ℕ → Data → Result (Option (List ℕ)) LineRefusal
-maybe_text_field name d = needed name (maybe_text_at name d)
+maybe_text_field name d = needed (BadLine name) (maybe_text_at name d)
 
 -- true or false, where missing is false
 abbrev pub flag_field : List ℕ → Data → Result Bool LineRefusal
-flag_field name d = needed name (option_map (λ flag. unwrap_or flag false) (flag_at name d))
+flag_field name d = needed (BadLine name) (option_map (λ flag. unwrap_or flag false) (flag_at name d))
 
 -- no field has another name than these, or else the least that has
 abbrev pub none_strange : Option (List ℕ) → Result ⊤ LineRefusal
@@ -63,7 +63,7 @@ only_fields names d = none_strange (strange_at names d)
 -- data is the last field of its row: strange fields are looked for before its size
 abbrev pub data_last : List (List ℕ) → Data → Result (List Pair) LineRefusal
 data_last names d = do
-  pairs ← needed (codes "data") (option_and_then pairs_of (option_and_then as_object (object_at (codes "data") d)))
+  pairs ← needed (BadLine (codes "data")) (option_and_then pairs_of (option_and_then as_object (object_at (codes "data") d)))
   known ← only_fields names d
   fitting (in_order pairs)
 

@@ -6,21 +6,25 @@ use Rattle.json_fields.specs.Fields.{object_at}
 use Rattle.json_fields.specs.Json.{json_of}
 use Rattle.request_json.specs.declared.refusal.LineRefusal.{LineRefusal}
 use Rattle.request_json.specs.declared.refusal.LineRefusal.TheVariants.{BadLine}
-use Rattle.request_json.specs.declared.request.Call.{Call}
-use Rattle.request_json.specs.declared.request.Call.TheVariants as call
-use Rattle.request_json.specs.declared.request.KeyName.{KeyName}
-use Rattle.request_json.specs.declared.request.KeyName.TheVariants as key
-use Rattle.request_json.specs.declared.request.LeaderName.{LeaderName}
-use Rattle.request_json.specs.declared.request.LinkName.{LinkName}
-use Rattle.request_json.specs.declared.request.MessageName.{MessageName}
-use Rattle.request_json.specs.declared.request.ReadCall.{ReadCall}
-use Rattle.request_json.specs.declared.request.Request.{Request}
-use Rattle.request_json.specs.declared.request.Request.TheVariants as request
-use Rattle.request_json.specs.declared.word.Word.{Word}
-use Rattle.request_json.specs.declared.word.Word.TheVariants as word
+use Rattle.requests.specs.declared.request.Call.{Call}
+use Rattle.requests.specs.declared.request.Call.TheVariants as call
+use Rattle.requests.specs.declared.request.KeyName.{KeyName}
+use Rattle.requests.specs.declared.request.KeyName.TheVariants as key
+use Rattle.requests.specs.declared.request.LeaderName.{LeaderName}
+use Rattle.requests.specs.declared.request.LinkName.{LinkName}
+use Rattle.requests.specs.declared.request.MessageName.{MessageName}
+use Rattle.requests.specs.declared.request.ReadCall.{ReadCall}
+use Rattle.requests.specs.declared.request.Request.{Request}
+use Rattle.requests.specs.declared.request.Request.TheVariants as request
+use Rattle.words.specs.declared.DeliveryWord.TheVariants.{Deliver, Again}
+use Rattle.words.specs.declared.HealthWord.TheVariants.{Down, Up, Suspect, Trust}
+use Rattle.words.specs.declared.LinkWord.TheVariants.{Cut, Mend}
+use Rattle.words.specs.declared.PlanWord.TheVariants.{Hold, Advance}
+use Rattle.words.specs.declared.Word.{Word}
+use Rattle.words.specs.declared.Word.TheVariants as word
 use Rattle.request_json.specs.Calls.{session_field, write_of, read_of}
 use Rattle.request_json.specs.Fields.{number_field, maybe_number_field, maybe_id_field, maybe_text_field, text_field, only_fields}
-use Rattle.request_json.specs.Refusal.{◌>>=◌, needed}
+use Rattle.outcomes.specs.Results.{◌>>=◌, needed}
 use Rattle.request_json.specs.Word.{word_of}
 
 -- ---- sessions and plans
@@ -56,7 +60,7 @@ read_by (Some (word.Read word)) d = read_of word d
 read_by other d = Err (BadLine (codes "do"))
 
 abbrev pub inner_field : Data → Result Data LineRefusal
-inner_field d = needed (codes "request") (object_at (codes "request") d)
+inner_field d = needed (BadLine (codes "request")) (object_at (codes "request") d)
 
 abbrev pub plan_field : Data → Result ℕ LineRefusal
 plan_field d = number_field (codes "plan") 0 (2 ^ 32 - 1) d
@@ -140,7 +144,7 @@ abbrev pub show_of : Data → Result Request LineRefusal
 show_of d = do
   node ← text_field (codes "node") d
   given ← key_fields d
-  key ← needed (codes "id") given
+  key ← needed (BadLine (codes "id")) given
   known ← only_fields (codes "do" ∷ codes "node" ∷ codes "id" ∷ codes "id1" ∷ codes "atype" ∷ []) d
   Ok (request.Show node key)
 
@@ -174,12 +178,12 @@ as_request f fields = do
 -- each word has its row
 abbrev pub request_of : Word → Data → Result Request LineRefusal
 request_of word.Open d = open_of d
-request_of (word.Write word) d = as_request (λ write. request.Call (call.Write write)) (write_of word d)
-request_of (word.Read word) d = as_request (λ read. request.Call (call.Read read)) (read_of word d)
-request_of word.Hold d = hold_of d
-request_of word.Advance d = advance_of d
-request_of word.Deliver d = as_request request.Deliver (message_of d)
-request_of word.Again d = as_request request.Again (message_of d)
+request_of (word.Write which) d = as_request (λ write. request.Call (call.Write write)) (write_of which d)
+request_of (word.Read which) d = as_request (λ read. request.Call (call.Read read)) (read_of which d)
+request_of (word.Plan Hold) d = hold_of d
+request_of (word.Plan Advance) d = advance_of d
+request_of (word.Delivery Deliver) d = as_request request.Deliver (message_of d)
+request_of (word.Delivery Again) d = as_request request.Again (message_of d)
 request_of word.Drop d = as_request request.Drop (message_of d)
 request_of word.Refill d = as_request request.Refill (node_of d)
 request_of word.Stream d = stream_of d
@@ -187,12 +191,12 @@ request_of word.Repair d = repair_of d
 request_of word.Evict d = evict_of d
 request_of word.Show d = show_of d
 request_of word.Inbox d = as_request request.Inbox (node_of d)
-request_of word.Down d = as_request request.Down (node_of d)
-request_of word.Up d = as_request request.Up (node_of d)
-request_of word.Suspect d = as_request request.Suspect (leader_of d)
-request_of word.Trust d = as_request request.Trust (leader_of d)
-request_of word.Cut d = as_request request.Cut (link_of d)
-request_of word.Mend d = as_request request.Mend (link_of d)
+request_of (word.Health Down) d = as_request request.Down (node_of d)
+request_of (word.Health Up) d = as_request request.Up (node_of d)
+request_of (word.Health Suspect) d = as_request request.Suspect (leader_of d)
+request_of (word.Health Trust) d = as_request request.Trust (leader_of d)
+request_of (word.Link Cut) d = as_request request.Cut (link_of d)
+request_of (word.Link Mend) d = as_request request.Mend (link_of d)
 request_of word.Settle d = settle_of d
 request_of word.Audit d = audit_of d
 
@@ -200,12 +204,12 @@ request_of word.Audit d = audit_of d
 abbrev pub request_by : Data → Result Request LineRefusal
 request_by d =
     if is_some (as_object d) then (do
-      word ← needed (codes "do") (word_of d)
+      word ← needed (BadLine (codes "do")) (word_of d)
       request_of word d)
     else Err (BadLine (codes ""))
 
 -- what a line asks, or the first rule that it breaks
 abbrev pub request_in : List ℕ → Result Request LineRefusal
 request_in line = do
-  d ← needed (codes "") (json_of line)
+  d ← needed (BadLine (codes "")) (json_of line)
   request_by d

@@ -1,27 +1,28 @@
 //! The calls on objects and associations: the fields of each, in their order.
-ghost use Rattle.request_json.specs.Refusal.{Gives};
+ghost use Rattle.outcomes.specs.Results.{Gives};
+ghost use Rattle.request_json.specs.Refusal.{unless_memory};
 ghost use Rattle.request_json.specs.Fields.{said};
 ghost use Rattle.request_json.specs.Calls.{session_field, seq_field, limit_field, write_of, obj_add_of, obj_update_of, obj_delete_of, assoc_add_of, assoc_delete_of, assoc_change_type_of, read_of, obj_get_of, assoc_get_of, assoc_count_of, assoc_range_of, assoc_time_range_of};
 
 use crate::fields::Fields;
 use crate::refusal::LineRefusal;
-use crate::request::{QueryText, ReadCall, WriteCall, WriteText};
-use crate::word::{ReadWord, WriteWord};
+use requests::{QueryText, ReadCall, WriteCall, WriteText};
+use words::{ReadWord, WriteWord};
 
 pub(crate) fn session_field(fields: &Fields<'_>) -> Result<u32, LineRefusal>
-    ensures { Gives result (session_field (said fields.now)) }
+    ensures { Gives unless_memory result (session_field (said fields.now)) }
 {
     fields.small("session", 1)
 }
 
 fn seq_field(fields: &Fields<'_>) -> Result<u64, LineRefusal>
-    ensures { Gives result (seq_field (said fields.now)) }
+    ensures { Gives unless_memory result (seq_field (said fields.now)) }
 {
     fields.number("seq", 1, u64::MAX)
 }
 
 fn limit_field(fields: &Fields<'_>) -> Result<u32, LineRefusal>
-    ensures { Gives result (limit_field (said fields.now)) }
+    ensures { Gives unless_memory result (limit_field (said fields.now)) }
 {
     fields.small("limit", 1)
 }
@@ -29,7 +30,7 @@ fn limit_field(fields: &Fields<'_>) -> Result<u32, LineRefusal>
 // ---- writes
 
 pub(crate) fn write_of(word: WriteWord, fields: &Fields<'_>) -> Result<WriteCall, LineRefusal>
-    ensures { Gives result (write_of word (said fields.now)) }
+    ensures { Gives unless_memory result (write_of word (said fields.now)) }
 {
     match word {
         WriteWord::ObjAdd => obj_add_of(fields),
@@ -42,7 +43,7 @@ pub(crate) fn write_of(word: WriteWord, fields: &Fields<'_>) -> Result<WriteCall
 }
 
 fn obj_add_of(fields: &Fields<'_>) -> Result<WriteCall, LineRefusal>
-    ensures { Gives result (obj_add_of (said fields.now)) }
+    ensures { Gives unless_memory result (obj_add_of (said fields.now)) }
 {
     Ok(WriteCall {
         session: session_field(fields)?,
@@ -56,7 +57,7 @@ fn obj_add_of(fields: &Fields<'_>) -> Result<WriteCall, LineRefusal>
 }
 
 fn obj_update_of(fields: &Fields<'_>) -> Result<WriteCall, LineRefusal>
-    ensures { Gives result (obj_update_of (said fields.now)) }
+    ensures { Gives unless_memory result (obj_update_of (said fields.now)) }
 {
     Ok(WriteCall {
         session: session_field(fields)?,
@@ -69,7 +70,7 @@ fn obj_update_of(fields: &Fields<'_>) -> Result<WriteCall, LineRefusal>
 }
 
 fn obj_delete_of(fields: &Fields<'_>) -> Result<WriteCall, LineRefusal>
-    ensures { Gives result (obj_delete_of (said fields.now)) }
+    ensures { Gives unless_memory result (obj_delete_of (said fields.now)) }
 {
     let call = WriteCall {
         session: session_field(fields)?,
@@ -83,7 +84,7 @@ fn obj_delete_of(fields: &Fields<'_>) -> Result<WriteCall, LineRefusal>
 }
 
 fn assoc_add_of(fields: &Fields<'_>) -> Result<WriteCall, LineRefusal>
-    ensures { Gives result (assoc_add_of (said fields.now)) }
+    ensures { Gives unless_memory result (assoc_add_of (said fields.now)) }
 {
     let names = [
         "do", "session", "seq", "id1", "atype", "id2", "time", "data",
@@ -100,7 +101,7 @@ fn assoc_add_of(fields: &Fields<'_>) -> Result<WriteCall, LineRefusal>
 }
 
 fn assoc_delete_of(fields: &Fields<'_>) -> Result<WriteCall, LineRefusal>
-    ensures { Gives result (assoc_delete_of (said fields.now)) }
+    ensures { Gives unless_memory result (assoc_delete_of (said fields.now)) }
 {
     let call = WriteCall {
         session: session_field(fields)?,
@@ -114,7 +115,7 @@ fn assoc_delete_of(fields: &Fields<'_>) -> Result<WriteCall, LineRefusal>
 }
 
 fn assoc_change_type_of(fields: &Fields<'_>) -> Result<WriteCall, LineRefusal>
-    ensures { Gives result (assoc_change_type_of (said fields.now)) }
+    ensures { Gives unless_memory result (assoc_change_type_of (said fields.now)) }
 {
     let call = WriteCall {
         session: session_field(fields)?,
@@ -131,7 +132,7 @@ fn assoc_change_type_of(fields: &Fields<'_>) -> Result<WriteCall, LineRefusal>
 // ---- reads
 
 pub(crate) fn read_of(word: ReadWord, fields: &Fields<'_>) -> Result<ReadCall, LineRefusal>
-    ensures { Gives result (read_of word (said fields.now)) }
+    ensures { Gives unless_memory result (read_of word (said fields.now)) }
 {
     match word {
         ReadWord::ObjGet => obj_get_of(fields),
@@ -143,7 +144,7 @@ pub(crate) fn read_of(word: ReadWord, fields: &Fields<'_>) -> Result<ReadCall, L
 }
 
 fn obj_get_of(fields: &Fields<'_>) -> Result<ReadCall, LineRefusal>
-    ensures { Gives result (obj_get_of (said fields.now)) }
+    ensures { Gives unless_memory result (obj_get_of (said fields.now)) }
 {
     let call = ReadCall {
         session: session_field(fields)?,
@@ -157,7 +158,7 @@ fn obj_get_of(fields: &Fields<'_>) -> Result<ReadCall, LineRefusal>
 }
 
 fn assoc_get_of(fields: &Fields<'_>) -> Result<ReadCall, LineRefusal>
-    ensures { Gives result (assoc_get_of (said fields.now)) }
+    ensures { Gives unless_memory result (assoc_get_of (said fields.now)) }
 {
     let call = ReadCall {
         session: session_field(fields)?,
@@ -176,7 +177,7 @@ fn assoc_get_of(fields: &Fields<'_>) -> Result<ReadCall, LineRefusal>
 }
 
 fn assoc_count_of(fields: &Fields<'_>) -> Result<ReadCall, LineRefusal>
-    ensures { Gives result (assoc_count_of (said fields.now)) }
+    ensures { Gives unless_memory result (assoc_count_of (said fields.now)) }
 {
     let call = ReadCall {
         session: session_field(fields)?,
@@ -190,7 +191,7 @@ fn assoc_count_of(fields: &Fields<'_>) -> Result<ReadCall, LineRefusal>
 }
 
 fn assoc_range_of(fields: &Fields<'_>) -> Result<ReadCall, LineRefusal>
-    ensures { Gives result (assoc_range_of (said fields.now)) }
+    ensures { Gives unless_memory result (assoc_range_of (said fields.now)) }
 {
     let call = ReadCall {
         session: session_field(fields)?,
@@ -206,7 +207,7 @@ fn assoc_range_of(fields: &Fields<'_>) -> Result<ReadCall, LineRefusal>
 }
 
 fn assoc_time_range_of(fields: &Fields<'_>) -> Result<ReadCall, LineRefusal>
-    ensures { Gives result (assoc_time_range_of (said fields.now)) }
+    ensures { Gives unless_memory result (assoc_time_range_of (said fields.now)) }
 {
     let call = ReadCall {
         session: session_field(fields)?,

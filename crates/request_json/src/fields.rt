@@ -5,10 +5,11 @@ ghost use Rattle.tao_base.specs.Data.{pair_of, in_order};
 ghost use Rattle.request_json.specs.IdSets.{id_set};
 ghost use Rattle.request_json.specs.Data.{pairs_of, fitting};
 ghost use Rattle.request_json.specs.declared.refusal.LineRefusal.TheVariants.{BadLine};
-ghost use Rattle.request_json.specs.Refusal.{Gives, needed};
+ghost use Rattle.outcomes.specs.Results.{Gives, needed};
+ghost use Rattle.request_json.specs.Refusal.{unless_memory};
 
 use crate::refusal::LineRefusal;
-use crate::request::{EdgeName, ListName};
+use requests::{EdgeName, ListName};
 use json_fields::fields::{
     flag_at, id_at, maybe_id_at, maybe_number_at, maybe_small_at, maybe_text_at, number_at,
     object_at, short_at, small_at, strange_at, text_at,
@@ -31,21 +32,21 @@ impl Fields<'_> {
 
     /// A whole number from `least` to `most`.
     pub(crate) fn number(&self, name: &str, least: u64, most: u64) -> Result<u64, LineRefusal>
-        ensures { Gives result (number_field name.now least most (said self.now)) }
+        ensures { Gives unless_memory result (number_field name.now least most (said self.now)) }
     {
         needed(self.alloc, name, number_at(self.value, name, least, most))
     }
 
     /// A whole number of 32 bits, at least `least`.
     pub(crate) fn small(&self, name: &str, least: u32) -> Result<u32, LineRefusal>
-        ensures { Gives result (number_field name.now least (2 ^ 32 - 1) (said self.now)) }
+        ensures { Gives unless_memory result (number_field name.now least (2 ^ 32 - 1) (said self.now)) }
     {
         needed(self.alloc, name, small_at(self.value, name, least))
     }
 
     /// A whole number of 16 bits.
     pub(crate) fn short(&self, name: &str) -> Result<u16, LineRefusal>
-        ensures { Gives result (number_field name.now 0 (2 ^ 16 - 1) (said self.now)) }
+        ensures { Gives unless_memory result (number_field name.now 0 (2 ^ 16 - 1) (said self.now)) }
     {
         needed(self.alloc, name, short_at(self.value, name, 0, u16::MAX))
     }
@@ -57,7 +58,7 @@ impl Fields<'_> {
         least: u64,
         most: u64,
     ) -> Result<Option<u64>, LineRefusal>
-        ensures { Gives result (maybe_number_field name.now least most (said self.now)) }
+        ensures { Gives unless_memory result (maybe_number_field name.now least most (said self.now)) }
     {
         needed(
             self.alloc,
@@ -68,28 +69,28 @@ impl Fields<'_> {
 
     /// A whole number of 32 bits that may be missing.
     pub(crate) fn maybe_small(&self, name: &str) -> Result<Option<u32>, LineRefusal>
-        ensures { Gives result (maybe_number_field name.now 0 (2 ^ 32 - 1) (said self.now)) }
+        ensures { Gives unless_memory result (maybe_number_field name.now 0 (2 ^ 32 - 1) (said self.now)) }
     {
         needed(self.alloc, name, maybe_small_at(self.value, name, 0))
     }
 
     /// An id.
     pub(crate) fn id(&self, name: &str) -> Result<Id, LineRefusal>
-        ensures { Gives result (id_field name.now (said self.now)) }
+        ensures { Gives unless_memory result (id_field name.now (said self.now)) }
     {
         needed(self.alloc, name, id_at(self.value, name))
     }
 
     /// An id that may be missing.
     pub(crate) fn maybe_id(&self, name: &str) -> Result<Option<Id>, LineRefusal>
-        ensures { Gives result (maybe_id_field name.now (said self.now)) }
+        ensures { Gives unless_memory result (maybe_id_field name.now (said self.now)) }
     {
         needed(self.alloc, name, maybe_id_at(self.value, name))
     }
 
     /// Ids, of which a repeated one counts once.
     pub(crate) fn ids(&self, name: &str) -> Result<IdSet, LineRefusal>
-        ensures { Gives result (ids_field name.now (said self.now)) }
+        ensures { Gives unless_memory result (ids_field name.now (said self.now)) }
     {
         match each_at::<Id, IdReader>(self.alloc, self.value, name)? {
             Some(ids) => Ok(set_of(ids)),
@@ -100,7 +101,7 @@ impl Fields<'_> {
     /// The texts of the field `data`, which is the last of its row, as data. Strange fields are looked
     /// for before its size.
     pub(crate) fn data_last(&self, names: &[&str]) -> Result<Data, LineRefusal>
-        ensures { Gives result (data_last (map (λ n. n.now) names.now) (said self.now)) }
+        ensures { Gives unless_memory result (data_last (map (λ n. n.now) names.now) (said self.now)) }
     {
         let Some(members) = object_at(self.value, "data").and_then(Value::as_object) else {
             return Err(bad_line(self.alloc, "data"));
@@ -114,7 +115,7 @@ impl Fields<'_> {
 
     /// A text, copied.
     pub(crate) fn text(&self, name: &str) -> Result<Text, LineRefusal>
-        ensures { Gives result (text_field name.now (said self.now)) }
+        ensures { Gives unless_memory result (text_field name.now (said self.now)) }
     {
         match text_at(self.value, name) {
             Some(text) => Ok(Text::copy_of(self.alloc, text)?),
@@ -124,7 +125,7 @@ impl Fields<'_> {
 
     /// A text that may be missing, copied.
     pub(crate) fn maybe_text(&self, name: &str) -> Result<Option<Text>, LineRefusal>
-        ensures { Gives result (maybe_text_field name.now (said self.now)) }
+        ensures { Gives unless_memory result (maybe_text_field name.now (said self.now)) }
     {
         match maybe_text_at(self.value, name) {
             Some(Some(text)) => Ok(Some(Text::copy_of(self.alloc, text)?)),
@@ -135,7 +136,7 @@ impl Fields<'_> {
 
     /// A flag, which is false where it is missing.
     pub(crate) fn flag(&self, name: &str) -> Result<bool, LineRefusal>
-        ensures { Gives result (flag_field name.now (said self.now)) }
+        ensures { Gives unless_memory result (flag_field name.now (said self.now)) }
     {
         match flag_at(self.value, name) {
             Some(flag) => Ok(flag.unwrap_or(false)),
@@ -145,7 +146,7 @@ impl Fields<'_> {
 
     /// Refuses the least field, in order of bytes, that has another name than these.
     pub(crate) fn only(&self, names: &[&str]) -> Result<(), LineRefusal>
-        ensures { Gives result (only_fields (map (λ n. n.now) names.now) (said self.now)) }
+        ensures { Gives unless_memory result (only_fields (map (λ n. n.now) names.now) (said self.now)) }
     {
         match strange_at(self.value, names) {
             Some(name) => Err(bad_line(self.alloc, name)),
@@ -154,7 +155,7 @@ impl Fields<'_> {
     }
 
     pub(crate) fn list(&self) -> Result<ListName, LineRefusal>
-        ensures { Gives result (list_fields (said self.now)) }
+        ensures { Gives unless_memory result (list_fields (said self.now)) }
     {
         Ok(ListName {
             id1: self.id("id1")?,
@@ -163,7 +164,7 @@ impl Fields<'_> {
     }
 
     pub(crate) fn edge(&self) -> Result<EdgeName, LineRefusal>
-        ensures { Gives result (edge_fields (said self.now)) }
+        ensures { Gives unless_memory result (edge_fields (said self.now)) }
     {
         Ok(EdgeName {
             list: self.list()?,
@@ -209,14 +210,14 @@ fn pair_of(alloc: Global, key: &str, text: &str) -> Result<(String, String), All
 
 /// The data of some pairs, unless it is too large.
 fn fitting(alloc: Global, pairs: Vec<(String, String)>) -> Result<Data, LineRefusal>
-    ensures { Gives result (fitting (in_order (map pair_of pairs.items))) }
+    ensures { Gives unless_memory result (fitting (in_order (map pair_of pairs.items))) }
 {
     Ok(Data::of_pairs(alloc, pairs)?)
 }
 
 /// What is found, or that the field breaks a rule.
 pub(crate) fn needed<T: Drop>(alloc: Global, name: &str, found: Option<T>) -> Result<T, LineRefusal>
-    ensures { Gives result (needed name.now found) }
+    ensures { Gives unless_memory result (needed (BadLine name.now) found) }
 {
     match found {
         Some(found) => Ok(found),
@@ -226,7 +227,7 @@ pub(crate) fn needed<T: Drop>(alloc: Global, name: &str, found: Option<T>) -> Re
 
 /// The refusal for a field.
 pub(crate) fn bad_line(alloc: Global, field: &str) -> LineRefusal
-    ensures { Gives {A = Unit {0}} (Err result) (Err (BadLine field.now)) }
+    ensures { Gives {A = Unit {0}} unless_memory (Err result) (Err (BadLine field.now)) }
 {
     match Text::copy_of(alloc, field) {
         Ok(field) => LineRefusal::BadLine { field },

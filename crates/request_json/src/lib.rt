@@ -1,4 +1,4 @@
-//! Requests, as lines say them: the names of types, regions, tiers and nodes stand in them as texts.
+//! The lines of requests: the JSON that says one, field by field.
 #![tactic(auto)]
 
 mod calls;
@@ -7,13 +7,7 @@ mod nodes;
 mod plans;
 mod read;
 mod refusal;
-mod request;
 mod word;
 
 pub use read::read_request;
 pub use refusal::LineRefusal;
-pub use request::{
-    Call, EdgeName, KeyName, LeaderName, LinkName, ListName, MessageName, Opening, QueryText,
-    ReadCall, Request, WriteCall, WriteText,
-};
-pub use word::{ReadWord, Word, WriteWord};

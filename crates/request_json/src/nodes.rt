@@ -1,16 +1,17 @@
 //! The requests about nodes and stores: the fields of each, in their order.
-ghost use Rattle.request_json.specs.Refusal.{Gives};
+ghost use Rattle.outcomes.specs.Results.{Gives};
+ghost use Rattle.request_json.specs.Refusal.{unless_memory};
 ghost use Rattle.request_json.specs.Fields.{said};
 ghost use Rattle.request_json.specs.Requests.{node_of, message_of, leader_of, link_of, key_given, key_fields, evict_of, show_of, stream_of, repair_of};
 
 use crate::fields::{Fields, bad_line, needed};
 use crate::refusal::LineRefusal;
-use crate::request::{KeyName, LeaderName, LinkName, ListName, MessageName, Request};
+use requests::{KeyName, LeaderName, LinkName, ListName, MessageName, Request};
 use std::alloc::Global;
 use tao_base::{Id, Text};
 
 pub(crate) fn node_of(fields: &Fields<'_>) -> Result<Text, LineRefusal>
-    ensures { Gives result (node_of (said fields.now)) }
+    ensures { Gives unless_memory result (node_of (said fields.now)) }
 {
     let node = fields.text("node")?;
     fields.only(&["do", "node"])?;
@@ -18,7 +19,7 @@ pub(crate) fn node_of(fields: &Fields<'_>) -> Result<Text, LineRefusal>
 }
 
 pub(crate) fn message_of(fields: &Fields<'_>) -> Result<MessageName, LineRefusal>
-    ensures { Gives result (message_of (said fields.now)) }
+    ensures { Gives unless_memory result (message_of (said fields.now)) }
 {
     let message = MessageName {
         node: fields.text("node")?,
@@ -29,7 +30,7 @@ pub(crate) fn message_of(fields: &Fields<'_>) -> Result<MessageName, LineRefusal
 }
 
 pub(crate) fn leader_of(fields: &Fields<'_>) -> Result<LeaderName, LineRefusal>
-    ensures { Gives result (leader_of (said fields.now)) }
+    ensures { Gives unless_memory result (leader_of (said fields.now)) }
 {
     let leader = LeaderName {
         region: fields.text("region")?,
@@ -41,7 +42,7 @@ pub(crate) fn leader_of(fields: &Fields<'_>) -> Result<LeaderName, LineRefusal>
 }
 
 pub(crate) fn link_of(fields: &Fields<'_>) -> Result<LinkName, LineRefusal>
-    ensures { Gives result (link_of (said fields.now)) }
+    ensures { Gives unless_memory result (link_of (said fields.now)) }
 {
     let link = LinkName {
         from: fields.text("from")?,
@@ -60,7 +61,7 @@ fn key_given(
     id1: Option<Id>,
     atype: Option<Text>,
 ) -> Result<Option<KeyName>, LineRefusal>
-    ensures { Gives result (key_given id id1 atype) }
+    ensures { Gives unless_memory result (key_given id id1 atype) }
 {
     match (id, id1, atype) {
         (None, None, None) => Ok(None),
@@ -71,7 +72,7 @@ fn key_given(
 }
 
 fn key_fields(fields: &Fields<'_>) -> Result<Option<KeyName>, LineRefusal>
-    ensures { Gives result (key_fields (said fields.now)) }
+    ensures { Gives unless_memory result (key_fields (said fields.now)) }
 {
     let id = fields.maybe_id("id")?;
     let id1 = fields.maybe_id("id1")?;
@@ -80,7 +81,7 @@ fn key_fields(fields: &Fields<'_>) -> Result<Option<KeyName>, LineRefusal>
 }
 
 pub(crate) fn evict_of(fields: &Fields<'_>) -> Result<Request, LineRefusal>
-    ensures { Gives result (evict_of (said fields.now)) }
+    ensures { Gives unless_memory result (evict_of (said fields.now)) }
 {
     let node = fields.text("node")?;
     let key = key_fields(fields)?;
@@ -89,7 +90,7 @@ pub(crate) fn evict_of(fields: &Fields<'_>) -> Result<Request, LineRefusal>
 }
 
 pub(crate) fn show_of(fields: &Fields<'_>) -> Result<Request, LineRefusal>
-    ensures { Gives result (show_of (said fields.now)) }
+    ensures { Gives unless_memory result (show_of (said fields.now)) }
 {
     let node = fields.text("node")?;
     let key = needed(fields.alloc, "id", key_fields(fields)?)?;
@@ -100,7 +101,7 @@ pub(crate) fn show_of(fields: &Fields<'_>) -> Result<Request, LineRefusal>
 // ---- stores
 
 pub(crate) fn stream_of(fields: &Fields<'_>) -> Result<Request, LineRefusal>
-    ensures { Gives result (stream_of (said fields.now)) }
+    ensures { Gives unless_memory result (stream_of (said fields.now)) }
 {
     let region = fields.text("region")?;
     let shard = fields.short("shard")?;
@@ -114,7 +115,7 @@ pub(crate) fn stream_of(fields: &Fields<'_>) -> Result<Request, LineRefusal>
 }
 
 pub(crate) fn repair_of(fields: &Fields<'_>) -> Result<Request, LineRefusal>
-    ensures { Gives result (repair_of (said fields.now)) }
+    ensures { Gives unless_memory result (repair_of (said fields.now)) }
 {
     let shard = fields.short("shard")?;
     fields.only(&["do", "shard"])?;

@@ -1,7 +1,8 @@
 //! The requests about sessions, plans and the whole store: the fields of each, in their order.
 ghost use Rattle.std.specs.Prelude.{◌≡◌, map, Result};
 ghost use Rattle.serde_json.specs.View.{view};
-ghost use Rattle.request_json.specs.Refusal.{Gives};
+ghost use Rattle.outcomes.specs.Results.{Gives};
+ghost use Rattle.request_json.specs.Refusal.{unless_memory};
 ghost use Rattle.request_json.specs.Fields.{said};
 ghost use Rattle.request_json.specs.Word.{word_of};
 ghost use Rattle.request_json.specs.Requests.{open_of, within, call_by, read_by, plan_field, hold_of, advance_of, audit_of, settle_of};
@@ -10,12 +11,13 @@ ghost use Rattle.request_json.specs.declared.refusal.LineRefusal.{LineRefusal};
 use crate::calls::{read_of, session_field, write_of};
 use crate::fields::{Fields, bad_line};
 use crate::refusal::LineRefusal;
-use crate::request::{Call, Opening, ReadCall, Request};
-use crate::word::{Word, word_of};
+use requests::{Call, Opening, ReadCall, Request};
+use crate::word::word_of;
+use words::Word;
 use json_fields::fields::object_at;
 
 pub(crate) fn open_of(fields: &Fields<'_>) -> Result<Request, LineRefusal>
-    ensures { Gives result (open_of (said fields.now)) }
+    ensures { Gives unless_memory result (open_of (said fields.now)) }
 {
     let opening = Opening {
         session: session_field(fields)?,
@@ -27,13 +29,13 @@ pub(crate) fn open_of(fields: &Fields<'_>) -> Result<Request, LineRefusal>
 }
 
 fn plan_field(fields: &Fields<'_>) -> Result<u32, LineRefusal>
-    ensures { Gives result (plan_field (said fields.now)) }
+    ensures { Gives unless_memory result (plan_field (said fields.now)) }
 {
     fields.small("plan", 0)
 }
 
 pub(crate) fn hold_of(fields: &Fields<'_>) -> Result<Request, LineRefusal>
-    ensures { Gives result (hold_of (said fields.now)) }
+    ensures { Gives unless_memory result (hold_of (said fields.now)) }
 {
     let plan = plan_field(fields)?;
     let Some(value) = object_at(fields.value, "request") else {
@@ -46,7 +48,7 @@ pub(crate) fn hold_of(fields: &Fields<'_>) -> Result<Request, LineRefusal>
 }
 
 pub(crate) fn advance_of(fields: &Fields<'_>) -> Result<Request, LineRefusal>
-    ensures { Gives result (advance_of (said fields.now)) }
+    ensures { Gives unless_memory result (advance_of (said fields.now)) }
 {
     let plan = plan_field(fields)?;
     fields.only(&["do", "plan"])?;
@@ -54,7 +56,7 @@ pub(crate) fn advance_of(fields: &Fields<'_>) -> Result<Request, LineRefusal>
 }
 
 pub(crate) fn audit_of(fields: &Fields<'_>) -> Result<Request, LineRefusal>
-    ensures { Gives result (audit_of (said fields.now)) }
+    ensures { Gives unless_memory result (audit_of (said fields.now)) }
 {
     let Some(value) = object_at(fields.value, "request") else {
         return Err(bad_line(fields.alloc, "request"));
@@ -66,7 +68,7 @@ pub(crate) fn audit_of(fields: &Fields<'_>) -> Result<Request, LineRefusal>
 }
 
 pub(crate) fn settle_of(fields: &Fields<'_>) -> Result<Request, LineRefusal>
-    ensures { Gives result (settle_of (said fields.now)) }
+    ensures { Gives unless_memory result (settle_of (said fields.now)) }
 {
     fields.only(&["do"])?;
     Ok(Request::Settle)
@@ -76,7 +78,7 @@ pub(crate) fn settle_of(fields: &Fields<'_>) -> Result<Request, LineRefusal>
 
 /// The call that an object asks.
 fn call_of(fields: &Fields<'_>) -> Result<Call, LineRefusal>
-    ensures { Gives result (call_by (word_of (said fields.now)) (said fields.now)) }
+    ensures { Gives unless_memory result (call_by (word_of (said fields.now)) (said fields.now)) }
 {
     match word_of(fields.value) {
         Some(Word::Write(word)) => Ok(Call::Write(write_of(word, fields)?)),
@@ -87,7 +89,7 @@ fn call_of(fields: &Fields<'_>) -> Result<Call, LineRefusal>
 
 /// The read that an object asks.
 fn inner_read_of(fields: &Fields<'_>) -> Result<ReadCall, LineRefusal>
-    ensures { Gives result (read_by (word_of (said fields.now)) (said fields.now)) }
+    ensures { Gives unless_memory result (read_by (word_of (said fields.now)) (said fields.now)) }
 {
     match word_of(fields.value) {
         Some(Word::Read(word)) => read_of(word, fields),
@@ -102,8 +104,8 @@ fn within<T: Drop>(
     names: &[&str],
     inner: Result<T, LineRefusal>,
 ) -> Result<T, LineRefusal>
-    ensures { (asked : Result T LineRefusal) → Gives inner asked
-        → Gives result (within (map (λ n. n.now) names.now) (said fields.now) asked) }
+    ensures { (asked : Result T LineRefusal) → Gives unless_memory inner asked
+        → Gives unless_memory result (within (map (λ n. n.now) names.now) (said fields.now) asked) }
 {
     match inner {
         Err(LineRefusal::OutOfMemory) => Err(LineRefusal::OutOfMemory),

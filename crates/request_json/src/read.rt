@@ -1,6 +1,7 @@
 //! What a line asks.
 ghost use Rattle.serde_json.specs.View.{view};
-ghost use Rattle.request_json.specs.Refusal.{Gives};
+ghost use Rattle.outcomes.specs.Results.{Gives};
+ghost use Rattle.request_json.specs.Refusal.{unless_memory};
 ghost use Rattle.request_json.specs.Fields.{said};
 ghost use Rattle.request_json.specs.Requests.{request_in, request_by, request_of};
 
@@ -11,8 +12,9 @@ use crate::nodes::{
 };
 use crate::plans::{advance_of, audit_of, hold_of, open_of, settle_of};
 use crate::refusal::LineRefusal;
-use crate::request::{Call, Request};
-use crate::word::{Word, word_of};
+use requests::{Call, Request};
+use crate::word::word_of;
+use words::{DeliveryWord, HealthWord, LinkWord, PlanWord, Word};
 use json_fields::json::parse;
 use serde_json::Value;
 use std::alloc::Global;
@@ -20,7 +22,7 @@ use std::alloc::Global;
 /// What a line asks: exactly the requests are taken, and a line that is none is refused for the first
 /// rule that it breaks. Reads the line once, and each of its fields a few times.
 pub fn read_request(alloc: Global, line: &[u8]) -> Result<Request, LineRefusal>
-    ensures { Gives result (request_in line.now) }
+    ensures { Gives unless_memory result (request_in line.now) }
 {
     match parse(alloc, line)? {
         Some(value) => request_by(alloc, &value),
@@ -29,7 +31,7 @@ pub fn read_request(alloc: Global, line: &[u8]) -> Result<Request, LineRefusal>
 }
 
 fn request_by(alloc: Global, value: &Value) -> Result<Request, LineRefusal>
-    ensures { Gives result (request_by (view value.now)) }
+    ensures { Gives unless_memory result (request_by (view value.now)) }
 {
     if !value.is_object() {
         return Err(bad_line(alloc, ""));
@@ -41,16 +43,16 @@ fn request_by(alloc: Global, value: &Value) -> Result<Request, LineRefusal>
 }
 
 fn request_of(word: Word, fields: &Fields<'_>) -> Result<Request, LineRefusal>
-    ensures { Gives result (request_of word (said fields.now)) }
+    ensures { Gives unless_memory result (request_of word (said fields.now)) }
 {
     match word {
         Word::Open => open_of(fields),
         Word::Write(word) => write_of(word, fields).map(|call| Request::Call(Call::Write(call))),
         Word::Read(word) => read_of(word, fields).map(|call| Request::Call(Call::Read(call))),
-        Word::Hold => hold_of(fields),
-        Word::Advance => advance_of(fields),
-        Word::Deliver => message_of(fields).map(Request::Deliver),
-        Word::Again => message_of(fields).map(Request::Again),
+        Word::Plan(PlanWord::Hold) => hold_of(fields),
+        Word::Plan(PlanWord::Advance) => advance_of(fields),
+        Word::Delivery(DeliveryWord::Deliver) => message_of(fields).map(Request::Deliver),
+        Word::Delivery(DeliveryWord::Again) => message_of(fields).map(Request::Again),
         Word::Drop => message_of(fields).map(Request::Drop),
         Word::Refill => node_of(fields).map(|node| Request::Refill { node }),
         Word::Stream => stream_of(fields),
@@ -58,12 +60,12 @@ fn request_of(word: Word, fields: &Fields<'_>) -> Result<Request, LineRefusal>
         Word::Evict => evict_of(fields),
         Word::Show => show_of(fields),
         Word::Inbox => node_of(fields).map(|node| Request::Inbox { node }),
-        Word::Down => node_of(fields).map(|node| Request::Down { node }),
-        Word::Up => node_of(fields).map(|node| Request::Up { node }),
-        Word::Suspect => leader_of(fields).map(Request::Suspect),
-        Word::Trust => leader_of(fields).map(Request::Trust),
-        Word::Cut => link_of(fields).map(Request::Cut),
-        Word::Mend => link_of(fields).map(Request::Mend),
+        Word::Health(HealthWord::Down) => node_of(fields).map(|node| Request::Down { node }),
+        Word::Health(HealthWord::Up) => node_of(fields).map(|node| Request::Up { node }),
+        Word::Health(HealthWord::Suspect) => leader_of(fields).map(Request::Suspect),
+        Word::Health(HealthWord::Trust) => leader_of(fields).map(Request::Trust),
+        Word::Link(LinkWord::Cut) => link_of(fields).map(Request::Cut),
+        Word::Link(LinkWord::Mend) => link_of(fields).map(Request::Mend),
         Word::Settle => settle_of(fields),
         Word::Audit => audit_of(fields),
     }

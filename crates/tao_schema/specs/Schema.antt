@@ -1,16 +1,12 @@
 -- Which lists make a schema, and what it says of the association types.
-use Rattle.std.specs.Prelude.{ℕ, List, Result, Ok, Err}
+use Rattle.std.specs.Prelude.{ℕ, List, Result, Ok}
+use Rattle.outcomes.specs.Results.{◌>>=◌}
 use Rattle.tao_base.specs.EdgeTypes.{EdgeTypes}
 use Rattle.tao_schema.specs.AssocTypes.{assocs_of, edge_types}
 use Rattle.tao_schema.specs.ObjectTypes.{objects_of}
 use Rattle.tao_schema.specs.declared.lines.AssocLine.{AssocLine}
 use Rattle.tao_schema.specs.declared.refusal.SchemaRefusal.{SchemaRefusal}
 use Rattle.tao_schema.specs.declared.schema.Schema.{Schema}
-
-infixl 10 ◌>>=◌
-abbrev pub ◌>>=◌ : {A B E : Type 0} → Result A E → (A → Result B E) → Result B E
-(Ok x) >>= f = f x
-(Err e) >>= f = Err e
 
 -- the lists themselves, or the first refusal
 abbrev pub schema_of : List (List ℕ) → List AssocLine → Result Schema SchemaRefusal

@@ -1,8 +1,9 @@
 -- Tiers and nodes by their names.
-use Rattle.std.specs.Prelude.{ℕ, Bool, ◌==◌, ◌&&◌, ◌||◌, List, length, Option, Some, None, option_and_then, option_map, unwrap_or, slice_get, slice_index, codes, bytes_eq, decimal, nat_lt, if◌then◌else◌}
+use Rattle.std.specs.Prelude.{ℕ, Bool, ◌==◌, ◌&&◌, ◌||◌, List, length, Option, option_and_then, option_map, unwrap_or, slice_get, slice_index, codes, bytes_eq, decimal, nat_lt, if◌then◌else◌}
 use Rattle.std.specs.Bool.{then_some}
 use Rattle.std.specs.List.{position_or_len, before_first, after_first}
 use Rattle.std.specs.Str.Parse.{digits_value}
+use Rattle.outcomes.specs.Options.{◌>>=◌}
 use Rattle.node_name.specs.declared.NodeName.{NodeName}
 use Rattle.node_name.specs.declared.NodeName.TheVariants.{Store, Leader, Follower}
 use Rattle.topology.specs.Config.{Settings}
@@ -43,11 +44,6 @@ node_in s region word number =
     if bytes_eq word (codes "store") then option_map (λ shard. Store (record { region = region; shard = shard })) (number_below s.shards number)
     else (if bytes_eq word (codes "leader") then option_map (λ index. Leader region index) (number_below (leaders_of s.regions region) number)
     else option_and_then (λ tier. option_map (λ index. Follower region tier index) (number_below (followers_of s.regions region tier) number)) (tier_in s.regions region word))
-
-infixl 10 ◌>>=◌
-abbrev pub ◌>>=◌ : {A B : Type 0} → Option A → (A → Option B) → Option B
-None >>= f = None
-(Some a) >>= f = f a
 
 -- the configured node of a text: a region's name, a word and a number, with a `/` between them
 abbrev pub node_at : Settings → List ℕ → Option NodeName

@@ -1,0 +1,92 @@
+//! The replies to writes and reads.
+ghost use Rattle.std.specs.Prelude.{◌≡◌};
+ghost use Rattle.replies.specs.Kinds.{kind_word};
+
+use tao_base::{Answer, Id};
+use words::{ReadWord, WriteWord};
+
+/// The reply to a write or a read that was carried out.
+#[derive(Debug, Drop)]
+pub enum CallReply {
+    Write(WriteReply),
+    Read(ReadReply),
+}
+
+/// The reply to a write.
+#[derive(Clone, Copy, Debug, PartialEq, Eq)]
+pub struct WriteReply {
+    pub kind: WriteKind,
+    pub written: Written,
+}
+
+/// Which write was asked.
+#[derive(Clone, Copy, Debug, PartialEq, Eq)]
+pub enum WriteKind {
+    /// An object was added under this id.
+    ObjAdd { id: Id },
+    ObjUpdate,
+    ObjDelete,
+    AssocAdd,
+    AssocDelete,
+    AssocChangeType,
+}
+
+/// What a write did.
+#[derive(Clone, Copy, Debug, PartialEq, Eq)]
+pub struct Written {
+    /// Whether there was something to write; on a retry, whether the first try wrote something.
+    pub changed: bool,
+    /// What became of the edge's inverse.
+    pub inverse: InverseEnd,
+    /// The position of the write's entry in the log of its shard; 0 where nothing is written.
+    pub position: u64,
+    /// Whether the entry stood there before.
+    pub retry: bool,
+}
+
+/// What became of the inverse of an edge that was written.
+#[derive(Clone, Copy, Debug, PartialEq, Eq)]
+pub enum InverseEnd {
+    /// There is none to be written.
+    None,
+    /// It is written.
+    Written,
+    /// A job that stays open is to write it.
+    Scheduled { why: ScheduledWhy },
+}
+
+/// Why an inverse is not yet written.
+#[derive(Clone, Copy, Debug, PartialEq, Eq)]
+pub enum ScheduledWhy {
+    LinkFault,
+    KeeperFault,
+    /// The other shard's log is full.
+    LogFull,
+    /// No leader could be chosen.
+    NoServer,
+    Memory,
+}
+
+/// The reply to a read: what was found, and the version of its key.
+#[derive(Debug, Drop)]
+pub struct ReadReply {
+    pub word: ReadWord,
+    pub answer: Answer,
+    pub version: u64,
+}
+
+impl WriteKind {
+    /// The word of the write.
+    pub fn word(self) -> WriteWord
+        ensures { result ≡ kind_word self }
+    {
+        match self {
+            WriteKind::ObjAdd { .. } => WriteWord::ObjAdd,
+            WriteKind::ObjUpdate => WriteWord::ObjUpdate,
+            WriteKind::ObjDelete => WriteWord::ObjDelete,
+            WriteKind::AssocAdd => WriteWord::AssocAdd,
+            WriteKind::AssocDelete => WriteWord::AssocDelete,
+            WriteKind::AssocChangeType => WriteWord::AssocChangeType,
+        }
+    }
+}

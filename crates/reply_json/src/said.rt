@@ -1,0 +1,99 @@
+//! What the members of a reply's line say.
+ghost use Rattle.std.specs.Prelude.{◌≡◌};
+ghost use Rattle.reply_json.specs.Said.{object_value, said_value};
+ghost use Rattle.reply_json.specs.Values.{answer_data, answer_name, object_data};
+ghost use Rattle.reply_json.specs.Writing.{Puts};
+
+use crate::spelled::{Spelled, put_items, put_members};
+use crate::values::Part;
+use json::Writer;
+use replies::Message;
+use std::alloc::AllocError;
+use tao_base::{Answer, Data, Edge, Object};
+use topology::Config;
+
+/// What a member of a reply's line says.
+#[derive(Clone, Copy)]
+pub(crate) enum Said<'r> {
+    Flag(bool),
+    Whole(u64),
+    Text(&'r str),
+    /// None is spelled `null`.
+    Object(Option<ObjectSaid<'r>>),
+    Edges(&'r [Edge]),
+    Lengths(&'r [u64]),
+    Messages(&'r [Message]),
+}
+
+/// An object, with the name of its type.
+#[derive(Clone, Copy)]
+pub(crate) struct ObjectSaid<'r> {
+    pub payload: &'r Data,
+    pub otype: &'r str,
+}
+
+impl Spelled for Said<'_> {
+    ghost value = { said_value };
+
+    #[tactic(auto, unfolding(crate::specs::Writing::tokens_of))]
+    fn put(&self, out: &mut Writer) -> Result<(), AllocError> {
+        match self {
+            Said::Flag(flag) => out.boolean(*flag),
+            Said::Whole(number) => out.u64(*number),
+            Said::Text(text) => out.string(text),
+            Said::Object(None) => out.null(),
+            Said::Object(Some(object)) => put_object(out, object),
+            Said::Edges(edges) => put_items(out, edges),
+            Said::Lengths(lengths) => put_items(out, lengths),
+            Said::Messages(messages) => put_items(out, messages),
+        }
+    }
+}
+
+fn put_object(out: &mut Writer, object: &ObjectSaid<'_>) -> Result<(), AllocError>
+    ensures { Puts result out.old out.new (object_value object.now) }
+{
+    put_members(
+        out,
+        &[
+            ("data", Part::Pairs(object.payload)),
+            ("otype", Part::Text(object.otype)),
+        ],
+    )
+}
+
+/// The object, with the name that the configuration has for its type.
+pub(crate) fn said_object<'r>(config: &'r Config, object: &'r Option<Object>) -> Said<'r>
+    ensures { said_value result ≡ object_data config.now object.now }
+{
+    match object {
+        Some(object) => {
+            Said::Object(Some(ObjectSaid {
+                payload: &object.payload,
+                otype: config.schema.otype_name(object.otype),
+            }))
+        }
+        None => Said::Object(None),
+    }
+}
+
+pub(crate) fn said_answer<'r>(config: &'r Config, answer: &'r Answer) -> Said<'r>
+    ensures { said_value result ≡ answer_data config.now answer.now }
+{
+    match answer {
+        Answer::Object(object) => said_object(config, object),
+        Answer::Edges(edges) => Said::Edges(edges.as_slice()),
+        Answer::Count(count) => Said::Whole(*count),
+    }
+}
+
+/// What an answer stands under.
+pub(crate) fn answer_name(answer: &Answer) -> &'static str
+    ensures { result.now ≡ answer_name answer.now }
+{
+    match answer {
+        Answer::Object(_) => "object",
+        Answer::Edges(_) => "edges",
+        Answer::Count(_) => "count",
+    }
+}

@@ -1,0 +1,10 @@
+//! Requests, with the names of types, regions, tiers and nodes as lines give them. How a line spells them
+//! is not said here.
+#![tactic(auto)]
+
+mod request;
+
+pub use request::{
+    Call, EdgeName, KeyName, LeaderName, LinkName, ListName, MessageName, Opening, QueryText,
+    ReadCall, Request, WriteCall, WriteText,
+};

@@ -1,9 +1,13 @@
-//! What it means that a count of faults rose, for all that can fail: sources, sinks, links and keepers.
+//! What it means that a count of faults rose, for all that can fail: sources, sinks, links and keepers. And calls that
+//! fail where a plan says so, for those of them that stand in memory.
 #![tactic(auto)]
 
 ghost use Rattle.std.specs.Prelude.{◌≡◌, ◌≤◌};
 ghost use Rattle.counts.specs.Count.{Counted};
 
+mod planned;
+
+pub use planned::PlannedCalls;
 use std::marker::Model;
 
 /// A count of calls or of faults. At its last value, 2^64 - 1, it stands still.

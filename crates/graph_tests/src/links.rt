@@ -2,7 +2,7 @@
 use node_name::NodeName;
 use std::test::Fail;
 use tao_base::StoreName;
-use tao_link::{Carry, Link, LinkFailed, PlannedLink, SteadyLink};
+use tao_link::{Carry, Link, LinkFailed, PlannedLink, SteadyLink, SwitchLink};
 
 const STORE: NodeName = NodeName::Store(StoreName {
     region: 0,
@@ -47,6 +47,27 @@ fn a_planned_link_fails_at_the_listed_carries(rt: HostRuntime) -> Result<(), Fai
     assert_eq!(rt; link.failed(), Some(failed));
     assert_eq!(rt; there_and_back(&mut link), (true, false));
     assert_eq!(rt; link.faults(), 2);
+    Ok(())
+}
+
+#[test]
+fn a_switch_link_fails_exactly_where_it_is_cut(rt: HostRuntime) -> Result<(), Fail> {
+    let mut link = SwitchLink::make(rt.alloc());
+    assert_eq!(rt; there_and_back(&mut link), (true, true));
+    link.switch(LEADER, STORE, false)?;
+    link.switch(LEADER, STORE, false)?;
+    assert_eq!(rt; there_and_back(&mut link), (false, true));
+    link.switch(STORE, LEADER, false)?;
+    link.switch(LEADER, STORE, true)?;
+    assert_eq!(rt; there_and_back(&mut link), (true, false));
+    link.switch(STORE, LEADER, true)?;
+    assert_eq!(rt; there_and_back(&mut link), (true, true));
+    assert_eq!(rt; (link.carries(), link.faults()), (8, 2));
+    let failed = Carry {
+        from: STORE,
+        to: LEADER,
+    };
+    assert_eq!(rt; link.failed(), Some(failed));
     Ok(())
 }
 

@@ -1,25 +1,20 @@
 -- What a source and a sink over memory hold, with the calls that they fail at.
-use Rattle.std.specs.Prelude.{◌≡◌, ℕ, List, Result, Contains}
-use Rattle.counts.specs.Count.{after_one, Counted, CountsError}
+use Rattle.std.specs.Prelude.{◌≡◌, ℕ, List, Result}
+use Rattle.counts.specs.Count.{after_one, CountsError}
+use Rattle.counts.specs.Planned.{Planned, after_next, from_one}
 
--- which calls fail, by their numbers from 1 on, and what was counted so far
+-- the calls with those of them that fail, and how many faults there were
 pub record Plan : Type 0 where
-  pub fails : List ℕ
-  pub calls : ℕ
+  pub calls : Planned
   pub faults : ℕ
 
 -- nothing was counted yet
 abbrev pub new_plan : List ℕ → Plan
-new_plan fails = record { fails = fails; calls = 0; faults = 0 }
-
--- the next call is one of those that fail
-abbrev pub FailsNext : Plan → Type 0
-FailsNext plan = Contains plan.fails (after_one plan.calls)
+new_plan fails = record { calls = from_one fails; faults = 0 }
 
 -- one call was made and counted, and its fault too where it failed
 pub record CountsCall {T E : Type 0} (old new : Plan) (result : Result T E) : Type 0 where
-  pub fails : new.fails ≡ old.fails
-  pub calls : Counted old.calls new.calls
+  pub calls : new.calls ≡ after_next old.calls
   pub faults : CountsError old.faults new.faults result
 
 -- a source over memory: the bytes left, and its plan

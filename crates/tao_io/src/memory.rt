@@ -3,7 +3,8 @@ ghost use Rattle.std.specs.Prelude.{◌≡◌, ◌↔◌, [], length, take, min,
 ghost use Rattle.std.specs.Io.{ReadsAtMost, WritesAtMost};
 ghost use Rattle.std.specs.Io.KnownBytes.{ReadConsumes, WriteAppends};
 ghost use Rattle.counts.specs.Count.{HasCause};
-ghost use Rattle.tao_io.specs.Plan.{new_plan, FailsNext, CountsCall};
+ghost use Rattle.counts.specs.Planned.{FailsNext};
+ghost use Rattle.tao_io.specs.Plan.{new_plan, CountsCall};
 ghost use Rattle.tao_io.specs.Sink.{TakesSome};
 
 use crate::plan::FaultPlan;
@@ -67,7 +68,7 @@ impl Source for MemorySource {
         ensures bytes { ReadConsumes (Some self.old.left) (Some self.new.left) result into.new }
         ensures cause { HasCause self.old.plan.faults self.new.plan.faults result }
 
-        ensures listed { IsErr result ↔ FailsNext self.old.plan }
+        ensures listed { IsErr result ↔ FailsNext self.old.plan.calls }
         ensures most { IfOk result (λ n. n ≡ min (length into.old) (length self.old.left)) }
         ensures counted { CountsCall self.old.plan self.new.plan result }
     {
@@ -130,7 +131,7 @@ impl Sink for MemorySink {
         ensures cause { HasCause self.old.plan.faults self.new.plan.faults result }
         ensures some { TakesSome self.old.plan.faults self.new.plan.faults result piece.now }
 
-        ensures listed { FailsNext self.old.plan → IsErr result }
+        ensures listed { FailsNext self.old.plan.calls → IsErr result }
         ensures whole { IfOk result (λ n. n ≡ length piece.now) }
         ensures counted { CountsCall self.old.plan self.new.plan result }
     {

@@ -1,15 +1,14 @@
 ghost use Rattle.std.specs.Prelude.{◌≡◌, ◌≤◌, ◌↔◌, IsTrue};
-ghost use Rattle.counts.specs.Count.{Counted};
-ghost use Rattle.tao_io.specs.Plan.{new_plan, FailsNext, CountsFault};
+ghost use Rattle.counts.specs.Planned.{FailsNext, after_next};
+ghost use Rattle.tao_io.specs.Plan.{new_plan, CountsFault};
 
-use counts::Count;
+use counts::{Count, PlannedCalls};
 use std::marker::Model;
 
 /// Which calls of an object in memory fail, by their numbers from 1 on, and what it counted so far.
 #[derive(Drop)]
 pub(crate) struct FaultPlan {
-    fails: Vec<u64>,
-    calls: Count,
+    calls: PlannedCalls,
     faults: Count,
 }
 
@@ -18,7 +17,7 @@ impl Model for FaultPlan {
 
     ghost Value = { Plan };
 
-    ghost view = { λ p. record { fails = p.fails.items; calls = p.calls; faults = p.faults } };
+    ghost view = { λ p. record { calls = p.calls; faults = p.faults } };
 }
 
 impl FaultPlan {
@@ -26,21 +25,17 @@ impl FaultPlan {
         ensures { result ≡ new_plan fails.items }
     {
         FaultPlan {
-            fails,
-            calls: Count::new(),
+            calls: PlannedCalls::of(fails),
             faults: Count::new(),
         }
     }
 
     /// Counts a call. Says whether it is one of those that fail.
     pub(crate) fn count_call(&mut self) -> bool
-        ensures listed { IsTrue result ↔ FailsNext self.old }
-        ensures fails { self.new.fails ≡ self.old.fails }
-        ensures calls { Counted self.old.calls self.new.calls }
-        ensures faults { self.new.faults ≡ self.old.faults }
+        ensures listed { IsTrue result ↔ FailsNext self.old.calls }
+        ensures counted { self.new ≡ record self.old { calls = after_next self.old.calls } }
     {
-        self.calls.rise();
-        self.fails.contains(&self.calls.value())
+        self.calls.next_fails()
     }
 
     /// Counts a fault.

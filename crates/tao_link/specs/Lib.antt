@@ -1,2 +1,4 @@
 pub mod Cuts
 pub mod Planned
+pub mod Shown
+pub mod Switch

@@ -4,7 +4,9 @@
 mod link;
 mod planned;
 mod steady;
+mod switch;
 
 pub use link::{Carry, Link, LinkFailed};
 pub use planned::PlannedLink;
 pub use steady::SteadyLink;
+pub use switch::SwitchLink;

@@ -1,10 +1,12 @@
 //! `PlannedLink`, which fails where it is told to.
 ghost use Rattle.std.specs.Prelude.{◌≡◌, IsOk};
+ghost use Rattle.counts.specs.Planned.{FailsNext, after_next};
 ghost use Rattle.tao_link.specs.Cuts.{between};
-ghost use Rattle.tao_link.specs.Planned.{CarriesAsPlanned, plan_of};
+ghost use Rattle.tao_link.specs.Planned.{plan_of, planned_shown};
+ghost use Rattle.tao_link.specs.Shown.{CarriesUnless};
 
 use crate::link::{Carry, Link, LinkFailed};
-use counts::Count;
+use counts::{Count, PlannedCalls};
 use node_name::NodeName;
 use std::marker::Model;
 use tao_base::OutOfMemory;
@@ -15,18 +17,17 @@ use tao_base::OutOfMemory;
 /// A carry looks through the list of numbers. Every other call takes constant time, and none takes memory.
 #[derive(Debug, Drop)]
 pub struct PlannedLink {
-    fails: Vec<u64>,
-    carries: Count,
+    carries: PlannedCalls,
     faults: Count,
     failed: Option<Carry>,
 }
 
 impl Model for PlannedLink {
-    ghost use Rattle.tao_link.specs.Planned.{Planned};
+    ghost use Rattle.tao_link.specs.Planned.{LinkPlan};
 
-    ghost Value = { Planned };
+    ghost Value = { LinkPlan };
 
-    ghost view = { λ link. record { fails = link.fails.items; carries = link.carries; faults = link.faults; failed = link.failed } };
+    ghost view = { λ link. record { carries = link.carries; faults = link.faults; failed = link.failed } };
 }
 
 impl PlannedLink {
@@ -35,8 +36,7 @@ impl PlannedLink {
         ensures { result ≡ plan_of fails.items }
     {
         PlannedLink {
-            fails,
-            carries: Count::new(),
+            carries: PlannedCalls::of(fails),
             faults: Count::new(),
             failed: None,
         }
@@ -44,22 +44,14 @@ impl PlannedLink {
 }
 
 impl Link for PlannedLink {
-    ghost use Rattle.std.specs.Prelude.{None};
-
-    ghost carries = { λ link. link.carries };
-
-    ghost faults = { λ link. link.faults };
-
-    ghost failed = { λ link. link.failed };
-
-    ghost cuts = { λ _. None };
+    ghost shown = { planned_shown };
 
     /// Fails exactly where its number among the carries is listed.
     fn carry(&mut self, from: NodeName, to: NodeName) -> Result<(), LinkFailed>
-        ensures { CarriesAsPlanned (between from to) self.old self.new result }
+        ensures carried { CarriesUnless (FailsNext self.old.carries) (between from to) (planned_shown self.old) (planned_shown self.new) result }
+        ensures plan { self.new.carries ≡ after_next self.old.carries }
     {
-        self.carries.rise();
-        if self.fails.contains(&self.carries.value()) {
+        if self.carries.next_fails() {
             self.faults.rise();
             self.failed = Some(Carry { from, to });
             return Err(LinkFailed);
@@ -76,7 +68,7 @@ impl Link for PlannedLink {
     }
 
     fn carries(&self) -> u64 {
-        self.carries.value()
+        self.carries.count()
     }
 
     fn faults(&self) -> u64 {

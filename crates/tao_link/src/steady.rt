@@ -38,13 +38,7 @@ impl SteadyLink {
 impl Link for SteadyLink {
     ghost use Rattle.std.specs.Prelude.{None};
 
-    ghost carries = { λ link. link };
-
-    ghost faults = { λ _. 0 };
-
-    ghost failed = { λ _. None };
-
-    ghost cuts = { λ _. None };
+    ghost shown = { λ carries. record { cuts = None; carries = carries; faults = 0; failed = None } };
 
     /// Never fails.
     fn carry(&mut self, _from: NodeName, _to: NodeName) -> Result<(), LinkFailed>

@@ -1,7 +1,11 @@
+pub mod Choices
 pub mod Config
 pub mod ConfigView
+pub mod Counts
 pub mod Lookup
 pub mod Named
 pub mod Nodes
 pub mod Regions
+pub mod States
+pub mod Suspicions
 pub mod Tiers

@@ -5,17 +5,22 @@
 //! configuration as its settings.
 #![tactic(auto)]
 
+mod choices;
 pub mod config;
+mod counts;
+mod flags;
 pub mod lookup;
 pub mod masters;
 pub mod name;
 mod named;
 pub mod nodes;
 pub mod regions;
+mod states;
 pub mod tiers;
 
 pub use config::Config;
 pub use masters::Masters;
 pub use name::Name;
 pub use regions::{Region, Regions};
+pub use states::Topology;
 pub use tiers::{Tier, Tiers};

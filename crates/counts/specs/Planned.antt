@@ -1,0 +1,20 @@
+-- Calls that are counted from 1 on, of which those with listed numbers fail.
+use Rattle.std.specs.Prelude.{ℕ, List, Contains}
+use Rattle.counts.specs.Count.{after_one}
+
+-- the numbers of the calls that fail, and how many calls there were
+pub record Planned : Type 0 where
+  pub fails : List ℕ
+  pub count : ℕ
+
+-- there was no call yet
+abbrev pub from_one : List ℕ → Planned
+from_one fails = record { fails = fails; count = 0 }
+
+-- the next call is one of those that fail
+abbrev pub FailsNext : Planned → Type 0
+FailsNext calls = Contains calls.fails (after_one calls.count)
+
+-- there was one more call
+abbrev pub after_next : Planned → Planned
+after_next calls = record calls { count = after_one calls.count }

@@ -2,10 +2,10 @@
 use Rattle.std.proofs.Common.{◌≡◌, ℕ, ◌<◌, List, Result, Ok, Err, Bool, true, false, nat_lt, not, refl, ap, subst, ◌∙◌, arith}
 use Rattle.std.specs.Prelude.{⊤}
 use Rattle.std.proofs.lemmas.Bool.Decides.{nat_tests}
-use Rattle.reply_json.specs.declared.refusals.NameRefused.{NameRefused}
-use Rattle.reply_json.specs.declared.refusals.Refusal.{Refusal}
-use Rattle.reply_json.specs.declared.refusals.NameRefused.TheVariants.{NoShard, SameType}
-use Rattle.reply_json.specs.declared.refusals.Refusal.TheVariants.{Name}
+use Rattle.replies.specs.declared.refusals.NameRefused.{NameRefused}
+use Rattle.replies.specs.declared.refusals.Refusal.{Refusal}
+use Rattle.replies.specs.declared.refusals.NameRefused.TheVariants.{NoShard, SameType}
+use Rattle.replies.specs.declared.refusals.Refusal.TheVariants.{Name}
 use Rattle.request_check.specs.Calls.{write_of, differs, edge_type, has_ends}
 use Rattle.request_check.specs.Names.{atype_of, has_shard, has_id, otype_of, tier_of}
 use Rattle.request_check.specs.Refusal.{refused_unless}
@@ -16,13 +16,13 @@ use Rattle.request_check.specs.declared.checked.Checked.TheVariants as checked
 use Rattle.request_check.specs.declared.checked.CheckedCall.{CheckedCall}
 use Rattle.request_check.specs.declared.checked.CheckedCall.TheVariants as checked_call
 use Rattle.request_check.specs.declared.checked.CheckedWrite.{CheckedWrite}
-use Rattle.request_json.specs.declared.request.Call.{Call}
-use Rattle.request_json.specs.declared.request.Call.TheVariants as call
-use Rattle.request_json.specs.declared.request.EdgeName.{EdgeName}
-use Rattle.request_json.specs.declared.request.Request.{Request}
-use Rattle.request_json.specs.declared.request.Request.TheVariants as request
-use Rattle.request_json.specs.declared.request.WriteText.{WriteText}
-use Rattle.request_json.specs.declared.request.WriteText.TheVariants.{ObjAdd, ObjUpdate, ObjDelete, AssocAdd, AssocDelete, AssocChangeType}
+use Rattle.requests.specs.declared.request.Call.{Call}
+use Rattle.requests.specs.declared.request.Call.TheVariants as call
+use Rattle.requests.specs.declared.request.EdgeName.{EdgeName}
+use Rattle.requests.specs.declared.request.Request.{Request}
+use Rattle.requests.specs.declared.request.Request.TheVariants as request
+use Rattle.requests.specs.declared.request.WriteText.{WriteText}
+use Rattle.requests.specs.declared.request.WriteText.TheVariants.{ObjAdd, ObjUpdate, ObjDelete, AssocAdd, AssocDelete, AssocChangeType}
 use Rattle.shard_tables.specs.Written.{shard_of_write}
 use Rattle.tao_base.specs.Ids.{shard_of}
 use Rattle.tao_base.specs.declared.id.AType.{AType}

@@ -1,14 +1,11 @@
 //! The lines of the store: the configuration's, which comes first, the requests, and their replies.
-//! Each stands in a crate of its own.
+//! Each stands in a crate of its own, and its types apart from how a line spells them.
 #![tactic(auto)]
 
-mod refusal;
-
 pub use config_json::{ConfigRefusal, read_config};
-pub use refusal::OpenRefusal;
 pub use replies::{
     CacheReply, CallReply, Delivered, InverseEnd, KeptOrNot, Lengths, LineRefused, Message,
-    Messages, NameRefused, NodeRefused, NodeReply, NotKept, NotKeptWhy, PlanRefused, PlanReply,
+    Messages, NameRefused, NodeRefused, NodeReply, NotKept, NotKeptWhy, OpenRefusal, PlanRefused, PlanReply,
     ReadReply, Refilled, Refusal, Repaired, Reply, ScheduledWhy, SessionRefused, Shown, ShownItem,
     Stage, StoreRefused, StreamVerdict, Streamed, UnsettledWhy, When, WriteKind, WriteReply,
     Written,

@@ -27,7 +27,7 @@ use Rattle.requests.specs.declared.request.WriteText.TheVariants as of_text
 use Rattle.replies.specs.declared.refusals.NameRefused.{NameRefused}
 use Rattle.request_check.specs.Calls.{has_ends, list_type, edge_type, differs, within_bound, write_of, query_of}
 use Rattle.request_check.specs.Names.{atype_of, otype_of, has_shard, has_id, tier_of}
-use Rattle.request_check.specs.Refusal.{◌>>=◌}
+use Rattle.outcomes.specs.Results.{◌>>=◌}
 use Rattle.request_check.specs.Requests.{call_of, checked_of, read_call_of, write_call_of}
 use Rattle.request_check.specs.declared.checked.Checked.{Checked}
 use Rattle.request_check.specs.declared.checked.Checked.TheVariants as found

@@ -8,8 +8,8 @@ use Rattle.replies.specs.declared.refusals.NameRefused.TheVariants.{NoShard, Sam
 use Rattle.replies.specs.declared.refusals.Refusal.TheVariants.{Name}
 use Rattle.request_check.specs.Calls.{write_of, differs, edge_type, has_ends}
 use Rattle.request_check.specs.Names.{atype_of, has_shard, has_id, otype_of, tier_of}
-use Rattle.request_check.specs.Refusal.{refused_unless}
-use Rattle.request_check.specs.Refusal.{◌>>=◌ as ◌>>>◌}
+use Rattle.outcomes.specs.Results.{refused_unless}
+use Rattle.outcomes.specs.Results.{◌>>=◌ as ◌>>>◌}
 use Rattle.request_check.specs.Requests.{checked_of, call_of, read_call_of, write_call_of}
 use Rattle.request_check.specs.declared.checked.Checked.{Checked}
 use Rattle.request_check.specs.declared.checked.Checked.TheVariants as checked

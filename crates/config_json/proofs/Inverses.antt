@@ -11,7 +11,7 @@ use Rattle.json_fields.specs.Items.{each_at}
 use Rattle.tao_schema.specs.AssocTypes.{assocs_of, atype_at, inverse_of, keeps_assoc_rules, names_of}
 use Rattle.tao_schema.specs.Names.{place_of}
 use Rattle.tao_schema.specs.Rules.{broken, unless_broken}
-use Rattle.tao_schema.specs.Schema.{◌>>=◌}
+use Rattle.outcomes.proofs.InTurn.{then_ok}
 use Rattle.tao_schema.specs.declared.lines.AssocLine.{AssocLine}
 use Rattle.tao_schema.specs.declared.refusal.SchemaField.TheVariants.{Assocs}
 use Rattle.topology.specs.Config.{Settings}
@@ -49,10 +49,6 @@ none_read d assocs is =
     subst (λ l. have_no_inverse l ≡ true) (p.1 ∙ assocs_same built assocs (broken (keeps_assoc_rules built) built) same) p.0))
 
 -- ---- a configuration
-
-then_ok : {A B : Type 0} (a : Result A ConfigRefusal) (f : A → Result B ConfigRefusal) (b : B) → (a >>= f) ≡ Ok b → (x : A) × (a ≡ Ok x) × (f x ≡ Ok b)
-then_ok (Ok x) f b h = (x, refl, h)
-then_ok (Err e) f b h = absurd (cc h)
 
 whole : (strange : Option (List ℕ)) (s t : Settings) → unless_strange strange s ≡ Ok t → s ≡ t
 whole None s t is = cc is

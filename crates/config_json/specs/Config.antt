@@ -1,8 +1,8 @@
 -- The configuration line: what it says, or the first field that breaks a rule.
 use Rattle.std.specs.Prelude.{ℕ, List, [], ◌∷◌, Option, Some, None, Result, Ok, Err, codes}
+use Rattle.outcomes.specs.Results.{◌>>=◌}
 use Rattle.serde_json.specs.Data.{Data}
 use Rattle.json_fields.specs.Fields.{number_at, number_or, strange_at}
-use Rattle.tao_schema.specs.Schema.{◌>>=◌}
 use Rattle.topology.specs.Config.{Settings}
 use Rattle.config_json.specs.Object.{object_in}
 use Rattle.config_json.specs.Regions.{regions_at, masters_at}

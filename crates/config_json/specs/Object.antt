@@ -3,7 +3,7 @@ use Rattle.std.specs.Prelude.{ℕ, List, Option, is_some}
 use Rattle.std.specs.Bool.{then_some}
 use Rattle.serde_json.specs.Data.{Data}
 use Rattle.serde_json.specs.Find.{as_object}
-use Rattle.json_fields.specs.Fields.{◌>>=◌}
+use Rattle.outcomes.specs.Options.{◌>>=◌}
 use Rattle.json_fields.specs.Json.{json_of}
 
 -- what a line says: nothing where it is too long, isn't UTF-8, is no JSON or no object

@@ -3,7 +3,8 @@ use Rattle.std.specs.Prelude.{ℕ, ◌&&◌, List, [], ◌∷◌, length, Option
 use Rattle.std.specs.Bool.{then_some}
 use Rattle.serde_json.specs.Data.{Data}
 use Rattle.serde_json.specs.Find.{get, as_str}
-use Rattle.json_fields.specs.Fields.{◌>>=◌, name_at, number_or, has_only}
+use Rattle.outcomes.specs.Options.{◌>>=◌}
+use Rattle.json_fields.specs.Fields.{name_at, number_or, has_only}
 use Rattle.topology.specs.Named.{in_range}
 use Rattle.topology.specs.Regions.{are_regions, region_at}
 use Rattle.topology.specs.Tiers.{are_tiers}

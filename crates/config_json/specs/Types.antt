@@ -5,7 +5,8 @@ use Rattle.std.specs.Bool.{then_some}
 use Rattle.std.specs.Result.{result_ok}
 use Rattle.serde_json.specs.Data.{Data}
 use Rattle.serde_json.specs.Find.{as_str}
-use Rattle.json_fields.specs.Fields.{◌>>=◌, text_at, maybe_text_at, number_or, has_only}
+use Rattle.outcomes.specs.Options.{◌>>=◌}
+use Rattle.json_fields.specs.Fields.{text_at, maybe_text_at, number_or, has_only}
 use Rattle.tao_schema.specs.AssocTypes.{assocs_of}
 use Rattle.tao_schema.specs.ObjectTypes.{objects_of}
 use Rattle.tao_schema.specs.declared.lines.AssocLine.{AssocLine}

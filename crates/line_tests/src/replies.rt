@@ -1,18 +1,20 @@
 //! That the texts of replies are those that are meant.
 use node_name::NodeName;
-use reply_json::{
-    CacheReply, CallReply, DeliveryKind, HealthKind, InverseEnd, KeptOrNot, Lengths, LineRefused,
-    LinkKind, Message, Messages, NameRefused, NodeRefused, NodeReply, NotKept, NotKeptWhy,
-    PlanKind, PlanRefused, PlanReply, ReadKind, ReadReply, Refusal, Reply, ScheduledWhy,
-    SessionRefused, Shown, ShownItem, Stage, StoreRefused, StreamVerdict, UnsettledWhy, When,
-    WriteKind, WriteReply, Written, bad_configuration_text, reply_text,
+use replies::{
+    CacheReply, CallReply, Delivered, InverseEnd, KeptOrNot, Lengths, LineRefused, Message,
+    Messages, NameRefused, NodeRefused, NodeReply, NotKept, NotKeptWhy, PlanRefused, PlanReply,
+    ReadReply, Refilled, Refusal, Repaired, Reply, ScheduledWhy, SessionRefused, Shown, ShownItem,
+    Stage, StoreRefused, StreamVerdict, Streamed, UnsettledWhy, When, WriteKind, WriteReply,
+    Written,
 };
+use reply_json::{bad_configuration_text, reply_text};
 use std::alloc::Global;
 use std::process::Abort;
 use std::test::Fail;
 use tao_base::{Answer, Data, Edge, Edges, Id, OType, Object, Stamp, StoreName, Text};
 use tao_schema::{AssocLine, Schema};
 use topology::{Config, Masters, Name, Region, Regions, Tier, Tiers};
+use words::{DeliveryWord, HealthWord, LinkWord, PlanWord, ReadWord, Word};
 
 const WEST: StoreName = StoreName {
     region: 0,
@@ -114,9 +116,9 @@ fn wrote(kind: WriteKind, inverse: InverseEnd) -> CallReply {
     })
 }
 
-fn read(kind: ReadKind, answer: Answer) -> CallReply {
+fn read(word: ReadWord, answer: Answer) -> CallReply {
     CallReply::Read(ReadReply {
-        kind,
+        word,
         answer,
         version: 1,
     })
@@ -197,15 +199,15 @@ fn reads_are_answered(rt: HostRuntime) -> Result<(), Fail> {
     let edges = Answer::Edges(edges(alloc)?);
     let rows = [
         (
-            Reply::Called(read(ReadKind::ObjGet, object)),
+            Reply::Called(read(ReadWord::ObjGet, object)),
             r#"{"object":{"data":{},"otype":"user"},"ok":"obj_get","version":1}"#,
         ),
         (
-            Reply::Called(read(ReadKind::ObjGet, Answer::Object(None))),
+            Reply::Called(read(ReadWord::ObjGet, Answer::Object(None))),
             r#"{"object":null,"ok":"obj_get","version":1}"#,
         ),
         (
-            Reply::Called(read(ReadKind::AssocRange, edges)),
+            Reply::Called(read(ReadWord::AssocRange, edges)),
             r#"{"edges":[{"data":{},"id2":281474976710657,"time":101}],"ok":"assoc_range","version":1}"#,
         ),
     ];
@@ -217,7 +219,7 @@ fn plans_are_answered(rt: HostRuntime) -> Result<(), Fail> {
     let alloc = rt.alloc();
     let why = ScheduledWhy::LogFull;
     let next = PlanReply::Next {
-        kind: PlanKind::Hold,
+        word: PlanWord::Hold,
         plan: 3,
         next: Stage::Inverse,
     };
@@ -227,7 +229,7 @@ fn plans_are_answered(rt: HostRuntime) -> Result<(), Fail> {
     };
     let read = PlanReply::Ended {
         plan: 4,
-        reply: read(ReadKind::AssocCount, Answer::Count(1)),
+        reply: read(ReadWord::AssocCount, Answer::Count(1)),
     };
     let rows = [
         (
@@ -252,20 +254,19 @@ fn messages_are_told(rt: HostRuntime) -> Result<(), Fail> {
     let shard = 4;
     let position = 3;
     let messages = Messages::of(vec![in alloc; Message { shard, position }]?);
-    let delivered = CacheReply::Delivered {
-        kind: DeliveryKind::Again,
+    let delivered = CacheReply::Delivered(Delivered {
+        word: DeliveryWord::Again,
         dropped: 1,
         mark: 2,
-        position,
-        shard,
-    };
+        message: Message { shard, position },
+    });
     let rows = [
         (
             cache(delivered),
             r#"{"dropped":1,"mark":2,"ok":"again","position":3,"shard":4}"#,
         ),
         (
-            cache(CacheReply::Lost { position, shard }),
+            cache(CacheReply::Lost(Message { shard, position })),
             r#"{"ok":"drop","position":3,"shard":4}"#,
         ),
         (
@@ -278,16 +279,17 @@ fn messages_are_told(rt: HostRuntime) -> Result<(), Fail> {
 
 #[test]
 fn items_are_told(rt: HostRuntime) -> Result<(), Fail> {
-    let refilled = CacheReply::Refilled {
+    let kept = KeptOrNot::Not(NotKept {
+        why: NotKeptWhy::Floor,
+        have: 5,
+        need: 6,
+    });
+    let refilled = CacheReply::Refilled(Refilled {
         hops: 2,
         store: true,
         version: 7,
-        kept: KeptOrNot::Not(NotKept {
-            why: NotKeptWhy::Floor,
-            have: 5,
-            need: 6,
-        }),
-    };
+        kept,
+    });
     let item = Shown::Held {
         version: 9,
         item: ShownItem::Object(None),
@@ -311,22 +313,22 @@ fn items_are_told(rt: HostRuntime) -> Result<(), Fail> {
 
 #[test]
 fn streams_jobs_and_links_are_answered_for(rt: HostRuntime) -> Result<(), Fail> {
-    let streamed = NodeReply::Streamed {
+    let streamed = NodeReply::Streamed(Streamed {
         hops: 1,
         next: 5,
         verdict: StreamVerdict::Applied,
-    };
-    let repaired = NodeReply::Repaired {
+    });
+    let repaired = NodeReply::Repaired(Repaired {
         hops: 0,
         job: 0,
         wrote: false,
-    };
+    });
     let suspected = NodeReply::Health {
-        kind: HealthKind::Suspect,
+        word: HealthWord::Suspect,
         changed: true,
     };
     let mended = NodeReply::Link {
-        kind: LinkKind::Mend,
+        word: LinkWord::Mend,
     };
     let rows = [
         (
@@ -347,7 +349,7 @@ fn streams_jobs_and_links_are_answered_for(rt: HostRuntime) -> Result<(), Fail> 
 fn refused_lines_are_told(rt: HostRuntime) -> Result<(), Fail> {
     let alloc = rt.alloc();
     let field = Text::copy_of(alloc, "do")?;
-    let word = Text::copy_of(alloc, "hold")?;
+    let word = Word::Plan(PlanWord::Hold);
     let rows = [
         (
             Reply::Refused(Refusal::Line(LineRefused::BadLine { field })),

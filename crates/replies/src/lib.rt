@@ -1,22 +1,22 @@
-//! The replies to lines: what was done, found or refused. A reply holds nodes, regions and object types as
+//! The replies to lines: what was done, found or refused; and why stores could not be opened. A reply holds nodes, regions and object types as
 //! their places in the configuration. How a line spells it is not said here.
 #![tactic(auto)]
 
 mod calls;
 mod lists;
 mod nodes;
+mod opening;
 mod plans;
 mod refusals;
 mod reply;
 
-pub use calls::{
-    CallReply, InverseEnd, ReadReply, ScheduledWhy, WriteKind, WriteReply, Written,
-};
+pub use calls::{CallReply, InverseEnd, ReadReply, ScheduledWhy, WriteKind, WriteReply, Written};
 pub use lists::{Lengths, Message, Messages};
 pub use nodes::{
     CacheReply, Delivered, KeptOrNot, NodeReply, NotKept, NotKeptWhy, Refilled, Repaired, Shown,
     ShownItem, StreamVerdict, Streamed,
 };
+pub use opening::OpenRefusal;
 pub use plans::{PlanReply, Stage};
 pub use refusals::{
     LineRefused, NameRefused, NodeRefused, PlanRefused, Refusal, SessionRefused, StoreRefused,

@@ -11,14 +11,9 @@ pub enum NodeReply {
     Streamed(Streamed),
     Repaired(Repaired),
     /// A node was put down or up, or a tier changed its trust in a leader.
-    Health {
-        word: HealthWord,
-        changed: bool,
-    },
+    Health { word: HealthWord, changed: bool },
     /// A link was cut or mended.
-    Link {
-        word: LinkWord,
-    },
+    Link { word: LinkWord },
 }
 
 /// A store took the next entry of its master's log, if there was one. `next` is the position that it
@@ -47,18 +42,11 @@ pub enum CacheReply {
     Lost(Message),
     Refilled(Refilled),
     /// Whether the node held an item to be evicted.
-    Evicted {
-        evicted: bool,
-    },
+    Evicted { evicted: bool },
     /// What the node holds of a key, and its mark for the key's shard.
-    Shown {
-        mark: u64,
-        item: Shown,
-    },
+    Shown { mark: u64, item: Shown },
     /// The messages of an inbox.
-    Inbox {
-        messages: Messages,
-    },
+    Inbox { messages: Messages },
 }
 
 /// A message was delivered: how many items it dropped, and the node's mark for the shard, up to which it

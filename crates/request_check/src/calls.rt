@@ -7,9 +7,9 @@ ghost use Rattle.request_check.specs.Calls.{has_ends, list_type, edge_type, obj_
 
 use crate::names::Names;
 use crate::refusal::NameError;
-use tao_base::{AType, Data, Id, IdSet, Query, Text, Time, Write};
 use replies::NameRefused;
 use requests::{EdgeName, ListName, QueryText, WriteText};
+use tao_base::{AType, Data, Id, IdSet, Query, Text, Time, Write};
 
 /// Refuses an edge one of whose ends lies on a shard that isn't configured.
 fn has_ends(names: &Names<'_>, edge: &EdgeName) -> Result<(), NameError>

@@ -7,9 +7,9 @@ ghost use Rattle.request_check.specs.Refusal.{unless_memory};
 use crate::kind::NodeKind;
 use crate::refusal::NameError;
 use node_name::NodeName;
+use replies::NameRefused;
 use std::alloc::{AllocError, Global};
 use tao_base::{AType, Id, OType, Text};
-use replies::NameRefused;
 use topology::Config;
 
 /// A tier: the place of its region, and its own in that region.

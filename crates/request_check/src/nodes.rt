@@ -10,8 +10,8 @@ use crate::checked::{Checked, LeaderPlace, LinkPlace};
 use crate::kind::NodeKind;
 use crate::names::Names;
 use crate::refusal::NameError;
-use tao_base::{Key, Text};
 use requests::{KeyName, LeaderName, LinkName, MessageName};
+use tao_base::{Key, Text};
 
 // ---- messages
 

@@ -1,8 +1,8 @@
 //! Why a request is refused.
+use replies::{NameRefused, Refusal, Reply};
 use std::alloc::AllocError;
 use std::error::Error;
 use std::fmt;
-use replies::{NameRefused, Refusal, Reply};
 
 /// Why a request is refused before anything is done for it.
 #[derive(Debug, Drop)]

@@ -12,9 +12,9 @@ use crate::nodes::{
     show_of, up_of,
 };
 use crate::refusal::{CheckRefusal, NameError};
+use requests::{Call, Opening, ReadCall, Request, WriteCall};
 use std::alloc::Global;
 use tao_base::Text;
-use requests::{Call, Opening, ReadCall, Request, WriteCall};
 use topology::Config;
 
 /// The request with the places of what it names, or the first refusal of a name: an unknown region or

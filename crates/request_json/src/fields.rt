@@ -9,12 +9,12 @@ ghost use Rattle.outcomes.specs.Results.{Gives, needed};
 ghost use Rattle.request_json.specs.Refusal.{unless_memory};
 
 use crate::refusal::LineRefusal;
-use requests::{EdgeName, ListName};
 use json_fields::fields::{
     flag_at, id_at, maybe_id_at, maybe_number_at, maybe_small_at, maybe_text_at, number_at,
     object_at, short_at, small_at, strange_at, text_at,
 };
 use json_fields::items::{IdReader, each_at};
+use requests::{EdgeName, ListName};
 use serde_json::{Map, Value};
 use std::alloc::{AllocError, Global};
 use tao_base::{Data, Id, IdSet, Text};

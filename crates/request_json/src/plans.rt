@@ -11,10 +11,10 @@ ghost use Rattle.request_json.specs.declared.refusal.LineRefusal.{LineRefusal};
 use crate::calls::{read_of, session_field, write_of};
 use crate::fields::{Fields, bad_line};
 use crate::refusal::LineRefusal;
-use requests::{Call, Opening, ReadCall, Request};
 use crate::word::word_of;
-use words::Word;
 use json_fields::fields::object_at;
+use requests::{Call, Opening, ReadCall, Request};
+use words::Word;
 
 pub(crate) fn open_of(fields: &Fields<'_>) -> Result<Request, LineRefusal>
     ensures { Gives unless_memory result (open_of (said fields.now)) }

@@ -12,12 +12,12 @@ use crate::nodes::{
 };
 use crate::plans::{advance_of, audit_of, hold_of, open_of, settle_of};
 use crate::refusal::LineRefusal;
-use requests::{Call, Request};
 use crate::word::word_of;
-use words::{DeliveryWord, HealthWord, LinkWord, PlanWord, Word};
 use json_fields::json::parse;
+use requests::{Call, Request};
 use serde_json::Value;
 use std::alloc::Global;
+use words::{DeliveryWord, HealthWord, LinkWord, PlanWord, Word};
 
 /// What a line asks: exactly the requests are taken, and a line that is none is refused for the first
 /// rule that it breaks. Reads the line once, and each of its fields a few times.

@@ -1,10 +1,10 @@
 -- What the outcome of resolving a request makes of its reply.
 use Rattle.std.proofs.Common.{◌≡◌, Bool, List, Result, Ok, Err, refl, sym, subst, inl, inr}
-use Rattle.reply_json.specs.declared.refusals.Refusal.{Refusal}
-use Rattle.reply_json.specs.declared.refusals.Refusal.TheVariants.{Memory}
-use Rattle.reply_json.specs.declared.reply.Reply.{Reply}
-use Rattle.reply_json.specs.declared.reply.Reply.TheVariants.{Refused}
-use Rattle.request_json.specs.declared.request.Request.{Request}
+use Rattle.replies.specs.declared.refusals.Refusal.{Refusal}
+use Rattle.replies.specs.declared.refusals.Refusal.TheVariants.{Memory}
+use Rattle.replies.specs.declared.reply.Reply.{Reply}
+use Rattle.replies.specs.declared.reply.Reply.TheVariants.{Refused}
+use Rattle.requests.specs.declared.request.Request.{Request}
 use Rattle.request_check.specs.declared.checked.Checked.{Checked}
 use Rattle.request_check.specs.declared.checked.Checked.TheVariants as found
 use Rattle.request_check.specs.declared.checked.CheckedCall.TheVariants as checked_call

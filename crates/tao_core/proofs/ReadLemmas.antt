@@ -6,10 +6,10 @@ use Rattle.tao_base.specs.Queries.{query_key}
 use Rattle.tao_base.specs.Keys.{key_shard}
 use Rattle.graph_model.specs.Told.{WhereTold}
 use Rattle.tao_base.specs.declared.query.Query.{Query}
-use Rattle.reply_json.specs.declared.calls.CallReply.TheVariants as called
-use Rattle.reply_json.specs.declared.refusals.Refusal.TheVariants.{Memory}
-use Rattle.reply_json.specs.declared.reply.Reply.{Reply}
-use Rattle.reply_json.specs.declared.reply.Reply.TheVariants.{Called, Refused}
+use Rattle.replies.specs.declared.calls.CallReply.TheVariants as called
+use Rattle.replies.specs.declared.refusals.Refusal.TheVariants.{Memory}
+use Rattle.replies.specs.declared.reply.Reply.{Reply}
+use Rattle.replies.specs.declared.reply.Reply.TheVariants.{Called, Refused}
 use Rattle.request_check.specs.declared.checked.CheckedRead.{CheckedRead}
 use Rattle.shard_tables.specs.Causes.{IsOfReads}
 use Rattle.shard_tables.specs.ReadOuts.{ReadsOut}

@@ -13,21 +13,21 @@ use Rattle.write_model.specs.WriteLaws.{ChangesType}
 use Rattle.tao_base.specs.Writes.{write_shard}
 use Rattle.tao_schema.specs.Schema.{types_of}
 use Rattle.topology.specs.Config.{Settings}
-use Rattle.request_json.specs.declared.request.Call.TheVariants as call
-use Rattle.request_json.specs.declared.request.EdgeName.{EdgeName}
-use Rattle.request_json.specs.declared.request.ListName.{ListName}
-use Rattle.request_json.specs.declared.request.QueryText.{QueryText}
-use Rattle.request_json.specs.declared.request.QueryText.TheVariants as of_query
-use Rattle.request_json.specs.declared.request.ReadCall.{ReadCall}
-use Rattle.request_json.specs.declared.request.Request.{Request}
-use Rattle.request_json.specs.declared.request.Request.TheVariants as request
-use Rattle.request_json.specs.declared.request.WriteCall.{WriteCall}
-use Rattle.request_json.specs.declared.request.WriteText.{WriteText}
-use Rattle.request_json.specs.declared.request.WriteText.TheVariants as of_text
-use Rattle.reply_json.specs.declared.refusals.NameRefused.{NameRefused}
+use Rattle.requests.specs.declared.request.Call.TheVariants as call
+use Rattle.requests.specs.declared.request.EdgeName.{EdgeName}
+use Rattle.requests.specs.declared.request.ListName.{ListName}
+use Rattle.requests.specs.declared.request.QueryText.{QueryText}
+use Rattle.requests.specs.declared.request.QueryText.TheVariants as of_query
+use Rattle.requests.specs.declared.request.ReadCall.{ReadCall}
+use Rattle.requests.specs.declared.request.Request.{Request}
+use Rattle.requests.specs.declared.request.Request.TheVariants as request
+use Rattle.requests.specs.declared.request.WriteCall.{WriteCall}
+use Rattle.requests.specs.declared.request.WriteText.{WriteText}
+use Rattle.requests.specs.declared.request.WriteText.TheVariants as of_text
+use Rattle.replies.specs.declared.refusals.NameRefused.{NameRefused}
 use Rattle.request_check.specs.Calls.{has_ends, list_type, edge_type, differs, within_bound, write_of, query_of}
 use Rattle.request_check.specs.Names.{atype_of, otype_of, has_shard, has_id, tier_of}
-use Rattle.request_check.specs.Refusal.{◌>>=◌}
+use Rattle.outcomes.specs.Results.{◌>>=◌}
 use Rattle.request_check.specs.Requests.{call_of, checked_of, read_call_of, write_call_of}
 use Rattle.request_check.specs.declared.checked.Checked.{Checked}
 use Rattle.request_check.specs.declared.checked.Checked.TheVariants as found

@@ -19,8 +19,8 @@ use Rattle.topology.specs.Config.{Settings}
 use Rattle.counts.proofs.Rises.{Rose-earlier}
 use Rattle.graph_model.proofs.Sound.{slice_get-push}
 use Rattle.graph_model.specs.Told.{WhereTold}
-use Rattle.tao_wire.specs.declared.refusal.OpenRefusal.{OpenRefusal}
-use Rattle.tao_wire.specs.declared.refusal.OpenRefusal.TheVariants as refusal
+use Rattle.replies.specs.declared.opening.OpenRefusal.{OpenRefusal}
+use Rattle.replies.specs.declared.opening.OpenRefusal.TheVariants as refusal
 use Rattle.tao_core.specs.Opening.{AreOpened, AreReady, HasOpenCause, IsOpened, IsUnmade, MayOpen, OpensOne, RefusesOpening}
 use Rattle.tao_core.specs.Shown.{IsLater, Shown}
 use Rattle.tao_core.specs.Stores.{AreSound, AreStores, AreStoresOf, HaveSeen, IsMasterOf, store_of}

@@ -2,8 +2,8 @@
 use Rattle.std.proofs.Common.{◌≡◌, Bool, false, not, Result, Ok, Err, refl, ap, subst, inl, inr}
 use Rattle.std.specs.Prelude.{⊤}
 use Rattle.std.proofs.lemmas.Bool.{cases_Bool}
-use Rattle.reply_json.specs.declared.refusals.NameRefused.{NameRefused}
-use Rattle.reply_json.specs.declared.refusals.Refusal.{Refusal}
+use Rattle.replies.specs.declared.refusals.NameRefused.{NameRefused}
+use Rattle.replies.specs.declared.refusals.Refusal.{Refusal}
 use Rattle.request_check.specs.declared.checked.Checked.{Checked}
 use Rattle.tao_core.specs.Asked.{◌>>=◌, named, refused_unless}
 

@@ -4,7 +4,7 @@ use Rattle.counts.specs.Count.{Rose}
 use Rattle.graph_model.specs.Told.{WhereTold}
 use Rattle.graph_model.specs.Soundness.{IsSoundOf}
 use Rattle.tao_base.specs.declared.entry.Entry.{Entry}
-use Rattle.reply_json.specs.declared.calls.WriteReply.{WriteReply}
+use Rattle.replies.specs.declared.calls.WriteReply.{WriteReply}
 use Rattle.request_check.specs.declared.checked.CheckedWrite.{CheckedWrite}
 use Rattle.shard_tables.specs.StoreView.{Store}
 use Rattle.shard_tables.specs.Stores.{IsStoreOf, gained}

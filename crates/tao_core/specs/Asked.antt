@@ -6,25 +6,20 @@ use Rattle.tao_base.specs.declared.write.Write.{Write}
 use Rattle.tao_base.specs.declared.write.Write.TheVariants as to_write
 use Rattle.tao_schema.specs.Schema.{types_of}
 use Rattle.topology.specs.Config.{Settings}
-use Rattle.request_json.specs.Word.{word_name}
-use Rattle.request_json.specs.declared.request.Call.{Call}
-use Rattle.request_json.specs.declared.request.Call.TheVariants as call
-use Rattle.request_json.specs.declared.request.QueryText.{QueryText}
-use Rattle.request_json.specs.declared.request.QueryText.TheVariants as query
-use Rattle.request_json.specs.declared.request.Request.{Request}
-use Rattle.request_json.specs.declared.request.Request.TheVariants as request
-use Rattle.request_json.specs.declared.request.WriteText.{WriteText}
-use Rattle.request_json.specs.declared.request.WriteText.TheVariants as of_text
-use Rattle.request_json.specs.declared.word.ReadWord.{ReadWord}
-use Rattle.request_json.specs.declared.word.ReadWord.TheVariants as read_word
-use Rattle.request_json.specs.declared.word.Word.{Word}
-use Rattle.request_json.specs.declared.word.Word.TheVariants as word
-use Rattle.reply_json.specs.declared.refusals.LineRefused.TheVariants.{NotBuilt}
-use Rattle.reply_json.specs.declared.refusals.NameRefused.{NameRefused}
-use Rattle.reply_json.specs.declared.refusals.NameRefused.TheVariants.{SameType}
-use Rattle.reply_json.specs.declared.refusals.Refusal.{Refusal}
-use Rattle.reply_json.specs.declared.refusals.Refusal.TheVariants.{Line, Session, Name}
-use Rattle.reply_json.specs.declared.refusals.SessionRefused.TheVariants.{NoSession, SessionThere, SessionFull}
+use Rattle.requests.specs.RequestWords.{call_word, request_word}
+use Rattle.requests.specs.declared.request.Call.{Call}
+use Rattle.requests.specs.declared.request.Call.TheVariants as call
+use Rattle.requests.specs.declared.request.Request.{Request}
+use Rattle.requests.specs.declared.request.Request.TheVariants as request
+use Rattle.requests.specs.declared.request.WriteText.{WriteText}
+use Rattle.requests.specs.declared.request.WriteText.TheVariants as of_text
+use Rattle.words.specs.declared.Word.{Word}
+use Rattle.replies.specs.declared.refusals.LineRefused.TheVariants.{NotBuilt}
+use Rattle.replies.specs.declared.refusals.NameRefused.{NameRefused}
+use Rattle.replies.specs.declared.refusals.NameRefused.TheVariants.{SameType}
+use Rattle.replies.specs.declared.refusals.Refusal.{Refusal}
+use Rattle.replies.specs.declared.refusals.Refusal.TheVariants.{Line, Session, Name}
+use Rattle.replies.specs.declared.refusals.SessionRefused.TheVariants.{NoSession, SessionThere, SessionFull}
 use Rattle.request_check.specs.Requests.{checked_of}
 use Rattle.request_check.specs.declared.checked.Checked.{Checked}
 use Rattle.request_check.specs.declared.checked.Checked.TheVariants as found
@@ -42,44 +37,20 @@ Err refused >>= f = Err refused
 abbrev pub refused_unless : Refusal → Bool → Result ⊤ Refusal
 refused_unless refused passes = if passes then Ok tt else Err refused
 
-abbrev pub read_word_of : QueryText → ReadWord
-read_word_of (query.ObjGet id) = read_word.ObjGet
-read_word_of (query.AssocGet list ids high low) = read_word.AssocGet
-read_word_of (query.AssocCount list) = read_word.AssocCount
-read_word_of (query.AssocRange list pos limit) = read_word.AssocRange
-read_word_of (query.AssocTimeRange list high low limit) = read_word.AssocTimeRange
-
 -- the word of a request that isn't built yet: of a critical read, and of all but the calls of objects and associations, `open` and `audit`
 abbrev pub unbuilt_call : Call → Option Word
 unbuilt_call (call.Write write) = None
-unbuilt_call (call.Read read) = if read.critical then Some (word.Read (read_word_of read.query)) else None
+unbuilt_call (call.Read read) = if read.critical then Some (call_word (call.Read read)) else None
 
 abbrev pub unbuilt : Request → Option Word
 unbuilt (request.Open opening) = None
 unbuilt (request.Call asked) = unbuilt_call asked
 unbuilt (request.Audit read) = None
-unbuilt (request.Hold plan asked) = Some word.Hold
-unbuilt (request.Advance plan) = Some word.Advance
-unbuilt (request.Deliver message) = Some word.Deliver
-unbuilt (request.Again message) = Some word.Again
-unbuilt (request.Drop message) = Some word.Drop
-unbuilt (request.Refill node) = Some word.Refill
-unbuilt (request.Stream region shard position) = Some word.Stream
-unbuilt (request.Repair shard) = Some word.Repair
-unbuilt (request.Evict node key) = Some word.Evict
-unbuilt (request.Show node key) = Some word.Show
-unbuilt (request.Inbox node) = Some word.Inbox
-unbuilt (request.Down node) = Some word.Down
-unbuilt (request.Up node) = Some word.Up
-unbuilt (request.Suspect leader) = Some word.Suspect
-unbuilt (request.Trust leader) = Some word.Trust
-unbuilt (request.Cut link) = Some word.Cut
-unbuilt (request.Mend link) = Some word.Mend
-unbuilt request.Settle = Some word.Settle
+unbuilt other = Some (request_word other)
 
 abbrev pub is_built : Option Word → Result ⊤ Refusal
 is_built None = Ok tt
-is_built (Some word) = Err (Line (NotBuilt (word_name word)))
+is_built (Some word) = Err (Line (NotBuilt word))
 
 abbrev pub session_of : Call → ℕ
 session_of (call.Write write) = write.session

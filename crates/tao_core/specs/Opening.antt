@@ -12,8 +12,8 @@ use Rattle.tao_schema.specs.Schema.{types_of}
 use Rattle.topology.specs.Config.{Settings}
 use Rattle.tao_core.specs.Shown.{Shown}
 use Rattle.tao_core.specs.Stores.{store_of}
-use Rattle.tao_wire.specs.declared.refusal.OpenRefusal.{OpenRefusal}
-use Rattle.tao_wire.specs.declared.refusal.OpenRefusal.TheVariants as refusal
+use Rattle.replies.specs.declared.opening.OpenRefusal.{OpenRefusal}
+use Rattle.replies.specs.declared.opening.OpenRefusal.TheVariants as refusal
 
 -- the stores of the first shards, so many, were opened with the line, and no other table changed
 pub record AreOpened (s : Settings) (line : List ℕ) (count : ℕ) (old new : Tables) : Type 0 where

@@ -14,21 +14,21 @@ use Rattle.graph_model.specs.Answers.{answer}
 use Rattle.tao_base.specs.Queries.{query_key}
 use Rattle.tao_base.specs.Keys.{key_shard}
 use Rattle.graph_model.specs.Told.{WhereTold}
-use Rattle.reply_json.specs.declared.calls.CallReply.TheVariants as called
-use Rattle.reply_json.specs.declared.calls.InverseEnd.TheVariants as inverse
-use Rattle.reply_json.specs.declared.calls.ReadKind.{ReadKind}
-use Rattle.reply_json.specs.declared.calls.ReadKind.TheVariants as read_kind
-use Rattle.reply_json.specs.declared.calls.WriteKind.{WriteKind}
-use Rattle.reply_json.specs.declared.calls.WriteKind.TheVariants as write_kind
-use Rattle.reply_json.specs.declared.calls.WriteReply.{WriteReply}
-use Rattle.reply_json.specs.declared.calls.Written.{Written}
-use Rattle.reply_json.specs.declared.refusals.Refusal.{Refusal}
-use Rattle.reply_json.specs.declared.refusals.Refusal.TheVariants.{Store, Memory}
-use Rattle.reply_json.specs.declared.refusals.StoreRefused.{StoreRefused}
-use Rattle.reply_json.specs.declared.refusals.StoreRefused.TheVariants.{SeqReused, ShardFull, StampFull, LogFull, KeeperFault, LinkFault, Unsettled}
-use Rattle.reply_json.specs.declared.reply.Reply.{Reply}
-use Rattle.reply_json.specs.declared.reply.Reply.TheVariants.{Called, Opened, Audited, Refused}
-use Rattle.request_json.specs.declared.request.Request.{Request}
+use Rattle.replies.specs.declared.calls.CallReply.TheVariants as called
+use Rattle.replies.specs.declared.calls.InverseEnd.TheVariants as inverse
+use Rattle.words.specs.declared.ReadWord.{ReadWord}
+use Rattle.words.specs.declared.ReadWord.TheVariants as read_kind
+use Rattle.replies.specs.declared.calls.WriteKind.{WriteKind}
+use Rattle.replies.specs.declared.calls.WriteKind.TheVariants as write_kind
+use Rattle.replies.specs.declared.calls.WriteReply.{WriteReply}
+use Rattle.replies.specs.declared.calls.Written.{Written}
+use Rattle.replies.specs.declared.refusals.Refusal.{Refusal}
+use Rattle.replies.specs.declared.refusals.Refusal.TheVariants.{Store, Memory}
+use Rattle.replies.specs.declared.refusals.StoreRefused.{StoreRefused}
+use Rattle.replies.specs.declared.refusals.StoreRefused.TheVariants.{SeqReused, ShardFull, StampFull, LogFull, KeeperFault, LinkFault, Unsettled}
+use Rattle.replies.specs.declared.reply.Reply.{Reply}
+use Rattle.replies.specs.declared.reply.Reply.TheVariants.{Called, Opened, Audited, Refused}
+use Rattle.requests.specs.declared.request.Request.{Request}
 use Rattle.request_check.specs.declared.checked.Checked.{Checked}
 use Rattle.request_check.specs.declared.checked.Checked.TheVariants as checked
 use Rattle.request_check.specs.declared.checked.CheckedCall.TheVariants as checked_call
@@ -160,7 +160,7 @@ pub record IsAudit (types : EdgeTypes) (log : List Entry) (asked : Query) (given
 abbrev pub log_for : Settings → Shown → Query → List Entry
 log_for s keepers asked = log_of s keepers.told (key_shard (query_key asked))
 
-abbrev pub kind_of_query : Query → ReadKind
+abbrev pub kind_of_query : Query → ReadWord
 kind_of_query (query.ObjGet id) = read_kind.ObjGet
 kind_of_query (query.AssocGet id1 atype ids high low) = read_kind.AssocGet
 kind_of_query (query.AssocCount id1 atype) = read_kind.AssocCount
@@ -175,7 +175,7 @@ ReadRefused tells old refused new = ⊥
 -- what the reply to a read says
 abbrev pub DoesRead : Bool → Settings → Shown → CheckedRead → Reply → Shown → Type 0
 DoesRead tells s old call (Called (called.Read reply)) new =
-    (reply.kind ≡ kind_of_query call.query) × WhereTold tells (Reads (types_of s.schema) (log_for s old call.query) call.query reply.answer reply.version) × KeepsTables tells old new
+    (reply.word ≡ kind_of_query call.query) × WhereTold tells (Reads (types_of s.schema) (log_for s old call.query) call.query reply.answer reply.version) × KeepsTables tells old new
 DoesRead tells s old call (Refused (Store refused)) new = ReadRefused tells old refused new
 DoesRead tells s old call (Refused (Memory position)) new = LacksMemory tells old new position
 DoesRead tells s old call reply new = ⊥
@@ -183,7 +183,7 @@ DoesRead tells s old call reply new = ⊥
 -- the reply tells what each log answers of which this is what was read, or that there was no memory for it
 abbrev pub TellsFound : EdgeTypes → Query → ReadOut → Reply → Type 0
 TellsFound types asked out (Called (called.Read reply)) =
-    (reply.kind ≡ kind_of_query asked) × ((log : List Entry) → ReadsOut types log asked out → Reads types log asked reply.answer reply.version)
+    (reply.word ≡ kind_of_query asked) × ((log : List Entry) → ReadsOut types log asked out → Reads types log asked reply.answer reply.version)
 TellsFound types asked out (Refused (Memory position)) = position ≡ 0
 TellsFound types asked out reply = ⊥
 

@@ -7,10 +7,10 @@ use Rattle.tao_base.specs.Keys.{key_shard}
 use Rattle.write_model.specs.WriteLaws.{ChangesType}
 use Rattle.tao_schema.specs.Schema.{types_of}
 use Rattle.topology.specs.Config.{Settings}
-use Rattle.reply_json.specs.declared.refusals.Refusal.{Refusal}
-use Rattle.reply_json.specs.declared.refusals.Refusal.TheVariants.{Memory}
-use Rattle.reply_json.specs.declared.reply.Reply.{Reply}
-use Rattle.reply_json.specs.declared.reply.Reply.TheVariants as reply
+use Rattle.replies.specs.declared.refusals.Refusal.{Refusal}
+use Rattle.replies.specs.declared.refusals.Refusal.TheVariants.{Memory}
+use Rattle.replies.specs.declared.reply.Reply.{Reply}
+use Rattle.replies.specs.declared.reply.Reply.TheVariants as reply
 use Rattle.request_check.specs.declared.checked.Checked.{Checked}
 use Rattle.request_check.specs.declared.checked.Checked.TheVariants as found
 use Rattle.request_check.specs.declared.checked.CheckedCall.TheVariants as checked_call

@@ -7,11 +7,11 @@ ghost use Rattle.tao_core.specs.Shown.{IsLater, shown};
 ghost use Rattle.tao_core.specs.Stores.{AreStores, HaveSeen, IsMasterOf, store_of};
 ghost use Rattle.tao_keeper.specs.Table.{Stays};
 
+use replies::OpenRefusal;
 use shard_tables::{StoreNode, StoreRefusal};
 use std::alloc::Global;
 use tao_base::StoreName;
 use tao_keeper::{KeepFail, Keeper, Opened};
-use tao_wire::OpenRefusal;
 use topology::Config;
 
 /// The name of a shard's store: in the shard's master region.

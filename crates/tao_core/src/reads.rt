@@ -14,24 +14,25 @@ ghost use Rattle.tao_schema.specs.Schema.{types_of};
 use crate::opening::store_of;
 use crate::refusals::{failed_as, out_of_memory, refused_as};
 use plain_graph::answer;
+use replies::{CallReply, ReadReply, Reply};
 use request_check::CheckedRead;
 use shard_tables::{ReadOut, StoreNode, log_of};
 use std::alloc::Global;
 use tao_base::{OutOfMemory, Query};
 use tao_keeper::Keeper;
-use tao_wire::{CallReply, ReadKind, ReadReply, Reply};
 use topology::Config;
+use words::ReadWord;
 
 /// Which read it is.
-fn kind_of(query: &Query) -> ReadKind
+fn kind_of(query: &Query) -> ReadWord
     ensures { result ≡ kind_of_query query.now }
 {
     match query {
-        Query::ObjGet { .. } => ReadKind::ObjGet,
-        Query::AssocGet { .. } => ReadKind::AssocGet,
-        Query::AssocCount { .. } => ReadKind::AssocCount,
-        Query::AssocRange { .. } => ReadKind::AssocRange,
-        Query::AssocTimeRange { .. } => ReadKind::AssocTimeRange,
+        Query::ObjGet { .. } => ReadWord::ObjGet,
+        Query::AssocGet { .. } => ReadWord::AssocGet,
+        Query::AssocCount { .. } => ReadWord::AssocCount,
+        Query::AssocRange { .. } => ReadWord::AssocRange,
+        Query::AssocTimeRange { .. } => ReadWord::AssocTimeRange,
     }
 }
 
@@ -43,7 +44,7 @@ fn reply_of(out: ReadOut, config: &Config, query: &Query) -> Reply
     match out.found(&config.schema, query) {
         Ok(found) => {
             Reply::Called(CallReply::Read(ReadReply {
-                kind: kind_of(query),
+                word: kind_of(query),
                 answer: found.answer,
                 version: found.version,
             }))

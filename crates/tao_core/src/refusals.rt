@@ -2,9 +2,9 @@
 ghost use Rattle.std.specs.Prelude.{◌≡◌};
 ghost use Rattle.tao_core.specs.Replies.{refused_as, failed_as};
 
+use replies::{Refusal, Reply, StoreRefused};
 use shard_tables::StoreRefusal;
 use tao_keeper::KeepFail;
-use tao_wire::{Refusal, Reply, StoreRefused};
 
 /// Want of memory, before anything is committed.
 pub(crate) fn out_of_memory() -> Reply

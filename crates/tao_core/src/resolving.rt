@@ -1,20 +1,19 @@
 //! What a request asks of the core, or why nothing is asked.
 ghost use Rattle.std.specs.Prelude.{◌≡◌, Err, IfOk, not};
-ghost use Rattle.tao_core.specs.Asked.{asked_of, can_open, has_session, is_built, is_of_open, is_turned, is_type, named, newtype_of, read_word_of, refused_unless, session_of, turns, unbuilt, unbuilt_call};
+ghost use Rattle.tao_core.specs.Asked.{asked_of, can_open, has_session, is_built, is_of_open, is_turned, is_type, named, newtype_of, refused_unless, session_of, turns, unbuilt, unbuilt_call};
 ghost use Rattle.tao_core.specs.Resolved.{CanBeDone, Gives, IsBuilt, as_checked, checked_as};
 ghost use Rattle.tao_schema.specs.Schema.{types_of};
 ghost use Rattle.request_check.specs.Requests.{checked_of};
 
 use crate::sessions::{OpenSession, Sessions};
+use replies::{LineRefused, NameRefused, Refusal, Reply, SessionRefused};
 use request_check::{CheckRefusal, Checked, CheckedCall, CheckedRead, CheckedWrite, check};
+use requests::{Call, Request, WriteText};
 use std::alloc::Global;
 use tao_base::{AType, Text, Write};
 use tao_schema::Schema;
-use tao_wire::{
-    Call, LineRefused, NameRefused, QueryText, ReadWord, Refusal, Reply, Request, SessionRefused,
-    Word, WriteText,
-};
 use topology::Config;
+use words::Word;
 
 /// The most sessions that may be open.
 const MOST_SESSIONS: usize = 1024;
@@ -75,7 +74,7 @@ fn resolved(
 ) -> Result<Checked, CheckRefusal>
     ensures { Gives result (asked_of config.now sessions.now request.now) }
 {
-    is_built(alloc, request)?;
+    is_built(request)?;
     has_session(sessions, request)?;
     let checked = named(alloc, config, request)?;
     changes(alloc, config, &checked, request)?;
@@ -91,18 +90,6 @@ fn refused<T>(refusal: Refusal) -> Result<T, CheckRefusal>
 
 // ---- what is built
 
-fn read_word_of(query: &QueryText) -> ReadWord
-    ensures { result ≡ read_word_of query.now }
-{
-    match query {
-        QueryText::ObjGet { .. } => ReadWord::ObjGet,
-        QueryText::AssocGet { .. } => ReadWord::AssocGet,
-        QueryText::AssocCount { .. } => ReadWord::AssocCount,
-        QueryText::AssocRange { .. } => ReadWord::AssocRange,
-        QueryText::AssocTimeRange { .. } => ReadWord::AssocTimeRange,
-    }
-}
-
 fn unbuilt_call(call: &Call) -> Option<Word>
     ensures { result ≡ unbuilt_call call.now }
 {
@@ -110,7 +97,7 @@ fn unbuilt_call(call: &Call) -> Option<Word>
         Call::Write(_) => None,
         Call::Read(read) => {
             if read.critical {
-                Some(Word::Read(read_word_of(&read.query)))
+                Some(call.word())
             } else {
                 None
             }
@@ -126,38 +113,16 @@ fn unbuilt(request: &Request) -> Option<Word>
         Request::Open(_) => None,
         Request::Call(call) => unbuilt_call(call),
         Request::Audit(_) => None,
-        Request::Hold { .. } => Some(Word::Hold),
-        Request::Advance { .. } => Some(Word::Advance),
-        Request::Deliver(_) => Some(Word::Deliver),
-        Request::Again(_) => Some(Word::Again),
-        Request::Drop(_) => Some(Word::Drop),
-        Request::Refill { .. } => Some(Word::Refill),
-        Request::Stream { .. } => Some(Word::Stream),
-        Request::Repair { .. } => Some(Word::Repair),
-        Request::Evict { .. } => Some(Word::Evict),
-        Request::Show { .. } => Some(Word::Show),
-        Request::Inbox { .. } => Some(Word::Inbox),
-        Request::Down { .. } => Some(Word::Down),
-        Request::Up { .. } => Some(Word::Up),
-        Request::Suspect(_) => Some(Word::Suspect),
-        Request::Trust(_) => Some(Word::Trust),
-        Request::Cut(_) => Some(Word::Cut),
-        Request::Mend(_) => Some(Word::Mend),
-        Request::Settle => Some(Word::Settle),
+        _ => Some(request.word()),
     }
 }
 
-fn is_built(alloc: Global, request: &Request) -> Result<(), CheckRefusal>
+fn is_built(request: &Request) -> Result<(), CheckRefusal>
     ensures { Gives result (is_built (unbuilt request.now)) }
 {
     match unbuilt(request) {
         None => Ok(()),
-        Some(word) => {
-            match Text::copy_of(alloc, word.name()) {
-                Ok(word) => refused(Refusal::Line(LineRefused::NotBuilt { word })),
-                Err(_) => Err(CheckRefusal::OutOfMemory),
-            }
-        }
+        Some(word) => refused(Refusal::Line(LineRefused::NotBuilt { word })),
     }
 }
 

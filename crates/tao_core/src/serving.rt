@@ -15,12 +15,13 @@ use crate::refusals::out_of_memory;
 use crate::resolving::{Asked, resolve};
 use crate::sessions::{OpenSession, Sessions};
 use crate::writes::write;
+use replies::{OpenRefusal, Reply};
 use request_check::CheckRefusal;
+use requests::Request;
 use shard_tables::StoreNode;
 use std::alloc::Global;
 use std::marker::Model;
 use tao_keeper::Keeper;
-use tao_wire::{OpenRefusal, Reply, Request};
 use topology::Config;
 
 /// The core of a run: its configuration, the sessions that are open, and the stores of the shards. What

@@ -9,12 +9,12 @@ ghost use Rattle.tao_core.specs.Shown.{IsLater, shown};
 ghost use Rattle.tao_core.specs.Stores.{AreStoresOf};
 
 use crate::refusals::refused_as;
+use replies::{CallReply, InverseEnd, Reply, WriteKind, WriteReply, Written};
 use request_check::CheckedWrite;
 use shard_tables::{StoreNode, Wrote, object_added};
 use std::alloc::Global;
 use tao_base::{Entry, Origin, Write};
 use tao_keeper::Keeper;
-use tao_wire::{CallReply, InverseEnd, Reply, WriteKind, WriteReply, Written};
 use topology::Config;
 
 /// The addition of the object that the entry adds.

@@ -7,7 +7,7 @@ use Rattle.tao_top.specs.Served.{AreLines, LinesBegin, RefusesConfiguration, IsR
 use Rattle.tao_top.specs.Status.{IsGood, IsStatus, NoFault}
 use Rattle.tao_top.specs.Step.{Configures, ended}
 use Rattle.tao_top.specs.Stop.{Faults, StopHasCause, stop_code}
-use Rattle.reply_json.specs.declared.reply.Reply.TheVariants.{BadConfiguration}
+use Rattle.replies.specs.declared.reply.Reply.TheVariants.{BadConfiguration}
 use Rattle.tao_top.specs.declared.stop.Interrupt.TheVariants.{Source, Sink, Memory, InputTooLong}
 use Rattle.tao_top.specs.declared.stop.Stop.{Stop}
 use Rattle.tao_top.specs.declared.stop.Stop.TheVariants.{Configuration, Keepers, Interrupted}

@@ -3,20 +3,20 @@ use Rattle.std.proofs.Common.{◌≡◌, ◌≢◌, ◌⊎◌, ℕ, ◌<◌, Boo
 use Rattle.config_json.specs.Config.{config_in}
 use Rattle.graph_model.specs.Soundness.{IsSoundOf}
 use Rattle.graph_model.specs.Told.{WhereTold}
-use Rattle.reply_json.specs.declared.calls.CallReply.TheVariants as called
-use Rattle.reply_json.specs.declared.refusals.Refusal.{Refusal}
-use Rattle.reply_json.specs.declared.refusals.Refusal.TheVariants.{Line, Plan as OfPlan, Session, Name, Node as OfNode, Store, Memory}
-use Rattle.reply_json.specs.declared.refusals.StoreRefused.{StoreRefused}
-use Rattle.reply_json.specs.declared.refusals.StoreRefused.TheVariants.{SeqReused, ShardFull, StampFull, LogFull, KeeperFault, LinkFault, Unsettled}
-use Rattle.reply_json.specs.declared.reply.Reply.{Reply}
-use Rattle.reply_json.specs.declared.reply.Reply.TheVariants.{Configured, BadConfiguration, BadStores, Opened, Called, Plan, Node, Settled, Audited, Refused}
+use Rattle.replies.specs.declared.calls.CallReply.TheVariants as called
+use Rattle.replies.specs.declared.refusals.Refusal.{Refusal}
+use Rattle.replies.specs.declared.refusals.Refusal.TheVariants.{Line, Plan as OfPlan, Session, Name, Node as OfNode, Store, Memory}
+use Rattle.replies.specs.declared.refusals.StoreRefused.{StoreRefused}
+use Rattle.replies.specs.declared.refusals.StoreRefused.TheVariants.{SeqReused, ShardFull, StampFull, LogFull, KeeperFault, LinkFault, Unsettled}
+use Rattle.replies.specs.declared.reply.Reply.{Reply}
+use Rattle.replies.specs.declared.reply.Reply.TheVariants.{Configured, BadConfiguration, BadStores, Opened, Called, Plan, Node, Settled, Audited, Refused}
 use Rattle.request_check.specs.declared.checked.Checked.{Checked}
 use Rattle.request_check.specs.declared.checked.Checked.TheVariants as checked
 use Rattle.request_check.specs.declared.checked.CheckedCall.TheVariants as checked_call
 use Rattle.request_check.specs.declared.checked.CheckedRead.{CheckedRead}
 use Rattle.request_check.specs.declared.checked.CheckedWrite.{CheckedWrite}
 use Rattle.request_json.specs.declared.refusal.LineRefusal.{LineRefusal}
-use Rattle.request_json.specs.declared.request.Request.{Request}
+use Rattle.requests.specs.declared.request.Request.{Request}
 use Rattle.tao_keeper.specs.declared.jobs.Job.{Job}
 use Rattle.shard_tables.specs.Jobs.{job_with}
 use Rattle.shard_tables.specs.Written.{Gains}

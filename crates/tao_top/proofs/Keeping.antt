@@ -17,8 +17,8 @@ use Rattle.tao_keeper.specs.Table.{Table, Tables, OpensAs, after_open, empty_tab
 use Rattle.tao_keeper.specs.declared.keeper.Opened.TheVariants.{Ready}
 use Rattle.tao_schema.specs.Schema.{types_of}
 use Rattle.tao_top.specs.Kept.{AreKept, AreOpenedWith, IsServing, StillBegin}
-use Rattle.tao_wire.specs.declared.refusal.OpenRefusal.{OpenRefusal}
-use Rattle.tao_wire.specs.declared.refusal.OpenRefusal.TheVariants as refusal
+use Rattle.replies.specs.declared.opening.OpenRefusal.{OpenRefusal}
+use Rattle.replies.specs.declared.opening.OpenRefusal.TheVariants as refusal
 use Rattle.topology.specs.Config.{Settings}
 
 -- ---- which store it is

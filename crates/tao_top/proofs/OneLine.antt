@@ -6,10 +6,10 @@ use Rattle.std.proofs.KnownBytes.{Appends-nil}
 use Rattle.config_json.specs.Config.{config_in}
 use Rattle.config_json.specs.declared.refusal.ConfigRefusal.TheVariants.{BadConfig}
 use Rattle.json_fields.specs.Json.{json_of}
-use Rattle.reply_json.specs.declared.refusals.LineRefused.TheVariants as line
-use Rattle.reply_json.specs.declared.refusals.Refusal.TheVariants.{Line as OfLine}
-use Rattle.reply_json.specs.declared.reply.Reply.{Reply}
-use Rattle.reply_json.specs.declared.reply.Reply.TheVariants.{Refused}
+use Rattle.replies.specs.declared.refusals.LineRefused.TheVariants as line
+use Rattle.replies.specs.declared.refusals.Refusal.TheVariants.{Line as OfLine}
+use Rattle.replies.specs.declared.reply.Reply.{Reply}
+use Rattle.replies.specs.declared.reply.Reply.TheVariants.{Refused}
 use Rattle.request_json.specs.Requests.{request_in}
 use Rattle.request_json.specs.declared.refusal.LineRefusal.TheVariants.{BadLine}
 use Rattle.tao_core.specs.Core.{CoreState}

@@ -4,7 +4,7 @@ use Rattle.std.specs.Io.KnownBytes.{Appends}
 use Rattle.config_json.specs.Config.{config_in}
 use Rattle.config_json.specs.declared.refusal.ConfigRefusal.TheVariants.{BadConfig}
 use Rattle.counts.specs.Count.{Rose}
-use Rattle.reply_json.specs.declared.reply.Reply.TheVariants.{BadConfiguration}
+use Rattle.replies.specs.declared.reply.Reply.TheVariants.{BadConfiguration}
 use Rattle.tao_core.specs.Shown.{Shown}
 use Rattle.tao_io.specs.Lines.{GivesLines}
 use Rattle.tao_top.specs.Served.{AppendsPart, DoneInPart, IsOpeningStatus, IsStill, OpensInPart, RefusesConfiguration, refusal_line, start}

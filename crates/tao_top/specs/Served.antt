@@ -5,7 +5,7 @@ use Rattle.std.specs.Io.KnownBytes.{Appends}
 use Rattle.config_json.specs.Config.{config_in}
 use Rattle.counts.specs.Count.{Rose}
 use Rattle.graph_model.specs.Told.{WhereTold}
-use Rattle.reply_json.specs.declared.reply.Reply.TheVariants.{BadConfiguration}
+use Rattle.replies.specs.declared.reply.Reply.TheVariants.{BadConfiguration}
 use Rattle.tao_core.specs.Core.{CoreState}
 use Rattle.tao_core.specs.Opening.{IsOpenedInPart}
 use Rattle.tao_core.specs.Shown.{Shown, IsLater, KeepsTables}

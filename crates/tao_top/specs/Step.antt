@@ -4,14 +4,14 @@ use Rattle.config_json.specs.Config.{config_in}
 use Rattle.config_json.specs.declared.refusal.ConfigRefusal.TheVariants.{BadConfig}
 use Rattle.graph_model.specs.Told.{WhereTold}
 use Rattle.reply_json.specs.Reply.{reply_text}
-use Rattle.reply_json.specs.declared.refusals.LineRefused.TheVariants as line
-use Rattle.reply_json.specs.declared.refusals.Refusal.TheVariants.{Line}
-use Rattle.reply_json.specs.declared.reply.Reply.{Reply}
-use Rattle.reply_json.specs.declared.reply.Reply.TheVariants.{Configured, BadConfiguration, Refused}
+use Rattle.replies.specs.declared.refusals.LineRefused.TheVariants as line
+use Rattle.replies.specs.declared.refusals.Refusal.TheVariants.{Line}
+use Rattle.replies.specs.declared.reply.Reply.{Reply}
+use Rattle.replies.specs.declared.reply.Reply.TheVariants.{Configured, BadConfiguration, Refused}
 use Rattle.request_json.specs.Requests.{request_in}
 use Rattle.request_json.specs.declared.refusal.LineRefusal.{LineRefusal}
 use Rattle.request_json.specs.declared.refusal.LineRefusal.TheVariants.{BadLine, TooLarge, OutOfMemory}
-use Rattle.request_json.specs.declared.request.Request.{Request}
+use Rattle.requests.specs.declared.request.Request.{Request}
 use Rattle.tao_core.specs.Core.{CoreState}
 use Rattle.tao_core.specs.Opening.{IsOpened, IsOtherLine}
 use Rattle.tao_core.specs.Replies.{Answers}

@@ -1,19 +1,19 @@
 //! The lines of the store: the configuration's, which comes first, the requests, and their replies.
-//! Each stands in a crate of its own.
+//! Each stands in a crate of its own, and its types apart from how a line spells them.
 #![tactic(auto)]
 
-mod refusal;
-
 pub use config_json::{ConfigRefusal, read_config};
-pub use refusal::OpenRefusal;
-pub use reply_json::{
-    CacheReply, CallReply, DeliveryKind, HealthKind, InverseEnd, KeptOrNot, Lengths, LineRefused,
-    LinkKind, Message, Messages, NameRefused, NodeRefused, NodeReply, NotKept, NotKeptWhy,
-    PlanKind, PlanRefused, PlanReply, ReadKind, ReadReply, Refusal, Reply, ScheduledWhy,
-    SessionRefused, Shown, ShownItem, Stage, StoreRefused, StreamVerdict, UnsettledWhy, When,
-    WriteKind, WriteReply, Written, bad_configuration_text, reply_text,
+pub use replies::{
+    CacheReply, CallReply, Delivered, InverseEnd, KeptOrNot, Lengths, LineRefused, Message,
+    Messages, NameRefused, NodeRefused, NodeReply, NotKept, NotKeptWhy, OpenRefusal, PlanRefused, PlanReply,
+    ReadReply, Refilled, Refusal, Repaired, Reply, ScheduledWhy, SessionRefused, Shown, ShownItem,
+    Stage, StoreRefused, StreamVerdict, Streamed, UnsettledWhy, When, WriteKind, WriteReply,
+    Written,
 };
-pub use request_json::{
-    Call, EdgeName, KeyName, LeaderName, LineRefusal, LinkName, ListName, MessageName, Opening,
-    QueryText, ReadCall, ReadWord, Request, Word, WriteCall, WriteText, WriteWord, read_request,
+pub use reply_json::{bad_configuration_text, reply_text};
+pub use request_json::{LineRefusal, read_request};
+pub use requests::{
+    Call, EdgeName, KeyName, LeaderName, LinkName, ListName, MessageName, Opening, QueryText,
+    ReadCall, Request, WriteCall, WriteText,
 };
+pub use words::{DeliveryWord, HealthWord, LinkWord, PlanWord, ReadWord, Word, WriteWord};

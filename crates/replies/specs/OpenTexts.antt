@@ -1,8 +1,9 @@
--- How refusals are printed.
+-- How it is printed that stores could not be opened.
 use Rattle.std.specs.Prelude.{ℕ, List, codes}
-use Rattle.tao_wire.specs.declared.refusal.OpenRefusal.{OpenRefusal}
-use Rattle.tao_wire.specs.declared.refusal.OpenRefusal.TheVariants.{KeeperFault, OtherLine, OutOfMemory}
+use Rattle.replies.specs.declared.opening.OpenRefusal.{OpenRefusal}
+use Rattle.replies.specs.declared.opening.OpenRefusal.TheVariants.{KeeperFault, OtherLine, OutOfMemory}
 
+-- why stores could not be opened
 abbrev pub open_text : OpenRefusal → List ℕ
 open_text KeeperFault = codes "the keeper failed"
 open_text OtherLine = codes "a store was first opened with another line"

@@ -1,6 +1,6 @@
 //! Why stores could not be opened.
 ghost use Rattle.std.specs.Prelude.{Some};
-ghost use Rattle.tao_wire.specs.Refusal.{open_text};
+ghost use Rattle.replies.specs.OpenTexts.{open_text};
 
 use std::error::Error;
 use std::fmt;

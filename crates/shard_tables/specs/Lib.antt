@@ -5,4 +5,5 @@ pub mod Reads
 pub mod Refusals
 pub mod StoreView
 pub mod Stores
+pub mod WriteSteps
 pub mod Written

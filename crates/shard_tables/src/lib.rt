@@ -7,6 +7,7 @@
 #![tactic(auto)]
 
 mod added;
+mod laws;
 mod merges;
 mod open_jobs;
 mod opening;
@@ -17,6 +18,7 @@ mod store;
 mod writes;
 
 pub use added::object_added;
+pub use laws::writes_are_steps;
 pub use opening::log_of;
 pub use read_out::{ReadOut, answer_of_fill};
 pub use reads::Found;

@@ -33,7 +33,7 @@ use Rattle.sealed_item.specs.FillLaws.{front_of}
 use Rattle.sealed_item.specs.Fills.{SealedItem, IsFill, sealed_item}
 use Rattle.sealed_item.specs.declared.content.Content.TheVariants.{Object as ObjectIs, List as ListIs}
 use Rattle.shard_tables.specs.ReadOuts.{AreNeeded, IsContentFor, IsFilled, IsOpenAt, needed_count, whole_list}
-use Rattle.shard_tables.specs.Reads.{Reads}
+use Rattle.shard_tables.specs.Reads.{AnswersAtVersion}
 
 -- a front of a list's first edges is one of the list
 some_stays : (n bound total : ℕ) (query : Query) (list : List Edge) (front : ListPrefix) → IsShortestFront (list_prefix (take n list) total) query bound front
@@ -192,7 +192,7 @@ module _ (log later : List Entry) (id1 : Id) (atype : AType) (query : Query) (bo
   pub list_past : (types : EdgeTypes) (last : List Entry) (v : ℕ) (answer : Answer) → query_key query ≡ Assocs id1 atype → bound ≡ types.bound atype
       → v ≡ version log (Assocs id1 atype) → IsLeftOpen bound edges total query → last ≡ later
       → answer ≡ list_answer bound (edge_list last id1 atype) (length (edge_list last id1 atype)) query
-      → Reads types log query answer v × IsOpenAt types log query (query_key query) total
+      → AnswersAtVersion types log query answer v × IsOpenAt types log query (query_key query) total
   list_past types last v answer key bounded at is still answers =
       let whole : IsLeftOpen bound (edge_list log id1 atype) (length (edge_list log id1 atype)) query = front_in_log None is in (
         record {

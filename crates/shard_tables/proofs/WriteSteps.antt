@@ -19,7 +19,7 @@ use Rattle.write_model.specs.Merges.{log_of}
 use Rattle.write_model.specs.Steps.{JobsStay}
 use Rattle.write_model.specs.Writes.{forward_entry, next_entry, touches_of}
 use Rattle.shard_tables.specs.Jobs.{HasOpenJob}
-use Rattle.shard_tables.specs.WriteSteps.{WriteIsStep, WritesAreSteps}
+use Rattle.shard_tables.specs.WriteSteps.{WriteIsStep, WritesAreSteps, client_write}
 use Rattle.shard_tables.specs.Written.{AskedWrite, FindsNothing, IsAdded, IsRetry}
 
 -- the next entry stands past the log
@@ -52,7 +52,7 @@ module _ (m : Masters) (old new : Tables) (shard : ℕ) (asked : AskedWrite) (lt
       of_entries.none_past e.position (next_past log (write_kind asked.write) asked.origin (touches_of asked.types log asked.write) e (forward_here e added))
 
   nothing_is : FindsNothing asked → Stays old new
-      → ChangesNothing asked.types (stores_of m old).logs (stores_of m new).logs shard asked.origin asked.write × JobsStay (stores_of m old) (stores_of m new)
+      → ChangesNothing asked.types (stores_of m old).logs (stores_of m new).logs (client_write shard asked) × JobsStay (stores_of m old) (stores_of m new)
   nothing_is found stays =
       let same = (calls_are_steps m old new).stays stays in (
         record { nothing = subst (λ l. forward_entry asked.types l asked.origin asked.write ≡ None) there found.nothing; stays = same.0 },
@@ -60,7 +60,7 @@ module _ (m : Masters) (old new : Tables) (shard : ℕ) (asked : AskedWrite) (lt
       )
 
   repeats_is : (e : Entry) (other : ℕ) → IsRetry asked e → Stays old new
-      → Repeats asked.types (stores_of m old).logs (stores_of m new).logs shard other asked.origin asked.write e.position e × JobsStay (stores_of m old) (stores_of m new)
+      → Repeats asked.types (stores_of m old).logs (stores_of m new).logs (client_write shard asked) e other × JobsStay (stores_of m old) (stores_of m new)
   repeats_is e other retry stays =
       let same = (calls_are_steps m old new).stays stays in
       let at = subst (λ p. entry_at asked.log p ≡ Some e) (sym (position_is retry.position e retry.stands.stands)) retry.stands.stands in (
@@ -80,7 +80,7 @@ module _ (m : Masters) (old new : Tables) (shard : ℕ) (asked : AskedWrite) (lt
   pub write_is_step : WriteIsStep m old new shard asked
   write_is_step = record {
     commits = λ e added gains.
-        (calls_are_steps m old new).commits asked.types shard asked.origin asked.write e lt (no_job e added) (forward_here e added) gains;
+        (calls_are_steps m old new).commits asked.types (client_write shard asked) e lt (no_job e added) (forward_here e added) gains;
     nothing = nothing_is;
     repeats = repeats_is;
     finds = finds_is;

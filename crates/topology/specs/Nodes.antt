@@ -1,5 +1,5 @@
 -- The texts of nodes, by the names of their regions and tiers.
-use Rattle.std.specs.Prelude.{ℕ, List, [], ◌∷◌, ◌++◌, option_map, option_and_then, unwrap_or, slice_get, codes, decimal}
+use Rattle.std.specs.Prelude.{ℕ, List, [], ◌++◌, option_map, option_and_then, unwrap_or, slice_get, codes, decimal}
 use Rattle.node_name.specs.declared.NodeName.{NodeName}
 use Rattle.node_name.specs.declared.NodeName.TheVariants.{Store, Leader, Follower}
 use Rattle.topology.specs.Config.{Settings}

@@ -1,5 +1,5 @@
 -- A configuration that is taken has no inverses, as long as they aren't built.
-use Rattle.std.proofs.Common.{◌≡◌, ℕ, zero, suc, Bool, true, false, List, [], ◌∷◌, Option, Some, None, Result, Ok, Err, IfOk, refl, ap, subst, ◌∙◌}
+use Rattle.std.proofs.Common.{◌≡◌, ℕ, zero, suc, true, List, [], ◌∷◌, Option, Some, None, Result, Ok, Err, IfOk, refl, ap, subst, ◌∙◌}
 use Rattle.std.specs.Prelude.{option_and_then, option_map, slice_get, is_none, codes}
 use Rattle.std.specs.Bool.{then_some}
 use Rattle.std.specs.Result.{result_ok}
@@ -21,7 +21,6 @@ use Rattle.config_json.specs.Object.{object_in}
 use Rattle.config_json.specs.Regions.{masters_at, regions_at}
 use Rattle.config_json.specs.Stage.{IsWithoutInverses, has_no_inverse, have_no_inverse}
 use Rattle.config_json.specs.Types.{assoc_of, assocs_at, objects_at}
-use Rattle.config_json.specs.declared.refusal.ConfigRefusal.{ConfigRefusal}
 
 -- ---- lines without inverses
 

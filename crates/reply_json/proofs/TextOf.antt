@@ -1,5 +1,5 @@
 -- The text that is written for a value.
-use Rattle.std.proofs.Common.{◌≡◌, ◌∙◌, ◌++◌, ℕ, List, [], ap, sym, subst}
+use Rattle.std.proofs.Common.{◌≡◌, ◌∙◌, ◌++◌, ℕ, List, [], sym, subst}
 use Rattle.json.specs.Print.{print}
 use Rattle.json.specs.Written.{Written}
 use Rattle.serde_json.proofs.Texts.{print-outline}

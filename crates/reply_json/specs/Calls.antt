@@ -1,5 +1,5 @@
 -- The replies to writes and reads.
-use Rattle.std.specs.Prelude.{ℕ, List, [], ◌∷◌, Option, None as Nothing, Some, option_map, codes}
+use Rattle.std.specs.Prelude.{ℕ, [], ◌∷◌, Option, None as Nothing, Some, option_map, codes}
 use Rattle.serde_json.specs.Data.{Data, boolean}
 use Rattle.words.specs.Words.{word_text}
 use Rattle.words.specs.declared.Word.TheVariants as word

@@ -1,5 +1,5 @@
 -- The replies about nodes.
-use Rattle.std.specs.Prelude.{ℕ, Bool, true, false, List, [], ◌∷◌, Option, None, Some, codes}
+use Rattle.std.specs.Prelude.{ℕ, Bool, true, false, [], ◌∷◌, Option, None, Some, codes}
 use Rattle.serde_json.specs.Data.{Data, boolean}
 use Rattle.words.specs.Words.{word_text}
 use Rattle.words.specs.declared.Word.TheVariants as word

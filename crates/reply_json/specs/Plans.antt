@@ -1,5 +1,5 @@
 -- The replies about plans.
-use Rattle.std.specs.Prelude.{List, [], ◌∷◌, Some, codes}
+use Rattle.std.specs.Prelude.{[], ◌∷◌, Some, codes}
 use Rattle.serde_json.specs.Data.{Data}
 use Rattle.words.specs.Words.{word_text}
 use Rattle.words.specs.declared.Word.TheVariants as word

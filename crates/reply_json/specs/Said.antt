@@ -1,6 +1,5 @@
 -- What the members of a reply say, as values.
-use Rattle.std.specs.Prelude.{ℕ, List, [], ◌∷◌, Option, Some, None, map, option_map, codes}
-use Rattle.std.specs.Borrow.{Bor}
+use Rattle.std.specs.Prelude.{[], ◌∷◌, Option, Some, None, codes}
 use Rattle.serde_json.specs.Data.{Data, null, boolean}
 use Rattle.reply_json.specs.Json.{fields, text, whole}
 use Rattle.reply_json.specs.Values.{pairs_data, edges_data, lengths_data, messages_data}

@@ -3,7 +3,7 @@ use Rattle.std.specs.Prelude.{ℕ, Bool, false, List, Option, None, Some, option
 use Rattle.serde_json.specs.Data.{Data}
 use Rattle.serde_json.specs.Find.{as_object}
 use Rattle.serde_json.specs.View.{view}
-use Rattle.json_fields.specs.Fields.{number_at, maybe_number_at, id_of, id_at, maybe_id_at, text_at, maybe_text_at, flag_at, items_at, object_at, strange_at}
+use Rattle.json_fields.specs.Fields.{number_at, maybe_number_at, id_of, id_at, maybe_id_at, text_at, maybe_text_at, flag_at, object_at, strange_at}
 use Rattle.tao_base.specs.declared.data.Pair.{Pair}
 use Rattle.tao_base.specs.Data.{in_order}
 use Rattle.json_fields.specs.Items.{each_at}

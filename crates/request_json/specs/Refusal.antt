@@ -1,5 +1,5 @@
 -- Why a line is refused.
-use Rattle.std.specs.Prelude.{ℕ, Option, None, Some}
+use Rattle.std.specs.Prelude.{Option, None, Some}
 use Rattle.tao_base.specs.declared.data.DataRefusal.{DataRefusal}
 use Rattle.tao_base.specs.declared.data.DataRefusal.TheVariants as of_data
 use Rattle.request_json.specs.declared.refusal.LineRefusal.{LineRefusal}

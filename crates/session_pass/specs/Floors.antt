@@ -1,0 +1,28 @@
+-- The floors of a session: for each key the greatest version that it was told of.
+use Rattle.std.specs.Prelude.{◌≡◌, ◌≢◌, ◌≤◌, ℕ, List, max, nat_lt, unwrap_or, if◌then◌else◌}
+use Rattle.std.specs.Map.{lookup}
+use Rattle.indexmap.specs.IndexMap.{insert_entry}
+use Rattle.tao_base.specs.Keys.{same_key}
+use Rattle.tao_base.specs.declared.id.Key.{Key}
+
+-- the floors, each under its key, and how many keys may be added without memory
+pub record FloorTable : Type 0 where
+  pub floors : List (Key × ℕ)
+  pub spare : ℕ
+
+-- the floor at a key; 0 where none was learnt
+abbrev pub floor_at : List (Key × ℕ) → Key → ℕ
+floor_at floors key = unwrap_or (lookup (same_key key) floors) 0
+
+-- the floors after a version of a key was learnt. A key that has a floor keeps its place
+abbrev pub with_learnt : Key → ℕ → List (Key × ℕ) → List (Key × ℕ)
+with_learnt key version floors = if nat_lt (floor_at floors key) version then insert_entry same_key floors key version else floors
+
+-- the key's floor is now the greater of what it was and the version, and each other key's stays
+pub record Learns (key : Key) (version : ℕ) (old new : List (Key × ℕ)) : Type 0 where
+  pub here : floor_at new key ≡ max (floor_at old key) version
+  pub others : (other : Key) → other ≢ key → floor_at new other ≡ floor_at old other
+
+-- no floor fell
+pub record FloorsRise (old new : List (Key × ℕ)) : Type 0 where
+  pub rise : (key : Key) → floor_at old key ≤ floor_at new key

@@ -9,7 +9,7 @@ use Rattle.tao_base.specs.declared.id.Key.{Key}
 use Rattle.tao_base.specs.Keys.{same_key}
 use Rattle.ask_table.specs.declared.ask.Ask.{Ask}
 use Rattle.ask_table.specs.Asks.{Asks, asks_of, is_full, IsTable, fresh, with_ask}
-use Rattle.ask_table.specs.Open.{raised}
+use Rattle.ask_table.specs.Open.{raised_ask}
 
 abbrev pub numbers : List Ask → List ℕ
 numbers asks = map (λ (a : Ask). a.number) asks
@@ -68,10 +68,10 @@ filter_none p (a ∷ asks) none = elim (cases_Bool (p a)) [
 ]
 
 -- floors rise
-raised_number : (key : Key) (version : ℕ) (a : Ask) → (raised key version a).number ≡ a.number
+raised_number : (key : Key) (version : ℕ) (a : Ask) → (raised_ask key version a).number ≡ a.number
 raised_number key version a = elim (same_key a.key key) as (λ b. (cond b (record a { floor = max a.floor version }) a).number ≡ a.number) [ true ↦ refl | false ↦ refl ]
 
-numbers-raised : (key : Key) (version : ℕ) (asks : List Ask) → numbers (map (raised key version) asks) ≡ numbers asks
+numbers-raised : (key : Key) (version : ℕ) (asks : List Ask) → numbers (map (raised_ask key version) asks) ≡ numbers asks
 numbers-raised key version [] = refl
 numbers-raised key version (a ∷ asks) = rw (raised_number key version a, numbers-raised key version asks) refl
 
@@ -79,10 +79,10 @@ length_raised : (f : Ask → Ask) (asks : List Ask) → length (map f asks) ≡ 
 length_raised f [] = refl
 length_raised f (a ∷ asks) = ap suc (length_raised f asks)
 
-pub table_raised : (key : Key) (version : ℕ) (asks : List Ask) (given : ℕ) → IsTable (asks_of asks given) → IsTable (asks_of (map (raised key version) asks) given)
+pub table_raised : (key : Key) (version : ℕ) (asks : List Ask) (given : ℕ) → IsTable (asks_of asks given) → IsTable (asks_of (map (raised_ask key version) asks) given)
 table_raised key version asks given table = record {
   rising = rw (numbers-raised key version asks) table.rising;
-  few = omega (arith, table.few, length_raised (raised key version) asks);
+  few = omega (arith, table.few, length_raised (raised_ask key version) asks);
 }
 
 -- a loop that writes f of each element

@@ -3,7 +3,7 @@ use Rattle.std.specs.Prelude.{ℕ, ◌+◌, ◌-◌, ◌^◌, ◌≤◌, Bool, �
 use Rattle.tao_base.specs.Ids.{IsRising}
 use Rattle.tao_base.specs.declared.id.Key.{Key}
 use Rattle.ask_table.specs.declared.ask.Ask.{Ask}
-use Rattle.ask_table.specs.Open.{raised, is_numbered, is_on_shard}
+use Rattle.ask_table.specs.Open.{raised_ask, is_numbered, is_on_shard}
 
 -- the open asks, in the order in which they began, and how many numbers were given, which is the last of them
 pub record Asks : Type 0 where
@@ -26,7 +26,7 @@ with_ask key mark t = asks_of (t.asks ++ fresh t key mark ∷ []) (t.given + 1)
 
 -- the floor of each ask on the key raised
 abbrev pub with_floor : Key → ℕ → Asks → Asks
-with_floor key version t = asks_of (map (raised key version) t.asks) t.given
+with_floor key version t = asks_of (map (raised_ask key version) t.asks) t.given
 
 abbrev pub without_ask : ℕ → Asks → Asks
 without_ask number t = asks_of (filter (λ a. not (is_numbered number a)) t.asks) t.given

@@ -8,15 +8,15 @@ use Rattle.ask_table.specs.Asks.{Asks, IsTable, asks_of, is_full, with_ask, with
 use Rattle.ask_table.specs.Open.{is_numbered, is_on_shard}
 
 -- a call that changes the asks
-pub data Call : Type 0 where
-  Begin : Key → ℕ → Call
-  Raise : Key → ℕ → Call
-  End : ℕ → Call
-  EndShard : ℕ → Call
-  EndAll : Call
+pub data AskCall : Type 0 where
+  Begin : Key → ℕ → AskCall
+  Raise : Key → ℕ → AskCall
+  End : ℕ → AskCall
+  EndShard : ℕ → AskCall
+  EndAll : AskCall
 
 -- the asks after the calls, the latest first
-abbrev pub asks_after : List Call → Asks
+abbrev pub asks_after : List AskCall → Asks
 asks_after [] = asks_of [] 0
 asks_after (Begin key mark ∷ earlier) = if is_full (asks_after earlier) then asks_after earlier else with_ask key mark (asks_after earlier)
 asks_after (Raise key version ∷ earlier) = with_floor key version (asks_after earlier)
@@ -25,7 +25,7 @@ asks_after (EndShard shard ∷ earlier) = without_shard shard (asks_after earlie
 asks_after (EndAll ∷ earlier) = without_asks (asks_after earlier)
 
 -- the greatest version that the key was raised to, 0 where it wasn't
-abbrev pub greatest_raised : Key → List Call → ℕ
+abbrev pub greatest_raised : Key → List AskCall → ℕ
 greatest_raised key [] = 0
 greatest_raised key (Begin other mark ∷ earlier) = greatest_raised key earlier
 greatest_raised key (Raise other version ∷ earlier) = if same_key key other then max (greatest_raised key earlier) version else greatest_raised key earlier
@@ -34,7 +34,7 @@ greatest_raised key (EndShard shard ∷ earlier) = greatest_raised key earlier
 greatest_raised key (EndAll ∷ earlier) = greatest_raised key earlier
 
 -- whether the call ends the ask
-abbrev pub ends : Ask → Call → Bool
+abbrev pub ends : Ask → AskCall → Bool
 ends a (Begin key mark) = false
 ends a (Raise key version) = false
 ends a (End number) = is_numbered number a
@@ -42,17 +42,17 @@ ends a (EndShard shard) = is_on_shard shard a
 ends a EndAll = true
 
 -- the ask began after the earlier calls, with the next number, was raised to the greatest version since, and wasn't ended since
-pub record IsOpen (later earlier : List Call) (a : Ask) : Type 0 where
+pub record IsOpenAsk (later earlier : List AskCall) (a : Ask) : Type 0 where
   pub room : is_full (asks_after earlier) ≡ false
   pub number : a.number ≡ (asks_after earlier).given + 1
   pub floor : a.floor ≡ greatest_raised a.key later
   pub not_ended : list_any (ends a) later ≡ false
 
 -- the asks are those that a call began with their key and mark and no call ended since, and numbers are never given again
-pub record AsksAreOpen (calls : List Call) : Type 0 where
+pub record AsksAreOpen (calls : List AskCall) : Type 0 where
   pub begun : (a : Ask) → Contains (asks_after calls).asks a
-      → (later : List Call) × (earlier : List Call) × (calls ≡ later ++ Begin a.key a.mark ∷ earlier) × IsOpen later earlier a
-  pub kept : (a : Ask) (later earlier : List Call) → calls ≡ later ++ Begin a.key a.mark ∷ earlier → IsOpen later earlier a
+      → (later : List AskCall) × (earlier : List AskCall) × (calls ≡ later ++ Begin a.key a.mark ∷ earlier) × IsOpenAsk later earlier a
+  pub kept : (a : Ask) (later earlier : List AskCall) → calls ≡ later ++ Begin a.key a.mark ∷ earlier → IsOpenAsk later earlier a
       → Contains (asks_after calls).asks a
   pub table : IsTable (asks_after calls)
-  pub given : (call : Call) → (asks_after calls).given ≤ (asks_after (call ∷ calls)).given
+  pub given : (call : AskCall) → (asks_after calls).given ≤ (asks_after (call ∷ calls)).given

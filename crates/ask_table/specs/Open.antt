@@ -5,8 +5,8 @@ use Rattle.tao_base.specs.Keys.{key_shard, same_key}
 use Rattle.ask_table.specs.declared.ask.Ask.{Ask}
 
 -- the floor of an ask on the key rises to the version, where it is lower
-abbrev pub raised : Key → ℕ → Ask → Ask
-raised key version a = if same_key a.key key then record a { floor = max a.floor version } else a
+abbrev pub raised_ask : Key → ℕ → Ask → Ask
+raised_ask key version a = if same_key a.key key then record a { floor = max a.floor version } else a
 
 abbrev pub is_numbered : ℕ → Ask → Bool
 is_numbered number a = a.number == number

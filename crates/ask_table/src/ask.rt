@@ -47,11 +47,11 @@ pub struct Ask {
 
 impl Ask {
     ghost use Rattle.std.specs.Prelude.{◌==◌};
-    ghost use Rattle.ask_table.specs.Open.{is_numbered, is_on_shard, raised};
+    ghost use Rattle.ask_table.specs.Open.{is_numbered, is_on_shard, raised_ask};
 
     /// Raises the floor to the version where the ask is on the key.
     pub(crate) fn raise(&mut self, key: &Key, version: u64)
-        ensures { self.new ≡ raised key.now version self.old }
+        ensures { self.new ≡ raised_ask key.now version self.old }
     {
         if is_same(&self.key, key) {
             self.floor = self.floor.max(version);

@@ -1,5 +1,5 @@
 -- Whether a fill is kept, and what the node is then.
-use Rattle.std.specs.Prelude.{◌≡◌, ℕ, Bool, true, false, ◌&&◌, ◌⊎◌, ◌==◌, nat_lt, if◌then◌else◌, find, length, Option, Some, None}
+use Rattle.std.specs.Prelude.{◌≡◌, ℕ, Bool, true, false, ◌&&◌, ◌⊎◌, ◌==◌, nat_lt, if◌then◌else◌, find, Option, Some, None}
 use Rattle.lru.specs.LruCache.{lru_cache, promoted, put_entries}
 use Rattle.tao_base.specs.declared.id.Key.{Key}
 use Rattle.tao_base.specs.Keys.{key_shard, same_key}
@@ -7,8 +7,7 @@ use Rattle.ask_table.specs.declared.ask.Ask.{Ask}
 use Rattle.ask_table.specs.Asks.{Asks, with_floor}
 use Rattle.ask_table.specs.Open.{is_numbered}
 use Rattle.sealed_item.specs.Fills.{SealedItem}
-use Rattle.sealed_item.specs.declared.content.Content.{Content}
-use Rattle.sealed_item.specs.declared.content.Content.TheVariants.{Object, List}
+use Rattle.sealed_item.specs.Decided.{is_longer_content}
 use Rattle.cache_items.specs.declared.item.Item.{Item}
 use Rattle.cache_items.specs.declared.look.Kept.{Kept}
 use Rattle.cache_items.specs.declared.look.Kept.TheVariants.{Yes, Asks as NoAsk, Lost, Mark, Floor, Memory}
@@ -55,16 +54,10 @@ is_yes Memory = false
 abbrev pub item_of : SealedItem → Item
 item_of fill = record { version = fill.version; content = fill.content }
 
--- the first list has more edges
-abbrev pub is_longer : Content → Content → Bool
-is_longer (Object a) other = false
-is_longer (List p) (Object b) = false
-is_longer (List p) (List q) = nat_lt (length q.edges) (length p.edges)
-
 -- the held item has the version and more edges
 abbrev pub stays : Option Item → Item → Bool
 stays None item = false
-stays (Some old) item = (old.version == item.version) && is_longer old.content item.content
+stays (Some old) item = (old.version == item.version) && is_longer_content old.content item.content
 
 -- the key's item stands first, and at most the last one goes
 abbrev pub kept_items : Items → ℕ → Key → Item → Items

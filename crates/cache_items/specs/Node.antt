@@ -1,26 +1,21 @@
 -- What a contract sees of a cache node: its items, the most recently used first, its asks, and what it has processed and seen of each served shard's log.
-use Rattle.std.specs.Prelude.{ℕ, ◌+◌, ◌-◌, Bool, false, ◌==◌, nat_lt, if◌then◌else◌, List, [], ◌∷◌, length, take, Option, Some, None}
+use Rattle.std.specs.Prelude.{ℕ, ◌+◌, ◌-◌, Bool, false, nat_lt, if◌then◌else◌, List, [], ◌∷◌, length, take, Option, Some, None}
 use Rattle.std.specs.Map.{lookup, remove_entry}
-use Rattle.std.specs.Option.{option_map, option_map_or}
+use Rattle.std.specs.Option.{option_map_or}
 use Rattle.tao_base.specs.declared.entry.Entry.{Entry}
 use Rattle.tao_base.specs.declared.id.Key.{Key}
 use Rattle.tao_base.specs.Keys.{key_shard, same_key}
-use Rattle.shard_log.specs.View.{LogName, View, longer_view}
-use Rattle.low_water.specs.Marks.{IsGreatest, IsWindow, Marks, marks, top_of, with_mark}
-use Rattle.ask_table.specs.Asks.{Asks, with_ask, with_floor, without_ask}
+use Rattle.shard_log.specs.View.{View}
+use Rattle.ask_table.specs.Asks.{Asks, asks_of, with_ask, with_floor, without_ask, without_asks}
 use Rattle.maint_msg.specs.KeyVersions.{keys_of}
 use Rattle.maint_msg.specs.Maints.{SeenMaint}
 use Rattle.maint_msg.specs.declared.key_versions.KeyVersion.{KeyVersion}
+use Rattle.served_shards.specs.Begun.{restarted}
+use Rattle.served_shards.specs.Served.{ServedShard, changed_at, forgetting, low_at, marking, seeing}
 use Rattle.cache_items.specs.declared.item.Item.{Item}
 
 abbrev pub Items : Type 0
 Items = List (Key × Item)
-
--- a shard that the node serves: what it has processed of the shard's log, and what it has seen of it
-pub record ServedShard : Type 0 where
-  pub shard : ℕ
-  pub marks : Marks
-  pub view : View
 
 -- the items, the most recently used first, and how many there may be; the open asks; the served shards
 pub record Node : Type 0 where
@@ -40,53 +35,6 @@ without key items = remove_entry (same_key key) items
 -- the items without the last
 abbrev pub without_last : Items → Items
 without_last items = take (length items - 1) items
-
--- what the node has of a shard, where it serves it
-abbrev pub served_at : ℕ → List ServedShard → Option ServedShard
-served_at shard [] = None
-served_at shard (s ∷ ss) = if s.shard == shard then Some s else served_at shard ss
-
--- what the node has of a shard is changed so, where it serves it, and all else stays
-abbrev pub changed_at : ℕ → (ServedShard → ServedShard) → List ServedShard → List ServedShard
-changed_at shard f [] = []
-changed_at shard f (s ∷ ss) = if s.shard == shard then f s ∷ ss else s ∷ changed_at shard f ss
-
--- the low-water mark of a shard, 0 where it isn't served
-abbrev pub low_at : ℕ → List ServedShard → ℕ
-low_at shard served = option_map_or (λ s. s.marks.low) (served_at shard served) 0
-
--- the greatest marked position of a shard, 0 where it isn't served
-abbrev pub top_at : ℕ → List ServedShard → ℕ
-top_at shard served = option_map_or (λ s. top_of s.marks) (served_at shard served) 0
-
--- the log of a shard, where it is served
-abbrev pub log_at : ℕ → List ServedShard → Option LogName
-log_at shard served = option_map (λ s. s.view.log) (served_at shard served)
-
--- what was seen of the log of a shard, where it is served
-abbrev pub view_at : ℕ → List ServedShard → Option View
-view_at shard served = option_map (λ s. s.view) (served_at shard served)
-
--- the low-water mark is the greatest number up to which all are marked, and those ahead are in the window
-pub record IsLowWater (m : Marks) : Type 0 where
-  pub greatest : IsGreatest m
-  pub window : IsWindow m
-
--- one more position marked
-abbrev pub marking : ℕ → ServedShard → ServedShard
-marking position s = record s { marks = with_mark position s.marks }
-
--- what was marked ahead forgotten
-abbrev pub forgetting : ServedShard → ServedShard
-forgetting s = record s { marks = marks s.marks.low [] }
-
--- the longer of what was seen and what a note has seen
-abbrev pub seeing : View → ServedShard → ServedShard
-seeing note s = record s { view = longer_view s.view note }
-
--- marks and view begun anew
-abbrev pub restarting : ℕ → View → ServedShard → ServedShard
-restarting low note s = record s { marks = marks low []; view = longer_view s.view note }
 
 -- the item at the key is below the version
 abbrev pub is_stale : Items → KeyVersion → Bool
@@ -133,10 +81,18 @@ caught_up shard [] n = n
 caught_up shard (e ∷ es) n = caught_up shard es (processed shard e.position (keys_of e) n)
 
 -- the node with an ask on the key, which has the mark of the moment and floor 0. What is marked ahead at the key's shard is forgotten
-abbrev pub with_opened : Key → Node → Node
-with_opened key n = record n { asks = with_ask key (low_at (key_shard key) n.served) n.asks; served = changed_at (key_shard key) forgetting n.served }
+abbrev pub with_opened_ask : Key → Node → Node
+with_opened_ask key n = record n { asks = with_ask key (low_at (key_shard key) n.served) n.asks; served = changed_at (key_shard key) forgetting n.served }
 
 -- the node without the ask, where one is given
-abbrev pub with_ended : Option ℕ → Node → Node
-with_ended None n = n
-with_ended (Some ask) n = record n { asks = without_ask ask n.asks }
+abbrev pub with_ended_ask : Option ℕ → Node → Node
+with_ended_ask None n = n
+with_ended_ask (Some ask) n = record n { asks = without_ask ask n.asks }
+
+-- a node that holds nothing yet
+abbrev pub empty_node : ℕ → List ServedShard → Node
+empty_node most served = record { items = []; most = most; asks = asks_of [] 0; served = served }
+
+-- a node emptied, and begun anew
+abbrev pub emptied : List ℕ → List View → Node → Node
+emptied lows notes n = record { items = []; most = n.most; asks = without_asks n.asks; served = restarted n.served lows notes }

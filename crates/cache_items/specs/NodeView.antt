@@ -1,8 +1,6 @@
 -- The node that the fields stand for.
-use Rattle.std.specs.Prelude.{map}
 use Rattle.cache_items.specs.declared.holdings.Holdings.TheInside.{Inside}
-use Rattle.cache_items.specs.Fields.{served_of}
 use Rattle.cache_items.specs.Node.{Node}
 
 abbrev pub node_seen : Inside → Node
-node_seen n = record { items = n.items.entries; most = n.items.cap; asks = n.asks; served = map served_of n.shards.items }
+node_seen n = record { items = n.items.entries; most = n.items.cap; asks = n.asks; served = n.shards }

@@ -1,18 +1,22 @@
 //! `Holdings`, what a node holds.
-ghost use Rattle.std.specs.Prelude.{◌≡◌, ◌↔◌, ◌+◌, ◌-◌, ◌^◌, ◌<◌, ◌≤◌, ℕ, [], Some, if◌then◌else◌, is_some, length, map, option_copied, take, true, IfNone, IfOk, IfSome, IsNone, IsSome, IsTrue, OnErr, OnSome};
+ghost use Rattle.std.specs.Prelude.{◌≡◌, ◌↔◌, ◌+◌, ◌-◌, ◌^◌, ◌<◌, ◌≤◌, ℕ, [], Some, if◌then◌else◌, is_some, length, map, option_copied, take, true, IfNone, IfOk, IfSome, IsNone, IsSome, IsTrue, OnErr, OnOk, OnSome};
+ghost use Rattle.std.specs.Bool.{OnTrue};
 ghost use Rattle.std.specs.List.{IsDistinct};
 ghost use Rattle.std.specs.Map.{keys_of as keys_held};
-ghost use Rattle.lru.specs.LruCache.{last_entry, promoted};
+ghost use Rattle.lru.specs.LruCache.{last_entry, lru_cache, promoted, put_entries};
 ghost use Rattle.ask_table.specs.Asks.{IsTable, is_full, with_ask, with_floor};
-ghost use Rattle.tao_base.specs.Queries.{query_key};
+ghost use Rattle.tao_base.specs.Queries.{query_key, query_shard};
 ghost use Rattle.tao_base.specs.Keys.{key_shard, same_key};
 ghost use Rattle.tao_schema.specs.Schema.{types_of};
 ghost use Rattle.cache_items.specs.Delivered.{AddsRow, AreSome, dropped_lists, row_of, stale_row};
-ghost use Rattle.cache_items.specs.Fields.{AreNotesOf, AreReached, begun_at, empty_node, emptied};
+ghost use Rattle.served_shards.specs.Begun.{AreNotesOf, AreReached, begun_at};
+ghost use Rattle.cache_items.specs.Node.{empty_node, emptied, caught_up, delivered, drop_count, dropped, with_ended_ask, item_at, is_stale as is_stale_word, met, processed, raised_all, with_opened_ask, without, without_last, without_stale};
+ghost use Rattle.cache_items.specs.HandedOn.{HandsOn, IsFrontHeld, IsOfNode, handed_on, with_copy};
 ghost use Rattle.cache_items.specs.Kept.{GivesKept, admits as admits_word, is_yes, item_of, kept_items, kept_of, own_kept_of, stays, took, with_item};
-ghost use Rattle.cache_items.specs.Look.{content_answer, content_decides, look_of, looked_at};
-ghost use Rattle.cache_items.specs.Meetings.{AreSeenSound, MeetEach, MeetsAt};
-ghost use Rattle.cache_items.specs.Node.{IsLowWater, caught_up, changed_at, delivered, drop_count, dropped, with_ended, forgetting, item_at, is_stale as is_stale_word, log_at, low_at, marking, met, processed, raised_all, served_at, top_at, view_at, with_opened, without, without_last, without_stale};
+ghost use Rattle.sealed_item.specs.Decided.{content_answer, content_decides};
+ghost use Rattle.cache_items.specs.Look.{look_of, looked_at};
+ghost use Rattle.served_shards.specs.Meetings.{AreSeenSound, MeetEach, MeetsAt};
+ghost use Rattle.served_shards.specs.Served.{IsLowWater, changed_at, forgetting, log_at, low_at, marking, served_at, top_at, view_at};
 ghost use Rattle.cache_items.specs.Taken.{ChangesItems, TakesChange, with_change};
 ghost use Rattle.maint_msg.specs.KeyVersions.{key_version, keys_of};
 ghost use Rattle.changeset.specs.Changes.{seen_change};
@@ -21,13 +25,13 @@ ghost use Rattle.shard_log.specs.View.{View};
 use crate::delivered::{Delivered, DroppedLists};
 use crate::item::{Item, answer_of, bound_at, is_longer};
 use crate::look::{Kept, Look};
-use crate::shards;
-use crate::shards::Shard;
+use crate::unsealed::Unsealed;
 use ask_table::{AskNo, AskTable};
 use changeset::Changeset;
 use lru::LruCache;
 use maint_msg::{KeyVersion, Maint};
 use sealed_item::Fill;
+use served_shards::ServedShards;
 use shard_log::Note;
 use std::alloc::Global;
 use std::marker::Model;
@@ -40,7 +44,7 @@ use tao_schema::Schema;
 pub struct Holdings {
     items: LruCache<Key, Item>,
     asks: AskTable,
-    shards: Vec<Shard>,
+    shards: ServedShards,
 }
 
 impl Model for Holdings {
@@ -71,7 +75,7 @@ impl Holdings {
         ensures node { IfOk result (λ node. node ≡ empty_node items (begun_at served.now lows.now notes.items)) }
         ensures sound { IfOk result (λ node. AreSeenSound node.served) }
     {
-        let shards = shards::begin(alloc, served, lows, notes)?;
+        let shards = ServedShards::begin(alloc, served, lows, notes)?;
         let asks = AskTable::make(alloc)?;
         let Some(most) = NonZeroUsize::new(items) else {
             unreachable!()
@@ -99,7 +103,7 @@ impl Holdings {
         ensures same { self.new ≡ self.old }
         ensures view { IfOk result (λ note. view_at shard self.old.served ≡ Some note) }
     {
-        shards::split(self.shards.as_mut_slice(), shard)
+        self.shards.split(shard)
     }
 
     /// The low-water mark of the shard, 0 where it isn't served.
@@ -107,21 +111,21 @@ impl Holdings {
         ensures value { result ≡ low_at shard self.now.served }
         ensures marks { IfSome (served_at shard self.now.served) (λ s. IsLowWater s.marks) }
     {
-        shards::low(self.shards.as_slice(), shard)
+        self.shards.low(shard)
     }
 
     // The greatest marked position of the shard, 0 where it isn't served.
     fn top(&self, shard: u16) -> u64
         ensures { result ≡ top_at shard self.now.served }
     {
-        shards::top(self.shards.as_slice(), shard)
+        self.shards.top(shard)
     }
 
     /// Whether the shard of the key is served.
     pub fn serves(&self, key: &Key) -> bool
         ensures { result ≡ is_some (served_at (key_shard key.now) self.now.served) }
     {
-        shards::serves(self.shards.as_slice(), key.shard())
+        self.shards.serves(key.shard())
     }
 
     /// The item at the key.
@@ -189,19 +193,19 @@ impl Holdings {
     pub fn begin_ask(&mut self, key: &Key) -> Option<AskNo>
         ensures full { IsNone result ↔ IsTrue (is_full self.old.asks) }
         ensures number { IfSome result (λ ask. ask ≡ self.old.asks.given + 1) }
-        ensures begun { OnSome result (self.new ≡ with_opened key.now self.old) }
+        ensures begun { OnSome result (self.new ≡ with_opened_ask key.now self.old) }
         ensures none { IfNone result (self.new ≡ self.old) }
     {
         let shard = key.shard();
         let low = self.low(shard);
         let ask = self.asks.begin(*key, low)?;
-        shards::forget_ahead(self.shards.as_mut_slice(), shard);
+        self.shards.forget_ahead(shard);
         Some(ask)
     }
 
     /// Ends an ask, where it is open. Takes no memory.
     pub fn end_ask(&mut self, ask: AskNo)
-        ensures { self.new ≡ with_ended (Some ask) self.old }
+        ensures { self.new ≡ with_ended_ask (Some ask) self.old }
     {
         self.asks.end(ask);
     }
@@ -219,9 +223,9 @@ impl Holdings {
         requires log { IfSome (log_at (key_shard fill.key) self.old.served) (λ log. log ≡ fill.note.log) }
         ensures answer { IfOk result (λ r. r.0 ≡ content_answer (types_of schema.now) fill.content query.now) }
         ensures kept { IfOk result (λ r. GivesKept (kept_of ask self.old.asks fill.version fill.as_of) r.1) }
-        ensures node { IfOk result (λ r. self.new ≡ took fill r.1 (with_ended ask self.old)) }
+        ensures node { IfOk result (λ r. self.new ≡ took fill r.1 (with_ended_ask ask self.old)) }
         ensures meets { IfOk result (λ r. MeetsAt (key_shard fill.key) fill.note self.old.served) }
-        ensures err { OnErr result (self.new ≡ with_ended ask self.old) }
+        ensures err { OnErr result (self.new ≡ with_ended_ask ask self.old) }
     {
         let admitted = self.admit(ask, fill.version(), fill.as_of());
         let answer = answer_of(fill.content(), schema, query)?;
@@ -251,10 +255,102 @@ impl Holdings {
         Ok((answer, kept))
     }
 
+    /// A fill of the item of the query's key, cut to the shortest front that decides the query, where the
+    /// item has the version or more and has such a front: at the item's version, as of the low-water mark
+    /// of its shard. That item then stands first. The one error is want of memory, after which nothing
+    /// has changed.
+    pub fn serve(
+        &mut self,
+        schema: &Schema,
+        query: &Query,
+        floor: u64,
+    ) -> Result<Option<Unsealed>, OutOfMemory>
+        requires { IsSome (served_at (query_shard query.now) self.old.served) }
+        ensures fill { IfOk result (HandsOn (types_of schema.now) self.old query.now floor) }
+        ensures node { IfOk result (λ handed. self.new ≡ handed_on (query_key query.now) handed self.old) }
+        ensures err { OnErr result (self.new ≡ self.old) }
+    {
+        let key = query.key();
+        match self.find_front(&key, schema, query, floor)? {
+            Some(item) => Ok(Some(self.hand_on(&key, item)?)),
+            None => Ok(None),
+        }
+    }
+
+    // What is held at the key, cut to the shortest front that decides the query.
+    fn find_front(
+        &self,
+        key: &Key,
+        schema: &Schema,
+        query: &Query,
+        floor: u64,
+    ) -> Result<Option<Item>, OutOfMemory>
+        ensures { IfOk result (IsFrontHeld (types_of schema.now) query.now floor (item_at self.now.items key.now)) }
+    {
+        match self.item(key) {
+            Some(item) => item.front(schema, query, floor),
+            None => Ok(None),
+        }
+    }
+
+    // The parts of a fill of the key, whose item then stands first.
+    fn hand_on(&mut self, key: &Key, item: Item) -> Result<Unsealed, OutOfMemory>
+        requires { IsSome (served_at (key_shard key.now) self.old.served) }
+        ensures item { IfOk result (λ fill. item_of fill ≡ item) }
+        ensures fill { IfOk result (IsOfNode self.old key.now) }
+        ensures node { OnOk result (self.new ≡ record self.old { items = promoted (same_key key.now) self.old.items }) }
+        ensures err { OnErr result (self.new ≡ self.old) }
+    {
+        let shard = key.shard();
+        let note = self.note(shard)?;
+        let as_of = self.low(shard);
+        self.promote(key);
+        Ok(Unsealed {
+            key: *key,
+            version: item.version,
+            as_of,
+            content: item.content,
+            note,
+        })
+    }
+
+    /// Keeps a copy of the fill, where it is as of every marked position and there is memory for the copy.
+    /// The fill stays. Where it isn't kept nothing has changed.
+    pub fn keep_copy(&mut self, fill: &mut Fill) -> Kept
+        requires { IfSome (log_at (key_shard fill.old.key) self.old.served) (λ log. log ≡ fill.old.note.log) }
+        ensures fill { fill.new ≡ fill.old }
+        ensures kept { GivesKept (own_kept_of (top_at (key_shard fill.old.key) self.old.served) fill.old.as_of) result }
+        ensures node { self.new ≡ with_copy fill.old result self.old }
+        ensures meets { OnTrue (is_yes result) (MeetsAt (key_shard fill.old.key) fill.old.note self.old.served) }
+    {
+        match admits_own(self.top(fill.key().shard()), fill.as_of()) {
+            Kept::Yes => match self.put_copy(fill) {
+                Ok(()) => Kept::Yes,
+                Err(OutOfMemory) => Kept::Memory,
+            },
+            other => other,
+        }
+    }
+
+    // Puts a copy of the fill's content first, and then meets a copy of its note.
+    fn put_copy(&mut self, fill: &mut Fill) -> Result<(), OutOfMemory>
+        requires { IfSome (log_at (key_shard fill.old.key) self.old.served) (λ log. log ≡ fill.old.note.log) }
+        ensures fill { fill.new ≡ fill.old }
+        ensures ok { OnOk result (self.new ≡ took fill.old Kept.Yes self.old) }
+        ensures meets { OnOk result (MeetsAt (key_shard fill.old.key) fill.old.note self.old.served) }
+        ensures err { OnErr result (self.new ≡ self.old) }
+    {
+        let copy = fill.split()?;
+        let (key, version, _, content, note) = copy.into_parts();
+        self.put(&key, Item { version, content })?;
+        self.meet(key.shard(), note);
+        Ok(())
+    }
+
     // Ends the ask, and says whether it admits the fill.
     fn admit(&mut self, ask: Option<AskNo>, version: u64, as_of: u64) -> Kept
         ensures kept { result ≡ kept_of ask self.old.asks version as_of }
-        ensures asks { self.new ≡ with_ended ask self.old }
+        ensures asks { self.new ≡ with_ended_ask ask self.old }
     {
         let Some(ask) = ask else {
             return Kept::Asks;
@@ -275,24 +371,38 @@ impl Holdings {
         let (key, version, _, content, note) = fill.into_parts();
         self.meet(key.shard(), note);
         match admitted {
-            Kept::Yes => self.put(&key, Item { version, content }),
+            Kept::Yes => match self.put(&key, Item { version, content }) {
+                Ok(()) => Kept::Yes,
+                Err(OutOfMemory) => Kept::Memory,
+            },
             other => other,
         }
     }
 
     // Puts the item first, where no longer one of its version is held, and raises the asks on its key.
-    fn put(&mut self, key: &Key, item: Item) -> Kept
-        ensures kept { GivesKept Kept.Yes result }
-        ensures node { self.new ≡ (if is_yes result then with_item key.now item self.old else self.old) }
+    fn put(&mut self, key: &Key, item: Item) -> Result<(), OutOfMemory>
+        ensures ok { OnOk result (self.new ≡ with_item key.now item self.old) }
+        ensures err { OnErr result (self.new ≡ self.old) }
     {
         let version = item.version;
         if self.holds_longer(key, &item) {
             self.promote(key);
-        } else if self.items.put(*key, item).is_err() {
-            return Kept::Memory;
+        } else {
+            self.put_first(key, item)?;
         }
         self.asks.raise(*key, version);
-        Kept::Yes
+        Ok(())
+    }
+
+    // Puts the item first, in place of the one that is held at its key.
+    fn put_first(&mut self, key: &Key, item: Item) -> Result<(), OutOfMemory>
+        ensures ok { OnOk result (self.new ≡ record self.old { items = put_entries same_key (lru_cache self.old.items self.old.most) key.now item }) }
+        ensures err { OnErr result (self.new ≡ self.old) }
+    {
+        match self.items.put(*key, item) {
+            Ok(_) => Ok(()),
+            Err(_) => Err(OutOfMemory),
+        }
     }
 
     // Whether a longer list of the item's version is held at the key.
@@ -311,7 +421,7 @@ impl Holdings {
         ensures node { self.new ≡ met shard note self.old }
         ensures meets { MeetsAt shard note self.old.served }
     {
-        shards::meet(self.shards.as_mut_slice(), shard, note);
+        self.shards.meet(shard, note);
     }
 
     /// Takes one touch of a log: what it does to the key's item is done, or the item is dropped, and the
@@ -432,7 +542,7 @@ impl Holdings {
     fn mark(&mut self, shard: u16, position: u64)
         ensures { self.new ≡ record self.old { served = changed_at shard (marking position) self.old.served } }
     {
-        shards::mark(self.shards.as_mut_slice(), shard, position);
+        self.shards.mark(shard, position);
     }
 
     /// Processes entries of the shard's log, one after the other. Takes no memory.
@@ -485,7 +595,7 @@ impl Holdings {
     {
         self.items.clear();
         self.asks.end_all();
-        shards::restart(self.shards.as_mut_slice(), lows, notes);
+        self.shards.restart(lows, notes);
     }
 }
 

@@ -3,8 +3,9 @@ ghost use Rattle.std.specs.Prelude.{◌≡◌, ◌<◌, ◌+◌, ◌↔◌, IfOk
 ghost use Rattle.tao_base.specs.Queries.{query_key};
 ghost use Rattle.tao_base.specs.Keys.{key_shard};
 ghost use Rattle.tao_schema.specs.Schema.{types_of};
-ghost use Rattle.cache_items.specs.Kept.{is_longer as longer};
-ghost use Rattle.cache_items.specs.Look.{bound_of as query_bound, content_answer, content_decides, content_read, item_look};
+ghost use Rattle.sealed_item.specs.Decided.{is_longer_content as longer, IsContentFront, query_bound, content_answer, content_decides, content_read};
+ghost use Rattle.cache_items.specs.HandedOn.{IsFrontItem};
+ghost use Rattle.cache_items.specs.Look.{item_look};
 ghost use Rattle.cache_items.specs.Taken.{StaysBy, changed_content, key_bound};
 
 use crate::look::Look;
@@ -39,6 +40,28 @@ impl Item {
                 version: self.version,
             }),
             None => Ok(Look::Miss),
+        }
+    }
+
+    /// The item cut to its shortest front that decides the query, where it has the version or more and
+    /// has one.
+    pub(crate) fn front(
+        &self,
+        schema: &Schema,
+        query: &Query,
+        floor: u64,
+    ) -> Result<Option<Item>, OutOfMemory>
+        ensures { IfOk result (IsFrontItem (types_of schema.now) query.now floor self.now) }
+    {
+        if self.version < floor {
+            return Ok(None);
+        }
+        match front_of(&self.content, schema, query)? {
+            Some(content) => Ok(Some(Item {
+                version: self.version,
+                content,
+            })),
+            None => Ok(None),
         }
     }
 
@@ -107,6 +130,26 @@ pub fn answer_of(content: &Content, schema: &Schema, query: &Query) -> Result<An
     match read(content, schema, query)? {
         Some(answer) => Ok(answer),
         None => unreachable!(),
+    }
+}
+
+/// The shortest front of the content that decides the query, no longer than the bound of its type.
+fn front_of(
+    content: &Content,
+    schema: &Schema,
+    query: &Query,
+) -> Result<Option<Content>, OutOfMemory>
+    ensures { IfOk result (IsContentFront (types_of schema.now) content.now query.now) }
+{
+    match content {
+        Content::Object(object) => match query {
+            Query::ObjGet { .. } => Ok(Some(Content::Object(copy_of(object)?))),
+            _ => Ok(None),
+        },
+        Content::List(prefix) => match prefix.front(query, bound_of(schema, query))? {
+            Some(front) => Ok(Some(Content::List(front))),
+            None => Ok(None),
+        },
     }
 }
 

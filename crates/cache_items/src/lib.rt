@@ -9,9 +9,10 @@ mod delivered;
 mod holdings;
 mod item;
 mod look;
-mod shards;
+mod unsealed;
 
 pub use delivered::{Delivered, DroppedList, DroppedLists};
 pub use holdings::Holdings;
 pub use item::Item;
 pub use look::{Kept, Look};
+pub use unsealed::Unsealed;

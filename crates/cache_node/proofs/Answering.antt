@@ -22,34 +22,15 @@ use Rattle.list_prefix.specs.ListPrefix.{ListPrefix}
 use Rattle.sealed_item.specs.Fills.{IsExactContent, IsSealed, SealedItem}
 use Rattle.sealed_item.specs.declared.content.Content.{Content}
 use Rattle.sealed_item.specs.declared.content.Content.TheVariants.{Object as ObjectIs, List as ListIs}
+use Rattle.sealed_item.proofs.Deciding.{content_answers}
 use Rattle.cache_items.specs.declared.item.Item.{Item}
 use Rattle.cache_items.specs.declared.look.Look.{Look}
-use Rattle.cache_node.specs.Answered.{IsExactAnswer, LookAnswers, ViewAnswers}
-use Rattle.cache_items.specs.Look.{content_answer, content_decides, look_of}
-use Rattle.cache_items.specs.Node.{Node, ServedShard, item_at, served_at}
+use Rattle.sealed_item.specs.Decided.{IsExactAnswer, content_answer, content_decides}
+use Rattle.cache_node.specs.Answered.{LookAnswers, ViewAnswers}
+use Rattle.cache_items.specs.Look.{look_of}
+use Rattle.cache_items.specs.Node.{Node, item_at}
+use Rattle.served_shards.specs.Served.{ServedShard, served_at}
 use Rattle.cache_node.specs.True.{AreTold, IsTrueNode}
-
--- first edges that decide a query answer as each list of which they are exact
-list_gives : (bound : ℕ) (query : Query) (log : List Entry) (id1 : Id) (atype : AType) (v : ℕ) (prefix : ListPrefix)
-    → IsExact log (Assocs id1 atype) v (λ part. IsPrefixOf prefix.edges prefix.total (edge_list part id1 atype)) → decides bound prefix.edges prefix.total query ≡ true
-    → IsExact log (Assocs id1 atype) v (λ part. list_answer bound prefix.edges prefix.total query ≡ list_answer bound (edge_list part id1 atype) (length (edge_list part id1 atype)) query)
-list_gives bound query log id1 atype v prefix exact decided = record {
-  reached = exact.reached;
-  gives = λ n e. decides_rightly bound prefix.edges prefix.total query decided (edge_list (take n log) id1 atype) (exact.gives n e) (in_order_list (changes_of (take n log) (Assocs id1 atype)));
-}
-
-pub content_answers : (types : EdgeTypes) (log : List Entry) (query : Query) (v : ℕ) (content : Content) → IsExactContent log (query_key query) v content
-    → content_decides types content query ≡ true → IsExactAnswer types log query (content_answer types content query) v
-content_answers types log (ObjGet id) v (ObjectIs found) exact decided = record { reached = exact.reached; gives = λ n e. ap ObjectAnswer (sym (exact.gives n e)) }
-content_answers types log (ObjGet id) v (ListIs prefix) exact decided = absurd exact
-content_answers types log (AssocGet id1 atype ids high low) v (ObjectIs found) exact decided = absurd exact
-content_answers types log (AssocGet id1 atype ids high low) v (ListIs prefix) exact decided = list_gives (types.bound atype) (AssocGet id1 atype ids high low) log id1 atype v prefix exact.exact decided
-content_answers types log (AssocCount id1 atype) v (ObjectIs found) exact decided = absurd exact
-content_answers types log (AssocCount id1 atype) v (ListIs prefix) exact decided = list_gives (types.bound atype) (AssocCount id1 atype) log id1 atype v prefix exact.exact decided
-content_answers types log (AssocRange id1 atype pos limit) v (ObjectIs found) exact decided = absurd exact
-content_answers types log (AssocRange id1 atype pos limit) v (ListIs prefix) exact decided = list_gives (types.bound atype) (AssocRange id1 atype pos limit) log id1 atype v prefix exact.exact decided
-content_answers types log (AssocTimeRange id1 atype high low limit) v (ObjectIs found) exact decided = absurd exact
-content_answers types log (AssocTimeRange id1 atype high low limit) v (ListIs prefix) exact decided = list_gives (types.bound atype) (AssocTimeRange id1 atype high low limit) log id1 atype v prefix exact.exact decided
 
 -- a hit answers as what was seen of the log
 pub look_answers : (types : EdgeTypes) (n : Node) (query : Query) (floor : ℕ) (look : Look) → IsTrueNode n → look ≡ look_of types (item_at n.items (query_key query)) query floor

@@ -20,7 +20,8 @@ use Rattle.cache_items.specs.Kept.{kept_items}
 use Rattle.cache_node.specs.Laws.{ItemsAreFewer, ItemsStayWithin}
 use Rattle.cache_items.specs.Node.{Items, Node, caught_up, item_at, processed}
 use Rattle.cache_items.specs.Taken.{TakesChange, changed_content, changed_item, key_bound}
-use Rattle.cache_node.specs.Within.{AreFewer, AreWithin, IsWithinBound}
+use Rattle.cache_node.specs.Within.{AreFewer, AreWithin}
+use Rattle.sealed_item.specs.Decided.{IsWithinBound}
 
 pub items_are_fewer : (items : Items) (distinct : IsDistinct same_key (keys_held items)) → ItemsAreFewer items distinct
 items_are_fewer items distinct = record {

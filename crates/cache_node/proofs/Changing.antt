@@ -16,7 +16,7 @@ use Rattle.shard_log.specs.View.{longer_view}
 use Rattle.list_prefix.proofs.Exact.{stays_exact}
 use Rattle.list_prefix.specs.Changes.{prefix_after}
 use Rattle.changeset.proofs.ChangeLemmas.{touches_stay}
-use Rattle.changeset.specs.Changes.{IsOneTouch, SeenChange, touch_of}
+use Rattle.changeset.specs.Changes.{IsOneTouch, SeenChange, own_touch}
 use Rattle.sealed_item.specs.Fills.{IsExactContent}
 use Rattle.sealed_item.specs.declared.content.Content.{Content}
 use Rattle.sealed_item.specs.declared.content.Content.TheVariants.{Object as ObjectIs, List as ListIs}
@@ -25,8 +25,9 @@ use Rattle.cache_node.proofs.Raised.{raised_is_true}
 use Rattle.cache_node.proofs.ServedAt.{changed_here, changed_served, told_before}
 use Rattle.cache_node.proofs.Truth.{added_is_true, fewer_is_true, seeing_keeps, met_is_true}
 use Rattle.cache_items.specs.declared.item.Item.{Item}
-use Rattle.cache_items.specs.Meetings.{MeetsAt}
-use Rattle.cache_items.specs.Node.{Items, Node, ServedShard, changed_at, item_at, seeing, met, served_at}
+use Rattle.served_shards.specs.Meetings.{MeetsAt}
+use Rattle.cache_items.specs.Node.{Items, Node, item_at, met}
+use Rattle.served_shards.specs.Served.{ServedShard, changed_at, seeing, served_at}
 use Rattle.cache_items.specs.Taken.{TakesChange, changed_content, changed_item, with_change}
 use Rattle.cache_node.specs.True.{AreTold, IsServed, IsTrueNode}
 
@@ -56,16 +57,16 @@ changed_is_true n c bound items distinct is served meets touch bits takes =
     raised_is_true (record m { items = items }) c.key c.after taken (λ s told was at. reached s told (was.served (key_shard c.key) s at).sound at)
   where
     in_view : (s : ServedShard) → AreTold (changed_at (key_shard c.key) (seeing c.note) n.served) → served_at (key_shard c.key) (changed_at (key_shard c.key) (seeing c.note) n.served) ≡ Some s
-        → IsTouchOf s.view.entries (touch_of c)
+        → IsTouchOf s.view.entries (own_touch c)
     in_view s told at =
         let here = changed_here (key_shard c.key) (seeing c.note) n.served s (seeing_keeps c.note) at in
         let before = told_before (key_shard c.key) (seeing c.note) n.served (seeing_keeps c.note) told (key_shard c.key) here.before here.was in
-        subst (λ s. IsTouchOf s.view.entries (touch_of c)) (sym here.is)
-        (touches_stay.stays c.note (longer_view here.before.view c.note) (touch_of c) (meets.meets here.before here.was).from_note touch.touched before)
+        subst (λ s. IsTouchOf s.view.entries (own_touch c)) (sym here.is)
+        (touches_stay.stays c.note (longer_view here.before.view c.note) (own_touch c) (meets.meets here.before here.was).from_note touch.touched before)
 
     reached : (s : ServedShard) → AreTold (changed_at (key_shard c.key) (seeing c.note) n.served) → IsSound s.view.entries
         → served_at (key_shard c.key) (changed_at (key_shard c.key) (seeing c.note) n.served) ≡ Some s → c.after ≤ version s.view.entries c.key
-    reached s told sound at = touch_reached s.view.entries (touch_of c) sound (in_view s told at)
+    reached s told sound at = touch_reached s.view.entries (own_touch c) sound (in_view s told at)
 
     by_item : IsTrueNode (met (key_shard c.key) c.note n) → (o : Option Item) → item_at n.items c.key ≡ o → TakesChange bound o c n.items items → IsTrueNode (record (met (key_shard c.key) c.note n) { items = items })
     by_item met_true None none same = fewer_is_true (met (key_shard c.key) c.note n) items met_true (λ key item h. subst (λ xs. item_at xs key ≡ Some item) same h)
@@ -82,6 +83,6 @@ changed_is_true n c bound items distinct is served meets touch bits takes =
         let version : c.after ≡ item.version + 1 = let same = takes.0 in omega arith in
         record {
           exact = subst (λ v. IsExactContent s.view.entries c.key v (changed_content item.content c.change bound)) (sym version)
-              (content_follows s.view.entries (touch_of c) c.key item.version item.content bound (was.served (key_shard c.key) s at).sound (in_view s told at) refl version bits before.exact);
+              (content_follows s.view.entries (own_touch c) c.key item.version item.content bound (was.served (key_shard c.key) s at).sound (in_view s told at) refl version bits before.exact);
           reaches = λ p v on there. let le = before.reaches p v on there in omega arith;
         })

@@ -31,8 +31,9 @@ use Rattle.cache_node.proofs.Truth.{added_is_true, asks_are_true, seeing_keeps, 
 use Rattle.cache_items.specs.declared.look.Kept.{Kept}
 use Rattle.cache_items.specs.declared.look.Kept.TheVariants.{Yes, Asks as NoAsk, Lost, Mark, Floor, Memory}
 use Rattle.cache_items.specs.Kept.{GivesKept, admits, ask_at, is_yes, item_of, kept_items, kept_of, own_kept_of, took, with_item}
-use Rattle.cache_items.specs.Meetings.{Meets, MeetsAt}
-use Rattle.cache_items.specs.Node.{Node, ServedShard, with_ended, seeing, met, served_at, top_at}
+use Rattle.served_shards.specs.Meetings.{Meets, MeetsAt}
+use Rattle.cache_items.specs.Node.{Node, with_ended_ask, met}
+use Rattle.served_shards.specs.Served.{ServedShard, seeing, served_at, top_at}
 use Rattle.cache_node.specs.True.{AreTold, IsServed, IsTrueAsk, IsTrueAskOf, IsTrueNode, IsTrueOfLogs, IsTrueServed, touched}
 
 -- an exact content's version is one that the key has reached
@@ -58,7 +59,7 @@ kept_is_true fill n distinct is served can =
     (λ s told was at. content_reached s.view.entries fill.key fill.version fill.content (can s told (is.told told) at).is.exact)
 
 -- the ask ended
-pub ended_is_true : (ask : Option ℕ) (n : Node) → IsTrueNode n → IsTrueNode (with_ended ask n)
+pub ended_is_true : (ask : Option ℕ) (n : Node) → IsTrueNode n → IsTrueNode (with_ended_ask ask n)
 ended_is_true None n is = is
 ended_is_true (Some ask) n is = asks_are_true n (without_ask ask n.asks) is
     (all_filter (λ a. IsServed n.served (key_shard a.key)) (λ a. not (is_numbered ask a)) n.asks.asks is.asks_here)
@@ -172,9 +173,9 @@ own_yes top as_of is = elim (cases_Bool (nat_lt as_of top)) [
 -- a fill that was taken for an ask
 pub took_fill_is_true : (fill : SealedItem) (kept : Kept) (ask : Option ℕ) (n : Node) → IsDistinct same_key (keys_held n.items) → IsTrueNode n → IsServed n.served (key_shard fill.key)
     → MeetsAt (key_shard fill.key) fill.note n.served → IsSealed fill → IfSome ask (λ number. IfSome (ask_at number n.asks) (λ a. a.key ≡ fill.key))
-    → GivesKept (kept_of ask n.asks fill.version fill.as_of) kept → IsTrueNode (took fill kept (with_ended ask n))
+    → GivesKept (kept_of ask n.asks fill.version fill.as_of) kept → IsTrueNode (took fill kept (with_ended_ask ask n))
 took_fill_is_true fill kept ask n distinct is served meets sealed on_key due =
-    took_is_true fill kept (with_ended ask n) (same_items ask) (ended_is_true ask n is) (same_served ask served) (same_meets ask)
+    took_is_true fill kept (with_ended_ask ask n) (same_items ask) (ended_is_true ask n is) (same_served ask served) (same_meets ask)
     (λ keep s told at.
     let admitted = admitted_by ask n.asks fill.version fill.as_of (kept_yes (kept_of ask n.asks fill.version fill.as_of) kept due keep) in
     let logs = is.told (same_told ask told) in
@@ -184,23 +185,23 @@ took_fill_is_true fill kept ask n distinct is served meets sealed on_key due =
     (subst (λ k. served_at (key_shard k) n.served ≡ Some s) (sym key) there) in
     ask_reaches fill s admitted.found (meets.meets s there) (same_told ask told (key_shard fill.key) s there) (logs.served (key_shard fill.key) s there) true_ask key admitted.mark admitted.floor sealed)
   where
-    same_items : (ask : Option ℕ) → IsDistinct same_key (keys_held (with_ended ask n).items)
+    same_items : (ask : Option ℕ) → IsDistinct same_key (keys_held (with_ended_ask ask n).items)
     same_items None = distinct
     same_items (Some number) = distinct
 
-    same_served : (ask : Option ℕ) → IsServed n.served (key_shard fill.key) → IsServed (with_ended ask n).served (key_shard fill.key)
+    same_served : (ask : Option ℕ) → IsServed n.served (key_shard fill.key) → IsServed (with_ended_ask ask n).served (key_shard fill.key)
     same_served None h = h
     same_served (Some number) h = h
 
-    same_meets : (ask : Option ℕ) → MeetsAt (key_shard fill.key) fill.note (with_ended ask n).served
+    same_meets : (ask : Option ℕ) → MeetsAt (key_shard fill.key) fill.note (with_ended_ask ask n).served
     same_meets None = meets
     same_meets (Some number) = meets
 
-    same_told : (ask : Option ℕ) → AreTold (with_ended ask n).served → AreTold n.served
+    same_told : (ask : Option ℕ) → AreTold (with_ended_ask ask n).served → AreTold n.served
     same_told None told = told
     same_told (Some number) told = told
 
-    same_at : (ask : Option ℕ) (s : ServedShard) → served_at (key_shard fill.key) (with_ended ask n).served ≡ Some s → served_at (key_shard fill.key) n.served ≡ Some s
+    same_at : (ask : Option ℕ) (s : ServedShard) → served_at (key_shard fill.key) (with_ended_ask ask n).served ≡ Some s → served_at (key_shard fill.key) n.served ≡ Some s
     same_at None s at = at
     same_at (Some number) s at = at
 

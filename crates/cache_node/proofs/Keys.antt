@@ -25,7 +25,7 @@ same_key-symm x y = elim (cases_Bool (same_key x y)) [
   ]
 ]
 
-key_laws : IsEquivalence same_key
+pub key_laws : IsEquivalence same_key
 key_laws = record { refl = same_key-self; symm = same_key-symm; congr = λ x y z h. ap (λ k. same_key k z) (same_key-same x y h) }
 
 -- what is held without a key

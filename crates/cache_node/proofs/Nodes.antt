@@ -33,9 +33,11 @@ use Rattle.cache_items.specs.declared.look.Kept.{Kept}
 use Rattle.cache_items.specs.declared.look.Look.{Look}
 use Rattle.cache_items.specs.Kept.{GivesKept, ask_at, kept_of, own_kept_of, took}
 use Rattle.cache_node.specs.Answered.{LookAnswers, ViewAnswers}
-use Rattle.cache_items.specs.Look.{content_answer, content_decides, is_hit, look_of}
-use Rattle.cache_items.specs.Meetings.{MeetsAt}
-use Rattle.cache_items.specs.Node.{Node, ServedShard, caught_up, changed_at, delivered, with_ended, forgetting, item_at, log_at, low_at, seeing, met, served_at, top_at, with_opened, without, without_last}
+use Rattle.sealed_item.specs.Decided.{content_answer, content_decides}
+use Rattle.cache_items.specs.Look.{is_hit, look_of}
+use Rattle.served_shards.specs.Meetings.{MeetsAt}
+use Rattle.cache_items.specs.Node.{Node, caught_up, delivered, with_ended_ask, item_at, met, with_opened_ask, without, without_last}
+use Rattle.served_shards.specs.Served.{ServedShard, changed_at, forgetting, log_at, low_at, seeing, served_at, top_at}
 use Rattle.cache_items.specs.Taken.{TakesChange, with_change}
 use Rattle.cache_node.specs.True.{IsServed, IsTrueAskOf, IsTrueNode}
 
@@ -68,7 +70,7 @@ looked old new key (Ok look) distinct is same same_err = subst IsTrueNode (sym s
     by_hit false = is
 looked old new key (Err e) distinct is same same_err = subst IsTrueNode (sym same_err) is
 
-opened_is_true : (n : Node) (key : Key) → IsTrueNode n → IsServed n.served (key_shard key) → IsTrueNode (with_opened key n)
+opened_is_true : (n : Node) (key : Key) → IsTrueNode n → IsServed n.served (key_shard key) → IsTrueNode (with_opened_ask key n)
 opened_is_true n key is served =
     let shard : ℕ = key_shard key in
     let m : Node = record n { served = changed_at (key_shard key) forgetting n.served } in
@@ -93,17 +95,17 @@ opened_is_true n key is served =
       tt,
     ))
 
-pub opened : {X : Type 0} (old new : Node) (key : Key) (r : Option X) → IsTrueNode old → IsServed old.served (key_shard key) → OnSome r (new ≡ with_opened key old) → IfNone r (new ≡ old) → IsTrueNode new
+pub opened : {X : Type 0} (old new : Node) (key : Key) (r : Option X) → IsTrueNode old → IsServed old.served (key_shard key) → OnSome r (new ≡ with_opened_ask key old) → IfNone r (new ≡ old) → IsTrueNode new
 opened old new key (Some x) is served same same_none = subst IsTrueNode (sym same) (opened_is_true old key is served)
 opened old new key None is served same same_none = subst IsTrueNode (sym same_none) is
 
-pub ask_ended : (old new : Node) (ask : ℕ) → IsTrueNode old → new ≡ with_ended (Some ask) old → IsTrueNode new
+pub ask_ended : (old new : Node) (ask : ℕ) → IsTrueNode old → new ≡ with_ended_ask (Some ask) old → IsTrueNode new
 ask_ended old new ask is same = subst IsTrueNode (sym same) (ended_is_true (Some ask) old is)
 
 pub filled : {E : Type 0} (old new : Node) (fill : SealedItem) (ask : Option ℕ) (r : Result (Answer × Kept) E) → IsDistinct same_key (keys_held old.items) → IsTrueNode old
     → log_at (key_shard fill.key) old.served ≡ Some fill.note.log → IsSealed fill → IfSome ask (λ number. IfSome (ask_at number old.asks) (λ a. a.key ≡ fill.key))
     → IfOk r (λ x. MeetsAt (key_shard fill.key) fill.note old.served) → IfOk r (λ x. GivesKept (kept_of ask old.asks fill.version fill.as_of) x.1)
-    → IfOk r (λ x. new ≡ took fill x.1 (with_ended ask old)) → OnErr r (new ≡ with_ended ask old) → IsTrueNode new
+    → IfOk r (λ x. new ≡ took fill x.1 (with_ended_ask ask old)) → OnErr r (new ≡ with_ended_ask ask old) → IsTrueNode new
 filled old new fill ask (Ok x) distinct is log sealed on_key meets due same same_err =
     subst IsTrueNode (sym same) (took_fill_is_true fill x.1 ask old distinct is (is_served old.served (key_shard fill.key) fill.note.log log) meets sealed on_key due)
 filled old new fill ask (Err e) distinct is log sealed on_key meets due same same_err = subst IsTrueNode (sym same_err) (ended_is_true ask old is)

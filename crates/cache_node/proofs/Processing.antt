@@ -29,7 +29,8 @@ use Rattle.cache_node.proofs.Keys.{distinct_without, held_fewer, held_gone}
 use Rattle.cache_node.proofs.Raised.{floors_reach, raised_is_true}
 use Rattle.cache_node.proofs.ServedAt.{changed_there}
 use Rattle.cache_node.proofs.Truth.{CanMark, fewer_is_true, marked_is_true, marking_keeps}
-use Rattle.cache_items.specs.Node.{Items, Node, ServedShard, caught_up, changed_at, dropped, item_at, is_stale, marking, processed, raised_all, served_at, without}
+use Rattle.cache_items.specs.Node.{Items, Node, caught_up, dropped, item_at, is_stale, processed, raised_all, without}
+use Rattle.served_shards.specs.Served.{ServedShard, changed_at, marking, served_at}
 use Rattle.cache_node.specs.True.{AreTold, IsTrueNode, IsTrueOfLogs, touched, version_among}
 use Rattle.cache_items.specs.declared.item.Item.{Item}
 

@@ -9,12 +9,13 @@ use Rattle.tao_base.specs.Keys.{key_shard, same_key}
 use Rattle.graph_model.specs.Log.{version}
 use Rattle.ask_table.specs.declared.ask.Ask.{Ask}
 use Rattle.ask_table.specs.Asks.{Asks, with_floor}
-use Rattle.ask_table.specs.Open.{raised}
+use Rattle.ask_table.specs.Open.{raised_ask}
 use Rattle.maint_msg.specs.declared.key_versions.KeyVersion.{KeyVersion}
 use Rattle.lru.proofs.Splits.{all_map}
 use Rattle.graph_model.proofs.Later.{all_map as all_weaker}
 use Rattle.cache_node.proofs.Truth.{asks_are_true}
-use Rattle.cache_items.specs.Node.{Node, ServedShard, raised_all, served_at}
+use Rattle.cache_items.specs.Node.{Node, raised_all}
+use Rattle.served_shards.specs.Served.{ServedShard, served_at}
 use Rattle.cache_node.specs.True.{AreTold, IsServed, IsTrueAsk, IsTrueAskOf, IsTrueNode, IsTrueOfLogs, touched, version_among}
 
 -- a raise keeps the key and the mark, and raises the floor to the version where the ask is on the key
@@ -25,7 +26,7 @@ pub record Raise (key : Key) (v : ℕ) (a after : Ask) : Type 0 where
   pub reaches : same_key a.key key ≡ true → v ≤ after.floor
   pub least : (bound : ℕ) → a.floor ≤ bound → (same_key a.key key ≡ true → v ≤ bound) → after.floor ≤ bound
 
-pub raise_is : (key : Key) (v : ℕ) (a : Ask) → Raise key v a (raised key v a)
+pub raise_is : (key : Key) (v : ℕ) (a : Ask) → Raise key v a (raised_ask key v a)
 raise_is key v a = elim (same_key a.key key) as (λ b. same_key a.key key ≡ b → Raise key v a (cond b (record a { floor = max a.floor v }) a)) [
   | true ↦ λ on. record { key_is = refl; mark_is = refl; rises = omega arith; reaches = λ same. omega arith; least = λ bound le up. let high = up on in omega arith }
   | false ↦ λ off. record { key_is = refl; mark_is = refl; rises = omega arith; reaches = λ same. absurd (both_ways (same_key a.key key) off same); least = λ bound le up. le }
@@ -46,14 +47,14 @@ raise_true s key v a after raise high is = record {
 pub raised_is_true : (n : Node) (key : Key) (v : ℕ) → IsTrueNode n
     → ((s : ServedShard) → AreTold n.served → IsTrueOfLogs n → served_at (key_shard key) n.served ≡ Some s → v ≤ version s.view.entries key) → IsTrueNode (record n { asks = with_floor key v n.asks })
 raised_is_true n key v is high = asks_are_true n (with_floor key v n.asks) is
-    (all_map (raised key v) (λ a. IsServed n.served (key_shard a.key)) n.asks.asks
-    (all_weaker (λ a. IsServed n.served (key_shard a.key)) (λ a. IsServed n.served (key_shard (raised key v a).key))
+    (all_map (raised_ask key v) (λ a. IsServed n.served (key_shard a.key)) n.asks.asks
+    (all_weaker (λ a. IsServed n.served (key_shard a.key)) (λ a. IsServed n.served (key_shard (raised_ask key v a).key))
     (λ a h. subst (λ k. IsServed n.served (key_shard k)) (sym (raise_is key v a).key_is) h) n.asks.asks is.asks_here))
-    (λ told was. all_map (raised key v) (IsTrueAskOf n.served) n.asks.asks
-    (all_weaker (IsTrueAskOf n.served) (λ a. IsTrueAskOf n.served (raised key v a)) (λ a h s at.
+    (λ told was. all_map (raised_ask key v) (IsTrueAskOf n.served) n.asks.asks
+    (all_weaker (IsTrueAskOf n.served) (λ a. IsTrueAskOf n.served (raised_ask key v a)) (λ a h s at.
     let raise = raise_is key v a in
     let there : served_at (key_shard a.key) n.served ≡ Some s = subst (λ k. served_at (key_shard k) n.served ≡ Some s) raise.key_is at in
-    raise_true s key v a (raised key v a) raise (λ same.
+    raise_true s key v a (raised_ask key v a) raise (λ same.
     let k : a.key ≡ key = same_key-same a.key key same in
     subst (λ k. v ≤ version s.view.entries k) (sym k) (high s told was (subst (λ k. served_at (key_shard k) n.served ≡ Some s) k there)))
     (h s there)) n.asks.asks was.asks))
@@ -61,7 +62,7 @@ raised_is_true n key v is high = asks_are_true n (with_floor key v n.asks) is
 -- an ask raised by each of the keys
 abbrev pub raised_by : List KeyVersion → Ask → Ask
 raised_by [] a = a
-raised_by (k ∷ ks) a = raised_by ks (raised k.key k.version a)
+raised_by (k ∷ ks) a = raised_by ks (raised_ask k.key k.version a)
 
 -- all asks are raised by each of the keys
 pub raised_all_is : (ks : List KeyVersion) (t : Asks) → (raised_all ks t).asks ≡ map (raised_by ks) t.asks
@@ -72,9 +73,9 @@ raised_all_is [] t = same t.asks
     same (a ∷ l) = ap (λ xs. a ∷ xs) (same l)
 raised_all_is (k ∷ ks) t = raised_all_is ks (with_floor k.key k.version t) ∙ twice t.asks
   where
-    twice : (l : List Ask) → map (raised_by ks) (map (raised k.key k.version) l) ≡ map (raised_by (k ∷ ks)) l
+    twice : (l : List Ask) → map (raised_by ks) (map (raised_ask k.key k.version) l) ≡ map (raised_by (k ∷ ks)) l
     twice [] = refl
-    twice (a ∷ l) = ap (λ xs. raised_by ks (raised k.key k.version a) ∷ xs) (twice l)
+    twice (a ∷ l) = ap (λ xs. raised_by ks (raised_ask k.key k.version a) ∷ xs) (twice l)
 
 -- raises keep the key, and the floor is at least each version that is named for it
 pub record Raises (ks : List KeyVersion) (a after : Ask) : Type 0 where
@@ -86,7 +87,7 @@ pub raises_are : (ks : List KeyVersion) (a : Ask) → Raises ks a (raised_by ks 
 raises_are [] a = record { key_is = refl; rises = omega arith; reaches = λ v none. absurd (cc) }
 raises_are (k ∷ ks) a =
     let one = raise_is k.key k.version a in
-    let rest = raises_are ks (raised k.key k.version a) in
+    let rest = raises_are ks (raised_ask k.key k.version a) in
     record {
       key_is = rest.key_is ∙ one.key_is;
       rises = let low = one.rises in let high = rest.rises in omega arith;

@@ -10,7 +10,8 @@ use Rattle.maint_msg.specs.KeyVersions.{keys_of}
 use Rattle.cache_node.proofs.ServedAt.{changed_there}
 use Rattle.cache_node.proofs.Truth.{marking_keeps}
 use Rattle.cache_node.specs.Laws.{CatchingUpReaches, FollowFrom}
-use Rattle.cache_items.specs.Node.{Node, ServedShard, caught_up, changed_at, marking, processed, served_at}
+use Rattle.cache_items.specs.Node.{Node, caught_up, processed}
+use Rattle.served_shards.specs.Served.{ServedShard, changed_at, marking, served_at}
 
 -- the position after a low-water mark that is not above it raises it so far
 mark_reaches : (m : Marks) (low : ℕ) → IsWindow m → low ≤ m.low → low + 1 ≤ (with_mark (low + 1) m).low

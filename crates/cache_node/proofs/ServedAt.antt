@@ -4,8 +4,8 @@ use Rattle.std.proofs.lemmas.Bool.{cases_Bool, eqb-true, eqb-false, ne_eqb}
 use Rattle.std.specs.Option.{option_map}
 use Rattle.std.specs.Prelude.{◌==◌, IsSome}
 use Rattle.cache_node.specs.Laws.{KeepsShard, ServedChanges}
-use Rattle.cache_items.specs.Node.{ServedShard, changed_at, served_at}
-use Rattle.cache_node.specs.True.{AreTold, IsServed}
+use Rattle.served_shards.specs.Served.{ServedShard, changed_at, served_at}
+use Rattle.cache_node.specs.True.{AreAlike, AreTold, IsServed}
 
 -- it stays what is had of that shard's log
 pub record KeepsLog (f : ServedShard → ServedShard) : Type 0 where
@@ -80,6 +80,22 @@ changed_served shard k f ss keeps served = by_option (served_at k ss) refl serve
     by_option : (o : Option ServedShard) → served_at k ss ≡ o → IsSome o → IsServed (changed_at shard f ss) k
     by_option None is none = absurd (cc)
     by_option (Some s) is some = let r = changed_some shard k f ss s keeps is in some_is (served_at k (changed_at shard f ss)) r.0 r.1
+
+-- what is had of a shard afterwards is of a log that was had of it before
+pub changed_back : (shard k : ℕ) (f : ServedShard → ServedShard) (ss : List ServedShard) (after : ServedShard) → KeepsLog f → served_at k (changed_at shard f ss) ≡ Some after
+    → (before : ServedShard) × (served_at k ss ≡ Some before) × (after.view.log ≡ before.view.log)
+changed_back shard k f ss after keeps h = elim (changed_cases shard k f ss after keeps h) [
+  | inl c ↦ (c.before, ap (λ n. served_at n ss) c.here ∙ c.was, ap (λ (s : ServedShard). s.view.log) c.is ∙ keeps.log c.before)
+  | inr same ↦ (after, same, refl)
+]
+
+-- logs that are told alike stay so
+pub alike_stays : (ss after : List ServedShard) → ((k : ℕ) (s : ServedShard) → served_at k after ≡ Some s → (before : ServedShard) × (served_at k ss ≡ Some before) × (s.view.log ≡ before.view.log))
+    → AreAlike ss → AreAlike after
+alike_stays ss after back alike i j s t at_s at_t =
+    let a = back i s at_s in
+    let b = back j t at_t in
+    ap (λ l. l.told) a.2 ∙ alike i j a.0 b.0 a.1 b.1 ∙ ap (λ l. l.told) (sym b.2)
 
 -- the logs are told where they are afterwards
 pub told_before : (shard : ℕ) (f : ServedShard → ServedShard) (ss : List ServedShard) → KeepsLog f → AreTold (changed_at shard f ss) → AreTold ss

@@ -17,9 +17,10 @@ use Rattle.low_water.specs.Marks.{Marks, is_marked, marks, with_mark}
 use Rattle.ask_table.specs.declared.ask.Ask.{Ask}
 use Rattle.ask_table.specs.Asks.{Asks}
 use Rattle.sealed_item.proofs.FillLemmas.{content_stays}
-use Rattle.cache_node.proofs.ServedAt.{KeepsLog, changed_cases, changed_served, told_before}
-use Rattle.cache_items.specs.Meetings.{Meets, MeetsAt}
-use Rattle.cache_items.specs.Node.{Items, Node, ServedShard, changed_at, forgetting, item_at, marking, seeing, met, served_at}
+use Rattle.cache_node.proofs.ServedAt.{KeepsLog, alike_stays, changed_back, changed_cases, changed_served, told_before}
+use Rattle.served_shards.specs.Meetings.{Meets, MeetsAt}
+use Rattle.cache_items.specs.Node.{Items, Node, item_at, met}
+use Rattle.served_shards.specs.Served.{ServedShard, changed_at, forgetting, marking, seeing, served_at}
 use Rattle.cache_node.specs.True.{AreTold, IsServed, IsTrueAsk, IsTrueAskOf, IsTrueItem, IsTrueNode, IsTrueOfLogs, IsTrueServed, touched}
 use Rattle.cache_node.specs.Within.{AreFewer}
 use Rattle.cache_items.specs.declared.item.Item.{Item}
@@ -36,6 +37,7 @@ change_served n shard f keeps is step = record {
   items_here = λ key item h. changed_served shard (key_shard key) f n.served keeps (is.items_here key item h);
   asks_here = all_weaker (λ a. IsServed n.served (key_shard a.key)) (λ a. IsServed (changed_at shard f n.served) (key_shard a.key))
       (λ a h. changed_served shard (key_shard a.key) f n.served keeps h) n.asks.asks is.asks_here;
+  alike = alike_stays n.served (changed_at shard f n.served) (λ k s at. changed_back shard k f n.served s keeps at) is.alike;
   told = λ told.
       let before = told_before shard f n.served keeps told in
       let was = is.told before in
@@ -172,6 +174,7 @@ pub fewer_is_true : (n : Node) (items : Items) → IsTrueNode n → AreFewer n.i
 fewer_is_true n items is fewer = record {
   items_here = λ key item h. is.items_here key item (fewer key item h);
   asks_here = is.asks_here;
+  alike = is.alike;
   told = λ told. let was = is.told told in record {
     served = was.served;
     items = λ key item s h at. was.items key item s (fewer key item h) at;
@@ -191,6 +194,7 @@ added_is_true n items key new is cases served true_item = record {
     | inr was ↦ is.items_here q item was
   ];
   asks_here = is.asks_here;
+  alike = is.alike;
   told = λ told. let was = is.told told in record {
     served = was.served;
     items = λ q item s h at. elim (cases q item h) [
@@ -209,5 +213,6 @@ pub asks_are_true : (n : Node) (asks : Asks) → IsTrueNode n → AllByRecursion
 asks_are_true n asks is here true_asks = record {
   items_here = is.items_here;
   asks_here = here;
+  alike = is.alike;
   told = λ told. let was = is.told told in record { served = was.served; items = was.items; asks = true_asks told was };
 }

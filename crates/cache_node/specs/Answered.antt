@@ -1,23 +1,17 @@
 -- Whose answer it is that a node gives.
-use Rattle.std.specs.Prelude.{◌≡◌, ℕ, ⊤, List, IsSomeAnd}
+use Rattle.std.specs.Prelude.{ℕ, ⊤, List, IsSomeAnd}
 use Rattle.tao_base.specs.EdgeTypes.{EdgeTypes}
-use Rattle.tao_base.specs.declared.entry.Entry.{Entry}
 use Rattle.tao_base.specs.declared.query.Answer.{Answer}
 use Rattle.tao_base.specs.declared.query.Query.{Query}
-use Rattle.graph_model.specs.Answers.{answer as log_answer}
 use Rattle.tao_base.specs.Queries.{query_key}
 use Rattle.tao_base.specs.Keys.{key_shard}
-use Rattle.graph_model.specs.Prefixes.{IsExact}
 use Rattle.graph_model.specs.Told.{WhereTold}
 use Rattle.shard_log.specs.View.{View}
-use Rattle.cache_items.specs.Node.{ServedShard, served_at}
+use Rattle.sealed_item.specs.Decided.{IsExactAnswer}
+use Rattle.served_shards.specs.Served.{ServedShard, served_at}
 use Rattle.cache_node.specs.True.{AreTold}
 use Rattle.cache_items.specs.declared.look.Look.{Look}
 use Rattle.cache_items.specs.declared.look.Look.TheVariants.{Hit, Miss}
-
--- the log has reached the version, and each beginning of that version answers so
-abbrev pub IsExactAnswer : EdgeTypes → List Entry → Query → Answer → ℕ → Type 0
-IsExactAnswer types log query given version = IsExact log (query_key query) version (λ part. given ≡ log_answer types part query)
 
 -- where the log is told, what was seen of it answers so
 abbrev pub ViewAnswers : EdgeTypes → View → Query → Answer → ℕ → Type 0

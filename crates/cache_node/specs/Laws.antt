@@ -2,7 +2,7 @@
 use Rattle.std.specs.List.{IsDistinct}
 use Rattle.std.specs.Map.{keys_of as keys_held}
 use Rattle.std.specs.Option.{option_map}
-use Rattle.std.specs.Prelude.{◌≡◌, ℕ, ⊤, ◌+◌, ◌≤◌, ◌==◌, false, List, [], ◌∷◌, take, length, Some}
+use Rattle.std.specs.Prelude.{◌≡◌, ℕ, ⊤, ◌+◌, ◌≤◌, ◌==◌, true, false, List, [], ◌∷◌, take, length, Some}
 use Rattle.tao_base.specs.EdgeTypes.{EdgeTypes}
 use Rattle.tao_base.specs.declared.entry.Entry.{Entry}
 use Rattle.tao_base.specs.declared.id.Key.{Key}
@@ -16,13 +16,18 @@ use Rattle.low_water.specs.Marks.{IsWindow}
 use Rattle.lru.specs.LruCache.{promoted}
 use Rattle.changeset.specs.Changes.{SeenChange}
 use Rattle.maint_msg.specs.declared.key_versions.KeyVersion.{KeyVersion}
-use Rattle.cache_node.specs.Answered.{IsExactAnswer}
-use Rattle.cache_items.specs.Kept.{kept_items}
-use Rattle.cache_items.specs.Node.{Items, Node, ServedShard, caught_up as node_caught_up, changed_at, dropped, served_at, without, without_last}
+use Rattle.sealed_item.specs.Decided.{IsExactAnswer, IsWithinBound, content_answer, content_decides}
+use Rattle.cache_items.specs.Kept.{item_of, kept_items, stays}
+use Rattle.cache_items.specs.Look.{look_of}
+use Rattle.cache_items.specs.Node.{Items, Node, caught_up as node_caught_up, dropped, item_at, without, without_last}
+use Rattle.served_shards.specs.Served.{ServedShard, changed_at, served_at}
 use Rattle.cache_items.specs.Taken.{ChangesItems}
 use Rattle.cache_node.specs.True.{IsTrueItem, IsTrueServed}
-use Rattle.cache_node.specs.Within.{AreFewer, AreWithin, IsWithinBound}
+use Rattle.cache_node.specs.Within.{AreFewer, AreWithin}
 use Rattle.cache_items.specs.declared.item.Item.{Item}
+use Rattle.cache_items.specs.declared.look.Look.TheVariants.{Hit}
+use Rattle.sealed_item.specs.Fills.{IsExactContent, SealedItem}
+use Rattle.tao_base.specs.Queries.{query_key}
 
 -- an answer of what was seen of a log is a legal one of each log that it begins, for each floor that its version has reached
 pub record AnswersAreLegal : Type 0 where
@@ -76,3 +81,25 @@ pub record CaughtUp (shard : ℕ) (entries : List Entry) (s : ServedShard) (afte
 pub record CatchingUpReaches : Type 0 where
   pub caught_up : (shard : ℕ) (entries : List Entry) (n : Node) (s : ServedShard) → served_at shard n.served ≡ Some s → IsWindow s.marks
       → FollowFrom s.marks.low entries → CaughtUp shard entries s (node_caught_up shard entries n).served
+
+-- what is held at a key is exact in the log
+abbrev pub IsExactAt : List Entry → Items → Key → Type 0
+IsExactAt log items key = (item : Item) → item_at items key ≡ Some item → IsExactContent log key item.version item.content
+
+-- a query that a node just answered from an item it answers again, with each floor that the item's version has reached
+pub record AnswersRepeat : Type 0 where
+  -- after a hit
+  pub hit : (types : EdgeTypes) (items : Items) (query : Query) (floor again at : ℕ) (given : Answer)
+      → look_of types (item_at items (query_key query)) query floor ≡ Hit given at → again ≤ at
+      → look_of types (item_at (promoted (same_key (query_key query)) items) (query_key query)) query again ≡ Hit given at
+  -- after a fill that decides it was kept
+  pub kept : (types : EdgeTypes) (items : Items) (most : ℕ) (query : Query) (again : ℕ) (fill : SealedItem) → content_decides types fill.content query ≡ true
+      → stays (item_at items (query_key query)) (item_of fill) ≡ false → again ≤ fill.version
+      → look_of types (item_at (kept_items items most (query_key query) (item_of fill)) (query_key query)) query again
+      ≡ Hit (content_answer types fill.content query) fill.version
+  -- also where a longer list of its version was held, which stays: in a log in which both are exact
+  pub kept_beside : (types : EdgeTypes) (log : List Entry) (items : Items) (most : ℕ) (query : Query) (again : ℕ) (fill : SealedItem)
+      → IsExactAt log items (query_key query) → IsExactContent log (query_key query) fill.version fill.content
+      → content_decides types fill.content query ≡ true → again ≤ fill.version
+      → look_of types (item_at (kept_items items most (query_key query) (item_of fill)) (query_key query)) query again
+      ≡ Hit (content_answer types fill.content query) fill.version

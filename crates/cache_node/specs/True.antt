@@ -13,7 +13,8 @@ use Rattle.maint_msg.specs.KeyVersions.{keys_of}
 use Rattle.maint_msg.specs.declared.key_versions.KeyVersion.{KeyVersion}
 use Rattle.sealed_item.specs.Fills.{IsExactContent}
 use Rattle.cache_items.specs.declared.item.Item.{Item}
-use Rattle.cache_items.specs.Node.{Node, ServedShard, item_at, served_at}
+use Rattle.cache_items.specs.Node.{Node, item_at}
+use Rattle.served_shards.specs.Served.{ServedShard, served_at}
 
 -- the version that a touch of the key gives it, if there is one
 abbrev pub version_among : List KeyVersion → Key → Option ℕ
@@ -44,6 +45,10 @@ pub record IsTrueAsk (s : ServedShard) (a : Ask) : Type 0 where
 abbrev pub AreTold : List ServedShard → Type 0
 AreTold served = (shard : ℕ) (s : ServedShard) → served_at shard served ≡ Some s → s.view.log.told ≡ true
 
+-- the logs of the served shards are told all, or none
+abbrev pub AreAlike : List ServedShard → Type 0
+AreAlike served = (i j : ℕ) (s t : ServedShard) → served_at i served ≡ Some s → served_at j served ≡ Some t → s.view.log.told ≡ t.view.log.told
+
 -- the shard is one that the node serves
 abbrev pub IsServed : List ServedShard → ℕ → Type 0
 IsServed served shard = IsSome (served_at shard served)
@@ -59,8 +64,9 @@ pub record IsTrueOfLogs (n : Node) : Type 0 where
       → IsTrueItem s key item
   pub asks : AllByRecursion (IsTrueAskOf n.served) n.asks.asks
 
--- each item and each open ask is of a served shard, and where the logs are told, all is true of them
+-- each item and each open ask is of a served shard, the logs are told all or none, and where the logs are told, all is true of them
 pub record IsTrueNode (n : Node) : Type 0 where
   pub items_here : (key : Key) (item : Item) → item_at n.items key ≡ Some item → IsServed n.served (key_shard key)
   pub asks_here : AllByRecursion (λ a. IsServed n.served (key_shard a.key)) n.asks.asks
+  pub alike : AreAlike n.served
   pub told : AreTold n.served → IsTrueOfLogs n

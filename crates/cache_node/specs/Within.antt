@@ -1,18 +1,10 @@
 -- Items that are no longer than the bounds of their types. What is exact says nothing of a bound: it is the schema's, which a call is lent.
-use Rattle.std.specs.Prelude.{◌≡◌, ⊤, ◌≤◌, length, Some}
+use Rattle.std.specs.Prelude.{◌≡◌, Some}
 use Rattle.tao_base.specs.EdgeTypes.{EdgeTypes}
 use Rattle.tao_base.specs.declared.id.Key.{Key}
-use Rattle.tao_base.specs.declared.id.Key.TheVariants.{Obj, List as Assocs}
-use Rattle.sealed_item.specs.declared.content.Content.{Content}
-use Rattle.sealed_item.specs.declared.content.Content.TheVariants.{Object as ObjectIs, List as ListIs}
+use Rattle.sealed_item.specs.Decided.{IsWithinBound}
 use Rattle.cache_items.specs.declared.item.Item.{Item}
 use Rattle.cache_items.specs.Node.{Items, item_at}
-
--- a list has no more edges than the bound of its type
-abbrev pub IsWithinBound : EdgeTypes → Key → Content → Type 0
-IsWithinBound types (Assocs id1 atype) (ListIs prefix) = length prefix.edges ≤ types.bound atype
-IsWithinBound types (Assocs id1 atype) (ObjectIs found) = ⊤
-IsWithinBound types (Obj id) content = ⊤
 
 abbrev pub AreWithin : EdgeTypes → Items → Type 0
 AreWithin types items = (key : Key) (item : Item) → item_at items key ≡ Some item → IsWithinBound types key item.content

@@ -3,14 +3,21 @@ ghost use Rattle.std.specs.List.{IsDistinct};
 ghost use Rattle.std.specs.Map.{keys_of as keys_held};
 ghost use Rattle.tao_base.specs.EdgeTypes.{EdgeTypes};
 ghost use Rattle.tao_base.specs.Keys.{same_key};
-ghost use Rattle.cache_node.specs.Laws.{AnswersAreLegal, CatchingUpReaches, ItemsAreFewer, ItemsReachTheMark, ItemsStayWithin, ServedChanges};
-ghost use Rattle.cache_items.specs.Node.{Items, ServedShard};
+ghost use Rattle.cache_node.specs.Laws.{AnswersAreLegal, AnswersRepeat, CatchingUpReaches, ItemsAreFewer, ItemsReachTheMark, ItemsStayWithin, ServedChanges};
+ghost use Rattle.cache_items.specs.Node.{Items};
+ghost use Rattle.served_shards.specs.Served.{ServedShard};
 ghost use Rattle.std.specs.Prelude.{ℕ, List};
 
 /// What a node answers is a legal answer.
 #[tactic(auto, using(crate::proofs::LegalAnswers::answers_are_legal))]
 pub fn answers_are_legal()
     ensures { AnswersAreLegal }
+{}
+
+/// What a node just answered it answers again.
+#[tactic(auto, using(crate::proofs::Repeating::answers_repeat))]
+pub fn answers_repeat()
+    ensures { AnswersRepeat }
 {}
 
 /// What a node holds takes in everything up to its low-water mark.

@@ -4,16 +4,19 @@ ghost use Rattle.std.specs.List.{IsDistinct};
 ghost use Rattle.std.specs.Map.{keys_of as keys_held};
 ghost use Rattle.lru.specs.LruCache.{last_entry, promoted};
 ghost use Rattle.ask_table.specs.Asks.{IsTable, is_full};
-ghost use Rattle.tao_base.specs.Queries.{query_key};
+ghost use Rattle.tao_base.specs.Queries.{query_key, query_shard};
 ghost use Rattle.tao_base.specs.Keys.{key_shard, same_key};
 ghost use Rattle.graph_model.specs.Told.{WhereTold};
 ghost use Rattle.tao_schema.specs.Schema.{types_of};
 ghost use Rattle.cache_node.specs.Answered.{LookAnswers, ViewAnswers};
 ghost use Rattle.cache_items.specs.Delivered.{AreSome, dropped_lists};
-ghost use Rattle.cache_items.specs.Fields.{AreNotesOf, AreReached, begun_at, empty_node, emptied};
+ghost use Rattle.served_shards.specs.Begun.{AreNotesOf, AreReached, AreToldAlike, begun_at};
+ghost use Rattle.cache_items.specs.Node.{empty_node, emptied, caught_up, delivered, drop_count, with_ended_ask, item_at, met, with_opened_ask, without, without_last};
+ghost use Rattle.cache_items.specs.HandedOn.{HandsOn, handed_on, with_copy};
 ghost use Rattle.cache_items.specs.Kept.{GivesKept, ask_at, kept_of, own_kept_of, took};
-ghost use Rattle.cache_items.specs.Look.{content_answer, content_decides, look_of, looked_at};
-ghost use Rattle.cache_items.specs.Node.{IsLowWater, caught_up, delivered, drop_count, with_ended, item_at, log_at, low_at, met, served_at, top_at, view_at, with_opened, without, without_last};
+ghost use Rattle.sealed_item.specs.Decided.{content_answer, content_decides};
+ghost use Rattle.cache_items.specs.Look.{look_of, looked_at};
+ghost use Rattle.served_shards.specs.Served.{IsLowWater, log_at, low_at, served_at, top_at, view_at};
 ghost use Rattle.cache_items.specs.Taken.{ChangesItems, with_change};
 ghost use Rattle.cache_node.specs.True.{IsTrueNode};
 
@@ -64,7 +67,8 @@ pub fn nodes_are_true(node: &CacheNode)
 }
 
 impl CacheNode {
-    /// A node without items and asks, with a mark and a note for each shard that it serves.
+    /// A node without items and asks, with a mark and a note for each shard that it serves. The logs are
+    /// told all, or none, as the tables of a keeper are.
     pub fn make(
         alloc: Global,
         items: usize,
@@ -75,6 +79,7 @@ impl CacheNode {
         requires some { 1 ≤ items }
         requires each { length served.now ≡ length lows.now }
         requires reached { AreReached lows.now notes.items }
+        requires alike { AreToldAlike notes.items }
         ensures { IfOk result (λ node. node ≡ empty_node items (begun_at served.now lows.now notes.items)) }
     {
         let holdings = Holdings::make(alloc, items, served, lows, notes)?;
@@ -126,7 +131,7 @@ impl CacheNode {
         requires { IsSome (served_at (key_shard key) self.old.served) }
         ensures full { IsNone result ↔ IsTrue (is_full self.old.asks) }
         ensures number { IfSome result (λ ask. ask ≡ self.old.asks.given + 1) }
-        ensures begun { OnSome result (self.new ≡ with_opened key self.old) }
+        ensures begun { OnSome result (self.new ≡ with_opened_ask key self.old) }
         ensures none { IfNone result (self.new ≡ self.old) }
     {
         self.holdings.begin_ask(&key)
@@ -134,7 +139,7 @@ impl CacheNode {
 
     /// Ends an ask without a fill. One that isn't open is ignored. Takes no memory.
     pub fn end_ask(&mut self, ask: AskNo)
-        ensures { self.new ≡ with_ended (Some ask) self.old }
+        ensures { self.new ≡ with_ended_ask (Some ask) self.old }
     {
         self.holdings.end_ask(ask);
     }
@@ -156,8 +161,8 @@ impl CacheNode {
         requires ask { IfSome ask (λ no. IfSome (ask_at no self.old.asks) (λ a. a.key ≡ fill.key)) }
         ensures answer { IfOk result (λ r. r.0 ≡ content_answer (types_of schema.now) fill.content query.now) }
         ensures kept { IfOk result (λ r. GivesKept (kept_of ask self.old.asks fill.version fill.as_of) r.1) }
-        ensures node { IfOk result (λ r. self.new ≡ took fill r.1 (with_ended ask self.old)) }
-        ensures err { OnErr result (self.new ≡ with_ended ask self.old) }
+        ensures node { IfOk result (λ r. self.new ≡ took fill r.1 (with_ended_ask ask self.old)) }
+        ensures err { OnErr result (self.new ≡ with_ended_ask ask self.old) }
         ensures legal { IfOk result (λ r. ViewAnswers (types_of schema.now) fill.note query.now r.0 fill.version) }
     {
         fills_are_sealed(&fill);
@@ -187,6 +192,44 @@ impl CacheNode {
         fills_are_sealed(&fill);
         self.holdings.keys_differ();
         self.holdings.keep_own(schema, query, fill)
+    }
+
+    /// A fill of the item of the query's key, for a cache above: cut to the shortest front that decides the
+    /// query, at the item's version, as of the low-water mark of its shard. None exactly where no item is
+    /// held that has the floor's version or more and such a front within the bound. The item then stands
+    /// first.
+    ///
+    /// Copies what it hands on. The one error is want of memory, after which nothing has changed.
+    pub fn serve(
+        &mut self,
+        schema: &Schema,
+        query: &Query,
+        floor: u64,
+    ) -> Result<Option<Fill>, OutOfMemory>
+        requires { IsSome (served_at (query_shard query.now) self.old.served) }
+        ensures fill { IfOk result (HandsOn (types_of schema.now) self.old query.now floor) }
+        ensures node { IfOk result (λ handed. self.new ≡ handed_on (query_key query.now) handed self.old) }
+        ensures err { OnErr result (self.new ≡ self.old) }
+    {
+        self.holdings.keys_differ();
+        match self.holdings.serve(schema, query, floor)? {
+            Some(parts) => Ok(Some(parts.seal())),
+            None => Ok(None),
+        }
+    }
+
+    /// Keeps a copy of the fill, where it is as of every position that is marked and there is memory for the
+    /// copy, by the rule of `keep_own`. The fill stays with the caller. Where it isn't kept nothing has
+    /// changed.
+    pub fn keep_copy(&mut self, fill: &mut Fill) -> Kept
+        requires { log_at (key_shard fill.old.key) self.old.served ≡ Some fill.old.note.log }
+        ensures fill { fill.new ≡ fill.old }
+        ensures kept { GivesKept (own_kept_of (top_at (key_shard fill.old.key) self.old.served) fill.old.as_of) result }
+        ensures node { self.new ≡ with_copy fill.old result self.old }
+    {
+        fills_are_sealed(fill);
+        self.holdings.keys_differ();
+        self.holdings.keep_copy(fill)
     }
 
     /// Takes one touch of the log: an item of the version before it takes the change, an older one is

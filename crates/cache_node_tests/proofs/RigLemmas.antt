@@ -18,7 +18,7 @@ use Rattle.list_prefix.specs.ListPrefix.{ListPrefix}
 use Rattle.lru.proofs.Splits.{all_map}
 use Rattle.ask_table.specs.declared.ask.Ask.{Ask}
 use Rattle.ask_table.specs.Asks.{Asks, fresh, with_floor}
-use Rattle.ask_table.specs.Open.{is_numbered, raised}
+use Rattle.ask_table.specs.Open.{is_numbered, raised_ask}
 use Rattle.changeset.specs.Changes.{SeenChange}
 use Rattle.maint_msg.specs.KeyVersions.{keys_of}
 use Rattle.maint_msg.specs.Maints.{SeenMaint}
@@ -26,10 +26,11 @@ use Rattle.maint_msg.specs.declared.key_versions.KeyVersion.{KeyVersion}
 use Rattle.sealed_item.specs.Fills.{SealedItem}
 use Rattle.sealed_item.specs.declared.content.Content.{Content}
 use Rattle.sealed_item.specs.declared.content.Content.TheVariants.{List as ListIs}
-use Rattle.cache_items.specs.Fields.{AreNotesOf, emptied, restarted}
+use Rattle.served_shards.specs.Begun.{AreNotesOf, restarted}
+use Rattle.cache_items.specs.Node.{emptied, Items, Node, caught_up, delivered, dropped, met, processed, raised_all, with_ended_ask, with_opened_ask}
 use Rattle.cache_items.specs.Kept.{ask_at, is_yes, item_of, kept_items, took, with_item}
-use Rattle.cache_items.specs.Look.{content_decides}
-use Rattle.cache_items.specs.Node.{Items, Node, ServedShard, caught_up, changed_at, delivered, dropped, forgetting, log_at, low_at, marking, met, processed, raised_all, restarting, seeing, served_at, view_at, with_ended, with_opened}
+use Rattle.sealed_item.specs.Decided.{content_decides}
+use Rattle.served_shards.specs.Served.{ServedShard, changed_at, forgetting, log_at, low_at, marking, restarting, seeing, served_at, view_at}
 use Rattle.cache_items.specs.Taken.{with_change}
 use Rattle.cache_items.specs.declared.look.Kept.{Kept}
 use Rattle.cache_node.proofs.Raised.{raise_is}
@@ -93,20 +94,20 @@ asks_changed key n asks on rig = record { here = rig.here; shards = rig.shards; 
 seen : (key : Key) (n : Node) (k : ℕ) (note : View) → IsRig key n → IsRig key (met k note n)
 seen key n k note rig = shard_changed key n k (seeing note) (seeing_keeps note) rig
 
-opened : (key : Key) (n : Node) → IsRig key n → IsRig key (with_opened key n)
+opened : (key : Key) (n : Node) → IsRig key n → IsRig key (with_opened_ask key n)
 opened key n rig =
     let m : Node = record n { served = changed_at (key_shard key) forgetting n.served } in
     let forgot = shard_changed key n (key_shard key) forgetting forgetting_keeps rig in
     asks_changed key m _ (all_append (λ a. a.key ≡ key) n.asks.asks (fresh n.asks key (low_at (key_shard key) n.served) ∷ []) rig.asks (refl, tt)) forgot
 
-closed : (key : Key) (n : Node) (ask : Option ℕ) → IsRig key n → IsRig key (with_ended ask n)
+closed : (key : Key) (n : Node) (ask : Option ℕ) → IsRig key n → IsRig key (with_ended_ask ask n)
 closed key n None rig = rig
 closed key n (Some ask) rig = asks_changed key n _ (all_filter (λ a. a.key ≡ key) (λ a. not (is_numbered ask a)) n.asks.asks rig.asks) rig
 
 raised_on : (key : Key) (n : Node) (k : Key) (v : ℕ) → IsRig key n → IsRig key (record n { asks = with_floor k v n.asks })
 raised_on key n k v rig =
-    asks_changed key n _ (all_map (raised k v) (λ a. a.key ≡ key) n.asks.asks
-    (all_weaker (λ a. a.key ≡ key) (λ a. (raised k v a).key ≡ key) (λ a h. (raise_is k v a).key_is ∙ h) n.asks.asks rig.asks)) rig
+    asks_changed key n _ (all_map (raised_ask k v) (λ a. a.key ≡ key) n.asks.asks
+    (all_weaker (λ a. a.key ≡ key) (λ a. (raised_ask k v a).key ≡ key) (λ a h. (raise_is k v a).key_is ∙ h) n.asks.asks rig.asks)) rig
 
 raised_on_all : (key : Key) (ks : List KeyVersion) (n : Node) → IsRig key n → IsRig key (record n { asks = raised_all ks n.asks })
 raised_on_all key [] n rig = rig
@@ -133,15 +134,15 @@ takes_in key fill kept n rig = seen key _ (key_shard fill.key) fill.note (by_kep
 -- after each call
 
 module _ (key : Key) (old new : Node) (rig : IsRig key old) where
-  pub after_ask : {X : Type 0} (q : Key) (r : Option X) → q ≡ key → OnSome r (new ≡ with_opened q old) → IfNone r (new ≡ old) → IsRig key new
-  after_ask q (Some x) is same none = subst (IsRig key) (sym (same ∙ ap (λ k. with_opened k old) is)) (opened key old rig)
+  pub after_ask : {X : Type 0} (q : Key) (r : Option X) → q ≡ key → OnSome r (new ≡ with_opened_ask q old) → IfNone r (new ≡ old) → IsRig key new
+  after_ask q (Some x) is same none = subst (IsRig key) (sym (same ∙ ap (λ k. with_opened_ask k old) is)) (opened key old rig)
   after_ask q None is same none = subst (IsRig key) (sym none) rig
 
-  pub after_end : (ask : Option ℕ) → new ≡ with_ended ask old → IsRig key new
+  pub after_end : (ask : Option ℕ) → new ≡ with_ended_ask ask old → IsRig key new
   after_end ask same = subst (IsRig key) (sym same) (closed key old ask rig)
 
-  pub after_fill : {E : Type 0} (fill : SealedItem) (ask : Option ℕ) (r : Result (Answer × Kept) E) → IfOk r (λ x. new ≡ took fill x.1 (with_ended ask old)) → OnErr r (new ≡ with_ended ask old) → IsRig key new
-  after_fill fill ask (Ok x) same same_err = subst (IsRig key) (sym same) (takes_in key fill x.1 (with_ended ask old) (closed key old ask rig))
+  pub after_fill : {E : Type 0} (fill : SealedItem) (ask : Option ℕ) (r : Result (Answer × Kept) E) → IfOk r (λ x. new ≡ took fill x.1 (with_ended_ask ask old)) → OnErr r (new ≡ with_ended_ask ask old) → IsRig key new
+  after_fill fill ask (Ok x) same same_err = subst (IsRig key) (sym same) (takes_in key fill x.1 (with_ended_ask ask old) (closed key old ask rig))
   after_fill fill ask (Err e) same same_err = after_end ask same_err
 
   pub after_own : {E : Type 0} (fill : SealedItem) (r : Result (Answer × Kept) E) → IfOk r (λ x. new ≡ took fill x.1 old) → OnErr r (new ≡ old) → IsRig key new

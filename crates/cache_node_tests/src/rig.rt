@@ -1,7 +1,7 @@
 //! A node that is driven by rows.
 ghost use Rattle.std.specs.Prelude.{◌≡◌, ◌≤◌, [], ◌∷◌, false, IfOk, Some};
 ghost use Rattle.std.proofs.Props.{props};
-ghost use Rattle.cache_items.specs.Node.{log_at, view_at};
+ghost use Rattle.served_shards.specs.Served.{log_at, view_at};
 ghost use Rattle.cache_node_tests.specs.Rigs.{IsRig};
 ghost use Rattle.tao_base.specs.declared.id.Key.TheVariants.{List as Assocs};
 ghost use Rattle.tao_base.specs.declared.query.Query.TheVariants.{AssocCount};

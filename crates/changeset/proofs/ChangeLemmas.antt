@@ -11,7 +11,7 @@ use Rattle.graph_model.specs.Soundness.{IsSound, TouchFollows}
 use Rattle.graph_model.specs.Told.{WhereTold}
 use Rattle.shard_log.specs.View.{View, Grows}
 use Rattle.changeset.specs.ChangeLaws.{TouchesStay}
-use Rattle.changeset.specs.Changes.{IsOneTouch, seen_change, touch_of}
+use Rattle.changeset.specs.Changes.{IsOneTouch, seen_change, own_touch}
 
 -- a touch of the entry at a position is one of the log
 pub touch_at : (log : List Entry) (position : ℕ) (e : Entry) (t : Touch) → entry_at log position ≡ Some e → Contains e.touches t → IsTouchOf log t
@@ -28,7 +28,7 @@ version_rises log t sound touch =
 -- the change that was made by a touch of a sound log has that touch
 pub touch_is : (v : View) (t : Touch) (before : ℕ) (change : Change) → before ≡ t.version - 1 → change ≡ t.change
     → WhereTold v.log.told (IsSound v.entries) → WhereTold v.log.told (IsTouchOf v.entries t)
-    → WhereTold v.log.told (touch_of (seen_change t.key before (before + 1) change v) ≡ t)
+    → WhereTold v.log.told (own_touch (seen_change t.key before (before + 1) change v) ≡ t)
 touch_is v t before change version_is change_is sound touch told =
     let rises = version_rises v.entries t (sound told) (touch told) in
     let after : before + 1 ≡ t.version = omega arith in

@@ -36,13 +36,7 @@ impl Changeset {
     ghost use Rattle.graph_model.specs.Soundness.{IsSound};
     ghost use Rattle.graph_model.specs.Told.{WhereTold};
     ghost use Rattle.shard_log.specs.View.{Grows};
-    ghost use Rattle.changeset.specs.Changes.{
-      IsOneTouch,
-      change_at,
-      change_by,
-      touch_of,
-      with_note,
-    };
+    ghost use Rattle.changeset.specs.Changes.{IsOneTouch, seen_change_at, change_by, own_touch, change_with_note};
 
     /// The change that an entry of the log makes by its touch at `place`, which counts from 0. A touch
     /// of version 0, which no log that is told has, counts as one of version 1.
@@ -51,9 +45,9 @@ impl Changeset {
     pub fn of(entry: &Entry, place: usize, note: Note) -> Result<Changeset, OutOfMemory>
         requires place { place < length entry.now.touches }
         requires entry { WhereTold note.log.told (entry_at note.entries entry.now.position ≡ Some entry.now) }
-        ensures made { IfOk result (λ made. change_at entry.now place note ≡ Some made) }
+        ensures made { IfOk result (λ made. seen_change_at entry.now place note ≡ Some made) }
         ensures one_touch { IfOk result IsOneTouch }
-        ensures touch { IfOk result (λ made. WhereTold note.log.told (slice_get entry.now.touches place ≡ Some (touch_of made))) }
+        ensures touch { IfOk result (λ made. WhereTold note.log.told (slice_get entry.now.touches place ≡ Some (own_touch made))) }
     {
         Changeset::by(&entry.touches.as_slice()[place], note)
     }
@@ -62,7 +56,7 @@ impl Changeset {
         requires { WhereTold note.log.told (IsTouchOf note.entries touch.now) }
         ensures made { IfOk result (λ made. made ≡ change_by touch.now note) }
         ensures one_touch { IfOk result IsOneTouch }
-        ensures touch { IfOk result (λ made. WhereTold note.log.told (touch_of made ≡ touch.now)) }
+        ensures touch { IfOk result (λ made. WhereTold note.log.told (own_touch made ≡ touch.now)) }
     {
         notes_are_sound(&note);
         let change = copy_of(&touch.change)?;
@@ -102,7 +96,7 @@ impl Changeset {
     /// What is done at the key.
     pub fn change(&self) -> &Change
         ensures value { result.now ≡ self.now.change }
-        ensures touched { WhereTold self.now.note.log.told (IsTouchOf self.now.note.entries (touch_of self.now)) }
+        ensures touched { WhereTold self.now.note.log.told (IsTouchOf self.now.note.entries (own_touch self.now)) }
     {
         &self.change
     }
@@ -110,7 +104,7 @@ impl Changeset {
     /// The log's length now, which the note's view then has. Nothing else of the changeset changes.
     /// One load; takes no memory.
     pub fn look(&mut self) -> u64
-        ensures same { self.new ≡ with_note self.old self.new.note }
+        ensures same { self.new ≡ change_with_note self.old self.new.note }
         ensures one_touch { IsOneTouch self.new }
         ensures length { result ≡ length self.new.note.entries }
         ensures grows { Grows self.old.note self.new.note }

@@ -111,7 +111,7 @@ length-live_edge id2 None was h = ap (λ o. length (option_to_list o)) (sym h)
 length-live_edge id2 (Some (Live time payload stamp)) was h = ap (λ o. length (option_to_list o)) (sym h)
 length-live_edge id2 (Some (Cut stamp)) was h = ap (λ o. length (option_to_list o)) (sym h)
 
-says_was : (log : List Entry) (id1 : Id) (atype : AType) (c : Change) → IfSome (update_at (Assocs id1 atype) c) (λ u. was_of c ≡ live_time (edge_record log u.0 u.1 u.2)) → SaysWas c (edge_list log id1 atype)
+pub says_was : (log : List Entry) (id1 : Id) (atype : AType) (c : Change) → IfSome (update_at (Assocs id1 atype) c) (λ u. was_of c ≡ live_time (edge_record log u.0 u.1 u.2)) → SaysWas c (edge_list log id1 atype)
 says_was log id1 atype (SetEdge e was) h =
     ap length ((edge_list_law (changes_of log (Assocs id1 atype))).live e.id2) ∙ length-live_edge e.id2 (edge_record log id1 atype e.id2) was h
 says_was log id1 atype (CutEdge id2 stamp was) h =

@@ -17,7 +17,7 @@ use Rattle.tao_base.specs.declared.id.AType.{AType}
 use Rattle.tao_base.specs.declared.id.Id.{Id}
 use Rattle.tao_base.specs.declared.id.Key.TheVariants.{List as Assocs}
 use Rattle.graph_model.proofs.Applied.{length_insert, prefix_take}
-use Rattle.graph_model.proofs.Exact.{exact_follows}
+use Rattle.graph_model.proofs.Exact.{exact_follows, says_was}
 use Rattle.graph_model.proofs.Lengths.{item_within}
 use Rattle.graph_model.proofs.Lists.{edge_list_law}
 use Rattle.graph_model.specs.Edges.{edge_list, edge_record, edges_to, live_edge, live_time, without_edge}
@@ -114,20 +114,6 @@ after_bounded (CutEdge id2 stamp was) p bound =
 after_bounded (PutObject object) p bound = omega arith
 after_bounded DropObject p bound = omega arith
 
-length-live_edge : (id2 : ℕ) (found : Option EdgeState) (was : Option ℕ) → was ≡ live_time found → length (live_edge id2 found) ≡ length (option_to_list was)
-length-live_edge id2 None was h = ap (λ o. length (option_to_list o)) (sym h)
-length-live_edge id2 (Some (Live time payload stamp)) was h = ap (λ o. length (option_to_list o)) (sym h)
-length-live_edge id2 (Some (Cut stamp)) was h = ap (λ o. length (option_to_list o)) (sym h)
-
--- `was` says whether the edge stands in the list
-says_was : (log : List Entry) (id1 : Id) (atype : AType) (c : Change) → IfSome (update_at (Assocs id1 atype) c) (λ u. was_of c ≡ live_time (edge_record log u.0 u.1 u.2)) → SaysWas c (edge_list log id1 atype)
-says_was log id1 atype (SetEdge e was) h =
-    ap length ((edge_list_law (changes_of log (Assocs id1 atype))).live e.id2) ∙ length-live_edge e.id2 (edge_record log id1 atype e.id2) was h
-says_was log id1 atype (CutEdge id2 stamp was) h =
-    ap length ((edge_list_law (changes_of log (Assocs id1 atype))).live id2) ∙ length-live_edge id2 (edge_record log id1 atype id2) was h
-says_was log id1 atype (PutObject object) h = tt
-says_was log id1 atype DropObject h = tt
-
 -- the list just before a touch of a sound log
 record StoodBefore (log : List Entry) (id1 : Id) (atype : AType) (v : ℕ) (change : Change) (whole : List Edge) : Type 0 where
   pub place : ℕ
@@ -149,7 +135,7 @@ stood log t id1 atype v sound touch key next =
     }
 
 -- a front of an exact prefix is exact
-front_is_exact : (log : List Entry) (id1 : Id) (atype : AType) (bound v n : ℕ) (edges : List Edge) (total : ℕ) → IsExactList log id1 atype bound v edges total
+pub front_is_exact : (log : List Entry) (id1 : Id) (atype : AType) (bound v n : ℕ) (edges : List Edge) (total : ℕ) → IsExactList log id1 atype bound v edges total
     → IsExactPrefix log id1 atype v (list_prefix (take n edges) total)
 front_is_exact log id1 atype bound v n edges total exact = record {
   exact = record { reached = exact.exact.reached; gives = λ m h. prefix_take n edges (edge_list (take m log) id1 atype) total (exact.exact.gives m h) };

@@ -86,7 +86,7 @@ begins_take n total xs begins = record {
   within = (let parts = ap length (take-append-drop n xs) in let sum = length-append (take n xs) (drop n xs) in let most = begins.within in omega arith);
 }
 
-decides_more : (bound total : ℕ) (q : Query) (xs : List Edge) → CanBegin xs total → (j k : ℕ) → j ≤ k → decides bound (take j xs) total q ≡ true → decides bound (take k xs) total q ≡ true
+pub decides_more : (bound total : ℕ) (q : Query) (xs : List Edge) → CanBegin xs total → (j k : ℕ) → j ≤ k → decides bound (take j xs) total q ≡ true → decides bound (take k xs) total q ≡ true
 decides_more bound total q xs begins j k le h =
     let longer : List Edge = take k xs in
     let begun = begins_take k total xs begins in

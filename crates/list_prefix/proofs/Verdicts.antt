@@ -20,14 +20,14 @@ use Rattle.graph_model.specs.Edges.{edge_list}
 use Rattle.graph_model.specs.Log.{changes_of}
 use Rattle.graph_model.specs.Prefixes.{decides}
 use Rattle.list_prefix.specs.ListPrefix.{ListPrefix}
-use Rattle.list_prefix.specs.Spans.{is_got}
+use Rattle.list_prefix.specs.Spans.{is_wanted}
 use Rattle.list_prefix.specs.Verdicts.{AnswersEachList, AnswersLog, verdict_of}
 use Rattle.list_prefix.specs.declared.prefix.Verdict.{Verdict}
 use Rattle.list_prefix.specs.declared.prefix.Verdict.TheVariants.{Decided, Undecided}
 
 -- the edges to the ids within the times, by one test
 pub got_is : (ids : List ℕ) (low high : Option ℕ) (xs : List Edge)
-    → filter (is_got ids low high) xs ≡ within low high (to_ids ids xs)
+    → filter (is_wanted ids low high) xs ≡ within low high (to_ids ids xs)
 got_is ids low high [] = refl
 got_is ids low high (x ∷ xs) = let rest = got_is ids low high xs in elim (cases_Bool (list_any (λ id. id == x.id2) ids)) [
   | inl asked ↦ elim (cases_Bool (at_least low x.time && at_most high x.time)) [

@@ -13,5 +13,5 @@ abbrev pub from_on : ℕ → List Edge → ℕ
 from_on low edges = prefix_len (λ e. nat_le low e.time) edges
 
 -- whether the edge lies within the times that are given, and goes to one of the ids
-abbrev pub is_got : List ℕ → Option ℕ → Option ℕ → Edge → Bool
-is_got ids low high e = (at_least low e.time && at_most high e.time) && list_any (λ id. id == e.id2) ids
+abbrev pub is_wanted : List ℕ → Option ℕ → Option ℕ → Edge → Bool
+is_wanted ids low high e = (at_least low e.time && at_most high e.time) && list_any (λ id. id == e.id2) ids

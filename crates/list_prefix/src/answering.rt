@@ -10,7 +10,7 @@ ghost use Rattle.graph_model.specs.Answers.{
   within,
 };
 ghost use Rattle.graph_model.specs.Edges.{IsInListOrder};
-ghost use Rattle.list_prefix.specs.Spans.{is_got};
+ghost use Rattle.list_prefix.specs.Spans.{is_wanted};
 ghost use Rattle.list_prefix.specs.Verdicts.{IsOfList};
 
 use crate::deciding::used_limit;
@@ -89,7 +89,7 @@ fn get(
 }
 
 fn is_asked_for(edge: &Edge, ids: &IdSet, high: Option<Time>, low: Option<Time>) -> bool
-    ensures { result ≡ is_got ids.now low high edge.now }
+    ensures { result ≡ is_wanted ids.now low high edge.now }
 {
     is_within(edge.time, high, low) && ids.contains(edge.id2)
 }

@@ -144,6 +144,17 @@ impl Prefix {
         Ok(Verdict::Decided(answer))
     }
 
+    /// The same prefix once more. Copies its edges. The one error is want of memory.
+    pub fn try_clone(&self) -> Result<Prefix, OutOfMemory>
+        ensures { IfOk result (λ copy. copy ≡ self.now) }
+    {
+        let edges = copies_of(*self.edges.allocator(), self.edges.as_slice())?;
+        Ok(Prefix {
+            edges: edges.into_vec(),
+            total: self.total,
+        })
+    }
+
     /// The shortest prefix of this one that decides a query, of the same list: what a cache above
     /// needs to hold to answer it. None where all the edges that are held, or the first `bound` of
     /// them, leave it undecided.

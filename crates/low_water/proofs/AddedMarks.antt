@@ -5,7 +5,7 @@ use Rattle.std.specs.List.{list_any}
 use Rattle.std.proofs.lemmas.Bool.{le-leb, lt-leb, leb-true, lt-ltb, le-ltb, eq-eqb, ne_eqb, eqb-true, cases_lt, cases_eq, or_right, or_left, or_cases}
 use Rattle.std.proofs.lemmas.List.Elements.{All-nil, All-cons, All-head, All-tail}
 use Rattle.tao_base.specs.Ids.{IsRising}
-use Rattle.low_water.specs.Marks.{Marks, marks, is_marked, IsGreatest, IsWindow, inserted, raised, with_mark, AddsMark}
+use Rattle.low_water.specs.Marks.{Marks, marks, is_marked, IsGreatest, IsWindow, inserted, marks_from, with_mark, AddsMark}
 use Rattle.low_water.specs.Laws.{MarkAdds, TopIsGreatest}
 
 abbrev pub any : ℕ → List ℕ → Bool
@@ -51,14 +51,14 @@ any-inserted q p (x ∷ xs) = elim (cases_lt p x) [
 ]
 
 -- raising the low-water mark changes no position's mark
-is_marked-raised : (q low : ℕ) (xs : List ℕ) → is_marked (raised low xs) q ≡ (nat_le q low || any q xs)
+is_marked-raised : (q low : ℕ) (xs : List ℕ) → is_marked (marks_from low xs) q ≡ (nat_le q low || any q xs)
 is_marked-raised q low [] = refl
 is_marked-raised q low (x ∷ xs) = elim (cases_eq x (low + 1)) [
   | inl e ↦ rw (eq-eqb x (low + 1) e, is_marked-raised q x xs, e, le_next q low) (or_assoc (nat_le q low) (q == low + 1) (any q xs))
   | inr ne ↦ rw (ne_eqb x (low + 1) ne) refl
 ]
 
-le-raised : (low : ℕ) (xs : List ℕ) → low ≤ (raised low xs).low
+le-raised : (low : ℕ) (xs : List ℕ) → low ≤ (marks_from low xs).low
 le-raised low [] = omega arith
 le-raised low (x ∷ xs) = elim (cases_eq x (low + 1)) [
   | inl e ↦ rw (eq-eqb x (low + 1) e) (omega (arith, le-raised x xs))
@@ -79,7 +79,7 @@ rising_below : (n m : ℕ) (xs : List ℕ) → n ≤ m → IsRising (m ∷ xs) �
 rising_below n m [] l r = tt
 rising_below n m (x ∷ xs) l r = let up : m < x = r.0 in (omega arith, r.1)
 
-rising-raised : (low : ℕ) (xs : List ℕ) → IsRising (low ∷ xs) → IsRising (((raised low xs).low + 1) ∷ (raised low xs).ahead)
+rising-raised : (low : ℕ) (xs : List ℕ) → IsRising (low ∷ xs) → IsRising (((marks_from low xs).low + 1) ∷ (marks_from low xs).ahead)
 rising-raised low [] r = tt
 rising-raised low (x ∷ xs) r = elim (cases_eq x (low + 1)) [
   | inl e ↦ rw (eq-eqb x (low + 1) e) (rising-raised x xs r.1)
@@ -96,7 +96,7 @@ near-inserted p bound (x ∷ xs) l all = elim (cases_lt p x) [
   ]
 ]
 
-near-raised : (bound low : ℕ) (xs : List ℕ) → All (λ q. q ≤ bound) xs → All (λ q. q ≤ bound) (raised low xs).ahead
+near-raised : (bound low : ℕ) (xs : List ℕ) → All (λ q. q ≤ bound) xs → All (λ q. q ≤ bound) (marks_from low xs).ahead
 near-raised bound low [] all = all
 near-raised bound low (x ∷ xs) all = elim (cases_eq x (low + 1)) [
   | inl e ↦ rw (eq-eqb x (low + 1) e) (near-raised bound x xs (All-tail (λ q. q ≤ bound) x xs all))
@@ -115,7 +115,7 @@ pub window_none : (low : ℕ) → IsWindow (marks low [])
 window_none low = record { rising = tt; near = All-nil (λ q. q ≤ low + 1024) }
 
 -- the cases of a mark: near, known, or too far ahead
-pub near_is : (m : Marks) (p : ℕ) → m.low < p → p ≤ m.low + 1024 → with_mark p m ≡ raised m.low (inserted p m.ahead)
+pub near_is : (m : Marks) (p : ℕ) → m.low < p → p ≤ m.low + 1024 → with_mark p m ≡ marks_from m.low (inserted p m.ahead)
 near_is m p over near = rw (lt-ltb m.low p over, le-leb p (m.low + 1024) near) refl
 
 pub known_is : (m : Marks) (p : ℕ) → p ≤ m.low → with_mark p m ≡ m
@@ -124,7 +124,7 @@ known_is m p known = rw (le-ltb m.low p known) refl
 pub far_is : (m : Marks) (p : ℕ) → m.low + 1024 < p → with_mark p m ≡ m
 far_is m p far = rw (lt-ltb m.low p (omega arith), lt-leb p (m.low + 1024) far) refl
 
-near_adds : (m : Marks) (p q : ℕ) → p ≤ m.low + 1024 → is_marked (raised m.low (inserted p m.ahead)) q ≡ (is_marked m q || ((q == p) && nat_le p (m.low + 1024)))
+near_adds : (m : Marks) (p q : ℕ) → p ≤ m.low + 1024 → is_marked (marks_from m.low (inserted p m.ahead)) q ≡ (is_marked m q || ((q == p) && nat_le p (m.low + 1024)))
 near_adds m p q near = rw (is_marked-raised q m.low (inserted p m.ahead), any-inserted q p m.ahead, le-leb p (m.low + 1024) near) (last (nat_le q m.low) (q == p) (any q m.ahead))
   where
     last : (a b c : Bool) → (a || (b || c)) ≡ ((a || c) || (b && true))
@@ -163,7 +163,7 @@ of_new m new p is adds later window = record {
 mark_near : (m : Marks) (p : ℕ) → m.low < p → p ≤ m.low + 1024 → MarkAdds m p
 mark_near m p over near =
     let later = le-raised m.low (inserted p m.ahead) in
-    of_new m (raised m.low (inserted p m.ahead)) p (near_is m p over near) (λ q. near_adds m p q near) later (λ w. record {
+    of_new m (marks_from m.low (inserted p m.ahead)) p (near_is m p over near) (λ q. near_adds m p q near) later (λ w. record {
       rising = rising-raised m.low (inserted p m.ahead) (rising-inserted m.low p m.ahead over (rising_below m.low (m.low + 1) m.ahead (omega arith) w.rising));
       near = near-raised _ m.low (inserted p m.ahead) (window_later m p _ later near w.near);
     })

@@ -4,7 +4,7 @@ use Rattle.std.specs.Prelude.{filter, fold, max, All}
 use Rattle.std.proofs.lemmas.Bool.{lt-ltb, le-ltb, eq-eqb, ne_eqb, cases_lt, cases_eq, cases_Bool, both_ways, cond-true}
 use Rattle.std.proofs.lemmas.List.Elements.{All-nil, All-cons}
 use Rattle.tao_base.specs.Ids.{IsRising}
-use Rattle.low_water.specs.Marks.{marks, inserted, raised}
+use Rattle.low_water.specs.Marks.{marks, inserted, marks_from}
 use Rattle.low_water.specs.RingWords.{positions}
 
 -- none passes
@@ -98,17 +98,17 @@ filter-inserted f g p from (suc n) l h on same = elim (cases_eq from p) [
       ]
 ]
 
-raised_stays : (low : ℕ) (xs : List ℕ) → IsRising ((low + 1) ∷ xs) → raised low xs ≡ marks low xs
+raised_stays : (low : ℕ) (xs : List ℕ) → IsRising ((low + 1) ∷ xs) → marks_from low xs ≡ marks low xs
 raised_stays low [] r = refl
 raised_stays low (x ∷ xs) r = let up : low + 1 < x = r.0 in rw (ne_eqb x (low + 1) (λ e. omega arith)) refl
 
-raised_over : (low : ℕ) (xs : List ℕ) → raised low ((low + 1) ∷ xs) ≡ raised (low + 1) xs
+raised_over : (low : ℕ) (xs : List ℕ) → marks_from low ((low + 1) ∷ xs) ≡ marks_from (low + 1) xs
 raised_over low xs = rw (eq-eqb (low + 1) (low + 1) refl) refl
 
 -- those up to at pass, at + 1 doesn't, and a window after at has those above it
 pub filter-raised : (f g : ℕ → Bool) (low at n w : ℕ) → low ≤ at → at ≤ low + n → low + n ≤ at + w → ((q : ℕ) → low < q → q ≤ at → f q ≡ true)
     → ((q : ℕ) → at < q → q ≤ low + n → g q ≡ f q) → ((q : ℕ) → low + n < q → q ≤ at + w → g q ≡ false) → g (at + 1) ≡ false
-    → raised low (filter f (positions (low + 1) n)) ≡ marks at (filter g (positions (at + 1) w))
+    → marks_from low (filter f (positions (low + 1) n)) ≡ marks at (filter g (positions (at + 1) w))
 unfolding positions
 filter-raised f g low at zero w from to fits gone rest fresh next =
     let here : at ≡ low = omega arith in

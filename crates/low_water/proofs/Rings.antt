@@ -2,7 +2,7 @@
 use Rattle.std.proofs.Common.{◌≡◌, ◌≢◌, ℕ, ◌+◌, ◌-◌, ◌%◌, ◌<◌, ◌≤◌, Bool, true, false, List, [], get_or, sym, ◌∙◌, ap, arith, inl, inr}
 use Rattle.std.specs.Prelude.{max}
 use Rattle.std.proofs.lemmas.Bool.{cases_lt}
-use Rattle.low_water.specs.Marks.{marks, IsWindow, inserted, raised, top_of, with_mark}
+use Rattle.low_water.specs.Marks.{marks, IsWindow, inserted, marks_from, top_of, with_mark}
 use Rattle.low_water.specs.RingWords.{bit, ahead_of, IsClear, IsClearAbove, PutsBit, Absorbs}
 use Rattle.low_water.proofs.AddedMarks.{near_is}
 use Rattle.low_water.proofs.Positions.{none_of, each_fails, rising_past, near-filter, filter-inserted, filter-raised, fold_max-filter}
@@ -61,7 +61,7 @@ ahead_of_put ring with low p puts over near =
     (λ q l h ne. others_stay ring with p q true puts (λ e. ne (sym e)) (omega arith) (omega arith))
 
 -- the bits that were cleared raise the low-water mark
-ahead_of_absorbed : (old new : List Bool) (low top at : ℕ) → top ≤ low + 1024 → Absorbs old new low top at → raised low (ahead_of old low) ≡ marks at (ahead_of new at)
+ahead_of_absorbed : (old new : List Bool) (low top at : ℕ) → top ≤ low + 1024 → Absorbs old new low top at → marks_from low (ahead_of old low) ≡ marks at (ahead_of new at)
 unfolding ahead_of
 ahead_of_absorbed old new low top at near absorbs =
     filter-raised (bit old) (bit new) low at 1024 1024 absorbs.from (omega (arith, absorbs.to)) (omega (arith, absorbs.from)) absorbs.gone absorbs.rest absorbs.fresh absorbs.next
@@ -69,7 +69,7 @@ ahead_of_absorbed old new low top at near absorbs =
 module _ (ring with new : List Bool) (low top at p : ℕ) (over : low < p) (near : p ≤ low + 1024) (low_top : low ≤ top) (top_near : top ≤ low + 1024) (puts : PutsBit ring with p true) (absorbs : Absorbs with new low (max top p) at) where
   pub ring_mark : marks at (ahead_of new at) ≡ with_mark p (marks low (ahead_of ring low))
   ring_mark =
-      sym (near_is (marks low (ahead_of ring low)) p over near ∙ ap (raised low) (ahead_of_put ring with low p puts over near)
+      sym (near_is (marks low (ahead_of ring low)) p over near ∙ ap (marks_from low) (ahead_of_put ring with low p puts over near)
       ∙ ahead_of_absorbed with new low (max top p) at (omega arith) absorbs)
 
   -- the bit of the new top is set where it is above the low-water mark

@@ -33,18 +33,18 @@ abbrev pub inserted : ℕ → List ℕ → List ℕ
 inserted p [] = p ∷ []
 inserted p (q ∷ qs) = if nat_lt p q then p ∷ q ∷ qs else (if p == q then q ∷ qs else q ∷ inserted p qs)
 
--- the low-water mark raised over the positions that follow it without a gap
-abbrev pub raised : ℕ → List ℕ → Marks
-raised low [] = marks low []
-raised low (q ∷ qs) = if q == low + 1 then raised q qs else marks low (q ∷ qs)
+-- the marks with the low-water mark raised over the positions that follow it without a gap
+abbrev pub marks_from : ℕ → List ℕ → Marks
+marks_from low [] = marks low []
+marks_from low (q ∷ qs) = if q == low + 1 then marks_from q qs else marks low (q ∷ qs)
 
 -- the position is above the low-water mark, and at most 1,024 ahead of it
-abbrev pub is_near : Marks → ℕ → Bool
-is_near m p = nat_lt m.low p && nat_le p (m.low + 1024)
+abbrev pub is_in_window : Marks → ℕ → Bool
+is_in_window m p = nat_lt m.low p && nat_le p (m.low + 1024)
 
 -- the marks after one more position was marked
 abbrev pub with_mark : ℕ → Marks → Marks
-with_mark p m = if is_near m p then raised m.low (inserted p m.ahead) else m
+with_mark p m = if is_in_window m p then marks_from m.low (inserted p m.ahead) else m
 
 -- no more than this position was marked, and this one where it is at most 1,024 ahead
 abbrev pub AddsMark : Marks → Marks → ℕ → Type 0

@@ -1,5 +1,5 @@
 //! What follows of any marks and any calls, for callers to cite.
-ghost use Rattle.low_water.specs.History.{Call, LowIsGreatest};
+ghost use Rattle.low_water.specs.History.{MarkCall, LowIsGreatest};
 ghost use Rattle.low_water.specs.Laws.{MarkAdds, TopIsGreatest};
 ghost use Rattle.low_water.specs.Marks.{Marks};
 ghost use Rattle.std.specs.Prelude.{ℕ, List};
@@ -8,7 +8,7 @@ ghost use Rattle.std.specs.Prelude.{ℕ, List};
 /// were marked while at most 1,024 ahead and not forgotten since, whatever the calls were.
 #[tactic(auto, using(crate::proofs::Calls::low_greatest))]
 pub fn low_is_greatest()
-    ensures { (first : ℕ) (calls : List Call) → LowIsGreatest first calls }
+    ensures { (first : ℕ) (calls : List MarkCall) → LowIsGreatest first calls }
 {}
 
 /// A mark adds its position alone.

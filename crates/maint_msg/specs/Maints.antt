@@ -20,8 +20,8 @@ abbrev pub seen_maint : ℕ → ℕ → List KeyVersion → View → SeenMaint
 seen_maint shard position keys note = record { shard = shard; position = position; keys = keys; note = note }
 
 -- the same message where more was seen of the log
-abbrev pub with_note : SeenMaint → View → SeenMaint
-with_note m note = record m { note = note }
+abbrev pub maint_with_note : SeenMaint → View → SeenMaint
+maint_with_note m note = record m { note = note }
 
 -- each key lies on the shard
 abbrev pub AreOn : ℕ → List KeyVersion → Type 0

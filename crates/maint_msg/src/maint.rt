@@ -38,7 +38,7 @@ impl Maint {
     ghost use Rattle.graph_model.specs.Told.{WhereTold};
     ghost use Rattle.shard_log.specs.View.{Grows};
     ghost use Rattle.maint_msg.specs.KeyVersions.{keys_of};
-    ghost use Rattle.maint_msg.specs.Maints.{IsMaint, NamesEntry, seen_maint, with_note};
+    ghost use Rattle.maint_msg.specs.Maints.{IsMaint, NamesEntry, seen_maint, maint_with_note};
 
     /// The message of an entry of the shard's log.
     ///
@@ -82,7 +82,7 @@ impl Maint {
     /// The log's length now, which the note's view then has. Nothing else of the message changes. One
     /// load; takes no memory.
     pub fn look(&mut self) -> u64
-        ensures same { self.new ≡ with_note self.old self.new.note }
+        ensures same { self.new ≡ maint_with_note self.old self.new.note }
         ensures length { result ≡ length self.new.note.entries }
         ensures grows { Grows self.old.note self.new.note }
         ensures pins { (self.new.note.stored ≡ self.old.note.stored) × (self.new.note.floors ≡ self.old.note.floors) }

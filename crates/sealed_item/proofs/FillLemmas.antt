@@ -13,7 +13,7 @@ use Rattle.shard_log.proofs.GrowthLemmas.{list_stays, object_stays, versions_sta
 use Rattle.graph_model.specs.Told.{WhereTold}
 use Rattle.shard_log.specs.View.{View, Grows}
 use Rattle.sealed_item.specs.FillLaws.{BeginningIsSealed, ContentsStay, FillsStay, front_of}
-use Rattle.sealed_item.specs.Fills.{SealedItem, IsExactContent, IsSealed, IsSince, with_note}
+use Rattle.sealed_item.specs.Fills.{SealedItem, IsExactContent, IsSealed, IsSince, fill_with_note}
 use Rattle.sealed_item.specs.declared.content.Content.{Content}
 use Rattle.sealed_item.specs.declared.content.Content.TheVariants.{Object as ObjectIs, List as ListIs}
 
@@ -34,7 +34,7 @@ since_stays v w key at as_of grows was = record {
 pub contents_stay : ContentsStay
 contents_stay = record { stays = content_stays }
 
-pub fill_stays : (item : SealedItem) (seen : View) → Grows item.note seen → IsSealed item → IsSealed (with_note item seen)
+pub fill_stays : (item : SealedItem) (seen : View) → Grows item.note seen → IsSealed item → IsSealed (fill_with_note item seen)
 fill_stays item seen grows was told =
     let before = ap (λ l. l.told) (sym grows.log_is) ∙ told in record {
       exact = content_stays item.note seen item.key item.version item.content grows (λ on. (was on).exact) told;

@@ -12,7 +12,7 @@ use Rattle.list_prefix.specs.ListPrefix.{ListPrefix, list_prefix}
 use Rattle.shard_log.specs.View.{View, Grows}
 use Rattle.sealed_item.specs.declared.content.Content.{Content}
 use Rattle.sealed_item.specs.declared.content.Content.TheVariants.{Object as ObjectIs, List as ListIs}
-use Rattle.sealed_item.specs.Fills.{SealedItem, IsExactContent, IsFill, IsSealed, with_note}
+use Rattle.sealed_item.specs.Fills.{SealedItem, IsExactContent, IsFill, IsSealed, fill_with_note}
 
 -- a content that is exact in a view is exact in each view that it grew into
 pub record ContentsStay : Type 0 where
@@ -21,7 +21,7 @@ pub record ContentsStay : Type 0 where
 
 -- a fill is one in each view that its note's grew into
 pub record FillsStay : Type 0 where
-  pub stays : (item : SealedItem) (seen : View) → Grows item.note seen → IsSealed item → IsSealed (with_note item seen)
+  pub stays : (item : SealedItem) (seen : View) → Grows item.note seen → IsSealed item → IsSealed (fill_with_note item seen)
 
 -- the first edges of a list, and its length
 abbrev pub front_of : ℕ → List Entry → Id → AType → ListPrefix

@@ -23,8 +23,8 @@ abbrev pub sealed_item : Key → ℕ → ℕ → Content → View → SealedItem
 sealed_item key at as_of content note = record { key = key; version = at; as_of = as_of; content = content; note = note }
 
 -- the same item where more was seen of the log
-abbrev pub with_note : SealedItem → View → SealedItem
-with_note item note = record item { note = note }
+abbrev pub fill_with_note : SealedItem → View → SealedItem
+fill_with_note item note = record item { note = note }
 
 -- the content is of the key's kind, and exact at the version. Of a list any number of first edges is exact: the bound of its type is no matter of the log
 abbrev pub IsExactContent : List Entry → Key → ℕ → Content → Type 0

@@ -1,2 +1,4 @@
+pub mod Decided
+pub mod DecidedLaws
 pub mod FillLaws
 pub mod Fills

@@ -33,13 +33,7 @@ impl Fill {
     ghost use Rattle.graph_model.specs.Soundness.{IsSound};
     ghost use Rattle.graph_model.specs.Told.{WhereTold};
     ghost use Rattle.shard_log.specs.View.{Grows};
-    ghost use Rattle.sealed_item.specs.Fills.{
-      IsExactContent,
-      IsSealed,
-      IsSince,
-      sealed_item,
-      with_note,
-    };
+    ghost use Rattle.sealed_item.specs.Fills.{IsExactContent, IsSealed, IsSince, sealed_item, fill_with_note};
 
     /// The fill of this content, which is exact at the version in the note's view. The version is at
     /// least that of the key in the view's first `as_of` entries. Takes no memory.
@@ -91,7 +85,7 @@ impl Fill {
     /// The log's length now, which the note's view then has. Nothing else of the fill changes. One
     /// load; takes no memory.
     pub fn look(&mut self) -> u64
-        ensures same { self.new ≡ with_note self.old self.new.note }
+        ensures same { self.new ≡ fill_with_note self.old self.new.note }
         ensures sealed { IsSealed self.new }
         ensures length { result ≡ length self.new.note.entries }
         ensures grows { Grows self.old.note self.new.note }
@@ -108,6 +102,20 @@ impl Fill {
         ensures view { IfOk result (λ note. note ≡ self.old.note) }
     {
         self.note.split()
+    }
+
+    /// The same fill once more, with a note of its own. The one error is want of memory for the copy.
+    pub fn split(&mut self) -> Result<Fill, OutOfMemory>
+        ensures same { self.new ≡ self.old }
+        ensures copy { IfOk result (λ copy. copy ≡ self.old) }
+    {
+        Ok(Fill {
+            key: self.key,
+            version: self.version,
+            as_of: self.as_of,
+            content: self.content.try_clone()?,
+            note: self.note.split()?,
+        })
     }
 
     /// The fill taken apart: its key, version, `as_of`, content and note. Takes no memory.

@@ -1,6 +1,8 @@
 -- What stays so when a view grows.
-use Rattle.std.proofs.Common.{◌≡◌, ℕ, zero, suc, ◌≤◌, ◌+◌, true, List, [], ◌∷◌, ◌++◌, length, take, drop, refl, sym, ap, subst, ◌∙◌, arith}
-use Rattle.std.proofs.lemmas.List.{take-take}
+use Rattle.std.proofs.Common.{◌≡◌, ℕ, zero, suc, ◌≤◌, ◌+◌, true, List, [], ◌∷◌, ◌++◌, length, take, drop, refl, sym, ap, subst, ◌∙◌, inl, inr, arith}
+use Rattle.std.proofs.Math.Seq.{take-append_seam}
+use Rattle.std.proofs.lemmas.Bool.{cases_lt}
+use Rattle.std.proofs.lemmas.List.{take-append-le, take-take, take_all}
 use Rattle.std.specs.Prelude.{Option, Some, slice_get}
 use Rattle.tao_base.specs.declared.edge.Edge.{Edge}
 use Rattle.tao_base.specs.declared.edge.Object.{Object}
@@ -10,13 +12,19 @@ use Rattle.tao_base.specs.declared.id.Id.{Id}
 use Rattle.graph_model.proofs.Exact.{items_stay}
 use Rattle.graph_model.proofs.Sound.{slice_get-last, slice_get-take, sound_take}
 use Rattle.graph_model.proofs.Versions.{version-append}
+use Rattle.tao_base.specs.EdgeTypes.{EdgeTypes}
+use Rattle.tao_base.specs.Queries.{query_key}
+use Rattle.tao_base.specs.declared.query.Answer.{Answer}
+use Rattle.tao_base.specs.declared.query.Query.{Query}
+use Rattle.graph_model.specs.Answers.{answer}
+use Rattle.graph_model.specs.Legal.{IsLegal}
 use Rattle.graph_model.specs.Log.{version, entry_at}
 use Rattle.graph_model.specs.Prefixes.{IsExactList, IsExactObject}
 use Rattle.graph_model.specs.Soundness.{IsSound}
-use Rattle.shard_log.proofs.Beginnings.{begins-rest, begins-self, begins-shorter, begins-trans, begins-whole}
-use Rattle.shard_log.specs.GrowthLaws.{BeginningsAreSound, EntriesStay, GrowthGoesOn, ItemsStayExact, VersionsStay}
+use Rattle.shard_log.proofs.Beginnings.{begins-rest, begins-self, begins-shorter, begins-trans, begins-whole, longer_begins}
+use Rattle.shard_log.specs.GrowthLaws.{BeginningsAreSound, EntriesStay, GrowthGoesOn, IsLegalIn, ItemsStayExact, SeenStays, VersionsStay}
 use Rattle.graph_model.specs.Told.{WhereTold}
-use Rattle.shard_log.specs.View.{View, Grows}
+use Rattle.shard_log.specs.View.{View, Grows, longer_view}
 
 pub grows-self : (v : View) → Grows v v
 grows-self v = record { log_is = refl; begins = begins-self v.entries }
@@ -84,3 +92,36 @@ beginnings_are_sound = record {
   begins = λ v w grows sound told.
       subst IsSound (sym grows.begins) (sound_take w.entries (length v.entries) (sound (ap (λ l. l.told) grows.log_is ∙ told)));
 }
+
+pub seen-meets : (v w whole : View) → Grows v whole → Grows w whole → Grows (longer_view v w) whole
+seen-meets v w whole p q = record { log_is = p.log_is; begins = (longer_begins v.entries w.entries whole.entries p.begins q.begins).0 }
+
+-- a beginning of a list is one of each list that it begins
+legal-append : (types : EdgeTypes) (log more : List Entry) (query : Query) (floor : ℕ) (given : Answer) (at : ℕ) → IsLegal types log query floor given at → IsLegal types (log ++ more) query floor given at
+legal-append types log more query floor given at legal = elim (cases_lt (length log) legal.n) [
+  | inr le ↦ (
+      let cut : take legal.n (log ++ more) ≡ take legal.n log = take-append-le legal.n log more le in
+      record {
+        n = legal.n;
+        answers = legal.answers ∙ ap (λ l. answer types l query) (sym cut);
+        version_is = legal.version_is ∙ ap (λ l. version l (query_key query)) (sym cut);
+        reached = legal.reached;
+      })
+  | inl lt ↦ (
+      let whole : take legal.n log ≡ log = take_all legal.n log (omega arith) in
+      let cut : take (length log) (log ++ more) ≡ take legal.n log = take-append_seam log more ∙ sym whole in
+      record {
+        n = length log;
+        answers = legal.answers ∙ ap (λ l. answer types l query) (sym cut);
+        version_is = legal.version_is ∙ ap (λ l. version l (query_key query)) (sym cut);
+        reached = legal.reached;
+      })
+]
+
+pub legal-grows : (v w : View) (types : EdgeTypes) (query : Query) (floor : ℕ) (given : Answer) (at : ℕ) → Grows v w
+    → IsLegalIn types v query floor given at → IsLegalIn types w query floor given at
+legal-grows v w types query floor given at grows =
+    stays_told v w (λ log. IsLegal types log query floor given at) grows (legal-append types v.entries (rest_of v w) query floor given at)
+
+pub seen_stays : SeenStays
+seen_stays = record { meets = seen-meets; legal = legal-grows }

@@ -6,11 +6,15 @@ use Rattle.tao_base.specs.declared.entry.Entry.{Entry}
 use Rattle.tao_base.specs.declared.id.AType.{AType}
 use Rattle.tao_base.specs.declared.id.Id.{Id}
 use Rattle.tao_base.specs.declared.id.Key.{Key}
+use Rattle.tao_base.specs.EdgeTypes.{EdgeTypes}
+use Rattle.tao_base.specs.declared.query.Answer.{Answer}
+use Rattle.tao_base.specs.declared.query.Query.{Query}
+use Rattle.graph_model.specs.Legal.{IsLegal}
 use Rattle.graph_model.specs.Log.{version, entry_at}
 use Rattle.graph_model.specs.Prefixes.{IsExactList, IsExactObject}
 use Rattle.graph_model.specs.Soundness.{IsSound}
 use Rattle.graph_model.specs.Told.{WhereTold}
-use Rattle.shard_log.specs.View.{View, Grows}
+use Rattle.shard_log.specs.View.{View, Grows, longer_view}
 
 -- growth is a chain
 pub record GrowthGoesOn : Type 0 where
@@ -44,3 +48,15 @@ pub record EntriesStay : Type 0 where
 -- a view that grew into a sound one is sound
 pub record BeginningsAreSound : Type 0 where
   pub begins : (v w : View) → Grows v w → WhereTold w.log.told (IsSound w.entries) → WhereTold v.log.told (IsSound v.entries)
+
+-- in what was seen the read is legal, where the log is told
+abbrev pub IsLegalIn : EdgeTypes → View → Query → ℕ → Answer → ℕ → Type 0
+IsLegalIn types view query floor answer version = WhereTold view.log.told (IsLegal types view.entries query floor answer version)
+
+-- what was seen of a log stays seen
+pub record SeenStays : Type 0 where
+  -- of two views that a log has grown from, so has it from the longer one
+  pub meets : (v w whole : View) → Grows v whole → Grows w whole → Grows (longer_view v w) whole
+  -- a read that is legal in a view is legal in what it grew into
+  pub legal : (v w : View) (types : EdgeTypes) (query : Query) (floor : ℕ) (answer : Answer) (version : ℕ) → Grows v w
+      → IsLegalIn types v query floor answer version → IsLegalIn types w query floor answer version

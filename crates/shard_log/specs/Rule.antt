@@ -85,8 +85,8 @@ pub record Confirms {S : Type 0} (step : Step S) (old : Me S Seen) (found : ℕ)
   pub begin : AllBegin old.0.met old.0.entries
 
 -- how contracts see a seat
-abbrev pub view_of : {S : Type 0} → TableId → Me S Seen → View
-view_of table me = record { log = record { table = table; told = me.0.told; pins = me.0.pins }; entries = me.0.entries; stored = me.0.stored; floors = me.0.floors }
+abbrev pub seat_view : {S : Type 0} → TableId → Me S Seen → View
+seat_view table me = record { log = record { table = table; told = me.0.told; pins = me.0.pins }; entries = me.0.entries; stored = me.0.stored; floors = me.0.floors }
 
 -- the seat is at the table, holds no slot, and has confirmed what it met
 pub record IsSeated {S : Type 0} (table own : TableId) (me : Me S Seen) : Type 0 where

@@ -6,6 +6,7 @@ ghost use Rattle.shard_log.specs.GrowthLaws.{
   EntriesStay,
   GrowthGoesOn,
   ItemsStayExact,
+  SeenStays,
   VersionsStay,
 };
 ghost use Rattle.graph_model.specs.Told.{WhereTold};
@@ -41,6 +42,12 @@ pub fn entries_stay()
 #[tactic(auto, using(crate::proofs::GrowthLemmas::beginnings_are_sound))]
 pub fn beginnings_are_sound()
     ensures { BeginningsAreSound }
+{}
+
+/// What was seen of a log stays seen, and a read that is legal in it stays legal.
+#[tactic(auto, using(crate::proofs::GrowthLemmas::seen_stays))]
+pub fn seen_stays()
+    ensures { SeenStays }
 {}
 
 /// What each note has seen of a log that is told is sound.

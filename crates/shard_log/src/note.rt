@@ -19,12 +19,12 @@ pub struct Note {
 
 impl Model for Note {
     ghost use Rattle.std.specs.Arc.{arc_value};
-    ghost use Rattle.shard_log.specs.Rule.{IsNote, view_of};
+    ghost use Rattle.shard_log.specs.Rule.{IsNote, seat_view};
     ghost use Rattle.shard_log.specs.View.{View};
 
     ghost Value = { View };
 
-    ghost view = { λ n. view_of n.place.table_id n.place.me };
+    ghost view = { λ n. seat_view n.place.table_id n.place.me };
 
     ghost invariant = { λ n. IsNote (arc_value n.board).shared.table_id n.place.table_id n.place.me };
 }

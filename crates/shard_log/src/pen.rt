@@ -24,12 +24,12 @@ pub struct Pen {
 
 impl Model for Pen {
     ghost use Rattle.std.specs.Arc.{arc_value};
-    ghost use Rattle.shard_log.specs.Rule.{IsPen, view_of};
+    ghost use Rattle.shard_log.specs.Rule.{IsPen, seat_view};
     ghost use Rattle.shard_log.specs.View.{View};
 
     ghost Value = { View };
 
-    ghost view = { λ p. view_of p.place.table_id p.place.me };
+    ghost view = { λ p. seat_view p.place.table_id p.place.me };
 
     ghost invariant = { λ p. IsPen (arc_value p.board).shared.table_id p.place.table_id p.place.me p.len };
 }

@@ -1,6 +1,0 @@
-use Rattle.cache_items.proofs.Places.{met_once}
-use Rattle.cache_items.specs.Fields.{served_of}
-use Rattle.cache_items.proofs.shards.restart_one.Goals as goal
-
-pub returns-clause-meets : goal.returns-clause-meets
-returns-clause-meets c = met_once (served_of c.args.shard.now) c.args.note c.meet.new.self c.meet.ensures.longer c.meet.ensures.grows c.meet.ensures.grows_from_other c.notes_are_sound.ensures.sound

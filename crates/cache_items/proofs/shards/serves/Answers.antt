@@ -1,7 +1,0 @@
-use Rattle.std.proofs.Common.{◌∙◌, ap}
-use Rattle.std.specs.Prelude.{is_some}
-use Rattle.cache_items.proofs.Places.{serves_is}
-use Rattle.cache_items.proofs.shards.serves.Goals as goal
-
-pub returns : goal.returns
-returns c = c.is_some.ensures ∙ (ap is_some c.place_of.ensures ∙ serves_is c.args.shard c.args.shards.now)

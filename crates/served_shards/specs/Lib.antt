@@ -1,0 +1,4 @@
+pub mod Begun
+pub mod Fields
+pub mod Meetings
+pub mod Served

@@ -11,9 +11,9 @@ use Rattle.tao_base.specs.declared.write.Write.{Write}
 use Rattle.tao_base.specs.declared.write.Write.TheVariants.{ObjAdd, ObjUpdate, ObjDelete, AssocAdd, AssocDelete, AssocChangeType}
 use Rattle.write_model.proofs.Forward.{forward_follows}
 use Rattle.graph_model.specs.Soundness.{IsSoundOf, IsNewOrigin}
-use Rattle.write_model.specs.WriteLaws.{ChangesType, IsOfShard, StaysSound}
+use Rattle.tao_base.specs.Writes.{ChangesType, write_kind, write_shard}
+use Rattle.write_model.specs.WriteLaws.{IsOfShard, StaysSound}
 use Rattle.write_model.specs.Writes.{forward_entry, next_entry}
-use Rattle.tao_base.specs.Writes.{write_kind, write_shard}
 use Rattle.tao_keeper.specs.Table.{Tables, Stays, Becomes, StandsAt, after_commit}
 use Rattle.tao_keeper.specs.declared.jobs.Job.{Job}
 use Rattle.shard_tables.specs.Stores.{HasSeen, IsFullFor, IsStoreOf}

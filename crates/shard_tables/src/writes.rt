@@ -2,13 +2,12 @@
 ghost use Rattle.std.specs.Prelude.{◌≡◌, ◌<◌, ℕ, IfOk, IfSome, IsTrue, MatchResult, None, Some, false, length};
 ghost use Rattle.graph_model.specs.Soundness.{CanFollow, IsSoundOf, is_client, IsNewOrigin};
 ghost use Rattle.graph_model.specs.Told.{WhereTold};
-ghost use Rattle.write_model.specs.WriteLaws.{ChangesType};
+ghost use Rattle.tao_base.specs.Writes.{ChangesType, write_shard};
 ghost use Rattle.write_model.specs.Writes.{FitsWrite};
 ghost use Rattle.shard_log.specs.View.{Grows, as_note, most_entries};
 ghost use Rattle.shard_tables.specs.Jobs.{FindsJob, OpensJob, job_with};
 ghost use Rattle.shard_tables.specs.Stores.{IsStoreOf, store_with};
 ghost use Rattle.shard_tables.specs.Written.{HasEntry, TableGains, WriteAnswers, added_entry, asked_write, made_entry};
-ghost use Rattle.tao_base.specs.Writes.{write_shard};
 ghost use Rattle.shard_tables.specs.declared.store.Role.TheVariants.{Master};
 ghost use Rattle.tao_base.specs.EdgeTypes.{EdgeTypes, InversesMatch};
 ghost use Rattle.tao_base.specs.declared.entry.Origin.{Origin};

@@ -1,10 +1,9 @@
 //! Writes over the keeper in memory, and what comes of them.
 ghost use Rattle.std.specs.Prelude.{◌≡◌, ◌≤◌, IfOk, IsTrue, true};
 ghost use Rattle.graph_model.specs.Soundness.{IsSoundOf};
-ghost use Rattle.write_model.specs.WriteLaws.{ChangesType};
+ghost use Rattle.tao_base.specs.Writes.{ChangesType, write_shard};
 ghost use Rattle.keeper_map.specs.MapKeeper.{told_by};
 ghost use Rattle.shard_tables.specs.Stores.{IsStoreOf};
-ghost use Rattle.tao_base.specs.Writes.{write_shard};
 ghost use Rattle.shard_tables.specs.declared.store.Role.TheVariants.{Master};
 ghost use Rattle.tao_base.specs.EdgeTypes.{EdgeTypes};
 ghost use Rattle.tao_schema.specs.Schema.{types_of};

@@ -1,5 +1,6 @@
--- Writes: the shard that each is made on, and the kind of its entry.
-use Rattle.std.specs.Prelude.{ℕ}
+-- Writes: the shard that each is made on, the kind of its entry, and when a change of type is one.
+use Rattle.std.specs.Prelude.{ℕ, ◌≡◌, ◌≢◌, Some, ⊤}
+use Rattle.tao_base.specs.EdgeTypes.{EdgeTypes}
 use Rattle.tao_base.specs.Ids.{shard_of}
 use Rattle.tao_base.specs.declared.entry.Kind.{Kind}
 use Rattle.tao_base.specs.declared.entry.Kind.TheVariants.{ObjAdd as ObjAdded, ObjUpdate as ObjUpdated, ObjDelete as ObjDeleted, AssocAdd as AssocAdded, AssocDelete as AssocDeleted, AssocChangeType as TypeChanged}
@@ -23,3 +24,12 @@ write_kind (ObjDelete id) = ObjDeleted
 write_kind (AssocAdd id1 atype id2 time payload) = AssocAdded
 write_kind (AssocDelete id1 atype id2) = AssocDeleted
 write_kind (AssocChangeType id1 atype id2 newtype) = TypeChanged
+
+-- a change of type is to another type, and where the edge goes to its own id, not to the other end's type
+abbrev pub ChangesType : EdgeTypes → Write → Type 0
+ChangesType types (AssocChangeType id1 atype id2 newtype) = (atype ≢ newtype) × (id1 ≡ id2 → types.inverse atype ≢ Some newtype)
+ChangesType types (ObjAdd on otype payload) = ⊤
+ChangesType types (ObjUpdate id payload) = ⊤
+ChangesType types (ObjDelete id) = ⊤
+ChangesType types (AssocAdd id1 atype id2 time payload) = ⊤
+ChangesType types (AssocDelete id1 atype id2) = ⊤

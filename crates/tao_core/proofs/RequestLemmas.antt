@@ -9,8 +9,7 @@ use Rattle.tao_base.specs.declared.query.Query.TheVariants as to_read
 use Rattle.tao_base.specs.declared.write.Write.{Write}
 use Rattle.tao_base.specs.declared.write.Write.TheVariants as to_write
 use Rattle.tao_base.specs.Ids.{shard_of}
-use Rattle.write_model.specs.WriteLaws.{ChangesType}
-use Rattle.tao_base.specs.Writes.{write_shard}
+use Rattle.tao_base.specs.Writes.{ChangesType, write_shard}
 use Rattle.tao_schema.specs.Schema.{types_of}
 use Rattle.topology.specs.Config.{Settings}
 use Rattle.requests.specs.declared.request.Call.TheVariants as call

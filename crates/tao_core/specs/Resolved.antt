@@ -4,7 +4,7 @@ use Rattle.tao_base.specs.declared.query.Query.{Query}
 use Rattle.tao_base.specs.declared.write.Write.{Write}
 use Rattle.tao_base.specs.Queries.{query_key}
 use Rattle.tao_base.specs.Keys.{key_shard}
-use Rattle.write_model.specs.WriteLaws.{ChangesType}
+use Rattle.tao_base.specs.Writes.{ChangesType, write_shard}
 use Rattle.tao_schema.specs.Schema.{types_of}
 use Rattle.topology.specs.Config.{Settings}
 use Rattle.replies.specs.declared.refusals.Refusal.{Refusal}
@@ -16,7 +16,6 @@ use Rattle.request_check.specs.declared.checked.Checked.TheVariants as found
 use Rattle.request_check.specs.declared.checked.CheckedCall.TheVariants as checked_call
 use Rattle.request_check.specs.declared.refusal.CheckRefusal.{CheckRefusal}
 use Rattle.request_check.specs.declared.refusal.CheckRefusal.TheVariants as check
-use Rattle.tao_base.specs.Writes.{write_shard}
 use Rattle.tao_core.specs.Sessions.{is_open}
 use Rattle.tao_core.specs.declared.resolving.Asked.{Asked}
 use Rattle.tao_core.specs.declared.resolving.Asked.TheVariants as asked

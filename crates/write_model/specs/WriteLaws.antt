@@ -19,6 +19,7 @@ use Rattle.graph_model.specs.Soundness.{CanFollow, IsNewOrigin, IsSoundOf, Keeps
 use Rattle.write_model.specs.Writes.{forward_entry, edge_touch, next_stamp}
 use Rattle.graph_model.specs.Records.{is_news}
 use Rattle.tao_base.specs.declared.edge.EdgeState.{EdgeState}
+use Rattle.tao_base.specs.Writes.{ChangesType}
 
 -- the entry of an add with one touch: the edge is set at id1, with the number after that of its record
 abbrev pub plain_add : List Entry → Origin → Id → AType → Id → ℕ → List Pair → Entry
@@ -52,15 +53,6 @@ IsOfShard shard log (ObjDelete id) = shard_of id ≡ shard
 IsOfShard shard log (AssocAdd id1 atype id2 time payload) = shard_of id1 ≡ shard
 IsOfShard shard log (AssocDelete id1 atype id2) = shard_of id1 ≡ shard
 IsOfShard shard log (AssocChangeType id1 atype id2 newtype) = shard_of id1 ≡ shard
-
--- a change of type is to another type, and where the edge goes to its own id, not to the other end's type
-abbrev pub ChangesType : EdgeTypes → Write → Type 0
-ChangesType types (AssocChangeType id1 atype id2 newtype) = (atype ≢ newtype) × (id1 ≡ id2 → types.inverse atype ≢ Some newtype)
-ChangesType types (ObjAdd on otype payload) = ⊤
-ChangesType types (ObjUpdate id payload) = ⊤
-ChangesType types (ObjDelete id) = ⊤
-ChangesType types (AssocAdd id1 atype id2 time payload) = ⊤
-ChangesType types (AssocDelete id1 atype id2) = ⊤
 
 -- the entry follows the shard's log and keeps both ends, so the log stays sound of its shard
 pub record StaysSound (types : EdgeTypes) (shard : ℕ) (log : List Entry) (e : Entry) : Type 0 where

@@ -1,5 +1,5 @@
 //! Writes over the keeper in memory, and what comes of them.
-ghost use Rattle.std.specs.Prelude.{◌≡◌, ◌≤◌, IfOk, IsTrue, true};
+ghost use Rattle.std.specs.Prelude.{◌≡◌, ◌≤◌, IsTrue, true};
 ghost use Rattle.graph_model.specs.Soundness.{IsSoundOf};
 ghost use Rattle.tao_base.specs.Writes.{ChangesType, write_shard};
 ghost use Rattle.keeper_map.specs.MapKeeper.{told_by};
@@ -8,47 +8,24 @@ ghost use Rattle.shard_tables.specs.declared.store.Role.TheVariants.{Master};
 ghost use Rattle.tao_base.specs.EdgeTypes.{EdgeTypes};
 ghost use Rattle.tao_schema.specs.Schema.{types_of};
 
-use crate::{Role, StoreNode, StoreRefusal, Wrote, object_added};
-use keeper_map::{Fails, MapKeeper};
+use crate::fixtures::{
+    FAR, FRIEND, LIKED_BY, LIKES, NAME, PAGE, SAW, USER, empty_keeper, id, named, schema,
+};
+use keeper_map::MapKeeper;
 use shard_log::ShardLog;
+use shard_tables::{Role, StoreNode, StoreRefusal, Wrote, object_added};
 use std::alloc::{AllocError, Global};
 use std::process::Abort;
 use std::test::Fail;
 use tao_base::{
-    AType, Change, Data, Entry, Id, Key, Kind, OType, Object, Origin, StoreName, Text, Time, Touch,
-    Touches, Write,
+    AType, Change, Entry, Key, Kind, OType, Object, Origin, Time, Touch, Touches, Write,
 };
 use tao_keeper::Job;
-use tao_schema::{AssocLine, Schema};
-
-mod reads;
-
-const NAME: StoreName = StoreName {
-    region: 0,
-    shard: 0,
-};
-
-const USER: OType = OType(0);
-
-const PAGE: OType = OType(1);
-
-/// Each the inverse of the other.
-const LIKES: AType = AType(0);
-
-const LIKED_BY: AType = AType(1);
-
-/// A type without an inverse.
-const SAW: AType = AType(2);
-
-/// Its own inverse.
-const FRIEND: AType = AType(3);
-
-/// An id of another shard.
-const FAR: u64 = (1 << 48) + 1;
+use tao_schema::Schema;
 
 /// A write, whose ids are numbers, and whose data is a name.
 #[derive(Clone, Copy)]
-enum Ask {
+pub(crate) enum Ask {
     Add(OType, &'static str),
     Update(u64, &'static str),
     Delete(u64),
@@ -57,48 +34,8 @@ enum Ask {
     Move(u64, AType, u64, AType),
 }
 
-fn line(alloc: Global, name: &str, inverse: Option<&str>) -> Result<AssocLine, AllocError> {
-    let inverse = match inverse {
-        Some(inverse) => Some(Text::copy_of(alloc, inverse)?),
-        None => None,
-    };
-    Ok(AssocLine {
-        name: Text::copy_of(alloc, name)?,
-        inverse,
-        bound: 6_000,
-    })
-}
-
-fn schema(alloc: Global) -> Result<Schema, Fail> {
-    let objects = vec![in alloc;
-        Text::copy_of(alloc, "user")?,
-        Text::copy_of(alloc, "page")?,
-    ]?;
-    let assocs = vec![in alloc;
-        line(alloc, "likes", Some("liked_by"))?,
-        line(alloc, "liked_by", Some("likes"))?,
-        line(alloc, "saw", None)?,
-        line(alloc, "friend", Some("friend"))?,
-    ]?;
-    Ok(Schema::read(alloc, &objects, &assocs)?)
-}
-
-fn id(number: u64) -> Result<Id, &'static str> {
-    Id::read(number).ok_or("an id")
-}
-
-/// Data with this name.
-fn named(alloc: Global, name: &str) -> Result<Data, Fail> {
-    let mut pairs = Vec::new(alloc);
-    pairs.push((
-        String::from_str(alloc, "name")?,
-        String::from_str(alloc, name)?,
-    ))?;
-    Ok(Data::of_pairs(alloc, pairs)?)
-}
-
 /// The write that is asked for.
-fn write_of(alloc: Global, ask: Ask) -> Result<Write, Fail> {
+pub(crate) fn write_of(alloc: Global, ask: Ask) -> Result<Write, Fail> {
     Ok(match ask {
         Ask::Add(otype, name) => Write::ObjAdd {
             shard: 0,
@@ -129,20 +66,6 @@ fn write_of(alloc: Global, ask: Ask) -> Result<Write, Fail> {
             newtype,
         },
     })
-}
-
-/// The shard that the write is for.
-fn shard_of(write: &Write) -> u16
-    ensures { result ≡ write_shard write.now }
-{
-    match write {
-        Write::ObjAdd { shard, .. } => *shard,
-        Write::ObjUpdate { id, .. } => id.shard(),
-        Write::ObjDelete { id } => id.shard(),
-        Write::AssocAdd { id1, .. } => id1.shard(),
-        Write::AssocDelete { id1, .. } => id1.shard(),
-        Write::AssocChangeType { id1, .. } => id1.shard(),
-    }
 }
 
 /// Whether a change of type is to another type, and not of an edge to its own id.
@@ -212,19 +135,8 @@ fn entry_text(alloc: Global, made: Result<Wrote, StoreRefusal>) -> Result<String
     }
 }
 
-/// A keeper that nothing was written to. The commits of these numbers fail.
-fn empty_keeper(alloc: Global, schema: &Schema, commits: &[u64]) -> Result<MapKeeper, AllocError>
-    ensures sound { IfOk result (λ keeper. IsSoundOf (types_of schema.now) 0 (told_by keeper NAME).log) }
-{
-    let fails = Fails {
-        calls: Vec::new(alloc),
-        commits: commits.to_vec(alloc)?,
-    };
-    Ok(MapKeeper::make(alloc, fails))
-}
-
 /// Makes a write of session 1, and says what came of it.
-fn outcome(
+pub(crate) fn outcome(
     alloc: Global,
     keeper: &mut MapKeeper,
     store: &mut StoreNode,
@@ -241,7 +153,7 @@ fn outcome(
     ensures keeper { IsStoreOf true (told_by keeper.new) store.new }
     ensures sound { IsSoundOf (types_of schema.now) 0 (told_by keeper.new NAME).log }
 {
-    if shard_of(write) != 0 || !changes_type(write) {
+    if write.shard() != 0 || !changes_type(write) {
         return Err("a write that the store doesn't take")?;
     }
     let origin = Origin::Client { session: 1, seq };

@@ -4,7 +4,7 @@ use Rattle.tao_base.specs.declared.id.StoreName.{StoreName}
 use Rattle.write_model.proofs.Forward.{plain_add_follows}
 use Rattle.graph_model.specs.Soundness.{CanFollow}
 use Rattle.tao_keeper.specs.Table.{Table}
-use Rattle.keeper_map.proofs.tests.a_commit_that_failed_is_made_again.Goals as goal
+use Rattle.store_tests.proofs.keepers.a_commit_that_failed_is_made_again.Goals as goal
 
 pub commit-requires-2-clause-follows : goal.commit-requires-2-clause-follows
 commit-requires-2-clause-follows g c =

@@ -2,7 +2,7 @@ use Rattle.std.proofs.Common.{◌∙◌, sym, subst}
 use Rattle.tao_base.specs.declared.id.StoreName.{StoreName}
 use Rattle.graph_model.specs.Soundness.{CanFollow}
 use Rattle.tao_keeper.specs.Table.{Table}
-use Rattle.keeper_map.proofs.tests.fails_and_commits.Goals as goal
+use Rattle.store_tests.proofs.keepers.fails_and_commits.Goals as goal
 
 pub commit-requires-2-clause-follows : goal.commit-requires-2-clause-follows
 commit-requires-2-clause-follows c =

@@ -3,11 +3,12 @@ ghost use Rattle.std.specs.Prelude.{true};
 ghost use Rattle.keeper_map.specs.MapKeeper.{told_by};
 ghost use Rattle.shard_tables.specs.Stores.{IsStoreOf};
 
-use super::super::{Ask, LIKES, SAW, USER, schema};
-use super::{Look, query_of, text_of, written};
-use crate::{ReadOut, StoreNode};
+use crate::fixtures::{LIKES, SAW, USER, schema};
+use crate::reads::{Look, query_of, text_of, written};
+use crate::writes::Ask;
 use keeper_map::MapKeeper;
 use sealed_item::Content;
+use shard_tables::{ReadOut, StoreNode};
 use std::alloc::{AllocError, Global};
 use std::process::Abort;
 use std::test::Fail;

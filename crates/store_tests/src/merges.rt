@@ -5,18 +5,14 @@ ghost use Rattle.shard_tables.specs.Stores.{IsStoreOf};
 ghost use Rattle.shard_tables.specs.declared.store.Role.TheVariants.{Master};
 
 use crate::due::{THERE, is_due, is_of_there, job_of};
+use crate::fixtures::{FAR, LIKED_BY, id, named};
 use keeper_map::{Fails, MapKeeper};
 use shard_tables::StoreNode;
 use std::alloc::Global;
 use std::process::Abort;
 use std::test::Fail;
-use tao_base::{AType, Data, EdgeState, Id, Stamp, Time};
+use tao_base::{EdgeState, Stamp, Time};
 use tao_keeper::{JobEdge, KeepFail, Keeper};
-
-const LIKED_BY: AType = AType(1);
-
-/// An id of the shard of the other ends.
-const FAR: u64 = (1 << 48) + 1;
 
 /// The job of one write to an edge: its entry's position, the number of its stamp, and the time and the name where it
 /// sets the edge.
@@ -25,19 +21,6 @@ struct Due {
     position: u64,
     number: u64,
     set: Option<(Time, &'static str)>,
-}
-
-fn id(number: u64) -> Result<Id, &'static str> {
-    Id::read(number).ok_or("an id")
-}
-
-/// Data with this name.
-fn named(alloc: Global, name: &str) -> Result<Data, Fail> {
-    let name = (
-        String::from_str(alloc, "name")?,
-        String::from_str(alloc, name)?,
-    );
-    Ok(Data::of_pairs(alloc, vec![in alloc; name]?)?)
 }
 
 /// The record that the job has of the edge.

@@ -1,10 +1,10 @@
 use Rattle.std.proofs.Common.{◌≡◌}
 use Rattle.std.specs.Prelude.{true}
 use Rattle.keeper_map.specs.MapKeeper.{told_by}
-use Rattle.merge_tests.specs.declared.due.TheConstants.{THERE}
+use Rattle.store_tests.specs.declared.due.TheConstants.{THERE}
 use Rattle.shard_tables.specs.Stores.{IsStoreOf}
 use Rattle.shard_tables.specs.declared.store.Role.TheVariants.{Master}
-use Rattle.merge_tests.proofs.merges.assert_merges.Given as goal
+use Rattle.store_tests.proofs.merges.assert_merges.Given as goal
 
 abbrev pub invariant-loop-due : goal.invariant-loop-due
 invariant-loop-due g l = record {

@@ -3,9 +3,10 @@ ghost use Rattle.std.specs.Prelude.{IfOk, true};
 ghost use Rattle.keeper_map.specs.MapKeeper.{told_by};
 ghost use Rattle.shard_tables.specs.Stores.{IsStoreOf};
 
-use super::{Ask, LIKES, NAME, SAW, USER, empty_keeper, id, outcome, schema, write_of};
-use crate::{Found, StoreNode, StoreRefusal};
+use crate::fixtures::{LIKES, NAME, SAW, USER, empty_keeper, id, schema};
+use crate::writes::{Ask, outcome, write_of};
 use keeper_map::{Fails, MapKeeper};
+use shard_tables::{Found, StoreNode, StoreRefusal};
 use std::alloc::{AllocError, Global};
 use std::process::Abort;
 use std::test::Fail;
@@ -13,11 +14,9 @@ use tao_base::{AType, Answer, Edges, IdSet, Query, Time};
 use tao_keeper::Keeper;
 use tao_schema::Schema;
 
-mod outs;
-
 /// A query, whose ids are numbers.
 #[derive(Clone, Copy)]
-enum Look {
+pub(crate) enum Look {
     Object(u64),
     Count(u64, AType),
     Range(u64, AType, u32, u32),
@@ -35,7 +34,7 @@ fn set_of(alloc: Global, numbers: &[u64]) -> Result<IdSet, Fail> {
 }
 
 /// The query that is asked for.
-fn query_of(alloc: Global, look: Look) -> Result<Query, Fail> {
+pub(crate) fn query_of(alloc: Global, look: Look) -> Result<Query, Fail> {
     Ok(match look {
         Look::Object(number) => Query::ObjGet { id: id(number)? },
         Look::Count(number, atype) => {
@@ -84,7 +83,10 @@ fn text_of_edges(alloc: Global, edges: &Edges) -> Result<String, AllocError> {
 }
 
 /// What came of a read: the answer and the version, or why there is none.
-fn text_of(alloc: Global, found: &Result<Found, StoreRefusal>) -> Result<String, AllocError> {
+pub(crate) fn text_of(
+    alloc: Global,
+    found: &Result<Found, StoreRefusal>,
+) -> Result<String, AllocError> {
     match found {
         Ok(found) => {
             let version = found.version;
@@ -105,7 +107,11 @@ fn text_of(alloc: Global, found: &Result<Found, StoreRefusal>) -> Result<String,
 }
 
 /// A keeper with its store, in which these writes were made, in their order.
-fn written(alloc: Global, schema: &Schema, asks: &[Ask]) -> Result<(MapKeeper, StoreNode), Fail>
+pub(crate) fn written(
+    alloc: Global,
+    schema: &Schema,
+    asks: &[Ask],
+) -> Result<(MapKeeper, StoreNode), Fail>
     ensures keeper { IfOk result (λ made. IsStoreOf true (told_by made.0) made.1) }
 {
     let mut keeper = empty_keeper(alloc, schema, &[])?;

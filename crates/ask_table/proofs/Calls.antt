@@ -4,7 +4,7 @@ use Rattle.std.specs.Prelude.{max, map, if◌then◌else◌}
 use Rattle.std.specs.List.{list_any}
 use Rattle.std.proofs.lemmas.Bool.{cases_Bool, or_parts, not-true, not_from_false}
 use Rattle.tao_base.specs.declared.id.Key.{Key}
-use Rattle.graph_model.specs.Keys.{same_key}
+use Rattle.tao_base.specs.Keys.{same_key}
 use Rattle.graph_model.proofs.Members.{IsIn, in_from_contains, contains_from_in, in_append_left, in_append_right, in_append_cases, in_filter, in_filter_parts}
 use Rattle.ask_table.specs.declared.ask.Ask.{Ask}
 use Rattle.ask_table.specs.Asks.{IsTable, is_full, fresh, with_ask}

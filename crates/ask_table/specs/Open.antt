@@ -1,7 +1,7 @@
 -- One open ask.
 use Rattle.std.specs.Prelude.{ℕ, Bool, ◌==◌, max, if◌then◌else◌}
 use Rattle.tao_base.specs.declared.id.Key.{Key}
-use Rattle.graph_model.specs.Keys.{key_shard, same_key}
+use Rattle.tao_base.specs.Keys.{key_shard, same_key}
 use Rattle.ask_table.specs.declared.ask.Ask.{Ask}
 
 -- the floor of an ask on the key rises to the version, where it is lower

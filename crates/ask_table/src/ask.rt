@@ -1,5 +1,5 @@
 //! One ask.
-ghost use Rattle.graph_model.specs.Keys.{key_shard, same_key};
+ghost use Rattle.tao_base.specs.Keys.{key_shard, same_key};
 ghost use Rattle.std.specs.Prelude.{◌≡◌};
 
 use std::marker::Model;
@@ -67,7 +67,7 @@ impl Ask {
     pub(crate) fn is_on_shard(&self, shard: u16) -> bool
         ensures { result ≡ is_on_shard shard self.now }
     {
-        shard_of(&self.key) == shard
+        self.key.shard() == shard
     }
 }
 
@@ -75,14 +75,4 @@ fn is_same(key: &Key, other: &Key) -> bool
     ensures { result ≡ same_key key.now other.now }
 {
     key == other
-}
-
-/// The shard that a key lies on: that of its id.
-fn shard_of(key: &Key) -> u16
-    ensures { result ≡ key_shard key.now }
-{
-    match key {
-        Key::Obj(id) => id.shard(),
-        Key::List(id1, _) => id1.shard(),
-    }
 }

@@ -5,7 +5,7 @@ use Rattle.std.proofs.lemmas.Map.Steps.{set_value_same}
 use Rattle.std.specs.Map.{remove_entry, set_value}
 use Rattle.tao_base.specs.declared.entry.Change.{Change}
 use Rattle.tao_base.specs.declared.id.Key.{Key}
-use Rattle.graph_model.specs.Keys.{same_key}
+use Rattle.tao_base.specs.Keys.{same_key}
 use Rattle.shard_log.specs.View.{View}
 use Rattle.changeset.specs.Changes.{seen_change}
 use Rattle.cache_items.specs.declared.item.Item.{Item}

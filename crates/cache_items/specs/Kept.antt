@@ -2,7 +2,7 @@
 use Rattle.std.specs.Prelude.{◌≡◌, ℕ, Bool, true, false, ◌&&◌, ◌⊎◌, ◌==◌, nat_lt, if◌then◌else◌, find, length, Option, Some, None}
 use Rattle.lru.specs.LruCache.{lru_cache, promoted, put_entries}
 use Rattle.tao_base.specs.declared.id.Key.{Key}
-use Rattle.graph_model.specs.Keys.{key_shard, same_key}
+use Rattle.tao_base.specs.Keys.{key_shard, same_key}
 use Rattle.ask_table.specs.declared.ask.Ask.{Ask}
 use Rattle.ask_table.specs.Asks.{Asks, with_floor}
 use Rattle.ask_table.specs.Open.{is_numbered}

@@ -7,7 +7,7 @@ use Rattle.tao_base.specs.declared.query.Query.{Query}
 use Rattle.tao_base.specs.declared.query.Query.TheVariants.{ObjGet, AssocGet, AssocCount, AssocRange, AssocTimeRange}
 use Rattle.tao_base.specs.declared.id.Key.{Key}
 use Rattle.graph_model.specs.Answers.{list_answer}
-use Rattle.graph_model.specs.Keys.{same_key}
+use Rattle.tao_base.specs.Keys.{same_key}
 use Rattle.graph_model.specs.Prefixes.{decides}
 use Rattle.lru.specs.LruCache.{promoted}
 use Rattle.sealed_item.specs.declared.content.Content.{Content}

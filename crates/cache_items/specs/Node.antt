@@ -4,7 +4,7 @@ use Rattle.std.specs.Map.{lookup, remove_entry}
 use Rattle.std.specs.Option.{option_map, option_map_or}
 use Rattle.tao_base.specs.declared.entry.Entry.{Entry}
 use Rattle.tao_base.specs.declared.id.Key.{Key}
-use Rattle.graph_model.specs.Keys.{key_shard, same_key}
+use Rattle.tao_base.specs.Keys.{key_shard, same_key}
 use Rattle.shard_log.specs.View.{LogName, View, longer_view}
 use Rattle.low_water.specs.Marks.{IsGreatest, IsWindow, Marks, marks, top_of, with_mark}
 use Rattle.ask_table.specs.Asks.{Asks, with_ask, with_floor, without_ask}

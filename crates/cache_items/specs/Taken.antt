@@ -5,7 +5,7 @@ use Rattle.tao_base.specs.declared.entry.Change.{Change}
 use Rattle.tao_base.specs.declared.id.Key.{Key}
 use Rattle.tao_base.specs.declared.id.Key.TheVariants.{Obj, List as Assocs}
 use Rattle.tao_base.specs.EdgeTypes.{EdgeTypes}
-use Rattle.graph_model.specs.Keys.{key_shard, same_key}
+use Rattle.tao_base.specs.Keys.{key_shard, same_key}
 use Rattle.graph_model.specs.Log.{object_after}
 use Rattle.ask_table.specs.Asks.{with_floor}
 use Rattle.list_prefix.specs.Changes.{prefix_after}

@@ -4,8 +4,8 @@ ghost use Rattle.std.specs.List.{IsDistinct};
 ghost use Rattle.std.specs.Map.{keys_of as keys_held};
 ghost use Rattle.lru.specs.LruCache.{last_entry, promoted};
 ghost use Rattle.ask_table.specs.Asks.{IsTable, is_full, with_ask, with_floor};
-ghost use Rattle.graph_model.specs.Answers.{key_of};
-ghost use Rattle.graph_model.specs.Keys.{key_shard, same_key};
+ghost use Rattle.tao_base.specs.Queries.{query_key};
+ghost use Rattle.tao_base.specs.Keys.{key_shard, same_key};
 ghost use Rattle.tao_schema.specs.Schema.{types_of};
 ghost use Rattle.cache_items.specs.Delivered.{AddsRow, AreSome, dropped_lists, row_of, stale_row};
 ghost use Rattle.cache_items.specs.Fields.{AreNotesOf, AreReached, begun_at, empty_node, emptied};
@@ -19,7 +19,7 @@ ghost use Rattle.changeset.specs.Changes.{seen_change};
 ghost use Rattle.shard_log.specs.View.{View};
 
 use crate::delivered::{Delivered, DroppedLists};
-use crate::item::{Item, answer_of, bound_at, is_longer, queried_key, shard_of};
+use crate::item::{Item, answer_of, bound_at, is_longer};
 use crate::look::{Kept, Look};
 use crate::shards;
 use crate::shards::Shard;
@@ -121,7 +121,7 @@ impl Holdings {
     pub fn serves(&self, key: &Key) -> bool
         ensures { result ≡ is_some (served_at (key_shard key.now) self.now.served) }
     {
-        shards::serves(self.shards.as_slice(), shard_of(key))
+        shards::serves(self.shards.as_slice(), key.shard())
     }
 
     /// The item at the key.
@@ -150,11 +150,11 @@ impl Holdings {
     /// The answer to a query, where the item of its key has the version or more and decides it. That
     /// item then stands first. The one error is want of memory for the answer.
     pub fn look(&mut self, schema: &Schema, query: &Query, floor: u64) -> Result<Look, OutOfMemory>
-        ensures look { IfOk result (λ look. look ≡ look_of (types_of schema.now) (item_at self.old.items (key_of query.now)) query.now floor) }
-        ensures node { IfOk result (λ look. self.new ≡ looked_at (key_of query.now) look self.old) }
+        ensures look { IfOk result (λ look. look ≡ look_of (types_of schema.now) (item_at self.old.items (query_key query.now)) query.now floor) }
+        ensures node { IfOk result (λ look. self.new ≡ looked_at (query_key query.now) look self.old) }
         ensures err { OnErr result (self.new ≡ self.old) }
     {
-        let key = queried_key(query);
+        let key = query.key();
         let look = self.find(&key, schema, query, floor)?;
         if let Look::Hit { .. } = &look {
             self.promote(&key);
@@ -192,7 +192,7 @@ impl Holdings {
         ensures begun { OnSome result (self.new ≡ with_opened key.now self.old) }
         ensures none { IfNone result (self.new ≡ self.old) }
     {
-        let shard = shard_of(key);
+        let shard = key.shard();
         let low = self.low(shard);
         let ask = self.asks.begin(*key, low)?;
         shards::forget_ahead(self.shards.as_mut_slice(), shard);
@@ -245,7 +245,7 @@ impl Holdings {
         ensures meets { IfOk result (λ r. MeetsAt (key_shard fill.key) fill.note self.old.served) }
         ensures err { OnErr result (self.new ≡ self.old) }
     {
-        let admitted = admits_own(self.top(shard_of(&fill.key())), fill.as_of());
+        let admitted = admits_own(self.top(fill.key().shard()), fill.as_of());
         let answer = answer_of(fill.content(), schema, query)?;
         let kept = self.keep(admitted, fill);
         Ok((answer, kept))
@@ -273,7 +273,7 @@ impl Holdings {
         ensures meets { MeetsAt (key_shard fill.key) fill.note self.old.served }
     {
         let (key, version, _, content, note) = fill.into_parts();
-        self.meet(shard_of(&key), note);
+        self.meet(key.shard(), note);
         match admitted {
             Kept::Yes => self.put(&key, Item { version, content }),
             other => other,
@@ -326,7 +326,7 @@ impl Holdings {
         let (key, before, after, done, note) = change.into_parts();
         self.change_item(&key, before, after, &done, bound_at(schema, &key));
         self.asks.raise(key, after);
-        self.meet(shard_of(&key), note);
+        self.meet(key.shard(), note);
     }
 
     // Lets the item at the key take the change, and drops it where that can't be.

@@ -1,7 +1,7 @@
 //! What a node holds at a key.
 ghost use Rattle.std.specs.Prelude.{◌≡◌, ◌<◌, ◌+◌, ◌↔◌, IfOk, IsTrue, MatchBool, OnErr, OnOk, Option, Some, None, true, if◌then◌else◌};
-ghost use Rattle.graph_model.specs.Answers.{key_of};
-ghost use Rattle.graph_model.specs.Keys.{key_shard};
+ghost use Rattle.tao_base.specs.Queries.{query_key};
+ghost use Rattle.tao_base.specs.Keys.{key_shard};
 ghost use Rattle.tao_schema.specs.Schema.{types_of};
 ghost use Rattle.cache_items.specs.Kept.{is_longer as longer};
 ghost use Rattle.cache_items.specs.Look.{bound_of as query_bound, content_answer, content_decides, content_read, item_look};
@@ -55,29 +55,6 @@ impl Item {
         }
         self.version = after;
         true
-    }
-}
-
-/// The object or the list that a query reads.
-pub fn queried_key(query: &Query) -> Key
-    ensures { result ≡ key_of query.now }
-{
-    match query {
-        Query::ObjGet { id } => Key::Obj(*id),
-        Query::AssocGet { id1, atype, .. } => Key::List(*id1, *atype),
-        Query::AssocCount { id1, atype } => Key::List(*id1, *atype),
-        Query::AssocRange { id1, atype, .. } => Key::List(*id1, *atype),
-        Query::AssocTimeRange { id1, atype, .. } => Key::List(*id1, *atype),
-    }
-}
-
-/// The shard of a key: that of its id.
-pub fn shard_of(key: &Key) -> u16
-    ensures { result ≡ key_shard key.now }
-{
-    match key {
-        Key::Obj(id) => id.shard(),
-        Key::List(id1, _) => id1.shard(),
     }
 }
 

@@ -12,9 +12,10 @@ use Rattle.tao_base.specs.declared.query.Query.{Query}
 use Rattle.tao_base.specs.declared.query.Query.TheVariants.{ObjGet, AssocGet, AssocCount, AssocRange, AssocTimeRange}
 use Rattle.graph_model.proofs.Decided.{decides_rightly}
 use Rattle.graph_model.proofs.Lists.{in_order_list}
-use Rattle.graph_model.specs.Answers.{key_of, list_answer}
+use Rattle.tao_base.specs.Queries.{query_key}
+use Rattle.graph_model.specs.Answers.{list_answer}
 use Rattle.graph_model.specs.Edges.{edge_list}
-use Rattle.graph_model.specs.Keys.{key_shard}
+use Rattle.tao_base.specs.Keys.{key_shard}
 use Rattle.graph_model.specs.Log.{changes_of}
 use Rattle.graph_model.specs.Prefixes.{IsExact, IsPrefixOf, decides}
 use Rattle.list_prefix.specs.ListPrefix.{ListPrefix}
@@ -37,7 +38,7 @@ list_gives bound query log id1 atype v prefix exact decided = record {
   gives = λ n e. decides_rightly bound prefix.edges prefix.total query decided (edge_list (take n log) id1 atype) (exact.gives n e) (in_order_list (changes_of (take n log) (Assocs id1 atype)));
 }
 
-pub content_answers : (types : EdgeTypes) (log : List Entry) (query : Query) (v : ℕ) (content : Content) → IsExactContent log (key_of query) v content
+pub content_answers : (types : EdgeTypes) (log : List Entry) (query : Query) (v : ℕ) (content : Content) → IsExactContent log (query_key query) v content
     → content_decides types content query ≡ true → IsExactAnswer types log query (content_answer types content query) v
 content_answers types log (ObjGet id) v (ObjectIs found) exact decided = record { reached = exact.reached; gives = λ n e. ap ObjectAnswer (sym (exact.gives n e)) }
 content_answers types log (ObjGet id) v (ListIs prefix) exact decided = absurd exact
@@ -51,25 +52,25 @@ content_answers types log (AssocTimeRange id1 atype high low limit) v (ObjectIs 
 content_answers types log (AssocTimeRange id1 atype high low limit) v (ListIs prefix) exact decided = list_gives (types.bound atype) (AssocTimeRange id1 atype high low limit) log id1 atype v prefix exact.exact decided
 
 -- a hit answers as what was seen of the log
-pub look_answers : (types : EdgeTypes) (n : Node) (query : Query) (floor : ℕ) (look : Look) → IsTrueNode n → look ≡ look_of types (item_at n.items (key_of query)) query floor
+pub look_answers : (types : EdgeTypes) (n : Node) (query : Query) (floor : ℕ) (look : Look) → IsTrueNode n → look ≡ look_of types (item_at n.items (query_key query)) query floor
     → LookAnswers types n.served query look
-look_answers types n query floor look is same = subst (LookAnswers types n.served query) (sym same) (by_item (item_at n.items (key_of query)) refl)
+look_answers types n query floor look is same = subst (LookAnswers types n.served query) (sym same) (by_item (item_at n.items (query_key query)) refl)
   where
-    by_item : (o : Option Item) → item_at n.items (key_of query) ≡ o → LookAnswers types n.served query (look_of types o query floor)
+    by_item : (o : Option Item) → item_at n.items (query_key query) ≡ o → LookAnswers types n.served query (look_of types o query floor)
     by_item None none = tt
     by_item (Some item) some = elim (cases_Bool (nat_le floor item.version && content_decides types item.content query)) [
       | inr miss ↦ rw miss tt
-      | inl hit ↦ rw hit (by_served (served_at (key_shard (key_of query)) n.served) refl (is.items_here (key_of query) item some)
+      | inl hit ↦ rw hit (by_served (served_at (key_shard (query_key query)) n.served) refl (is.items_here (query_key query) item some)
           (and_parts (nat_le floor item.version) (content_decides types item.content query) hit).1)
     ]
       where
-        by_served : (o : Option ServedShard) → served_at (key_shard (key_of query)) n.served ≡ o → IsSome o → content_decides types item.content query ≡ true
+        by_served : (o : Option ServedShard) → served_at (key_shard (query_key query)) n.served ≡ o → IsSome o → content_decides types item.content query ≡ true
             → IsSomeAnd o (λ s. AreTold n.served → IsExactAnswer types s.view.entries query (content_answer types item.content query) item.version)
         by_served None at none decided = absurd (cc)
-        by_served (Some s) at found decided = λ told. content_answers types s.view.entries query item.version item.content ((is.told told).items (key_of query) item s some at).exact decided
+        by_served (Some s) at found decided = λ told. content_answers types s.view.entries query item.version item.content ((is.told told).items (query_key query) item s some at).exact decided
 
 -- a fill answers as what its note has seen
-pub fill_answers : (types : EdgeTypes) (query : Query) (fill : SealedItem) → fill.key ≡ key_of query → content_decides types fill.content query ≡ true → IsSealed fill
+pub fill_answers : (types : EdgeTypes) (query : Query) (fill : SealedItem) → fill.key ≡ query_key query → content_decides types fill.content query ≡ true → IsSealed fill
     → ViewAnswers types fill.note query (content_answer types fill.content query) fill.version
 fill_answers types query fill key decided sealed told =
     content_answers types fill.note.entries query fill.version fill.content (subst (λ k. IsExactContent fill.note.entries k fill.version fill.content) key (sealed told).exact) decided

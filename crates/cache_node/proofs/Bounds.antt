@@ -7,7 +7,7 @@ use Rattle.tao_base.specs.declared.entry.Change.{Change}
 use Rattle.tao_base.specs.declared.entry.Entry.{Entry}
 use Rattle.tao_base.specs.declared.id.Key.{Key}
 use Rattle.tao_base.specs.declared.id.Key.TheVariants.{Obj, List as Assocs}
-use Rattle.graph_model.specs.Keys.{same_key}
+use Rattle.tao_base.specs.Keys.{same_key}
 use Rattle.list_prefix.proofs.Exact.{after_bounded}
 use Rattle.changeset.specs.Changes.{SeenChange}
 use Rattle.maint_msg.specs.KeyVersions.{keys_of}

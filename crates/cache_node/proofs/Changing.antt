@@ -9,7 +9,7 @@ use Rattle.tao_base.specs.declared.id.Key.{Key}
 use Rattle.tao_base.specs.declared.id.Key.TheVariants.{Obj, List as Assocs}
 use Rattle.graph_model.proofs.Exact.{exact_follows, version_take}
 use Rattle.graph_model.proofs.Rising.{touches_tell}
-use Rattle.graph_model.specs.Keys.{key_shard, same_key}
+use Rattle.tao_base.specs.Keys.{key_shard, same_key}
 use Rattle.graph_model.specs.Log.{IsTouchOf, version}
 use Rattle.graph_model.specs.Soundness.{IsSound}
 use Rattle.shard_log.specs.View.{longer_view}

@@ -11,7 +11,7 @@ use Rattle.tao_base.specs.declared.id.Key.TheVariants.{Obj, List as Assocs}
 use Rattle.graph_model.proofs.Exact.{version_take}
 use Rattle.graph_model.proofs.Later.{all_filter}
 use Rattle.graph_model.proofs.Members.{IsIn, all_in}
-use Rattle.graph_model.specs.Keys.{key_shard, same_key}
+use Rattle.tao_base.specs.Keys.{key_shard, same_key}
 use Rattle.graph_model.specs.Log.{version}
 use Rattle.shard_log.specs.View.{View, longer_view}
 use Rattle.low_water.proofs.AddedMarks.{top_is}

@@ -11,7 +11,7 @@ use Rattle.lru.proofs.Pairs.{lookup-lookup_entry}
 use Rattle.lru.specs.LruCache.{lru_cache, promoted, put_entries}
 use Rattle.tao_base.specs.declared.id.Key.{Key}
 use Rattle.graph_model.proofs.Keys.{same_key-same, same_key-self}
-use Rattle.graph_model.specs.Keys.{same_key}
+use Rattle.tao_base.specs.Keys.{same_key}
 use Rattle.cache_items.specs.declared.item.Item.{Item}
 use Rattle.cache_items.specs.Kept.{kept_items, stays}
 use Rattle.cache_items.specs.Node.{Items, item_at, without}

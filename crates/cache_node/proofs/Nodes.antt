@@ -10,8 +10,8 @@ use Rattle.tao_base.specs.EdgeTypes.{EdgeTypes}
 use Rattle.tao_base.specs.declared.query.Answer.{Answer}
 use Rattle.tao_base.specs.declared.query.Query.{Query}
 use Rattle.graph_model.proofs.Later.{all_append}
-use Rattle.graph_model.specs.Answers.{key_of}
-use Rattle.graph_model.specs.Keys.{key_shard, same_key}
+use Rattle.tao_base.specs.Queries.{query_key}
+use Rattle.tao_base.specs.Keys.{key_shard, same_key}
 use Rattle.graph_model.specs.Soundness.{IsSound}
 use Rattle.graph_model.specs.Told.{WhereTold}
 use Rattle.shard_log.specs.View.{LogName, View, longer_view}
@@ -144,11 +144,11 @@ entries_came old new shard entries note distinct is log sound next here meets sa
     follow_named note (longer_view at.0.view note) shard (low_at shard old.served) entries (meets.meets at.0 at.1).from_note (sound on) (next on) (here on)))
 
 pub look_legal : {E : Type 0} (types : EdgeTypes) (n : Node) (query : Query) (floor : ℕ) (r : Result Look E) → IsTrueNode n
-    → IfOk r (λ look. look ≡ look_of types (item_at n.items (key_of query)) query floor) → IfOk r (LookAnswers types n.served query)
+    → IfOk r (λ look. look ≡ look_of types (item_at n.items (query_key query)) query floor) → IfOk r (LookAnswers types n.served query)
 look_legal types n query floor (Ok look) is same = look_answers types n query floor look is same
 look_legal types n query floor (Err e) is same = tt
 
-pub fill_legal : {E : Type 0} (types : EdgeTypes) (query : Query) (fill : SealedItem) (r : Result (Answer × Kept) E) → fill.key ≡ key_of query → content_decides types fill.content query ≡ true → IsSealed fill
+pub fill_legal : {E : Type 0} (types : EdgeTypes) (query : Query) (fill : SealedItem) (r : Result (Answer × Kept) E) → fill.key ≡ query_key query → content_decides types fill.content query ≡ true → IsSealed fill
     → IfOk r (λ x. x.0 ≡ content_answer types fill.content query) → IfOk r (λ x. ViewAnswers types fill.note query x.0 fill.version)
 fill_legal types query fill (Ok x) key decided sealed same = subst (λ a. ViewAnswers types fill.note query a fill.version) (sym same) (fill_answers types query fill key decided sealed)
 fill_legal types query fill (Err e) key decided sealed same = tt

@@ -15,9 +15,8 @@ use Rattle.graph_model.proofs.Keys.{same_key-same}
 use Rattle.graph_model.proofs.Later.{all_map as all_weaker}
 use Rattle.graph_model.proofs.Members.{all_in}
 use Rattle.graph_model.proofs.Rising.{touches_tell}
-use Rattle.graph_model.specs.Keys.{key_shard, same_key}
-use Rattle.graph_model.specs.Log.{version}
-use Rattle.graph_model.specs.Merges.{entry_at}
+use Rattle.tao_base.specs.Keys.{key_shard, same_key}
+use Rattle.graph_model.specs.Log.{version, entry_at}
 use Rattle.graph_model.specs.Soundness.{IsSound}
 use Rattle.shard_log.proofs.GrowthLemmas.{entry_stays}
 use Rattle.shard_log.specs.View.{View, Grows}

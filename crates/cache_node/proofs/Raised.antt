@@ -5,7 +5,7 @@ use Rattle.std.specs.List.{AllByRecursion}
 use Rattle.std.specs.Prelude.{max}
 use Rattle.tao_base.specs.declared.id.Key.{Key}
 use Rattle.graph_model.proofs.Keys.{same_key-same}
-use Rattle.graph_model.specs.Keys.{key_shard, same_key}
+use Rattle.tao_base.specs.Keys.{key_shard, same_key}
 use Rattle.graph_model.specs.Log.{version}
 use Rattle.ask_table.specs.declared.ask.Ask.{Ask}
 use Rattle.ask_table.specs.Asks.{Asks, with_floor}

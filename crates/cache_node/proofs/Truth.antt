@@ -8,7 +8,7 @@ use Rattle.tao_base.specs.declared.entry.Entry.{Entry}
 use Rattle.tao_base.specs.declared.id.Key.{Key}
 use Rattle.graph_model.proofs.Later.{all_map as all_weaker}
 use Rattle.graph_model.proofs.Members.{IsIn, all_from_in, all_in}
-use Rattle.graph_model.specs.Keys.{key_shard}
+use Rattle.tao_base.specs.Keys.{key_shard}
 use Rattle.shard_log.proofs.Beginnings.{begins-length}
 use Rattle.shard_log.proofs.GrowthLemmas.{entry_stays, versions_stay}
 use Rattle.shard_log.specs.View.{View, Grows, longer_view}

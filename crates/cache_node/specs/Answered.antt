@@ -4,8 +4,9 @@ use Rattle.tao_base.specs.EdgeTypes.{EdgeTypes}
 use Rattle.tao_base.specs.declared.entry.Entry.{Entry}
 use Rattle.tao_base.specs.declared.query.Answer.{Answer}
 use Rattle.tao_base.specs.declared.query.Query.{Query}
-use Rattle.graph_model.specs.Answers.{answer as log_answer, key_of}
-use Rattle.graph_model.specs.Keys.{key_shard}
+use Rattle.graph_model.specs.Answers.{answer as log_answer}
+use Rattle.tao_base.specs.Queries.{query_key}
+use Rattle.tao_base.specs.Keys.{key_shard}
 use Rattle.graph_model.specs.Prefixes.{IsExact}
 use Rattle.graph_model.specs.Told.{WhereTold}
 use Rattle.shard_log.specs.View.{View}
@@ -16,7 +17,7 @@ use Rattle.cache_items.specs.declared.look.Look.TheVariants.{Hit, Miss}
 
 -- the log has reached the version, and each beginning of that version answers so
 abbrev pub IsExactAnswer : EdgeTypes → List Entry → Query → Answer → ℕ → Type 0
-IsExactAnswer types log query given version = IsExact log (key_of query) version (λ part. given ≡ log_answer types part query)
+IsExactAnswer types log query given version = IsExact log (query_key query) version (λ part. given ≡ log_answer types part query)
 
 -- where the log is told, what was seen of it answers so
 abbrev pub ViewAnswers : EdgeTypes → View → Query → Answer → ℕ → Type 0
@@ -26,4 +27,4 @@ ViewAnswers types view query given version = WhereTold view.log.told (IsExactAns
 abbrev pub LookAnswers : EdgeTypes → List ServedShard → Query → Look → Type 0
 LookAnswers types served query Miss = ⊤
 LookAnswers types served query (Hit given version) =
-    IsSomeAnd (served_at (key_shard (key_of query)) served) (λ s. AreTold served → IsExactAnswer types s.view.entries query given version)
+    IsSomeAnd (served_at (key_shard (query_key query)) served) (λ s. AreTold served → IsExactAnswer types s.view.entries query given version)

@@ -9,8 +9,8 @@ use Rattle.tao_base.specs.declared.id.Key.{Key}
 use Rattle.tao_base.specs.declared.query.Answer.{Answer}
 use Rattle.tao_base.specs.declared.query.Query.{Query}
 use Rattle.graph_model.specs.Log.{version}
-use Rattle.graph_model.specs.Machine.{IsLegal}
-use Rattle.graph_model.specs.Keys.{same_key}
+use Rattle.graph_model.specs.Legal.{IsLegal}
+use Rattle.tao_base.specs.Keys.{same_key}
 use Rattle.shard_log.specs.View.{Begins}
 use Rattle.low_water.specs.Marks.{IsWindow}
 use Rattle.lru.specs.LruCache.{promoted}

@@ -4,9 +4,8 @@ use Rattle.std.specs.List.{AllByRecursion}
 use Rattle.std.specs.Option.{option_map_or}
 use Rattle.tao_base.specs.declared.entry.Entry.{Entry}
 use Rattle.tao_base.specs.declared.id.Key.{Key}
-use Rattle.graph_model.specs.Keys.{key_shard, same_key}
-use Rattle.graph_model.specs.Log.{version}
-use Rattle.graph_model.specs.Merges.{entry_at}
+use Rattle.tao_base.specs.Keys.{key_shard, same_key}
+use Rattle.graph_model.specs.Log.{version, entry_at}
 use Rattle.graph_model.specs.Soundness.{IsSound}
 use Rattle.low_water.specs.Marks.{is_marked}
 use Rattle.ask_table.specs.declared.ask.Ask.{Ask}

@@ -2,7 +2,7 @@
 ghost use Rattle.std.specs.List.{IsDistinct};
 ghost use Rattle.std.specs.Map.{keys_of as keys_held};
 ghost use Rattle.tao_base.specs.EdgeTypes.{EdgeTypes};
-ghost use Rattle.graph_model.specs.Keys.{same_key};
+ghost use Rattle.tao_base.specs.Keys.{same_key};
 ghost use Rattle.cache_node.specs.Laws.{AnswersAreLegal, CatchingUpReaches, ItemsAreFewer, ItemsReachTheMark, ItemsStayWithin, ServedChanges};
 ghost use Rattle.cache_items.specs.Node.{Items, ServedShard};
 ghost use Rattle.std.specs.Prelude.{ℕ, List};

@@ -4,8 +4,8 @@ ghost use Rattle.std.specs.List.{IsDistinct};
 ghost use Rattle.std.specs.Map.{keys_of as keys_held};
 ghost use Rattle.lru.specs.LruCache.{last_entry, promoted};
 ghost use Rattle.ask_table.specs.Asks.{IsTable, is_full};
-ghost use Rattle.graph_model.specs.Answers.{key_of};
-ghost use Rattle.graph_model.specs.Keys.{key_shard, same_key};
+ghost use Rattle.tao_base.specs.Queries.{query_key};
+ghost use Rattle.tao_base.specs.Keys.{key_shard, same_key};
 ghost use Rattle.graph_model.specs.Told.{WhereTold};
 ghost use Rattle.tao_schema.specs.Schema.{types_of};
 ghost use Rattle.cache_node.specs.Answered.{LookAnswers, ViewAnswers};
@@ -110,8 +110,8 @@ impl CacheNode {
     /// the query. That item then stands first; a miss leaves the order. After want of memory nothing
     /// has changed.
     pub fn look(&mut self, schema: &Schema, query: &Query, floor: u64) -> Result<Look, OutOfMemory>
-        ensures look { IfOk result (λ look. look ≡ look_of (types_of schema.now) (item_at self.old.items (key_of query.now)) query.now floor) }
-        ensures node { IfOk result (λ look. self.new ≡ looked_at (key_of query.now) look self.old) }
+        ensures look { IfOk result (λ look. look ≡ look_of (types_of schema.now) (item_at self.old.items (query_key query.now)) query.now floor) }
+        ensures node { IfOk result (λ look. self.new ≡ looked_at (query_key query.now) look self.old) }
         ensures err { OnErr result (self.new ≡ self.old) }
         ensures legal { IfOk result (LookAnswers (types_of schema.now) self.old.served query.now) }
     {
@@ -150,7 +150,7 @@ impl CacheNode {
         query: &Query,
         fill: Fill,
     ) -> Result<(Answer, Kept), OutOfMemory>
-        requires key { fill.key ≡ key_of query.now }
+        requires key { fill.key ≡ query_key query.now }
         requires decides { content_decides (types_of schema.now) fill.content query.now ≡ true }
         requires log { log_at (key_shard fill.key) self.old.served ≡ Some fill.note.log }
         requires ask { IfSome ask (λ no. IfSome (ask_at no self.old.asks) (λ a. a.key ≡ fill.key)) }
@@ -175,7 +175,7 @@ impl CacheNode {
         query: &Query,
         fill: Fill,
     ) -> Result<(Answer, Kept), OutOfMemory>
-        requires key { fill.key ≡ key_of query.now }
+        requires key { fill.key ≡ query_key query.now }
         requires decides { content_decides (types_of schema.now) fill.content query.now ≡ true }
         requires log { log_at (key_shard fill.key) self.old.served ≡ Some fill.note.log }
         ensures answer { IfOk result (λ r. r.0 ≡ content_answer (types_of schema.now) fill.content query.now) }

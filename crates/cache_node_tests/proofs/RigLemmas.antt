@@ -12,7 +12,7 @@ use Rattle.tao_base.specs.declared.query.Answer.{Answer}
 use Rattle.tao_base.specs.declared.query.Query.{Query}
 use Rattle.tao_base.specs.declared.query.Query.TheVariants.{AssocCount}
 use Rattle.graph_model.proofs.Later.{all_append, all_filter, all_map as all_weaker}
-use Rattle.graph_model.specs.Keys.{key_shard}
+use Rattle.tao_base.specs.Keys.{key_shard}
 use Rattle.shard_log.specs.View.{View}
 use Rattle.list_prefix.specs.ListPrefix.{ListPrefix}
 use Rattle.lru.proofs.Splits.{all_map}

@@ -2,7 +2,7 @@
 use Rattle.std.specs.Prelude.{◌≡◌, false, [], ◌∷◌, map}
 use Rattle.std.specs.List.{AllByRecursion}
 use Rattle.tao_base.specs.declared.id.Key.{Key}
-use Rattle.graph_model.specs.Keys.{key_shard}
+use Rattle.tao_base.specs.Keys.{key_shard}
 use Rattle.cache_items.specs.Node.{Node}
 
 -- the node serves the shard 0 alone, whose log isn't told, and each open ask is on the key, which lies there

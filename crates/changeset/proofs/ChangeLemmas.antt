@@ -6,8 +6,7 @@ use Rattle.tao_base.specs.declared.entry.Change.{Change}
 use Rattle.tao_base.specs.declared.entry.Entry.{Entry}
 use Rattle.tao_base.specs.declared.entry.Touch.{Touch}
 use Rattle.graph_model.proofs.Sound.{slice_get-take}
-use Rattle.graph_model.specs.Log.{IsTouchOf}
-use Rattle.graph_model.specs.Merges.{entry_at}
+use Rattle.graph_model.specs.Log.{IsTouchOf, entry_at}
 use Rattle.graph_model.specs.Soundness.{IsSound, TouchFollows}
 use Rattle.graph_model.specs.Told.{WhereTold}
 use Rattle.shard_log.specs.View.{View, Grows}

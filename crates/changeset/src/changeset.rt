@@ -32,7 +32,7 @@ impl Model for Changeset {
 impl Changeset {
     ghost use Rattle.std.specs.Prelude.{◌≡◌, ◌+◌, ◌<◌, IfOk, Some, length, slice_get};
     ghost use Rattle.graph_model.specs.Log.{IsTouchOf};
-    ghost use Rattle.graph_model.specs.Merges.{entry_at};
+    ghost use Rattle.graph_model.specs.Log.{entry_at};
     ghost use Rattle.graph_model.specs.Soundness.{IsSound};
     ghost use Rattle.graph_model.specs.Told.{WhereTold};
     ghost use Rattle.shard_log.specs.View.{Grows};

@@ -3,7 +3,7 @@
 #![tactic(auto)]
 
 ghost use Rattle.std.specs.Prelude.{◌≡◌, Some};
-ghost use Rattle.graph_model.specs.Merges.{join};
+ghost use Rattle.graph_model.specs.Records.{join};
 
 use tao_base::EdgeState;
 

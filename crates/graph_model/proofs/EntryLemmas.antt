@@ -17,7 +17,7 @@ use Rattle.graph_model.proofs.Objects.{object_in-snoc}
 use Rattle.graph_model.proofs.Versions.{changes_of-append, version-append, untouched}
 use Rattle.graph_model.specs.Edges.{edge_list, edge_record, list_after, live_edges, newest_first, record_after, record_in}
 use Rattle.graph_model.specs.EntryLaws.{AppliesTouch, AppliesTouches, ChangesByTouch, ListFollows, ObjectFollows, RecordFollows, VersionFollows}
-use Rattle.graph_model.specs.Keys.{same_key}
+use Rattle.tao_base.specs.Keys.{same_key}
 use Rattle.graph_model.specs.Log.{object, changes_at, changes_of, object_after, object_in, touches_key, version}
 
 -- what changes by a step at a list's end changes by that step for each element that is added

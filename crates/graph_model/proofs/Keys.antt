@@ -7,7 +7,7 @@ use Rattle.tao_base.specs.declared.id.AType.{AType}
 use Rattle.tao_base.specs.declared.id.Key.{Key}
 use Rattle.tao_base.specs.declared.id.Key.TheVariants.{Obj, List as Assocs}
 use Rattle.graph_model.proofs.Lists.{eqb-same, eqb-self}
-use Rattle.graph_model.specs.Keys.{same_key}
+use Rattle.tao_base.specs.Keys.{same_key}
 
 pub same_key-self : (k : Key) → same_key k k ≡ true
 same_key-self (Obj id) = eqb-self id

@@ -19,7 +19,7 @@ use Rattle.graph_model.proofs.Keys.{same_key-same}
 use Rattle.graph_model.proofs.Sound.{sound_take}
 use Rattle.graph_model.proofs.Versions.{changes_of-append, untouched}
 use Rattle.graph_model.specs.Edges.{edge_list, insert_edge, is_at, live_edges, newest_first}
-use Rattle.graph_model.specs.Keys.{same_key}
+use Rattle.tao_base.specs.Keys.{same_key}
 use Rattle.graph_model.specs.Log.{changes_at, changes_of, touches_key, version}
 use Rattle.graph_model.specs.Prefixes.{IsExactList}
 use Rattle.graph_model.specs.Soundness.{IsSound}

@@ -3,7 +3,7 @@ use Rattle.std.proofs.Common.{◌≡◌, ◌≢◌, ℕ, List, [], ◌∷◌, �
 use Rattle.std.proofs.lemmas.List.Elements.{All-contains, All-pop}
 use Rattle.std.specs.Option.{option_or}
 use Rattle.std.specs.Prelude.{AllPairs, Contains, IfSome, Option, Some, None}
-use Rattle.tao_base.specs.EdgeTypes.{EdgeTypes}
+use Rattle.tao_base.specs.EdgeTypes.{EdgeTypes, InversesMatch}
 use Rattle.tao_base.specs.Ids.{shard_of}
 use Rattle.tao_base.specs.declared.edge.EdgeState.{EdgeState}
 use Rattle.tao_base.specs.declared.entry.Entry.{Entry}
@@ -12,7 +12,7 @@ use Rattle.tao_base.specs.declared.id.Id.{Id}
 use Rattle.graph_model.proofs.Lists.{snoc_ind}
 use Rattle.graph_model.proofs.Sound.{before_last, last_follows}
 use Rattle.graph_model.specs.Edges.{edge_record}
-use Rattle.graph_model.specs.EndLaws.{InversesMatch, NearEndsArePaired}
+use Rattle.graph_model.specs.EndLaws.{NearEndsArePaired}
 use Rattle.graph_model.specs.Soundness.{EdgeUpdate, IsSoundOf, KeepsEnds, other_end, updates_of}
 use Rattle.graph_model.proofs.Updates.{edge_record-append, record_of_update, update_of_record}
 

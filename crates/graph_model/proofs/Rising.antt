@@ -20,7 +20,7 @@ use Rattle.graph_model.proofs.Sound.{last_follows, sound_take}
 use Rattle.graph_model.proofs.Updates.{edge_record-append, record_of_update, update_of_record}
 use Rattle.graph_model.specs.Edges.{edge_record}
 use Rattle.graph_model.specs.Log.{version}
-use Rattle.graph_model.specs.Merges.{HasStamp, is_later}
+use Rattle.graph_model.specs.Records.{HasStamp, is_later}
 use Rattle.graph_model.specs.SoundLaws.{SoundTouchesTell, StampsRise, StampsStay}
 use Rattle.graph_model.specs.Soundness.{CanFollow, EdgeUpdate, IsSound, TouchFollows, update_at, updates_of}
 

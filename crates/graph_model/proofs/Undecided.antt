@@ -14,7 +14,7 @@ use Rattle.graph_model.proofs.Applied.{is_prefix, length_insert}
 use Rattle.graph_model.proofs.Later.{all_both, all_filter, all_take, EachWithLater-across, EachWithLater-append, EachWithLater-filter, EachWithLater-left, EachWithLater-right, EachWithLater-take}
 use Rattle.graph_model.proofs.Lists.{all_insert, distinct_insert, or_false, sorted_insert, without_none, without_same, eqb-same}
 use Rattle.graph_model.specs.Answers.{at_least, at_most, list_answer, range, to_ids, within}
-use Rattle.graph_model.specs.Edges.{AreDistinct, IsInOrder, IsNewestFirst, Without, insert_edge, is_newer, without_edge}
+use Rattle.graph_model.specs.Edges.{AreDistinct, IsInListOrder, IsNewestFirst, Without, insert_edge, is_newer, without_edge}
 use Rattle.graph_model.specs.PrefixLaws.{CanStandBehind, IsOpen, UndecidedIsOpen, asks_for}
 use Rattle.graph_model.specs.Prefixes.{IsPrefixOf, count_within, decides, ends_below, ends_below_given, is_empty_span}
 
@@ -47,16 +47,16 @@ distinct_restamped : (qs : List Edge) (g : Edge) (xs : List Edge) → AreDistinc
 distinct_restamped [] g xs h = h
 distinct_restamped (q ∷ qs) g xs h = (all_restamped (λ e. e.id2 ≢ q.id2) (λ e k. k) qs g xs h.0, distinct_restamped qs g xs h.1)
 
-in_order_restamped : (edges qs : List Edge) (g : Edge) (xs : List Edge) → IsInOrder (edges ++ (qs ++ g ∷ xs)) → IsInOrder (edges ++ (qs ++ restamped g ∷ xs))
+in_order_restamped : (edges qs : List Edge) (g : Edge) (xs : List Edge) → IsInListOrder (edges ++ (qs ++ g ∷ xs)) → IsInListOrder (edges ++ (qs ++ restamped g ∷ xs))
 in_order_restamped edges qs g xs h =
-    let apart : IsInOrder ((edges ++ qs) ++ g ∷ xs) = subst IsInOrder (sym (append_assoc edges qs (g ∷ xs))) h in
-    subst IsInOrder (append_assoc edges qs (restamped g ∷ xs)) (record {
+    let apart : IsInListOrder ((edges ++ qs) ++ g ∷ xs) = subst IsInListOrder (sym (append_assoc edges qs (g ∷ xs))) h in
+    subst IsInListOrder (append_assoc edges qs (restamped g ∷ xs)) (record {
       newest_first = newest_restamped (edges ++ qs) g xs apart.newest_first;
       distinct = distinct_restamped (edges ++ qs) g xs apart.distinct;
     })
 
 -- a list in order and the same with another stamp at one place behind the first edges
-opened : (bound : ℕ) (edges qs : List Edge) (g : Edge) (xs : List Edge) (total : ℕ) (q : Query) → total ≡ length edges + length (qs ++ g ∷ xs) → IsInOrder (edges ++ (qs ++ g ∷ xs))
+opened : (bound : ℕ) (edges qs : List Edge) (g : Edge) (xs : List Edge) (total : ℕ) (q : Query) → total ≡ length edges + length (qs ++ g ∷ xs) → IsInListOrder (edges ++ (qs ++ g ∷ xs))
     → list_answer bound (edges ++ (qs ++ g ∷ xs)) total q ≢ list_answer bound (edges ++ (qs ++ restamped g ∷ xs)) total q → IsOpen bound edges total q
 opened bound edges qs g xs total q count order differ =
     let long = length-append qs (g ∷ xs) in
@@ -115,7 +115,7 @@ length-swapped f rest d some =
 all_swapped : (P : Edge → Type 0) (f : Edge) (rest : List Edge) → P f → AllByRecursion P rest → AllByRecursion P (swapped f rest)
 all_swapped P f rest here h = all_insert P f _ here (all_take P (length rest - 1) (without_edge f.id2 rest) (all_filter P (λ e. not (e.id2 == f.id2)) rest h))
 
-in_order_swapped : (edges : List Edge) (f : Edge) (rest : List Edge) → IsInOrder (edges ++ rest) → CanStandBehind edges f → IsInOrder (edges ++ swapped f rest)
+in_order_swapped : (edges : List Edge) (f : Edge) (rest : List Edge) → IsInListOrder (edges ++ rest) → CanStandBehind edges f → IsInListOrder (edges ++ swapped f rest)
 in_order_swapped edges f rest order stands =
     let R : Edge → Edge → Type 0 = λ e later. is_newer e later ≡ true in
     let S : Edge → Edge → Type 0 = λ e later. later.id2 ≢ e.id2 in
@@ -139,10 +139,10 @@ record Filters (bound : ℕ) (edges : List Edge) (total : ℕ) (q : Query) (p : 
       → list_answer bound xs total q ≢ list_answer bound ys total q
 
 open_by_filter : (bound : ℕ) (edges rest : List Edge) (total : ℕ) (q : Query) (p : Edge → Bool) (f : Edge) → Filters bound edges total q p → total ≡ length edges + length rest → 0 < length rest
-    → IsInOrder (edges ++ rest) → CanStandBehind edges f → p f ≡ true → IsOpen bound edges total q
+    → IsInListOrder (edges ++ rest) → CanStandBehind edges f → p f ≡ true → IsOpen bound edges total q
 open_by_filter bound edges rest total q p f filters count some order stands passes =
     let w = split_first p (swapped f rest) (any_insert p f _ passes) in
-    let behind : IsInOrder (edges ++ (w.0 ++ w.1 ∷ w.2)) = subst (λ ys. IsInOrder (edges ++ ys)) w.3 (in_order_swapped edges f rest order stands) in
+    let behind : IsInListOrder (edges ++ (w.0 ++ w.1 ∷ w.2)) = subst (λ ys. IsInListOrder (edges ++ ys)) w.3 (in_order_swapped edges f rest order stands) in
     let as_long = length-swapped f rest (EachWithLater-right (λ e later. later.id2 ≢ e.id2) edges rest order.distinct) some in
     let same = ap length w.3 in
     opened bound edges w.0 w.1 w.2 total q (omega arith) behind
@@ -209,12 +209,12 @@ place j xs lt =
     (w.0, w.1, sym (take-append-drop j xs) ∙ ap (λ ys. take j xs ++ ys) w.2)
 
 open_range_at : (bound : ℕ) (edges rest qs : List Edge) (g : Edge) (ys : List Edge) (total id1 : ℕ) (atype : AType) (pos limit : ℕ) → rest ≡ qs ++ g ∷ ys → total ≡ length edges + length rest
-    → IsInOrder (edges ++ rest) → pos ≤ length edges + length qs → length edges + length qs < pos + min limit bound → IsOpen bound edges total (AssocRange id1 atype pos limit)
+    → IsInListOrder (edges ++ rest) → pos ≤ length edges + length qs → length edges + length qs < pos + min limit bound → IsOpen bound edges total (AssocRange id1 atype pos limit)
 open_range_at bound edges rest qs g ys total id1 atype pos limit joined count order enough reaches =
-    opened bound edges qs g ys total (AssocRange id1 atype pos limit) (count ∙ ap (λ xs. length edges + length xs) joined) (subst (λ xs. IsInOrder (edges ++ xs)) joined order)
+    opened bound edges qs g ys total (AssocRange id1 atype pos limit) (count ∙ ap (λ xs. length edges + length xs) joined) (subst (λ xs. IsInListOrder (edges ++ xs)) joined order)
     (range_differs bound edges qs g ys total id1 atype pos limit enough reaches)
 
-open_range : (bound : ℕ) (edges rest : List Edge) (total id1 : ℕ) (atype : AType) (pos limit : ℕ) → total ≡ length edges + length rest → 0 < length rest → IsInOrder (edges ++ rest)
+open_range : (bound : ℕ) (edges rest : List Edge) (total id1 : ℕ) (atype : AType) (pos limit : ℕ) → total ≡ length edges + length rest → 0 < length rest → IsInListOrder (edges ++ rest)
     → 0 < min limit bound → length edges < pos + min limit bound → pos < total → IsOpen bound edges total (AssocRange id1 atype pos limit)
 open_range bound edges rest total id1 atype pos limit count some order used reaches before =
     let first = length-take (pos - length edges) rest in
@@ -231,7 +231,7 @@ leb-not m n h = grind (arith, nat_tests)
 ltb-is : (m n : ℕ) → ltb m n ≡ true → m < n
 ltb-is m n h = grind (arith, nat_tests)
 
-open_behind : (bound : ℕ) (edges rest : List Edge) (q : Query) (e : Edge) → decides bound edges (length edges + length rest) q ≡ false → IsInOrder (edges ++ rest) → CanStandBehind edges e
+open_behind : (bound : ℕ) (edges rest : List Edge) (q : Query) (e : Edge) → decides bound edges (length edges + length rest) q ≡ false → IsInListOrder (edges ++ rest) → CanStandBehind edges e
     → asks_for bound q e ≡ true → IsOpen bound edges (length edges + length rest) q
 open_behind bound edges rest (ObjGet id) e h order stands asks = absurd (cc)
 open_behind bound edges rest (AssocCount id1 atype) e h order stands asks = absurd (cc)
@@ -258,13 +258,13 @@ open_behind bound edges rest (AssocGet id1 atype ids high low) e h order stands 
     open_by_filter bound edges rest total (AssocGet id1 atype ids high low) (λ x. list_any (λ id. id == x.id2) ids && (at_least low x.time && at_most high x.time)) e
     (get_filters bound edges total id1 atype ids high low) refl (not_all (length edges) (length rest) first.0) order stands asks
 
-undecided : (bound : ℕ) (edges : List Edge) (total : ℕ) (q : Query) → decides bound edges total q ≡ false → (whole : List Edge) → IsPrefixOf edges total whole → IsInOrder whole
+undecided : (bound : ℕ) (edges : List Edge) (total : ℕ) (q : Query) → decides bound edges total q ≡ false → (whole : List Edge) → IsPrefixOf edges total whole → IsInListOrder whole
     → (e : Edge) → CanStandBehind edges e → asks_for bound q e ≡ true → IsOpen bound edges total q
 undecided bound edges total q h whole p order e stands asks =
     let rest : List Edge = drop (length edges) whole in
     let joined : edges ++ rest ≡ whole = ap (λ x. x ++ rest) p.begins ∙ take-append-drop (length edges) whole in
     let count : total ≡ length edges + length rest = p.length_is ∙ ap length (sym joined) ∙ length-append edges rest in
-    subst (λ n. IsOpen bound edges n q) (sym count) (open_behind bound edges rest q e (subst (λ n. decides bound edges n q ≡ false) count h) (subst IsInOrder (sym joined) order) stands asks)
+    subst (λ n. IsOpen bound edges n q) (sym count) (open_behind bound edges rest q e (subst (λ n. decides bound edges n q ≡ false) count h) (subst IsInListOrder (sym joined) order) stands asks)
 
 pub undecided_is_open : (bound : ℕ) (edges : List Edge) (total : ℕ) (q : Query) → UndecidedIsOpen bound edges total q
 undecided_is_open bound edges total q = record { is_open = undecided bound edges total q }

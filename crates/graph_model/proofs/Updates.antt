@@ -22,7 +22,7 @@ use Rattle.graph_model.proofs.Lists.{eqb-self, eqb-same}
 use Rattle.graph_model.proofs.Members.{contains_filter_map, contains_filter_map_parts}
 use Rattle.graph_model.proofs.Versions.{changes_of-append, untouched}
 use Rattle.graph_model.specs.Edges.{edge_record, is_at, record_in, state_left, state_of}
-use Rattle.graph_model.specs.Keys.{same_key}
+use Rattle.tao_base.specs.Keys.{same_key}
 use Rattle.graph_model.specs.Log.{changes_at, changes_of, touches_key}
 use Rattle.graph_model.specs.Soundness.{EdgeUpdate, update_at, updates_of}
 

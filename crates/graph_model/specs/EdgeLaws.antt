@@ -6,7 +6,7 @@ use Rattle.tao_base.specs.declared.id.AType.{AType}
 use Rattle.tao_base.specs.declared.id.Key.TheVariants.{List as Assocs}
 use Rattle.tao_base.specs.declared.entry.Entry.{Entry}
 use Rattle.graph_model.specs.Answers.{range}
-use Rattle.graph_model.specs.Edges.{IsEdgeList, IsInOrder, edge_list}
+use Rattle.graph_model.specs.Edges.{IsEdgeList, IsInListOrder, edge_list}
 use Rattle.graph_model.specs.Log.{changes_of}
 
 -- the list is the only one that the law of a list allows
@@ -16,4 +16,4 @@ pub record ListIsTheOnlyOne (log : List Entry) (id1 : Id) (atype : AType) : Type
 
 -- each stretch of a list, the whole included, is in order
 abbrev pub StretchesAreInOrder : List Entry → Id → AType → Type 0
-StretchesAreInOrder log id1 atype = (pos most : ℕ) → IsInOrder (range pos most (edge_list log id1 atype))
+StretchesAreInOrder log id1 atype = (pos most : ℕ) → IsInListOrder (range pos most (edge_list log id1 atype))

@@ -1,16 +1,12 @@
 -- The two ends of an edge.
 use Rattle.std.specs.Prelude.{ℕ, List, Some, ◌≡◌}
-use Rattle.tao_base.specs.EdgeTypes.{EdgeTypes}
+use Rattle.tao_base.specs.EdgeTypes.{EdgeTypes, InversesMatch}
 use Rattle.tao_base.specs.Ids.{shard_of}
 use Rattle.tao_base.specs.declared.id.Id.{Id}
 use Rattle.tao_base.specs.declared.id.AType.{AType}
 use Rattle.tao_base.specs.declared.entry.Entry.{Entry}
 use Rattle.graph_model.specs.Edges.{edge_record}
 use Rattle.graph_model.specs.Soundness.{IsSoundOf}
-
--- the inverse of a type has that type as its inverse
-abbrev pub InversesMatch : EdgeTypes → Type 0
-InversesMatch types = (atype inverse : AType) → types.inverse atype ≡ Some inverse → types.inverse inverse ≡ Some atype
 
 -- in a sound log of a shard, an edge whose two ends lie on the shard has the same record at both
 abbrev pub NearEndsArePaired : ℕ → List Entry → Type 0

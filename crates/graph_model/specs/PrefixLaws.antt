@@ -6,7 +6,7 @@ use Rattle.tao_base.specs.declared.entry.Change.{Change}
 use Rattle.tao_base.specs.declared.query.Query.{Query}
 use Rattle.tao_base.specs.declared.query.Query.TheVariants.{ObjGet, AssocGet, AssocCount, AssocRange, AssocTimeRange}
 use Rattle.graph_model.specs.Answers.{at_least, at_most, list_answer}
-use Rattle.graph_model.specs.Edges.{IsInOrder, IsNewestFirst, Without, is_newer, list_after}
+use Rattle.graph_model.specs.Edges.{IsInListOrder, IsNewestFirst, Without, is_newer, list_after}
 use Rattle.graph_model.specs.Prefixes.{IsDecided, IsPrefixOf, SaysWas, decides, edges_after, total_after}
 
 -- the test is the table
@@ -16,7 +16,7 @@ DecidesExactly bound edges total query = (decides bound edges total query ≡ tr
 -- the law of deciding: the answer then read is that of each list in order that begins so and has that length
 abbrev pub DecidesRightly : ℕ → List Edge → ℕ → Query → Type 0
 DecidesRightly bound edges total query = decides bound edges total query ≡ true → (whole : List Edge) → IsPrefixOf edges total whole
-    → IsInOrder whole → list_answer bound edges total query ≡ list_answer bound whole (length whole) query
+    → IsInListOrder whole → list_answer bound edges total query ≡ list_answer bound whole (length whole) query
 
 -- an edge could stand behind the edges: each of them is newer, and none goes to its id
 pub record CanStandBehind (edges : List Edge) (e : Edge) : Type 0 where
@@ -37,15 +37,15 @@ pub record IsOpen (bound : ℕ) (edges : List Edge) (total : ℕ) (query : Query
   pub other : List Edge
   pub one_begins : IsPrefixOf edges total one
   pub other_begins : IsPrefixOf edges total other
-  pub one_in_order : IsInOrder one
-  pub other_in_order : IsInOrder other
+  pub one_in_order : IsInListOrder one
+  pub other_in_order : IsInListOrder other
   pub differ : list_answer bound one total query ≢ list_answer bound other total query
 
 -- the converse: a query that is not decided is open, where any list begins so and an edge that the query asks for could stand behind the first edges.
 -- In two corners there is none such, and the test says undecided all the same: a range of no places, and where the last of the edges has the least
 -- time that is asked for, and below its id stands none that is asked for and new
 pub record UndecidedIsOpen (bound : ℕ) (edges : List Edge) (total : ℕ) (query : Query) : Type 0 where
-  pub is_open : decides bound edges total query ≡ false → (whole : List Edge) → IsPrefixOf edges total whole → IsInOrder whole
+  pub is_open : decides bound edges total query ≡ false → (whole : List Edge) → IsPrefixOf edges total whole → IsInListOrder whole
       → (e : Edge) → CanStandBehind edges e → asks_for bound query e ≡ true → IsOpen bound edges total query
 
 -- the law of applying a change: an exact prefix becomes one of the list after the change

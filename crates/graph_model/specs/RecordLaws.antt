@@ -1,7 +1,7 @@
 -- Laws of the join of two records of one edge.
 use Rattle.std.specs.Prelude.{◌≡◌}
 use Rattle.tao_base.specs.declared.edge.EdgeState.{EdgeState}
-use Rattle.graph_model.specs.Merges.{Agree, later_of}
+use Rattle.graph_model.specs.Records.{Agree, later_of}
 
 -- joining records of one edge in any order and any number of times gives one record
 pub record JoinLaws : Type 0 where

@@ -10,9 +10,8 @@ use Rattle.tao_base.specs.declared.entry.Entry.{Entry}
 use Rattle.tao_base.specs.declared.entry.Origin.{Origin}
 use Rattle.graph_model.specs.Edges.{edge_record, live_time}
 use Rattle.graph_model.specs.Log.{version}
-use Rattle.graph_model.specs.Merges.{HasStamp, is_news}
+use Rattle.graph_model.specs.Records.{HasStamp, is_news}
 use Rattle.graph_model.specs.Soundness.{CanFollow, EdgeUpdate, IsSound, IsSoundOf, KeepsEnds, TouchFollows, is_client, update_at, updates_of, was_of}
-use Rattle.graph_model.specs.Writes.{edge_touch, next_stamp}
 
 -- a sound log grows by an entry that can follow it, and each beginning of a sound log is sound
 pub record SoundGrows (log : List Entry) (e : Entry) : Type 0 where
@@ -44,9 +43,3 @@ pub record StampsRise (log : List Entry) : Type 0 where
 pub record StampsStay (log : List Entry) : Type 0 where
   pub stays : (more : List Entry) (u : EdgeUpdate) → IsSound (log ++ more) → HasStamp log u → HasStamp (log ++ more) u
   pub reached : (e : Entry) (u : EdgeUpdate) → IsSound (log ++ e ∷ []) → Contains (updates_of e) u → HasStamp (log ++ e ∷ []) u
-
--- a record with a later stamp than the log's makes a touch that follows the log, and the next stamp is later
-pub record LaterTouches (log : List Entry) (origin : Origin) (id1 : Id) (atype : AType) (id2 : Id) (state : EdgeState) : Type 0 where
-  pub follows : is_news log (id1, atype, id2, state) ≡ true → (IsTrue (is_client origin) → (stamp_of state).shard ≡ shard_of id1)
-      → TouchFollows log origin (edge_touch log (id1, atype, id2, state))
-  pub next : stamp_of state ≡ next_stamp log id1 atype id2 → is_news log (id1, atype, id2, state) ≡ true

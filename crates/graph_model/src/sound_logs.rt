@@ -1,14 +1,7 @@
 //! Laws of sound logs.
-ghost use Rattle.graph_model.specs.SoundLaws.{
-  LaterTouches,
-  SoundGrows,
-  SoundOfGrows,
-  SoundTouchesTell,
-  StampsRise,
-  StampsStay,
-};
+ghost use Rattle.graph_model.specs.SoundLaws.{SoundGrows, SoundOfGrows, SoundTouchesTell, StampsRise, StampsStay};
 
-use tao_base::{AType, EdgeState, Entry, Id, Origin};
+use tao_base::Entry;
 
 /// A sound log grows by entries that can follow it.
 #[tactic(auto, using(crate::proofs::Sound::sound_grows))]
@@ -38,17 +31,4 @@ pub fn stamps_rise(_log: &[Entry])
 #[tactic(auto, using(crate::proofs::Rising::stamps_stay))]
 pub fn stamps_stay(_log: &[Entry])
     ensures { StampsStay _log.now }
-{}
-
-/// A record with a later stamp than the log's makes a touch that follows the log.
-#[tactic(auto, using(crate::proofs::Touches::later_touches))]
-pub fn later_records_follow(
-    _log: &[Entry],
-    _origin: &Origin,
-    _id1: Id,
-    _atype: AType,
-    _id2: Id,
-    _state: &EdgeState,
-)
-    ensures { LaterTouches _log.now _origin.now _id1 _atype _id2 _state.now }
 {}

@@ -20,7 +20,7 @@ use Rattle.graph_model.proofs.Applied.{length_insert}
 use Rattle.graph_model.proofs.Keys.{same_key-same}
 use Rattle.graph_model.proofs.Versions.{changes_of-append}
 use Rattle.graph_model.specs.Edges.{edge_list, insert_edge, is_at, live_edges, newest_first}
-use Rattle.graph_model.specs.Keys.{same_key}
+use Rattle.tao_base.specs.Keys.{same_key}
 use Rattle.graph_model.specs.Log.{changes_of}
 use Rattle.graph_model.specs.Soundness.{IsSound}
 

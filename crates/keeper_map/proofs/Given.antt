@@ -9,8 +9,7 @@ use Rattle.tao_base.specs.declared.entry.Entry.{Entry}
 use Rattle.tao_base.specs.declared.entry.Origin.{Origin}
 use Rattle.tao_base.specs.declared.entry.Touch.{Touch}
 use Rattle.graph_model.proofs.Members.{if_some}
-use Rattle.graph_model.specs.Merges.{entry_at}
-use Rattle.graph_model.specs.Log.{touches_key, version}
+use Rattle.graph_model.specs.Log.{entry_at, touches_key, version}
 use Rattle.graph_model.specs.Soundness.{CanFollow, IsSound, TouchFollows}
 use Rattle.tao_keeper.specs.Given.{HaveSmallStamps, IsGivenEntry}
 use Rattle.tao_keeper.specs.declared.keeper.TheConstants.{MOST_ENTRIES}

@@ -7,7 +7,7 @@ use Rattle.std.specs.Prelude.{Option, Some, None, All, IfSome, ◌==◌}
 use Rattle.tao_base.specs.declared.entry.Entry.{Entry}
 use Rattle.graph_model.proofs.Sound.{sound_grows}
 use Rattle.graph_model.specs.Soundness.{CanFollow, IsSound}
-use Rattle.tao_keeper.specs.Table.{Jobs, with_job, with_opened}
+use Rattle.tao_keeper.specs.Table.{Jobs, with_job, with_new_job}
 use Rattle.tao_keeper.specs.declared.jobs.Job.{Job}
 
 -- a fact that the longer log has too
@@ -32,14 +32,14 @@ last_of_all log entry jobs (Some job) follows of_entries is = λ position past.
 
 -- the open jobs stay those of entries
 pub still_of_entries : (added : Bool) (log now : List Entry) (entry : Entry) (jobs after : Jobs) (job : Option Job) → now ≡ cond added (log ++ entry ∷ []) log
-    → after ≡ cond added (with_opened jobs job) jobs → CanFollow log entry → ((position : ℕ) → length log < position → jobs position ≡ None)
+    → after ≡ cond added (with_new_job jobs job) jobs → CanFollow log entry → ((position : ℕ) → length log < position → jobs position ≡ None)
     → IfSome job (λ j. j.position ≡ entry.position) → (position : ℕ) → length now < position → after position ≡ None
 still_of_entries false log now entry jobs after job log_is jobs_is follows of_entries is position past =
     ap (λ j. j position) jobs_is ∙ of_entries position (subst (λ l. length l < position) log_is past)
 still_of_entries true log now entry jobs after job log_is jobs_is follows of_entries is position past =
     ap (λ j. j position) jobs_is ∙ opens job is
   where
-    opens : (given : Option Job) → IfSome given (λ j. j.position ≡ entry.position) → with_opened jobs given position ≡ None
+    opens : (given : Option Job) → IfSome given (λ j. j.position ≡ entry.position) → with_new_job jobs given position ≡ None
     opens None same = of_entries position (let longer : length now ≡ length log + 1 = ap length log_is ∙ length-append log (entry ∷ []) in omega (arith, longer, past))
     opens (Some given) same =
         let longer : length now ≡ length log + 1 = ap length log_is ∙ length-append log (entry ∷ []) in

@@ -9,9 +9,9 @@ use Rattle.std.specs.Option.{option_map, option_or}
 use Rattle.std.specs.Prelude.{Option, Some, None, All, AllPairs, filter, find, IfSome, nat_lt, not, slice_get, ◌==◌}
 use Rattle.graph_model.proofs.Members.{All-from_in, All-in, IsIn, all_in, recursion_from_AllPairs}
 use Rattle.tao_keeper.specs.Given.{IsGivenJob}
-use Rattle.tao_keeper.specs.Table.{IsFirstJob, IsJobAt, Jobs, with_job}
+use Rattle.tao_keeper.specs.Table.{IsLeastJob, IsJobAt, Jobs, with_job}
 use Rattle.tao_keeper.specs.declared.jobs.Job.{Job}
-use Rattle.keeper_map.specs.Jobs.{is_at, listed}
+use Rattle.keeper_map.specs.Jobs.{is_job_at, listed}
 
 eq_self : (p : ℕ) → (p == p) ≡ true
 eq_self p = grind (arith, nat_tests)
@@ -22,7 +22,7 @@ carry jobs others position None same is = same ∙ is
 carry jobs others position (Some job) same is = (is.0, same ∙ is.1)
 
 -- the job of a position is the one that a search finds
-pub found_is : (jobs : List Job) (position : ℕ) → IsJobAt (listed jobs) position (find (is_at position) jobs)
+pub found_is : (jobs : List Job) (position : ℕ) → IsJobAt (listed jobs) position (find (is_job_at position) jobs)
 found_is [] position = refl
 found_is (job ∷ jobs) position = elim (cases_Bool (job.position == position)) [
   | inl h ↦ (
@@ -31,10 +31,10 @@ found_is (job ∷ jobs) position = elim (cases_Bool (job.position == position)) 
       rw h (here, is))
   | inr h ↦ (
       let same : listed (job ∷ jobs) position ≡ listed jobs position = rw h refl in
-      rw h (carry (listed (job ∷ jobs)) (listed jobs) position (find (is_at position) jobs) same (found_is jobs position)))
+      rw h (carry (listed (job ∷ jobs)) (listed jobs) position (find (is_job_at position) jobs) same (found_is jobs position)))
 ]
 
-pub given_at : (jobs : List Job) (position : ℕ) → All IsGivenJob jobs → IfSome (find (is_at position) jobs) IsGivenJob
+pub given_at : (jobs : List Job) (position : ℕ) → All IsGivenJob jobs → IfSome (find (is_job_at position) jobs) IsGivenJob
 given_at [] position all = tt
 given_at (job ∷ jobs) position all = elim (cases_Bool (job.position == position)) [
   | inl h ↦ rw h (All-in IsGivenJob (job ∷ jobs) job all (inl refl))
@@ -50,7 +50,7 @@ none_at (job ∷ jobs) position apart =
     rw h (none_at jobs position (λ k is. apart k (inr is)))
 
 -- the first job has the least position
-pub first_is : (jobs : List Job) → AllPairs (λ job later. job.position < later.position) jobs → IsFirstJob (listed jobs) (slice_get jobs 0)
+pub first_is : (jobs : List Job) → AllPairs (λ job later. job.position < later.position) jobs → IsLeastJob (listed jobs) (slice_get jobs 0)
 first_is [] rising = λ position. refl
 first_is (job ∷ jobs) rising =
     let pairs = recursion_from_AllPairs (λ x y. x.position < y.position) (job ∷ jobs) rising in (
@@ -111,11 +111,11 @@ opened jobs job last position = elim (cases_Bool (job.position == position)) [
   | inl h ↦ (
       let same : (position == job.position) ≡ true = grind (arith, nat_tests) in
       let past : job.position ≤ position = grind (arith, nat_tests) in
-      let none : find (is_at position) jobs ≡ None = map_none (find (is_at position) jobs) (last position past) in
-      rw (find-append (is_at position) jobs (job ∷ []), none, h, same) refl)
+      let none : find (is_job_at position) jobs ≡ None = map_none (find (is_job_at position) jobs) (last position past) in
+      rw (find-append (is_job_at position) jobs (job ∷ []), none, h, same) refl)
   | inr h ↦ (
       let apart : (position == job.position) ≡ false = grind (arith, nat_tests) in
-      rw (find-append (is_at position) jobs (job ∷ []), h, apart, or_none (find (is_at position) jobs)) refl)
+      rw (find-append (is_job_at position) jobs (job ∷ []), h, apart, or_none (find (is_job_at position) jobs)) refl)
 ]
 
 -- a job that is ended

@@ -4,4 +4,3 @@ pub mod Grown
 pub mod Stamps
 pub mod JobLemmas
 pub mod StoreLemmas
-pub mod Told

@@ -18,7 +18,7 @@ use Rattle.tao_base.specs.declared.id.Key.TheVariants.{List as Assocs}
 use Rattle.graph_model.proofs.Later.{all_filter}
 use Rattle.graph_model.proofs.Lists.{stretches_in_order}
 use Rattle.graph_model.specs.Edges.{edge_list, edge_record, insert_edge, is_at, is_newer, live_edges, newest_first, number_of, state_left}
-use Rattle.graph_model.specs.Keys.{same_key}
+use Rattle.tao_base.specs.Keys.{same_key}
 use Rattle.graph_model.specs.Log.{changes_of}
 use Rattle.tao_keeper.specs.Given.{AreGiven, HaveSmallStamps}
 use Rattle.tao_keeper.specs.declared.keeper.TheConstants.{STAMP_LIMIT}

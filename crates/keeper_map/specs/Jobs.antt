@@ -5,9 +5,9 @@ use Rattle.tao_keeper.specs.Table.{Jobs}
 use Rattle.tao_keeper.specs.declared.jobs.Job.{Job}
 
 -- whether the job is of the entry at the position
-abbrev pub is_at : ℕ → Job → Bool
-is_at position job = job.position == position
+abbrev pub is_job_at : ℕ → Job → Bool
+is_job_at position job = job.position == position
 
 -- the records of these jobs, by position
 abbrev pub listed : List Job → Jobs
-listed jobs position = option_map (λ job. job.edges) (find (is_at position) jobs)
+listed jobs position = option_map (λ job. job.edges) (find (is_job_at position) jobs)

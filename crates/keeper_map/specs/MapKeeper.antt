@@ -1,11 +1,16 @@
--- What the keeper in memory tells.
+-- What the keeper in memory shows, and what it was told to fail.
 use Rattle.keeper_map.specs.declared.map.MapKeeper.{MapKeeper}
-use Rattle.keeper_map.specs.Plan.{Plan}
+use Rattle.keeper_map.specs.Plan.{CallPlan}
 use Rattle.keeper_map.specs.Store.{tables_of}
+use Rattle.tao_keeper.specs.KeeperState.{KeeperState}
 use Rattle.tao_keeper.specs.Table.{Tables}
 
 abbrev pub told_by : MapKeeper → Tables
 told_by keeper = tables_of keeper.stores.tables.items
 
-abbrev pub plan_of : MapKeeper → Plan
-plan_of keeper = keeper.plan
+-- which calls fail, and what was counted so far
+abbrev pub call_plan : MapKeeper → CallPlan
+call_plan keeper = keeper.plan
+
+abbrev pub shown_by : MapKeeper → KeeperState
+shown_by keeper = record { told = told_by keeper; calls = (call_plan keeper).calls.count; faults = (call_plan keeper).faults }

@@ -21,30 +21,30 @@ abbrev pub after_next : Numbered → Numbered
 after_next numbers = record numbers { count = after_one numbers.count }
 
 -- the numbers of the calls and of the commits, of which the listed fail, and how many faults there were
-pub record Plan : Type 0 where
+pub record CallPlan : Type 0 where
   pub calls : Numbered
   pub commits : Numbered
   pub faults : ℕ
 
-abbrev pub after_call : Plan → Plan
-after_call plan = record plan { calls = after_next plan.calls }
+abbrev pub with_call : CallPlan → CallPlan
+with_call plan = record plan { calls = after_next plan.calls }
 
-abbrev pub after_commit : Plan → Plan
-after_commit plan = record plan { calls = after_next plan.calls; commits = after_next plan.commits }
+abbrev pub with_commit : CallPlan → CallPlan
+with_commit plan = record plan { calls = after_next plan.calls; commits = after_next plan.commits }
 
-abbrev pub after_fault : Plan → Plan
-after_fault plan = record plan { faults = after_one plan.faults }
+abbrev pub with_fault : CallPlan → CallPlan
+with_fault plan = record plan { faults = after_one plan.faults }
 
 -- a call that was to fail did, and counted its fault; any other didn't, and counted none
-abbrev pub EndsAsPlanned : {T : Type 0} → Type 0 → Plan → Plan → Result T KeepFail → Type 0
-EndsAsPlanned fails counted now (Err Failed) = fails × (now ≡ after_fault counted)
+abbrev pub EndsAsPlanned : {T : Type 0} → Type 0 → CallPlan → CallPlan → Result T KeepFail → Type 0
+EndsAsPlanned fails counted now (Err Failed) = fails × (now ≡ with_fault counted)
 EndsAsPlanned fails counted now (Err OutOfMemory) = ¬ fails × (now ≡ counted)
 EndsAsPlanned fails counted now (Ok answer) = ¬ fails × (now ≡ counted)
 
 -- a call fails where its number among the calls is listed
-abbrev pub CallsAsPlanned : {T : Type 0} → Plan → Plan → Result T KeepFail → Type 0
-CallsAsPlanned old new result = EndsAsPlanned (IsNextListed old.calls) (after_call old) new result
+abbrev pub CallsAsPlanned : {T : Type 0} → CallPlan → CallPlan → Result T KeepFail → Type 0
+CallsAsPlanned old new result = EndsAsPlanned (IsNextListed old.calls) (with_call old) new result
 
 -- a commit fails there too, and where its number among the commits is listed
-abbrev pub CommitsAsPlanned : {T : Type 0} → Plan → Plan → Result T KeepFail → Type 0
-CommitsAsPlanned old new result = EndsAsPlanned (IsNextListed old.calls ⊎ IsNextListed old.commits) (after_commit old) new result
+abbrev pub CommitsAsPlanned : {T : Type 0} → CallPlan → CallPlan → Result T KeepFail → Type 0
+CommitsAsPlanned old new result = EndsAsPlanned (IsNextListed old.calls ⊎ IsNextListed old.commits) (with_commit old) new result

@@ -1,7 +1,7 @@
 //! The open jobs of one store, in memory.
 ghost use Rattle.std.specs.Prelude.{◌≡◌, ◌<◌, All, AllPairs, filter, find, not, option_copied};
 ghost use Rattle.std.proofs.Props.{props};
-ghost use Rattle.keeper_map.specs.Jobs.{is_at};
+ghost use Rattle.keeper_map.specs.Jobs.{is_job_at};
 ghost use Rattle.tao_keeper.specs.Given.{IsGivenJob};
 
 use std::alloc::{AllocError, Global};
@@ -18,7 +18,7 @@ pub struct OpenJobs {
 impl OpenJobs {
     ghost use Rattle.std.specs.Prelude.{◌≤◌, ℕ, IfSome, None, Some, is_ok, if◌then◌else◌};
     ghost use Rattle.keeper_map.specs.OpenJobs.{jobs_of};
-    ghost use Rattle.tao_keeper.specs.Table.{IsFirstJob, IsJobAt, with_job};
+    ghost use Rattle.tao_keeper.specs.Table.{IsLeastJob, IsJobAt, with_job};
 
     /// No job is open.
     pub fn new(alloc: Global) -> OpenJobs
@@ -31,7 +31,7 @@ impl OpenJobs {
 
     /// The job of the least position.
     pub fn first(&self) -> Option<&Job>
-        ensures job { IsFirstJob (jobs_of self.now) (option_copied result) }
+        ensures job { IsLeastJob (jobs_of self.now) (option_copied result) }
         ensures given { IfSome (option_copied result) IsGivenJob }
     {
         self.jobs.first()
@@ -64,13 +64,13 @@ impl OpenJobs {
 }
 
 fn find_at(jobs: &[Job], position: u64) -> Option<&Job>
-    ensures { option_copied result ≡ find (is_at position) jobs.now }
+    ensures { option_copied result ≡ find (is_job_at position) jobs.now }
 {
     jobs.iter().find(|job| job.position == position)
 }
 
 fn take_out(jobs: &mut Vec<Job>, position: u64)
-    ensures { jobs.new.items ≡ filter (λ job. not (is_at position job)) jobs.old.items }
+    ensures { jobs.new.items ≡ filter (λ job. not (is_job_at position job)) jobs.old.items }
 {
     jobs.retain(|job| job.position != position);
 }

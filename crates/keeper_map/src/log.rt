@@ -1,9 +1,8 @@
 //! What the keeper's tables say besides the graph: places of entries, and the last serial.
 ghost use Rattle.std.specs.Prelude.{◌≡◌, ◌<◌, IfOk, IfSome, IsSomeAnd, MatchOption, length, option_copied, slice_get};
-ghost use Rattle.graph_model.specs.Merges.{entry_at};
-ghost use Rattle.graph_model.specs.WriteLaws.{IsNewOrigin};
-ghost use Rattle.graph_model.specs.Writes.{is_addition};
-ghost use Rattle.tao_keeper.specs.Table.{StandsAt, additions};
+ghost use Rattle.graph_model.specs.Log.{entry_at, is_addition, additions};
+ghost use Rattle.graph_model.specs.Soundness.{IsNewOrigin};
+ghost use Rattle.tao_keeper.specs.Table.{StandsAt};
 
 use std::alloc::AllocError;
 use tao_base::{Entry, Kind, Origin};

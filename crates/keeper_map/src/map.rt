@@ -1,20 +1,19 @@
 //! The keeper in memory.
 ghost use Rattle.std.specs.Prelude.{◌≡◌, ◌≤◌, ◌<◌, IfOk, IfSome, drop, length, option_copied, take};
 ghost use Rattle.graph_model.specs.Edges.{edge_list, edge_record, number_of};
-ghost use Rattle.graph_model.specs.Log.{object, version};
-ghost use Rattle.graph_model.specs.Merges.{entry_at};
+ghost use Rattle.graph_model.specs.Log.{object, version, entry_at, additions};
 ghost use Rattle.graph_model.specs.Soundness.{CanFollow};
 ghost use Rattle.tao_base.specs.declared.id.StoreName.{StoreName as Store};
 ghost use Rattle.tao_keeper.specs.Given.{AreGiven, HaveSmallStamps, IsGivenEntry, IsGivenJob, IsPosition};
-ghost use Rattle.keeper_map.specs.MapKeeper.{plan_of, told_by};
+ghost use Rattle.keeper_map.specs.MapKeeper.{call_plan, shown_by, told_by};
 ghost use Rattle.keeper_map.specs.Plan.{CallsAsPlanned, CommitsAsPlanned, from_one};
-ghost use Rattle.tao_keeper.specs.Table.{Changes, IsFirstJob, IsJobAt, OpensAs, StandsAt, Stays, additions, after_commit, after_end, after_open, empty_table};
+ghost use Rattle.tao_keeper.specs.Table.{Changes, IsLeastJob, IsJobAt, OpensAs, StandsAt, Stays, after_commit, after_end, after_open, empty_table};
 
 use crate::log;
 use crate::plan::{Fails, FaultPlan};
 use crate::stores::Stores;
 use std::alloc::{AllocError, Global};
-use tao_base::{AType, EdgeState, Edges, Entry, Id, Key, Object, Origin, OutOfMemory, StoreName};
+use tao_base::{AType, EdgeState, Edges, Entry, Id, Key, Object, Origin, StoreName};
 use tao_keeper::{Commit, Job, KeepFail, Keeper, MOST_ENTRIES, Opened, SERIAL_LIMIT, STAMP_LIMIT};
 
 /// A keeper that holds its tables in memory. It fails exactly where its plan says so, and tells everything.
@@ -33,9 +32,9 @@ impl MapKeeper {
     /// call has the number 1, and so has the first commit.
     pub fn make(alloc: Global, fails: Fails) -> MapKeeper
         ensures empty { (at : Store) → told_by result at ≡ empty_table }
-        ensures calls { (plan_of result).calls ≡ from_one fails.calls.items }
-        ensures commits { (plan_of result).commits ≡ from_one fails.commits.items }
-        ensures faults { (plan_of result).faults ≡ 0 }
+        ensures calls { (call_plan result).calls ≡ from_one fails.calls.items }
+        ensures commits { (call_plan result).commits ≡ from_one fails.commits.items }
+        ensures faults { (call_plan result).faults ≡ 0 }
     {
         MapKeeper {
             alloc,
@@ -43,13 +42,6 @@ impl MapKeeper {
             plan: FaultPlan::of(fails),
         }
     }
-}
-
-/// Want of memory, as a keeper tells it.
-fn no_memory(_: OutOfMemory) -> KeepFail
-    ensures { result ≡ KeepFail.OutOfMemory }
-{
-    KeepFail::OutOfMemory
 }
 
 fn copied(job: Option<&Job>) -> Result<Option<Job>, AllocError>
@@ -63,25 +55,23 @@ fn copied(job: Option<&Job>) -> Result<Option<Job>, AllocError>
 
 impl Keeper for MapKeeper {
     ghost use Rattle.std.specs.Prelude.{true};
-    ghost use Rattle.keeper_map.specs.StoreLaws.{told_sound};
+    ghost use Rattle.keeper_map.specs.StoreLaws.{told_of_entries, told_sound};
 
     const TELLS: bool = true;
 
     ghost TELLS = { true };
 
-    ghost told = { told_by };
-
-    ghost calls = { λ keeper. (plan_of keeper).calls.count };
-
-    ghost faults = { λ keeper. (plan_of keeper).faults };
+    ghost state = { shown_by };
 
     ghost sound = { λ keeper at _. told_sound keeper.stores.tables.items at };
+
+    ghost of_entries = { λ keeper at _. told_of_entries keeper.stores.tables.items at };
 
     /// Copies the line of a store that is opened first.
     fn open(&mut self, at: StoreName, line: &[u8]) -> Result<Opened, KeepFail>
         ensures answer { IfOk result (λ opened. OpensAs opened (told_by self.old at) line.now) }
         ensures changes { Changes result (told_by self.old) (told_by self.new) at (after_open (told_by self.old at) line.now) }
-        ensures plan { CallsAsPlanned (plan_of self.old) (plan_of self.new) result }
+        ensures plan { CallsAsPlanned (call_plan self.old) (call_plan self.new) result }
     {
         self.plan.begin_call()?;
         Ok(self.stores.open(at, line)?)
@@ -98,10 +88,10 @@ impl Keeper for MapKeeper {
         ensures answer { IfOk result (λ state. state ≡ edge_record (told_by self.old at).log id1 atype id2) }
         ensures small { IfOk result (λ state. number_of state < STAMP_LIMIT) }
         ensures stays { Stays (told_by self.old) (told_by self.new) }
-        ensures plan { CallsAsPlanned (plan_of self.old) (plan_of self.new) result }
+        ensures plan { CallsAsPlanned (call_plan self.old) (call_plan self.new) result }
     {
         self.plan.begin_call()?;
-        plain_graph::record_of(self.alloc, self.stores.log(at), id1, atype, id2).map_err(no_memory)
+        Ok(plain_graph::record_of(self.alloc, self.stores.log(at), id1, atype, id2)?)
     }
 
     /// Reads the log once, and keeps the list in order through each of its changes, in time of their product. Refers to
@@ -117,22 +107,20 @@ impl Keeper for MapKeeper {
         ensures answer { IfOk result (λ edges. edges ≡ take most (drop pos (edge_list (told_by self.old at).log id1 atype))) }
         ensures given { IfOk result (AreGiven most) }
         ensures stays { Stays (told_by self.old) (told_by self.new) }
-        ensures plan { CallsAsPlanned (plan_of self.old) (plan_of self.new) result }
+        ensures plan { CallsAsPlanned (call_plan self.old) (call_plan self.new) result }
     {
         self.plan.begin_call()?;
-        plain_graph::edges_of(self.alloc, self.stores.log(at), id1, atype, pos, most).map_err(
-            no_memory,
-        )
+        Ok(plain_graph::edges_of(self.alloc, self.stores.log(at), id1, atype, pos, most)?)
     }
 
     /// Reads the log once, refers to each change of the object, and copies the object.
     fn object(&mut self, at: StoreName, id: Id) -> Result<Option<Object>, KeepFail>
         ensures answer { IfOk result (λ found. found ≡ object (told_by self.old at).log id) }
         ensures stays { Stays (told_by self.old) (told_by self.new) }
-        ensures plan { CallsAsPlanned (plan_of self.old) (plan_of self.new) result }
+        ensures plan { CallsAsPlanned (call_plan self.old) (call_plan self.new) result }
     {
         self.plan.begin_call()?;
-        plain_graph::object_of(self.alloc, self.stores.log(at), id).map_err(no_memory)
+        Ok(plain_graph::object_of(self.alloc, self.stores.log(at), id)?)
     }
 
     /// Takes the time of `edges`. Refers to each change of the list, and copies nothing.
@@ -140,10 +128,10 @@ impl Keeper for MapKeeper {
         ensures answer { IfOk result (λ count. count ≡ length (edge_list (told_by self.old at).log id1 atype)) }
         ensures few { IfOk result (λ count. count ≤ MOST_ENTRIES) }
         ensures stays { Stays (told_by self.old) (told_by self.new) }
-        ensures plan { CallsAsPlanned (plan_of self.old) (plan_of self.new) result }
+        ensures plan { CallsAsPlanned (call_plan self.old) (call_plan self.new) result }
     {
         self.plan.begin_call()?;
-        plain_graph::count_of(self.alloc, self.stores.log(at), id1, atype).map_err(no_memory)
+        Ok(plain_graph::count_of(self.alloc, self.stores.log(at), id1, atype)?)
     }
 
     /// Reads the log once, and takes no memory.
@@ -151,7 +139,7 @@ impl Keeper for MapKeeper {
         ensures answer { IfOk result (λ count. count ≡ version (told_by self.old at).log key) }
         ensures few { IfOk result (λ count. count ≤ MOST_ENTRIES) }
         ensures stays { Stays (told_by self.old) (told_by self.new) }
-        ensures plan { CallsAsPlanned (plan_of self.old) (plan_of self.new) result }
+        ensures plan { CallsAsPlanned (call_plan self.old) (call_plan self.new) result }
     {
         self.plan.begin_call()?;
         Ok(plain_graph::version_of(self.stores.log(at), &key))
@@ -162,7 +150,7 @@ impl Keeper for MapKeeper {
         ensures answer { IfOk result (λ count. count ≡ length (told_by self.old at).log) }
         ensures few { IfOk result (λ count. count ≤ MOST_ENTRIES) }
         ensures stays { Stays (told_by self.old) (told_by self.new) }
-        ensures plan { CallsAsPlanned (plan_of self.old) (plan_of self.new) result }
+        ensures plan { CallsAsPlanned (call_plan self.old) (call_plan self.new) result }
     {
         self.plan.begin_call()?;
         Ok(self.stores.log(at).len() as u64)
@@ -173,7 +161,7 @@ impl Keeper for MapKeeper {
         ensures answer { IfOk result (λ found. found ≡ entry_at (told_by self.old at).log position) }
         ensures given { IfOk result (λ found. IfSome found IsGivenEntry) }
         ensures stays { Stays (told_by self.old) (told_by self.new) }
-        ensures plan { CallsAsPlanned (plan_of self.old) (plan_of self.new) result }
+        ensures plan { CallsAsPlanned (call_plan self.old) (call_plan self.new) result }
     {
         self.plan.begin_call()?;
         Ok(log::entry_of(self.stores.log(at), position)?)
@@ -184,7 +172,7 @@ impl Keeper for MapKeeper {
         ensures answer { IfOk result (λ serial. serial ≡ additions (told_by self.old at).log) }
         ensures small { IfOk result (λ serial. serial < SERIAL_LIMIT) }
         ensures stays { Stays (told_by self.old) (told_by self.new) }
-        ensures plan { CallsAsPlanned (plan_of self.old) (plan_of self.new) result }
+        ensures plan { CallsAsPlanned (call_plan self.old) (call_plan self.new) result }
     {
         self.plan.begin_call()?;
         Ok(log::additions_in(self.stores.log(at)))
@@ -195,7 +183,7 @@ impl Keeper for MapKeeper {
         ensures answer { IfOk result (StandsAt (told_by self.old at).log origin) }
         ensures within { IfOk result (λ found. IfSome found IsPosition) }
         ensures stays { Stays (told_by self.old) (told_by self.new) }
-        ensures plan { CallsAsPlanned (plan_of self.old) (plan_of self.new) result }
+        ensures plan { CallsAsPlanned (call_plan self.old) (call_plan self.new) result }
     {
         self.plan.begin_call()?;
         Ok(log::position_of(self.stores.log(at), origin))
@@ -203,10 +191,10 @@ impl Keeper for MapKeeper {
 
     /// Reads no other job, and copies this one.
     fn first_job(&mut self, at: StoreName) -> Result<Option<Job>, KeepFail>
-        ensures answer { IfOk result (IsFirstJob (told_by self.old at).jobs) }
+        ensures answer { IfOk result (IsLeastJob (told_by self.old at).jobs) }
         ensures given { IfOk result (λ found. IfSome found IsGivenJob) }
         ensures stays { Stays (told_by self.old) (told_by self.new) }
-        ensures plan { CallsAsPlanned (plan_of self.old) (plan_of self.new) result }
+        ensures plan { CallsAsPlanned (call_plan self.old) (call_plan self.new) result }
     {
         self.plan.begin_call()?;
         Ok(copied(self.stores.first_job(at))?)
@@ -217,7 +205,7 @@ impl Keeper for MapKeeper {
         ensures answer { IfOk result (IsJobAt (told_by self.old at).jobs position) }
         ensures given { IfOk result (λ found. IfSome found IsGivenJob) }
         ensures stays { Stays (told_by self.old) (told_by self.new) }
-        ensures plan { CallsAsPlanned (plan_of self.old) (plan_of self.new) result }
+        ensures plan { CallsAsPlanned (call_plan self.old) (call_plan self.new) result }
     {
         self.plan.begin_call()?;
         Ok(copied(self.stores.job(at, position))?)
@@ -226,7 +214,7 @@ impl Keeper for MapKeeper {
     /// Goes through the store's open jobs, and takes no memory.
     fn end_job(&mut self, at: StoreName, position: u64) -> Result<(), KeepFail>
         ensures changes { Changes result (told_by self.old) (told_by self.new) at (after_end (told_by self.old at) position) }
-        ensures plan { CallsAsPlanned (plan_of self.old) (plan_of self.new) result }
+        ensures plan { CallsAsPlanned (call_plan self.old) (call_plan self.new) result }
     {
         self.plan.begin_call()?;
         self.stores.end_job(at, position);
@@ -241,7 +229,7 @@ impl Keeper for MapKeeper {
         requires room { length (told_by self.old at).log < MOST_ENTRIES }
         requires follows { CanFollow (told_by self.old at).log commit.now.entry }
         ensures changes { Changes result (told_by self.old) (told_by self.new) at (after_commit (told_by self.old at) commit.now.entry commit.now.job) }
-        ensures plan { CommitsAsPlanned (plan_of self.old) (plan_of self.new) result }
+        ensures plan { CommitsAsPlanned (call_plan self.old) (call_plan self.new) result }
     {
         self.plan.begin_commit()?;
         let entry = commit.entry.clone()?;

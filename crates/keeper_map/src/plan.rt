@@ -57,9 +57,9 @@ pub struct FaultPlan {
 }
 
 impl Model for FaultPlan {
-    ghost use Rattle.keeper_map.specs.Plan.{Plan};
+    ghost use Rattle.keeper_map.specs.Plan.{CallPlan};
 
-    ghost Value = { Plan };
+    ghost Value = { CallPlan };
 
     ghost view = { λ p. record { calls = p.calls; commits = p.commits; faults = p.faults } };
 }

@@ -4,7 +4,7 @@ ghost use Rattle.std.proofs.Props.{props};
 ghost use Rattle.graph_model.specs.Soundness.{IsSound};
 ghost use Rattle.keeper_map.specs.OpenJobs.{jobs_of};
 ghost use Rattle.tao_keeper.specs.Given.{HaveSmallStamps, IsGivenJob};
-ghost use Rattle.tao_keeper.specs.Table.{with_opened};
+ghost use Rattle.tao_keeper.specs.Table.{with_new_job};
 ghost use Rattle.tao_keeper.specs.declared.keeper.TheConstants.{MOST_ENTRIES};
 
 use crate::jobs::OpenJobs;
@@ -29,7 +29,7 @@ impl StoreTable {
     ghost use Rattle.std.specs.Prelude.{IfOk, option_copied};
     ghost use Rattle.graph_model.specs.Soundness.{CanFollow};
     ghost use Rattle.keeper_map.specs.Store.{table_of};
-    ghost use Rattle.tao_keeper.specs.Table.{IsFirstJob, IsJobAt, OpensAs, after_commit, after_end, after_open, empty_table};
+    ghost use Rattle.tao_keeper.specs.Table.{IsLeastJob, IsJobAt, OpensAs, after_commit, after_end, after_open, empty_table};
 
     /// A store that was not opened yet.
     pub fn new(alloc: Global, name: StoreName) -> StoreTable
@@ -52,7 +52,7 @@ impl StoreTable {
 
     /// The open job of the least position.
     pub fn first_job(&self) -> Option<&Job>
-        ensures job { IsFirstJob (table_of self.now).jobs (option_copied result) }
+        ensures job { IsLeastJob (table_of self.now).jobs (option_copied result) }
         ensures given { IfSome (option_copied result) IsGivenJob }
     {
         self.jobs.first()
@@ -119,7 +119,7 @@ fn push_both(
     requires given { IfSome job IsGivenJob }
     requires last { IfSome job (λ job. (position : ℕ) → job.position ≤ position → jobs_of jobs.old position ≡ None) }
     ensures log { log.new.items ≡ (if is_ok result then log.old.items ++ entry ∷ [] else log.old.items) }
-    ensures jobs { jobs_of jobs.new ≡ (if is_ok result then with_opened (jobs_of jobs.old) job else jobs_of jobs.old) }
+    ensures jobs { jobs_of jobs.new ≡ (if is_ok result then with_new_job (jobs_of jobs.old) job else jobs_of jobs.old) }
 {
     log.reserve(1)?;
     if let Some(job) = job {

@@ -4,7 +4,7 @@ ghost use Rattle.graph_model.specs.Soundness.{CanFollow, IsSound};
 ghost use Rattle.tao_base.specs.declared.id.StoreName.{StoreName as Store};
 ghost use Rattle.tao_keeper.specs.Given.{HaveSmallStamps, IsGivenJob};
 ghost use Rattle.keeper_map.specs.Store.{is_of, tables_of};
-ghost use Rattle.tao_keeper.specs.Table.{Becomes, Changes, IsFirstJob, IsJobAt, OpensAs, Stays, after_commit, after_end, after_open, empty_table};
+ghost use Rattle.tao_keeper.specs.Table.{Becomes, Changes, IsLeastJob, IsJobAt, OpensAs, Stays, after_commit, after_end, after_open, empty_table};
 
 use super::store::StoreTable;
 use std::alloc::{AllocError, Global};
@@ -80,7 +80,7 @@ impl Stores {
 
     /// The open job of the least position in a store.
     pub fn first_job(&self, at: StoreName) -> Option<&Job>
-        ensures job { IsFirstJob (tables_of self.now.tables.items at).jobs (option_copied result) }
+        ensures job { IsLeastJob (tables_of self.now.tables.items at).jobs (option_copied result) }
         ensures given { IfSome (option_copied result) IsGivenJob }
     {
         self.table(at)?.first_job()

@@ -12,7 +12,7 @@ use Rattle.tao_base.specs.declared.entry.Change.TheVariants.{PutObject, DropObje
 use Rattle.graph_model.proofs.Applied.{length_insert}
 use Rattle.graph_model.proofs.Later.{EachWithLater-filter, EachWithLater-take}
 use Rattle.graph_model.proofs.Lists.{distinct_insert, newer_trans, sorted_insert, without_none}
-use Rattle.graph_model.specs.Edges.{IsInOrder, IsNewestFirst, Without, insert_edge, is_newer, without_edge}
+use Rattle.graph_model.specs.Edges.{IsInListOrder, IsNewestFirst, Without, insert_edge, is_newer, without_edge}
 use Rattle.graph_model.specs.Prefixes.{is_before_last, put_among}
 use Rattle.list_prefix.specs.Changes.{fallen, prefix_after, rest_of, shortened}
 use Rattle.list_prefix.specs.ListPrefix.{CanBegin, ListPrefix}
@@ -53,7 +53,7 @@ place_parts e (x ∷ xs) sorted zero (suc j) d l h on = before_both e x (get_or 
 place_parts e (x ∷ xs) sorted (suc i) zero d l h on = absurd (omega arith)
 place_parts e (x ∷ xs) sorted (suc i) (suc j) d l h on = place_parts e xs sorted.1 i j d (omega arith) (omega arith) on
 
-pub in_order_rest : (id2 : ℕ) (xs : List Edge) → IsInOrder xs → IsInOrder (without_edge id2 xs)
+pub in_order_rest : (id2 : ℕ) (xs : List Edge) → IsInListOrder xs → IsInListOrder (without_edge id2 xs)
 in_order_rest id2 xs order = record {
   newest_first = EachWithLater-filter (λ e later. is_newer e later ≡ true) (λ e. not (e.id2 == id2)) xs order.newest_first;
   distinct = EachWithLater-filter (λ e later. later.id2 ≡ e.id2 → ⊥) (λ e. not (e.id2 == id2)) xs order.distinct;
@@ -62,10 +62,10 @@ in_order_rest id2 xs order = record {
 pub length_rest : (id2 : ℕ) (xs : List Edge) → length (without_edge id2 xs) ≤ length xs
 length_rest id2 xs = let p : Edge → Bool = λ e. not (e.id2 == id2) in omega (arith, length-filter p xs, count_by-le-length p xs)
 
-in_order_insert : (e : Edge) (xs : List Edge) → Without e.id2 xs → IsInOrder xs → IsInOrder (insert_edge e xs)
+in_order_insert : (e : Edge) (xs : List Edge) → Without e.id2 xs → IsInListOrder xs → IsInListOrder (insert_edge e xs)
 in_order_insert e xs new order = record { newest_first = sorted_insert e xs new order.newest_first; distinct = distinct_insert e xs new order.distinct }
 
-pub in_order_take : (n : ℕ) (xs : List Edge) → IsInOrder xs → IsInOrder (take n xs)
+pub in_order_take : (n : ℕ) (xs : List Edge) → IsInListOrder xs → IsInListOrder (take n xs)
 in_order_take n xs order = record {
   newest_first = EachWithLater-take (λ e later. is_newer e later ≡ true) n xs order.newest_first;
   distinct = EachWithLater-take (λ e later. later.id2 ≡ e.id2 → ⊥) n xs order.distinct;
@@ -109,5 +109,5 @@ after_begins DropObject p bound begins small = begins
 pub begins_same : (p q : ListPrefix) → p ≡ q → CanBegin q.edges q.total → CanBegin p.edges p.total
 begins_same p q is begins = rw is begins
 
-pub in_order_same : (xs ys : List Edge) → xs ≡ ys → IsInOrder ys → IsInOrder xs
+pub in_order_same : (xs ys : List Edge) → xs ≡ ys → IsInListOrder ys → IsInListOrder xs
 in_order_same xs ys is order = rw is order

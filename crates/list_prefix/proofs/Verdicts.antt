@@ -14,7 +14,8 @@ use Rattle.tao_base.specs.declared.query.Query.{Query}
 use Rattle.tao_base.specs.declared.query.Query.TheVariants.{ObjGet, AssocGet, AssocCount, AssocRange, AssocTimeRange}
 use Rattle.graph_model.proofs.Decided.{decides_rightly}
 use Rattle.graph_model.proofs.Lists.{in_order_list}
-use Rattle.graph_model.specs.Answers.{answer as log_answer, at_least, at_most, key_of, list_answer, to_ids, within}
+use Rattle.graph_model.specs.Answers.{answer as log_answer, at_least, at_most, list_answer, to_ids, within}
+use Rattle.tao_base.specs.Queries.{query_key}
 use Rattle.graph_model.specs.Edges.{edge_list}
 use Rattle.graph_model.specs.Log.{changes_of}
 use Rattle.graph_model.specs.Prefixes.{decides}
@@ -57,8 +58,8 @@ bound_at types (Assocs id1 atype) = types.bound atype
 bound_at types (Obj id) = 0
 
 -- what a log answers to a query of a list is what the list answers
-log_answer_is : (types : EdgeTypes) (log : List Entry) (query : Query) (id1 : Id) (atype : AType) → key_of query ≡ Assocs id1 atype
-    → log_answer types log query ≡ list_answer (bound_at types (key_of query)) (list_at log (key_of query)) (length (list_at log (key_of query))) query
+log_answer_is : (types : EdgeTypes) (log : List Entry) (query : Query) (id1 : Id) (atype : AType) → query_key query ≡ Assocs id1 atype
+    → log_answer types log query ≡ list_answer (bound_at types (query_key query)) (list_at log (query_key query)) (length (list_at log (query_key query))) query
 log_answer_is types log (ObjGet id) id1 atype key = absurd (cc)
 log_answer_is types log (AssocGet other a ids high low) id1 atype key = refl
 log_answer_is types log (AssocCount other a) id1 atype key = refl

@@ -4,7 +4,7 @@ use Rattle.tao_base.specs.declared.edge.Edge.{Edge}
 use Rattle.tao_base.specs.declared.entry.Entry.{Entry}
 use Rattle.tao_base.specs.declared.id.AType.{AType}
 use Rattle.tao_base.specs.declared.id.Id.{Id}
-use Rattle.graph_model.specs.Edges.{IsInOrder}
+use Rattle.graph_model.specs.Edges.{IsInListOrder}
 use Rattle.graph_model.specs.Prefixes.{IsExactList}
 
 -- the first edges of a list, and how many edges the list has
@@ -17,7 +17,7 @@ list_prefix edges total = record { edges = edges; total = total }
 
 -- a list of that length can begin with the edges: they stand in the order of lists, and are no more
 pub record CanBegin (edges : List Edge) (total : ℕ) : Type 0 where
-  pub in_order : IsInOrder edges
+  pub in_order : IsInListOrder edges
   pub within : length edges ≤ total
 
 -- the prefix is exact at a version that the log has reached: the first edges of the list at that version, and its length. Any number of them is

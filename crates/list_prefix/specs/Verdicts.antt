@@ -8,8 +8,9 @@ use Rattle.tao_base.specs.declared.id.Id.{Id}
 use Rattle.tao_base.specs.declared.id.Key.TheVariants.{List as Assocs}
 use Rattle.tao_base.specs.declared.query.Query.{Query}
 use Rattle.tao_base.specs.declared.query.Query.TheVariants.{ObjGet, AssocGet, AssocCount, AssocRange, AssocTimeRange}
-use Rattle.graph_model.specs.Answers.{answer as log_answer, key_of, list_answer}
-use Rattle.graph_model.specs.Edges.{IsInOrder}
+use Rattle.graph_model.specs.Answers.{answer as log_answer, list_answer}
+use Rattle.tao_base.specs.Queries.{query_key}
+use Rattle.graph_model.specs.Edges.{IsInListOrder}
 use Rattle.graph_model.specs.Log.{version}
 use Rattle.graph_model.specs.Prefixes.{IsExactList, IsPrefixOf, decides}
 use Rattle.list_prefix.specs.ListPrefix.{ListPrefix}
@@ -30,13 +31,13 @@ verdict_of p query bound = if decides bound p.edges p.total query then Decided (
 
 -- an answer that is decided is that of every list that begins with the edges and has that length
 abbrev pub AnswersEachList : ListPrefix → Query → ℕ → Verdict → Type 0
-AnswersEachList p query bound (Decided answer) = (whole : List Edge) → IsPrefixOf p.edges p.total whole → IsInOrder whole
+AnswersEachList p query bound (Decided answer) = (whole : List Edge) → IsPrefixOf p.edges p.total whole → IsInListOrder whole
     → answer ≡ list_answer bound whole (length whole) query
 AnswersEachList p query bound Undecided = ⊤
 
 -- where the prefix is exact at a version, an answer that is decided is what the log answered at that version
 abbrev pub AnswersLog : ListPrefix → Query → ℕ → Verdict → Type 0
-AnswersLog p query bound (Decided answer) = (types : EdgeTypes) (log : List Entry) (id1 : Id) (atype : AType) (v n : ℕ) → key_of query ≡ Assocs id1 atype
+AnswersLog p query bound (Decided answer) = (types : EdgeTypes) (log : List Entry) (id1 : Id) (atype : AType) (v n : ℕ) → query_key query ≡ Assocs id1 atype
     → types.bound atype ≡ bound → IsExactList log id1 atype bound v p.edges p.total → version (take n log) (Assocs id1 atype) ≡ v
     → answer ≡ log_answer types (take n log) query
 AnswersLog p query bound Undecided = ⊤

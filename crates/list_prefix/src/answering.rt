@@ -9,7 +9,7 @@ ghost use Rattle.graph_model.specs.Answers.{
   to_ids,
   within,
 };
-ghost use Rattle.graph_model.specs.Edges.{IsInOrder};
+ghost use Rattle.graph_model.specs.Edges.{IsInListOrder};
 ghost use Rattle.list_prefix.specs.Spans.{is_got};
 ghost use Rattle.list_prefix.specs.Verdicts.{IsOfList};
 
@@ -28,7 +28,7 @@ pub fn answer_of(
     query: &Query,
     bound: u64,
 ) -> Result<Answer, AllocError>
-    requires in_order { IsInOrder edges.now }
+    requires in_order { IsInListOrder edges.now }
     requires of_list { IsOfList query.now }
     ensures { IfOk result (λ answer. answer ≡ list_answer bound edges.now total query.now) }
 {
@@ -62,7 +62,7 @@ fn time_range(
     low: Time,
     used: u64,
 ) -> Result<Edges, AllocError>
-    requires { IsInOrder edges.now }
+    requires { IsInListOrder edges.now }
     ensures { IfOk result (λ given. given ≡ take used (within (Some low) (Some high) edges.now)) }
 {
     let start = later_count(edges, high);

@@ -1,6 +1,6 @@
 //! What a change does to the first edges of a list and to its length.
 ghost use Rattle.std.specs.Prelude.{◌≡◌, ◌<◌, ◌≤◌, vec_capacity, vec_len};
-ghost use Rattle.graph_model.specs.Edges.{IsInOrder, insert_edge, without_edge};
+ghost use Rattle.graph_model.specs.Edges.{IsInListOrder, insert_edge, without_edge};
 ghost use Rattle.graph_model.specs.Prefixes.{is_before_last};
 ghost use Rattle.list_prefix.specs.Changes.{
   fallen,
@@ -27,7 +27,7 @@ pub fn take_out(edges: &mut Vec<Edge>, total: u64, id2: Id, was: Option<Time>) -
 /// Puts an edge in where its place is known, and gives the new length. Needs room for the edge, and
 /// takes no memory.
 pub fn put_in(edges: &mut Vec<Edge>, total: u64, edge: Edge, bound: u64) -> u64
-    requires in_order { IsInOrder edges.old.items }
+    requires in_order { IsInListOrder edges.old.items }
     requires room { vec_len edges.old < vec_capacity edges.old }
     ensures { list_prefix edges.new.items result ≡ with_edge edge (list_prefix edges.old.items total) bound }
 {
@@ -57,7 +57,7 @@ fn remove(edges: &mut Vec<Edge>, id2: Id)
 }
 
 fn insert(edges: &mut Vec<Edge>, edge: Edge)
-    requires in_order { IsInOrder edges.old.items }
+    requires in_order { IsInListOrder edges.old.items }
     requires room { vec_len edges.old < vec_capacity edges.old }
     ensures { edges.new.items ≡ insert_edge edge edges.old.items }
 {

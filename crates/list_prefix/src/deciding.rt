@@ -1,7 +1,7 @@
 //! Which queries the first edges of a list and its length decide.
 ghost use Rattle.std.specs.Prelude.{◌≡◌, ◌==◌, ◌<◌, ◌^◌, Some, count_by, length, min, nat_eq};
 ghost use Rattle.std.specs.List.{list_all, list_any};
-ghost use Rattle.graph_model.specs.Edges.{IsInOrder};
+ghost use Rattle.graph_model.specs.Edges.{IsInListOrder};
 ghost use Rattle.graph_model.specs.Prefixes.{
   count_within,
   decides,
@@ -17,7 +17,7 @@ use tao_base::{Edge, IdSet, Query, Time};
 /// Costs a few comparisons for a count or a range, two binary searches for a time range, and for
 /// edges to some ids a binary search among the ids for each edge.
 pub fn is_decided(edges: &[Edge], total: u64, query: &Query, bound: u64) -> bool
-    requires { IsInOrder edges.now }
+    requires { IsInListOrder edges.now }
     ensures { result ≡ decides bound edges.now total query.now }
 {
     match query {
@@ -63,7 +63,7 @@ fn is_complete(edges: &[Edge], total: u64) -> bool
 }
 
 fn number_within(edges: &[Edge], high: Time, low: Time) -> u64
-    requires { IsInOrder edges.now }
+    requires { IsInListOrder edges.now }
     ensures { result ≡ count_within (Some low) (Some high) edges.now }
 {
     let start = later_count(edges, high);
@@ -73,7 +73,7 @@ fn number_within(edges: &[Edge], high: Time, low: Time) -> u64
 /// Whether there is an edge to each of the ids. The edges go to distinct ids, so it is enough to
 /// count those that go to one of the set.
 fn has_each(edges: &[Edge], ids: &IdSet) -> bool
-    requires { IsInOrder edges.now }
+    requires { IsInListOrder edges.now }
     ensures { result ≡ list_all (λ id. list_any (λ e. id == e.id2) edges.now) ids.now }
 {
     number_to(edges, ids) == ids.as_slice().len()

@@ -1,6 +1,6 @@
 //! The order of an association list.
 ghost use Rattle.std.specs.Prelude.{◌≡◌, ◌≤◌, length};
-ghost use Rattle.graph_model.specs.Edges.{IsInOrder, is_newer};
+ghost use Rattle.graph_model.specs.Edges.{IsInListOrder, is_newer};
 ghost use Rattle.list_prefix.specs.Spans.{from_on, later_than};
 
 use tao_base::{Edge, Time};
@@ -15,7 +15,7 @@ pub fn comes_before(edge: &Edge, other: &Edge) -> bool
 
 /// How many edges are later than a time: the place of the first that is not.
 pub fn later_count(edges: &[Edge], high: Time) -> usize
-    requires { IsInOrder edges.now }
+    requires { IsInListOrder edges.now }
     ensures value { result ≡ later_than high edges.now }
     ensures within { result ≤ length edges.now }
 {
@@ -24,7 +24,7 @@ pub fn later_count(edges: &[Edge], high: Time) -> usize
 
 /// How many edges are no earlier than a time: the place of the first that is earlier.
 pub fn from_count(edges: &[Edge], low: Time) -> usize
-    requires { IsInOrder edges.now }
+    requires { IsInListOrder edges.now }
     ensures value { result ≡ from_on low edges.now }
     ensures within { result ≤ length edges.now }
 {

@@ -1,6 +1,6 @@
 //! `Prefix`, the cached list, and `Verdict`, what it says to a query.
 ghost use Rattle.std.specs.Prelude.{◌≡◌, ◌≤◌, true, IfOk, IsOk, OnErr, OnOk, length};
-ghost use Rattle.graph_model.specs.Edges.{IsInOrder};
+ghost use Rattle.graph_model.specs.Edges.{IsInListOrder};
 ghost use Rattle.graph_model.specs.Prefixes.{decides};
 ghost use Rattle.list_prefix.specs.Changes.{SetsEdge, StaysExact, prefix_after};
 ghost use Rattle.list_prefix.specs.Fronts.{IsFrontFor, IsLeftOpen};
@@ -44,7 +44,7 @@ impl Model for Prefix {
 impl Prefix {
     /// The prefix of these first edges, of a list that has `total` edges. Takes no memory.
     pub fn of(edges: Edges, total: u64) -> Prefix
-        requires in_order { IsInOrder edges }
+        requires in_order { IsInListOrder edges }
         requires within { length edges ≤ total }
         ensures { result ≡ list_prefix edges total }
     {

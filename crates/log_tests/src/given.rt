@@ -1,7 +1,7 @@
 //! An entry, and what it is made of.
 ghost use Rattle.std.specs.Prelude.{◌≡◌, [], false, IfOk};
 ghost use Rattle.tao_base.specs.Ids.{shard_of};
-ghost use Rattle.graph_model.specs.WriteLaws.{plain_add};
+ghost use Rattle.write_model.specs.WriteLaws.{plain_add};
 
 use shard_log::{Note, ShardLog};
 use std::alloc::{AllocError, Global};

@@ -1,6 +1,6 @@
 //! Two threads add an entry each to one log, whose pen lies under a lock. Each has a note of its own outside.
 ghost use Rattle.std.specs.Prelude.{◌≡◌, false, Some, IfSome, OnSome};
-ghost use Rattle.graph_model.specs.Merges.{entry_at};
+ghost use Rattle.graph_model.specs.Log.{entry_at};
 ghost use Rattle.shard_log.specs.View.{Begins, Grows};
 
 use crate::given::{first_edge, id};

@@ -32,8 +32,8 @@ impl Model for Maint {
 
 impl Maint {
     ghost use Rattle.std.specs.Prelude.{All, Some, length};
-    ghost use Rattle.graph_model.specs.Keys.{key_shard};
-    ghost use Rattle.graph_model.specs.Merges.{entry_at};
+    ghost use Rattle.tao_base.specs.Keys.{key_shard};
+    ghost use Rattle.graph_model.specs.Log.{entry_at};
     ghost use Rattle.graph_model.specs.Soundness.{IsSound};
     ghost use Rattle.graph_model.specs.Told.{WhereTold};
     ghost use Rattle.shard_log.specs.View.{Grows};

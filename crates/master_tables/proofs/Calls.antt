@@ -7,13 +7,13 @@ use Rattle.tao_base.specs.EdgeTypes.{EdgeTypes}
 use Rattle.tao_base.specs.declared.entry.Entry.{Entry}
 use Rattle.tao_base.specs.declared.entry.Origin.{Origin}
 use Rattle.tao_base.specs.declared.write.Write.{Write}
-use Rattle.graph_model.proofs.OpenJobs.{open_jobs_are_owed}
-use Rattle.graph_model.specs.Machine.{Gains, Owed}
-use Rattle.graph_model.specs.Merges.{HasJob, job_of, log_of, merge_of}
+use Rattle.write_model.proofs.OpenJobs.{open_jobs_are_owed}
+use Rattle.write_model.specs.Machine.{Gains, Owed}
+use Rattle.write_model.specs.Merges.{HasJob, job_of, log_of, merge_of}
 use Rattle.graph_model.specs.Soundness.{EdgeUpdate}
-use Rattle.graph_model.specs.Steps.{CommitsWithJob, EndsJob, IsOwed, JobBecomes, JobsStay, MergesJob, opened_job}
-use Rattle.graph_model.specs.Writes.{forward_entry}
-use Rattle.tao_keeper.specs.Table.{Becomes, Stays, Table, Tables, after_commit, after_end, job_from, with_opened}
+use Rattle.write_model.specs.Steps.{CommitsWithJob, EndsJob, IsOwed, JobBecomes, JobsStay, MergesJob, opened_job}
+use Rattle.write_model.specs.Writes.{forward_entry}
+use Rattle.tao_keeper.specs.Table.{Becomes, Stays, Table, Tables, after_commit, after_end, job_from, with_new_job}
 use Rattle.master_tables.proofs.Each.{each_at, each_length, each_same, each_set}
 use Rattle.master_tables.specs.Laws.{CallsAreSteps, FirstJobsAreFirst, TableLaws, TablesAreStores}
 use Rattle.master_tables.specs.Masters.{Masters, stores_of}
@@ -73,11 +73,11 @@ module _ (m : Masters) (old new : Tables) where
     ];
   }
 
-  opened_here : (jobs : ℕ → Option (List EdgeUpdate)) (position : ℕ) (us : List EdgeUpdate) → jobs position ≡ None → with_opened jobs (job_from position us) position ≡ opened_job us
+  opened_here : (jobs : ℕ → Option (List EdgeUpdate)) (position : ℕ) (us : List EdgeUpdate) → jobs position ≡ None → with_new_job jobs (job_from position us) position ≡ opened_job us
   opened_here jobs position [] none = none
   opened_here jobs position (u ∷ us) none = ap (λ b. if b then Some (u ∷ us) else jobs position) (eq_self position)
 
-  opened_others : (jobs : ℕ → Option (List EdgeUpdate)) (position : ℕ) (us : List EdgeUpdate) (p : ℕ) → p ≢ position → with_opened jobs (job_from position us) p ≡ jobs p
+  opened_others : (jobs : ℕ → Option (List EdgeUpdate)) (position : ℕ) (us : List EdgeUpdate) (p : ℕ) → p ≢ position → with_new_job jobs (job_from position us) p ≡ jobs p
   opened_others jobs position [] p apart = refl
   opened_others jobs position (u ∷ us) p apart = ap (λ b. if b then Some (u ∷ us) else jobs p) (eq_apart p position apart)
 

@@ -4,12 +4,12 @@ use Rattle.tao_base.specs.EdgeTypes.{EdgeTypes}
 use Rattle.tao_base.specs.declared.entry.Entry.{Entry}
 use Rattle.tao_base.specs.declared.entry.Origin.{Origin}
 use Rattle.tao_base.specs.declared.write.Write.{Write}
-use Rattle.graph_model.specs.Machine.{IsFirstJob, Owed}
-use Rattle.graph_model.specs.Merges.{HasJob, job_of, log_of, merge_of}
+use Rattle.write_model.specs.Machine.{IsFirstJob, Owed}
+use Rattle.write_model.specs.Merges.{HasJob, job_of, log_of, merge_of}
 use Rattle.graph_model.specs.Soundness.{EdgeUpdate}
-use Rattle.graph_model.specs.Steps.{AreSoundAndCovered, CommitsWithJob, EndsJob, IsJobOf, IsOwed, JobsStay, MergesJob}
-use Rattle.graph_model.specs.Writes.{forward_entry}
-use Rattle.tao_keeper.specs.Table.{Becomes, Stays, Tables, IsFirstJob as IsFirst, after_commit, after_end, job_from}
+use Rattle.write_model.specs.Steps.{AreSoundAndCovered, CommitsWithJob, EndsJob, IsJobOf, IsOwed, JobsStay, MergesJob}
+use Rattle.write_model.specs.Writes.{forward_entry}
+use Rattle.tao_keeper.specs.Table.{Becomes, Stays, Tables, IsLeastJob, after_commit, after_end, job_from}
 use Rattle.tao_keeper.specs.declared.jobs.Job.{Job}
 use Rattle.master_tables.specs.Masters.{Masters, stores_of}
 
@@ -43,9 +43,9 @@ pub record CallsAreSteps (m : Masters) (old new : Tables) : Type 0 where
 -- a store's first job is its shard's first job, and each of its records says where it may be merged
 pub record FirstJobsAreFirst (m : Masters) (tables : Tables) : Type 0 where
   pub first : (types : EdgeTypes) (shard : ℕ) (job : Job) (u : EdgeUpdate) → shard < m.shards → AreSoundAndCovered types (stores_of m tables)
-      → IsFirst (tables (m.name shard)).jobs (Some job) → Contains job.edges u
+      → IsLeastJob (tables (m.name shard)).jobs (Some job) → Contains job.edges u
       → (by : Owed) × IsJobOf types (stores_of m tables) shard job.position job.edges u by × IsFirstJob types (stores_of m tables) by
-  pub none : (shard position : ℕ) → shard < m.shards → IsFirst (tables (m.name shard)).jobs None → (stores_of m tables).job shard position ≡ None
+  pub none : (shard position : ℕ) → shard < m.shards → IsLeastJob (tables (m.name shard)).jobs None → (stores_of m tables).job shard position ≡ None
 
 -- these hold of all tables
 pub record TableLaws : Type 0 where

@@ -2,7 +2,7 @@
 use Rattle.std.specs.Prelude.{ℕ, zero, suc, ◌≡◌, ◌+◌, if◌then◌else◌, List, [], ◌∷◌, None, nat_lt}
 use Rattle.tao_base.specs.declared.entry.Entry.{Entry}
 use Rattle.tao_base.specs.declared.id.StoreName.{StoreName}
-use Rattle.graph_model.specs.Merges.{Stores}
+use Rattle.write_model.specs.Merges.{Stores}
 use Rattle.tao_keeper.specs.Table.{Tables}
 
 -- how many shards there are, and the name of each one's master store

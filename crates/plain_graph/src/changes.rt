@@ -1,6 +1,6 @@
 //! What the entries of a log do at a key.
 ghost use Rattle.std.specs.Prelude.{◌≡◌, ◌∷◌, ◌++◌, [], IfOk, OnOk, map};
-ghost use Rattle.graph_model.specs.Keys.{same_key};
+ghost use Rattle.tao_base.specs.Keys.{same_key};
 ghost use Rattle.graph_model.specs.Log.{changes_of, touches_key, version};
 
 use std::alloc::Global;

@@ -10,8 +10,7 @@ use Rattle.tao_base.specs.declared.id.Id.{Id}
 use Rattle.graph_model.proofs.Exact.{items_stay}
 use Rattle.graph_model.proofs.Sound.{slice_get-last, slice_get-take, sound_take}
 use Rattle.graph_model.proofs.Versions.{version-append}
-use Rattle.graph_model.specs.Log.{version}
-use Rattle.graph_model.specs.Merges.{entry_at}
+use Rattle.graph_model.specs.Log.{version, entry_at}
 use Rattle.graph_model.specs.Prefixes.{IsExactList, IsExactObject}
 use Rattle.graph_model.specs.Soundness.{IsSound}
 use Rattle.shard_log.proofs.Beginnings.{begins-rest, begins-self, begins-shorter, begins-trans, begins-whole}

@@ -6,8 +6,7 @@ use Rattle.tao_base.specs.declared.entry.Entry.{Entry}
 use Rattle.tao_base.specs.declared.id.AType.{AType}
 use Rattle.tao_base.specs.declared.id.Id.{Id}
 use Rattle.tao_base.specs.declared.id.Key.{Key}
-use Rattle.graph_model.specs.Log.{version}
-use Rattle.graph_model.specs.Merges.{entry_at}
+use Rattle.graph_model.specs.Log.{version, entry_at}
 use Rattle.graph_model.specs.Prefixes.{IsExactList, IsExactObject}
 use Rattle.graph_model.specs.Soundness.{IsSound}
 use Rattle.graph_model.specs.Told.{WhereTold}

@@ -1,10 +1,5 @@
-pub mod FitLemmas
-pub mod JobLemmas
 pub mod MergeLemmas
 pub mod OpenLemmas
-pub mod OwnRecords
 pub mod ReadLemmas
-pub mod RecordLemmas
-pub mod StampLemmas
-pub mod TouchLemmas
 pub mod WriteLemmas
+pub mod WriteSteps

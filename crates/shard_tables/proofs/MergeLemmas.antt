@@ -1,37 +1,20 @@
 -- The touches and the entry of a merge.
-use Rattle.std.proofs.Common.{◌≡◌, ℕ, ◌+◌, ◌<◌, ◌≤◌, List, [], ◌∷◌, ◌++◌, length, map, take, get_or, inl, inr, refl, sym, ap, ◌∙◌, arith}
-use Rattle.std.proofs.lemmas.Bool.{cases_Bool}
-use Rattle.std.proofs.lemmas.List.{take_all}
-use Rattle.std.specs.Option.{option_to_list}
-use Rattle.std.specs.Prelude.{Some, None, All, filter, filter_map}
+use Rattle.std.proofs.Common.{◌≡◌, ℕ, ◌<◌, List, [], ◌∷◌, ◌++◌, length, map, refl, sym, ap, ◌∙◌, arith}
+use Rattle.std.specs.Prelude.{Some, None, All, filter}
 use Rattle.tao_base.specs.EdgeTypes.{EdgeTypes}
 use Rattle.tao_base.specs.declared.entry.Entry.{Entry}
 use Rattle.tao_base.specs.declared.entry.Kind.TheVariants.{Merge as Merged}
 use Rattle.tao_base.specs.declared.entry.Origin.TheVariants.{Merge}
 use Rattle.tao_base.specs.declared.entry.Touch.{Touch}
 use Rattle.tao_base.specs.declared.id.StoreName.{StoreName}
-use Rattle.graph_model.proofs.MergeOf.{merges_follow, merges_none}
-use Rattle.graph_model.specs.MergeLaws.{MayBeMerged}
-use Rattle.graph_model.specs.Merges.{HasStamp, is_news, merge_of}
+use Rattle.write_model.proofs.MergeOf.{merges_follow, merges_none}
+use Rattle.write_model.specs.MergeLaws.{MayBeMerged}
+use Rattle.graph_model.specs.Records.{HasStamp, is_news}
+use Rattle.write_model.specs.Merges.{merge_of}
 use Rattle.graph_model.specs.Soundness.{CanFollow, EdgeUpdate, IsSound, IsSoundOf}
-use Rattle.graph_model.specs.Writes.{edge_touch, next_entry}
-use Rattle.tao_keeper.specs.Table.{Becomes, Stays, Table, Tables, after_commit}
-use Rattle.shard_tables.proofs.JobLemmas.{more}
-use Rattle.shard_tables.specs.Edges.{news_touch}
+use Rattle.write_model.specs.Writes.{edge_touch, next_entry}
+use Rattle.tao_keeper.specs.Table.{Becomes, Stays, Tables, after_commit}
 use Rattle.shard_tables.specs.Jobs.{made_merge}
-
--- one record more, over tables that stay
-pub news_more : (a b : Table) (us : List EdgeUpdate) (i : ℕ) (u : EdgeUpdate) (ts zs : List Touch) → b ≡ a → i < length us → u ≡ get_or us i u
-    → ts ≡ filter_map (news_touch a.log) (take i us) → zs ≡ ts ++ option_to_list (news_touch b.log u) → zs ≡ filter_map (news_touch a.log) (take (i + 1) us)
-news_more a b us i u ts zs stays lt is so_far put =
-    more (news_touch a.log) us i u ts zs lt is so_far (put ∙ ap (λ t. ts ++ option_to_list (news_touch t.log u)) stays)
-
-news_touches_are : (log : List Entry) (us : List EdgeUpdate) → filter_map (news_touch log) us ≡ map (edge_touch log) (filter (is_news log) us)
-news_touches_are log [] = refl
-news_touches_are log (u ∷ us) = elim (cases_Bool (is_news log u)) [
-  | inl h ↦ rw (h, news_touches_are log us) refl
-  | inr h ↦ rw (h, news_touches_are log us) refl
-]
 
 -- the touches make the entry
 module _ (log : List Entry) (from position : ℕ) (us : List EdgeUpdate) (ts : List Touch) (are : ts ≡ map (edge_touch log) (filter (is_news log) us)) where
@@ -51,10 +34,6 @@ module _ (log : List Entry) (from position : ℕ) (us : List EdgeUpdate) (ts : L
       by : (xs : List Touch) → length xs ≡ 0 → next_entry log Merged (Merge from position) xs ≡ None
       by [] h = refl
       by (x ∷ xs) h = absurd (omega (arith, h))
-
-pub all_news : (log : List Entry) (us : List EdgeUpdate) (i : ℕ) (ts : List Touch) → length us ≤ i → ts ≡ filter_map (news_touch log) (take i us)
-    → ts ≡ map (edge_touch log) (filter (is_news log) us)
-all_news log us i ts past is = is ∙ ap (filter_map (news_touch log)) (take_all i us past) ∙ news_touches_are log us
 
 -- the touches that were asked for under the store's name, and of the job's records
 news_at : (tables : Tables) (at name : StoreName) (us vs : List EdgeUpdate) (ts : List Touch) → at ≡ name → us ≡ vs
@@ -88,7 +67,7 @@ module _ (tables : Tables) (at name : StoreName) (us vs : List EdgeUpdate) (ts :
   none_left from position none =
       (merges_none (tables name).log from position vs).done (none_merged (tables name).log from position vs ts (news_at tables at name us vs ts at_is us_is asked) none)
 
--- a log that has gained the entry, over tables that stayed before
+-- a log that has store_with the entry, over tables that stayed before
 pub grown_log : (old mid new : Tables) (at name : StoreName) (entry made : Entry) → at ≡ name → Stays old mid → Becomes mid new at (after_commit (mid at) entry None) → entry ≡ made
     → (new name).log ≡ (old name).log ++ made ∷ []
 grown_log old mid new at name entry made at_is stays gains same =

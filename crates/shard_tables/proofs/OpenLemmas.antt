@@ -3,7 +3,7 @@ use Rattle.std.proofs.Common.{◌≡◌, ℕ, suc, ◌+◌, List, [], ◌∷◌,
 use Rattle.std.specs.Prelude.{Option, Some, slice_get}
 use Rattle.tao_base.specs.declared.entry.Entry.{Entry}
 use Rattle.graph_model.proofs.Rising.{take_with}
-use Rattle.graph_model.specs.Merges.{entry_at}
+use Rattle.graph_model.specs.Log.{entry_at}
 use Rattle.tao_keeper.specs.Table.{Table}
 
 -- one entry more

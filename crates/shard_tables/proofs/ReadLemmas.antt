@@ -16,8 +16,9 @@ use Rattle.tao_base.specs.declared.query.Query.{Query}
 use Rattle.tao_base.specs.declared.query.Query.TheVariants.{ObjGet, AssocGet, AssocCount, AssocRange, AssocTimeRange}
 use Rattle.graph_model.proofs.Decided.{decides_rightly}
 use Rattle.graph_model.proofs.Lists.{in_order_list}
-use Rattle.graph_model.specs.Answers.{answer as log_answer, key_of, list_answer}
-use Rattle.graph_model.specs.Edges.{IsInOrder, edge_list}
+use Rattle.graph_model.specs.Answers.{answer as log_answer, list_answer}
+use Rattle.tao_base.specs.Queries.{query_key}
+use Rattle.graph_model.specs.Edges.{IsInListOrder, edge_list}
 use Rattle.graph_model.specs.Log.{changes_of, object, version}
 use Rattle.graph_model.specs.Prefixes.{decides}
 use Rattle.list_prefix.specs.Fronts.{IsFrontFor, IsLeftOpen, IsShortestFront}
@@ -32,7 +33,7 @@ use Rattle.sealed_item.specs.FillLaws.{front_of}
 use Rattle.sealed_item.specs.Fills.{SealedItem, IsFill, sealed_item}
 use Rattle.sealed_item.specs.declared.content.Content.TheVariants.{Object as ObjectIs, List as ListIs}
 use Rattle.shard_tables.specs.ReadOuts.{AreNeeded, IsContentFor, IsFilled, IsOpenAt, needed_count, whole_list}
-use Rattle.shard_tables.specs.Reads.{Reads}
+use Rattle.shard_tables.specs.Reads.{AnswersAtVersion}
 
 -- a front of a list's first edges is one of the list
 some_stays : (n bound total : ℕ) (query : Query) (list : List Edge) (front : ListPrefix) → IsShortestFront (list_prefix (take n list) total) query bound front
@@ -111,7 +112,7 @@ front_stays bound query list edges total found are is =
     (subst (λ p. IsFrontFor p query bound found) (ap (λ xs. list_prefix xs total) are.edges_are ∙ ap (list_prefix (take (needed_count bound query) list)) are.total_is) is)
 
 -- a query whose key is a list is one of a list
-of_list : (query : Query) (id1 : Id) (atype : AType) → key_of query ≡ Assocs id1 atype → IsOfList query
+of_list : (query : Query) (id1 : Id) (atype : AType) → query_key query ≡ Assocs id1 atype → IsOfList query
 of_list (ObjGet id) id1 atype key = absurd (cc)
 of_list (AssocGet other a ids high low) id1 atype key = tt
 of_list (AssocCount other a) id1 atype key = tt
@@ -128,7 +129,7 @@ bound_at types (Assocs id1 atype) = types.bound atype
 bound_at types (Obj id) = 0
 
 answer_at : (types : EdgeTypes) (log : List Entry) (query : Query) → IsOfList query
-    → log_answer types log query ≡ list_answer (bound_at types (key_of query)) (list_at log (key_of query)) (length (list_at log (key_of query))) query
+    → log_answer types log query ≡ list_answer (bound_at types (query_key query)) (list_at log (query_key query)) (length (list_at log (query_key query))) query
 answer_at types log (ObjGet id) h = absurd h
 answer_at types log (AssocGet id1 atype ids high low) h = refl
 answer_at types log (AssocCount id1 atype) h = refl
@@ -136,7 +137,7 @@ answer_at types log (AssocRange id1 atype pos limit) h = refl
 answer_at types log (AssocTimeRange id1 atype high low limit) h = refl
 
 -- what a log answers to a query of a list is what the list answers
-answer_is : (types : EdgeTypes) (log : List Entry) (query : Query) (id1 : Id) (atype : AType) → key_of query ≡ Assocs id1 atype
+answer_is : (types : EdgeTypes) (log : List Entry) (query : Query) (id1 : Id) (atype : AType) → query_key query ≡ Assocs id1 atype
     → log_answer types log query ≡ list_answer (types.bound atype) (edge_list log id1 atype) (length (edge_list log id1 atype)) query
 answer_is types log query id1 atype key =
     answer_at types log query (of_list query id1 atype key) ∙ ap (λ k. list_answer (bound_at types k) (list_at log k) (length (list_at log k)) query) key
@@ -176,7 +177,7 @@ module _ (log later : List Entry) (id1 : Id) (atype : AType) (query : Query) (bo
       rw (at, of, whole.is) (list_sealed note log id1 atype whole.count begins)
 
   -- the fill is what the log has
-  pub list_filled : (types : EdgeTypes) (note : View) (v n : ℕ) (front : ListPrefix) (fill : SealedItem) → key_of query ≡ Assocs id1 atype → bound ≡ types.bound atype
+  pub list_filled : (types : EdgeTypes) (note : View) (v n : ℕ) (front : ListPrefix) (fill : SealedItem) → query_key query ≡ Assocs id1 atype → bound ≡ types.bound atype
       → v ≡ version log (Assocs id1 atype) → n ≡ length log → IsShortestFront (list_prefix edges total) query bound front
       → fill ≡ sealed_item (Assocs id1 atype) v n (ListIs front) note → IsFilled types log query fill
   list_filled types note v n front fill key bounded at of is made =
@@ -188,10 +189,10 @@ module _ (log later : List Entry) (id1 : Id) (atype : AType) (query : Query) (bo
       })
 
   -- the answer where no front within the bound decides the query
-  pub list_past : (types : EdgeTypes) (last : List Entry) (v : ℕ) (answer : Answer) → key_of query ≡ Assocs id1 atype → bound ≡ types.bound atype
+  pub list_past : (types : EdgeTypes) (last : List Entry) (v : ℕ) (answer : Answer) → query_key query ≡ Assocs id1 atype → bound ≡ types.bound atype
       → v ≡ version log (Assocs id1 atype) → IsLeftOpen bound edges total query → last ≡ later
       → answer ≡ list_answer bound (edge_list last id1 atype) (length (edge_list last id1 atype)) query
-      → Reads types log query answer v × IsOpenAt types log query (key_of query) total
+      → AnswersAtVersion types log query answer v × IsOpenAt types log query (query_key query) total
   list_past types last v answer key bounded at is still answers =
       let whole : IsLeftOpen bound (edge_list log id1 atype) (length (edge_list log id1 atype)) query = front_in_log None is in (
         record {
@@ -206,7 +207,7 @@ module _ (log later : List Entry) (id1 : Id) (atype : AType) (query : Query) (bo
       )
 
 -- the shortest front of a list that decides the query answers as the list
-shortest_answers : (list : List Edge) (query : Query) (bound : ℕ) (front : ListPrefix) → IsInOrder list → IsShortestFront (list_prefix list (length list)) query bound front
+shortest_answers : (list : List Edge) (query : Query) (bound : ℕ) (front : ListPrefix) → IsInListOrder list → IsShortestFront (list_prefix list (length list)) query bound front
     → list_answer bound front.edges front.total query ≡ list_answer bound list (length list) query
 shortest_answers list query bound front order is =
     let within : is.count ≤ min (length list) bound = is.shortest.within in
@@ -216,8 +217,8 @@ shortest_answers list query bound front order is =
     (record { begins = ap (λ n. take n list) (sym cut); length_is = refl }) order
 
 -- the front of a list's fill answers as the log
-pub front_answers : (types : EdgeTypes) (log : List Entry) (query : Query) (id1 : Id) (atype : AType) (bound : ℕ) (front : ListPrefix) → key_of query ≡ Assocs id1 atype
-    → bound ≡ types.bound atype → IsContentFor types log query (key_of query) (ListIs front) → list_answer bound front.edges front.total query ≡ log_answer types log query
+pub front_answers : (types : EdgeTypes) (log : List Entry) (query : Query) (id1 : Id) (atype : AType) (bound : ℕ) (front : ListPrefix) → query_key query ≡ Assocs id1 atype
+    → bound ≡ types.bound atype → IsContentFor types log query (query_key query) (ListIs front) → list_answer bound front.edges front.total query ≡ log_answer types log query
 front_answers types log query id1 atype bound front key bounded is =
     let shortest : IsShortestFront (whole_list log id1 atype) query (types.bound atype) front = subst (λ k. IsContentFor types log query k (ListIs front)) key is in
     ap (λ b. list_answer b front.edges front.total query) bounded

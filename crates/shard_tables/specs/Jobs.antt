@@ -1,34 +1,19 @@
 -- What a store answers of jobs: the one that a write opens, the one that a write made before still has, and what a merge does.
-use Rattle.std.specs.Prelude.{ℕ, ◌+◌, ◌<◌, ◌≤◌, ◌≡◌, Bool, true, false, List, [], ◌∷◌, length, Option, Some, None, IfSome, IsSome, Result, Ok, Err, not, ⊤}
+use Rattle.std.specs.Prelude.{ℕ, ◌+◌, ◌<◌, ◌≤◌, ◌≡◌, Bool, true, false, List, length, Option, Some, None, IfSome, IsSome, Result, Ok, Err, ⊤}
 use Rattle.tao_base.specs.EdgeTypes.{EdgeTypes}
 use Rattle.tao_base.specs.declared.entry.Entry.{Entry}
 use Rattle.tao_base.specs.declared.entry.Kind.TheVariants.{Merge as Merged}
 use Rattle.tao_base.specs.declared.entry.Origin.TheVariants.{Merge}
 use Rattle.tao_base.specs.declared.entry.Touch.{Touch}
-use Rattle.graph_model.specs.Merges.{entry_at, job_of, merge_of}
-use Rattle.graph_model.specs.Soundness.{EdgeUpdate, other_end, update_at}
-use Rattle.graph_model.specs.Writes.{is_near, when}
-use Rattle.tao_keeper.specs.Table.{Jobs, IsJobAt, job_from}
+use Rattle.graph_model.specs.Log.{entry_at}
+use Rattle.write_model.specs.Merges.{merge_of}
+use Rattle.graph_model.specs.Soundness.{EdgeUpdate}
+use Rattle.tao_keeper.specs.Table.{IsJobAt, Table}
 use Rattle.tao_keeper.specs.declared.jobs.Job.{Job}
+use Rattle.write_touches.specs.FarJobs.{job_for}
 use Rattle.shard_tables.specs.declared.refusal.StoreRefusal.{StoreRefusal}
 use Rattle.shard_tables.specs.declared.refusal.StoreRefusal.TheVariants.{KeeperFault, LogFull, ShardFull, StampFull, SeqReused, OutOfMemory}
 use Rattle.shard_tables.specs.declared.writes.Wrote.{Wrote}
-
--- the record at the other end, where that lies on another shard and the type has an inverse
-abbrev pub far_record : EdgeTypes → EdgeUpdate → Option EdgeUpdate
-far_record types u = when (not (is_near u)) (other_end types u)
-
--- what a touch owes to another shard
-abbrev pub owed_by : EdgeTypes → Touch → Option EdgeUpdate
-owed_by types t = owed_of (update_at t.key t.change)
-  where
-    owed_of : Option EdgeUpdate → Option EdgeUpdate
-    owed_of None = None
-    owed_of (Some u) = far_record types u
-
--- the job that an entry opens, where it owes anything
-abbrev pub job_for : EdgeTypes → Entry → Option Job
-job_for types e = job_from e.position (job_of types e)
 
 -- the job in the answer of a write that is new: that of its entry
 abbrev pub OpensJob : EdgeTypes → Bool → Option Entry → Option Job → Type 0
@@ -37,16 +22,16 @@ OpensJob types false None job = job ≡ None
 OpensJob types true entry job = ⊤
 
 -- the open job of the entry, which stands in the log; none where none is open
-pub record HasOpenJob (log : List Entry) (jobs : Jobs) (e : Entry) (job : Option Job) : Type 0 where
+pub record HasOpenJob (table : Table) (e : Entry) (job : Option Job) : Type 0 where
   pub position : ℕ
-  pub stands : entry_at log position ≡ Some e
-  pub job_is : IsJobAt jobs position job
+  pub stands : entry_at table.log position ≡ Some e
+  pub job_is : IsJobAt table.jobs position job
 
 -- the job in the answer of a write that was made before
-abbrev pub FindsJob : List Entry → Jobs → Bool → Option Entry → Option Job → Type 0
-FindsJob log jobs true (Some e) job = HasOpenJob log jobs e job
-FindsJob log jobs true None job = ⊥
-FindsJob log jobs false entry job = ⊤
+abbrev pub FindsJob : Table → Bool → Option Entry → Option Job → Type 0
+FindsJob table true (Some e) job = HasOpenJob table e job
+FindsJob table true None job = ⊥
+FindsJob table false entry job = ⊤
 
 -- the job that is opened with the entry that was added, where one was
 abbrev pub job_with : EdgeTypes → Option Entry → Option Job

@@ -1,9 +1,9 @@
-pub mod Causes
-pub mod Edges
-pub mod Fitting
+pub mod Added
 pub mod Jobs
 pub mod ReadOuts
 pub mod Reads
+pub mod Refusals
 pub mod StoreView
 pub mod Stores
+pub mod WriteSteps
 pub mod Written

@@ -9,7 +9,7 @@ use Rattle.tao_base.specs.declared.id.Key.{Key}
 use Rattle.tao_base.specs.declared.id.Key.TheVariants.{Obj, List as Assocs}
 use Rattle.tao_base.specs.declared.query.Query.{Query}
 use Rattle.tao_base.specs.declared.query.Query.TheVariants.{ObjGet, AssocGet, AssocCount, AssocRange, AssocTimeRange}
-use Rattle.graph_model.specs.Answers.{key_of}
+use Rattle.tao_base.specs.Queries.{query_key}
 use Rattle.graph_model.specs.Edges.{edge_list}
 use Rattle.graph_model.specs.Log.{object, version as version_of}
 use Rattle.graph_model.specs.Prefixes.{decides}
@@ -19,7 +19,7 @@ use Rattle.shard_log.specs.View.{View}
 use Rattle.sealed_item.specs.Fills.{SealedItem}
 use Rattle.sealed_item.specs.declared.content.Content.{Content}
 use Rattle.sealed_item.specs.declared.content.Content.TheVariants.{Object as ObjectIs, List as ListIs}
-use Rattle.shard_tables.specs.Reads.{Reads}
+use Rattle.shard_tables.specs.Reads.{AnswersAtVersion}
 use Rattle.shard_tables.specs.declared.read_out.ReadOut.{ReadOut}
 use Rattle.shard_tables.specs.declared.read_out.ReadOut.TheVariants.{Filled, Past}
 
@@ -36,9 +36,9 @@ IsContentFor types log query (Assocs id1 atype) (ObjectIs found) = ⊥
 
 -- the fill is what the whole log has at the query's key
 pub record IsFilled (types : EdgeTypes) (log : List Entry) (query : Query) (fill : SealedItem) : Type 0 where
-  pub version_is : fill.version ≡ version_of log (key_of query)
+  pub version_is : fill.version ≡ version_of log (query_key query)
   pub as_of_is : fill.as_of ≡ length log
-  pub content_is : IsContentFor types log query (key_of query) fill.content
+  pub content_is : IsContentFor types log query (query_key query) fill.content
 
 -- the list has that length, and none of its fronts within the bound decides the query
 pub record IsOpenList (types : EdgeTypes) (log : List Entry) (query : Query) (id1 : Id) (atype : AType) (total : ℕ) : Type 0 where
@@ -50,26 +50,26 @@ IsOpenAt types log query (Obj id) total = ⊥
 IsOpenAt types log query (Assocs id1 atype) total = IsOpenList types log query id1 atype total
 
 -- what is read of the log: a fill where a front within the bound decides the query, and else the answer
-abbrev pub ReadsOut : EdgeTypes → List Entry → Query → ReadOut → Type 0
-ReadsOut types log query (Filled fill) = IsFilled types log query fill
-ReadsOut types log query (Past answer version total note) = Reads types log query answer version × IsOpenAt types log query (key_of query) total
+abbrev pub IsReadOutOf : EdgeTypes → List Entry → Query → ReadOut → Type 0
+IsReadOutOf types log query (Filled fill) = IsFilled types log query fill
+IsReadOutOf types log query (Past answer version total note) = AnswersAtVersion types log query answer version × IsOpenAt types log query (query_key query) total
 
 -- the first edges of a list decide the query, and are no more than the bound
-pub record IsServing (bound : ℕ) (query : Query) (prefix : ListPrefix) : Type 0 where
+pub record DecidesWithin (bound : ℕ) (query : Query) (prefix : ListPrefix) : Type 0 where
   pub few : length prefix.edges ≤ bound
   pub decided : decides bound prefix.edges prefix.total query ≡ true
 
 -- the content is of the key's kind, and answers the query
-abbrev pub Serves : EdgeTypes → Query → Key → Content → Type 0
-Serves types query (Obj id) (ObjectIs found) = ⊤
-Serves types query (Obj id) (ListIs prefix) = ⊥
-Serves types query (Assocs id1 atype) (ListIs prefix) = IsServing (types.bound atype) query prefix
-Serves types query (Assocs id1 atype) (ObjectIs found) = ⊥
+abbrev pub ContentDecides : EdgeTypes → Query → Key → Content → Type 0
+ContentDecides types query (Obj id) (ObjectIs found) = ⊤
+ContentDecides types query (Obj id) (ListIs prefix) = ⊥
+ContentDecides types query (Assocs id1 atype) (ListIs prefix) = DecidesWithin (types.bound atype) query prefix
+ContentDecides types query (Assocs id1 atype) (ObjectIs found) = ⊥
 
 -- told or not, the fill is of the query's key, and answers the query
 pub record IsFillFor (types : EdgeTypes) (query : Query) (fill : SealedItem) : Type 0 where
-  pub key_is : fill.key ≡ key_of query
-  pub serves : Serves types query (key_of query) fill.content
+  pub key_is : fill.key ≡ query_key query
+  pub serves : ContentDecides types query (query_key query) fill.content
 
 -- told or not, what is read is for the query
 abbrev pub IsFor : EdgeTypes → Query → ReadOut → Type 0

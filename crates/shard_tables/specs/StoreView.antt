@@ -20,9 +20,9 @@ abbrev pub role_of : Held → Role
 role_of (Whole pen) = Master
 role_of (Seen note) = Slave
 
-abbrev pub view_of : Held → View
-view_of (Whole pen) = pen
-view_of (Seen note) = note
+abbrev pub held_view : Held → View
+held_view (Whole pen) = pen
+held_view (Seen note) = note
 
-abbrev pub store_of : Inside → Store
-store_of s = record { name = s.name; log_max = s.log_max; role = role_of s.held; view = view_of s.held }
+abbrev pub shown_store : Inside → Store
+shown_store s = record { name = s.name; log_max = s.log_max; role = role_of s.held; view = held_view s.held }

@@ -1,9 +1,11 @@
 -- What ties a store to its keeper, and what becomes of it.
-use Rattle.std.specs.Prelude.{◌≡◌, Bool, List, [], ◌∷◌, ◌++◌, Option, Some, None}
+use Rattle.std.specs.Prelude.{ℕ, ◌≡◌, ◌≤◌, Bool, List, [], ◌∷◌, ◌++◌, length, Option, Some, None}
 use Rattle.tao_base.specs.declared.entry.Entry.{Entry}
 use Rattle.graph_model.specs.Told.{WhereTold}
 use Rattle.shard_log.specs.View.{View, Begins, as_note}
 use Rattle.tao_keeper.specs.Table.{Tables}
+use Rattle.shard_tables.specs.declared.refusal.StoreRefusal.{StoreRefusal}
+use Rattle.shard_tables.specs.declared.refusal.StoreRefusal.TheVariants.{LogFull}
 use Rattle.shard_tables.specs.declared.store.Role.{Role}
 use Rattle.shard_tables.specs.declared.store.Role.TheVariants.{Master, Slave}
 use Rattle.shard_tables.specs.StoreView.{Store}
@@ -23,9 +25,9 @@ abbrev pub with_added : List Entry → Option Entry → List Entry
 with_added log None = log
 with_added log (Some e) = log ++ e ∷ []
 
--- the store whose log has gained the entry, where there is one
-abbrev pub gained : Store → Option Entry → Store
-gained store added = record store { view = record store.view { entries = with_added store.view.entries added } }
+-- the store whose log has store_with the entry, where there is one
+abbrev pub store_with : Store → Option Entry → Store
+store_with store added = record store { view = record store.view { entries = with_added store.view.entries added } }
 
 -- what a note sees that has seen all that a store of this role has
 abbrev pub seen_by : Role → View → View
@@ -34,3 +36,12 @@ seen_by Slave view = view
 
 abbrev pub note_of : Store → View
 note_of store = seen_by store.role store.view
+
+-- how many entries its log has
+abbrev pub length_of : Store → ℕ
+length_of store = length store.view.entries
+
+-- the log is full, and the refusal says so
+pub record IsFullFor (store : Store) (refusal : StoreRefusal) : Type 0 where
+  pub is : refusal ≡ LogFull (length_of store)
+  pub full : store.log_max ≤ length_of store

@@ -7,27 +7,18 @@
 #![tactic(auto)]
 
 mod added;
-mod edge_writes;
-mod entries;
-mod far_jobs;
-mod fitting;
+mod laws;
 mod merges;
-mod near_ends;
-mod object_writes;
 mod open_jobs;
 mod opening;
-mod own_records;
 mod read_out;
 mod reads;
 mod refusal;
-mod same_data;
 mod store;
-#[cfg(test)]
-mod tests;
 mod writes;
 
 pub use added::object_added;
-pub use fitting::fits;
+pub use laws::writes_are_steps;
 pub use opening::log_of;
 pub use read_out::{ReadOut, answer_of_fill};
 pub use reads::Found;

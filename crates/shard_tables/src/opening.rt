@@ -1,13 +1,13 @@
 //! A master store over the log that its keeper has, and what a store asks of that log.
 ghost use Rattle.std.specs.Prelude.{◌≡◌, ◌≤◌, IfErr, IfOk, IfSome, length};
-ghost use Rattle.graph_model.specs.Merges.{entry_at};
+ghost use Rattle.graph_model.specs.Log.{entry_at};
 ghost use Rattle.graph_model.specs.Told.{WhereTold};
-ghost use Rattle.shard_tables.specs.Causes.{HasCause, IsOfReads};
+ghost use Rattle.shard_tables.specs.Refusals.{IsOfReads};
 ghost use Rattle.shard_tables.specs.Stores.{IsStoreOf};
 ghost use Rattle.shard_tables.specs.declared.store.Role.TheVariants.{Master};
-ghost use Rattle.tao_keeper.specs.Cause.{IsCaused};
+ghost use Rattle.tao_keeper.specs.Growing.{LogsGrow};
+ghost use Rattle.tao_keeper.specs.KeeperState.{CallsKeeper, KeepsTables};
 ghost use Rattle.tao_keeper.specs.Given.{IsGivenEntry};
-ghost use Rattle.tao_keeper.specs.Table.{Stays};
 
 use super::refusal::StoreRefusal;
 use super::store::StoreNode;
@@ -25,12 +25,11 @@ fn first_entries<M: Keeper>(
     count: u64,
 ) -> Result<Vec<Entry>, KeepFail>
     requires few { count ≤ MOST_ENTRIES }
-    requires all { WhereTold M.TELLS (count ≡ length (M.told keeper.old at).log) }
-    ensures entries { WhereTold M.TELLS (IfOk result (λ entries. entries.items ≡ (M.told keeper.old at).log)) }
+    requires all { WhereTold M.TELLS (count ≡ length ((M.state keeper.old).told at).log) }
+    ensures entries { WhereTold M.TELLS (IfOk result (λ entries. entries.items ≡ ((M.state keeper.old).told at).log)) }
     ensures few { IfOk result (λ entries. length entries.items ≤ MOST_ENTRIES) }
-    ensures stays { WhereTold M.TELLS (Stays (M.told keeper.old) (M.told keeper.new)) }
-    ensures calls { M.calls keeper.old ≤ M.calls keeper.new }
-    ensures cause { IsCaused (M.faults keeper.old) (M.faults keeper.new) result }
+    ensures stays { KeepsTables M.TELLS (M.state keeper.old) (M.state keeper.new) }
+    ensures calls { CallsKeeper KeepFail.Failed (M.state keeper.old) (M.state keeper.new) result }
 {
     let mut entries = Vec::new(alloc);
     for place in 0..count {
@@ -51,11 +50,10 @@ pub fn log_of<M: Keeper>(
     keeper: &mut M,
     at: StoreName,
 ) -> Result<Vec<Entry>, KeepFail>
-    ensures entries { WhereTold M.TELLS (IfOk result (λ entries. entries.items ≡ (M.told keeper.old at).log)) }
+    ensures entries { WhereTold M.TELLS (IfOk result (λ entries. entries.items ≡ ((M.state keeper.old).told at).log)) }
     ensures few { IfOk result (λ entries. length entries.items ≤ MOST_ENTRIES) }
-    ensures stays { WhereTold M.TELLS (Stays (M.told keeper.old) (M.told keeper.new)) }
-    ensures calls { M.calls keeper.old ≤ M.calls keeper.new }
-    ensures cause { IsCaused (M.faults keeper.old) (M.faults keeper.new) result }
+    ensures stays { KeepsTables M.TELLS (M.state keeper.old) (M.state keeper.new) }
+    ensures calls { CallsKeeper KeepFail.Failed (M.state keeper.old) (M.state keeper.new) result }
 {
     let count = keeper.length(at)?;
     first_entries(alloc, keeper, at, count)
@@ -77,11 +75,11 @@ impl StoreNode {
         ensures named { IfOk result (λ store. store.name ≡ name) }
         ensures limit { IfOk result (λ store. store.log_max ≡ log_max) }
         ensures master { IfOk result (λ store. store.role ≡ Master) }
-        ensures keeper { IfOk result (λ store. IsStoreOf M.TELLS (M.told keeper.new) store) }
+        ensures keeper { IfOk result (λ store. IsStoreOf M.TELLS (M.state keeper.new).told store) }
         ensures refused { IfErr result IsOfReads }
-        ensures tables { WhereTold M.TELLS (Stays (M.told keeper.old) (M.told keeper.new)) }
-        ensures calls { M.calls keeper.old ≤ M.calls keeper.new }
-        ensures cause { HasCause (M.faults keeper.old) (M.faults keeper.new) result }
+        ensures tables { KeepsTables M.TELLS (M.state keeper.old) (M.state keeper.new) }
+        ensures logs { LogsGrow M.TELLS (M.state keeper.old).told (M.state keeper.new).told }
+        ensures calls { CallsKeeper StoreRefusal.KeeperFault (M.state keeper.old) (M.state keeper.new) result }
     {
         let log = log_of(alloc, keeper, name)?;
         let pen = ShardLog::make(alloc, log, M::TELLS)?;
@@ -91,15 +89,15 @@ impl StoreNode {
     /// How many entries the keeper's log has. `KeeperFault` comes only where the keeper's count of faults rose, and
     /// `OutOfMemory` where there was no memory. One call of the keeper.
     pub fn length<M: Keeper>(&mut self, keeper: &mut M) -> Result<u64, StoreRefusal>
-        requires keeper { IsStoreOf M.TELLS (M.told keeper.old) self.old }
-        ensures answer { WhereTold M.TELLS (IfOk result (λ count. count ≡ length (M.told keeper.old self.old.name).log)) }
+        requires keeper { IsStoreOf M.TELLS (M.state keeper.old).told self.old }
+        ensures answer { WhereTold M.TELLS (IfOk result (λ count. count ≡ length ((M.state keeper.old).told self.old.name).log)) }
         ensures few { IfOk result (λ count. count ≤ MOST_ENTRIES) }
         ensures refused { IfErr result IsOfReads }
-        ensures tables { WhereTold M.TELLS (Stays (M.told keeper.old) (M.told keeper.new)) }
+        ensures tables { KeepsTables M.TELLS (M.state keeper.old) (M.state keeper.new) }
+        ensures logs { LogsGrow M.TELLS (M.state keeper.old).told (M.state keeper.new).told }
         ensures same { self.new ≡ self.old }
-        ensures keeper { IsStoreOf M.TELLS (M.told keeper.new) self.new }
-        ensures calls { M.calls keeper.old ≤ M.calls keeper.new }
-        ensures cause { HasCause (M.faults keeper.old) (M.faults keeper.new) result }
+        ensures keeper { IsStoreOf M.TELLS (M.state keeper.new).told self.new }
+        ensures calls { CallsKeeper StoreRefusal.KeeperFault (M.state keeper.old) (M.state keeper.new) result }
     {
         Ok(keeper.length(self.name())?)
     }
@@ -111,15 +109,15 @@ impl StoreNode {
         keeper: &mut M,
         position: u64,
     ) -> Result<Option<Entry>, StoreRefusal>
-        requires keeper { IsStoreOf M.TELLS (M.told keeper.old) self.old }
-        ensures answer { WhereTold M.TELLS (IfOk result (λ found. found ≡ entry_at (M.told keeper.old self.old.name).log position)) }
+        requires keeper { IsStoreOf M.TELLS (M.state keeper.old).told self.old }
+        ensures answer { WhereTold M.TELLS (IfOk result (λ found. found ≡ entry_at ((M.state keeper.old).told self.old.name).log position)) }
         ensures given { IfOk result (λ found. IfSome found IsGivenEntry) }
         ensures refused { IfErr result IsOfReads }
-        ensures tables { WhereTold M.TELLS (Stays (M.told keeper.old) (M.told keeper.new)) }
+        ensures tables { KeepsTables M.TELLS (M.state keeper.old) (M.state keeper.new) }
+        ensures logs { LogsGrow M.TELLS (M.state keeper.old).told (M.state keeper.new).told }
         ensures same { self.new ≡ self.old }
-        ensures keeper { IsStoreOf M.TELLS (M.told keeper.new) self.new }
-        ensures calls { M.calls keeper.old ≤ M.calls keeper.new }
-        ensures cause { HasCause (M.faults keeper.old) (M.faults keeper.new) result }
+        ensures keeper { IsStoreOf M.TELLS (M.state keeper.new).told self.new }
+        ensures calls { CallsKeeper StoreRefusal.KeeperFault (M.state keeper.old) (M.state keeper.new) result }
     {
         Ok(keeper.entry(self.name(), position)?)
     }

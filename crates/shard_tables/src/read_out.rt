@@ -1,6 +1,7 @@
 //! Reads of a store's own log, as fills for the caches above it.
 ghost use Rattle.std.specs.Prelude.{◌≡◌, ◌≤◌, ℕ, List, IfErr, IfOk, length};
-ghost use Rattle.graph_model.specs.Answers.{answer as log_answer, key_of, list_answer};
+ghost use Rattle.graph_model.specs.Answers.{answer as log_answer};
+ghost use Rattle.tao_base.specs.Queries.{query_key};
 ghost use Rattle.graph_model.specs.Edges.{edge_list};
 ghost use Rattle.graph_model.specs.Log.{object, version as version_of};
 ghost use Rattle.graph_model.specs.Told.{WhereTold};
@@ -8,15 +9,16 @@ ghost use Rattle.list_prefix.specs.Fronts.{IsFrontFor};
 ghost use Rattle.list_prefix.specs.ListPrefix.{CanBegin, list_prefix};
 ghost use Rattle.list_prefix.specs.Verdicts.{IsOfList};
 ghost use Rattle.shard_log.specs.View.{Begins};
-ghost use Rattle.shard_tables.specs.Causes.{HasCause, IsOfReads};
-ghost use Rattle.shard_tables.specs.ReadOuts.{AreNeeded, IsContentFor, IsFillFor, IsFilled, IsFor, ReadsOut, Serves, needed_count, read_note};
+ghost use Rattle.shard_tables.specs.Refusals.{IsOfReads};
+ghost use Rattle.shard_tables.specs.ReadOuts.{AreNeeded, IsContentFor, IsFillFor, IsFilled, IsFor, IsReadOutOf, ContentDecides, needed_count, read_note};
+ghost use Rattle.shard_tables.specs.Reads.{whole_answer};
 ghost use Rattle.shard_tables.specs.Stores.{IsStoreOf, note_of};
 ghost use Rattle.tao_base.specs.declared.entry.Entry.{Entry};
-ghost use Rattle.tao_keeper.specs.Cause.{IsCaused};
-ghost use Rattle.tao_keeper.specs.Table.{Stays};
+ghost use Rattle.tao_keeper.specs.Growing.{LogsGrow};
+ghost use Rattle.tao_keeper.specs.KeeperState.{CallsKeeper, KeepsTables};
 ghost use Rattle.tao_schema.specs.Schema.{types_of};
 
-use super::reads::{Found, queried_key, select};
+use super::reads::{Found, select};
 use super::refusal::StoreRefusal;
 use super::store::StoreNode;
 use list_prefix::{Prefix, Verdict, shortest_front};
@@ -44,8 +46,8 @@ pub enum ReadOut {
 
 impl ReadOut {
     ghost use Rattle.std.specs.Prelude.{IfOk, List};
-    ghost use Rattle.shard_tables.specs.ReadOuts.{IsFor, ReadsOut};
-    ghost use Rattle.shard_tables.specs.Reads.{Reads};
+    ghost use Rattle.shard_tables.specs.ReadOuts.{IsFor, IsReadOutOf};
+    ghost use Rattle.shard_tables.specs.Reads.{AnswersAtVersion};
     ghost use Rattle.tao_base.specs.declared.entry.Entry.{Entry};
     ghost use Rattle.tao_schema.specs.Schema.{types_of};
 
@@ -53,7 +55,8 @@ impl ReadOut {
     /// each log of which this is what the query reads. Copies what the answer gives of a fill.
     pub fn found(self, schema: &Schema, query: &Query) -> Result<Found, OutOfMemory>
         requires { IsFor (types_of schema.now) query.now self }
-        ensures { IfOk result (λ found. (log : List Entry) → ReadsOut (types_of schema.now) log query.now self → Reads (types_of schema.now) log query.now found.answer found.version) }
+        ensures { IfOk result (λ found. (log : List Entry) → IsReadOutOf (types_of schema.now) log query.now self
+            → AnswersAtVersion (types_of schema.now) log query.now found.answer found.version) }
     {
         match self {
             ReadOut::Filled(fill) => {
@@ -74,7 +77,8 @@ impl ReadOut {
 /// query reads. Copies what the answer gives.
 pub fn answer_of_fill(fill: &Fill, schema: &Schema, query: &Query) -> Result<Answer, OutOfMemory>
     requires { IsFillFor (types_of schema.now) query.now fill.now }
-    ensures { IfOk result (λ answer. (log : List Entry) → IsFilled (types_of schema.now) log query.now fill.now → answer ≡ log_answer (types_of schema.now) log query.now) }
+    ensures { IfOk result (λ answer. (log : List Entry) → IsFilled (types_of schema.now) log query.now fill.now
+        → answer ≡ log_answer (types_of schema.now) log query.now) }
 {
     answer_of_content(fill.content(), schema, query)
 }
@@ -84,8 +88,9 @@ fn answer_of_content(
     schema: &Schema,
     query: &Query,
 ) -> Result<Answer, OutOfMemory>
-    requires { Serves (types_of schema.now) query.now (key_of query.now) content.now }
-    ensures { IfOk result (λ answer. (log : List Entry) → IsContentFor (types_of schema.now) log query.now (key_of query.now) content.now → answer ≡ log_answer (types_of schema.now) log query.now) }
+    requires { ContentDecides (types_of schema.now) query.now (query_key query.now) content.now }
+    ensures { IfOk result (λ answer. (log : List Entry) → IsContentFor (types_of schema.now) log query.now (query_key query.now) content.now
+        → answer ≡ log_answer (types_of schema.now) log query.now) }
 {
     match content {
         Content::Object(found) => {
@@ -106,10 +111,11 @@ fn copy_of_object(found: &Option<Object>) -> Result<Option<Object>, OutOfMemory>
 }
 
 fn answer_of_front(front: &Prefix, schema: &Schema, query: &Query) -> Result<Answer, OutOfMemory>
-    requires { Serves (types_of schema.now) query.now (key_of query.now) (Content.List front.now) }
-    ensures { IfOk result (λ answer. (log : List Entry) → IsContentFor (types_of schema.now) log query.now (key_of query.now) (Content.List front.now) → answer ≡ log_answer (types_of schema.now) log query.now) }
+    requires { ContentDecides (types_of schema.now) query.now (query_key query.now) (Content.List front.now) }
+    ensures { IfOk result (λ answer. (log : List Entry) → IsContentFor (types_of schema.now) log query.now (query_key query.now)
+        (Content.List front.now) → answer ≡ log_answer (types_of schema.now) log query.now) }
 {
-    let bound = match queried_key(query) {
+    let bound = match query.key() {
         Key::Obj(_) => unreachable!(),
         Key::List(_, atype) => schema.bound(atype),
     };
@@ -155,16 +161,16 @@ impl StoreNode {
         schema: &Schema,
         query: &Query,
     ) -> Result<ReadOut, StoreRefusal>
-        requires keeper { IsStoreOf M.TELLS (M.told keeper.old) self.old }
-        ensures found { WhereTold M.TELLS (IfOk result (ReadsOut (types_of schema.now) (M.told keeper.old self.old.name).log query.now)) }
+        requires keeper { IsStoreOf M.TELLS (M.state keeper.old).told self.old }
+        ensures found { WhereTold M.TELLS (IfOk result (IsReadOutOf (types_of schema.now) ((M.state keeper.old).told self.old.name).log query.now)) }
         ensures fits { IfOk result (IsFor (types_of schema.now) query.now) }
         ensures note { IfOk result (λ out. read_note out ≡ note_of self.old) }
         ensures refused { IfErr result IsOfReads }
-        ensures tables { WhereTold M.TELLS (Stays (M.told keeper.old) (M.told keeper.new)) }
+        ensures tables { KeepsTables M.TELLS (M.state keeper.old) (M.state keeper.new) }
+        ensures logs { LogsGrow M.TELLS (M.state keeper.old).told (M.state keeper.new).told }
         ensures same { self.new ≡ self.old }
-        ensures keeper { IsStoreOf M.TELLS (M.told keeper.new) self.new }
-        ensures calls { M.calls keeper.old ≤ M.calls keeper.new }
-        ensures cause { HasCause (M.faults keeper.old) (M.faults keeper.new) result }
+        ensures keeper { IsStoreOf M.TELLS (M.state keeper.new).told self.new }
+        ensures calls { CallsKeeper StoreRefusal.KeeperFault (M.state keeper.old) (M.state keeper.new) result }
     {
         let note = self.note()?;
         read_out(alloc, keeper, self.name(), note, schema, query)
@@ -181,16 +187,15 @@ fn read_out<M: Keeper>(
     query: &Query,
 ) -> Result<ReadOut, StoreRefusal>
     requires told { note.log.told ≡ M.TELLS }
-    requires begins { WhereTold M.TELLS (Begins (M.told keeper.old at).log note.entries) }
-    ensures found { WhereTold M.TELLS (IfOk result (ReadsOut (types_of schema.now) (M.told keeper.old at).log query.now)) }
+    requires begins { WhereTold M.TELLS (Begins ((M.state keeper.old).told at).log note.entries) }
+    ensures found { WhereTold M.TELLS (IfOk result (IsReadOutOf (types_of schema.now) ((M.state keeper.old).told at).log query.now)) }
     ensures fits { IfOk result (IsFor (types_of schema.now) query.now) }
     ensures note { IfOk result (λ out. read_note out ≡ note) }
     ensures refused { IfErr result IsOfReads }
-    ensures stays { WhereTold M.TELLS (Stays (M.told keeper.old) (M.told keeper.new)) }
-    ensures calls { M.calls keeper.old ≤ M.calls keeper.new }
-    ensures cause { HasCause (M.faults keeper.old) (M.faults keeper.new) result }
+    ensures stays { KeepsTables M.TELLS (M.state keeper.old) (M.state keeper.new) }
+    ensures calls { CallsKeeper StoreRefusal.KeeperFault (M.state keeper.old) (M.state keeper.new) result }
 {
-    let found = match queried_key(query) {
+    let found = match query.key() {
         Key::Obj(id) => read_object(keeper, at, note, schema, query, id)?,
         Key::List(id1, atype) => read_list(alloc, keeper, at, note, schema, query, id1, atype)?,
     };
@@ -205,15 +210,14 @@ fn read_object<M: Keeper>(
     query: &Query,
     id: Id,
 ) -> Result<ReadOut, KeepFail>
-    requires key { key_of query.now ≡ Key.Obj id }
+    requires key { query_key query.now ≡ Key.Obj id }
     requires told { note.log.told ≡ M.TELLS }
-    requires begins { WhereTold M.TELLS (Begins (M.told keeper.old at).log note.entries) }
-    ensures found { WhereTold M.TELLS (IfOk result (ReadsOut (types_of schema.now) (M.told keeper.old at).log query.now)) }
+    requires begins { WhereTold M.TELLS (Begins ((M.state keeper.old).told at).log note.entries) }
+    ensures found { WhereTold M.TELLS (IfOk result (IsReadOutOf (types_of schema.now) ((M.state keeper.old).told at).log query.now)) }
     ensures fits { IfOk result (IsFor (types_of schema.now) query.now) }
     ensures note { IfOk result (λ out. read_note out ≡ note) }
-    ensures stays { WhereTold M.TELLS (Stays (M.told keeper.old) (M.told keeper.new)) }
-    ensures calls { M.calls keeper.old ≤ M.calls keeper.new }
-    ensures cause { IsCaused (M.faults keeper.old) (M.faults keeper.new) result }
+    ensures stays { KeepsTables M.TELLS (M.state keeper.old) (M.state keeper.new) }
+    ensures calls { CallsKeeper KeepFail.Failed (M.state keeper.old) (M.state keeper.new) result }
 {
     let Reach { version, length } = reached(keeper, at, Key::Obj(id))?;
     let content = Content::Object(keeper.object(at, id)?);
@@ -230,15 +234,14 @@ fn read_list<M: Keeper>(
     id1: Id,
     atype: AType,
 ) -> Result<ReadOut, KeepFail>
-    requires key { key_of query.now ≡ Key.List id1 atype }
+    requires key { query_key query.now ≡ Key.List id1 atype }
     requires told { note.log.told ≡ M.TELLS }
-    requires begins { WhereTold M.TELLS (Begins (M.told keeper.old at).log note.entries) }
-    ensures found { WhereTold M.TELLS (IfOk result (ReadsOut (types_of schema.now) (M.told keeper.old at).log query.now)) }
+    requires begins { WhereTold M.TELLS (Begins ((M.state keeper.old).told at).log note.entries) }
+    ensures found { WhereTold M.TELLS (IfOk result (IsReadOutOf (types_of schema.now) ((M.state keeper.old).told at).log query.now)) }
     ensures fits { IfOk result (IsFor (types_of schema.now) query.now) }
     ensures note { IfOk result (λ out. read_note out ≡ note) }
-    ensures stays { WhereTold M.TELLS (Stays (M.told keeper.old) (M.told keeper.new)) }
-    ensures calls { M.calls keeper.old ≤ M.calls keeper.new }
-    ensures cause { IsCaused (M.faults keeper.old) (M.faults keeper.new) result }
+    ensures stays { KeepsTables M.TELLS (M.state keeper.old) (M.state keeper.new) }
+    ensures calls { CallsKeeper KeepFail.Failed (M.state keeper.old) (M.state keeper.new) result }
 {
     let bound = schema.bound(atype);
     let Reach { version, length } = reached(keeper, at, Key::List(id1, atype))?;
@@ -264,11 +267,10 @@ fn read_list<M: Keeper>(
 
 /// The version of a key and the log's length, by two calls of the keeper.
 fn reached<M: Keeper>(keeper: &mut M, at: StoreName, key: Key) -> Result<Reach, KeepFail>
-    ensures version { WhereTold M.TELLS (IfOk result (λ reached. reached.version ≡ version_of (M.told keeper.old at).log key)) }
-    ensures length { WhereTold M.TELLS (IfOk result (λ reached. reached.length ≡ length (M.told keeper.old at).log)) }
-    ensures stays { WhereTold M.TELLS (Stays (M.told keeper.old) (M.told keeper.new)) }
-    ensures calls { M.calls keeper.old ≤ M.calls keeper.new }
-    ensures cause { IsCaused (M.faults keeper.old) (M.faults keeper.new) result }
+    ensures version { WhereTold M.TELLS (IfOk result (λ reached. reached.version ≡ version_of ((M.state keeper.old).told at).log key)) }
+    ensures length { WhereTold M.TELLS (IfOk result (λ reached. reached.length ≡ length ((M.state keeper.old).told at).log)) }
+    ensures stays { KeepsTables M.TELLS (M.state keeper.old) (M.state keeper.new) }
+    ensures calls { CallsKeeper KeepFail.Failed (M.state keeper.old) (M.state keeper.new) result }
 {
     let version = keeper.version(at, key)?;
     let length = keeper.length(at)?;
@@ -287,11 +289,11 @@ fn first_edges<M: Keeper>(
     bound: u64,
     query: &Query,
 ) -> Result<FirstEdges, KeepFail>
-    ensures needed { WhereTold M.TELLS (IfOk result (λ first. AreNeeded bound query.now (edge_list (M.told keeper.old at).log id1 atype) first.edges first.total)) }
+    ensures needed { WhereTold M.TELLS (IfOk result (λ first.
+        AreNeeded bound query.now (edge_list ((M.state keeper.old).told at).log id1 atype) first.edges first.total)) }
     ensures begins { IfOk result (λ first. CanBegin first.edges first.total) }
-    ensures stays { WhereTold M.TELLS (Stays (M.told keeper.old) (M.told keeper.new)) }
-    ensures calls { M.calls keeper.old ≤ M.calls keeper.new }
-    ensures cause { IsCaused (M.faults keeper.old) (M.faults keeper.new) result }
+    ensures stays { KeepsTables M.TELLS (M.state keeper.old) (M.state keeper.new) }
+    ensures calls { CallsKeeper KeepFail.Failed (M.state keeper.old) (M.state keeper.new) result }
 {
     let count = keeper.count(at, id1, atype)?;
     let most = count_needed(query, bound);
@@ -341,11 +343,11 @@ fn answer_past<M: Keeper>(
     query: &Query,
 ) -> Result<Answer, KeepFail>
     requires of_list { IsOfList query.now }
-    requires total { WhereTold M.TELLS (total ≡ length (edge_list (M.told keeper.old at).log id1 atype)) }
-    ensures answer { WhereTold M.TELLS (IfOk result (λ answer. answer ≡ list_answer bound (edge_list (M.told keeper.old at).log id1 atype) (length (edge_list (M.told keeper.old at).log id1 atype)) query.now)) }
-    ensures stays { WhereTold M.TELLS (Stays (M.told keeper.old) (M.told keeper.new)) }
-    ensures calls { M.calls keeper.old ≤ M.calls keeper.new }
-    ensures cause { IsCaused (M.faults keeper.old) (M.faults keeper.new) result }
+    requires total { WhereTold M.TELLS (total ≡ length (edge_list ((M.state keeper.old).told at).log id1 atype)) }
+    ensures answer { WhereTold M.TELLS (IfOk result (λ answer. answer
+        ≡ whole_answer bound (edge_list ((M.state keeper.old).told at).log id1 atype) query.now)) }
+    ensures stays { KeepsTables M.TELLS (M.state keeper.old) (M.state keeper.new) }
+    ensures calls { CallsKeeper KeepFail.Failed (M.state keeper.old) (M.state keeper.new) result }
 {
     match query {
         Query::ObjGet { .. } => unreachable!(),

@@ -1,12 +1,12 @@
 //! What a store's own log answers to a query.
 ghost use Rattle.std.specs.Prelude.{◌≡◌, ◌≤◌, IfOk, length, min};
-ghost use Rattle.graph_model.specs.Answers.{answer as log_answer, key_of, list_answer};
-ghost use Rattle.graph_model.specs.Edges.{IsInOrder, edge_list};
+ghost use Rattle.graph_model.specs.Answers.{answer as log_answer};
+ghost use Rattle.tao_base.specs.Queries.{query_key};
+ghost use Rattle.graph_model.specs.Edges.{IsInListOrder, edge_list};
 ghost use Rattle.graph_model.specs.Told.{WhereTold};
 ghost use Rattle.list_prefix.specs.Verdicts.{IsOfList};
-ghost use Rattle.shard_tables.specs.Reads.{Reads};
-ghost use Rattle.tao_keeper.specs.Cause.{IsCaused};
-ghost use Rattle.tao_keeper.specs.Table.{Stays};
+ghost use Rattle.shard_tables.specs.Reads.{whole_answer};
+ghost use Rattle.tao_keeper.specs.KeeperState.{CallsKeeper, KeepsTables};
 ghost use Rattle.tao_schema.specs.Schema.{types_of};
 
 use list_prefix::{Prefix, Verdict};
@@ -23,19 +23,6 @@ pub struct Found {
     pub version: u64,
 }
 
-/// The object or the list that a query reads.
-pub fn queried_key(query: &Query) -> Key
-    ensures { result ≡ key_of query.now }
-{
-    match query {
-        Query::ObjGet { id } => Key::Obj(*id),
-        Query::AssocGet { id1, atype, .. } => Key::List(*id1, *atype),
-        Query::AssocCount { id1, atype } => Key::List(*id1, *atype),
-        Query::AssocRange { id1, atype, .. } => Key::List(*id1, *atype),
-        Query::AssocTimeRange { id1, atype, .. } => Key::List(*id1, *atype),
-    }
-}
-
 /// What a list of that length answers to a query, from all its edges. One call of the keeper.
 pub fn select<M: Keeper>(
     keeper: &mut M,
@@ -47,11 +34,11 @@ pub fn select<M: Keeper>(
     query: &Query,
 ) -> Result<Answer, KeepFail>
     requires of_list { IsOfList query.now }
-    requires count { WhereTold M.TELLS (count ≡ length (edge_list (M.told keeper.old at).log id1 atype)) }
-    ensures answer { WhereTold M.TELLS (IfOk result (λ answer. answer ≡ list_answer bound (edge_list (M.told keeper.old at).log id1 atype) (length (edge_list (M.told keeper.old at).log id1 atype)) query.now)) }
-    ensures stays { WhereTold M.TELLS (Stays (M.told keeper.old) (M.told keeper.new)) }
-    ensures calls { M.calls keeper.old ≤ M.calls keeper.new }
-    ensures cause { IsCaused (M.faults keeper.old) (M.faults keeper.new) result }
+    requires count { WhereTold M.TELLS (count ≡ length (edge_list ((M.state keeper.old).told at).log id1 atype)) }
+    ensures answer { WhereTold M.TELLS (IfOk result (λ answer. answer
+        ≡ whole_answer bound (edge_list ((M.state keeper.old).told at).log id1 atype) query.now)) }
+    ensures stays { KeepsTables M.TELLS (M.state keeper.old) (M.state keeper.new) }
+    ensures calls { CallsKeeper KeepFail.Failed (M.state keeper.old) (M.state keeper.new) result }
 {
     let edges = keeper.edges(at, id1, atype, 0, count)?;
     match answer_of_list(edges, query, bound) {
@@ -62,9 +49,9 @@ pub fn select<M: Keeper>(
 
 /// What a list answers that has these edges and no others.
 fn answer_of_list(edges: Edges, query: &Query, bound: u64) -> Result<Answer, OutOfMemory>
-    requires in_order { IsInOrder edges }
+    requires in_order { IsInListOrder edges }
     requires of_list { IsOfList query.now }
-    ensures { IfOk result (λ answer. answer ≡ list_answer bound edges (length edges) query.now) }
+    ensures { IfOk result (λ answer. answer ≡ whole_answer bound edges query.now) }
 {
     let total = edges.as_slice().len() as u64;
     let verdict = Prefix::of(edges, total).read(query, bound)?;

@@ -4,6 +4,7 @@ use std::error::Error;
 use std::fmt;
 use tao_base::OutOfMemory;
 use tao_keeper::KeepFail;
+use write_touches::TouchRefusal;
 
 /// Why a store gave no answer. No table has changed then.
 #[derive(Clone, Copy, Debug, PartialEq, Eq)]
@@ -43,14 +44,30 @@ impl Error for StoreRefusal {}
 
 impl From<KeepFail> for StoreRefusal {
     ghost use Rattle.std.specs.Prelude.{◌≡◌};
-    ghost use Rattle.shard_tables.specs.Causes.{refusal_of};
+    ghost use Rattle.shard_tables.specs.Refusals.{keeper_refused};
 
-    ghost from_gives = { λ fail refusal. refusal ≡ refusal_of fail };
+    ghost from_gives = { λ fail refusal. refusal ≡ keeper_refused fail };
 
     fn from(fail: KeepFail) -> StoreRefusal {
         match fail {
             KeepFail::Failed => StoreRefusal::KeeperFault,
             KeepFail::OutOfMemory => StoreRefusal::OutOfMemory,
+        }
+    }
+}
+
+impl From<TouchRefusal> for StoreRefusal {
+    ghost use Rattle.std.specs.Prelude.{◌≡◌};
+    ghost use Rattle.shard_tables.specs.Refusals.{write_refused};
+
+    ghost from_gives = { λ fail refusal. refusal ≡ write_refused fail };
+
+    fn from(fail: TouchRefusal) -> StoreRefusal {
+        match fail {
+            TouchRefusal::KeeperFault => StoreRefusal::KeeperFault,
+            TouchRefusal::ShardFull { serial } => StoreRefusal::ShardFull { serial },
+            TouchRefusal::StampFull { number } => StoreRefusal::StampFull { number },
+            TouchRefusal::OutOfMemory => StoreRefusal::OutOfMemory,
         }
     }
 }

@@ -1,12 +1,13 @@
 //! A store of one shard: its name, and what it holds of the shard's log.
-ghost use Rattle.std.specs.Prelude.{◌≡◌, ◌≤◌, ◌<◌, ◌↔◌, IfOk, IsTrue, Some, length};
+ghost use Rattle.std.specs.Prelude.{◌≡◌, ◌≤◌, ◌<◌, ◌↔◌, IfErr, IfOk, IsTrue, Some, length};
 ghost use Rattle.graph_model.specs.Soundness.{CanFollow};
 ghost use Rattle.graph_model.specs.Told.{WhereTold};
 ghost use Rattle.shard_log.specs.View.{as_note, most_entries};
 ghost use Rattle.shard_tables.specs.StoreView.{Store};
-ghost use Rattle.shard_tables.specs.Stores.{gained, note_of};
+ghost use Rattle.shard_tables.specs.Stores.{IsFullFor, length_of, note_of, store_with};
 ghost use Rattle.shard_tables.specs.declared.store.Role.TheVariants.{Master, Slave};
 
+use super::refusal::StoreRefusal;
 use shard_log::{Note, Pen};
 use std::marker::Model;
 use tao_base::{Entry, OutOfMemory, StoreName};
@@ -38,11 +39,11 @@ pub struct StoreNode {
 
 impl Model for StoreNode {
     ghost use Rattle.std.specs.Prelude.{◌≤◌};
-    ghost use Rattle.shard_tables.specs.StoreView.{Store, store_of};
+    ghost use Rattle.shard_tables.specs.StoreView.{Store, shown_store};
 
     ghost Value = { Store };
 
-    ghost view = { store_of };
+    ghost view = { shown_store };
 
     ghost invariant = { λ s. s.log_max ≤ 65536 };
 }
@@ -110,7 +111,7 @@ impl StoreNode {
     }
 
     /// How many entries the master's log has. Takes no memory, and no call of a keeper.
-    pub(crate) fn log_length(&self) -> u64
+    fn log_length(&self) -> u64
         requires master { self.now.role ≡ Master }
         ensures length { result ≡ length self.now.view.entries }
         ensures few { result ≤ most_entries }
@@ -121,12 +122,27 @@ impl StoreNode {
         }
     }
 
+    /// How many entries the master's log has, where it has room for one more. Takes no memory, and no call of a keeper.
+    pub(crate) fn room(&self) -> Result<u64, StoreRefusal>
+        requires master { self.now.role ≡ Master }
+        ensures length { IfOk result (λ length. length ≡ length_of self.now) }
+        ensures room { IfOk result (λ length. length < self.now.log_max) }
+        ensures few { IfOk result (λ length. length < most_entries) }
+        ensures full { IfErr result (IsFullFor self.now) }
+    {
+        let length = self.log_length();
+        if length >= self.log_max {
+            return Err(StoreRefusal::LogFull { length });
+        }
+        Ok(length)
+    }
+
     /// Adds an entry at the end of the master's log. Takes no memory.
     pub(crate) fn append(&mut self, entry: &Entry)
         requires master { self.old.role ≡ Master }
         requires room { length self.old.view.entries < most_entries }
         requires follows { WhereTold self.old.view.log.told (CanFollow self.old.view.entries entry.now) }
-        ensures { self.new ≡ gained self.old (Some entry.now) }
+        ensures { self.new ≡ store_with self.old (Some entry.now) }
     {
         match &mut self.held {
             Held::Whole(pen) => {

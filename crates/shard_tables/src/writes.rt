@@ -1,33 +1,32 @@
 //! The writes of clients to a store.
-ghost use Rattle.std.specs.Prelude.{◌≡◌, ◌≤◌, ◌<◌, ℕ, IfOk, IfSome, IsTrue, MatchResult, None, Some, false, length};
-ghost use Rattle.graph_model.specs.Soundness.{CanFollow, IsSoundOf, is_client};
+ghost use Rattle.std.specs.Prelude.{◌≡◌, ◌<◌, ℕ, IfOk, IfSome, IsTrue, MatchResult, None, Some, false, length};
+ghost use Rattle.graph_model.specs.Soundness.{CanFollow, IsSoundOf, is_client, IsNewOrigin};
 ghost use Rattle.graph_model.specs.Told.{WhereTold};
-ghost use Rattle.graph_model.specs.WriteLaws.{ChangesType, IsNewOrigin};
-ghost use Rattle.graph_model.specs.Writes.{FitsWrite};
+ghost use Rattle.write_model.specs.WriteLaws.{ChangesType};
+ghost use Rattle.write_model.specs.Writes.{FitsWrite};
 ghost use Rattle.shard_log.specs.View.{Grows, as_note, most_entries};
-ghost use Rattle.shard_tables.specs.Causes.{HasCause};
-ghost use Rattle.shard_tables.specs.Fitting.{HasEntry};
 ghost use Rattle.shard_tables.specs.Jobs.{FindsJob, OpensJob, job_with};
-ghost use Rattle.shard_tables.specs.Stores.{IsStoreOf, gained};
-ghost use Rattle.shard_tables.specs.Written.{Answers, Gains, added_entry, shard_of_write};
+ghost use Rattle.shard_tables.specs.Stores.{IsStoreOf, store_with};
+ghost use Rattle.shard_tables.specs.Written.{HasEntry, TableGains, WriteAnswers, added_entry, asked_write, made_entry};
+ghost use Rattle.tao_base.specs.Writes.{write_shard};
 ghost use Rattle.shard_tables.specs.declared.store.Role.TheVariants.{Master};
 ghost use Rattle.tao_base.specs.EdgeTypes.{EdgeTypes, InversesMatch};
 ghost use Rattle.tao_base.specs.declared.entry.Origin.{Origin};
-ghost use Rattle.tao_keeper.specs.Cause.{IsCaused};
+ghost use Rattle.tao_keeper.specs.KeeperState.{CallsKeeper, KeepsTables};
 ghost use Rattle.tao_keeper.specs.Given.{HaveSmallStamps, IsGivenJob};
+ghost use Rattle.tao_keeper.specs.Growing.{LogsGrow};
 ghost use Rattle.tao_keeper.specs.Table.{Changes, StandsAt, Stays, after_commit};
 ghost use Rattle.tao_schema.specs.Schema.{types_of};
 
-use super::entries::{entry_of, touches_of};
-use super::far_jobs::far_job;
-use super::fitting::fits;
 use super::refusal::StoreRefusal;
 use super::store::StoreNode;
 use shard_log::Note;
 use std::alloc::Global;
-use tao_base::{AType, Entry, Origin, StoreName, Write};
+use tao_base::{AType, Entry, Origin, StoreName, Touch, Touches, Write};
 use tao_keeper::{Commit, Job, KeepFail, Keeper};
 use tao_schema::Schema;
+use write_fitting::fits;
+use write_touches::{far_job, touches_of};
 
 /// What a write did.
 #[derive(Drop)]
@@ -41,6 +40,23 @@ pub struct Wrote {
     pub job: Option<Job>,
     /// What the store has of its shard's log after the write, which is all.
     pub note: Note,
+}
+
+impl Wrote {
+    /// Nothing was there to write.
+    pub(crate) fn nothing(note: Note) -> Wrote
+        ensures entry { result.entry ≡ None }
+        ensures retry { result.retry ≡ false }
+        ensures job { result.job ≡ None }
+        ensures note { result.note ≡ note }
+    {
+        Wrote {
+            entry: None,
+            retry: false,
+            job: None,
+            note,
+        }
+    }
 }
 
 impl StoreNode {
@@ -67,25 +83,27 @@ impl StoreNode {
         write: &Write,
     ) -> Result<Wrote, StoreRefusal>
         requires master { self.old.role ≡ Master }
-        requires keeper { IsStoreOf M.TELLS (M.told keeper.old) self.old }
+        requires keeper { IsStoreOf M.TELLS (M.state keeper.old).told self.old }
         requires client { IsTrue (is_client origin) }
-        requires here { shard_of_write write.now ≡ self.old.name.shard }
+        requires here { write_shard write.now ≡ self.old.name.shard }
         requires changes { ChangesType (types_of schema.now) write.now }
-        requires sound { WhereTold M.TELLS (IsSoundOf (types_of schema.now) self.old.name.shard (M.told keeper.old self.old.name).log) }
-        ensures answer { WhereTold M.TELLS (Answers (types_of schema.now) self.old.log_max (M.told keeper.old self.old.name).log origin write.now result) }
+        requires sound { WhereTold M.TELLS (IsSoundOf (types_of schema.now) self.old.name.shard ((M.state keeper.old).told self.old.name).log) }
+        ensures answer { WhereTold M.TELLS (WriteAnswers
+            (asked_write (types_of schema.now) self.old.log_max ((M.state keeper.old).told self.old.name).log origin write.now) result) }
         ensures fits { IfOk result (λ wrote. IfSome wrote.entry (λ e. FitsWrite e write.now)) }
         ensures entry { IfOk result (λ wrote. HasEntry write.now wrote.entry) }
         ensures job { IfOk result (λ wrote. OpensJob (types_of schema.now) wrote.retry wrote.entry wrote.job) }
-        ensures found { WhereTold M.TELLS (IfOk result (λ wrote. FindsJob (M.told keeper.old self.old.name).log (M.told keeper.old self.old.name).jobs wrote.retry wrote.entry wrote.job)) }
+        ensures found { WhereTold M.TELLS (IfOk result (λ wrote. FindsJob ((M.state keeper.old).told self.old.name) wrote.retry wrote.entry wrote.job)) }
         ensures given { IfOk result (λ wrote. IfSome wrote.job IsGivenJob) }
-        ensures tables { WhereTold M.TELLS (Gains (M.told keeper.old) (M.told keeper.new) self.old.name (added_entry result) (job_with (types_of schema.now) (added_entry result))) }
-        ensures log { self.new ≡ gained self.old (added_entry result) }
+        ensures tables { WhereTold M.TELLS (TableGains (M.state keeper.old).told (M.state keeper.new).told self.old.name
+            (added_entry result) (job_with (types_of schema.now) (added_entry result))) }
+        ensures logs { LogsGrow M.TELLS (M.state keeper.old).told (M.state keeper.new).told }
+        ensures log { self.new ≡ store_with self.old (added_entry result) }
         ensures grows { Grows self.old.view self.new.view }
         ensures note { IfOk result (λ wrote. wrote.note ≡ as_note self.new.view) }
-        ensures keeper { IsStoreOf M.TELLS (M.told keeper.new) self.new }
-        ensures sound { WhereTold M.TELLS (IsSoundOf (types_of schema.now) self.old.name.shard (M.told keeper.new self.old.name).log) }
-        ensures calls { M.calls keeper.old ≤ M.calls keeper.new }
-        ensures cause { HasCause (M.faults keeper.old) (M.faults keeper.new) result }
+        ensures keeper { IsStoreOf M.TELLS (M.state keeper.new).told self.new }
+        ensures sound { WhereTold M.TELLS (IsSoundOf (types_of schema.now) self.old.name.shard ((M.state keeper.new).told self.old.name).log) }
+        ensures calls { CallsKeeper StoreRefusal.KeeperFault (M.state keeper.old) (M.state keeper.new) result }
     {
         let note = self.note()?;
         let found = keeper.origin(self.name(), origin)?;
@@ -104,17 +122,19 @@ fn write_again<M: Keeper>(
     write: &Write,
     note: Note,
 ) -> Result<Wrote, StoreRefusal>
-    ensures answer { WhereTold M.TELLS ((types : EdgeTypes) (most : ℕ) (origin : Origin) → StandsAt (M.told keeper.old at).log origin (Some position) → Answers types most (M.told keeper.old at).log origin write.now result) }
+    ensures answer { WhereTold M.TELLS ((types : EdgeTypes) (most : ℕ) (origin : Origin)
+        → StandsAt ((M.state keeper.old).told at).log origin (Some position)
+        → WriteAnswers (asked_write types most ((M.state keeper.old).told at).log origin write.now) result) }
     ensures fits { IfOk result (λ wrote. IfSome wrote.entry (λ e. FitsWrite e write.now)) }
     ensures entry { IfOk result (λ wrote. HasEntry write.now wrote.entry) }
     ensures nothing { added_entry result ≡ None }
     ensures retried { IfOk result (λ wrote. IsTrue wrote.retry) }
-    ensures found { WhereTold M.TELLS (IfOk result (λ wrote. FindsJob (M.told keeper.old at).log (M.told keeper.old at).jobs wrote.retry wrote.entry wrote.job)) }
+    ensures found { WhereTold M.TELLS (IfOk result (λ wrote. FindsJob ((M.state keeper.old).told at) wrote.retry wrote.entry wrote.job)) }
     ensures given { IfOk result (λ wrote. IfSome wrote.job IsGivenJob) }
     ensures note { IfOk result (λ wrote. wrote.note ≡ note) }
-    ensures stays { WhereTold M.TELLS (Stays (M.told keeper.old) (M.told keeper.new)) }
-    ensures calls { M.calls keeper.old ≤ M.calls keeper.new }
-    ensures cause { HasCause (M.faults keeper.old) (M.faults keeper.new) result }
+    ensures stays { KeepsTables M.TELLS (M.state keeper.old) (M.state keeper.new) }
+    ensures logs { LogsGrow M.TELLS (M.state keeper.old).told (M.state keeper.new).told }
+    ensures calls { CallsKeeper StoreRefusal.KeeperFault (M.state keeper.old) (M.state keeper.new) result }
 {
     let found = keeper.entry(at, position)?;
     match found {
@@ -154,22 +174,36 @@ pub fn add_entry<M: Keeper>(
     requires job { IfSome job (λ j. j.position ≡ entry.position) }
     requires given { IfSome job IsGivenJob }
     requires master { store.old.role ≡ Master }
-    requires keeper { IsStoreOf M.TELLS (M.told keeper.old) store.old }
+    requires keeper { IsStoreOf M.TELLS (M.state keeper.old).told store.old }
     requires stamps { HaveSmallStamps entry.touches }
     requires room { length store.old.view.entries < most_entries }
-    requires follows { WhereTold M.TELLS (CanFollow (M.told keeper.old store.old.name).log entry) }
+    requires follows { WhereTold M.TELLS (CanFollow ((M.state keeper.old).told store.old.name).log entry) }
     ensures entry { IfOk result (λ added. added.entry ≡ entry) }
     ensures opened { IfOk result (λ added. added.job ≡ job) }
-    ensures log { MatchResult result (λ _. store.new ≡ gained store.old (Some entry)) (λ _. store.new ≡ store.old) }
-    ensures tables { WhereTold M.TELLS (Changes result (M.told keeper.old) (M.told keeper.new) store.old.name (after_commit (M.told keeper.old store.old.name) entry job)) }
-    ensures keeper { IsStoreOf M.TELLS (M.told keeper.new) store.new }
-    ensures calls { M.calls keeper.old ≤ M.calls keeper.new }
-    ensures cause { IsCaused (M.faults keeper.old) (M.faults keeper.new) result }
+    ensures log { MatchResult result (λ _. store.new ≡ store_with store.old (Some entry)) (λ _. store.new ≡ store.old) }
+    ensures tables { WhereTold M.TELLS (Changes result (M.state keeper.old).told (M.state keeper.new).told store.old.name
+        (after_commit ((M.state keeper.old).told store.old.name) entry job)) }
+    ensures logs { LogsGrow M.TELLS (M.state keeper.old).told (M.state keeper.new).told }
+    ensures keeper { IsStoreOf M.TELLS (M.state keeper.new).told store.new }
+    ensures calls { CallsKeeper KeepFail.Failed (M.state keeper.old) (M.state keeper.new) result }
 {
     let commit = Commit { entry, job };
     keeper.commit(store.name(), &commit)?;
     store.append(&commit.entry);
     Ok(commit)
+}
+
+/// The entry of a write that follows so many entries.
+fn entry_of(length: u64, origin: Origin, write: &Write, touches: Vec<Touch>) -> Entry
+    requires { length < most_entries }
+    ensures { result ≡ made_entry length origin write.now touches.items }
+{
+    Entry {
+        position: length + 1,
+        kind: write.kind(),
+        origin,
+        touches: Touches::of(touches),
+    }
 }
 
 /// Makes a write whose origin doesn't stand in the log. The note has seen the whole log before.
@@ -184,38 +218,32 @@ fn write_first<M: Keeper>(
 ) -> Result<Wrote, StoreRefusal>
     requires master { store.old.role ≡ Master }
     requires note { note ≡ as_note store.old.view }
-    requires keeper { IsStoreOf M.TELLS (M.told keeper.old) store.old }
-    requires here { shard_of_write write.now ≡ store.old.name.shard }
+    requires keeper { IsStoreOf M.TELLS (M.state keeper.old).told store.old }
+    requires here { write_shard write.now ≡ store.old.name.shard }
     requires changes { ChangesType (types_of schema.now) write.now }
-    requires sound { WhereTold M.TELLS (IsSoundOf (types_of schema.now) store.old.name.shard (M.told keeper.old store.old.name).log) }
-    requires new { WhereTold M.TELLS (IsNewOrigin (M.told keeper.old store.old.name).log origin) }
-    ensures answer { WhereTold M.TELLS (Answers (types_of schema.now) store.old.log_max (M.told keeper.old store.old.name).log origin write.now result) }
+    requires sound { WhereTold M.TELLS (IsSoundOf (types_of schema.now) store.old.name.shard ((M.state keeper.old).told store.old.name).log) }
+    requires new { WhereTold M.TELLS (IsNewOrigin ((M.state keeper.old).told store.old.name).log origin) }
+    ensures answer { WhereTold M.TELLS (WriteAnswers
+        (asked_write (types_of schema.now) store.old.log_max ((M.state keeper.old).told store.old.name).log origin write.now) result) }
     ensures fits { IfOk result (λ wrote. IfSome wrote.entry (λ e. FitsWrite e write.now)) }
     ensures entry { IfOk result (λ wrote. HasEntry write.now wrote.entry) }
     ensures job { IfOk result (λ wrote. OpensJob (types_of schema.now) wrote.retry wrote.entry wrote.job) }
     ensures new { IfOk result (λ wrote. wrote.retry ≡ false) }
     ensures given { IfOk result (λ wrote. IfSome wrote.job IsGivenJob) }
-    ensures tables { WhereTold M.TELLS (Gains (M.told keeper.old) (M.told keeper.new) store.old.name (added_entry result) (job_with (types_of schema.now) (added_entry result))) }
-    ensures log { store.new ≡ gained store.old (added_entry result) }
+    ensures tables { WhereTold M.TELLS (TableGains (M.state keeper.old).told (M.state keeper.new).told store.old.name
+        (added_entry result) (job_with (types_of schema.now) (added_entry result))) }
+    ensures logs { LogsGrow M.TELLS (M.state keeper.old).told (M.state keeper.new).told }
+    ensures log { store.new ≡ store_with store.old (added_entry result) }
     ensures note { IfOk result (λ wrote. wrote.note ≡ as_note store.new.view) }
-    ensures keeper { IsStoreOf M.TELLS (M.told keeper.new) store.new }
-    ensures sound { WhereTold M.TELLS (IsSoundOf (types_of schema.now) store.old.name.shard (M.told keeper.new store.old.name).log) }
-    ensures calls { M.calls keeper.old ≤ M.calls keeper.new }
-    ensures cause { HasCause (M.faults keeper.old) (M.faults keeper.new) result }
+    ensures keeper { IsStoreOf M.TELLS (M.state keeper.new).told store.new }
+    ensures sound { WhereTold M.TELLS (IsSoundOf (types_of schema.now) store.old.name.shard ((M.state keeper.new).told store.old.name).log) }
+    ensures calls { CallsKeeper StoreRefusal.KeeperFault (M.state keeper.old) (M.state keeper.new) result }
 {
     let touches = touches_of(alloc, keeper, store.name(), schema, write)?;
     if touches.is_empty() {
-        return Ok(Wrote {
-            entry: None,
-            retry: false,
-            job: None,
-            note,
-        });
+        return Ok(Wrote::nothing(note));
     }
-    let length = store.log_length();
-    if length >= store.log_max() {
-        return Err(StoreRefusal::LogFull { length });
-    }
+    let length = store.room()?;
     let entry = entry_of(length, origin, write, touches);
     inverses_match(schema);
     let job = far_job(alloc, schema, &entry)?;

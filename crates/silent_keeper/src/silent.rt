@@ -1,10 +1,8 @@
 //! The keeper.
-ghost use Rattle.std.specs.Prelude.{◌≡◌};
-
 use crate::log::Log;
 use counts::Count;
 use std::alloc::Global;
-use tao_base::{AType, EdgeState, Edges, Entry, Id, Key, Object, Origin, OutOfMemory, StoreName};
+use tao_base::{AType, EdgeState, Edges, Entry, Id, Key, Object, Origin, StoreName};
 use tao_keeper::{Commit, Job, KeepFail, Keeper, MOST_ENTRIES, Opened};
 
 /// A keeper of one store, under whatever name, that tells nothing. Its answers are those of the entries that were
@@ -33,13 +31,6 @@ impl SilentKeeper {
     }
 }
 
-/// Want of memory, as a keeper tells it.
-fn no_memory(_: OutOfMemory) -> KeepFail
-    ensures { result ≡ KeepFail.OutOfMemory }
-{
-    KeepFail::OutOfMemory
-}
-
 impl Keeper for SilentKeeper {
     ghost use Rattle.std.specs.Prelude.{false};
     ghost use Rattle.silent_keeper.specs.Held.{nothing_told};
@@ -49,13 +40,11 @@ impl Keeper for SilentKeeper {
 
     ghost TELLS = { false };
 
-    ghost told = { λ _ _. empty_table };
-
-    ghost calls = { λ keeper. keeper.calls };
-
-    ghost faults = { λ keeper. keeper.faults };
+    ghost state = { λ keeper. record { told = λ _. empty_table; calls = keeper.calls; faults = keeper.faults } };
 
     ghost sound = { λ _ _. nothing_told };
+
+    ghost of_entries = { λ _ _. nothing_told };
 
     fn open(&mut self, _: StoreName, line: &[u8]) -> Result<Opened, KeepFail> {
         self.calls.rise();
@@ -82,7 +71,7 @@ impl Keeper for SilentKeeper {
         id2: Id,
     ) -> Result<Option<EdgeState>, KeepFail> {
         self.calls.rise();
-        plain_graph::record_of(self.alloc, self.log.entries(), id1, atype, id2).map_err(no_memory)
+        Ok(plain_graph::record_of(self.alloc, self.log.entries(), id1, atype, id2)?)
     }
 
     fn edges(
@@ -94,22 +83,18 @@ impl Keeper for SilentKeeper {
         most: u64,
     ) -> Result<Edges, KeepFail> {
         self.calls.rise();
-        plain_graph::edges_of(self.alloc, self.log.entries(), id1, atype, pos, most).map_err(
-            no_memory,
-        )
+        Ok(plain_graph::edges_of(self.alloc, self.log.entries(), id1, atype, pos, most)?)
     }
 
     fn object(&mut self, _: StoreName, id: Id) -> Result<Option<Object>, KeepFail> {
         self.calls.rise();
-        plain_graph::object_of(self.alloc, self.log.entries(), id).map_err(no_memory)
+        Ok(plain_graph::object_of(self.alloc, self.log.entries(), id)?)
     }
 
     fn count(&mut self, _: StoreName, id1: Id, atype: AType) -> Result<u64, KeepFail> {
         self.calls.rise();
-        match plain_graph::count_of(self.alloc, self.log.entries(), id1, atype) {
-            Ok(count) => Ok(count.min(MOST_ENTRIES)),
-            Err(OutOfMemory) => Err(KeepFail::OutOfMemory),
-        }
+        let count = plain_graph::count_of(self.alloc, self.log.entries(), id1, atype)?;
+        Ok(count.min(MOST_ENTRIES))
     }
 
     fn version(&mut self, _: StoreName, key: Key) -> Result<u64, KeepFail> {

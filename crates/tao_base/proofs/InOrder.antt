@@ -15,7 +15,7 @@ use Rattle.std.proofs.lemmas.Grind.{fold-append}
 use Rattle.std.proofs.lemmas.List.{map-append}
 use Rattle.std.proofs.lemmas.Cmp.{nat_list_cmp_total}
 use Rattle.std.proofs.lemmas.Slice.Eq.{bytes_eq-Decides}
-use Rattle.tao_base.specs.Data.{KeysAscend, IsData, IsInOrder, data_bytes, in_order, last_value, pair_of, put_pair}
+use Rattle.tao_base.specs.Data.{KeysAscend, IsData, IsInKeyOrder, data_bytes, in_order, last_value, pair_of, put_pair}
 use Rattle.tao_base.specs.declared.data.Pair.{Pair}
 
 abbrev key_cmp : List ℕ → List ℕ → Ordering
@@ -136,7 +136,7 @@ put_all (p ∷ ps) made up =
     (more.0, λ key. more.1 key ∙ ap (λ v. value_after v key ps) (put_value None key p made up) ∙ sym (value_after-cons (last_value key made) key p ps))
 
 -- the pairs in order have each key once, with its last value
-pub put_in_order : (pairs : List Pair) → IsInOrder pairs (in_order pairs)
+pub put_in_order : (pairs : List Pair) → IsInKeyOrder pairs (in_order pairs)
 put_in_order pairs = let all = put_all pairs [] tt in record { ascending = all.0; last_counts = all.1 }
 
 pub data_in_order : (pairs made : List Pair) (bytes : ℕ) → made ≡ in_order pairs → length made ≤ 32 → bytes ≡ length (data_bytes made) → bytes ≤ 4096 → IsData made

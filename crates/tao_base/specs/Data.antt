@@ -51,7 +51,7 @@ abbrev pub last_value : List ℕ → List Pair → Option (List ℕ)
 last_value key pairs = last_or None (map (λ p. p.value) (filter (λ p. bytes_eq key p.key) pairs))
 
 -- each key once, in order, with the value that the pairs give it last
-pub record IsInOrder (pairs made : List Pair) : Type 0 where
+pub record IsInKeyOrder (pairs made : List Pair) : Type 0 where
   pub ascending : KeysAscend made
   pub last_counts : (key : List ℕ) → last_value key made ≡ last_value key pairs
 

@@ -68,7 +68,7 @@ impl Model for Data {
 }
 
 impl Data {
-    ghost use Rattle.tao_base.specs.Data.{IsData, IsInOrder, IsRefusedFor, in_order, pair_of};
+    ghost use Rattle.tao_base.specs.Data.{IsData, IsInKeyOrder, IsRefusedFor, in_order, pair_of};
     ghost use Rattle.std.specs.Prelude.{length, map, IfOk, IfErr, ◌==◌};
 
     /// How many pairs a data has at most.
@@ -91,7 +91,7 @@ impl Data {
     pub fn of_pairs(alloc: Global, pairs: Vec<(String, String)>) -> Result<Data, DataRefusal>
         ensures pairs { IfOk result (λ made. made ≡ in_order (map pair_of pairs.items)) }
         ensures limits { IfOk result IsData }
-        ensures last_counts { IfOk result (IsInOrder (map pair_of pairs.items)) }
+        ensures last_counts { IfOk result (IsInKeyOrder (map pair_of pairs.items)) }
         ensures refused { IfErr result (IsRefusedFor (in_order (map pair_of pairs.items))) }
     {
         let pairs = in_key_order(alloc, pairs)?;

@@ -1,6 +1,7 @@
 //! Ids, types, keys and the names of stores.
 ghost use Rattle.std.specs.Prelude.{◌≡◌, ◌<◌, IfSome, IsNone, ◌↔◌};
 ghost use Rattle.tao_base.specs.Ids.{shard_of, serial_of};
+ghost use Rattle.tao_base.specs.Keys.{key_shard};
 
 use std::marker::Model;
 
@@ -76,6 +77,17 @@ pub struct OType(pub u16);
 pub enum Key {
     Obj(Id),
     List(Id, AType),
+}
+
+impl Key {
+    /// The shard that the object or the list lies on: that of its id.
+    pub fn shard(&self) -> u16
+        ensures { result ≡ key_shard self.now }
+    {
+        match self {
+            Key::Obj(id) | Key::List(id, _) => id.shard(),
+        }
+    }
 }
 
 /// A store: the place of its region and its shard.

@@ -1,8 +1,9 @@
 //! Queries and their answers.
 ghost use Rattle.std.specs.Prelude.{◌≡◌};
+ghost use Rattle.tao_base.specs.Queries.{query_key, query_shard};
 
 use super::edge::{Edges, Object, Time};
-use super::id::{AType, Id};
+use super::id::{AType, Id, Key};
 use std::marker::Model;
 
 /// Ids, each once, in rising order.
@@ -98,6 +99,28 @@ pub enum Query {
         low: Time,
         limit: u32,
     },
+}
+
+impl Query {
+    /// The key that the query reads.
+    pub fn key(&self) -> Key
+        ensures { result ≡ query_key self.now }
+    {
+        match self {
+            Query::ObjGet { id } => Key::Obj(*id),
+            Query::AssocGet { id1, atype, .. }
+            | Query::AssocCount { id1, atype }
+            | Query::AssocRange { id1, atype, .. }
+            | Query::AssocTimeRange { id1, atype, .. } => Key::List(*id1, *atype),
+        }
+    }
+
+    /// The shard of the query: that of its key.
+    pub fn shard(&self) -> u16
+        ensures { result ≡ query_shard self.now }
+    {
+        self.key().shard()
+    }
 }
 
 /// What a query is answered with.

@@ -2,8 +2,8 @@
 use Rattle.std.proofs.Common.{◌≡◌, ℕ, Bool, None, List, refl, sym, subst}
 use Rattle.std.specs.Prelude.{slice_set}
 use Rattle.counts.specs.Count.{Rose}
-use Rattle.graph_model.specs.Answers.{key_of}
-use Rattle.graph_model.specs.Keys.{key_shard}
+use Rattle.tao_base.specs.Queries.{query_key}
+use Rattle.tao_base.specs.Keys.{key_shard}
 use Rattle.graph_model.specs.Told.{WhereTold}
 use Rattle.tao_base.specs.declared.query.Query.{Query}
 use Rattle.replies.specs.declared.calls.CallReply.TheVariants as called
@@ -41,10 +41,10 @@ by_reply tells s old new call out (Refused (Memory position)) tells_so reads sta
 by_reply tells s old new call out reply tells_so reads stays = absurd tells_so
 
 pub does_read : (tells : Bool) (s : Settings) (old new : Shown) (call : CheckedRead) (schema : Schema) (x : Store) (out : ReadOut) (reply : Reply) → schema ≡ s.schema
-    → IsMasterOf s (key_shard (key_of call.query)) x → TellsFound (types_of s.schema) call.query out reply
+    → IsMasterOf s (key_shard (query_key call.query)) x → TellsFound (types_of s.schema) call.query out reply
     → WhereTold tells (ReadsOut (types_of schema) (old.told x.name).log call.query out) → WhereTold tells (Stays old.told new.told) → DoesRead tells s old call reply new
 does_read tells s old new call schema x out reply of_s is tells_so reads stays =
-    by_reply tells s old new call out reply tells_so (λ told. here_reads s old.told schema x (key_shard (key_of call.query)) call.query out of_s is (reads told)) stays
+    by_reply tells s old new call out reply tells_so (λ told. here_reads s old.told schema x (key_shard (query_key call.query)) call.query out of_s is (reads told)) stays
 
 -- a read that is refused
 pub refuses_read : (tells : Bool) (s : Settings) (old new : Shown) (call : CheckedRead) (r : StoreRefusal) → IsOfReads r → WhereTold tells (Stays old.told new.told)

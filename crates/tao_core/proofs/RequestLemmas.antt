@@ -9,8 +9,8 @@ use Rattle.tao_base.specs.declared.query.Query.TheVariants as to_read
 use Rattle.tao_base.specs.declared.write.Write.{Write}
 use Rattle.tao_base.specs.declared.write.Write.TheVariants as to_write
 use Rattle.tao_base.specs.Ids.{shard_of}
-use Rattle.graph_model.specs.WriteLaws.{ChangesType}
-use Rattle.shard_tables.specs.Written.{shard_of_write}
+use Rattle.write_model.specs.WriteLaws.{ChangesType}
+use Rattle.tao_base.specs.Writes.{write_shard}
 use Rattle.tao_schema.specs.Schema.{types_of}
 use Rattle.topology.specs.Config.{Settings}
 use Rattle.requests.specs.declared.request.Call.TheVariants as call
@@ -88,7 +88,7 @@ OtherType (to_write.AssocAdd id1 atype id2 time payload) = ⊤
 OtherType (to_write.AssocDelete id1 atype id2) = ⊤
 
 record IsChecked (s : Settings) (w : Write) : Type 0 where
-  pub configured : shard_of_write w < s.shards
+  pub configured : write_shard w < s.shards
   pub other : OtherType w
 
 not_same : (m n : ℕ) → (m == n) ≡ false → m ≢ n

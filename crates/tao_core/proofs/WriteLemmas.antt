@@ -10,7 +10,8 @@ use Rattle.shard_tables.specs.StoreView.{Store}
 use Rattle.shard_tables.specs.Stores.{IsStoreOf, gained}
 use Rattle.tao_keeper.specs.declared.jobs.Job.{Job}
 use Rattle.shard_tables.specs.Jobs.{job_with}
-use Rattle.shard_tables.specs.Written.{Answers, Gains, added_entry, shard_of_write}
+use Rattle.shard_tables.specs.Written.{Answers, Gains, added_entry}
+use Rattle.tao_base.specs.Writes.{write_shard}
 use Rattle.shard_tables.specs.declared.refusal.StoreRefusal.{StoreRefusal}
 use Rattle.shard_tables.specs.declared.refusal.StoreRefusal.TheVariants as store
 use Rattle.shard_tables.specs.declared.writes.Wrote.{Wrote}
@@ -24,9 +25,9 @@ use Rattle.tao_core.specs.Shown.{Shown}
 use Rattle.tao_core.specs.Stores.{AreStoresOf, IsMasterOf, log_of, store_of}
 use Rattle.tao_core.proofs.StoreLemmas.{master_gained, seen_set, sound_after, stores_set}
 
-here_answers : (s : Settings) (old : Shown) (call : CheckedWrite) (schema : Schema) (x : Store) (r : Result Wrote StoreRefusal) → schema ≡ s.schema → IsMasterOf s (shard_of_write call.write) x
+here_answers : (s : Settings) (old : Shown) (call : CheckedWrite) (schema : Schema) (x : Store) (r : Result Wrote StoreRefusal) → schema ≡ s.schema → IsMasterOf s (write_shard call.write) x
     → Answers (types_of schema) x.log_max (old.told x.name).log (origin_of call) call.write r
-    → Answers (types_of s.schema) s.log_max (log_of s old.told (shard_of_write call.write)) (origin_of call) call.write r
+    → Answers (types_of s.schema) s.log_max (log_of s old.told (write_shard call.write)) (origin_of call) call.write r
 here_answers s old call schema x r of_s is h =
     let one = subst (λ c. Answers (types_of c) x.log_max (old.told x.name).log (origin_of call) call.write r) of_s h in
     let two = subst (λ n. Answers (types_of s.schema) n (old.told x.name).log (origin_of call) call.write r) is.limit_is one in
@@ -38,7 +39,7 @@ here_gains s old new shard x e job is h = subst (λ at. Gains old new at e job) 
 
 -- a write that was carried out
 pub does_write : (tells : Bool) (s : Settings) (old new : Shown) (call : CheckedWrite) (schema : Schema) (x : Store) (wrote : Wrote) (reply : WriteReply) → schema ≡ s.schema
-    → IsMasterOf s (shard_of_write call.write) x
+    → IsMasterOf s (write_shard call.write) x
     → WhereTold tells (Answers (types_of schema) x.log_max (old.told x.name).log (origin_of call) call.write (Ok wrote))
     → WhereTold tells (Gains old.told new.told x.name (added_entry (Ok wrote)) (job_with (types_of schema) (added_entry (Ok wrote))))
     → kind_of call.write wrote.entry ≡ Some reply.kind → reply.written ≡ written_of wrote.retry wrote.entry → IsWrite tells s old call reply new
@@ -50,12 +51,12 @@ does_write tells s old new call schema x wrote reply of_s is answer gains kind_i
   answers = λ told. here_answers s old call schema x (Ok wrote) of_s is (answer told);
   gains = λ told.
       let one = subst (λ c. Gains old.told new.told x.name (added_entry (Ok wrote)) (job_with (types_of c) (added_entry (Ok wrote)))) of_s (gains told) in
-      here_gains s old.told new.told (shard_of_write call.write) x (added_entry (Ok wrote)) (job_with (types_of s.schema) (added_entry (Ok wrote))) is one;
+      here_gains s old.told new.told (write_shard call.write) x (added_entry (Ok wrote)) (job_with (types_of s.schema) (added_entry (Ok wrote))) is one;
 }
 
 -- a write that is refused
 pub refuses_write : (tells : Bool) (s : Settings) (old new : Shown) (call : CheckedWrite) (schema : Schema) (x : Store) (r : StoreRefusal) → schema ≡ s.schema
-    → IsMasterOf s (shard_of_write call.write) x
+    → IsMasterOf s (write_shard call.write) x
     → WhereTold tells (Answers (types_of schema) x.log_max (old.told x.name).log (origin_of call) call.write (Err r))
     → WhereTold tells (Stays old.told new.told) → (r ≡ store.KeeperFault → Rose old.faults new.faults)
     → DoesWrite tells s old call (refused_as new.faults r) new

@@ -10,8 +10,9 @@ use Rattle.tao_base.specs.declared.query.Query.{Query}
 use Rattle.tao_base.specs.declared.query.Query.TheVariants as query
 use Rattle.tao_base.specs.declared.write.Write.{Write}
 use Rattle.tao_base.specs.declared.write.Write.TheVariants as write
-use Rattle.graph_model.specs.Answers.{answer, key_of}
-use Rattle.graph_model.specs.Keys.{key_shard}
+use Rattle.graph_model.specs.Answers.{answer}
+use Rattle.tao_base.specs.Queries.{query_key}
+use Rattle.tao_base.specs.Keys.{key_shard}
 use Rattle.graph_model.specs.Told.{WhereTold}
 use Rattle.replies.specs.declared.calls.CallReply.TheVariants as called
 use Rattle.replies.specs.declared.calls.InverseEnd.TheVariants as inverse
@@ -37,7 +38,8 @@ use Rattle.shard_tables.specs.Fitting.{object_put}
 use Rattle.shard_tables.specs.ReadOuts.{ReadsOut}
 use Rattle.shard_tables.specs.Reads.{Reads}
 use Rattle.shard_tables.specs.Jobs.{job_with}
-use Rattle.shard_tables.specs.Written.{AnswersAs, Gains, IsLogFull, IsReused, IsShardFull, IsStampFull, shard_of_write}
+use Rattle.shard_tables.specs.Written.{AnswersAs, Gains, IsLogFull, IsReused, IsShardFull, IsStampFull}
+use Rattle.tao_base.specs.Writes.{write_shard}
 use Rattle.shard_tables.specs.declared.read_out.ReadOut.{ReadOut}
 use Rattle.shard_tables.specs.declared.refusal.StoreRefusal.{StoreRefusal}
 use Rattle.shard_tables.specs.declared.refusal.StoreRefusal.TheVariants as store
@@ -121,8 +123,8 @@ pub record IsWrite (tells : Bool) (s : Settings) (old : Shown) (call : CheckedWr
   pub retry : Bool
   pub kind_is : kind_of call.write entry ≡ Some reply.kind
   pub written_is : reply.written ≡ written_of retry entry
-  pub answers : WhereTold tells (AnswersAs (types_of s.schema) s.log_max (log_of s old.told (shard_of_write call.write)) (origin_of call) call.write retry entry)
-  pub gains : WhereTold tells (Gains old.told new.told (store_of s (shard_of_write call.write)) (gained retry entry)
+  pub answers : WhereTold tells (AnswersAs (types_of s.schema) s.log_max (log_of s old.told (write_shard call.write)) (origin_of call) call.write retry entry)
+  pub gains : WhereTold tells (Gains old.told new.told (store_of s (write_shard call.write)) (gained retry entry)
       (job_with (types_of s.schema) (gained retry entry)))
 
 -- why the store refused a write, which changed no table
@@ -138,7 +140,7 @@ RefusesWrite types most log call (Unsettled shard why) = ⊥
 abbrev pub WriteRefused : Bool → Settings → Shown → CheckedWrite → StoreRefused → Shown → Type 0
 WriteRefused tells s old call (KeeperFault count) new = Fails tells old new count
 WriteRefused tells s old call refused new =
-    WhereTold tells (RefusesWrite (types_of s.schema) s.log_max (log_of s old.told (shard_of_write call.write)) call refused) × KeepsTables tells old new
+    WhereTold tells (RefusesWrite (types_of s.schema) s.log_max (log_of s old.told (write_shard call.write)) call refused) × KeepsTables tells old new
 
 -- what the reply to a write says
 abbrev pub DoesWrite : Bool → Settings → Shown → CheckedWrite → Reply → Shown → Type 0
@@ -156,7 +158,7 @@ pub record IsAudit (types : EdgeTypes) (log : List Entry) (asked : Query) (given
 
 -- the log of a query's shard
 abbrev pub log_for : Settings → Shown → Query → List Entry
-log_for s keepers asked = log_of s keepers.told (key_shard (key_of asked))
+log_for s keepers asked = log_of s keepers.told (key_shard (query_key asked))
 
 abbrev pub kind_of_query : Query → ReadWord
 kind_of_query (query.ObjGet id) = read_kind.ObjGet

@@ -2,9 +2,9 @@
 use Rattle.std.specs.Prelude.{◌≡◌, ◌<◌, false, List, Result, Ok, Err, ⊤}
 use Rattle.tao_base.specs.declared.query.Query.{Query}
 use Rattle.tao_base.specs.declared.write.Write.{Write}
-use Rattle.graph_model.specs.Answers.{key_of}
-use Rattle.graph_model.specs.Keys.{key_shard}
-use Rattle.graph_model.specs.WriteLaws.{ChangesType}
+use Rattle.tao_base.specs.Queries.{query_key}
+use Rattle.tao_base.specs.Keys.{key_shard}
+use Rattle.write_model.specs.WriteLaws.{ChangesType}
 use Rattle.tao_schema.specs.Schema.{types_of}
 use Rattle.topology.specs.Config.{Settings}
 use Rattle.replies.specs.declared.refusals.Refusal.{Refusal}
@@ -16,7 +16,7 @@ use Rattle.request_check.specs.declared.checked.Checked.TheVariants as found
 use Rattle.request_check.specs.declared.checked.CheckedCall.TheVariants as checked_call
 use Rattle.request_check.specs.declared.refusal.CheckRefusal.{CheckRefusal}
 use Rattle.request_check.specs.declared.refusal.CheckRefusal.TheVariants as check
-use Rattle.shard_tables.specs.Written.{shard_of_write}
+use Rattle.tao_base.specs.Writes.{write_shard}
 use Rattle.tao_core.specs.Sessions.{is_open}
 use Rattle.tao_core.specs.declared.resolving.Asked.{Asked}
 use Rattle.tao_core.specs.declared.resolving.Asked.TheVariants as asked
@@ -58,12 +58,12 @@ IsBuilt other = ⊥
 
 -- the write is of a configured shard, and an edge changes to another type
 pub record IsWriteHere (s : Settings) (w : Write) : Type 0 where
-  pub configured : shard_of_write w < s.shards
+  pub configured : write_shard w < s.shards
   pub changes : ChangesType (types_of s.schema) w
 
 -- the query is of a configured shard
 pub record IsQueryHere (s : Settings) (q : Query) : Type 0 where
-  pub configured : key_shard (key_of q) < s.shards
+  pub configured : key_shard (query_key q) < s.shards
 
 -- what is asked is one of what is built, and can be done
 abbrev pub CanBeDone : Settings → List OpenSession → Checked → Type 0

@@ -1,7 +1,7 @@
 //! The reads of sessions, and audits.
 ghost use Rattle.std.specs.Prelude.{◌≡◌};
-ghost use Rattle.graph_model.specs.Answers.{key_of};
-ghost use Rattle.graph_model.specs.Keys.{key_shard};
+ghost use Rattle.tao_base.specs.Queries.{query_key};
+ghost use Rattle.tao_base.specs.Keys.{key_shard};
 ghost use Rattle.graph_model.specs.Told.{WhereTold};
 ghost use Rattle.shard_tables.specs.ReadOuts.{IsFor};
 ghost use Rattle.tao_core.specs.Replies.{DoesAudit, DoesRead, TellsFound, kind_of_query};
@@ -22,19 +22,6 @@ use tao_base::{OutOfMemory, Query};
 use tao_keeper::Keeper;
 use topology::Config;
 use words::ReadWord;
-
-/// The shard that a query reads.
-fn shard_of(query: &Query) -> u16
-    ensures { result ≡ key_shard (key_of query.now) }
-{
-    match query {
-        Query::ObjGet { id } => id.shard(),
-        Query::AssocGet { id1, .. } => id1.shard(),
-        Query::AssocCount { id1, .. } => id1.shard(),
-        Query::AssocRange { id1, .. } => id1.shard(),
-        Query::AssocTimeRange { id1, .. } => id1.shard(),
-    }
-}
 
 /// Which read it is.
 fn kind_of(query: &Query) -> ReadWord
@@ -80,7 +67,7 @@ pub(crate) fn read<K: Keeper>(
     ensures stores { AreStoresOf K.TELLS config.now (K.told keepers.new) stores.new }
     ensures later { IsLater (shown K.told K.calls K.faults keepers.old) (shown K.told K.calls K.faults keepers.new) }
 {
-    let place = usize::from(shard_of(&call.query));
+    let place = usize::from(call.query.shard());
     let store = &mut stores[place];
     match store.read(alloc, keepers, &config.schema, &call.query) {
         Ok(out) => reply_of(out, config, &call.query),
@@ -100,7 +87,7 @@ pub(crate) fn audit<K: Keeper>(
     ensures stays { WhereTold K.TELLS (Stays (K.told keepers.old) (K.told keepers.new)) }
     ensures later { IsLater (shown K.told K.calls K.faults keepers.old) (shown K.told K.calls K.faults keepers.new) }
 {
-    let at = store_of(config, shard_of(&call.query));
+    let at = store_of(config, call.query.shard());
     let log = match log_of(alloc, keepers, at) {
         Ok(log) => log,
         Err(fail) => return failed_as(fail, keepers.faults()),

@@ -1,8 +1,8 @@
 //! The writes of sessions.
 ghost use Rattle.std.specs.Prelude.{◌≡◌, IfSome, Some};
-ghost use Rattle.graph_model.specs.Writes.{FitsWrite};
+ghost use Rattle.write_model.specs.Writes.{FitsWrite};
 ghost use Rattle.shard_tables.specs.Fitting.{HasEntry};
-ghost use Rattle.shard_tables.specs.Written.{shard_of_write};
+ghost use Rattle.tao_base.specs.Writes.{write_shard};
 ghost use Rattle.tao_core.specs.Replies.{DoesWrite, IsAddition, kind_of, written_of};
 ghost use Rattle.tao_core.specs.Resolved.{IsWriteHere};
 ghost use Rattle.tao_core.specs.Shown.{IsLater, shown};
@@ -16,20 +16,6 @@ use std::alloc::Global;
 use tao_base::{Entry, Origin, Write};
 use tao_keeper::Keeper;
 use topology::Config;
-
-/// The shard that a write is made on.
-fn shard_of(write: &Write) -> u16
-    ensures { result ≡ shard_of_write write.now }
-{
-    match write {
-        Write::ObjAdd { shard, .. } => *shard,
-        Write::ObjUpdate { id, .. } => id.shard(),
-        Write::ObjDelete { id } => id.shard(),
-        Write::AssocAdd { id1, .. } => id1.shard(),
-        Write::AssocDelete { id1, .. } => id1.shard(),
-        Write::AssocChangeType { id1, .. } => id1.shard(),
-    }
-}
 
 /// The addition of the object that the entry adds.
 fn addition(entry: &Option<Entry>, write: &Write) -> WriteKind
@@ -90,7 +76,7 @@ pub(crate) fn write<K: Keeper>(
     ensures stores { AreStoresOf K.TELLS config.now (K.told keepers.new) stores.new }
     ensures later { IsLater (shown K.told K.calls K.faults keepers.old) (shown K.told K.calls K.faults keepers.new) }
 {
-    let place = usize::from(shard_of(&call.write));
+    let place = usize::from(call.write.shard());
     let origin = Origin::Client {
         session: call.session,
         seq: call.seq,

@@ -6,7 +6,7 @@ use Rattle.tao_base.specs.declared.entry.Entry.{Entry}
 use Rattle.tao_base.specs.declared.entry.Touch.{Touch}
 use Rattle.tao_keeper.specs.declared.jobs.Job.{Job}
 use Rattle.tao_keeper.specs.declared.keeper.TheConstants.{MOST_ENTRIES, STAMP_LIMIT}
-use Rattle.graph_model.specs.Edges.{IsInOrder, number_of, state_left}
+use Rattle.graph_model.specs.Edges.{IsInListOrder, number_of, state_left}
 use Rattle.graph_model.specs.Soundness.{EdgeUpdate}
 
 -- a position in a log
@@ -30,7 +30,7 @@ pub record IsGivenJob (job : Job) : Type 0 where
 -- edges that are given: at most as many as were asked for, newest first, no two to one id, with stamps below the limit
 pub record AreGiven (most : ℕ) (edges : List Edge) : Type 0 where
   pub few : length edges ≤ most
-  pub in_order : IsInOrder edges
+  pub in_order : IsInListOrder edges
   pub stamps : All (λ e. e.stamp.number < STAMP_LIMIT) edges
 
 -- an entry that is given: at a position of a log, its versions at most as many as a log has entries, its stamps below the limit

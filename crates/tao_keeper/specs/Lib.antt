@@ -1,3 +1,5 @@
-pub mod Cause
+pub mod FailText
 pub mod Given
+pub mod Growing
+pub mod KeeperState
 pub mod Table

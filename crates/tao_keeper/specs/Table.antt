@@ -1,12 +1,10 @@
 -- What a keeper tells of its stores, and what calls do to it.
-use Rattle.std.specs.Prelude.{◌≡◌, ◌≢◌, ◌<◌, ◌==◌, if◌then◌else◌, ℕ, List, [], ◌∷◌, ◌++◌, Option, Some, None, unwrap_or, count_by, IsSomeAnd, Result, MatchResult}
+use Rattle.std.specs.Prelude.{◌≡◌, ◌≢◌, ◌<◌, ◌==◌, if◌then◌else◌, ℕ, List, [], ◌∷◌, ◌++◌, length, Option, Some, None, unwrap_or, IsSomeAnd, Result, MatchResult}
 use Rattle.tao_base.specs.declared.entry.Entry.{Entry}
 use Rattle.tao_base.specs.declared.entry.Origin.{Origin}
 use Rattle.tao_base.specs.declared.id.StoreName.{StoreName}
-use Rattle.graph_model.specs.Merges.{entry_at}
-use Rattle.graph_model.specs.Soundness.{EdgeUpdate}
-use Rattle.graph_model.specs.WriteLaws.{IsNewOrigin}
-use Rattle.graph_model.specs.Writes.{is_addition}
+use Rattle.graph_model.specs.Log.{entry_at}
+use Rattle.graph_model.specs.Soundness.{EdgeUpdate, IsNewOrigin}
 use Rattle.tao_keeper.specs.declared.jobs.Job.{Job}
 use Rattle.tao_keeper.specs.declared.keeper.Opened.{Opened}
 use Rattle.tao_keeper.specs.declared.keeper.Opened.TheVariants.{Ready, OtherLine}
@@ -27,6 +25,10 @@ Tables = StoreName → Table
 -- a store that was not opened yet
 abbrev pub empty_table : Table
 empty_table = record { log = []; jobs = λ position. None; line = None }
+
+-- each open job is of an entry of the log
+pub record AreOfEntries (table : Table) : Type 0 where
+  pub none_past : (position : ℕ) → length table.log < position → table.jobs position ≡ None
 
 -- no table changes
 abbrev pub Stays : Tables → Tables → Type 0
@@ -58,9 +60,9 @@ abbrev pub with_job : Jobs → ℕ → Option (List EdgeUpdate) → Jobs
 with_job jobs position given p = if p == position then given else jobs p
 
 -- the jobs with one that is opened, where there is one
-abbrev pub with_opened : Jobs → Option Job → Jobs
-with_opened jobs None = jobs
-with_opened jobs (Some job) = with_job jobs job.position (Some job.edges)
+abbrev pub with_new_job : Jobs → Option Job → Jobs
+with_new_job jobs None = jobs
+with_new_job jobs (Some job) = with_job jobs job.position (Some job.edges)
 
 -- the job that owes these records, none where there are none
 abbrev pub job_from : ℕ → List EdgeUpdate → Option Job
@@ -68,7 +70,7 @@ job_from position [] = None
 job_from position (u ∷ us) = Some (record { position = position; edges = u ∷ us })
 
 abbrev pub after_commit : Table → Entry → Option Job → Table
-after_commit table entry job = record table { log = table.log ++ entry ∷ []; jobs = with_opened table.jobs job }
+after_commit table entry job = record table { log = table.log ++ entry ∷ []; jobs = with_new_job table.jobs job }
 
 abbrev pub after_end : Table → ℕ → Table
 after_end table position = record table { jobs = with_job table.jobs position None }
@@ -79,15 +81,11 @@ IsJobAt jobs position None = jobs position ≡ None
 IsJobAt jobs position (Some job) = (job.position ≡ position) × (jobs position ≡ Some job.edges)
 
 -- the open job of the least position, or none where no job is open
-abbrev pub IsFirstJob : Jobs → Option Job → Type 0
-IsFirstJob jobs None = (position : ℕ) → jobs position ≡ None
-IsFirstJob jobs (Some job) = (jobs job.position ≡ Some job.edges) × ((position : ℕ) → position < job.position → jobs position ≡ None)
+abbrev pub IsLeastJob : Jobs → Option Job → Type 0
+IsLeastJob jobs None = (position : ℕ) → jobs position ≡ None
+IsLeastJob jobs (Some job) = (jobs job.position ≡ Some job.edges) × ((position : ℕ) → position < job.position → jobs position ≡ None)
 
 -- where the entry of an origin stands: at that position, or nowhere
 abbrev pub StandsAt : List Entry → Origin → Option ℕ → Type 0
 StandsAt log origin (Some position) = IsSomeAnd (entry_at log position) (λ e. e.origin ≡ origin)
 StandsAt log origin None = IsNewOrigin log origin
-
--- how many objects were added
-abbrev pub additions : List Entry → ℕ
-additions log = count_by (λ e. is_addition e.kind) log

@@ -1,20 +1,18 @@
-ghost use Rattle.std.specs.Prelude.{◌≡◌, ◌≤◌, ◌<◌, ℕ, Bool, length, take, drop, IfOk, IfSome};
-ghost use Rattle.counts.specs.Count.{Counted};
+ghost use Rattle.std.specs.Prelude.{◌≡◌, ◌≤◌, ◌<◌, Bool, length, take, drop, IfOk, IfSome};
 ghost use Rattle.graph_model.specs.Edges.{edge_list, edge_record, number_of};
-ghost use Rattle.graph_model.specs.Log.{object, version};
-ghost use Rattle.graph_model.specs.Merges.{entry_at};
+ghost use Rattle.graph_model.specs.Log.{object, version, entry_at, additions};
 ghost use Rattle.graph_model.specs.Soundness.{CanFollow, IsSound};
 ghost use Rattle.tao_base.specs.declared.id.StoreName.{StoreName as Store};
-ghost use Rattle.tao_keeper.specs.Cause.{IsCaused};
 ghost use Rattle.tao_keeper.specs.Given.{AreGiven, HaveSmallStamps, IsGivenEntry, IsGivenJob, IsPosition};
 ghost use Rattle.graph_model.specs.Told.{WhereTold};
-ghost use Rattle.tao_keeper.specs.Table.{Table, Stays, Changes, IsFirstJob, IsJobAt, OpensAs, StandsAt, additions, after_commit, after_end, after_open};
+ghost use Rattle.tao_keeper.specs.KeeperState.{IsCall, KeeperState, KeepsTables};
+ghost use Rattle.tao_keeper.specs.Table.{AreOfEntries, Changes, IsLeastJob, IsJobAt, OpensAs, StandsAt, after_commit, after_end, after_open};
 
 use super::jobs::Job;
 use std::alloc::{AllocError, AllocFailed};
 use std::error::Error;
 use std::fmt;
-use tao_base::{AType, EdgeState, Edges, Entry, Id, Key, Object, Origin, StoreName};
+use tao_base::{AType, EdgeState, Edges, Entry, Id, Key, Object, Origin, OutOfMemory, StoreName};
 
 /// How many entries a log can have.
 pub const MOST_ENTRIES: u64 = 65_536;
@@ -36,7 +34,7 @@ pub enum KeepFail {
 
 impl fmt::Display for KeepFail {
     ghost use Rattle.std.specs.Prelude.{Some};
-    ghost use Rattle.tao_keeper.specs.Cause.{fail_text};
+    ghost use Rattle.tao_keeper.specs.FailText.{fail_text};
 
     ghost output = { λ fail. Some (fail_text fail) };
 
@@ -57,6 +55,17 @@ impl From<AllocError> for KeepFail {
     ghost from_gives = { λ _ fail. fail ≡ OutOfMemory };
 
     fn from(_: AllocError) -> KeepFail {
+        KeepFail::OutOfMemory
+    }
+}
+
+impl From<OutOfMemory> for KeepFail {
+    ghost use Rattle.std.specs.Prelude.{◌≡◌};
+    ghost use Rattle.tao_keeper.specs.declared.keeper.KeepFail.TheVariants.{OutOfMemory as NoMemory};
+
+    ghost from_gives = { λ _ fail. fail ≡ NoMemory };
+
+    fn from(_: OutOfMemory) -> KeepFail {
         KeepFail::OutOfMemory
     }
 }
@@ -100,21 +109,15 @@ pub trait Keeper {
 
     ghost TELLS: { Bool };
 
-    /// The tables of each store, which mean nothing where the keeper doesn't tell.
-    ghost told: { Self → Store → Table };
-
-    /// How many calls there were.
-    ghost calls: { Self → ℕ };
-
-    /// How many faults there were.
-    ghost faults: { Self → ℕ };
+    /// What the keeper shows: the tables of each store, which mean nothing where it doesn't tell, and how many calls and
+    /// faults there were.
+    ghost state: { Self → KeeperState };
 
     /// Opens a store with a line. It keeps the first line that it was opened with.
     fn open(&mut self, at: StoreName, line: &[u8]) -> Result<Opened, KeepFail>
-        ensures answer { WhereTold TELLS (IfOk result (λ opened. OpensAs opened (told self.old at) line.now)) }
-        ensures changes { WhereTold TELLS (Changes result (told self.old) (told self.new) at (after_open (told self.old at) line.now)) }
-        ensures counted { Counted (calls self.old) (calls self.new) }
-        ensures cause { IsCaused (faults self.old) (faults self.new) result };
+        ensures answer { WhereTold TELLS (IfOk result (λ opened. OpensAs opened ((state self.old).told at) line.now)) }
+        ensures changes { WhereTold TELLS (Changes result (state self.old).told (state self.new).told at (after_open ((state self.old).told at) line.now)) }
+        ensures call { IsCall (state self.old) (state self.new) result };
 
     /// The record of an edge, where it has one.
     fn edge(
@@ -124,11 +127,10 @@ pub trait Keeper {
         atype: AType,
         id2: Id,
     ) -> Result<Option<EdgeState>, KeepFail>
-        ensures answer { WhereTold TELLS (IfOk result (λ state. state ≡ edge_record (told self.old at).log id1 atype id2)) }
-        ensures small { IfOk result (λ state. number_of state < STAMP_LIMIT) }
-        ensures stays { WhereTold TELLS (Stays (told self.old) (told self.new)) }
-        ensures counted { Counted (calls self.old) (calls self.new) }
-        ensures cause { IsCaused (faults self.old) (faults self.new) result };
+        ensures answer { WhereTold TELLS (IfOk result (λ found. found ≡ edge_record ((state self.old).told at).log id1 atype id2)) }
+        ensures small { IfOk result (λ found. number_of found < STAMP_LIMIT) }
+        ensures stays { KeepsTables TELLS (state self.old) (state self.new) }
+        ensures call { IsCall (state self.old) (state self.new) result };
 
     /// The edges of a list at the places from `pos` on, at most `most` of them. Places count from 0.
     fn edges(
@@ -139,108 +141,100 @@ pub trait Keeper {
         pos: u64,
         most: u64,
     ) -> Result<Edges, KeepFail>
-        ensures answer { WhereTold TELLS (IfOk result (λ edges. edges ≡ take most (drop pos (edge_list (told self.old at).log id1 atype)))) }
+        ensures answer { WhereTold TELLS (IfOk result (λ edges. edges ≡ take most (drop pos (edge_list ((state self.old).told at).log id1 atype)))) }
         ensures given { IfOk result (AreGiven most) }
-        ensures stays { WhereTold TELLS (Stays (told self.old) (told self.new)) }
-        ensures counted { Counted (calls self.old) (calls self.new) }
-        ensures cause { IsCaused (faults self.old) (faults self.new) result };
+        ensures stays { KeepsTables TELLS (state self.old) (state self.new) }
+        ensures call { IsCall (state self.old) (state self.new) result };
 
     /// The object of the id, where there is one.
     fn object(&mut self, at: StoreName, id: Id) -> Result<Option<Object>, KeepFail>
-        ensures answer { WhereTold TELLS (IfOk result (λ found. found ≡ object (told self.old at).log id)) }
-        ensures stays { WhereTold TELLS (Stays (told self.old) (told self.new)) }
-        ensures counted { Counted (calls self.old) (calls self.new) }
-        ensures cause { IsCaused (faults self.old) (faults self.new) result };
+        ensures answer { WhereTold TELLS (IfOk result (λ found. found ≡ object ((state self.old).told at).log id)) }
+        ensures stays { KeepsTables TELLS (state self.old) (state self.new) }
+        ensures call { IsCall (state self.old) (state self.new) result };
 
     /// How many edges the list has.
     fn count(&mut self, at: StoreName, id1: Id, atype: AType) -> Result<u64, KeepFail>
-        ensures answer { WhereTold TELLS (IfOk result (λ count. count ≡ length (edge_list (told self.old at).log id1 atype))) }
+        ensures answer { WhereTold TELLS (IfOk result (λ count. count ≡ length (edge_list ((state self.old).told at).log id1 atype))) }
         ensures few { IfOk result (λ count. count ≤ MOST_ENTRIES) }
-        ensures stays { WhereTold TELLS (Stays (told self.old) (told self.new)) }
-        ensures counted { Counted (calls self.old) (calls self.new) }
-        ensures cause { IsCaused (faults self.old) (faults self.new) result };
+        ensures stays { KeepsTables TELLS (state self.old) (state self.new) }
+        ensures call { IsCall (state self.old) (state self.new) result };
 
     /// How many entries touch the key.
     fn version(&mut self, at: StoreName, key: Key) -> Result<u64, KeepFail>
-        ensures answer { WhereTold TELLS (IfOk result (λ count. count ≡ version (told self.old at).log key)) }
+        ensures answer { WhereTold TELLS (IfOk result (λ count. count ≡ version ((state self.old).told at).log key)) }
         ensures few { IfOk result (λ count. count ≤ MOST_ENTRIES) }
-        ensures stays { WhereTold TELLS (Stays (told self.old) (told self.new)) }
-        ensures counted { Counted (calls self.old) (calls self.new) }
-        ensures cause { IsCaused (faults self.old) (faults self.new) result };
+        ensures stays { KeepsTables TELLS (state self.old) (state self.new) }
+        ensures call { IsCall (state self.old) (state self.new) result };
 
     /// How many entries the log has.
     fn length(&mut self, at: StoreName) -> Result<u64, KeepFail>
-        ensures answer { WhereTold TELLS (IfOk result (λ count. count ≡ length (told self.old at).log)) }
+        ensures answer { WhereTold TELLS (IfOk result (λ count. count ≡ length ((state self.old).told at).log)) }
         ensures few { IfOk result (λ count. count ≤ MOST_ENTRIES) }
-        ensures stays { WhereTold TELLS (Stays (told self.old) (told self.new)) }
-        ensures counted { Counted (calls self.old) (calls self.new) }
-        ensures cause { IsCaused (faults self.old) (faults self.new) result };
+        ensures stays { KeepsTables TELLS (state self.old) (state self.new) }
+        ensures call { IsCall (state self.old) (state self.new) result };
 
     /// The entry at a position, where there is one: none at 0 and past the end of the log.
     fn entry(&mut self, at: StoreName, position: u64) -> Result<Option<Entry>, KeepFail>
-        ensures answer { WhereTold TELLS (IfOk result (λ found. found ≡ entry_at (told self.old at).log position)) }
+        ensures answer { WhereTold TELLS (IfOk result (λ found. found ≡ entry_at ((state self.old).told at).log position)) }
         ensures given { IfOk result (λ found. IfSome found IsGivenEntry) }
-        ensures stays { WhereTold TELLS (Stays (told self.old) (told self.new)) }
-        ensures counted { Counted (calls self.old) (calls self.new) }
-        ensures cause { IsCaused (faults self.old) (faults self.new) result };
+        ensures stays { KeepsTables TELLS (state self.old) (state self.new) }
+        ensures call { IsCall (state self.old) (state self.new) result };
 
     /// The serial of the object that was added last: as many as were added, so 0 before the first.
     fn last_serial(&mut self, at: StoreName) -> Result<u64, KeepFail>
-        ensures answer { WhereTold TELLS (IfOk result (λ serial. serial ≡ additions (told self.old at).log)) }
+        ensures answer { WhereTold TELLS (IfOk result (λ serial. serial ≡ additions ((state self.old).told at).log)) }
         ensures small { IfOk result (λ serial. serial < SERIAL_LIMIT) }
-        ensures stays { WhereTold TELLS (Stays (told self.old) (told self.new)) }
-        ensures counted { Counted (calls self.old) (calls self.new) }
-        ensures cause { IsCaused (faults self.old) (faults self.new) result };
+        ensures stays { KeepsTables TELLS (state self.old) (state self.new) }
+        ensures call { IsCall (state self.old) (state self.new) result };
 
     /// The position of the entry of an origin, where there is one. Positions count from 1.
     fn origin(&mut self, at: StoreName, origin: Origin) -> Result<Option<u64>, KeepFail>
-        ensures answer { WhereTold TELLS (IfOk result (StandsAt (told self.old at).log origin)) }
+        ensures answer { WhereTold TELLS (IfOk result (StandsAt ((state self.old).told at).log origin)) }
         ensures within { IfOk result (λ found. IfSome found IsPosition) }
-        ensures stays { WhereTold TELLS (Stays (told self.old) (told self.new)) }
-        ensures counted { Counted (calls self.old) (calls self.new) }
-        ensures cause { IsCaused (faults self.old) (faults self.new) result };
+        ensures stays { KeepsTables TELLS (state self.old) (state self.new) }
+        ensures call { IsCall (state self.old) (state self.new) result };
 
     /// The open job of the least position, where one is open.
     fn first_job(&mut self, at: StoreName) -> Result<Option<Job>, KeepFail>
-        ensures answer { WhereTold TELLS (IfOk result (IsFirstJob (told self.old at).jobs)) }
+        ensures answer { WhereTold TELLS (IfOk result (IsLeastJob ((state self.old).told at).jobs)) }
         ensures given { IfOk result (λ found. IfSome found IsGivenJob) }
-        ensures stays { WhereTold TELLS (Stays (told self.old) (told self.new)) }
-        ensures counted { Counted (calls self.old) (calls self.new) }
-        ensures cause { IsCaused (faults self.old) (faults self.new) result };
+        ensures stays { KeepsTables TELLS (state self.old) (state self.new) }
+        ensures call { IsCall (state self.old) (state self.new) result };
 
     /// The open job of the entry at a position; none where none is open.
     fn job(&mut self, at: StoreName, position: u64) -> Result<Option<Job>, KeepFail>
-        ensures answer { WhereTold TELLS (IfOk result (IsJobAt (told self.old at).jobs position)) }
+        ensures answer { WhereTold TELLS (IfOk result (IsJobAt ((state self.old).told at).jobs position)) }
         ensures given { IfOk result (λ found. IfSome found IsGivenJob) }
-        ensures stays { WhereTold TELLS (Stays (told self.old) (told self.new)) }
-        ensures counted { Counted (calls self.old) (calls self.new) }
-        ensures cause { IsCaused (faults self.old) (faults self.new) result };
+        ensures stays { KeepsTables TELLS (state self.old) (state self.new) }
+        ensures call { IsCall (state self.old) (state self.new) result };
 
     /// Ends the job of the entry at a position. Nothing changes where none is open.
     fn end_job(&mut self, at: StoreName, position: u64) -> Result<(), KeepFail>
-        ensures changes { WhereTold TELLS (Changes result (told self.old) (told self.new) at (after_end (told self.old at) position)) }
-        ensures counted { Counted (calls self.old) (calls self.new) }
-        ensures cause { IsCaused (faults self.old) (faults self.new) result };
+        ensures changes { WhereTold TELLS (Changes result (state self.old).told (state self.new).told at (after_end ((state self.old).told at) position)) }
+        ensures call { IsCall (state self.old) (state self.new) result };
 
     /// Adds the entry at the end of the log and opens its job, where it has one, in one transaction.
     fn commit(&mut self, at: StoreName, commit: &Commit) -> Result<(), KeepFail>
         requires stamps { HaveSmallStamps commit.now.entry.touches }
         requires job { IfSome commit.now.job (λ job. job.position ≡ commit.now.entry.position) }
         requires given { IfSome commit.now.job IsGivenJob }
-        requires room { WhereTold TELLS (length (told self.old at).log < MOST_ENTRIES) }
-        requires follows { WhereTold TELLS (CanFollow (told self.old at).log commit.now.entry) }
-        ensures changes { WhereTold TELLS (Changes result (told self.old) (told self.new) at (after_commit (told self.old at) commit.now.entry commit.now.job)) }
-        ensures counted { Counted (calls self.old) (calls self.new) }
-        ensures cause { IsCaused (faults self.old) (faults self.new) result };
+        requires room { WhereTold TELLS (length ((state self.old).told at).log < MOST_ENTRIES) }
+        requires follows { WhereTold TELLS (CanFollow ((state self.old).told at).log commit.now.entry) }
+        ensures changes { WhereTold TELLS (Changes result (state self.old).told (state self.new).told at
+            (after_commit ((state self.old).told at) commit.now.entry commit.now.job)) }
+        ensures call { IsCall (state self.old) (state self.new) result };
 
     /// How many calls there were.
     fn calls(&self) -> u64
-        ensures { result ≡ calls self.now };
+        ensures { result ≡ (state self.now).calls };
 
     /// How many faults there were. The count never falls.
     fn faults(&self) -> u64
-        ensures { result ≡ faults self.now };
+        ensures { result ≡ (state self.now).faults };
 
     /// Each log that is told is sound.
-    ghost sound: { (keeper : Self) (at : Store) → WhereTold TELLS (IsSound (told keeper at).log) };
+    ghost sound: { (keeper : Self) (at : Store) → WhereTold TELLS (IsSound ((state keeper).told at).log) };
+
+    /// Each open job that is told is of an entry of its store's log.
+    ghost of_entries: { (keeper : Self) (at : Store) → WhereTold TELLS (AreOfEntries ((state keeper).told at)) };
 }

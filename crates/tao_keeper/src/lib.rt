@@ -3,6 +3,8 @@
 
 mod jobs;
 mod keeper;
+mod laws;
 
 pub use jobs::{Job, JobEdge, JobEdges};
 pub use keeper::{Commit, KeepFail, Keeper, MOST_ENTRIES, Opened, SERIAL_LIMIT, STAMP_LIMIT};
+pub use laws::logs_only_grow;

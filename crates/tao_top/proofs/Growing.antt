@@ -19,7 +19,8 @@ use Rattle.request_json.specs.declared.refusal.LineRefusal.{LineRefusal}
 use Rattle.requests.specs.declared.request.Request.{Request}
 use Rattle.tao_keeper.specs.declared.jobs.Job.{Job}
 use Rattle.shard_tables.specs.Jobs.{job_with}
-use Rattle.shard_tables.specs.Written.{Gains, shard_of_write}
+use Rattle.shard_tables.specs.Written.{Gains}
+use Rattle.tao_base.specs.Writes.{write_shard}
 use Rattle.tao_base.specs.declared.entry.Entry.{Entry}
 use Rattle.tao_base.specs.declared.id.StoreName.{StoreName}
 use Rattle.tao_core.specs.Asked.{asked_of}
@@ -80,8 +81,8 @@ module _ (tells : Bool) (s : Settings) (old new : Shown) (told : tells ≡ true)
   refused_read (LinkFault count when) h = absurd h
   refused_read (Unsettled shard why) h = absurd h
 
-  wrote : (w : CheckedWrite) (reply : Reply) → shard_of_write w.write < s.shards → DoesWrite tells s old w reply new → OnlyGrow s old.told new.told
-  wrote w (Called (called.Write reply)) within h = gains s old.told new.told (shard_of_write w.write) (gained h.retry h.entry) (job_with (types_of s.schema) (gained h.retry h.entry)) within (h.gains told)
+  wrote : (w : CheckedWrite) (reply : Reply) → write_shard w.write < s.shards → DoesWrite tells s old w reply new → OnlyGrow s old.told new.told
+  wrote w (Called (called.Write reply)) within h = gains s old.told new.told (write_shard w.write) (gained h.retry h.entry) (job_with (types_of s.schema) (gained h.retry h.entry)) within (h.gains told)
   wrote w (Refused (Store refused)) within h = refused_write w refused h
   wrote w (Refused (Memory position)) within h = keeps h.tables
   wrote w (Refused (Line refused)) within h = absurd h

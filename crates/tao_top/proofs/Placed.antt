@@ -27,8 +27,7 @@ use Rattle.shard_tables.specs.Written.{shard_of_write}
 use Rattle.tao_base.specs.Ids.{shard_of}
 use Rattle.tao_base.specs.declared.id.AType.{AType}
 use Rattle.tao_base.specs.declared.write.Write.{Write}
-use Rattle.tao_core.specs.Asked.{asked_of, is_built, has_session, named, newtype_of, refused_unless as unless, turns, unbuilt}
-use Rattle.tao_core.specs.Asked.{◌>>=◌}
+use Rattle.tao_core.specs.Asked.{asked_of, is_built, has_session, named, newtype_of, refused_unless as unless, turns, unbuilt, ◌>>=◌}
 use Rattle.tao_core.specs.declared.sessions.OpenSession.{OpenSession}
 use Rattle.topology.specs.Config.{Settings}
 
@@ -71,39 +70,39 @@ module _ (s : Settings) where
       let q = then_ok (has_ends s edge) _ atype p.2 in
       ends_placed edge q.0 q.1
 
-  write_placed : (text : WriteText) (write : Write) → write_of s text ≡ Ok write → shard_of_write write < s.shards
+  write_placed : (text : WriteText) (write : Write) → write_of s text ≡ Ok write → write_shard write < s.shards
   write_placed (ObjAdd shard name payload) write h =
       let p = then_ok (otype_of s name) _ write h in
       let q = then_ok (has_shard s shard) _ write p.2 in
-      subst (λ w. shard_of_write w < s.shards) (same _ write q.2) (on_shard shard q.0 q.1)
+      subst (λ w. write_shard w < s.shards) (same _ write q.2) (on_shard shard q.0 q.1)
   write_placed (ObjUpdate id payload) write h =
       let p = then_ok (has_id s id) _ write h in
-      subst (λ w. shard_of_write w < s.shards) (same _ write p.2) (on_shard (shard_of id) p.0 p.1)
+      subst (λ w. write_shard w < s.shards) (same _ write p.2) (on_shard (shard_of id) p.0 p.1)
   write_placed (ObjDelete id) write h =
       let p = then_ok (has_id s id) _ write h in
-      subst (λ w. shard_of_write w < s.shards) (same _ write p.2) (on_shard (shard_of id) p.0 p.1)
+      subst (λ w. write_shard w < s.shards) (same _ write p.2) (on_shard (shard_of id) p.0 p.1)
   write_placed (AssocAdd edge time payload) write h =
       let p = then_ok (edge_type s edge) _ write h in
-      subst (λ w. shard_of_write w < s.shards) (same _ write p.2) (edge_placed edge p.0 p.1)
+      subst (λ w. write_shard w < s.shards) (same _ write p.2) (edge_placed edge p.0 p.1)
   write_placed (AssocDelete edge) write h =
       let p = then_ok (edge_type s edge) _ write h in
-      subst (λ w. shard_of_write w < s.shards) (same _ write p.2) (edge_placed edge p.0 p.1)
+      subst (λ w. write_shard w < s.shards) (same _ write p.2) (edge_placed edge p.0 p.1)
   write_placed (AssocChangeType edge name) write h =
       let p = then_ok (atype_of s edge.list.atype) _ write h in
       let q = then_ok (atype_of s name) _ write p.2 in
       let r = then_ok (has_ends s edge) _ write q.2 in
       let t = then_ok (differs p.0 q.0 name) _ write r.2 in
-      subst (λ w. shard_of_write w < s.shards) (same _ write t.2) (ends_placed edge r.0 r.1)
+      subst (λ w. write_shard w < s.shards) (same _ write t.2) (ends_placed edge r.0 r.1)
 
   -- ---- a request
 
-  call_placed : (c : CheckedCall) (text : Call) (w : CheckedWrite) → call_of s text ≡ Ok c → c ≡ checked_call.Write w → shard_of_write w.write < s.shards
+  call_placed : (c : CheckedCall) (text : Call) (w : CheckedWrite) → call_of s text ≡ Ok c → c ≡ checked_call.Write w → write_shard w.write < s.shards
   call_placed c (call.Write asked) w h is =
       let p = then_ok (write_call_of s asked) _ c h in
       let q = then_ok (write_of s asked.write) _ p.0 p.1 in
       let written : p.0 ≡ w = cc (p.2, is) in
       let write_is : q.0 ≡ w.write = ap (λ v. v.write) (same _ p.0 q.2 ∙ written) in
-      subst (λ v. shard_of_write v < s.shards) write_is (write_placed asked.write q.0 q.1)
+      subst (λ v. write_shard v < s.shards) write_is (write_placed asked.write q.0 q.1)
   call_placed c (call.Read asked) w h is = let p = then_ok (read_call_of s asked) _ c h in absurd (cc (p.2, is))
 
   -- what is asked, was found of a request that is built
@@ -143,7 +142,7 @@ module _ (s : Settings) where
   is_call request.Settle c h built = absurd (cc built)
 
   -- the shard of a write that is asked for
-  pub asked_placed : (sessions : List OpenSession) (asked : Request) (w : CheckedWrite) → asked_of s sessions asked ≡ Ok (checked.Call (checked_call.Write w)) → shard_of_write w.write < s.shards
+  pub asked_placed : (sessions : List OpenSession) (asked : Request) (w : CheckedWrite) → asked_of s sessions asked ≡ Ok (checked.Call (checked_call.Write w)) → write_shard w.write < s.shards
   asked_placed sessions asked w h =
       let p = and_ok (is_built (unbuilt asked)) _ (checked.Call (checked_call.Write w)) h in
       let text = is_call asked (checked_call.Write w) (found sessions asked (checked.Call (checked_call.Write w)) h) p.1 in

@@ -1,5 +1,5 @@
 use Rattle.std.proofs.Common.{◌∙◌, ap, sym}
-use Rattle.graph_model.specs.Merges.{entry_at}
+use Rattle.graph_model.specs.Log.{entry_at}
 use Rattle.shard_log.proofs.GrowthLemmas.{entry_stays}
 use Rattle.log_tests.proofs.two_threads.add_both.Goals as goal
 

@@ -1,6 +1,6 @@
 use Rattle.std.proofs.Common.{◌≡◌, ◌++◌, take, map}
 use Rattle.std.specs.Prelude.{filter}
-use Rattle.graph_model.specs.Keys.{same_key}
+use Rattle.tao_base.specs.Keys.{same_key}
 use Rattle.plain_graph.proofs.changes.add_changes.Given as goal
 
 abbrev pub invariant-loop-touch : goal.invariant-loop-touch

@@ -9,6 +9,6 @@ loop-place-preserved g c = record {
       (c.in_ok-found.ensures.answer told) c.in-Some.is c.in_ok-push-in-Some.ensures.items;
   few = omega (arith, length-append c.loop-place.entries.items (c.in-Some.entry ∷ []), ap length c.in_ok-push-in-Some.ensures.items);
   stays = λ told s. c.in_ok-found.ensures.stays told s ∙ c.loop-place.invariant.stays told s;
-  calls = omega arith;
-  faults = omega (arith, c.in_ok-found.ensures.cause.later);
+  calls = omega (arith, c.in_ok-found.ensures.call.counted);
+  faults = omega (arith, c.in_ok-found.ensures.call.faults);
 }

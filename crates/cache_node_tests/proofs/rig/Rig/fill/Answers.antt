@@ -1,12 +1,12 @@
 use Rattle.std.proofs.Common.{sym, ap, ◌∙◌}
-use Rattle.graph_model.specs.Answers.{key_of}
+use Rattle.tao_base.specs.Queries.{query_key}
 use Rattle.sealed_item.specs.Fills.{SealedItem}
 use Rattle.tao_schema.specs.Schema.{types_of}
 use Rattle.cache_node_tests.proofs.RigLemmas.{after_fill, ask_on, decides_count}
 use Rattle.cache_node_tests.proofs.rig.Rig.fill.Goals as goal
 
 pub take_fill-requires-clause-key : goal.take_fill-requires-clause-key
-take_fill-requires-clause-key c = ap (λ (f : SealedItem). f.key) c.seal-fill.ensures.value ∙ (c.list-list.ensures ∙ sym (ap key_of c.count_query-query.ensures))
+take_fill-requires-clause-key c = ap (λ (f : SealedItem). f.key) c.seal-fill.ensures.value ∙ (c.list-list.ensures ∙ sym (ap query_key c.count_query-query.ensures))
 
 pub take_fill-requires-clause-decides : goal.take_fill-requires-clause-decides
 take_fill-requires-clause-decides c = decides_count (types_of c.note.new.self.schema) _ _ _ _ _ (ap (λ (f : SealedItem). f.content) c.seal-fill.ensures.value) c.count_query-query.ensures

@@ -1,8 +1,5 @@
 use Rattle.keeper_map.proofs.Stamps.{record_small}
-use Rattle.keeper_map.proofs.Told.{if_given}
 use Rattle.keeper_map.proofs.map.MapKeeperKeeper.edge.Goals as goal
 
 pub returns-clause-small : goal.returns-clause-small
-returns-clause-small c =
-    if_given _ _ _ _ _ c.map_err.ensures.cases c.map_err.ensures.variant c.record_of.ensures
-    (record_small c.log.result.now c.args.id1 c.args.atype c.args.id2 c.log.ensures.stamps)
+returns-clause-small c = rw c.in_ok-record_of.ensures (record_small c.log.result.now c.args.id1 c.args.atype c.args.id2 c.log.ensures.stamps)

@@ -1,6 +1,6 @@
 use Rattle.std.proofs.Common.{◌<◌, ◌^◌, length, arith, ap, ◌∙◌}
 use Rattle.tao_base.specs.declared.entry.Change.TheVariants.{SetEdge, CutEdge}
-use Rattle.graph_model.specs.Edges.{IsInOrder}
+use Rattle.graph_model.specs.Edges.{IsInListOrder}
 use Rattle.list_prefix.specs.Changes.{shortened, with_edge}
 use Rattle.list_prefix.specs.ListPrefix.{CanBegin, list_prefix}
 use Rattle.list_prefix.proofs.Changed.{after_begins, begins_same, in_order_rest, in_order_same}
@@ -8,7 +8,7 @@ use Rattle.list_prefix.proofs.prefix.Prefix.take_change.Goals as goal
 
 pub put_in-self-inside-requires-clause-in_order : goal.put_in-self-inside-requires-clause-in_order
 put_in-self-inside-requires-clause-in_order c =
-    let order : IsInOrder c.reserve.new.self.items = rw c.reserve.ensures.items c.self.invariant.in_order in
+    let order : IsInListOrder c.reserve.new.self.items = rw c.reserve.ensures.items c.self.invariant.in_order in
     in_order_same _ _ (ap (λ p. p.edges) c.take_out-rest.ensures.rest) (in_order_rest c.in_ok-edge-in-SetEdge.edge.id2 c.reserve.new.self.items order)
 
 pub put_in-self-inside-requires-clause-room : goal.put_in-self-inside-requires-clause-room

@@ -1,6 +1,0 @@
-use Rattle.shard_tables.proofs.JobLemmas.{more}
-use Rattle.shard_tables.proofs.far_jobs.owed_by_all.Goals as goal
-
-pub loop-touch-preserved : goal.loop-touch-preserved
-loop-touch-preserved c =
-    more _ c.args.touches.now c.loop-touch.touch-index c.touch-item.result _ _ c.loop-touch-test.true c.touch-item.is c.loop-touch.invariant c.in_ok-add_owed.ensures

@@ -1,0 +1,83 @@
+-- Laws of covered stores: each step of writes, merges and jobs keeps them sound and covered, and where no job is left open every edge is paired.
+use Rattle.std.specs.Prelude.{ℕ, List, [], ◌∷◌, ◌++◌, length, Contains, Some, None, IsTrue, ◌≡◌, ◌<◌}
+use Rattle.tao_base.specs.EdgeTypes.{EdgeTypes, InversesMatch}
+use Rattle.tao_base.specs.Ids.{shard_of}
+use Rattle.tao_base.specs.declared.entry.Entry.{Entry}
+use Rattle.tao_base.specs.declared.entry.Origin.{Origin}
+use Rattle.tao_base.specs.declared.write.Write.{Write}
+use Rattle.write_model.specs.Machine.{ArePaired, Owed, Settles}
+use Rattle.write_model.specs.MergeLaws.{IsMergeable}
+use Rattle.write_model.specs.Merges.{HasJob, IsClientEntry, Stores, job_of, log_of}
+use Rattle.graph_model.specs.Soundness.{EdgeUpdate, is_client}
+use Rattle.write_model.specs.Steps.{AllRest, AreSoundAndCovered, CommitsWithJob, EndsAgree, EndsJob, HaveNoJobs, IsJobOf, IsNextJob, IsOwed, MergesJob, Settling, StampsAreReached, WorksOffAll}
+use Rattle.write_model.specs.WriteLaws.{IsAdmitted}
+
+-- stores without entries and jobs are sound and covered
+pub record EmptyStoresAreKept : Type 0 where
+  pub kept : (types : EdgeTypes) (stores : Stores) → ((shard : ℕ) → log_of stores.logs shard ≡ []) → HaveNoJobs stores
+      → AreSoundAndCovered types stores
+
+-- a commit with its job keeps the stores sound and covered
+pub record CommitsKeep : Type 0 where
+  pub keep : (types : EdgeTypes) (old new : Stores) (shard : ℕ) (origin : Origin) (write : Write) (e : Entry)
+      → AreSoundAndCovered types old → IsTrue (is_client origin) → IsAdmitted types shard (log_of old.logs shard) origin write
+      → CommitsWithJob types old new shard origin write e → AreSoundAndCovered types new
+  pub stands : (types : EdgeTypes) (old new : Stores) (shard : ℕ) (origin : Origin) (write : Write) (e : Entry)
+      → AreSoundAndCovered types old → IsTrue (is_client origin) → IsAdmitted types shard (log_of old.logs shard) origin write
+      → CommitsWithJob types old new shard origin write e → IsClientEntry (log_of new.logs shard) e.position e
+
+-- a merge keeps the stores sound and covered, and leaves all of the job there
+pub record MergesKeep : Type 0 where
+  pub keep : (types : EdgeTypes) (old new : Stores) (owed : Owed) → InversesMatch types → AreSoundAndCovered types old
+      → MergesJob types old new owed → AreSoundAndCovered types new
+  pub done : (types : EdgeTypes) (old new : Stores) (owed : Owed) → InversesMatch types → AreSoundAndCovered types old
+      → MergesJob types old new owed → IsOwed types new owed × HasJob types (log_of new.logs owed.other) owed.entry
+
+-- the end of a job whose records are all there keeps the stores sound and covered
+pub record EndsKeep : Type 0 where
+  pub keep : (types : EdgeTypes) (old new : Stores) (owed : Owed) → AreSoundAndCovered types old → EndsJob types old new owed
+      → AreSoundAndCovered types new
+
+-- an open job has a record, and each of its records says where it may be merged
+pub record OpenJobsAreOwed : Type 0 where
+  pub some : (types : EdgeTypes) (stores : Stores) (shard position : ℕ) (us : List EdgeUpdate) → AreSoundAndCovered types stores
+      → stores.job shard position ≡ Some us → 0 < length us
+  pub owed : (types : EdgeTypes) (stores : Stores) (shard position : ℕ) (us : List EdgeUpdate) (u : EdgeUpdate) → AreSoundAndCovered types stores
+      → stores.job shard position ≡ Some us → Contains us u → (by : Owed) × IsJobOf types stores shard position us u by
+  -- so does each record of a client's entry that stands, whether its job is still open or not
+  pub owes : (types : EdgeTypes) (stores : Stores) (shard position : ℕ) (e : Entry) (u : EdgeUpdate) → AreSoundAndCovered types stores
+      → IsClientEntry (log_of stores.logs shard) position e → Contains (job_of types e) u
+      → IsOwed types stores (record { shard = shard; entry = e; other = shard_of u.0 })
+  pub mergeable : (types : EdgeTypes) (stores : Stores) (owed : Owed) → InversesMatch types → AreSoundAndCovered types stores
+      → IsOwed types stores owed → 0 < length (job_of types owed.entry) → IsMergeable types owed.other (log_of stores.logs owed.other) owed.shard owed.entry
+  -- a job that isn't open is there
+  pub closed : (types : EdgeTypes) (stores : Stores) (owed : Owed) → AreSoundAndCovered types stores → IsOwed types stores owed
+      → stores.job owed.shard owed.entry.position ≡ None → HasJob types (log_of stores.logs owed.other) owed.entry
+  pub within : (types : EdgeTypes) (stores : Stores) (shard position : ℕ) (us : List EdgeUpdate) → AreSoundAndCovered types stores
+      → stores.job shard position ≡ Some us → shard < length stores.logs
+
+-- in sound and covered stores the ends of edges agree
+pub record CoveredEndsAgree : Type 0 where
+  pub agree : (types : EdgeTypes) (stores : Stores) → InversesMatch types → AreSoundAndCovered types stores → EndsAgree types stores
+  pub reached : (types : EdgeTypes) (stores : Stores) → InversesMatch types → AreSoundAndCovered types stores → StampsAreReached types stores
+
+-- where no job is open every edge is paired, and stays so, with all logs as they are, until the next commit
+pub record NoJobsArePaired : Type 0 where
+  pub paired : (types : EdgeTypes) (stores : Stores) → InversesMatch types → AreSoundAndCovered types stores → HaveNoJobs stores → ArePaired types stores.logs
+  pub stays : (types : EdgeTypes) (old : Stores) (later : List Stores) → InversesMatch types → AreSoundAndCovered types old → HaveNoJobs old
+      → WorksOffAll types old later → AllRest old later
+
+-- merging and ending the jobs in order, each shard's first one after another, is a settle
+pub record SettlesInOrder : Type 0 where
+  pub begins : (types : EdgeTypes) (start : Stores) → Settling types start start []
+  -- one more job
+  pub goes_on : (types : EdgeTypes) (start now mid new : Stores) (jobs : List Owed) (owed : Owed) → InversesMatch types → AreSoundAndCovered types now
+      → Settling types start now jobs → IsNextJob types now owed → MergesJob types now mid owed → EndsJob types mid new owed
+      → Settling types start new (jobs ++ owed ∷ [])
+  -- it may stop before a job, or after it was merged
+  pub stops : (types : EdgeTypes) (start now : Stores) (jobs : List Owed) → Settling types start now jobs → Settles types start now.logs
+  pub stops_within : (types : EdgeTypes) (start now mid : Stores) (jobs : List Owed) (owed : Owed)
+      → Settling types start now jobs → IsNextJob types now owed → MergesJob types now mid owed → Settles types start mid.logs
+  -- where no configured shard has an open job, none is open
+  pub ends : (types : EdgeTypes) (now : Stores) → AreSoundAndCovered types now
+      → ((shard position : ℕ) → shard < length now.logs → now.job shard position ≡ None) → HaveNoJobs now

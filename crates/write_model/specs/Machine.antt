@@ -1,0 +1,120 @@
+-- What a caller sees: floors, the steps of the plain machine, legal reads, settled and paired states. The plain machine is the logs alone.
+use Rattle.std.specs.Prelude.{ℕ, List, [], ◌∷◌, ◌++◌, length, All, AllPairs, Some, None, slice_set, take, max, fold, if◌then◌else◌, ◌≡◌, ◌⊎◌, ◌≤◌, ◌<◌}
+use Rattle.tao_base.specs.EdgeTypes.{EdgeTypes}
+use Rattle.tao_base.specs.Ids.{shard_of}
+use Rattle.tao_base.specs.declared.id.Id.{Id}
+use Rattle.tao_base.specs.declared.id.AType.{AType}
+use Rattle.tao_base.specs.declared.id.Key.{Key}
+use Rattle.tao_base.specs.declared.entry.Entry.{Entry}
+use Rattle.tao_base.specs.declared.entry.Origin.{Origin}
+use Rattle.tao_base.specs.declared.write.Write.{Write}
+use Rattle.tao_base.specs.declared.query.Answer.{Answer}
+use Rattle.tao_base.specs.declared.query.Query.{Query}
+use Rattle.graph_model.specs.Answers.{answer}
+use Rattle.tao_base.specs.Queries.{query_key}
+use Rattle.graph_model.specs.Edges.{edge_record}
+use Rattle.tao_base.specs.Keys.{same_key}
+use Rattle.graph_model.specs.Log.{version, entry_at}
+use Rattle.write_model.specs.Merges.{Stores, log_of, job_of, merge_entry}
+use Rattle.write_model.specs.Writes.{forward_entry, FitsWrite}
+
+-- the shard's log gains the entry, and every other log stays
+abbrev pub Gains : List (List Entry) → List (List Entry) → ℕ → Entry → Type 0
+Gains old new shard e = (shard < length old) × (new ≡ slice_set old shard (log_of old shard ++ e ∷ []))
+
+-- who owes a job: the entry at its shard, and the other shard, which the job's records lie on
+pub record Owed : Type 0 where
+  pub shard : ℕ
+  pub entry : Entry
+  pub other : ℕ
+
+-- the other shard's log gains the merge of the entry's job
+pub record Merges (types : EdgeTypes) (old new : List (List Entry)) (owed : Owed) : Type 0 where
+  pub merged : Entry
+  pub there : All (λ u. shard_of u.0 ≡ owed.other) (job_of types owed.entry)
+  pub is : merge_entry types (log_of old owed.other) owed.shard owed.entry ≡ Some merged
+  pub gained : Gains old new owed.other merged
+
+-- the job is merged, or not yet
+abbrev pub MayMerge : EdgeTypes → List (List Entry) → List (List Entry) → Owed → Type 0
+MayMerge types old new owed = (new ≡ old) ⊎ Merges types old new owed
+
+-- the job is merged where any of its records is news
+abbrev pub MergesNews : EdgeTypes → List (List Entry) → List (List Entry) → Owed → Type 0
+MergesNews types old new owed =
+    ((merge_entry types (log_of old owed.other) owed.shard owed.entry ≡ None) × (new ≡ old)) ⊎ Merges types old new owed
+
+-- jobs are merged, or not yet, one after another
+abbrev pub MergeInTurn : EdgeTypes → List (List Entry) → List (List Entry) → List Owed → Type 0
+MergeInTurn types old new [] = new ≡ old
+MergeInTurn types old new (owed ∷ more) = (between : List (List Entry)) × MayMerge types old between owed × MergeInTurn types between new more
+
+-- a write commits its entry
+pub record Commits (types : EdgeTypes) (old new : List (List Entry)) (shard : ℕ) (origin : Origin) (write : Write) (e : Entry) : Type 0 where
+  pub is : forward_entry types (log_of old shard) origin write ≡ Some e
+  pub gained : Gains old new shard e
+
+-- the entry at the position is one that was made for the write
+pub record StandsFor (logs : List (List Entry)) (shard : ℕ) (origin : Origin) (write : Write) (position : ℕ) (e : Entry) : Type 0 where
+  pub stands : entry_at (log_of logs shard) position ≡ Some e
+  pub origin_is : e.origin ≡ origin
+  pub fits : FitsWrite e write
+
+-- a write that changed something: its entry, at the position, and then perhaps the merge at the other shard
+pub record Writes (types : EdgeTypes) (old new : List (List Entry)) (shard other : ℕ) (origin : Origin) (write : Write) (position : ℕ) (e : Entry) : Type 0 where
+  pub between : List (List Entry)
+  pub commits : Commits types old between shard origin write e
+  pub position_is : e.position ≡ position
+  pub merges : MayMerge types between new (record { shard = shard; entry = e; other = other })
+
+-- a write that found nothing to change
+pub record ChangesNothing (types : EdgeTypes) (old new : List (List Entry)) (shard : ℕ) (origin : Origin) (write : Write) : Type 0 where
+  pub nothing : forward_entry types (log_of old shard) origin write ≡ None
+  pub stays : new ≡ old
+
+-- a write that was made before: the entry stands, and perhaps its merge is added
+pub record Repeats (types : EdgeTypes) (old new : List (List Entry)) (shard other : ℕ) (origin : Origin) (write : Write) (position : ℕ) (e : Entry) : Type 0 where
+  pub stood : StandsFor old shard origin write position e
+  pub merges : MayMerge types old new (record { shard = shard; entry = e; other = other })
+
+-- a write that was refused after its entry stood: that is new, or was there
+abbrev pub LeavesEntry : EdgeTypes → List (List Entry) → List (List Entry) → ℕ → ℕ → Origin → Write → ℕ → Entry → Type 0
+LeavesEntry types old new shard other origin write position e =
+    Writes types old new shard other origin write position e ⊎ Repeats types old new shard other origin write position e
+
+-- the job is open, and its entry stands
+pub record IsOpenJob (types : EdgeTypes) (stores : Stores) (owed : Owed) : Type 0 where
+  pub stands : entry_at (log_of stores.logs owed.shard) owed.entry.position ≡ Some owed.entry
+  pub job_is : stores.job owed.shard owed.entry.position ≡ Some (job_of types owed.entry)
+
+-- no open job of the shard has a lower position
+pub record IsFirstJob (types : EdgeTypes) (stores : Stores) (owed : Owed) : Type 0 where
+  pub job : IsOpenJob types stores owed
+  pub first : (position : ℕ) → position < owed.entry.position → stores.job owed.shard position ≡ None
+
+-- a repair merges the shard's first job
+pub record Repairs (types : EdgeTypes) (stores : Stores) (new : List (List Entry)) (owed : Owed) : Type 0 where
+  pub first : IsFirstJob types stores owed
+  pub merges : MergesNews types stores.logs new owed
+
+-- the first job's shard comes before the second's, or on one shard its position does
+abbrev pub ComesBefore : Owed → Owed → Type 0
+ComesBefore a b = (a.shard < b.shard) ⊎ ((a.shard ≡ b.shard) × (a.entry.position < b.entry.position))
+
+-- a settle merges open jobs, shard by shard, each shard's in order of position
+pub record Settles (types : EdgeTypes) (stores : Stores) (new : List (List Entry)) : Type 0 where
+  pub jobs : List Owed
+  pub open_jobs : All (IsOpenJob types stores) jobs
+  pub in_order : AllPairs ComesBefore jobs
+  pub merges : MergeInTurn types stores.logs new jobs
+
+-- each edge whose type has an inverse has at both ends no record, or the same one
+abbrev pub ArePaired : EdgeTypes → List (List Entry) → Type 0
+ArePaired types logs = (id1 : Id) (atype inverse : AType) (id2 : Id) → types.inverse atype ≡ Some inverse
+    → edge_record (log_of logs (shard_of id1)) id1 atype id2 ≡ edge_record (log_of logs (shard_of id2)) id2 inverse id1
+
+-- of each shard every slave's log is the master's, every mark is the log's length, and no job is open
+pub record IsSettled (stores : Stores) (slaves : ℕ → List (List Entry)) (marks : ℕ → List ℕ) : Type 0 where
+  pub slaves_are : (shard : ℕ) → All (λ slave. slave ≡ log_of stores.logs shard) (slaves shard)
+  pub marks_are : (shard : ℕ) → All (λ mark. mark ≡ length (log_of stores.logs shard)) (marks shard)
+  pub no_jobs : (shard position : ℕ) → stores.job shard position ≡ None

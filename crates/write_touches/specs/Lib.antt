@@ -1,0 +1,4 @@
+pub mod Edges
+pub mod FarJobs
+pub mod Refusals
+pub mod Touching

@@ -1,0 +1,149 @@
+//! The records that a write to an edge gives at id1.
+ghost use Rattle.std.specs.Prelude.{◌≡◌, ◌≤◌, ◌<◌, ◌∷◌, [], IfOk};
+ghost use Rattle.graph_model.specs.Edges.{number_of};
+ghost use Rattle.write_model.specs.Writes.{own_updates};
+ghost use Rattle.write_touches.specs.Edges.{AreNext, AreOverSome, cut_over, move_over, stamp_after};
+ghost use Rattle.tao_keeper.specs.KeeperState.{CallsKeeper, KeepsTables};
+ghost use Rattle.graph_model.specs.Told.{WhereTold};
+
+use std::alloc::{AllocError, Global};
+use tao_base::{AType, Data, EdgeState, Id, Stamp, StoreName, Time, Write};
+use tao_keeper::{KeepFail, Keeper, STAMP_LIMIT};
+
+/// A record of an edge at one end: its id1, type and id2, and the record.
+pub type EdgeUpdate = (Id, AType, Id, EdgeState);
+
+/// The stamp after that of a record: the first where there is none.
+fn stamp_after(id1: Id, old: &Option<EdgeState>) -> Stamp
+    requires { number_of old.now < STAMP_LIMIT }
+    ensures { result ≡ stamp_after id1 old.now }
+{
+    let number = match old {
+        Some(state) => state.stamp().number,
+        None => 0,
+    };
+    Stamp {
+        number: number + 1,
+        shard: id1.shard(),
+    }
+}
+
+/// The records of a deletion.
+fn cut_over(
+    alloc: Global,
+    id1: Id,
+    atype: AType,
+    id2: Id,
+    old: &Option<EdgeState>,
+) -> Result<Vec<EdgeUpdate>, AllocError>
+    requires { number_of old.now < STAMP_LIMIT }
+    ensures updates { IfOk result (λ us. us.items ≡ cut_over id1 atype id2 old.now) }
+    ensures next { IfOk result (λ us. AreNext us.items) }
+{
+    match old {
+        Some(EdgeState::Live { .. }) => {
+            let stamp = stamp_after(id1, old);
+            Ok(vec![in alloc; (id1, atype, id2, EdgeState::Cut { stamp })]?)
+        }
+        Some(EdgeState::Cut { .. }) => Ok(Vec::new(alloc)),
+        None => Ok(Vec::new(alloc)),
+    }
+}
+
+/// The records of a change of type, over the records of both types.
+fn move_over(
+    alloc: Global,
+    id1: Id,
+    atype: AType,
+    id2: Id,
+    newtype: AType,
+    old: &Option<EdgeState>,
+    there: &Option<EdgeState>,
+) -> Result<Vec<EdgeUpdate>, AllocError>
+    requires old { number_of old.now < STAMP_LIMIT }
+    requires there { number_of there.now < STAMP_LIMIT }
+    ensures updates { IfOk result (λ us. us.items ≡ move_over id1 atype id2 newtype old.now there.now) }
+    ensures next { IfOk result (λ us. AreNext us.items) }
+{
+    match old {
+        Some(EdgeState::Live { time, payload, .. }) => {
+            let cut = EdgeState::Cut {
+                stamp: stamp_after(id1, old),
+            };
+            let set = EdgeState::Live {
+                time: *time,
+                payload: payload.clone()?,
+                stamp: stamp_after(id1, there),
+            };
+            Ok(vec![in alloc; (id1, atype, id2, cut), (id1, newtype, id2, set)]?)
+        }
+        Some(EdgeState::Cut { .. }) => Ok(Vec::new(alloc)),
+        None => Ok(Vec::new(alloc)),
+    }
+}
+
+/// The records of an add.
+fn set_over(
+    alloc: Global,
+    id1: Id,
+    atype: AType,
+    id2: Id,
+    time: Time,
+    payload: &Data,
+    old: &Option<EdgeState>,
+) -> Result<Vec<EdgeUpdate>, AllocError>
+    requires { number_of old.now < STAMP_LIMIT }
+    ensures updates { IfOk result (λ us. us.items ≡ (id1, atype, id2, EdgeState.Live time payload.now (stamp_after id1 old.now)) ∷ []) }
+    ensures next { IfOk result (λ us. AreNext us.items) }
+{
+    let set = EdgeState::Live {
+        time,
+        payload: payload.clone()?,
+        stamp: stamp_after(id1, old),
+    };
+    Ok(vec![in alloc; (id1, atype, id2, set)]?)
+}
+
+/// The records that a write gives at id1. Asks the keeper for the records that stand there.
+pub fn own_updates<M: Keeper>(
+    alloc: Global,
+    keeper: &mut M,
+    at: StoreName,
+    write: &Write,
+) -> Result<Vec<EdgeUpdate>, KeepFail>
+    ensures updates { WhereTold M.TELLS (IfOk result (λ us. us.items ≡ own_updates ((M.state keeper.old).told at).log write.now)) }
+    ensures over { IfOk result (λ us. AreOverSome write.now us.items) }
+    ensures next { IfOk result (λ us. AreNext us.items) }
+    ensures stays { KeepsTables M.TELLS (M.state keeper.old) (M.state keeper.new) }
+    ensures calls { CallsKeeper KeepFail.Failed (M.state keeper.old) (M.state keeper.new) result }
+{
+    match write {
+        Write::AssocAdd {
+            id1,
+            atype,
+            id2,
+            time,
+            payload,
+        } => {
+            let old = keeper.edge(at, *id1, *atype, *id2)?;
+            Ok(set_over(alloc, *id1, *atype, *id2, *time, payload, &old)?)
+        }
+        Write::AssocDelete { id1, atype, id2 } => {
+            let old = keeper.edge(at, *id1, *atype, *id2)?;
+            Ok(cut_over(alloc, *id1, *atype, *id2, &old)?)
+        }
+        Write::AssocChangeType {
+            id1,
+            atype,
+            id2,
+            newtype,
+        } => {
+            let old = keeper.edge(at, *id1, *atype, *id2)?;
+            let there = keeper.edge(at, *id1, *newtype, *id2)?;
+            Ok(move_over(alloc, *id1, *atype, *id2, *newtype, &old, &there)?)
+        }
+        Write::ObjAdd { .. } => Ok(Vec::new(alloc)),
+        Write::ObjUpdate { .. } => Ok(Vec::new(alloc)),
+        Write::ObjDelete { .. } => Ok(Vec::new(alloc)),
+    }
+}

@@ -3,3 +3,4 @@ pub mod Kind
 pub mod Names
 pub mod Calls
 pub mod Requests
+pub mod Placed

@@ -23,35 +23,35 @@ abbrev pub settings : Names → Settings
 settings names = names.config.now
 
 -- the region of a name
-abbrev pub region_of : Settings → List ℕ → Result ℕ NameRefused
-region_of s name = needed (NoTier name) (region_at s.regions name)
+abbrev pub region_named : Settings → List ℕ → Result ℕ NameRefused
+region_named s name = needed (NoTier name) (region_at s.regions name)
 
 -- a region's name and a tier's, with a `/` between them
 abbrev pub tier_text : List ℕ → List ℕ → List ℕ
 tier_text region tier = region ++ codes "/" ++ tier
 
 -- the tier of a name in a region of a name: one that the region lacks is refused by both names
-abbrev pub tier_of : Settings → List ℕ → List ℕ → Result TierPlace NameRefused
-tier_of s region tier = do
-  place ← region_of s region
+abbrev pub tier_named : Settings → List ℕ → List ℕ → Result TierPlace NameRefused
+tier_named s region tier = do
+  place ← region_named s region
   found ← needed (NoTier (tier_text region tier)) (tier_in s.regions place tier)
   Ok (record { region = place; tier = found })
 
 -- the association type of a name
-abbrev pub atype_of : Settings → List ℕ → Result AType NameRefused
-atype_of s name = needed (UnknownType name) (option_map atype_at (place_of (names_of s.schema.assocs) name))
+abbrev pub atype_named : Settings → List ℕ → Result AType NameRefused
+atype_named s name = needed (UnknownType name) (option_map atype_at (place_of (names_of s.schema.assocs) name))
 
 -- the object type of a name
-abbrev pub otype_of : Settings → List ℕ → Result OType NameRefused
-otype_of s name = needed (UnknownType name) (option_map otype_at (place_of s.schema.objects name))
+abbrev pub otype_named : Settings → List ℕ → Result OType NameRefused
+otype_named s name = needed (UnknownType name) (option_map otype_at (place_of s.schema.objects name))
 
 -- shards are numbered from 0
-abbrev pub has_shard : Settings → ℕ → Result ⊤ NameRefused
-has_shard s shard = refused_unless (NoShard shard) (nat_lt shard s.shards)
+abbrev pub configured_shard : Settings → ℕ → Result ⊤ NameRefused
+configured_shard s shard = refused_unless (NoShard shard) (nat_lt shard s.shards)
 
 -- an id lies on a shard
-abbrev pub has_id : Settings → ℕ → Result ⊤ NameRefused
-has_id s id = has_shard s (shard_of id)
+abbrev pub configured_id : Settings → ℕ → Result ⊤ NameRefused
+configured_id s id = configured_shard s (shard_of id)
 
 -- a node, where it is of the kind
 abbrev pub of_kind : NodeKind → Option NodeName → Option NodeName
@@ -59,5 +59,5 @@ of_kind kind None = None
 of_kind kind (Some node) = if takes kind node then Some node else None
 
 -- the node of a text, where it is of the kind
-abbrev pub node_of : Settings → NodeKind → List ℕ → Result NodeName NameRefused
-node_of s kind name = needed (NoNode name) (of_kind kind (node_at s name))
+abbrev pub node_named : Settings → NodeKind → List ℕ → Result NodeName NameRefused
+node_named s kind name = needed (NoNode name) (of_kind kind (node_at s name))

@@ -12,9 +12,9 @@ use Rattle.request_check.specs.declared.refusal.NameError.{NameError}
 use Rattle.request_check.specs.declared.refusal.NameError.TheVariants.{Refused, OutOfMemory}
 
 -- the refused name, unless there was no memory
-abbrev pub unless_memory : NameError → Option NameRefused
-unless_memory (Refused refused) = Some refused
-unless_memory OutOfMemory = None
+abbrev pub name_unless_memory : NameError → Option NameRefused
+name_unless_memory (Refused refused) = Some refused
+name_unless_memory OutOfMemory = None
 
 -- what is replied, unless there was no memory
 abbrev pub reply_unless_memory : CheckRefusal → Option Reply

@@ -18,128 +18,128 @@ use Rattle.requests.specs.declared.request.Request.TheVariants as request
 use Rattle.request_check.specs.declared.checked.Checked.{Checked}
 use Rattle.request_check.specs.declared.checked.Checked.TheVariants as checked
 use Rattle.request_check.specs.declared.checked.CheckedCall.{CheckedCall}
-use Rattle.request_check.specs.declared.checked.CheckedCall.TheVariants as checked_call
+use Rattle.request_check.specs.declared.checked.CheckedCall.TheVariants as of_call
 use Rattle.request_check.specs.declared.checked.CheckedRead.{CheckedRead}
 use Rattle.request_check.specs.declared.checked.CheckedWrite.{CheckedWrite}
 use Rattle.request_check.specs.declared.checked.LeaderPlace.{LeaderPlace}
 use Rattle.request_check.specs.declared.checked.LinkPlace.{LinkPlace}
 use Rattle.request_check.specs.declared.kind.NodeKind.TheVariants.{Any, Cache, Leader, Follower}
-use Rattle.request_check.specs.Calls.{list_type, write_of, query_of}
-use Rattle.request_check.specs.Names.{region_of, tier_of, has_shard, has_id, node_of}
+use Rattle.request_check.specs.Calls.{list_type, checked_write, checked_query}
+use Rattle.request_check.specs.Names.{region_named, tier_named, configured_shard, configured_id, node_named}
 use Rattle.outcomes.specs.Results.{◌>>=◌}
 
 -- ---- sessions and plans
 
-abbrev pub open_of : Settings → Opening → Result Checked NameRefused
-open_of s opening = do
-  found ← tier_of s opening.region opening.tier
+abbrev pub checked_open : Settings → Opening → Result Checked NameRefused
+checked_open s opening = do
+  found ← tier_named s opening.region opening.tier
   Ok (checked.Open opening.session found.region found.tier)
 
-abbrev pub write_call_of : Settings → WriteCall → Result CheckedWrite NameRefused
-write_call_of s call = do
-  write ← write_of s call.write
+abbrev pub checked_write_call : Settings → WriteCall → Result CheckedWrite NameRefused
+checked_write_call s call = do
+  write ← checked_write s call.write
   Ok (record { session = call.session; seq = call.seq; write = write })
 
-abbrev pub read_call_of : Settings → ReadCall → Result CheckedRead NameRefused
-read_call_of s call = do
-  query ← query_of s call.query
+abbrev pub checked_read_call : Settings → ReadCall → Result CheckedRead NameRefused
+checked_read_call s call = do
+  query ← checked_query s call.query
   Ok (record { session = call.session; query = query; critical = call.critical })
 
-abbrev pub call_of : Settings → Call → Result CheckedCall NameRefused
-call_of s (Write call) = do
-  write ← write_call_of s call
-  Ok (checked_call.Write write)
-call_of s (Read call) = do
-  read ← read_call_of s call
-  Ok (checked_call.Read read)
+abbrev pub checked_call : Settings → Call → Result CheckedCall NameRefused
+checked_call s (Write call) = do
+  write ← checked_write_call s call
+  Ok (of_call.Write write)
+checked_call s (Read call) = do
+  read ← checked_read_call s call
+  Ok (of_call.Read read)
 
-abbrev pub held_of : Settings → ℕ → Call → Result Checked NameRefused
-held_of s plan call = do
-  held ← call_of s call
+abbrev pub checked_hold : Settings → ℕ → Call → Result Checked NameRefused
+checked_hold s plan call = do
+  held ← checked_call s call
   Ok (checked.Hold plan held)
 
 -- ---- nodes
 
 -- what a cache holds an item of
-abbrev pub key_of : Settings → KeyName → Result Key NameRefused
-key_of s (Object id) = do
-  there ← has_id s id
+abbrev pub key_named : Settings → KeyName → Result Key NameRefused
+key_named s (Object id) = do
+  there ← configured_id s id
   Ok (of_key.Obj id)
-key_of s (Assocs list) = do
+key_named s (Assocs list) = do
   atype ← list_type s list
   Ok (of_key.List list.id1 atype)
 
-abbrev pub maybe_key_of : Settings → Option KeyName → Result (Option Key) NameRefused
-maybe_key_of s None = Ok None
-maybe_key_of s (Some name) = do
-  key ← key_of s name
+abbrev pub maybe_key_named : Settings → Option KeyName → Result (Option Key) NameRefused
+maybe_key_named s None = Ok None
+maybe_key_named s (Some name) = do
+  key ← key_named s name
   Ok (Some key)
 
-abbrev pub evict_of : Settings → List ℕ → Option KeyName → Result Checked NameRefused
-evict_of s name given = do
-  node ← node_of s Cache name
-  key ← maybe_key_of s given
+abbrev pub checked_evict : Settings → List ℕ → Option KeyName → Result Checked NameRefused
+checked_evict s name given = do
+  node ← node_named s Cache name
+  key ← maybe_key_named s given
   Ok (checked.Evict node key)
 
-abbrev pub show_of : Settings → List ℕ → KeyName → Result Checked NameRefused
-show_of s name given = do
-  node ← node_of s Cache name
-  key ← key_of s given
+abbrev pub checked_show : Settings → List ℕ → KeyName → Result Checked NameRefused
+checked_show s name given = do
+  node ← node_named s Cache name
+  key ← key_named s given
   Ok (checked.Show node key)
 
-abbrev pub leader_of : Settings → LeaderName → Result LeaderPlace NameRefused
-leader_of s leader = do
-  found ← tier_of s leader.region leader.tier
-  node ← node_of s Leader leader.node
+abbrev pub leader_place : Settings → LeaderName → Result LeaderPlace NameRefused
+leader_place s leader = do
+  found ← tier_named s leader.region leader.tier
+  node ← node_named s Leader leader.node
   Ok (record { region = found.region; tier = found.tier; node = node })
 
-abbrev pub link_of : Settings → LinkName → Result LinkPlace NameRefused
-link_of s link = do
-  from ← node_of s Any link.from
-  to ← node_of s Any link.to
+abbrev pub link_place : Settings → LinkName → Result LinkPlace NameRefused
+link_place s link = do
+  from ← node_named s Any link.from
+  to ← node_named s Any link.to
   Ok (record { from = from; to = to })
 
 -- ---- stores
 
-abbrev pub stream_of : Settings → List ℕ → ℕ → Option ℕ → Result Checked NameRefused
-stream_of s name shard position = do
-  region ← region_of s name
-  there ← has_shard s shard
+abbrev pub checked_stream : Settings → List ℕ → ℕ → Option ℕ → Result Checked NameRefused
+checked_stream s name shard position = do
+  region ← region_named s name
+  there ← configured_shard s shard
   Ok (checked.Stream region shard position)
 
-abbrev pub repair_of : Settings → ℕ → Result Checked NameRefused
-repair_of s shard = do
-  there ← has_shard s shard
+abbrev pub checked_repair : Settings → ℕ → Result Checked NameRefused
+checked_repair s shard = do
+  there ← configured_shard s shard
   Ok (checked.Repair shard)
 
 -- ---- a request
 
 -- requests of one row differ in their word alone
-abbrev pub as_checked : {A : Type 0} → (A → Checked) → Result A NameRefused → Result Checked NameRefused
-as_checked f found = do
+abbrev pub placed_as : {A : Type 0} → (A → Checked) → Result A NameRefused → Result Checked NameRefused
+placed_as f found = do
   place ← found
   Ok (f place)
 
 -- each word has its row
 abbrev pub checked_of : Settings → Request → Result Checked NameRefused
-checked_of s (request.Open opening) = open_of s opening
-checked_of s (request.Call call) = as_checked checked.Call (call_of s call)
-checked_of s (request.Hold plan call) = held_of s plan call
+checked_of s (request.Open opening) = checked_open s opening
+checked_of s (request.Call call) = placed_as checked.Call (checked_call s call)
+checked_of s (request.Hold plan call) = checked_hold s plan call
 checked_of s (request.Advance plan) = Ok (checked.Advance plan)
-checked_of s (request.Deliver name) = as_checked (λ node. checked.Deliver node name.message) (node_of s Cache name.node)
-checked_of s (request.Again name) = as_checked (λ node. checked.Again node name.message) (node_of s Cache name.node)
-checked_of s (request.Drop name) = as_checked (λ node. checked.Drop node name.message) (node_of s Cache name.node)
-checked_of s (request.Refill name) = as_checked checked.Refill (node_of s Follower name)
-checked_of s (request.Stream region shard position) = stream_of s region shard position
-checked_of s (request.Repair shard) = repair_of s shard
-checked_of s (request.Evict name key) = evict_of s name key
-checked_of s (request.Show name key) = show_of s name key
-checked_of s (request.Inbox name) = as_checked checked.Inbox (node_of s Cache name)
-checked_of s (request.Down name) = as_checked checked.Down (node_of s Cache name)
-checked_of s (request.Up name) = as_checked checked.Up (node_of s Cache name)
-checked_of s (request.Suspect leader) = as_checked checked.Suspect (leader_of s leader)
-checked_of s (request.Trust leader) = as_checked checked.Trust (leader_of s leader)
-checked_of s (request.Cut link) = as_checked checked.Cut (link_of s link)
-checked_of s (request.Mend link) = as_checked checked.Mend (link_of s link)
+checked_of s (request.Deliver name) = placed_as (λ node. checked.Deliver node name.message) (node_named s Cache name.node)
+checked_of s (request.Again name) = placed_as (λ node. checked.Again node name.message) (node_named s Cache name.node)
+checked_of s (request.Drop name) = placed_as (λ node. checked.Drop node name.message) (node_named s Cache name.node)
+checked_of s (request.Refill name) = placed_as checked.Refill (node_named s Follower name)
+checked_of s (request.Stream region shard position) = checked_stream s region shard position
+checked_of s (request.Repair shard) = checked_repair s shard
+checked_of s (request.Evict name key) = checked_evict s name key
+checked_of s (request.Show name key) = checked_show s name key
+checked_of s (request.Inbox name) = placed_as checked.Inbox (node_named s Cache name)
+checked_of s (request.Down name) = placed_as checked.Down (node_named s Cache name)
+checked_of s (request.Up name) = placed_as checked.Up (node_named s Cache name)
+checked_of s (request.Suspect leader) = placed_as checked.Suspect (leader_place s leader)
+checked_of s (request.Trust leader) = placed_as checked.Trust (leader_place s leader)
+checked_of s (request.Cut link) = placed_as checked.Cut (link_place s link)
+checked_of s (request.Mend link) = placed_as checked.Mend (link_place s link)
 checked_of s request.Settle = Ok checked.Settle
-checked_of s (request.Audit read) = as_checked checked.Audit (read_call_of s read)
+checked_of s (request.Audit read) = placed_as checked.Audit (checked_read_call s read)

@@ -1,26 +1,29 @@
 //! The calls on objects and associations: their types first, then the shards of their ids, then what
 //! their own rules refuse.
+ghost use Rattle.std.specs.Prelude.{◌≡◌};
 ghost use Rattle.outcomes.specs.Results.{Gives};
-ghost use Rattle.request_check.specs.Refusal.{unless_memory};
+ghost use Rattle.request_check.specs.Refusal.{name_unless_memory};
 ghost use Rattle.request_check.specs.Names.{settings};
-ghost use Rattle.request_check.specs.Calls.{has_ends, list_type, edge_type, obj_add_of, obj_update_of, obj_delete_of, assoc_add_of, assoc_delete_of, differs, assoc_change_type_of, write_of, within_bound, obj_get_of, assoc_get_of, assoc_count_of, assoc_range_of, assoc_time_range_of, query_of};
+ghost use Rattle.tao_schema.specs.Schema.{types_of};
+ghost use Rattle.request_check.specs.Calls.{configured_ends, list_type, edge_type, checked_obj_add, checked_obj_update, checked_obj_delete, checked_assoc_add, checked_assoc_delete, has_type, is_type, checked_assoc_change_type, checked_write, bounded_ids, checked_obj_get, checked_assoc_get, checked_assoc_count, checked_assoc_range, checked_assoc_time_range, checked_query};
 
 use crate::names::Names;
 use crate::refusal::NameError;
 use replies::NameRefused;
 use requests::{EdgeName, ListName, QueryText, WriteText};
 use tao_base::{AType, Data, Id, IdSet, Query, Text, Time, Write};
+use tao_schema::Schema;
 
 /// Refuses an edge one of whose ends lies on a shard that isn't configured.
-fn has_ends(names: &Names<'_>, edge: &EdgeName) -> Result<(), NameError>
-    ensures { Gives unless_memory result (has_ends (settings names.now) edge.now) }
+fn configured_ends(names: &Names<'_>, edge: &EdgeName) -> Result<(), NameError>
+    ensures { Gives name_unless_memory result (configured_ends (settings names.now) edge.now) }
 {
     names.id(edge.list.id1)?;
     names.id(edge.id2)
 }
 
 pub(crate) fn list_type(names: &Names<'_>, list: &ListName) -> Result<AType, NameError>
-    ensures { Gives unless_memory result (list_type (settings names.now) list.now) }
+    ensures { Gives name_unless_memory result (list_type (settings names.now) list.now) }
 {
     let atype = names.atype(list.atype.as_str())?;
     names.id(list.id1)?;
@@ -28,43 +31,45 @@ pub(crate) fn list_type(names: &Names<'_>, list: &ListName) -> Result<AType, Nam
 }
 
 fn edge_type(names: &Names<'_>, edge: &EdgeName) -> Result<AType, NameError>
-    ensures { Gives unless_memory result (edge_type (settings names.now) edge.now) }
+    ensures { Gives name_unless_memory result (edge_type (settings names.now) edge.now) }
 {
     let atype = names.atype(edge.list.atype.as_str())?;
-    has_ends(names, edge)?;
+    configured_ends(names, edge)?;
     Ok(atype)
 }
 
 // ---- writes
 
-pub(crate) fn write_of(names: &Names<'_>, write: &WriteText) -> Result<Write, NameError>
-    ensures { Gives unless_memory result (write_of (settings names.now) write.now) }
+pub(crate) fn checked_write(names: &Names<'_>, write: &WriteText) -> Result<Write, NameError>
+    ensures { Gives name_unless_memory result (checked_write (settings names.now) write.now) }
 {
     match write {
         WriteText::ObjAdd {
             shard,
             otype,
             payload,
-        } => obj_add_of(names, *shard, otype, payload),
-        WriteText::ObjUpdate { id, payload } => obj_update_of(names, *id, payload),
-        WriteText::ObjDelete { id } => obj_delete_of(names, *id),
+        } => checked_obj_add(names, *shard, otype, payload),
+        WriteText::ObjUpdate { id, payload } => checked_obj_update(names, *id, payload),
+        WriteText::ObjDelete { id } => checked_obj_delete(names, *id),
         WriteText::AssocAdd {
             edge,
             time,
             payload,
-        } => assoc_add_of(names, edge, *time, payload),
-        WriteText::AssocDelete { edge } => assoc_delete_of(names, edge),
-        WriteText::AssocChangeType { edge, newtype } => assoc_change_type_of(names, edge, newtype),
+        } => checked_assoc_add(names, edge, *time, payload),
+        WriteText::AssocDelete { edge } => checked_assoc_delete(names, edge),
+        WriteText::AssocChangeType { edge, newtype } => checked_assoc_change_type(
+            names, edge, newtype,
+        ),
     }
 }
 
-fn obj_add_of(
+fn checked_obj_add(
     names: &Names<'_>,
     shard: u16,
     otype: &Text,
     payload: &Data,
 ) -> Result<Write, NameError>
-    ensures { Gives unless_memory result (obj_add_of (settings names.now) shard otype.now payload.now) }
+    ensures { Gives name_unless_memory result (checked_obj_add (settings names.now) shard otype.now payload.now) }
 {
     let otype = names.otype(otype.as_str())?;
     names.shard(shard)?;
@@ -75,8 +80,8 @@ fn obj_add_of(
     })
 }
 
-fn obj_update_of(names: &Names<'_>, id: Id, payload: &Data) -> Result<Write, NameError>
-    ensures { Gives unless_memory result (obj_update_of (settings names.now) id payload.now) }
+fn checked_obj_update(names: &Names<'_>, id: Id, payload: &Data) -> Result<Write, NameError>
+    ensures { Gives name_unless_memory result (checked_obj_update (settings names.now) id payload.now) }
 {
     names.id(id)?;
     Ok(Write::ObjUpdate {
@@ -85,20 +90,20 @@ fn obj_update_of(names: &Names<'_>, id: Id, payload: &Data) -> Result<Write, Nam
     })
 }
 
-fn obj_delete_of(names: &Names<'_>, id: Id) -> Result<Write, NameError>
-    ensures { Gives unless_memory result (obj_delete_of (settings names.now) id) }
+fn checked_obj_delete(names: &Names<'_>, id: Id) -> Result<Write, NameError>
+    ensures { Gives name_unless_memory result (checked_obj_delete (settings names.now) id) }
 {
     names.id(id)?;
     Ok(Write::ObjDelete { id })
 }
 
-fn assoc_add_of(
+fn checked_assoc_add(
     names: &Names<'_>,
     edge: &EdgeName,
     time: Time,
     payload: &Data,
 ) -> Result<Write, NameError>
-    ensures { Gives unless_memory result (assoc_add_of (settings names.now) edge.now time payload.now) }
+    ensures { Gives name_unless_memory result (checked_assoc_add (settings names.now) edge.now time payload.now) }
 {
     let atype = edge_type(names, edge)?;
     Ok(Write::AssocAdd {
@@ -110,8 +115,8 @@ fn assoc_add_of(
     })
 }
 
-fn assoc_delete_of(names: &Names<'_>, edge: &EdgeName) -> Result<Write, NameError>
-    ensures { Gives unless_memory result (assoc_delete_of (settings names.now) edge.now) }
+fn checked_assoc_delete(names: &Names<'_>, edge: &EdgeName) -> Result<Write, NameError>
+    ensures { Gives name_unless_memory result (checked_assoc_delete (settings names.now) edge.now) }
 {
     let atype = edge_type(names, edge)?;
     Ok(Write::AssocDelete {
@@ -121,25 +126,38 @@ fn assoc_delete_of(names: &Names<'_>, edge: &EdgeName) -> Result<Write, NameErro
     })
 }
 
-/// Refuses a change to the type that the edge has.
-fn differs(names: &Names<'_>, atype: AType, newtype: AType, name: &Text) -> Result<(), NameError>
-    ensures { Gives unless_memory result (differs atype newtype name.now) }
+fn is_inverse(schema: &Schema, atype: AType, newtype: AType) -> bool
+    ensures { result ≡ is_type newtype ((types_of schema.now).inverse atype) }
 {
-    if atype.0 == newtype.0 {
-        let name = Text::copy_of(names.alloc, name.as_str())?;
-        Err(NameError::Refused(NameRefused::SameType { name }))
-    } else {
-        Ok(())
+    match schema.inverse(atype) {
+        Some(inverse) => inverse == newtype,
+        None => false,
     }
 }
 
-fn assoc_change_type_of(names: &Names<'_>, edge: &EdgeName, name: &Text) -> Result<Write, NameError>
-    ensures { Gives unless_memory result (assoc_change_type_of (settings names.now) edge.now name.now) }
+/// Whether an edge of the type has the new one already: its own, or between an object and itself that of its
+/// other end, since these are one edge.
+fn has_type(schema: &Schema, edge: &EdgeName, atype: AType, newtype: AType) -> bool
+    ensures { result ≡ has_type (types_of schema.now) edge.now atype newtype }
+{
+    atype.0 == newtype.0 || (edge.list.id1 == edge.id2 && is_inverse(schema, atype, newtype))
+}
+
+fn checked_assoc_change_type(
+    names: &Names<'_>,
+    edge: &EdgeName,
+    name: &Text,
+) -> Result<Write, NameError>
+    ensures { Gives name_unless_memory result (checked_assoc_change_type (settings names.now) edge.now name.now) }
 {
     let oldtype = names.atype(edge.list.atype.as_str())?;
     let newtype = names.atype(name.as_str())?;
-    has_ends(names, edge)?;
-    differs(names, oldtype, newtype, name)?;
+    configured_ends(names, edge)?;
+    let config = names.config;
+    if has_type(&config.schema, edge, oldtype, newtype) {
+        let name = Text::copy_of(names.alloc, name.as_str())?;
+        return Err(NameError::Refused(NameRefused::SameType { name }));
+    }
     Ok(Write::AssocChangeType {
         id1: edge.list.id1,
         atype: oldtype,
@@ -150,31 +168,33 @@ fn assoc_change_type_of(names: &Names<'_>, edge: &EdgeName, name: &Text) -> Resu
 
 // ---- reads
 
-pub(crate) fn query_of(names: &Names<'_>, query: &QueryText) -> Result<Query, NameError>
-    ensures { Gives unless_memory result (query_of (settings names.now) query.now) }
+pub(crate) fn checked_query(names: &Names<'_>, query: &QueryText) -> Result<Query, NameError>
+    ensures { Gives name_unless_memory result (checked_query (settings names.now) query.now) }
 {
     match query {
-        QueryText::ObjGet { id } => obj_get_of(names, *id),
+        QueryText::ObjGet { id } => checked_obj_get(names, *id),
         QueryText::AssocGet {
             list,
             ids,
             high,
             low,
-        } => assoc_get_of(names, list, ids, *high, *low),
-        QueryText::AssocCount { list } => assoc_count_of(names, list),
-        QueryText::AssocRange { list, pos, limit } => assoc_range_of(names, list, *pos, *limit),
+        } => checked_assoc_get(names, list, ids, *high, *low),
+        QueryText::AssocCount { list } => checked_assoc_count(names, list),
+        QueryText::AssocRange { list, pos, limit } => checked_assoc_range(
+            names, list, *pos, *limit,
+        ),
         QueryText::AssocTimeRange {
             list,
             high,
             low,
             limit,
-        } => assoc_time_range_of(names, list, *high, *low, *limit),
+        } => checked_assoc_time_range(names, list, *high, *low, *limit),
     }
 }
 
 /// Refuses more ids than edges of the type are kept.
-fn within_bound(names: &Names<'_>, atype: AType, ids: &IdSet) -> Result<(), NameError>
-    ensures { Gives unless_memory result (within_bound (settings names.now) atype ids.now) }
+fn bounded_ids(names: &Names<'_>, atype: AType, ids: &IdSet) -> Result<(), NameError>
+    ensures { Gives name_unless_memory result (bounded_ids (settings names.now) atype ids.now) }
 {
     let config = names.config;
     let bound = config.schema.bound(atype);
@@ -186,24 +206,24 @@ fn within_bound(names: &Names<'_>, atype: AType, ids: &IdSet) -> Result<(), Name
     }
 }
 
-fn obj_get_of(names: &Names<'_>, id: Id) -> Result<Query, NameError>
-    ensures { Gives unless_memory result (obj_get_of (settings names.now) id) }
+fn checked_obj_get(names: &Names<'_>, id: Id) -> Result<Query, NameError>
+    ensures { Gives name_unless_memory result (checked_obj_get (settings names.now) id) }
 {
     names.id(id)?;
     Ok(Query::ObjGet { id })
 }
 
-fn assoc_get_of(
+fn checked_assoc_get(
     names: &Names<'_>,
     list: &ListName,
     ids: &IdSet,
     high: Option<Time>,
     low: Option<Time>,
 ) -> Result<Query, NameError>
-    ensures { Gives unless_memory result (assoc_get_of (settings names.now) list.now ids.now high low) }
+    ensures { Gives name_unless_memory result (checked_assoc_get (settings names.now) list.now ids.now high low) }
 {
     let atype = list_type(names, list)?;
-    within_bound(names, atype, ids)?;
+    bounded_ids(names, atype, ids)?;
     Ok(Query::AssocGet {
         id1: list.id1,
         atype,
@@ -213,8 +233,8 @@ fn assoc_get_of(
     })
 }
 
-fn assoc_count_of(names: &Names<'_>, list: &ListName) -> Result<Query, NameError>
-    ensures { Gives unless_memory result (assoc_count_of (settings names.now) list.now) }
+fn checked_assoc_count(names: &Names<'_>, list: &ListName) -> Result<Query, NameError>
+    ensures { Gives name_unless_memory result (checked_assoc_count (settings names.now) list.now) }
 {
     let atype = list_type(names, list)?;
     Ok(Query::AssocCount {
@@ -223,13 +243,13 @@ fn assoc_count_of(names: &Names<'_>, list: &ListName) -> Result<Query, NameError
     })
 }
 
-fn assoc_range_of(
+fn checked_assoc_range(
     names: &Names<'_>,
     list: &ListName,
     pos: u32,
     limit: u32,
 ) -> Result<Query, NameError>
-    ensures { Gives unless_memory result (assoc_range_of (settings names.now) list.now pos limit) }
+    ensures { Gives name_unless_memory result (checked_assoc_range (settings names.now) list.now pos limit) }
 {
     let atype = list_type(names, list)?;
     Ok(Query::AssocRange {
@@ -240,14 +260,14 @@ fn assoc_range_of(
     })
 }
 
-fn assoc_time_range_of(
+fn checked_assoc_time_range(
     names: &Names<'_>,
     list: &ListName,
     high: Time,
     low: Time,
     limit: u32,
 ) -> Result<Query, NameError>
-    ensures { Gives unless_memory result (assoc_time_range_of (settings names.now) list.now high low limit) }
+    ensures { Gives name_unless_memory result (checked_assoc_time_range (settings names.now) list.now high low limit) }
 {
     let atype = list_type(names, list)?;
     Ok(Query::AssocTimeRange {

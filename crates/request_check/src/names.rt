@@ -2,7 +2,7 @@
 ghost use Rattle.std.specs.Prelude.{Ok, Err, IfOk, ◌≡◌};
 ghost use Rattle.replies.specs.declared.refusals.NameRefused.TheVariants.{NoShard};
 ghost use Rattle.outcomes.specs.Results.{Gives};
-ghost use Rattle.request_check.specs.Refusal.{unless_memory};
+ghost use Rattle.request_check.specs.Refusal.{name_unless_memory};
 
 use crate::kind::NodeKind;
 use crate::refusal::NameError;
@@ -28,10 +28,10 @@ pub(crate) struct Names<'c> {
 
 impl Names<'_> {
     ghost use Rattle.std.specs.Prelude.{◌≡◌, IfOk};
-    ghost use Rattle.request_check.specs.Names.{settings, region_of, tier_of, atype_of, otype_of, has_shard, has_id, tier_text, node_of};
+    ghost use Rattle.request_check.specs.Names.{settings, region_named, tier_named, atype_named, otype_named, configured_shard, configured_id, tier_text, node_named};
 
     pub(crate) fn region(&self, name: &str) -> Result<u16, NameError>
-        ensures { Gives unless_memory result (region_of (settings self.now) name.now) }
+        ensures { Gives name_unless_memory result (region_named (settings self.now) name.now) }
     {
         let config = self.config;
         match config.regions.find(name) {
@@ -44,7 +44,7 @@ impl Names<'_> {
     }
 
     pub(crate) fn tier(&self, region: &str, tier: &str) -> Result<TierPlace, NameError>
-        ensures { Gives unless_memory result (tier_of (settings self.now) region.now tier.now) }
+        ensures { Gives name_unless_memory result (tier_named (settings self.now) region.now tier.now) }
     {
         let place = self.region(region)?;
         match self.config.find_tier(place, tier) {
@@ -67,7 +67,7 @@ impl Names<'_> {
     }
 
     pub(crate) fn atype(&self, name: &str) -> Result<AType, NameError>
-        ensures { Gives unless_memory result (atype_of (settings self.now) name.now) }
+        ensures { Gives name_unless_memory result (atype_named (settings self.now) name.now) }
     {
         let config = self.config;
         match config.schema.atype(name) {
@@ -80,7 +80,7 @@ impl Names<'_> {
     }
 
     pub(crate) fn otype(&self, name: &str) -> Result<OType, NameError>
-        ensures { Gives unless_memory result (otype_of (settings self.now) name.now) }
+        ensures { Gives name_unless_memory result (otype_named (settings self.now) name.now) }
     {
         let config = self.config;
         match config.schema.otype(name) {
@@ -94,7 +94,7 @@ impl Names<'_> {
 
     /// Refuses a shard that isn't configured.
     pub(crate) fn shard(&self, shard: u16) -> Result<(), NameError>
-        ensures { Gives unless_memory result (has_shard (settings self.now) shard) }
+        ensures { Gives name_unless_memory result (configured_shard (settings self.now) shard) }
     {
         let config = self.config;
         if shard < config.shards {
@@ -106,14 +106,14 @@ impl Names<'_> {
 
     /// Refuses an id of a shard that isn't configured.
     pub(crate) fn id(&self, id: Id) -> Result<(), NameError>
-        ensures { Gives unless_memory result (has_id (settings self.now) id) }
+        ensures { Gives name_unless_memory result (configured_id (settings self.now) id) }
     {
         self.shard(id.shard())
     }
 
     /// The node of a text, where it is of the kind.
     pub(crate) fn node(&self, kind: NodeKind, name: &Text) -> Result<NodeName, NameError>
-        ensures { Gives unless_memory result (node_of (settings self.now) kind name.now) }
+        ensures { Gives name_unless_memory result (node_named (settings self.now) kind name.now) }
     {
         match self.config.node(name.as_str()) {
             Some(node) if kind.takes(node) => Ok(node),

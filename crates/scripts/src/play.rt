@@ -1,7 +1,7 @@
 //! Plays a script.
 ghost use Rattle.std.specs.Prelude.{IfOk};
 ghost use Rattle.keeper_map.specs.MapKeeper.{told_by};
-ghost use Rattle.tao_top.specs.Kept.{AreKept};
+ghost use Rattle.tao_top.specs.Kept.{MayBeginAny};
 
 use crate::narrow::NarrowSink;
 use keeper_map::{Fails, MapKeeper};
@@ -17,8 +17,8 @@ fn run_kept<R: Source, S: Sink>(
     output: &mut S,
     keeper: &mut MapKeeper,
 ) -> Status
-    requires { AreKept (told_by keeper.old) }
-    ensures { AreKept (told_by keeper.new) }
+    requires { MayBeginAny (told_by keeper.old) }
+    ensures { MayBeginAny (told_by keeper.new) }
 {
     tao_top::run(alloc, words, input, output, keeper)
 }
@@ -30,8 +30,8 @@ fn run_over<S: Sink>(
     run: &Run,
     output: &mut S,
 ) -> Result<Status, AllocError>
-    requires { AreKept (told_by keeper.old) }
-    ensures { AreKept (told_by keeper.new) }
+    requires { MayBeginAny (told_by keeper.old) }
+    ensures { MayBeginAny (told_by keeper.new) }
 {
     let input = run.input.as_bytes().to_vec(alloc)?;
     let mut source = MemorySource::of(input, run.takes.to_vec(alloc)?);
@@ -56,8 +56,8 @@ fn judge(
 
 /// Plays a run over the keeper. What is said of its fault, or nothing.
 fn play_over(alloc: Global, keeper: &mut MapKeeper, run: &Run) -> Result<Option<String>, AllocError>
-    requires { AreKept (told_by keeper.old) }
-    ensures { AreKept (told_by keeper.new) }
+    requires { MayBeginAny (told_by keeper.old) }
+    ensures { MayBeginAny (told_by keeper.new) }
 {
     if let Some(room) = run.room {
         let mut output = NarrowSink::make(alloc, room);
@@ -72,7 +72,7 @@ fn play_over(alloc: Global, keeper: &mut MapKeeper, run: &Run) -> Result<Option<
 /// A keeper without tables, which fails as a script says.
 #[tactic(auto, using(tao_top::proofs::Keeping::empty_kept))]
 fn new_keeper(alloc: Global, script: &Script) -> Result<MapKeeper, AllocError>
-    ensures { IfOk result (λ keeper. AreKept (told_by keeper)) }
+    ensures { IfOk result (λ keeper. MayBeginAny (told_by keeper)) }
 {
     let fails = Fails {
         calls: script.calls.to_vec(alloc)?,
@@ -88,8 +88,8 @@ fn play_run(
     script: &Script,
     run: &Run,
 ) -> Result<Option<String>, AllocError>
-    requires { AreKept (told_by keeper.old) }
-    ensures { AreKept (told_by keeper.new) }
+    requires { MayBeginAny (told_by keeper.old) }
+    ensures { MayBeginAny (told_by keeper.new) }
 {
     if !run.is_anew {
         return play_over(alloc, keeper, run);

@@ -20,7 +20,7 @@ pub(crate) const THERE: StoreName = StoreName {
 };
 
 /// Whether the record is there, or a later one.
-fn is_there(keeper: &mut MapKeeper, end: &JobEdge) -> Result<bool, KeepFail>
+fn look_for_record(keeper: &mut MapKeeper, end: &JobEdge) -> Result<bool, KeepFail>
     ensures there { IfOk result (λ there. IsTrue there → HasStamp (told_by keeper.old THERE).log end.now) }
     ensures stays { Stays (told_by keeper.old) (told_by keeper.new) }
 {
@@ -31,7 +31,7 @@ fn is_there(keeper: &mut MapKeeper, end: &JobEdge) -> Result<bool, KeepFail>
 }
 
 /// Whether no job of the position was merged with an entry.
-fn is_new(keeper: &mut MapKeeper, position: u64) -> Result<bool, KeepFail>
+fn misses_merge(keeper: &mut MapKeeper, position: u64) -> Result<bool, KeepFail>
     ensures new { IfOk result (λ new. IsTrue new → IsNewOrigin (told_by keeper.old THERE).log (Merge 0 position)) }
     ensures stays { Stays (told_by keeper.old) (told_by keeper.new) }
 {
@@ -40,14 +40,18 @@ fn is_new(keeper: &mut MapKeeper, position: u64) -> Result<bool, KeepFail>
 }
 
 /// Whether the job of the position is new, or its record is there.
-pub(crate) fn is_due(keeper: &mut MapKeeper, position: u64, end: &JobEdge) -> Result<bool, KeepFail>
+pub(crate) fn check_due(
+    keeper: &mut MapKeeper,
+    position: u64,
+    end: &JobEdge,
+) -> Result<bool, KeepFail>
     ensures is { IfOk result (λ d. IsTrue d → IsNewOrigin (told_by keeper.old THERE).log (Merge 0 position) ⊎ HasStamp (told_by keeper.old THERE).log end.now) }
     ensures stays { Stays (told_by keeper.old) (told_by keeper.new) }
 {
-    if is_new(keeper, position)? {
+    if misses_merge(keeper, position)? {
         return Ok(true);
     }
-    is_there(keeper, end)
+    look_for_record(keeper, end)
 }
 
 /// Whether the record is of an edge from the shard of the other ends to the first shard, with a small stamp.

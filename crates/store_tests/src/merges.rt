@@ -4,7 +4,7 @@ ghost use Rattle.keeper_map.specs.MapKeeper.{told_by};
 ghost use Rattle.shard_tables.specs.Stores.{IsStoreOf};
 ghost use Rattle.shard_tables.specs.declared.store.Role.TheVariants.{Master};
 
-use crate::due::{THERE, is_due, is_of_there, job_of};
+use crate::due::{THERE, check_due, is_of_there, job_of};
 use crate::fixtures::{FAR, LIKED_BY, id, named};
 use keeper_map::{Fails, MapKeeper};
 use shard_tables::StoreNode;
@@ -55,7 +55,7 @@ fn merge(
     ensures keeper { OnOk result (IsStoreOf true (told_by keeper.new) store.new) }
 {
     let end = due_end(alloc, due)?;
-    if due.position == 0 || !is_of_there(&end) || !is_due(keeper, due.position, &end)? {
+    if due.position == 0 || !is_of_there(&end) || !check_due(keeper, due.position, &end)? {
         return Err("a job that may not be merged")?;
     }
     let job = job_of(alloc, due.position, end)?;

@@ -6,7 +6,7 @@ use Rattle.std.specs.List.Sorted.{IsPartitionedBy, IsPartitionPoint}
 use Rattle.std.proofs.lemmas.Bool.{cases_Bool}
 use Rattle.std.proofs.lemmas.Bool.Decides.{nat_tests}
 use Rattle.std.proofs.lemmas.Option.{slice_get_past, slice_get_read}
-use Rattle.tao_core.specs.Sessions.{AreInOrder, is_open, with_session}
+use Rattle.tao_core.specs.Sessions.{HaveRisingNumbers, is_open, with_session}
 use Rattle.tao_core.specs.declared.sessions.OpenSession.{OpenSession}
 
 above_trans : (m n : ℕ) (xs : List OpenSession) → m < n → AllByRecursion (λ o. n < o.session) xs → AllByRecursion (λ o. m < o.session) xs
@@ -14,15 +14,15 @@ above_trans m n [] h above = tt
 above_trans m n (x ∷ xs) h above = (omega (arith, above.0), above_trans m n xs h above.1)
 
 -- the first number is below all others
-above_first : (x : OpenSession) (xs : List OpenSession) → AreInOrder (x ∷ xs) → AllByRecursion (λ o. x.session < o.session) xs
+above_first : (x : OpenSession) (xs : List OpenSession) → HaveRisingNumbers (x ∷ xs) → AllByRecursion (λ o. x.session < o.session) xs
 above_first x [] up = tt
 above_first x (y ∷ ys) up = (up.0, above_trans x.session y.session ys up.0 (above_first y ys up.1))
 
-rest_in_order : (x : OpenSession) (xs : List OpenSession) → AreInOrder (x ∷ xs) → AreInOrder xs
+rest_in_order : (x : OpenSession) (xs : List OpenSession) → HaveRisingNumbers (x ∷ xs) → HaveRisingNumbers xs
 rest_in_order x [] up = tt
 rest_in_order x (y ∷ ys) up = up.1
 
-put_first : (x : OpenSession) (xs : List OpenSession) → AllByRecursion (λ o. x.session < o.session) xs → AreInOrder xs → AreInOrder (x ∷ xs)
+put_first : (x : OpenSession) (xs : List OpenSession) → AllByRecursion (λ o. x.session < o.session) xs → HaveRisingNumbers xs → HaveRisingNumbers (x ∷ xs)
 put_first x [] above up = tt
 put_first x (y ∷ ys) above up = (above.0, up)
 
@@ -35,7 +35,7 @@ lower_too : (m n t : ℕ) → m < n → nat_lt n t ≡ true → nat_lt m t ≡ t
 lower_too m n t h on = grind (arith, nat_tests)
 
 -- the sessions of lower numbers stand first
-pub lower_first : (n : ℕ) (xs : List OpenSession) → AreInOrder xs → IsPartitionedBy (λ o. nat_lt o.session n) xs
+pub lower_first : (n : ℕ) (xs : List OpenSession) → HaveRisingNumbers xs → IsPartitionedBy (λ o. nat_lt o.session n) xs
 lower_first n [] up i j d l h on = absurd (omega arith)
 lower_first n (x ∷ xs) up zero zero d l h on = on
 lower_first n (x ∷ xs) up zero (suc j) d l h on = lower_too x.session (get_or xs j d).session n (above_at x.session xs (above_first x xs up) j d (omega arith)) on
@@ -71,7 +71,7 @@ neither true b h = cc
 neither false b h = (refl, h)
 
 -- what is not lower and not the same is above, and so is all behind it
-above_all : (n : ℕ) (x : OpenSession) (xs : List OpenSession) → AreInOrder (x ∷ xs) → n < x.session → AllByRecursion (λ o. n < o.session) (x ∷ xs)
+above_all : (n : ℕ) (x : OpenSession) (xs : List OpenSession) → HaveRisingNumbers (x ∷ xs) → n < x.session → AllByRecursion (λ o. n < o.session) (x ∷ xs)
 above_all n x xs up h = (h, above_trans n x.session xs h (above_first x xs up))
 
 lower_of_two : (m n : ℕ) → nat_lt m n ≡ true → nat_lt n m ≡ false
@@ -81,7 +81,7 @@ lower_differs : (m n : ℕ) → nat_lt m n ≡ true → (m == n) ≡ false
 lower_differs m n h = grind (arith, nat_tests)
 
 -- a session goes to the place behind those of lower numbers
-pub insert_at : (new : OpenSession) (xs : List OpenSession) (i : ℕ) → AreInOrder xs → is_open xs new.session ≡ false
+pub insert_at : (new : OpenSession) (xs : List OpenSession) (i : ℕ) → HaveRisingNumbers xs → is_open xs new.session ≡ false
     → IsPartitionPoint (λ o. nat_lt o.session new.session ≡ true) (λ o. nat_lt o.session new.session ≡ false) xs i → i ≤ length xs
     → insert xs i new ≡ with_session new xs
 insert_at new [] zero up none point le = refl
@@ -117,7 +117,7 @@ lt_from_lower : (m n : ℕ) → nat_lt m n ≡ true → m < n
 lt_from_lower m n h = grind (arith, nat_tests)
 
 -- the order stays
-pub with_in_order : (new : OpenSession) (xs : List OpenSession) → AreInOrder xs → is_open xs new.session ≡ false → AreInOrder (with_session new xs)
+pub with_in_order : (new : OpenSession) (xs : List OpenSession) → HaveRisingNumbers xs → is_open xs new.session ≡ false → HaveRisingNumbers (with_session new xs)
 with_in_order new [] up none = tt
 with_in_order new (x ∷ xs) up none =
     let differs = neither (x.session == new.session) (is_open xs new.session) none in
@@ -138,7 +138,7 @@ is_found n None = false
 is_found n (Some o) = o.session == n
 
 -- a session that is open stands behind those of lower numbers
-pub found_at : (n : ℕ) (xs : List OpenSession) (i : ℕ) → AreInOrder xs
+pub found_at : (n : ℕ) (xs : List OpenSession) (i : ℕ) → HaveRisingNumbers xs
     → IsPartitionPoint (λ o. nat_lt o.session n ≡ true) (λ o. nat_lt o.session n ≡ false) xs i
     → is_found n (slice_get xs i) ≡ is_open xs n
 found_at n [] i up point = refl
@@ -155,18 +155,18 @@ found_at n (x ∷ xs) (suc i) up point =
 -- ---- over what the code holds
 
 -- a session that was put in its place
-pub added : (new : OpenSession) (view items slice after : List OpenSession) (i : ℕ) → items ≡ view → slice ≡ items → AreInOrder items → is_open view new.session ≡ false
+pub added : (new : OpenSession) (view items slice after : List OpenSession) (i : ℕ) → items ≡ view → slice ≡ items → HaveRisingNumbers items → is_open view new.session ≡ false
     → i ≤ length slice → IsPartitionPoint (λ o. nat_lt o.session new.session ≡ true) (λ o. nat_lt o.session new.session ≡ false) slice i → after ≡ insert items i new
-    → (after ≡ with_session new view) × AreInOrder after
+    → (after ≡ with_session new view) × HaveRisingNumbers after
 added new view items slice after i is lent up none within point put =
     let none_here : is_open items new.session ≡ false = rw is none in
     let point_here = subst (λ xs. IsPartitionPoint (λ o. nat_lt o.session new.session ≡ true) (λ o. nat_lt o.session new.session ≡ false) xs i) lent point in
     let within_here = subst (λ xs. i ≤ length xs) lent within in
     let at : after ≡ with_session new items = put ∙ insert_at new items i up none_here point_here within_here in
-    (at ∙ ap (with_session new) is, subst AreInOrder (sym at) (with_in_order new items up none_here))
+    (at ∙ ap (with_session new) is, subst HaveRisingNumbers (sym at) (with_in_order new items up none_here))
 
 -- a session that is found in its place
-pub found : (n : ℕ) (view items slice again : List OpenSession) (i : ℕ) (x : OpenSession) → items ≡ view → slice ≡ items → again ≡ items → AreInOrder items
+pub found : (n : ℕ) (view items slice again : List OpenSession) (i : ℕ) (x : OpenSession) → items ≡ view → slice ≡ items → again ≡ items → HaveRisingNumbers items
     → IsPartitionPoint (λ o. nat_lt o.session n ≡ true) (λ o. nat_lt o.session n ≡ false) slice i → true ≡ nat_lt i (length again) → x ≡ get_or again i x
     → (x.session == n) ≡ is_open view n
 found n view items slice again i x is lent lent_again up point within at =
@@ -179,7 +179,7 @@ not_lt : (m n : ℕ) → false ≡ nat_lt m n → n ≤ m
 not_lt m n h = grind (arith, nat_tests)
 
 -- no session is found in its place
-pub found_none : (n : ℕ) (view items slice again : List OpenSession) (i : ℕ) → items ≡ view → slice ≡ items → again ≡ items → AreInOrder items
+pub found_none : (n : ℕ) (view items slice again : List OpenSession) (i : ℕ) → items ≡ view → slice ≡ items → again ≡ items → HaveRisingNumbers items
     → IsPartitionPoint (λ o. nat_lt o.session n ≡ true) (λ o. nat_lt o.session n ≡ false) slice i → false ≡ nat_lt i (length again)
     → false ≡ is_open view n
 found_none n view items slice again i is lent lent_again up point past =

@@ -1,7 +1,8 @@
+pub mod AskedLemmas
 pub mod CallLemmas
+pub mod GrowingLemmas
 pub mod InOrder
 pub mod ReadLemmas
-pub mod RequestLemmas
+pub mod StepLemmas
 pub mod StoreLemmas
-pub mod Taken
 pub mod WriteLemmas

@@ -1,53 +1,66 @@
 -- The stores of a configuration, while one of them changes.
-use Rattle.std.proofs.Common.{◌≡◌, ◌≢◌, ◌⊎◌, ℕ, zero, suc, ◌+◌, ◌<◌, Bool, false, List, [], ◌∷◌, ◌++◌, length, Option, Some, None, Result, Ok, Err, refl, ap, sym, ◌∙◌, subst, inl, inr, arith, length-append}
+use Rattle.std.proofs.Common.{◌≡◌, ◌≢◌, ◌⊎◌, ℕ, zero, suc, ◌+◌, ◌<◌, nat_lt, Bool, true, false, List, [], ◌∷◌, ◌++◌, length, Option, Some, None, Result, Ok, Err, refl, ap, sym, ◌∙◌, subst, inl, inr, arith, length-append}
 use Rattle.std.specs.Prelude.{if◌then◌else◌, is_ok, is_err, slice_get, slice_index_or, slice_set}
-use Rattle.std.proofs.lemmas.Bool.{cases_eq}
+use Rattle.std.proofs.lemmas.Bool.{cases_Bool, cases_eq}
+use Rattle.std.proofs.lemmas.Bool.Decides.{nat_tests}
 use Rattle.std.proofs.lemmas.List.{length-set}
 use Rattle.std.proofs.lemmas.Option.{slice_get-get_or}
 use Rattle.tao_base.specs.declared.entry.Entry.{Entry}
 use Rattle.tao_base.specs.declared.id.StoreName.{StoreName}
 use Rattle.graph_model.specs.Soundness.{IsSoundOf}
 use Rattle.shard_tables.specs.StoreView.{Store}
-use Rattle.shard_tables.specs.Stores.{HasSeen, IsStoreOf, gained}
+use Rattle.shard_tables.specs.Stores.{HasSeen, IsStoreOf, store_with}
 use Rattle.tao_keeper.specs.declared.jobs.Job.{Job}
-use Rattle.shard_tables.specs.Written.{Gains}
+use Rattle.shard_tables.specs.Written.{TableGains}
 use Rattle.tao_keeper.specs.Table.{Table, Tables, Becomes, Stays, OpensAs, after_open}
 use Rattle.tao_keeper.specs.declared.keeper.Opened.TheVariants.{Ready, OtherLine}
 use Rattle.tao_schema.specs.Schema.{types_of}
 use Rattle.tao_schema.specs.declared.schema.Schema.{Schema}
 use Rattle.topology.specs.Config.{Settings}
+use Rattle.tao_keeper.proofs.Growing.{same_or_other}
 use Rattle.counts.proofs.Rises.{Rose-earlier}
 use Rattle.graph_model.proofs.Sound.{slice_get-push}
 use Rattle.graph_model.specs.Told.{WhereTold}
 use Rattle.replies.specs.declared.opening.OpenRefusal.{OpenRefusal}
 use Rattle.replies.specs.declared.opening.OpenRefusal.TheVariants as refusal
 use Rattle.tao_core.specs.Opening.{AreOpened, AreReady, HasOpenCause, IsOpened, IsUnmade, MayOpen, OpensOne, RefusesOpening}
-use Rattle.tao_core.specs.Shown.{IsLater, Shown}
-use Rattle.tao_core.specs.Stores.{AreSound, AreStores, AreStoresOf, HaveSeen, IsMasterOf, store_of}
+use Rattle.tao_keeper.specs.KeeperState.{IsLater, KeeperState}
+use Rattle.tao_core.specs.Stores.{HasSoundLogs, AreStores, AreStoresOf, HaveSeen, IsMasterOf, master_store}
 
 -- stores of different shards have different names
-pub other_store : (s : Settings) (m n : ℕ) → m ≢ n → store_of s m ≢ store_of s n
+pub other_store : (s : Settings) (m n : ℕ) → m ≢ n → master_store s m ≢ master_store s n
 other_store s m n differ same = differ (ap (λ at. at.shard) same)
+
+-- it is the store of one of the first shards, or of none
+pub first_or_other : (s : Settings) (count : ℕ) (at : StoreName)
+    → ((at.shard < count) × (at ≡ master_store s at.shard)) ⊎ ((shard : ℕ) → shard < count → at ≢ master_store s shard)
+first_or_other s count at = by_shard (cases_Bool (nat_lt at.shard count)) (same_or_other at (master_store s at.shard))
+  where
+    by_shard : (nat_lt at.shard count ≡ true) ⊎ (nat_lt at.shard count ≡ false) → (at ≡ master_store s at.shard) ⊎ (at ≢ master_store s at.shard)
+        → ((at.shard < count) × (at ≡ master_store s at.shard)) ⊎ ((shard : ℕ) → shard < count → at ≢ master_store s shard)
+    by_shard (inl lt) (inl is) = inl (grind (arith, nat_tests), is)
+    by_shard (inl lt) (inr isnt) = inr (λ shard within is. isnt (is ∙ ap (master_store s) (sym (ap (λ a. a.shard) is))))
+    by_shard (inr past) other = inr (λ shard within is. let shard_is : at.shard ≡ shard = ap (λ a. a.shard) is in absurd (grind (arith, nat_tests)))
 
 -- ---- soundness
 
-pub sound_same : (s : Settings) (old new : Tables) → AreSound s old → Stays old new → AreSound s new
+pub sound_same : (s : Settings) (old new : Tables) → HasSoundLogs s old → Stays old new → HasSoundLogs s new
 sound_same s old new sound stays shard lt =
-    let P : Table → Type 0 = λ t. IsSoundOf (types_of s.schema) shard t.log in subst P (sym (stays (store_of s shard))) (sound shard lt)
+    let P : Table → Type 0 = λ t. IsSoundOf (types_of s.schema) shard t.log in subst P (sym (stays (master_store s shard))) (sound shard lt)
 
 -- the logs stay sound where one of them gains an entry and stays so
-pub sound_after : (s : Settings) (old new : Tables) (shard : ℕ) (e : Option Entry) (job : Option Job) → AreSound s old → Gains old new (store_of s shard) e job
-    → IsSoundOf (types_of s.schema) shard (new (store_of s shard)).log → AreSound s new
+pub sound_after : (s : Settings) (old new : Tables) (shard : ℕ) (e : Option Entry) (job : Option Job) → HasSoundLogs s old → TableGains old new (master_store s shard) e job
+    → IsSoundOf (types_of s.schema) shard (new (master_store s shard)).log → HasSoundLogs s new
 sound_after s old new shard None job sound gains here n lt = sound_same s old new sound gains n lt
 sound_after s old new shard (Some entry) job sound gains here n lt = elim (cases_eq n shard) [
-  | inl same ↦ (let P : ℕ → Type 0 = λ k. IsSoundOf (types_of s.schema) k (new (store_of s k)).log in subst P (sym same) here)
+  | inl same ↦ (let P : ℕ → Type 0 = λ k. IsSoundOf (types_of s.schema) k (new (master_store s k)).log in subst P (sym same) here)
   | inr differ ↦ (
       let P : Table → Type 0 = λ t. IsSoundOf (types_of s.schema) n t.log in
-      subst P (sym (gains.others (store_of s n) (other_store s n shard differ))) (sound n lt))
+      subst P (sym (gains.others (master_store s n) (other_store s n shard differ))) (sound n lt))
 ]
 
 -- what opens leaves the logs
-pub sound_opened : (s : Settings) (line : List ℕ) (old new : Tables) → MayOpen s line old → IsOpened s line old new → AreSound s new
+pub sound_opened : (s : Settings) (line : List ℕ) (old new : Tables) → MayOpen s line old → IsOpened s line old new → HasSoundLogs s new
 sound_opened s line old new may is shard lt =
     let P : Table → Type 0 = λ t. IsSoundOf (types_of s.schema) shard t.log in
     subst P (sym (is.opened.stores shard lt)) (may shard lt (is.ready shard lt))
@@ -58,17 +71,17 @@ sound_opened s line old new may is shard lt =
 pub opened_none : (s : Settings) (line : List ℕ) (tables : Tables) → AreOpened s line 0 tables tables
 opened_none s line tables = record { stores = λ shard lt. absurd (omega arith); others = λ at h. refl }
 
-pub unopened : (s : Settings) (line : List ℕ) (count : ℕ) (old mid : Tables) → AreOpened s line count old mid → mid (store_of s count) ≡ old (store_of s count)
-unopened s line count old mid opened = opened.others (store_of s count) (λ shard lt same. other_store s count shard (λ e. omega arith) same)
+pub unopened : (s : Settings) (line : List ℕ) (count : ℕ) (old mid : Tables) → AreOpened s line count old mid → mid (master_store s count) ≡ old (master_store s count)
+unopened s line count old mid opened = opened.others (master_store s count) (λ shard lt same. other_store s count shard (λ e. omega arith) same)
 
 -- one more store is open
 pub opened_more : (s : Settings) (line : List ℕ) (count : ℕ) (old mid new : Tables) → AreOpened s line count old mid
-    → Becomes mid new (store_of s count) (after_open (mid (store_of s count)) line) → AreOpened s line (count + 1) old new
+    → Becomes mid new (master_store s count) (after_open (mid (master_store s count)) line) → AreOpened s line (count + 1) old new
 opened_more s line count old mid new opened becomes = record {
   stores = λ shard lt. elim (cases_eq shard count) [
-    | inl same ↦ subst (λ k. new (store_of s k) ≡ after_open (old (store_of s k)) line) (sym same)
+    | inl same ↦ subst (λ k. new (master_store s k) ≡ after_open (old (master_store s k)) line) (sym same)
         (becomes.here ∙ ap (λ t. after_open t line) (unopened s line count old mid opened))
-    | inr differ ↦ becomes.others (store_of s shard) (other_store s shard count differ) ∙ opened.stores shard (omega arith)
+    | inr differ ↦ becomes.others (master_store s shard) (other_store s shard count differ) ∙ opened.stores shard (omega arith)
   ];
   others = λ at h. becomes.others at (h count (omega arith)) ∙ opened.others at (λ shard lt. h shard (omega arith));
 }
@@ -76,15 +89,15 @@ opened_more s line count old mid new opened becomes = record {
 -- nothing changes
 pub opened_stays : (s : Settings) (line : List ℕ) (count : ℕ) (old mid new : Tables) → AreOpened s line count old mid → Stays mid new → AreOpened s line count old new
 opened_stays s line count old mid new opened stays = record {
-  stores = λ shard lt. stays (store_of s shard) ∙ opened.stores shard lt;
+  stores = λ shard lt. stays (master_store s shard) ∙ opened.stores shard lt;
   others = λ at h. stays at ∙ opened.others at h;
 }
 
 -- one more store is ready
 pub ready_more : (s : Settings) (line : List ℕ) (count : ℕ) (old mid : Tables) → AreOpened s line count old mid → AreReady s line count old
-    → OpensAs Ready (mid (store_of s count)) line → AreReady s line (count + 1) old
+    → OpensAs Ready (mid (master_store s count)) line → AreReady s line (count + 1) old
 ready_more s line count old mid opened ready here shard lt = elim (cases_eq shard count) [
-  | inl same ↦ subst (λ k. OpensAs Ready (old (store_of s k)) line) (sym same) (subst (λ t. OpensAs Ready t line) (unopened s line count old mid opened) here)
+  | inl same ↦ subst (λ k. OpensAs Ready (old (master_store s k)) line) (sym same) (subst (λ t. OpensAs Ready t line) (unopened s line count old mid opened) here)
   | inr differ ↦ ready shard (omega arith)
 ]
 
@@ -101,7 +114,7 @@ stores_more s count xs ys x are is pushed = record {
 }
 
 -- a store isn't opened: what was opened before it
-pub refused_opening : (T : Type 0) (tells : Bool) (s : Settings) (line : List ℕ) (shard : ℕ) (start old new : Shown) (r : OpenRefusal) → shard < s.shards
+pub refused_opening : (T : Type 0) (tells : Bool) (s : Settings) (line : List ℕ) (shard : ℕ) (start old new : KeeperState) (r : OpenRefusal) → shard < s.shards
     → WhereTold tells (AreOpened s line shard start.told old.told) → WhereTold tells (AreReady s line shard start.told) → IsLater start old
     → WhereTold tells (OpensOne {T = T} s line shard old.told new.told (Err r)) → HasOpenCause old.faults new.faults r → RefusesOpening tells s line start new r
 refused_opening T tells s line shard start old new refusal.KeeperFault configured opened ready before opens cause = (
@@ -119,7 +132,7 @@ refused_opening T tells s line shard start old new refusal.OutOfMemory configure
     λ told. record { count = shard; some = omega arith; opened = opened_stays s line shard start.told old.told new.told (opened told) (opens told) }
 
 -- a store isn't made: all are open
-pub refused_making : (tells : Bool) (s : Settings) (line : List ℕ) (start old new : Shown) (r : OpenRefusal) → WhereTold tells (IsOpened s line start.told old.told) → IsLater start old
+pub refused_making : (tells : Bool) (s : Settings) (line : List ℕ) (start old new : KeeperState) (r : OpenRefusal) → WhereTold tells (IsOpened s line start.told old.told) → IsLater start old
     → WhereTold tells (Stays old.told new.told) → IsUnmade old.faults new.faults r → RefusesOpening tells s line start new r
 refused_making tells s line start old new refusal.KeeperFault is before stays cause = (
   Rose-earlier start.faults old.faults new.faults before.faults cause,
@@ -200,23 +213,23 @@ stores_set s count xs place shard x are here is = record {
 }
 
 -- a master stays one when its log gains an entry
-pub master_gained : (s : Settings) (shard : ℕ) (x y : Store) (e : Option Entry) → IsMasterOf s shard x → y ≡ gained x e → IsMasterOf s shard y
+pub master_gained : (s : Settings) (shard : ℕ) (x y : Store) (e : Option Entry) → IsMasterOf s shard x → y ≡ store_with x e → IsMasterOf s shard y
 master_gained s shard x y e is grown =
-    let here : IsMasterOf s shard (gained x e) = record { name_is = is.name_is; limit_is = is.limit_is; role_is = is.role_is } in
+    let here : IsMasterOf s shard (store_with x e) = record { name_is = is.name_is; limit_is = is.limit_is; role_is = is.role_is } in
     subst (IsMasterOf s shard) (sym grown) here
 
 -- only the table of that store changes
-other_stays : (old new : Tables) (at other : StoreName) (e : Option Entry) (job : Option Job) → Gains old new at e job → other ≢ at → new other ≡ old other
+other_stays : (old new : Tables) (at other : StoreName) (e : Option Entry) (job : Option Job) → TableGains old new at e job → other ≢ at → new other ≡ old other
 other_stays old new at other None job gains differ = gains other
 other_stays old new at other (Some entry) job gains differ = gains.others other differ
 
 -- a store has seen its log at the place of one whose table alone changed
 pub seen_set : (tells : Bool) (s : Settings) (old new : Tables) (xs : List Store) (place shard : ℕ) (y : Store) (added : Option Entry) (job : Option Job) → AreStores s s.shards xs → HaveSeen tells old xs → place ≡ shard
-    → IsStoreOf tells new y → WhereTold tells (Gains old new (store_of s shard) added job) → HaveSeen tells new (slice_set xs place y)
+    → IsStoreOf tells new y → WhereTold tells (TableGains old new (master_store s shard) added job) → HaveSeen tells new (slice_set xs place y)
 seen_set tells s old new xs place shard y added job are seen here is gains n store h = elim (slice_get_set xs place y n store h) [
   | inl e ↦ (
-      let named : store.name ≡ store_of s n = (are.each n store e.1).name_is in
-      let differ : store.name ≢ store_of s shard = λ same. other_store s n shard (λ k. e.0 (k ∙ sym here)) (sym named ∙ same) in
-      seen_here tells old new store (seen n store e.1) (λ told. other_stays old new (store_of s shard) store.name added job (gains told) differ))
+      let named : store.name ≡ master_store s n = (are.each n store e.1).name_is in
+      let differ : store.name ≢ master_store s shard = λ same. other_store s n shard (λ k. e.0 (k ∙ sym here)) (sym named ∙ same) in
+      seen_here tells old new store (seen n store e.1) (λ told. other_stays old new (master_store s shard) store.name added job (gains told) differ))
   | inr e ↦ subst (IsStoreOf tells new) e.1 is
 ]

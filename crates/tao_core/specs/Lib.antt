@@ -1,8 +1,7 @@
 pub mod Asked
 pub mod Core
+pub mod Growing
 pub mod Opening
 pub mod Replies
-pub mod Resolved
 pub mod Sessions
-pub mod Shown
 pub mod Stores

@@ -4,25 +4,25 @@ use Rattle.counts.specs.Count.{Rose}
 use Rattle.tao_base.specs.declared.id.StoreName.{StoreName}
 use Rattle.graph_model.specs.Told.{WhereTold}
 use Rattle.graph_model.specs.Soundness.{IsSoundOf}
+use Rattle.tao_keeper.specs.KeeperState.{KeeperState}
 use Rattle.tao_keeper.specs.Table.{Tables, Becomes, OpensAs, Stays, after_open}
 use Rattle.tao_keeper.specs.declared.keeper.KeepFail.{KeepFail}
 use Rattle.tao_keeper.specs.declared.keeper.KeepFail.TheVariants as keep
 use Rattle.tao_keeper.specs.declared.keeper.Opened.TheVariants.{Ready, OtherLine}
 use Rattle.tao_schema.specs.Schema.{types_of}
 use Rattle.topology.specs.Config.{Settings}
-use Rattle.tao_core.specs.Shown.{Shown}
-use Rattle.tao_core.specs.Stores.{store_of}
+use Rattle.tao_core.specs.Stores.{master_store}
 use Rattle.replies.specs.declared.opening.OpenRefusal.{OpenRefusal}
 use Rattle.replies.specs.declared.opening.OpenRefusal.TheVariants as refusal
 
 -- the stores of the first shards, so many, were opened with the line, and no other table changed
 pub record AreOpened (s : Settings) (line : List ℕ) (count : ℕ) (old new : Tables) : Type 0 where
-  pub stores : (shard : ℕ) → shard < count → new (store_of s shard) ≡ after_open (old (store_of s shard)) line
-  pub others : (at : StoreName) → ((shard : ℕ) → shard < count → at ≢ store_of s shard) → new at ≡ old at
+  pub stores : (shard : ℕ) → shard < count → new (master_store s shard) ≡ after_open (old (master_store s shard)) line
+  pub others : (at : StoreName) → ((shard : ℕ) → shard < count → at ≢ master_store s shard) → new at ≡ old at
 
 -- each of the first stores takes the line: it was opened with it before, or is opened first
 abbrev pub AreReady : Settings → List ℕ → ℕ → Tables → Type 0
-AreReady s line count tables = (shard : ℕ) → shard < count → OpensAs Ready (tables (store_of s shard)) line
+AreReady s line count tables = (shard : ℕ) → shard < count → OpensAs Ready (tables (master_store s shard)) line
 
 -- every store takes the line, and is open
 pub record IsOpened (s : Settings) (line : List ℕ) (old new : Tables) : Type 0 where
@@ -34,7 +34,7 @@ pub record IsOtherLine (s : Settings) (line : List ℕ) (old new : Tables) : Typ
   pub shard : ℕ
   pub configured : shard < s.shards
   pub ready : AreReady s line shard old
-  pub other : OpensAs OtherLine (old (store_of s shard)) line
+  pub other : OpensAs OtherLine (old (master_store s shard)) line
   pub opened : AreOpened s line (shard + 1) old new
 
 -- some of the first stores are open
@@ -44,7 +44,7 @@ pub record IsOpenedInPart (s : Settings) (line : List ℕ) (old new : Tables) : 
   pub opened : AreOpened s line count old new
 
 -- why the stores could not be opened, and what was opened
-abbrev pub RefusesOpening : Bool → Settings → List ℕ → Shown → Shown → OpenRefusal → Type 0
+abbrev pub RefusesOpening : Bool → Settings → List ℕ → KeeperState → KeeperState → OpenRefusal → Type 0
 RefusesOpening tells s line old new refusal.KeeperFault = Rose old.faults new.faults × WhereTold tells (IsOpenedInPart s line old.told new.told)
 RefusesOpening tells s line old new refusal.OtherLine = WhereTold tells (IsOtherLine s line old.told new.told)
 RefusesOpening tells s line old new refusal.OutOfMemory = WhereTold tells (IsOpenedInPart s line old.told new.told)
@@ -52,14 +52,16 @@ RefusesOpening tells s line old new refusal.OutOfMemory = WhereTold tells (IsOpe
 -- ---- the opening of one store
 
 -- why the keeper's call gives no answer
-abbrev pub refusal_of : KeepFail → OpenRefusal
-refusal_of keep.Failed = refusal.KeeperFault
-refusal_of keep.OutOfMemory = refusal.OutOfMemory
+abbrev pub open_refusal : KeepFail → OpenRefusal
+open_refusal keep.Failed = refusal.KeeperFault
+open_refusal keep.OutOfMemory = refusal.OutOfMemory
 
 -- the store of the shard is opened, unless the keeper fails; how it takes the line is what is answered
 abbrev pub OpensOne : {T : Type 0} → Settings → List ℕ → ℕ → Tables → Tables → Result T OpenRefusal → Type 0
-OpensOne s line shard old new (Ok opened) = OpensAs Ready (old (store_of s shard)) line × Becomes old new (store_of s shard) (after_open (old (store_of s shard)) line)
-OpensOne s line shard old new (Err refusal.OtherLine) = OpensAs OtherLine (old (store_of s shard)) line × Becomes old new (store_of s shard) (after_open (old (store_of s shard)) line)
+OpensOne s line shard old new (Ok opened) = OpensAs Ready (old (master_store s shard)) line
+    × Becomes old new (master_store s shard) (after_open (old (master_store s shard)) line)
+OpensOne s line shard old new (Err refusal.OtherLine) = OpensAs OtherLine (old (master_store s shard)) line
+    × Becomes old new (master_store s shard) (after_open (old (master_store s shard)) line)
 OpensOne s line shard old new (Err refusal.KeeperFault) = Stays old new
 OpensOne s line shard old new (Err refusal.OutOfMemory) = Stays old new
 
@@ -81,5 +83,5 @@ IsUnmade before now refusal.OutOfMemory = ⊤
 
 -- the logs of the stores that take the line are sound with the types of the configuration
 abbrev pub MayOpen : Settings → List ℕ → Tables → Type 0
-MayOpen s line tables = (shard : ℕ) → shard < s.shards → OpensAs Ready (tables (store_of s shard)) line
-    → IsSoundOf (types_of s.schema) shard (tables (store_of s shard)).log
+MayOpen s line tables = (shard : ℕ) → shard < s.shards → OpensAs Ready (tables (master_store s shard)) line
+    → IsSoundOf (types_of s.schema) shard (tables (master_store s shard)).log

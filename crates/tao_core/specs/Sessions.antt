@@ -5,8 +5,8 @@ use Rattle.tao_base.specs.Ids.{IsRising}
 use Rattle.tao_core.specs.declared.sessions.OpenSession.{OpenSession}
 
 -- the numbers rise
-abbrev pub AreInOrder : List OpenSession → Type 0
-AreInOrder sessions = IsRising (map (λ o. o.session) sessions)
+abbrev pub HaveRisingNumbers : List OpenSession → Type 0
+HaveRisingNumbers sessions = IsRising (map (λ o. o.session) sessions)
 
 -- whether the session is open
 abbrev pub is_open : List OpenSession → ℕ → Bool

@@ -2,10 +2,9 @@
 ghost use Rattle.std.specs.Prelude.{◌≡◌, IfErr, IfOk};
 ghost use Rattle.graph_model.specs.Told.{WhereTold};
 ghost use Rattle.shard_tables.specs.Stores.{IsStoreOf};
-ghost use Rattle.tao_core.specs.Opening.{HasOpenCause, IsOpened, IsUnmade, OpensOne, RefusesOpening, refusal_of};
-ghost use Rattle.tao_core.specs.Shown.{IsLater, shown};
-ghost use Rattle.tao_core.specs.Stores.{AreStores, HaveSeen, IsMasterOf, store_of};
-ghost use Rattle.tao_keeper.specs.Table.{Stays};
+ghost use Rattle.tao_core.specs.Opening.{HasOpenCause, IsOpened, IsUnmade, OpensOne, RefusesOpening, open_refusal};
+ghost use Rattle.tao_core.specs.Stores.{AreStores, HaveSeen, IsMasterOf, master_store};
+ghost use Rattle.tao_keeper.specs.KeeperState.{IsLater, KeepsTables};
 
 use replies::OpenRefusal;
 use shard_tables::{StoreNode, StoreRefusal};
@@ -15,16 +14,16 @@ use tao_keeper::{KeepFail, Keeper, Opened};
 use topology::Config;
 
 /// The name of a shard's store: in the shard's master region.
-pub(crate) fn store_of(config: &Config, shard: u16) -> StoreName
-    ensures { result ≡ store_of config.now shard }
+pub(crate) fn master_store(config: &Config, shard: u16) -> StoreName
+    ensures { result ≡ master_store config.now shard }
 {
     let masters = config.masters.as_slice();
     let region = masters[usize::from(shard) % masters.len()];
     StoreName { region, shard }
 }
 
-fn refusal_of(fail: KeepFail) -> OpenRefusal
-    ensures { result ≡ refusal_of fail }
+fn open_refusal(fail: KeepFail) -> OpenRefusal
+    ensures { result ≡ open_refusal fail }
 {
     match fail {
         KeepFail::Failed => OpenRefusal::KeeperFault,
@@ -39,22 +38,22 @@ fn open_line<K: Keeper>(
     keepers: &mut K,
     shard: u16,
 ) -> Result<(), OpenRefusal>
-    ensures opens { WhereTold K.TELLS (OpensOne config.now line.now shard (K.told keepers.old) (K.told keepers.new) result) }
-    ensures cause { IfErr result (HasOpenCause (K.faults keepers.old) (K.faults keepers.new)) }
-    ensures later { IsLater (shown K.told K.calls K.faults keepers.old) (shown K.told K.calls K.faults keepers.new) }
+    ensures opens { WhereTold K.TELLS (OpensOne config.now line.now shard (K.state keepers.old).told (K.state keepers.new).told result) }
+    ensures cause { IfErr result (HasOpenCause (K.state keepers.old).faults (K.state keepers.new).faults) }
+    ensures later { IsLater (K.state keepers.old) (K.state keepers.new) }
 {
-    match keepers.open(store_of(config, shard), line) {
+    match keepers.open(master_store(config, shard), line) {
         Ok(Opened::Ready) => Ok(()),
         Ok(Opened::OtherLine) => Err(OpenRefusal::OtherLine),
-        Err(fail) => Err(refusal_of(fail)),
+        Err(fail) => Err(open_refusal(fail)),
     }
 }
 
 /// Opens the stores of all shards with the line, in order. One call of the keeper for each.
 fn open_lines<K: Keeper>(config: &Config, line: &[u8], keepers: &mut K) -> Result<(), OpenRefusal>
-    ensures opened { WhereTold K.TELLS (IfOk result (λ _. IsOpened config.now line.now (K.told keepers.old) (K.told keepers.new))) }
-    ensures refused { IfErr result (RefusesOpening K.TELLS config.now line.now (shown K.told K.calls K.faults keepers.old) (shown K.told K.calls K.faults keepers.new)) }
-    ensures later { IsLater (shown K.told K.calls K.faults keepers.old) (shown K.told K.calls K.faults keepers.new) }
+    ensures opened { WhereTold K.TELLS (IfOk result (λ _. IsOpened config.now line.now (K.state keepers.old).told (K.state keepers.new).told)) }
+    ensures refused { IfErr result (RefusesOpening K.TELLS config.now line.now (K.state keepers.old) (K.state keepers.new)) }
+    ensures later { IsLater (K.state keepers.old) (K.state keepers.new) }
 {
     for shard in 0..config.shards {
         open_line(config, line, keepers, shard)?;
@@ -71,12 +70,12 @@ fn make_store<K: Keeper>(
     shard: u16,
 ) -> Result<StoreNode, OpenRefusal>
     ensures store { IfOk result (IsMasterOf config.now shard) }
-    ensures seen { IfOk result (IsStoreOf K.TELLS (K.told keepers.new)) }
-    ensures unmade { IfErr result (IsUnmade (K.faults keepers.old) (K.faults keepers.new)) }
-    ensures stays { WhereTold K.TELLS (Stays (K.told keepers.old) (K.told keepers.new)) }
-    ensures later { IsLater (shown K.told K.calls K.faults keepers.old) (shown K.told K.calls K.faults keepers.new) }
+    ensures seen { IfOk result (IsStoreOf K.TELLS (K.state keepers.new).told) }
+    ensures unmade { IfErr result (IsUnmade (K.state keepers.old).faults (K.state keepers.new).faults) }
+    ensures stays { KeepsTables K.TELLS (K.state keepers.old) (K.state keepers.new) }
+    ensures later { IsLater (K.state keepers.old) (K.state keepers.new) }
 {
-    match StoreNode::open_master(alloc, keepers, store_of(config, shard), config.log_max) {
+    match StoreNode::open_master(alloc, keepers, master_store(config, shard), config.log_max) {
         Ok(store) => Ok(store),
         Err(StoreRefusal::KeeperFault) => Err(OpenRefusal::KeeperFault),
         Err(StoreRefusal::OutOfMemory) => Err(OpenRefusal::OutOfMemory),
@@ -92,10 +91,10 @@ fn make_stores<K: Keeper>(
     keepers: &mut K,
 ) -> Result<Vec<StoreNode>, OpenRefusal>
     ensures stores { IfOk result (λ stores. AreStores config.now config.now.shards stores.items) }
-    ensures seen { IfOk result (λ stores. HaveSeen K.TELLS (K.told keepers.new) stores.items) }
-    ensures unmade { IfErr result (IsUnmade (K.faults keepers.old) (K.faults keepers.new)) }
-    ensures stays { WhereTold K.TELLS (Stays (K.told keepers.old) (K.told keepers.new)) }
-    ensures later { IsLater (shown K.told K.calls K.faults keepers.old) (shown K.told K.calls K.faults keepers.new) }
+    ensures seen { IfOk result (λ stores. HaveSeen K.TELLS (K.state keepers.new).told stores.items) }
+    ensures unmade { IfErr result (IsUnmade (K.state keepers.old).faults (K.state keepers.new).faults) }
+    ensures stays { KeepsTables K.TELLS (K.state keepers.old) (K.state keepers.new) }
+    ensures later { IsLater (K.state keepers.old) (K.state keepers.new) }
 {
     let mut stores = Vec::new(alloc);
     for shard in 0..config.shards {
@@ -116,10 +115,10 @@ pub(crate) fn open_stores<K: Keeper>(
     keepers: &mut K,
 ) -> Result<Vec<StoreNode>, OpenRefusal>
     ensures stores { IfOk result (λ stores. AreStores config.now config.now.shards stores.items) }
-    ensures seen { IfOk result (λ stores. HaveSeen K.TELLS (K.told keepers.new) stores.items) }
-    ensures opened { WhereTold K.TELLS (IfOk result (λ _. IsOpened config.now line.now (K.told keepers.old) (K.told keepers.new))) }
-    ensures refused { IfErr result (RefusesOpening K.TELLS config.now line.now (shown K.told K.calls K.faults keepers.old) (shown K.told K.calls K.faults keepers.new)) }
-    ensures later { IsLater (shown K.told K.calls K.faults keepers.old) (shown K.told K.calls K.faults keepers.new) }
+    ensures seen { IfOk result (λ stores. HaveSeen K.TELLS (K.state keepers.new).told stores.items) }
+    ensures opened { WhereTold K.TELLS (IfOk result (λ _. IsOpened config.now line.now (K.state keepers.old).told (K.state keepers.new).told)) }
+    ensures refused { IfErr result (RefusesOpening K.TELLS config.now line.now (K.state keepers.old) (K.state keepers.new)) }
+    ensures later { IsLater (K.state keepers.old) (K.state keepers.new) }
 {
     open_lines(config, line, keepers)?;
     make_stores(alloc, config, keepers)

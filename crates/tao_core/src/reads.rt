@@ -1,22 +1,19 @@
 //! The reads of sessions, and audits.
-ghost use Rattle.std.specs.Prelude.{◌≡◌};
+ghost use Rattle.std.specs.Prelude.{◌≡◌, IfOk};
 ghost use Rattle.tao_base.specs.Queries.{query_key};
-ghost use Rattle.tao_base.specs.Keys.{key_shard};
-ghost use Rattle.graph_model.specs.Told.{WhereTold};
 ghost use Rattle.shard_tables.specs.ReadOuts.{IsFor};
-ghost use Rattle.tao_core.specs.Replies.{DoesAudit, DoesRead, TellsFound, kind_of_query};
-ghost use Rattle.tao_core.specs.Resolved.{IsQueryHere};
-ghost use Rattle.tao_core.specs.Shown.{IsLater, shown};
+ghost use Rattle.request_check.specs.Placed.{IsPlacedKey};
+ghost use Rattle.tao_core.specs.Replies.{AnswersAudit, AnswersRead, IsReadOff, IsReadReply, query_word};
 ghost use Rattle.tao_core.specs.Stores.{AreStoresOf};
-ghost use Rattle.tao_keeper.specs.Table.{Stays};
+ghost use Rattle.tao_keeper.specs.KeeperState.{IsLater, KeepsTables};
 ghost use Rattle.tao_schema.specs.Schema.{types_of};
 
-use crate::opening::store_of;
+use crate::opening::master_store;
 use crate::refusals::{failed_as, out_of_memory, refused_as};
 use plain_graph::answer;
 use replies::{CallReply, ReadReply, Reply};
 use request_check::CheckedRead;
-use shard_tables::{ReadOut, StoreNode, log_of};
+use shard_tables::{ReadOut, StoreNode, StoreRefusal, log_of};
 use std::alloc::Global;
 use tao_base::{OutOfMemory, Query};
 use tao_keeper::Keeper;
@@ -24,8 +21,8 @@ use topology::Config;
 use words::ReadWord;
 
 /// Which read it is.
-fn kind_of(query: &Query) -> ReadWord
-    ensures { result ≡ kind_of_query query.now }
+fn query_word(query: &Query) -> ReadWord
+    ensures { result ≡ query_word query.now }
 {
     match query {
         Query::ObjGet { .. } => ReadWord::ObjGet,
@@ -37,19 +34,35 @@ fn kind_of(query: &Query) -> ReadWord
 }
 
 /// The reply to a read, of what its store handed out for it. Copies the answer.
-fn reply_of(out: ReadOut, config: &Config, query: &Query) -> Reply
+fn reply_off(out: ReadOut, config: &Config, query: &Query) -> Reply
     requires { IsFor (types_of config.now.schema) query.now out }
-    ensures { TellsFound (types_of config.now.schema) query.now out result }
+    ensures { IsReadOff (types_of config.now.schema) query.now out result }
 {
     match out.found(&config.schema, query) {
         Ok(found) => {
             Reply::Called(CallReply::Read(ReadReply {
-                word: kind_of(query),
+                word: query_word(query),
                 answer: found.answer,
                 version: found.version,
             }))
         }
         Err(OutOfMemory) => out_of_memory(),
+    }
+}
+
+/// The reply to a read, of what its store answered, where the keepers have counted so many faults.
+fn reply_to(
+    out: Result<ReadOut, StoreRefusal>,
+    config: &Config,
+    query: &Query,
+    faults: u64,
+) -> Reply
+    requires { IfOk out (IsFor (types_of config.now.schema) query.now) }
+    ensures { IsReadReply (types_of config.now.schema) query.now out faults result }
+{
+    match out {
+        Ok(out) => reply_off(out, config, query),
+        Err(refusal) => refused_as(refusal, faults),
     }
 }
 
@@ -61,18 +74,17 @@ pub(crate) fn read<K: Keeper>(
     keepers: &mut K,
     call: &CheckedRead,
 ) -> Reply
-    requires here { IsQueryHere config.now call.now.query }
-    requires stores { AreStoresOf K.TELLS config.now (K.told keepers.old) stores.old }
-    ensures does { DoesRead K.TELLS config.now (shown K.told K.calls K.faults keepers.old) call.now result (shown K.told K.calls K.faults keepers.new) }
-    ensures stores { AreStoresOf K.TELLS config.now (K.told keepers.new) stores.new }
-    ensures later { IsLater (shown K.told K.calls K.faults keepers.old) (shown K.told K.calls K.faults keepers.new) }
+    requires here { IsPlacedKey config.now (query_key call.now.query) }
+    requires stores { AreStoresOf K.TELLS config.now (K.state keepers.old).told stores.old }
+    ensures does { AnswersRead K.TELLS config.now (K.state keepers.old) call.now result (K.state keepers.new) }
+    ensures stores { AreStoresOf K.TELLS config.now (K.state keepers.new).told stores.new }
+    ensures stays { KeepsTables K.TELLS (K.state keepers.old) (K.state keepers.new) }
+    ensures later { IsLater (K.state keepers.old) (K.state keepers.new) }
 {
     let place = usize::from(call.query.shard());
     let store = &mut stores[place];
-    match store.read(alloc, keepers, &config.schema, &call.query) {
-        Ok(out) => reply_of(out, config, &call.query),
-        Err(refusal) => refused_as(refusal, keepers.faults()),
-    }
+    let out = store.read(alloc, keepers, &config.schema, &call.query);
+    reply_to(out, config, &call.query, keepers.faults())
 }
 
 /// Answers an audit from all entries of the log of the query's shard, as the definitions say. Costs
@@ -83,11 +95,11 @@ pub(crate) fn audit<K: Keeper>(
     keepers: &mut K,
     call: &CheckedRead,
 ) -> Reply
-    ensures does { DoesAudit K.TELLS config.now (shown K.told K.calls K.faults keepers.old) call.now result (shown K.told K.calls K.faults keepers.new) }
-    ensures stays { WhereTold K.TELLS (Stays (K.told keepers.old) (K.told keepers.new)) }
-    ensures later { IsLater (shown K.told K.calls K.faults keepers.old) (shown K.told K.calls K.faults keepers.new) }
+    ensures does { AnswersAudit K.TELLS config.now (K.state keepers.old) call.now result (K.state keepers.new) }
+    ensures stays { KeepsTables K.TELLS (K.state keepers.old) (K.state keepers.new) }
+    ensures later { IsLater (K.state keepers.old) (K.state keepers.new) }
 {
-    let at = store_of(config, call.query.shard());
+    let at = master_store(config, call.query.shard());
     let log = match log_of(alloc, keepers, at) {
         Ok(log) => log,
         Err(fail) => return failed_as(fail, keepers.faults()),

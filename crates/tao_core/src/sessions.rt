@@ -1,7 +1,7 @@
 //! The sessions that are open.
 ghost use Rattle.std.specs.Prelude.{◌≤◌, length, nat_lt, true, false, ◌≡◌};
 ghost use Rattle.std.specs.List.Sorted.{IsPartitionPoint};
-ghost use Rattle.tao_core.specs.Sessions.{AreInOrder};
+ghost use Rattle.tao_core.specs.Sessions.{HaveRisingNumbers};
 
 use std::alloc::{AllocError, Global};
 use std::marker::Model;
@@ -22,14 +22,14 @@ pub(crate) struct Sessions {
 
 impl Model for Sessions {
     ghost use Rattle.std.specs.Prelude.{List};
-    ghost use Rattle.tao_core.specs.Sessions.{AreInOrder};
+    ghost use Rattle.tao_core.specs.Sessions.{HaveRisingNumbers};
     ghost use Rattle.tao_core.specs.declared.sessions.OpenSession.{OpenSession as One};
 
     ghost Value = { List One };
 
     ghost view = { λ s. s.sessions.items };
 
-    ghost invariant = { λ s. AreInOrder s.sessions.items };
+    ghost invariant = { λ s. HaveRisingNumbers s.sessions.items };
 }
 
 impl Sessions {
@@ -77,7 +77,7 @@ impl Sessions {
 
 /// How many sessions have lower numbers: these stand first.
 fn place_of(sessions: &[OpenSession], session: u32) -> usize
-    requires { AreInOrder sessions.now }
+    requires { HaveRisingNumbers sessions.now }
     ensures within { result ≤ length sessions.now }
     ensures place { IsPartitionPoint (λ o. nat_lt o.session session ≡ true) (λ o. nat_lt o.session session ≡ false) sessions.now result }
 {

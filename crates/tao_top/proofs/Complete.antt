@@ -1,9 +1,9 @@
 -- A good run where nothing fails ends well, or for want of memory.
-use Rattle.std.proofs.Common.{◌≡◌, ◌⊎◌, ◌<◌, ◌≤◌, ◌^◌, ℕ, Bool, List, [], ◌∷◌, ◌++◌, length, Option, IfSome, inl, inr, refl, sym, subst, ◌∙◌, lit<, arith}
+use Rattle.std.proofs.Common.{◌≡◌, ◌⊎◌, ◌≤◌, ◌^◌, ℕ, Bool, List, [], ◌∷◌, ◌++◌, length, Option, IfSome, inl, inr, refl, sym, subst, ◌∙◌, lit<, arith}
+use Rattle.tao_keeper.specs.KeeperState.{KeeperState}
 use Rattle.tao_io.specs.Lines.{lines_of}
 use Rattle.tao_core.specs.Opening.{AreReady}
-use Rattle.tao_core.specs.Shown.{Shown}
-use Rattle.tao_top.specs.Served.{AreLines, LinesBegin, RefusesConfiguration, IsRefused}
+use Rattle.tao_top.specs.Served.{AreLines, LinesBegin, RefusesConfiguration, IsConfigurationRefused}
 use Rattle.tao_top.specs.Status.{IsGood, IsStatus, NoFault}
 use Rattle.tao_top.specs.Step.{Configures, ended}
 use Rattle.tao_top.specs.Stop.{Faults, StopHasCause, stop_code}
@@ -20,7 +20,7 @@ known_status (Interrupted Sink) = (4, lit< tt, refl)
 known_status (Interrupted Memory) = (6, lit< tt, refl)
 known_status (Interrupted InputTooLong) = (7, lit< tt, refl)
 
-module _ (tells : Bool) (words : List (List ℕ)) (old now : Shown) (left before after : Option (List ℕ)) (good : IsGood tells words old left) where
+module _ (tells : Bool) (words : List (List ℕ)) (old now : KeeperState) (left before after : Option (List ℕ)) (good : IsGood tells words old left) where
   not_refused_line : (field : List ℕ) → Configures tells old good.first (BadConfiguration field) ended now → ⊥
   not_refused_line field (inl is) = let none = is.refused in let some = good.accepted in cc (none, some)
   not_refused_line field (inr is) =
@@ -30,7 +30,7 @@ module _ (tells : Bool) (words : List (List ℕ)) (old now : Shown) (left before
       let other = is.other good.told in
       other.other (subst (λ s. AreReady s good.first s.shards old.told) (sym same) good.ready other.shard other.configured)
 
-  not_refused : (field : List ℕ) → IsRefused tells old now left field → ⊥
+  not_refused : (field : List ℕ) → IsConfigurationRefused tells old now left field → ⊥
   not_refused field (inl missing) =
       let none : lines_of good.bytes ≡ [] = subst (λ l. AreLines l []) good.known missing.0 in
       let some = good.lines in

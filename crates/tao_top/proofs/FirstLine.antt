@@ -1,5 +1,6 @@
 -- The first line of a run: taken as its configuration, or refused.
 use Rattle.std.proofs.Common.{◌≡◌, ℕ, Bool, List, [], ◌∷◌, length, Option, Result, Ok, Err, OnErr, inl, inr, refl, sym, subst, codes, arith}
+use Rattle.tao_keeper.specs.KeeperState.{KeeperState, IsLater}
 use Rattle.std.proofs.lemmas.List.{take_all}
 use Rattle.std.specs.Io.KnownBytes.{Appends}
 use Rattle.config_json.specs.Config.{config_in}
@@ -8,14 +9,13 @@ use Rattle.graph_model.specs.Told.{WhereTold}
 use Rattle.replies.specs.declared.reply.Reply.TheVariants.{BadConfiguration, Configured}
 use Rattle.tao_core.specs.Core.{CoreState}
 use Rattle.tao_core.specs.Opening.{IsOpened, IsOpenedInPart, IsOtherLine}
-use Rattle.tao_core.specs.Shown.{Shown, IsLater}
 use Rattle.tao_io.specs.Lines.{GivesLines, IsTooLong, NextLineIs}
 use Rattle.tao_io.specs.declared.lines.NextLine.{NextLine}
 use Rattle.tao_io.specs.declared.lines.NextLine.TheVariants.{End}
 use Rattle.tao_top.proofs.GoingOn.{GivesLines-all, GivesLines-begin, part_none, part_one, served_one, still_refl}
 use Rattle.tao_top.proofs.OneLine.{no_configuration}
 use Rattle.tao_top.specs.Begun.{BegunInPart, EndsAtFirst, GivesOne, RefusesFirst, RefusesFor, RefusesInPart, RefusesLine}
-use Rattle.tao_top.specs.Served.{AppendsPart, AreLines, EndsInPart, OpensInPart, RefusesConfiguration, Served, StopsOpening, refusal_line, serves, start}
+use Rattle.tao_top.specs.Served.{AppendsPart, AreLines, EndsInPart, OpensInPart, RefusesConfiguration, Served, StopsOpening, refusal_line, serves, start, streams, traces}
 use Rattle.tao_top.specs.Step.{State, ended, Configures, Replies, Step, line_of, serving}
 use Rattle.topology.specs.Config.{Settings}
 
@@ -24,14 +24,14 @@ pub whole_part : (before after : Option (List ℕ)) (bytes : List ℕ) → Appen
 whole_part before after bytes written = (length bytes, subst (Appends before after) (sym (take_all (length bytes) bytes (omega arith))) written)
 
 -- the run has refused its configuration
-abbrev pub refusing : Shown → State
+abbrev pub refusing : KeeperState → State
 refusing now = record { stage = ended; keepers = now }
 
-is_later : (keepers : Shown) → IsLater keepers keepers
+is_later : (keepers : KeeperState) → IsLater keepers keepers
 is_later keepers = record { calls = omega arith; faults = omega arith }
 
 -- a line that is no configuration is refused
-no_step : (tells : Bool) (keepers : Shown) (line field : List ℕ) → config_in line ≡ Err (BadConfig field) → Step tells (start keepers) line (BadConfiguration field) (refusing keepers)
+no_step : (tells : Bool) (keepers : KeeperState) (line field : List ℕ) → config_in line ≡ Err (BadConfig field) → Step tells (start keepers) line (BadConfiguration field) (refusing keepers)
 no_step tells keepers line field is = record { does = inl (record { refused = is; same = refl }); later = is_later keepers }
 
 -- ---- the reading of the first line
@@ -85,7 +85,7 @@ module _ (left rest before after : Option (List ℕ)) where
 
 -- ---- the opening of the stores
 
-module _ (tells : Bool) (old now : Shown) (line : List ℕ) (s : Settings) (configured : config_in line ≡ Ok s) (later : IsLater old now) where
+module _ (tells : Bool) (old now : KeeperState) (line : List ℕ) (s : Settings) (configured : config_in line ≡ Ok s) (later : IsLater old now) where
   pub takes : (core : CoreState) → core.settings ≡ s → core.sessions ≡ [] → WhereTold tells (IsOpened s line old.told now.told) → Step tells (start old) line Configured (serves core now)
   takes core is sessions opened = record {
     does = record {
@@ -105,10 +105,10 @@ module _ (tells : Bool) (old now : Shown) (line : List ℕ) (s : Settings) (conf
     begins core is sessions opened written = (Configured, takes core is sessions opened, written)
 
     pub begun_silent : (core : CoreState) → core.settings ≡ s → core.sessions ≡ [] → WhereTold tells (IsOpened s line old.told now.told) → AppendsPart before after (line_of (serving core) Configured)
-        → (code : ℕ) → BegunInPart code tells old now line before after
+        → (code : ℕ) → BegunInPart code tells (traces old before) (traces now after) line
     begun_silent core is sessions opened written code = inr (serves core now, (Configured, takes core is sessions opened, written), still_refl tells now (serves core now) refl)
 
-    pub begun_other : WhereTold tells (IsOtherLine s line old.told now.told) → AppendsPart before after (refusal_line (codes "file")) → (code : ℕ) → BegunInPart code tells old now line before after
+    pub begun_other : WhereTold tells (IsOtherLine s line old.told now.told) → AppendsPart before after (refusal_line (codes "file")) → (code : ℕ) → BegunInPart code tells (traces old before) (traces now after) line
     begun_other other written code = inr (refusing now, (BadConfiguration (codes "file"), record { does = other_line other; later = later }, written), still_refl tells now (refusing now) refl)
 
     pub refuses_other : WhereTold tells (IsOtherLine s line old.told now.told) → Appends before after (refusal_line (codes "file")) → RefusesLine tells old now line before after
@@ -119,16 +119,16 @@ module _ (tells : Bool) (old now : Shown) (line : List ℕ) (s : Settings) (conf
 
 -- ---- both
 
-module _ (tells : Bool) (old now : Shown) (left rest before after : Option (List ℕ)) (line : List ℕ) (read : GivesLines left rest (line ∷ [])) where
+module _ (tells : Bool) (old now : KeeperState) (left rest before after : Option (List ℕ)) (line : List ℕ) (read : GivesLines left rest (line ∷ [])) where
   pub stops_opening : OpensInPart tells old now line before after → StopsOpening tells old now left before after
   stops_opening opens = (line, GivesLines-begin left rest (line ∷ []) read, opens)
 
-  pub begun_part : (code : ℕ) → BegunInPart code tells old now line before after → EndsInPart code tells old now left before after
+  pub begun_part : (code : ℕ) → BegunInPart code tells (traces old before) (traces now after) line → EndsInPart code tells (traces old before) (traces now after) left
   begun_part code (inl opens) = inl (opens.0, stops_opening opens.1)
   begun_part code (inr said) = inr (inr (part_one tells (start old) said.0 now left rest before after line read said.1 said.2))
 
   pub refuses_line : RefusesLine tells old now line before after → RefusesConfiguration tells old now left before after
   refuses_line r = record { field = r.field; refused = inr (line, GivesLines-begin left rest (line ∷ []) read, r.refused); written = r.written }
 
-  pub begun : (core : CoreState) → Replies tells (start old) line (serves core now) (Appends before after) → Served tells (start old) (serves core now) left rest before after
+  pub begun : (core : CoreState) → Replies tells (start old) line (serves core now) (Appends before after) → Served tells (start old) (serves core now) (streams left before) (streams rest after)
   begun core replied = served_one tells (start old) (serves core now) left rest before after line read replied

@@ -1,5 +1,6 @@
 -- A run goes on, from line to line and from part to part.
 use Rattle.std.proofs.Common.{◌≡◌, ℕ, ◌+◌, Bool, List, [], ◌∷◌, ◌++◌, Option, Some, None, refl, sym, ap, ◌∙◌, subst, take, length, append_assoc, arith}
+use Rattle.tao_keeper.specs.KeeperState.{KeeperState}
 use Rattle.std.proofs.lemmas.List.{append-nil, take_all}
 use Rattle.std.proofs.lemmas.Grind.{flat_map-append}
 use Rattle.std.proofs.Math.Seq.{take-append-add}
@@ -7,8 +8,7 @@ use Rattle.std.specs.Io.KnownBytes.{Appends, IsAtEnd}
 use Rattle.std.proofs.KnownBytes.{Appends-trans, Appends-nil}
 use Rattle.tao_io.proofs.GivenLines.{GivesLines-nil, GivesLines-trans}
 use Rattle.tao_io.specs.Lines.{lines_of, GivesLines}
-use Rattle.tao_core.specs.Shown.{Shown}
-use Rattle.tao_top.specs.Served.{AreLines, LinesBegin, AppendsPart, IsStill, Served, ServedAll, ServedInPart, joined}
+use Rattle.tao_top.specs.Served.{AreLines, LinesBegin, AppendsPart, IsStill, Served, ServedAll, ServedInPart, joined, streams}
 use Rattle.tao_top.specs.Step.{State, Replies, Run, line_of}
 
 -- ---- the parts of a run
@@ -62,10 +62,10 @@ AreLines-after (Some x) (Some y) ls ms p q = p ∙ ap (λ l. ls ++ l) q
 
 module _ (tells : Bool) where
   -- nothing yet
-  pub served_none : (s : State) (left before : Option (List ℕ)) → Served tells s s left left before before
+  pub served_none : (s : State) (left before : Option (List ℕ)) → Served tells s s (streams left before) (streams left before)
   served_none s left before = record { lines = []; texts = []; read = GivesLines-nil left; run = refl; written = Appends-nil before }
 
-  pub served_trans : (a b c : State) (left rest last before mid after : Option (List ℕ)) → Served tells a b left rest before mid → Served tells b c rest last mid after → Served tells a c left last before after
+  pub served_trans : (a b c : State) (left rest last before mid after : Option (List ℕ)) → Served tells a b (streams left before) (streams rest mid) → Served tells b c (streams rest mid) (streams last after) → Served tells a c (streams left before) (streams last after)
   served_trans a b c left rest last before mid after p q = record {
     lines = p.lines ++ q.lines;
     texts = p.texts ++ q.texts;
@@ -75,7 +75,7 @@ module _ (tells : Bool) where
   }
 
   -- a line came, and its reply was written
-  pub served_one : (a b : State) (left rest before after : Option (List ℕ)) (line : List ℕ) → GivesLines left rest (line ∷ []) → Replies tells a line b (Appends before after) → Served tells a b left rest before after
+  pub served_one : (a b : State) (left rest before after : Option (List ℕ)) (line : List ℕ) → GivesLines left rest (line ∷ []) → Replies tells a line b (Appends before after) → Served tells a b (streams left before) (streams rest after)
   served_one a b left rest before after line read replied = record {
     lines = line ∷ [];
     texts = text_of tells a b line (Appends before after) replied ∷ [];
@@ -84,10 +84,10 @@ module _ (tells : Bool) where
     written = subst (Appends before after) (sym (joined-one (text_of tells a b line (Appends before after) replied))) replied.2;
   }
 
-  pub served_all : (a b : State) (left rest before after : Option (List ℕ)) → Served tells a b left rest before after → IsAtEnd rest → ServedAll tells a b left before after
+  pub served_all : (a b : State) (left rest before after : Option (List ℕ)) → Served tells a b (streams left before) (streams rest after) → IsAtEnd rest → ServedAll tells a b left before after
   served_all a b left rest before after p end = record { lines = p.lines; texts = p.texts; read = GivesLines-all left rest p.lines p.read end; run = p.run; written = p.written }
 
-  pub served_then_all : (a b c : State) (left rest before mid after : Option (List ℕ)) → Served tells a b left rest before mid → ServedAll tells b c rest mid after → ServedAll tells a c left before after
+  pub served_then_all : (a b c : State) (left rest before mid after : Option (List ℕ)) → Served tells a b (streams left before) (streams rest mid) → ServedAll tells b c rest mid after → ServedAll tells a c left before after
   served_then_all a b c left rest before mid after p q = record {
     lines = p.lines ++ q.lines;
     texts = p.texts ++ q.texts;
@@ -96,11 +96,11 @@ module _ (tells : Bool) where
     written = subst (Appends before after) (sym (joined-append p.texts q.texts)) (Appends-trans before mid after _ _ p.written q.written);
   }
 
-  pub still_refl : (keepers : Shown) → (s : State) → s.keepers ≡ keepers → IsStill tells s keepers
+  pub still_refl : (keepers : KeeperState) → (s : State) → s.keepers ≡ keepers → IsStill tells s keepers
   still_refl keepers s is = subst (IsStill tells s) is (record { tables = λ told at. refl; later = record { calls = omega arith; faults = omega arith } })
 
   -- no line more was read
-  pub part_none : (s : State) (now : Shown) (left before after : Option (List ℕ)) → Appends before after [] → IsStill tells s now → ServedInPart tells s now left before after
+  pub part_none : (s : State) (now : KeeperState) (left before after : Option (List ℕ)) → Appends before after [] → IsStill tells s now → ServedInPart tells s now left before after
   part_none s now left before after written still = record {
     last = s;
     lines = [];
@@ -116,7 +116,7 @@ module _ (tells : Bool) where
       none_begin (Some bytes) = (lines_of bytes, refl)
 
   -- a line came, and of its reply a front was written
-  pub part_one : (s last : State) (now : Shown) (left rest before after : Option (List ℕ)) (line : List ℕ) → GivesLines left rest (line ∷ []) → Replies tells s line last (AppendsPart before after) → IsStill tells last now
+  pub part_one : (s last : State) (now : KeeperState) (left rest before after : Option (List ℕ)) (line : List ℕ) → GivesLines left rest (line ∷ []) → Replies tells s line last (AppendsPart before after) → IsStill tells last now
       → ServedInPart tells s now left before after
   part_one s last now left rest before after line read replied still = record {
     last = last;
@@ -128,7 +128,7 @@ module _ (tells : Bool) where
     still = still;
   }
 
-  pub served_then_part : (a b : State) (now : Shown) (left rest before mid after : Option (List ℕ)) → Served tells a b left rest before mid → ServedInPart tells b now rest mid after → ServedInPart tells a now left before after
+  pub served_then_part : (a b : State) (now : KeeperState) (left rest before mid after : Option (List ℕ)) → Served tells a b (streams left before) (streams rest mid) → ServedInPart tells b now rest mid after → ServedInPart tells a now left before after
   served_then_part a b now left rest before mid after p q = record {
     last = q.last;
     lines = p.lines ++ q.lines;

@@ -4,5 +4,4 @@ pub mod GoingOn
 pub mod Growing
 pub mod Keeping
 pub mod OneLine
-pub mod Placed
 pub mod WholeRun

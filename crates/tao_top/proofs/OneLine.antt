@@ -1,5 +1,6 @@
 -- One line that is served: as it was read, answered, and its reply written.
 use Rattle.std.proofs.Common.{◌≡◌, ℕ, nat_le, Bool, false, List, [], ◌∷◌, length, Option, None, Result, Ok, Err, IfErr, OnErr, OnOk, inl, inr, refl, sym, ap, subst, arith}
+use Rattle.tao_keeper.specs.KeeperState.{KeeperState}
 use Rattle.std.proofs.lemmas.Bool.Decides.{nat_tests}
 use Rattle.std.specs.Io.KnownBytes.{Appends}
 use Rattle.std.proofs.KnownBytes.{Appends-nil}
@@ -12,15 +13,14 @@ use Rattle.replies.specs.declared.reply.Reply.{Reply}
 use Rattle.replies.specs.declared.reply.Reply.TheVariants.{Refused}
 use Rattle.request_json.specs.Requests.{request_in}
 use Rattle.request_json.specs.declared.refusal.LineRefusal.TheVariants.{BadLine}
-use Rattle.tao_core.specs.Core.{CoreState}
-use Rattle.tao_core.specs.Shown.{Shown}
+use Rattle.tao_core.specs.Core.{CoreState, moment}
 use Rattle.tao_io.specs.Lines.{GivesLines, IsTooLong, NextLineIs}
 use Rattle.tao_io.specs.declared.lines.NextLine.{NextLine}
 use Rattle.tao_io.specs.declared.lines.NextLine.TheVariants.{Line, TooLong, End}
 use Rattle.tao_top.proofs.GoingOn.{part_none, part_one, served_one, still_refl}
 use Rattle.tao_top.specs.Begun.{RepliesInPart}
-use Rattle.tao_top.specs.Served.{AppendsPart, Served, ServedInPart, serves}
-use Rattle.tao_top.specs.Step.{State, Replies, Serves, Step, line_of, serving}
+use Rattle.tao_top.specs.Served.{AppendsPart, Served, ServedInPart, serves, streams}
+use Rattle.tao_top.specs.Step.{AnswersLine, State, Replies, Step, line_of, serving}
 
 -- what holds, holds where there was an error
 pub OnErr-any : {T E : Type 0} (result : Result T E) (P : Type 0) → P → OnErr result P
@@ -46,10 +46,10 @@ no_configuration line long = rw (no_json line long) refl
 abbrev pub refused_whole : Reply
 refused_whole = Refused (OfLine (line.BadLine []))
 
-module _ (tells : Bool) (core : CoreState) (keepers : Shown) where
+module _ (tells : Bool) (core : CoreState) (keepers : KeeperState) where
   long_line : (line : List ℕ) → IsTooLong line → Step tells (serves core keepers) line refused_whole (serves core keepers)
   long_line line long = record {
-    does = subst (λ asked. Serves tells core keepers asked refused_whole core keepers) (sym (no_request line long)) (refl, refl, refl);
+    does = subst (λ asked. AnswersLine tells (moment core keepers) asked refused_whole (moment core keepers)) (sym (no_request line long)) (refl, refl);
     later = record { calls = omega arith; faults = omega arith };
   }
 
@@ -81,9 +81,9 @@ pub replies_err : {T E : Type 0} (result : Result T E) (tells : Bool) (old new :
 replies_err (Ok x) tells old new line reply before after step written = tt
 replies_err (Err e) tells old new line reply before after step written = inr (reply, step, written)
 
-module _ (tells : Bool) (core : CoreState) (keepers : Shown) (left rest before after : Option (List ℕ)) where
+module _ (tells : Bool) (core : CoreState) (keepers : KeeperState) (left rest before after : Option (List ℕ)) where
   -- a line was answered, and perhaps of its reply a front was written
-  pub part_answered : (line said : List ℕ) (next : CoreState) (now : Shown) → GivesLines left rest (line ∷ []) → said ≡ line
+  pub part_answered : (line said : List ℕ) (next : CoreState) (now : KeeperState) → GivesLines left rest (line ∷ []) → said ≡ line
       → RepliesInPart tells (serves core keepers) said (serves next now) before after → ServedInPart tells (serves core keepers) now left before after
   part_answered line said next now read same (inl nothing) =
       part_none tells (serves core keepers) now left before after nothing.1 (still_refl tells now (serves core keepers) (ap (λ s. s.keepers) (sym nothing.0)))
@@ -92,8 +92,8 @@ module _ (tells : Bool) (core : CoreState) (keepers : Shown) (left rest before a
       (subst (λ l. Replies tells (serves core keepers) l (serves next now) (AppendsPart before after)) same replied)
       (still_refl tells now (serves next now) refl)
 
-  pub served_answered : (line said : List ℕ) (next : CoreState) (now : Shown) → GivesLines left rest (line ∷ []) → said ≡ line
-      → Replies tells (serves core keepers) said (serves next now) (Appends before after) → Served tells (serves core keepers) (serves next now) left rest before after
+  pub served_answered : (line said : List ℕ) (next : CoreState) (now : KeeperState) → GivesLines left rest (line ∷ []) → said ≡ line
+      → Replies tells (serves core keepers) said (serves next now) (Appends before after) → Served tells (serves core keepers) (serves next now) (streams left before) (streams rest after)
   served_answered line said next now read same replied =
       served_one tells (serves core keepers) (serves next now) left rest before after line read
       (subst (λ l. Replies tells (serves core keepers) l (serves next now) (Appends before after)) same replied)
@@ -103,5 +103,5 @@ module _ (tells : Bool) (core : CoreState) (keepers : Shown) (left rest before a
   part_refused long written = part_answered long.0 long.0 core keepers long.2 refl (inr (refused_whole, long_line tells core keepers long.0 long.1, written))
 
   pub served_refused : ((whole : List ℕ) × IsTooLong whole × GivesLines left rest (whole ∷ [])) → Appends before after (line_of (serving core) refused_whole)
-      → Served tells (serves core keepers) (serves core keepers) left rest before after
+      → Served tells (serves core keepers) (serves core keepers) (streams left before) (streams rest after)
   served_refused long written = served_answered long.0 long.0 core keepers long.2 refl (refused_whole, long_line tells core keepers long.0 long.1, written)

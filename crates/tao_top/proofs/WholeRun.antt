@@ -1,5 +1,6 @@
 -- A whole run: its first line, and then all others.
 use Rattle.std.proofs.Common.{◌≡◌, ℕ, ◌+◌, ◌<◌, ◌≤◌, ◌^◌, Bool, List, [], ◌∷◌, length, length-append, Option, Some, None, Ok, IfSome, inr, refl, sym, ap, subst, ◌∙◌, arith}
+use Rattle.tao_keeper.specs.KeeperState.{KeeperState}
 use Rattle.std.proofs.KnownBytes.{Consumes-nil, prepend_known-nil}
 use Rattle.std.proofs.lemmas.List.{nil_from_length}
 use Rattle.std.specs.Io.KnownBytes.{Appends, IsAtEnd, prepend_known}
@@ -7,7 +8,6 @@ use Rattle.config_json.specs.Config.{config_in}
 use Rattle.graph_model.specs.Told.{WhereTold}
 use Rattle.tao_core.specs.Core.{CoreState}
 use Rattle.tao_core.specs.Opening.{MayOpen}
-use Rattle.tao_core.specs.Shown.{Shown}
 use Rattle.tao_io.specs.LineReader.{LineReading, most_ahead, to_come}
 use Rattle.tao_io.specs.Lines.{CountsTaken, GivesLines}
 use Rattle.tao_keeper.specs.Table.{Tables}
@@ -15,7 +15,7 @@ use Rattle.tao_top.proofs.FirstLine.{begun, begun_part, refuses_line, stops_open
 use Rattle.tao_top.proofs.GoingOn.{GivesLines-begin, served_then_all, served_then_part, served_all_part}
 use Rattle.tao_top.specs.Begun.{BegunInPart, EndsAtFirst, GivesOne, RefusesFirst, RefusesLine}
 use Rattle.tao_top.specs.Kept.{MayRun}
-use Rattle.tao_top.specs.Served.{Done, DoneInPart, EndsInPart, FailsOpening, LinesBegin, OpensInPart, RefusesConfiguration, Served, ServedAll, ServedInPart, StopsOpening, serves, start}
+use Rattle.tao_top.specs.Served.{Done, DoneInPart, EndsInPart, FailsOpening, LinesBegin, OpensInPart, RefusesConfiguration, Served, ServedAll, ServedInPart, StopsOpening, serves, start, streams, traces}
 use Rattle.tao_top.specs.Step.{Replies}
 use Rattle.tao_top.specs.Stop.{Faults, StopHasCause, stop_code}
 use Rattle.tao_top.specs.Taken.{Takes, TakesFirst}
@@ -30,7 +30,7 @@ fresh reader left none = ap (λ ahead. prepend_known ahead left) none ∙ prepen
 
 -- ---- the first line
 
-module _ (tells : Bool) (keepers : Shown) (known left before after : Option (List ℕ)) (is : known ≡ left) where
+module _ (tells : Bool) (keepers : KeeperState) (known left before after : Option (List ℕ)) (is : known ≡ left) where
   pub first_in_part : EndsAtFirst known before after → DoneInPart tells keepers keepers left before after
   first_in_part ends = subst (λ l. DoneInPart tells keepers keepers l before after) is (ends tells keepers)
 
@@ -38,10 +38,10 @@ module _ (tells : Bool) (keepers : Shown) (known left before after : Option (Lis
   first_refused refuses = subst (λ l. RefusesConfiguration tells keepers keepers l before after) is (refuses tells keepers)
 
 -- it was read, and nothing was written until its reply
-module _ (tells : Bool) (old mid : Shown) (known left rest before silent after : Option (List ℕ)) (line : List ℕ) (is : known ≡ left) (same : silent ≡ before) (read : GivesLines known rest (line ∷ [])) where
-  pub begun_in_part : (code : ℕ) → BegunInPart code tells old mid line silent after → EndsInPart code tells old mid left before after
+module _ (tells : Bool) (old mid : KeeperState) (known left rest before silent after : Option (List ℕ)) (line : List ℕ) (is : known ≡ left) (same : silent ≡ before) (read : GivesLines known rest (line ∷ [])) where
+  pub begun_in_part : (code : ℕ) → BegunInPart code tells (traces old silent) (traces mid after) line → EndsInPart code tells (traces old before) (traces mid after) left
   begun_in_part code part =
-      subst (λ l. EndsInPart code tells old mid l before after) is (subst (λ w. EndsInPart code tells old mid known w after) same (begun_part tells old mid known rest silent after line read code part))
+      subst (λ l. EndsInPart code tells (traces old before) (traces mid after) l) is (subst (λ w. EndsInPart code tells (traces old w) (traces mid after) known) same (begun_part tells old mid known rest silent after line read code part))
 
   pub begun_opening : OpensInPart tells old mid line silent after → StopsOpening tells old mid left before after
   begun_opening opens =
@@ -50,14 +50,14 @@ module _ (tells : Bool) (old mid : Shown) (known left rest before silent after :
   pub begun_refused : RefusesLine tells old mid line silent after → RefusesConfiguration tells old mid left before after
   begun_refused refuses = subst (λ l. RefusesConfiguration tells old mid l before after) is (subst (λ w. RefusesConfiguration tells old mid known w after) same (refuses_line tells old mid known rest silent after line read refuses))
 
-  pub begun_well : (core : CoreState) → Replies tells (start old) line (serves core mid) (Appends silent after) → Served tells (start old) (serves core mid) left rest before after
+  pub begun_well : (core : CoreState) → Replies tells (start old) line (serves core mid) (Appends silent after) → Served tells (start old) (serves core mid) (streams left before) (streams rest after)
   begun_well core replied =
-      subst (λ l. Served tells (start old) (serves core mid) l rest before after) is
-      (subst (λ w. Served tells (start old) (serves core mid) known rest w after) same (begun tells old mid known rest silent after line read core replied))
+      subst (λ l. Served tells (start old) (serves core mid) (streams l before) (streams rest after)) is
+      (subst (λ w. Served tells (start old) (serves core mid) (streams known w) (streams rest after)) same (begun tells old mid known rest silent after line read core replied))
 
 -- ---- all others
 
-module _ (tells : Bool) (old mid now : Shown) (core : CoreState) (left rest before middle after : Option (List ℕ)) (first : Served tells (start old) (serves core mid) left rest before middle) where
+module _ (tells : Bool) (old mid now : KeeperState) (core : CoreState) (left rest before middle after : Option (List ℕ)) (first : Served tells (start old) (serves core mid) (streams left before) (streams rest middle)) where
   pub done : (next : CoreState) → ServedAll tells (serves core mid) (serves next now) rest middle after → Done tells old now left before after
   done next all = record { core = next; served = served_then_all tells (start old) (serves core mid) (serves next now) left rest before middle after first all }
 
@@ -65,7 +65,7 @@ module _ (tells : Bool) (old mid now : Shown) (core : CoreState) (left rest befo
   done_part part = inr (served_then_part tells (start old) (serves core mid) now left rest before middle after first part)
 
 -- what is done whole is done in part
-pub done_whole : (tells : Bool) (old now : Shown) (left before after : Option (List ℕ)) → Done tells old now left before after → DoneInPart tells old now left before after
+pub done_whole : (tells : Bool) (old now : KeeperState) (left before after : Option (List ℕ)) → Done tells old now left before after → DoneInPart tells old now left before after
 done_whole tells old now left before after d = inr (served_all_part tells (start old) (serves d.core now) left before after d.served)
 
 -- ---- how long the input is, by what was taken of it
@@ -122,7 +122,7 @@ only_keepers (Interrupted Sink) is = absurd (omega arith)
 only_keepers (Interrupted Memory) is = absurd (omega arith)
 only_keepers (Interrupted InputTooLong) is = absurd (omega arith)
 
-pub fails_opening : (tells : Bool) (old now : Shown) (left before after : Option (List ℕ)) (old_faults new_faults : Faults) (stop : Stop) → stop_code stop ≡ 6
+pub fails_opening : (tells : Bool) (old now : KeeperState) (left before after : Option (List ℕ)) (old_faults new_faults : Faults) (stop : Stop) → stop_code stop ≡ 6
     → (stop ≡ Keepers → StopsOpening tells old now left before after) → StopHasCause old_faults new_faults old.faults now.faults stop → FailsOpening tells old now left before after
 fails_opening tells old now left before after old_faults new_faults stop is opening cause =
     let same = only_keepers stop is in record { opening = opening same; rose = subst (StopHasCause old_faults new_faults old.faults now.faults) same cause }

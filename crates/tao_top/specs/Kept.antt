@@ -4,7 +4,9 @@ use Rattle.config_json.specs.Config.{config_in}
 use Rattle.graph_model.specs.Told.{WhereTold}
 use Rattle.tao_core.specs.Core.{CoreState, IsCoreOf}
 use Rattle.tao_core.specs.Opening.{MayOpen}
-use Rattle.tao_core.specs.Stores.{store_of}
+use Rattle.tao_core.specs.Stores.{master_store}
+use Rattle.tao_keeper.specs.Growing.{LogsGrow}
+use Rattle.tao_keeper.specs.KeeperState.{KeeperState}
 use Rattle.tao_keeper.specs.Table.{Table, Tables}
 use Rattle.tao_top.specs.Served.{LinesBegin}
 use Rattle.topology.specs.Config.{Settings}
@@ -18,12 +20,17 @@ abbrev pub MayRun : Option (List ℕ) → Tables → Type 0
 MayRun left tables = (line : List ℕ) → LinesBegin left (line ∷ []) → MayBegin line tables
 
 -- a run may begin with any line
-abbrev pub AreKept : Tables → Type 0
-AreKept tables = (line : List ℕ) → MayBegin line tables
+abbrev pub MayBeginAny : Tables → Type 0
+MayBeginAny tables = (line : List ℕ) → MayBegin line tables
 
 -- a run may begin with each line with which one could before
 abbrev pub StillBegin : Tables → Tables → Type 0
 StillBegin old new = (line : List ℕ) → MayBegin line old → MayBegin line new
+
+-- what a part of a run leaves of the tables: logs only grew, and a run may begin with each line with which one could before
+pub record LeavesTables (tells : Bool) (old new : KeeperState) : Type 0 where
+  pub histories : LogsGrow tells old.told new.told
+  pub still : WhereTold tells (StillBegin old.told new.told)
 
 -- the store was first opened with the configuration
 pub record IsOpenedWith (s : Settings) (table : Table) : Type 0 where
@@ -33,9 +40,9 @@ pub record IsOpenedWith (s : Settings) (table : Table) : Type 0 where
 
 -- so was the store of each shard
 abbrev pub AreOpenedWith : Settings → Tables → Type 0
-AreOpenedWith s tables = (shard : ℕ) → shard < s.shards → IsOpenedWith s (tables (store_of s shard))
+AreOpenedWith s tables = (shard : ℕ) → shard < s.shards → IsOpenedWith s (tables (master_store s shard))
 
 -- a core serves from these tables: its stores were opened with its configuration
-pub record IsServing (tells : Bool) (core : CoreState) (tables : Tables) : Type 0 where
+pub record MayServe (tells : Bool) (core : CoreState) (tables : Tables) : Type 0 where
   pub of_core : IsCoreOf tells tables core
   pub opened : WhereTold tells (AreOpenedWith core.settings tables)

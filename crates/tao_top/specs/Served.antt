@@ -1,5 +1,6 @@
 -- What a run has read and written by its end.
 use Rattle.std.specs.Prelude.{◌≡◌, ◌⊎◌, ℕ, Bool, false, ⊤, List, [], ◌∷◌, ◌++◌, Option, Some, None, take, codes, bytes_eq, Ok}
+use Rattle.tao_keeper.specs.KeeperState.{KeeperState, KeepsTables, IsLater}
 use Rattle.std.specs.List.{flat_map}
 use Rattle.std.specs.Io.KnownBytes.{Appends}
 use Rattle.config_json.specs.Config.{config_in}
@@ -8,7 +9,6 @@ use Rattle.graph_model.specs.Told.{WhereTold}
 use Rattle.replies.specs.declared.reply.Reply.TheVariants.{BadConfiguration}
 use Rattle.tao_core.specs.Core.{CoreState}
 use Rattle.tao_core.specs.Opening.{IsOpenedInPart}
-use Rattle.tao_core.specs.Shown.{Shown, IsLater, KeepsTables}
 use Rattle.tao_io.specs.Lines.{lines_of, GivesLines}
 use Rattle.tao_top.specs.Step.{State, waiting, serving, ended, Configures, Run, line_of}
 use Rattle.topology.specs.Config.{Settings}
@@ -38,25 +38,33 @@ abbrev pub AppendsPart : Option (List ℕ) → Option (List ℕ) → List ℕ �
 AppendsPart before after bytes = (size : ℕ) × Appends before after (take size bytes)
 
 -- a run waits for its configuration
-abbrev pub start : Shown → State
+abbrev pub start : KeeperState → State
 start keepers = record { stage = waiting; keepers = keepers }
 
 -- a run serves by its configuration
-abbrev pub serves : CoreState → Shown → State
+abbrev pub serves : CoreState → KeeperState → State
 serves core keepers = record { stage = serving core; keepers = keepers }
 
 -- since a state no table changed, and no count fell
-pub record IsStill (tells : Bool) (state : State) (now : Shown) : Type 0 where
+pub record IsStill (tells : Bool) (state : State) (now : KeeperState) : Type 0 where
   pub tables : KeepsTables tells state.keepers now
   pub later : IsLater state.keepers now
 
+-- what a source has left, and what a sink took, where they are known
+pub record Streams : Type 0 where
+  pub left : Option (List ℕ)
+  pub written : Option (List ℕ)
+
+abbrev pub streams : Option (List ℕ) → Option (List ℕ) → Streams
+streams left written = record { left = left; written = written }
+
 -- some lines came out of the known bytes, each has its reply, and the replies' texts were written
-pub record Served (tells : Bool) (old new : State) (left rest before after : Option (List ℕ)) : Type 0 where
+pub record Served (tells : Bool) (old new : State) (before after : Streams) : Type 0 where
   pub lines : List (List ℕ)
   pub texts : List (List ℕ)
-  pub read : GivesLines left rest lines
+  pub read : GivesLines before.left after.left lines
   pub run : Run tells old lines texts new
-  pub written : Appends before after (joined texts)
+  pub written : Appends before.written after.written (joined texts)
 
 -- each line of the known bytes has its reply, and the replies' texts were written, in order
 pub record ServedAll (tells : Bool) (old new : State) (left before after : Option (List ℕ)) : Type 0 where
@@ -67,7 +75,7 @@ pub record ServedAll (tells : Bool) (old new : State) (left before after : Optio
   pub written : Appends before after (joined texts)
 
 -- some first lines of the known bytes have their replies, of whose texts a front was written; since the last reply no table changed
-pub record ServedInPart (tells : Bool) (old : State) (now : Shown) (left before after : Option (List ℕ)) : Type 0 where
+pub record ServedInPart (tells : Bool) (old : State) (now : KeeperState) (left before after : Option (List ℕ)) : Type 0 where
   pub last : State
   pub lines : List (List ℕ)
   pub texts : List (List ℕ)
@@ -77,7 +85,7 @@ pub record ServedInPart (tells : Bool) (old : State) (now : Shown) (left before 
   pub still : IsStill tells last now
 
 -- the line is a configuration, of whose stores some are open, and nothing was written
-pub record OpensInPart (tells : Bool) (old now : Shown) (line : List ℕ) (before after : Option (List ℕ)) : Type 0 where
+pub record OpensInPart (tells : Bool) (old now : KeeperState) (line : List ℕ) (before after : Option (List ℕ)) : Type 0 where
   pub settings : Settings
   pub configured : config_in line ≡ Ok settings
   pub opened : WhereTold tells (IsOpenedInPart settings line old.told now.told)
@@ -89,26 +97,26 @@ abbrev pub refusal_line : List ℕ → List ℕ
 refusal_line field = line_of ended (BadConfiguration field)
 
 -- the input has no line, and of the refusal of its configuration a front was written
-pub record LacksConfiguration (old now : Shown) (left before after : Option (List ℕ)) : Type 0 where
+pub record LacksConfiguration (old now : KeeperState) (left before after : Option (List ℕ)) : Type 0 where
   pub read : AreLines left []
   pub written : AppendsPart before after (refusal_line [])
   pub same : now ≡ old
 
 -- the run was configured, and each line of the input has its reply, written whole
-pub record Done (tells : Bool) (old new : Shown) (left before after : Option (List ℕ)) : Type 0 where
+pub record Done (tells : Bool) (old new : KeeperState) (left before after : Option (List ℕ)) : Type 0 where
   pub core : CoreState
   pub served : ServedAll tells (start old) (serves core new) left before after
 
 -- what was written is a front of the texts of the replies to the first lines
-abbrev pub DoneInPart : Bool → Shown → Shown → Option (List ℕ) → Option (List ℕ) → Option (List ℕ) → Type 0
+abbrev pub DoneInPart : Bool → KeeperState → KeeperState → Option (List ℕ) → Option (List ℕ) → Option (List ℕ) → Type 0
 DoneInPart tells old now left before after = LacksConfiguration old now left before after ⊎ ServedInPart tells (start old) now left before after
 
 -- the first line is a configuration, at the opening of whose stores the run stopped, and nothing was written
-abbrev pub StopsOpening : Bool → Shown → Shown → Option (List ℕ) → Option (List ℕ) → Option (List ℕ) → Type 0
+abbrev pub StopsOpening : Bool → KeeperState → KeeperState → Option (List ℕ) → Option (List ℕ) → Option (List ℕ) → Type 0
 StopsOpening tells old now left before after = (line : List ℕ) × LinesBegin left (line ∷ []) × OpensInPart tells old now line before after
 
 -- so it stopped because the keepers failed there
-pub record FailsOpening (tells : Bool) (old now : Shown) (left before after : Option (List ℕ)) : Type 0 where
+pub record FailsOpening (tells : Bool) (old now : KeeperState) (left before after : Option (List ℕ)) : Type 0 where
   pub opening : StopsOpening tells old now left before after
   pub rose : Rose old.faults now.faults
 
@@ -116,19 +124,28 @@ pub record FailsOpening (tells : Bool) (old now : Shown) (left before after : Op
 abbrev pub IsOpeningStatus : ℕ → Type 0
 IsOpeningStatus code = (code ≡ 6) ⊎ (code ≡ 7)
 
+-- what a run leaves: what the keepers show, and what the sink took where it is known
+pub record Traces : Type 0 where
+  pub keepers : KeeperState
+  pub written : Option (List ℕ)
+
+abbrev pub traces : KeeperState → Option (List ℕ) → Traces
+traces keepers written = record { keepers = keepers; written = written }
+
 -- what a run has done that ends with this status: a part of its lines, or of the opening of its stores with 6 and 7 alone
-abbrev pub EndsInPart : ℕ → Bool → Shown → Shown → Option (List ℕ) → Option (List ℕ) → Option (List ℕ) → Type 0
-EndsInPart code tells old now left before after =
-    (IsOpeningStatus code × StopsOpening tells old now left before after) ⊎ DoneInPart tells old now left before after
+abbrev pub EndsInPart : ℕ → Bool → Traces → Traces → Option (List ℕ) → Type 0
+EndsInPart code tells old now left =
+    (IsOpeningStatus code × StopsOpening tells old.keepers now.keepers left old.written now.written)
+    ⊎ DoneInPart tells old.keepers now.keepers left old.written now.written
 
 -- the first line is refused as the configuration, or the input has none
-abbrev pub IsRefused : Bool → Shown → Shown → Option (List ℕ) → List ℕ → Type 0
-IsRefused tells old now left field =
+abbrev pub IsConfigurationRefused : Bool → KeeperState → KeeperState → Option (List ℕ) → List ℕ → Type 0
+IsConfigurationRefused tells old now left field =
     (AreLines left [] × (field ≡ []) × (now ≡ old))
     ⊎ ((line : List ℕ) × LinesBegin left (line ∷ []) × Configures tells old line (BadConfiguration field) ended now)
 
 -- the configuration was refused, and the line that says so was written, and nothing else
-pub record RefusesConfiguration (tells : Bool) (old now : Shown) (left before after : Option (List ℕ)) : Type 0 where
+pub record RefusesConfiguration (tells : Bool) (old now : KeeperState) (left before after : Option (List ℕ)) : Type 0 where
   pub field : List ℕ
-  pub refused : IsRefused tells old now left field
+  pub refused : IsConfigurationRefused tells old now left field
   pub written : Appends before after (refusal_line field)

@@ -1,9 +1,9 @@
 -- The statuses of a run, and when it can only succeed.
 use Rattle.std.specs.Prelude.{◌≡◌, ◌<◌, ◌^◌, ℕ, Bool, true, List, [], ◌∷◌, length, Option, Some, Contains, Ok}
+use Rattle.tao_keeper.specs.KeeperState.{KeeperState}
 use Rattle.counts.specs.Count.{Rose}
 use Rattle.config_json.specs.Config.{config_in}
 use Rattle.tao_core.specs.Opening.{AreReady}
-use Rattle.tao_core.specs.Shown.{Shown}
 use Rattle.tao_io.specs.Lines.{lines_of}
 use Rattle.tao_top.specs.Served.{is_run}
 use Rattle.tao_top.specs.Stop.{Faults}
@@ -14,7 +14,7 @@ abbrev pub IsStatus : ℕ → Type 0
 IsStatus code = Contains (0 ∷ 2 ∷ 3 ∷ 4 ∷ 5 ∷ 6 ∷ 7 ∷ 9 ∷ []) code
 
 -- the word is right, the input is short enough, and its first line is a configuration that each of its stores can be opened with
-pub record IsGood (tells : Bool) (words : List (List ℕ)) (keepers : Shown) (left : Option (List ℕ)) : Type 0 where
+pub record IsGood (tells : Bool) (words : List (List ℕ)) (keepers : KeeperState) (left : Option (List ℕ)) : Type 0 where
   pub bytes : List ℕ
   pub first : List ℕ
   pub others : List (List ℕ)

@@ -4,12 +4,11 @@ ghost use Rattle.std.specs.Io.KnownBytes.{Appends};
 ghost use Rattle.config_json.specs.Config.{config_in};
 ghost use Rattle.graph_model.specs.Told.{WhereTold};
 ghost use Rattle.tao_core.specs.Opening.{MayOpen};
-ghost use Rattle.tao_core.specs.Shown.{shown};
 ghost use Rattle.tao_io.specs.LineReader.{most_ahead, to_come};
 ghost use Rattle.tao_io.specs.Lines.{CountsTaken, GivesLines};
 ghost use Rattle.tao_top.specs.Begun.{BegunInPart, EndsAtFirst, GivesOne, RefusesFirst, RefusesFor, RefusesInPart, RefusesLine, StopsBeginning};
-ghost use Rattle.tao_top.specs.Kept.{IsServing, StillBegin};
-ghost use Rattle.tao_top.specs.Served.{OpensInPart, serves, start};
+ghost use Rattle.tao_top.specs.Kept.{LeavesTables, MayServe};
+ghost use Rattle.tao_top.specs.Served.{OpensInPart, serves, start, traces};
 ghost use Rattle.tao_top.specs.Step.{Replies};
 ghost use Rattle.tao_top.specs.Stop.{FaultsGrow, StopHasCause, faults, stop_code};
 
@@ -80,6 +79,7 @@ pub(crate) fn read_first<R: Source, S: Sink>(
 }
 
 /// Opens the stores with the configuration, and writes the reply to its line.
+#[tactic(auto, using(crate::proofs::Keeping::leaves_same))]
 pub(crate) fn begin<'c, S: Sink, K: Keeper>(
     alloc: Global,
     first: &'c First,
@@ -87,22 +87,20 @@ pub(crate) fn begin<'c, S: Sink, K: Keeper>(
     keepers: &mut K,
 ) -> Result<Serving<'c>, Stop>
     requires configured { config_in first.now.line.items ≡ Ok first.now.config }
-    requires sound { WhereTold K.TELLS (MayOpen first.now.config first.now.line.items (K.told keepers.old)) }
-    ensures ok { IfOk result (λ serving. Replies K.TELLS (start (shown K.told K.calls K.faults keepers.old))
-        first.now.line.items (serves serving (shown K.told K.calls K.faults keepers.new)) (Appends
+    requires sound { WhereTold K.TELLS (MayOpen first.now.config first.now.line.items (K.state keepers.old).told) }
+    ensures ok { IfOk result (λ serving. Replies K.TELLS (start (K.state keepers.old))
+        first.now.line.items (serves serving (K.state keepers.new)) (Appends
         (S.taken output.old) (S.taken output.new))) }
-    ensures serving { IfOk result (λ serving. IsServing K.TELLS serving (K.told keepers.new)) }
-    ensures err { IfErr result (λ stop. BegunInPart (stop_code stop) K.TELLS
-        (shown K.told K.calls K.faults keepers.old) (shown K.told K.calls K.faults keepers.new) first.now.line.items
-        (S.taken output.old) (S.taken output.new)) }
+    ensures serving { IfOk result (λ serving. MayServe K.TELLS serving (K.state keepers.new).told) }
+    ensures err { IfErr result (λ stop. BegunInPart (stop_code stop) K.TELLS (traces (K.state keepers.old) (S.taken output.old)) (traces (K.state keepers.new) (S.taken output.new)) first.now.line.items) }
     ensures keepers { result ≡ Err Stop.Keepers → OpensInPart K.TELLS
-        (shown K.told K.calls K.faults keepers.old) (shown K.told K.calls K.faults keepers.new) first.now.line.items
+        (K.state keepers.old) (K.state keepers.new) first.now.line.items
         (S.taken output.old) (S.taken output.new) }
     ensures refused { result ≡ Err Stop.Configuration → RefusesLine K.TELLS
-        (shown K.told K.calls K.faults keepers.old) (shown K.told K.calls K.faults keepers.new) first.now.line.items
+        (K.state keepers.old) (K.state keepers.new) first.now.line.items
         (S.taken output.old) (S.taken output.new) }
-    ensures still { WhereTold K.TELLS (StillBegin (K.told keepers.old) (K.told keepers.new)) }
-    ensures cause { IfErr result (StopsBeginning (S.faults output.old) (S.faults output.new) (K.faults keepers.old) (K.faults keepers.new)) }
+    ensures tables { LeavesTables K.TELLS (K.state keepers.old) (K.state keepers.new) }
+    ensures cause { IfErr result (StopsBeginning (S.faults output.old) (S.faults output.new) (K.state keepers.old).faults (K.state keepers.new).faults) }
     ensures later { S.faults output.old ≤ S.faults output.new }
 {
     match Serving::open(alloc, &first.config, &first.line, keepers) {

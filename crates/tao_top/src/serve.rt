@@ -2,11 +2,10 @@
 ghost use Rattle.std.specs.Prelude.{◌≡◌, ◌<◌, ◌≤◌, ◌^◌, Ok, true, false, IfErr, OnOk, OnErr, IsErrOf};
 ghost use Rattle.std.specs.Io.KnownBytes.{IsAtEnd};
 ghost use Rattle.graph_model.specs.Told.{WhereTold};
-ghost use Rattle.tao_core.specs.Shown.{shown};
 ghost use Rattle.tao_io.specs.LineReader.{may_give, to_come};
 ghost use Rattle.tao_io.specs.Lines.{CountsTaken};
-ghost use Rattle.tao_top.specs.Kept.{IsServing, StillBegin};
-ghost use Rattle.tao_top.specs.Served.{Served, ServedAll, ServedInPart, serves};
+ghost use Rattle.tao_top.specs.Kept.{LeavesTables, MayServe};
+ghost use Rattle.tao_top.specs.Served.{Served, ServedAll, ServedInPart, serves, streams};
 ghost use Rattle.tao_top.specs.Stop.{FaultsGrow, InterruptHasCause, faults};
 
 use crate::serving::Serving;
@@ -16,6 +15,7 @@ use tao_io::{LineReader, NextLine, Sink, Source};
 use tao_keeper::Keeper;
 
 /// Reads a line, answers it, and writes the reply. Says whether there was a line.
+#[tactic(auto, using(crate::proofs::Keeping::leaves_same))]
 fn serve_line<R: Source, S: Sink, K: Keeper>(
     alloc: Global,
     serving: &mut Serving<'_>,
@@ -24,18 +24,16 @@ fn serve_line<R: Source, S: Sink, K: Keeper>(
     output: &mut S,
     keepers: &mut K,
 ) -> Result<bool, Interrupt>
-    requires serving { IsServing K.TELLS serving.old (K.told keepers.old) }
-    ensures ok { OnOk result (Served K.TELLS (serves serving.old (shown K.told K.calls K.faults keepers.old))
-        (serves serving.new (shown K.told K.calls K.faults keepers.new)) (to_come reader.old
-        (R.left input.old)) (to_come reader.new (R.left input.new)) (S.taken output.old) (S.taken output.new)) }
+    requires serving { MayServe K.TELLS serving.old (K.state keepers.old).told }
+    ensures ok { OnOk result (Served K.TELLS (serves serving.old (K.state keepers.old)) (serves serving.new (K.state keepers.new)) (streams (to_come reader.old (R.left input.old)) (S.taken output.old)) (streams (to_come reader.new (R.left input.new)) (S.taken output.new))) }
     ensures uses { result ≡ Ok true → may_give reader.new < may_give reader.old }
     ensures end { result ≡ Ok false → IsAtEnd (to_come reader.new (R.left input.new)) }
     ensures short { result ≡ Ok false → reader.new.taken < 2 ^ 40 }
-    ensures serving { IsServing K.TELLS serving.new (K.told keepers.new) }
-    ensures still { WhereTold K.TELLS (StillBegin (K.told keepers.old) (K.told keepers.new)) }
+    ensures serving { MayServe K.TELLS serving.new (K.state keepers.new).told }
+    ensures tables { LeavesTables K.TELLS (K.state keepers.old) (K.state keepers.new) }
 
     ensures err { OnErr result (ServedInPart K.TELLS (serves serving.old
-        (shown K.told K.calls K.faults keepers.old)) (shown K.told K.calls K.faults keepers.new) (to_come reader.old
+        (K.state keepers.old)) (K.state keepers.new) (to_come reader.old
         (R.left input.old)) (S.taken output.old) (S.taken output.new)) }
     ensures cause { IfErr result (InterruptHasCause (faults (R.faults input.old) (S.faults output.old)) (faults (R.faults input.new) (S.faults output.new))) }
     ensures long { IsErrOf result Interrupt.InputTooLong → reader.new.taken ≡ 2 ^ 40 }
@@ -67,17 +65,17 @@ pub(crate) fn serve<R: Source, S: Sink, K: Keeper>(
     output: &mut S,
     keepers: &mut K,
 ) -> Result<(), Interrupt>
-    requires serving { IsServing K.TELLS serving.old (K.told keepers.old) }
-    ensures ok { OnOk result (ServedAll K.TELLS (serves serving.old (shown K.told K.calls K.faults keepers.old))
-        (serves serving.new (shown K.told K.calls K.faults keepers.new)) (to_come reader.old (R.left input.old))
+    requires serving { MayServe K.TELLS serving.old (K.state keepers.old).told }
+    ensures ok { OnOk result (ServedAll K.TELLS (serves serving.old (K.state keepers.old))
+        (serves serving.new (K.state keepers.new)) (to_come reader.old (R.left input.old))
         (S.taken output.old) (S.taken output.new)) }
     ensures end { OnOk result (IsAtEnd (to_come reader.new (R.left input.new))) }
     ensures short { OnOk result (reader.new.taken < 2 ^ 40) }
-    ensures serving { IsServing K.TELLS serving.new (K.told keepers.new) }
-    ensures still { WhereTold K.TELLS (StillBegin (K.told keepers.old) (K.told keepers.new)) }
+    ensures serving { MayServe K.TELLS serving.new (K.state keepers.new).told }
+    ensures tables { LeavesTables K.TELLS (K.state keepers.old) (K.state keepers.new) }
 
     ensures err { OnErr result (ServedInPart K.TELLS (serves serving.old
-        (shown K.told K.calls K.faults keepers.old)) (shown K.told K.calls K.faults keepers.new) (to_come reader.old
+        (K.state keepers.old)) (K.state keepers.new) (to_come reader.old
         (R.left input.old)) (S.taken output.old) (S.taken output.new)) }
     ensures cause { IfErr result (InterruptHasCause (faults (R.faults input.old) (S.faults output.old)) (faults (R.faults input.new) (S.faults output.new))) }
     ensures long { IsErrOf result Interrupt.InputTooLong → reader.new.taken ≡ 2 ^ 40 }

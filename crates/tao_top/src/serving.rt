@@ -1,15 +1,16 @@
 //! A core that serves by its configuration: a line answered, and its reply written.
+ghost use Rattle.tao_keeper.specs.KeeperState.{IsLater};
 ghost use Rattle.std.specs.Prelude.{◌≡◌, ◌≤◌, [], Ok, IfOk, IfErr, OnOk, OnErr};
 ghost use Rattle.std.specs.Io.KnownBytes.{Appends};
 ghost use Rattle.config_json.specs.Config.{config_in};
 ghost use Rattle.graph_model.specs.Told.{WhereTold};
 ghost use Rattle.request_json.specs.Requests.{request_in};
+ghost use Rattle.tao_core.specs.Core.{moment};
 ghost use Rattle.tao_core.specs.Opening.{IsOpened, MayOpen, RefusesOpening};
-ghost use Rattle.tao_core.specs.Shown.{IsLater, shown};
 ghost use Rattle.tao_top.specs.Begun.{RepliesInPart};
-ghost use Rattle.tao_top.specs.Kept.{IsServing, StillBegin};
+ghost use Rattle.tao_top.specs.Kept.{LeavesTables, MayServe};
 ghost use Rattle.tao_top.specs.Served.{AppendsPart, serves};
-ghost use Rattle.tao_top.specs.Step.{Replies, Serves, line_of, serving};
+ghost use Rattle.tao_top.specs.Step.{AnswersLine, Replies, line_of, serving};
 ghost use Rattle.tao_top.specs.Stop.{InterruptsWriting};
 
 use crate::lines::say;
@@ -58,15 +59,15 @@ impl<'c> Serving<'c> {
         keepers: &mut K,
     ) -> Result<Serving<'c>, OpenRefusal>
         requires configured { config_in line.now ≡ Ok config.now }
-        requires sound { WhereTold K.TELLS (MayOpen config.now line.now (K.told keepers.old)) }
+        requires sound { WhereTold K.TELLS (MayOpen config.now line.now (K.state keepers.old).told) }
         ensures settings { IfOk result (λ serving. serving.settings ≡ config.now) }
         ensures sessions { IfOk result (λ serving. serving.sessions ≡ []) }
-        ensures opened { IfOk result (λ serving. WhereTold K.TELLS (IsOpened config.now line.now (K.told keepers.old) (K.told keepers.new))) }
-        ensures serving { IfOk result (λ serving. IsServing K.TELLS serving (K.told keepers.new)) }
+        ensures opened { IfOk result (λ serving. WhereTold K.TELLS (IsOpened config.now line.now (K.state keepers.old).told (K.state keepers.new).told)) }
+        ensures serving { IfOk result (λ serving. MayServe K.TELLS serving (K.state keepers.new).told) }
         ensures refused { IfErr result (RefusesOpening K.TELLS config.now line.now
-            (shown K.told K.calls K.faults keepers.old) (shown K.told K.calls K.faults keepers.new)) }
-        ensures still { WhereTold K.TELLS (StillBegin (K.told keepers.old) (K.told keepers.new)) }
-        ensures later { IsLater (shown K.told K.calls K.faults keepers.old) (shown K.told K.calls K.faults keepers.new) }
+            (K.state keepers.old) (K.state keepers.new)) }
+        ensures tables { LeavesTables K.TELLS (K.state keepers.old) (K.state keepers.new) }
+        ensures later { IsLater (K.state keepers.old) (K.state keepers.new) }
     {
         let core = Core::open(alloc, config, line, keepers)?;
         Ok(Serving { config, core })
@@ -89,30 +90,30 @@ impl<'c> Serving<'c> {
 
     /// The core's reply to a request.
     fn call<K: Keeper>(&mut self, alloc: Global, keepers: &mut K, request: &Request) -> Reply
-        requires serving { IsServing K.TELLS self.old (K.told keepers.old) }
-        ensures does { Serves K.TELLS self.old
-            (shown K.told K.calls K.faults keepers.old) (Ok request.now) result self.new (shown K.told K.calls K.faults keepers.new) }
-        ensures serving { IsServing K.TELLS self.new (K.told keepers.new) }
-        ensures still { WhereTold K.TELLS (StillBegin (K.told keepers.old) (K.told keepers.new)) }
-        ensures later { IsLater (shown K.told K.calls K.faults keepers.old) (shown K.told K.calls K.faults keepers.new) }
+        requires serving { MayServe K.TELLS self.old (K.state keepers.old).told }
+        ensures does { AnswersLine K.TELLS (moment self.old (K.state keepers.old)) (Ok request.now) result (moment self.new (K.state keepers.new)) }
+        ensures serving { MayServe K.TELLS self.new (K.state keepers.new).told }
+        ensures tables { LeavesTables K.TELLS (K.state keepers.old) (K.state keepers.new) }
+        ensures later { IsLater (K.state keepers.old) (K.state keepers.new) }
     {
         self.core.call(alloc, keepers, request)
     }
 
     /// The reply to a line.
+    #[tactic(auto, using(crate::proofs::Keeping::leaves_same))]
     fn answer<K: Keeper>(
         &mut self,
         alloc: Global,
         keepers: &mut K,
         line: &[u8],
     ) -> Result<Reply, AllocError>
-        requires serving { IsServing K.TELLS self.old (K.told keepers.old) }
-        ensures does { IfOk result (λ reply. Serves K.TELLS self.old
-            (shown K.told K.calls K.faults keepers.old) (request_in line.now) reply self.new (shown K.told K.calls K.faults keepers.new)) }
+        requires serving { MayServe K.TELLS self.old (K.state keepers.old).told }
+        ensures does { IfOk result (λ reply. AnswersLine K.TELLS (moment self.old (K.state keepers.old)) (request_in line.now) reply
+            (moment self.new (K.state keepers.new))) }
         ensures same { OnErr result ((self.new ≡ self.old) × (keepers.new ≡ keepers.old)) }
-        ensures serving { IsServing K.TELLS self.new (K.told keepers.new) }
-        ensures still { WhereTold K.TELLS (StillBegin (K.told keepers.old) (K.told keepers.new)) }
-        ensures later { IsLater (shown K.told K.calls K.faults keepers.old) (shown K.told K.calls K.faults keepers.new) }
+        ensures serving { MayServe K.TELLS self.new (K.state keepers.new).told }
+        ensures tables { LeavesTables K.TELLS (K.state keepers.old) (K.state keepers.new) }
+        ensures later { IsLater (K.state keepers.old) (K.state keepers.new) }
     {
         match read_request(alloc, line) {
             Ok(request) => Ok(self.call(alloc, keepers, &request)),
@@ -134,15 +135,15 @@ impl<'c> Serving<'c> {
         output: &mut S,
         line: &[u8],
     ) -> Result<(), Interrupt>
-        requires serving { IsServing K.TELLS self.old (K.told keepers.old) }
-        ensures ok { OnOk result (Replies K.TELLS (serves self.old (shown K.told K.calls K.faults keepers.old)) line.now
-            (serves self.new (shown K.told K.calls K.faults keepers.new)) (Appends
+        requires serving { MayServe K.TELLS self.old (K.state keepers.old).told }
+        ensures ok { OnOk result (Replies K.TELLS (serves self.old (K.state keepers.old)) line.now
+            (serves self.new (K.state keepers.new)) (Appends
             (S.taken output.old) (S.taken output.new))) }
         ensures err { OnErr result (RepliesInPart K.TELLS (serves self.old
-            (shown K.told K.calls K.faults keepers.old)) line.now
-            (serves self.new (shown K.told K.calls K.faults keepers.new)) (S.taken output.old) (S.taken output.new)) }
-        ensures serving { IsServing K.TELLS self.new (K.told keepers.new) }
-        ensures still { WhereTold K.TELLS (StillBegin (K.told keepers.old) (K.told keepers.new)) }
+            (K.state keepers.old)) line.now
+            (serves self.new (K.state keepers.new)) (S.taken output.old) (S.taken output.new)) }
+        ensures serving { MayServe K.TELLS self.new (K.state keepers.new).told }
+        ensures tables { LeavesTables K.TELLS (K.state keepers.old) (K.state keepers.new) }
         ensures cause { IfErr result (InterruptsWriting (S.faults output.old) (S.faults output.new)) }
         ensures later { S.faults output.old ≤ S.faults output.new }
     {

@@ -3,9 +3,9 @@ ghost use Rattle.std.specs.Prelude.{◌≡◌, ◌⊎◌, ◌↔◌, ◌<◌, �
 ghost use Rattle.std.specs.Io.KnownBytes.{IsAtEnd};
 ghost use Rattle.counts.specs.Count.{Rose};
 ghost use Rattle.graph_model.specs.Told.{WhereTold};
-ghost use Rattle.tao_core.specs.Shown.{shown};
-ghost use Rattle.tao_top.specs.Kept.{MayRun, StillBegin};
-ghost use Rattle.tao_top.specs.Served.{Done, EndsInPart, FailsOpening, RefusesConfiguration, StopsOpening, is_run};
+ghost use Rattle.tao_keeper.specs.Growing.{LogsGrow};
+ghost use Rattle.tao_top.specs.Kept.{LeavesTables, MayRun, StillBegin};
+ghost use Rattle.tao_top.specs.Served.{Done, EndsInPart, FailsOpening, RefusesConfiguration, StopsOpening, is_run, traces};
 ghost use Rattle.tao_top.specs.Stop.{StopHasCause, faults, stop_code};
 ghost use Rattle.tao_top.specs.declared.stop.Interrupt.TheVariants.{InputTooLong};
 ghost use Rattle.tao_top.specs.Status.{IsGood, IsStatus, NoFault};
@@ -19,29 +19,29 @@ use tao_io::{LineReader, Sink, Source, Status};
 use tao_keeper::Keeper;
 
 /// Reads the lines of the input, and writes the reply to each.
+#[tactic(auto, using(crate::proofs::Keeping::leaves_same))]
 fn go<R: Source, S: Sink, K: Keeper>(
     alloc: Global,
     input: &mut R,
     output: &mut S,
     keepers: &mut K,
 ) -> Result<(), Stop>
-    requires sound { WhereTold K.TELLS (MayRun (R.left input.old) (K.told keepers.old)) }
-    ensures still { WhereTold K.TELLS (StillBegin (K.told keepers.old) (K.told keepers.new)) }
+    requires sound { WhereTold K.TELLS (MayRun (R.left input.old) (K.state keepers.old).told) }
+    ensures tables { LeavesTables K.TELLS (K.state keepers.old) (K.state keepers.new) }
     ensures ok { OnOk result (Done K.TELLS
-        (shown K.told K.calls K.faults keepers.old) (shown K.told K.calls K.faults keepers.new) (R.left input.old)
+        (K.state keepers.old) (K.state keepers.new) (R.left input.old)
         (S.taken output.old) (S.taken output.new)) }
     ensures short { OnOk result (IfSome (R.left input.old) (λ bytes. length bytes < 2 ^ 40)) }
-    ensures err { IfErr result (λ stop. EndsInPart (stop_code stop) K.TELLS
-        (shown K.told K.calls K.faults keepers.old) (shown K.told K.calls K.faults keepers.new) (R.left input.old)
-        (S.taken output.old) (S.taken output.new)) }
+    ensures err { IfErr result (λ stop. EndsInPart (stop_code stop) K.TELLS (traces (K.state keepers.old) (S.taken output.old)) (traces (K.state keepers.new) (S.taken output.new)) (R.left input.old)) }
     ensures keepers { result ≡ Err Stop.Keepers → StopsOpening K.TELLS
-        (shown K.told K.calls K.faults keepers.old) (shown K.told K.calls K.faults keepers.new) (R.left input.old)
+        (K.state keepers.old) (K.state keepers.new) (R.left input.old)
         (S.taken output.old) (S.taken output.new) }
     ensures refused { result ≡ Err Stop.Configuration → RefusesConfiguration K.TELLS
-        (shown K.told K.calls K.faults keepers.old) (shown K.told K.calls K.faults keepers.new) (R.left input.old)
+        (K.state keepers.old) (K.state keepers.new) (R.left input.old)
         (S.taken output.old) (S.taken output.new) }
     ensures cause { IfErr result (StopHasCause
-        (faults (R.faults input.old) (S.faults output.old)) (faults (R.faults input.new) (S.faults output.new)) (K.faults keepers.old) (K.faults keepers.new)) }
+        (faults (R.faults input.old) (S.faults output.old)) (faults (R.faults input.new) (S.faults output.new))
+        (K.state keepers.old).faults (K.state keepers.new).faults) }
     ensures long { result ≡ Err (Stop.Interrupted InputTooLong) → IfSome (R.left input.old) (λ bytes. 2 ^ 40 ≤ length bytes) }
 
     ensures taken { Takes (R.left input.old) (R.left input.new) }
@@ -87,25 +87,24 @@ pub fn run<R: Source, S: Sink, K: Keeper>(
     keepers: &mut K,
 ) -> Status
     // What the first line opens is sound with it. A later run may begin with each line with which this one might.
-    requires sound { WhereTold K.TELLS (MayRun (R.left input.old) (K.told keepers.old)) }
-    ensures still { WhereTold K.TELLS (StillBegin (K.told keepers.old) (K.told keepers.new)) }
+    requires sound { WhereTold K.TELLS (MayRun (R.left input.old) (K.state keepers.old).told) }
+    ensures still { WhereTold K.TELLS (StillBegin (K.state keepers.old).told (K.state keepers.new).told) }
+    ensures histories { LogsGrow K.TELLS (K.state keepers.old).told (K.state keepers.new).told }
 
     ensures done { result.code ≡ 0 → Done K.TELLS
-        (shown K.told K.calls K.faults keepers.old) (shown K.told K.calls K.faults keepers.new) (R.left input.old)
+        (K.state keepers.old) (K.state keepers.new) (R.left input.old)
         (S.taken output.old) (S.taken output.new) }
-    ensures in_part { EndsInPart result.code K.TELLS
-        (shown K.told K.calls K.faults keepers.old) (shown K.told K.calls K.faults keepers.new) (R.left input.old)
-        (S.taken output.old) (S.taken output.new) }
+    ensures in_part { EndsInPart result.code K.TELLS (traces (K.state keepers.old) (S.taken output.old)) (traces (K.state keepers.new) (S.taken output.new)) (R.left input.old) }
 
     ensures words { (result.code ≡ 2) ↔ (is_run (map string_bytes words.now) ≡ false) }
     ensures idle { result.code ≡ 2 → (input.new ≡ input.old) × (output.new ≡ output.old) × (keepers.new ≡ keepers.old) }
     ensures configuration { result.code ≡ 3 → RefusesConfiguration K.TELLS
-        (shown K.told K.calls K.faults keepers.old) (shown K.told K.calls K.faults keepers.new) (R.left input.old)
+        (K.state keepers.old) (K.state keepers.new) (R.left input.old)
         (S.taken output.old) (S.taken output.new) }
     ensures source { result.code ≡ 4 → Rose (R.faults input.old) (R.faults input.new) }
     ensures sink { result.code ≡ 5 → Rose (S.faults output.old) (S.faults output.new) }
     ensures keepers { result.code ≡ 6 → FailsOpening K.TELLS
-        (shown K.told K.calls K.faults keepers.old) (shown K.told K.calls K.faults keepers.new) (R.left input.old)
+        (K.state keepers.old) (K.state keepers.new) (R.left input.old)
         (S.taken output.old) (S.taken output.new) }
     ensures long { result.code ≡ 9 → IfSome (R.left input.old) (λ bytes. 2 ^ 40 ≤ length bytes) }
     ensures short { result.code ≡ 0 → IfSome (R.left input.old) (λ bytes. length bytes < 2 ^ 40) }
@@ -116,9 +115,9 @@ pub fn run<R: Source, S: Sink, K: Keeper>(
     ensures at_first { result.code ≡ 3 → TakesFirst (R.left input.old) (R.left input.new) }
 
     // Completeness: where the word and the first line are good and nothing fails, only want of memory stops it.
-    ensures complete { IsGood K.TELLS (map string_bytes words.now) (shown K.told K.calls K.faults keepers.old) (R.left input.old)
+    ensures complete { IsGood K.TELLS (map string_bytes words.now) (K.state keepers.old) (R.left input.old)
         → NoFault (faults (R.faults input.old) (S.faults output.old)) (faults (R.faults input.new) (S.faults output.new))
-        (K.faults keepers.old) (K.faults keepers.new)
+        (K.state keepers.old).faults (K.state keepers.new).faults
         → (result.code ≡ 0) ⊎ (result.code ≡ 7) }
 {
     let code = if !is_run(words) {

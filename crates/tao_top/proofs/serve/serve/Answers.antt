@@ -1,11 +1,12 @@
 use Rattle.std.proofs.Common.{Ok, ap, arith}
 use Rattle.tao_io.proofs.GivenLines.{CountsTaken-nil, CountsTaken-trans}
+use Rattle.tao_top.proofs.Keeping.{leaves_same, leaves_then}
 use Rattle.tao_top.proofs.OneLine.{OnErr-any}
 use Rattle.tao_top.proofs.GoingOn.{served_all, served_none, served_then_part, served_trans}
 use Rattle.tao_top.proofs.serve.serve.Goals as goal
 
 pub lines-init : goal.lines-init
-lines-init g c = record { served = served_none _ _ _ _; serving = c.requires.serving; counted = CountsTaken-nil _ _; still = λ told line may. may; later = record { source = omega arith; sink = omega arith } }
+lines-init g c = record { served = served_none _ _ _ _; serving = c.requires.serving; counted = CountsTaken-nil _ _; tables = leaves_same _ _; later = record { source = omega arith; sink = omega arith } }
 
 pub returns-in_err-serve_line-clause-err : goal.returns-in_err-serve_line-clause-err
 returns-in_err-serve_line-clause-err g c = OnErr-any _ _ (served_then_part _ _ _ _ _ _ _ _ _ c.lines.invariant.served c.in_err-serve_line.ensures.err)
@@ -13,11 +14,11 @@ returns-in_err-serve_line-clause-err g c = OnErr-any _ _ (served_then_part _ _ _
 pub returns-in_err-serve_line-clause-counted : goal.returns-in_err-serve_line-clause-counted
 returns-in_err-serve_line-clause-counted g c = CountsTaken-trans _ _ _ _ _ _ c.lines.invariant.counted c.serve_line.ensures.counted
 
-pub returns-in_err-serve_line-clause-still : goal.returns-in_err-serve_line-clause-still
-returns-in_err-serve_line-clause-still g c = λ told line may. c.serve_line.ensures.still told line (c.lines.invariant.still told line may)
+pub returns-in_err-serve_line-clause-tables : goal.returns-in_err-serve_line-clause-tables
+returns-in_err-serve_line-clause-tables g c = leaves_then _ _ _ _ c.lines.invariant.tables c.serve_line.ensures.tables
 
-pub returns-then-not-branch-clause-still : goal.returns-then-not-branch-clause-still
-returns-then-not-branch-clause-still g c = λ told line may. c.serve_line.ensures.still told line (c.lines.invariant.still told line may)
+pub returns-then-not-branch-clause-tables : goal.returns-then-not-branch-clause-tables
+returns-then-not-branch-clause-tables g c = leaves_then _ _ _ _ c.lines.invariant.tables c.serve_line.ensures.tables
 
 pub returns-then-not-branch-clause-ok : goal.returns-then-not-branch-clause-ok
 returns-then-not-branch-clause-ok g c =
@@ -31,6 +32,6 @@ lines-preserved g c = record {
   served = served_trans _ _ _ _ _ _ _ _ _ _ c.lines.invariant.served c.in_ok-serve_line.ensures.ok;
   serving = c.serve_line.ensures.serving;
   counted = CountsTaken-trans _ _ _ _ _ _ c.lines.invariant.counted c.serve_line.ensures.counted;
-  still = λ told line may. c.serve_line.ensures.still told line (c.lines.invariant.still told line may);
+  tables = leaves_then _ _ _ _ c.lines.invariant.tables c.serve_line.ensures.tables;
   later = record { source = omega arith; sink = omega arith };
 }

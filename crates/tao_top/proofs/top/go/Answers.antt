@@ -1,44 +1,44 @@
 use Rattle.std.proofs.Common.{◌≡◌, Err, ap, inr, subst, sym}
 use Rattle.std.proofs.lemmas.Result.{err_from_is_err_and}
-use Rattle.tao_core.specs.Shown.{shown}
 use Rattle.tao_io.proofs.GivenLines.{CountsTaken-trans}
 use Rattle.tao_top.proofs.FirstLine.{gives_one}
+use Rattle.tao_top.proofs.Keeping.{leaves_then}
 use Rattle.tao_top.proofs.OneLine.{IfErr-any, part_unread}
 use Rattle.tao_top.proofs.WholeRun.{begun_in_part, begun_opening, begun_refused, begun_well, done, done_part, end_of_source, first_in_part, first_refused, fresh, long_input, may_open, short_input, takes_counted, takes_first, takes_none}
-use Rattle.tao_top.specs.Served.{EndsInPart, start}
+use Rattle.tao_top.specs.Served.{EndsInPart, start, traces}
 use Rattle.tao_top.specs.Stop.{stop_code}
 use Rattle.tao_top.specs.declared.stop.Interrupt.TheVariants.{InputTooLong}
 use Rattle.tao_top.specs.declared.stop.Stop.TheVariants.{Configuration, Keepers}
 use Rattle.tao_top.proofs.top.go.Goals as goal
 
 pub returns-in_err-reader-clause-err : goal.returns-in_err-reader-clause-err
-returns-in_err-reader-clause-err g c = IfErr-any _ _ (λ stop. inr (inr (part_unread g.K.Keeper.TELLS (start (shown g.K.Keeper.told g.K.Keeper.calls g.K.Keeper.faults c.args.keepers.now)) _ _)))
+returns-in_err-reader-clause-err g c = IfErr-any _ _ (λ stop. inr (inr (part_unread g.K.Keeper.TELLS (start (g.K.Keeper.state c.args.keepers.now)) _ _)))
 
 pub returns-in_err-first-clause-err : goal.returns-in_err-first-clause-err
 returns-in_err-first-clause-err g c =
-    IfErr-any _ _ (λ stop. inr (first_in_part g.K.Keeper.TELLS (shown g.K.Keeper.told g.K.Keeper.calls g.K.Keeper.faults c.args.keepers.now) _ _ _ _ (fresh c.in_ok-reader.reader _ c.in_ok-reader.ensures.ahead) c.in_err-first.ensures.err))
+    IfErr-any _ _ (λ stop. inr (first_in_part g.K.Keeper.TELLS (g.K.Keeper.state c.args.keepers.now) _ _ _ _ (fresh c.in_ok-reader.reader _ c.in_ok-reader.ensures.ahead) c.in_err-first.ensures.err))
 
 pub returns-in_err-first-clause-refused : goal.returns-in_err-first-clause-refused
 returns-in_err-first-clause-refused g c = λ e.
     let p = err_from_is_err_and c.from_residual-in_err-first.result c.from_residual-in_err-first.ensures.1 in
     let same : c.in_err-first.field-0.0 ≡ Configuration = cc (e, p.1, p.2) in
-    first_refused g.K.Keeper.TELLS (shown g.K.Keeper.told g.K.Keeper.calls g.K.Keeper.faults c.args.keepers.now) _ _ _ _ (fresh c.in_ok-reader.reader _ c.in_ok-reader.ensures.ahead)
+    first_refused g.K.Keeper.TELLS (g.K.Keeper.state c.args.keepers.now) _ _ _ _ (fresh c.in_ok-reader.reader _ c.in_ok-reader.ensures.ahead)
     (c.in_err-first.ensures.refused (ap (λ s. Err s) same))
 
 pub returns-in_err-serving-clause-err : goal.returns-in_err-serving-clause-err
 returns-in_err-serving-clause-err g c =
-    let keepers = shown g.K.Keeper.told g.K.Keeper.calls g.K.Keeper.faults in
+    let keepers = g.K.Keeper.state in
     let p = err_from_is_err_and c.from_residual-in_err-serving.result c.from_residual-in_err-serving.ensures.1 in
     let part =
     begun_in_part g.K.Keeper.TELLS (keepers c.args.keepers.now) (keepers c.begin.new.keepers) _ _ _ _ _ _ c.in_ok-first.first.line.items
     (fresh c.in_ok-reader.reader _ c.in_ok-reader.ensures.ahead) (ap g.S.Sink.taken c.in_ok-first.ensures.silent) c.in_ok-first.ensures.line (stop_code c.in_err-serving.field-0.0) c.in_err-serving.ensures.err in
     rw p.1 (subst
-    (λ stop. EndsInPart (stop_code stop) g.K.Keeper.TELLS (keepers c.args.keepers.now) (keepers c.begin.new.keepers) (g.R.Source.left c.args.input.now) (g.S.Sink.taken c.args.output.now) (g.S.Sink.taken c.begin.new.output))
+    (λ stop. EndsInPart (stop_code stop) g.K.Keeper.TELLS (traces (keepers c.args.keepers.now) (g.S.Sink.taken c.args.output.now)) (traces (keepers c.begin.new.keepers) (g.S.Sink.taken c.begin.new.output)) (g.R.Source.left c.args.input.now))
     (sym p.2) part)
 
 pub returns-in_err-serving-clause-refused : goal.returns-in_err-serving-clause-refused
 returns-in_err-serving-clause-refused g c = λ e.
-    let keepers = shown g.K.Keeper.told g.K.Keeper.calls g.K.Keeper.faults in
+    let keepers = g.K.Keeper.state in
     let p = err_from_is_err_and c.from_residual-in_err-serving.result c.from_residual-in_err-serving.ensures.1 in
     let same : c.in_err-serving.field-0.0 ≡ Configuration = cc (e, p.1, p.2) in
     begun_refused g.K.Keeper.TELLS (keepers c.args.keepers.now) (keepers c.begin.new.keepers) _ _ _ _ _ _ c.in_ok-first.first.line.items
@@ -46,7 +46,7 @@ returns-in_err-serving-clause-refused g c = λ e.
 
 pub returns-in_err-serve-clause-err : goal.returns-in_err-serve-clause-err
 returns-in_err-serve-clause-err g c =
-    let keepers = shown g.K.Keeper.told g.K.Keeper.calls g.K.Keeper.faults in
+    let keepers = g.K.Keeper.state in
     IfErr-any _ _ (λ stop. inr (done_part g.K.Keeper.TELLS (keepers c.args.keepers.now) (keepers c.begin.new.keepers) (keepers c.serve.new.keepers) c.in_ok-serving.serving _ _ _ _ _
     (begun_well g.K.Keeper.TELLS (keepers c.args.keepers.now) (keepers c.begin.new.keepers) _ _ _ _ _ _ c.in_ok-first.first.line.items
     (fresh c.in_ok-reader.reader _ c.in_ok-reader.ensures.ahead) (ap g.S.Sink.taken c.in_ok-first.ensures.silent) c.in_ok-first.ensures.line c.in_ok-serving.serving c.in_ok-serving.ensures.ok)
@@ -60,7 +60,7 @@ returns-in_err-serve-clause-long g c = λ e.
 
 pub returns-clause-ok : goal.returns-clause-ok
 returns-clause-ok g c =
-    let keepers = shown g.K.Keeper.told g.K.Keeper.calls g.K.Keeper.faults in
+    let keepers = g.K.Keeper.state in
     done g.K.Keeper.TELLS (keepers c.args.keepers.now) (keepers c.begin.new.keepers) (keepers c.serve.new.keepers) c.in_ok-serving.serving _ _ _ _ _
     (begun_well g.K.Keeper.TELLS (keepers c.args.keepers.now) (keepers c.begin.new.keepers) _ _ _ _ _ _ c.in_ok-first.first.line.items
     (fresh c.in_ok-reader.reader _ c.in_ok-reader.ensures.ahead) (ap g.S.Sink.taken c.in_ok-first.ensures.silent) c.in_ok-first.ensures.line c.in_ok-serving.serving c.in_ok-serving.ensures.ok)
@@ -73,12 +73,12 @@ returns-clause-short g c =
 
 pub begin-requires-clause-sound : goal.begin-requires-clause-sound
 begin-requires-clause-sound g c =
-    may_open g.K.Keeper.TELLS (g.K.Keeper.told c.args.keepers.now) _ _ _ c.in_ok-first.first.line.items c.in_ok-first.first.config (fresh c.in_ok-reader.reader _ c.in_ok-reader.ensures.ahead)
+    may_open g.K.Keeper.TELLS (g.K.Keeper.state c.args.keepers.now).told _ _ _ c.in_ok-first.first.line.items c.in_ok-first.first.config (fresh c.in_ok-reader.reader _ c.in_ok-reader.ensures.ahead)
     c.in_ok-first.ensures.line c.in_ok-first.ensures.configured c.requires.sound
 
 pub returns-in_err-serving-clause-keepers : goal.returns-in_err-serving-clause-keepers
 returns-in_err-serving-clause-keepers g c = λ e.
-    let keepers = shown g.K.Keeper.told g.K.Keeper.calls g.K.Keeper.faults in
+    let keepers = g.K.Keeper.state in
     let p = err_from_is_err_and c.from_residual-in_err-serving.result c.from_residual-in_err-serving.ensures.1 in
     let same : c.in_err-serving.field-0.0 ≡ Keepers = cc (e, p.1, p.2) in
     begun_opening g.K.Keeper.TELLS (keepers c.args.keepers.now) (keepers c.begin.new.keepers) _ _ _ _ _ _ c.in_ok-first.first.line.items
@@ -109,8 +109,8 @@ pub returns-in_err-serve-clause-taken : goal.returns-in_err-serve-clause-taken
 returns-in_err-serve-clause-taken g c =
     takes_counted _ _ _ _ c.in_ok-reader.ensures.taken (CountsTaken-trans _ _ _ _ _ _ c.read_first.ensures.counted c.serve.ensures.counted) c.serve.ensures.limited
 
-pub returns-in_err-serve-clause-still : goal.returns-in_err-serve-clause-still
-returns-in_err-serve-clause-still g c = λ told line may. c.serve.ensures.still told line (c.begin.ensures.still told line may)
+pub returns-in_err-serve-clause-tables : goal.returns-in_err-serve-clause-tables
+returns-in_err-serve-clause-tables g c = leaves_then _ _ _ _ c.begin.ensures.tables c.serve.ensures.tables
 
 pub returns-clause-taken : goal.returns-clause-taken
 returns-clause-taken g c =
@@ -119,5 +119,5 @@ returns-clause-taken g c =
 pub returns-clause-at_end : goal.returns-clause-at_end
 returns-clause-at_end g c = end_of_source c.serve.new.reader.ahead _ c.in_ok-serve.ensures.end
 
-pub returns-clause-still : goal.returns-clause-still
-returns-clause-still g c = λ told line may. c.serve.ensures.still told line (c.begin.ensures.still told line may)
+pub returns-clause-tables : goal.returns-clause-tables
+returns-clause-tables g c = leaves_then _ _ _ _ c.begin.ensures.tables c.serve.ensures.tables

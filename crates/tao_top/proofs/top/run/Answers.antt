@@ -1,30 +1,28 @@
 use Rattle.std.proofs.Common.{Err, ap, inr, subst, sym, ◌∙◌}
-use Rattle.std.proofs.lemmas.Bool.{false≢true}
 use Rattle.tao_top.proofs.Complete.{known_status}
 use Rattle.tao_top.proofs.OneLine.{part_unread}
 use Rattle.tao_top.proofs.WholeRun.{done_whole, fails_opening, takes_none}
-use Rattle.tao_core.specs.Shown.{shown}
-use Rattle.tao_top.specs.Served.{EndsInPart, start}
+use Rattle.tao_top.specs.Served.{EndsInPart, start, traces}
 use Rattle.tao_top.specs.Status.{IsStatus}
 use Rattle.tao_top.proofs.top.run.Goals as goal
 
 pub returns-then-not-is_run-clause-in_part : goal.returns-then-not-is_run-clause-in_part
-returns-then-not-is_run-clause-in_part g c = inr (inr (part_unread g.K.Keeper.TELLS (start (shown g.K.Keeper.told g.K.Keeper.calls g.K.Keeper.faults c.args.keepers.now)) _ _))
+returns-then-not-is_run-clause-in_part g c = inr (inr (part_unread g.K.Keeper.TELLS (start (g.K.Keeper.state c.args.keepers.now)) _ _))
 
 pub returns-in-Ok-clause-in_part : goal.returns-in-Ok-clause-in_part
 returns-in-Ok-clause-in_part g c =
-    let keepers = shown g.K.Keeper.told g.K.Keeper.calls g.K.Keeper.faults in
+    let keepers = g.K.Keeper.state in
     inr (done_whole g.K.Keeper.TELLS (keepers c.args.keepers.now) (keepers c.go.new.keepers) _ _ _ c.in-Ok.ensures.ok)
 
 pub returns-in-Err-clause-in_part : goal.returns-in-Err-clause-in_part
 returns-in-Err-clause-in_part g c =
-    let keepers = shown g.K.Keeper.told g.K.Keeper.calls g.K.Keeper.faults in
-    subst (λ code. EndsInPart code g.K.Keeper.TELLS (keepers c.args.keepers.now) (keepers c.go.new.keepers) (g.R.Source.left c.args.input.now) (g.S.Sink.taken c.args.output.now) (g.S.Sink.taken c.go.new.output))
+    let keepers = g.K.Keeper.state in
+    subst (λ code. EndsInPart code g.K.Keeper.TELLS (traces (keepers c.args.keepers.now) (g.S.Sink.taken c.args.output.now)) (traces (keepers c.go.new.keepers) (g.S.Sink.taken c.go.new.output)) (g.R.Source.left c.args.input.now))
     (sym c.code.ensures) c.in-Err.ensures.err
 
 pub returns-in-Err-clause-keepers : goal.returns-in-Err-clause-keepers
 returns-in-Err-clause-keepers g c = λ is.
-    let keepers = shown g.K.Keeper.told g.K.Keeper.calls g.K.Keeper.faults in
+    let keepers = g.K.Keeper.state in
     fails_opening g.K.Keeper.TELLS (keepers c.args.keepers.now) (keepers c.go.new.keepers) _ _ _ _ _ c.in-Err.stop (sym c.code.ensures ∙ is) (λ same. c.in-Err.ensures.keepers (ap (λ s. Err s) same)) c.in-Err.ensures.cause
 
 pub returns-then-not-is_run-clause-taken : goal.returns-then-not-is_run-clause-taken

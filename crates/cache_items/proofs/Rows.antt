@@ -44,11 +44,11 @@ module _ (items left : Items) (keys : List KeyVersion) (i : ℕ) (k : KeyVersion
   rest_step whole h = ap (λ xs. dropped xs (drop (i + 1) keys)) is ∙ sym (ap (dropped items) (first_is keys i k lt at)) ∙ h
 
   -- the rows of one more key
-  pub rows_step : (rows new whole : List DroppedList) → AddsRow (if is_stale items k then row_of k.key (item_at items k.key) else []) rows new
+  pub rows_step : (rows new whole : List DroppedList) → AddsRow (if is_stale items k then row_of k (item_at items k.key) else []) rows new
       → ((more : List DroppedList) → AreSome more (dropped_lists items (drop i keys)) → AreSome (rows ++ more) whole)
       → (more : List DroppedList) → AreSome more (dropped_lists left (drop (i + 1) keys)) → AreSome (new ++ more) whole
   rows_step rows new whole adds h more some =
-      rows_more (if is_stale items k then row_of k.key (item_at items k.key) else []) rows new whole (dropped_lists left (drop (i + 1) keys))
+      rows_more (if is_stale items k then row_of k (item_at items k.key) else []) rows new whole (dropped_lists left (drop (i + 1) keys))
       (λ more some. h more (subst (λ ks. AreSome more (dropped_lists items ks)) (sym (first_is keys i k lt at))
-      (subst (λ xs. AreSome more ((if is_stale items k then row_of k.key (item_at items k.key) else []) ++ dropped_lists xs (drop (i + 1) keys))) is some)))
+      (subst (λ xs. AreSome more ((if is_stale items k then row_of k (item_at items k.key) else []) ++ dropped_lists xs (drop (i + 1) keys))) is some)))
       adds more some

@@ -3,23 +3,22 @@ use Rattle.std.specs.Prelude.{◌≡◌, ◌⊎◌, ⊤, if◌then◌else◌, Li
 use Rattle.maint_msg.specs.declared.key_versions.KeyVersion.{KeyVersion}
 use Rattle.sealed_item.specs.declared.content.Content.{Content}
 use Rattle.sealed_item.specs.declared.content.Content.TheVariants.{Object as ObjectIs, List as ListIs}
-use Rattle.tao_base.specs.declared.id.Key.{Key}
 use Rattle.cache_items.specs.declared.item.Item.{Item}
 use Rattle.cache_items.specs.declared.delivered.DroppedList.{DroppedList}
 use Rattle.cache_items.specs.Node.{Items, item_at, is_stale, without_stale}
 
--- of a list its key and how many edges were held
-abbrev pub content_row : Key → Content → List DroppedList
-content_row key (ObjectIs found) = []
-content_row key (ListIs prefix) = record { key = key; length = length prefix.edges } ∷ []
+-- of a list its key, the version that it lacks and how many edges were held
+abbrev pub content_row : KeyVersion → Content → List DroppedList
+content_row k (ObjectIs found) = []
+content_row k (ListIs prefix) = record { key = k.key; version = k.version; length = length prefix.edges } ∷ []
 
-abbrev pub row_of : Key → Option Item → List DroppedList
-row_of key None = []
-row_of key (Some item) = content_row key item.content
+abbrev pub row_of : KeyVersion → Option Item → List DroppedList
+row_of k None = []
+row_of k (Some item) = content_row k item.content
 
 -- the row of the key's list, where that is below the version
 abbrev pub stale_row : Items → KeyVersion → List DroppedList
-stale_row items k = if is_stale items k then row_of k.key (item_at items k.key) else []
+stale_row items k = if is_stale items k then row_of k (item_at items k.key) else []
 
 -- the rows of the lists that are below their versions
 abbrev pub dropped_lists : Items → List KeyVersion → List DroppedList

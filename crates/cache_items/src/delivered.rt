@@ -3,15 +3,17 @@ ghost use Rattle.std.specs.Prelude.{◌≡◌};
 
 use crate::item::Item;
 use list_prefix::Prefix;
+use maint_msg::KeyVersion;
 use sealed_item::Content;
 use std::alloc::Global;
 use std::marker::Model;
 use tao_base::Key;
 
-/// A list that was dropped, and how many of its edges were held.
+/// A list that was dropped, the version that it lacked, and how many of its edges were held.
 #[derive(Debug, Clone, Copy, PartialEq, Eq)]
 pub struct DroppedList {
     pub key: Key,
+    pub version: u64,
     pub length: u64,
 }
 
@@ -43,27 +45,28 @@ impl DroppedLists {
     }
 
     /// Adds a row where the item is a list and there is memory for the row.
-    pub(crate) fn add(&mut self, key: &Key, item: &Option<Item>)
-        ensures { AddsRow (row_of key.now item.now) self.old self.new }
+    pub(crate) fn add(&mut self, touched: &KeyVersion, item: &Option<Item>)
+        ensures { AddsRow (row_of touched.now item.now) self.old self.new }
     {
         if let Some(item) = item {
-            self.add_content(key, &item.content);
+            self.add_content(touched, &item.content);
         }
     }
 
-    fn add_content(&mut self, key: &Key, content: &Content)
-        ensures { AddsRow (content_row key.now content.now) self.old self.new }
+    fn add_content(&mut self, touched: &KeyVersion, content: &Content)
+        ensures { AddsRow (content_row touched.now content.now) self.old self.new }
     {
         if let Content::List(prefix) = content {
-            self.add_list(key, prefix);
+            self.add_list(touched, prefix);
         }
     }
 
-    fn add_list(&mut self, key: &Key, prefix: &Prefix)
-        ensures { AddsRow (content_row key.now (Content.List prefix.now)) self.old self.new }
+    fn add_list(&mut self, touched: &KeyVersion, prefix: &Prefix)
+        ensures { AddsRow (content_row touched.now (Content.List prefix.now)) self.old self.new }
     {
         let row = DroppedList {
-            key: *key,
+            key: touched.key,
+            version: touched.version,
             length: prefix.edges().len() as u64,
         };
         let _ = self.rows.push(row);

@@ -499,17 +499,17 @@ impl Holdings {
         if !self.is_stale(&touched.key, touched.version) {
             return 0;
         }
-        self.drop_with_row(&touched.key, rows);
+        self.drop_with_row(touched, rows);
         1
     }
 
-    // Drops the item at the key, with a row where it is a list.
-    fn drop_with_row(&mut self, key: &Key, rows: &mut DroppedLists)
-        ensures node { self.new ≡ record self.old { items = without key.now self.old.items } }
-        ensures rows { AddsRow (row_of key.now (item_at self.old.items key.now)) rows.old rows.new }
+    // Drops the item at the touched key, with a row where it is a list.
+    fn drop_with_row(&mut self, touched: &KeyVersion, rows: &mut DroppedLists)
+        ensures node { self.new ≡ record self.old { items = without touched.now.key self.old.items } }
+        ensures rows { AddsRow (row_of touched.now (item_at self.old.items touched.now.key)) rows.old rows.new }
     {
-        let item = self.items.pop(key);
-        rows.add(key, &item);
+        let item = self.items.pop(&touched.key);
+        rows.add(touched, &item);
     }
 
     // Whether the item at the key is below the version.

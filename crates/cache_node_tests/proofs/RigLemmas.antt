@@ -8,6 +8,8 @@ use Rattle.tao_base.specs.declared.entry.Entry.{Entry}
 use Rattle.tao_base.specs.declared.id.AType.{AType}
 use Rattle.tao_base.specs.declared.id.Id.{Id}
 use Rattle.tao_base.specs.declared.id.Key.{Key}
+use Rattle.tao_base.specs.declared.id.Key.TheVariants.{List as Assocs}
+use Rattle.tao_base.specs.Queries.{query_shard}
 use Rattle.tao_base.specs.declared.query.Answer.{Answer}
 use Rattle.tao_base.specs.declared.query.Query.{Query}
 use Rattle.tao_base.specs.declared.query.Query.TheVariants.{AssocCount}
@@ -26,8 +28,9 @@ use Rattle.maint_msg.specs.declared.key_versions.KeyVersion.{KeyVersion}
 use Rattle.sealed_item.specs.Fills.{SealedItem}
 use Rattle.sealed_item.specs.declared.content.Content.{Content}
 use Rattle.sealed_item.specs.declared.content.Content.TheVariants.{List as ListIs}
-use Rattle.served_shards.specs.Begun.{AreNotesOf, restarted}
+use Rattle.served_shards.specs.Begun.{AreNotesOf, AreToldAlike, restarted}
 use Rattle.cache_items.specs.Node.{emptied, Items, Node, caught_up, delivered, dropped, met, processed, raised_all, with_ended_ask, with_opened_ask}
+use Rattle.cache_items.specs.HandedOn.{handed_on, with_copy}
 use Rattle.cache_items.specs.Kept.{ask_at, is_yes, item_of, kept_items, took, with_item}
 use Rattle.sealed_item.specs.Decided.{content_decides}
 use Rattle.served_shards.specs.Served.{ServedShard, changed_at, forgetting, log_at, low_at, marking, restarting, seeing, served_at, view_at}
@@ -149,6 +152,17 @@ module _ (key : Key) (old new : Node) (rig : IsRig key old) where
   after_own fill (Ok x) same same_err = subst (IsRig key) (sym same) (takes_in key fill x.1 old rig)
   after_own fill (Err e) same same_err = subst (IsRig key) (sym same_err) rig
 
+  pub after_copy : (fill : SealedItem) (kept : Kept) → new ≡ with_copy fill kept old → IsRig key new
+  after_copy fill kept same = subst (IsRig key) (sym same) (by_kept (is_yes kept))
+    where
+      by_kept : (b : Bool) → IsRig key (if b then took fill kept old else old)
+      by_kept true = takes_in key fill kept old rig
+      by_kept false = rig
+
+  pub after_handing : {E : Type 0} (q : Key) (r : Result (Option SealedItem) E) → IfOk r (λ found. new ≡ handed_on q found old) → OnErr r (new ≡ old) → IsRig key new
+  after_handing q (Ok found) same same_err = subst (IsRig key) (sym same) (items_changed key old _ rig)
+  after_handing q (Err e) same same_err = subst (IsRig key) (sym same_err) rig
+
   pub after_change : (c : SeenChange) (o : Option ServedShard) → OnSome o (new ≡ with_change c new.items old) → IfNone o (new ≡ old) → IsRig key new
   after_change c (Some s) same none =
       subst (IsRig key) (sym same) (seen key _ (key_shard c.key) c.note (items_changed key _ new.items (raised_on key old c.key c.after rig)))
@@ -183,6 +197,14 @@ ask_on key q n (Some number) rig is = find_on n.asks.asks rig.asks
       | inl same ↦ rw same (on.0 ∙ sym is)
       | inr other ↦ rw other (find_on l on.1)
     ]
+
+pub query_served : (key : Key) (n : Node) (query : Query) (id1 : Id) (atype : AType) → IsRig key n → query ≡ AssocCount id1 atype → Assocs id1 atype ≡ key
+    → IsSome (served_at (query_shard query) n.served)
+query_served key n query id1 atype rig is on =
+    subst (λ q. IsSome (served_at (query_shard q) n.served)) (sym is) (list_served key (Assocs id1 atype) n rig on)
+
+pub alike_one : (note : View) (notes : List View) → note.log.told ≡ false → notes ≡ note ∷ [] → AreToldAlike notes
+alike_one note notes untold is = subst AreToldAlike (sym is) (record { told = false; each = (untold, tt) })
 
 pub decides_count : (types : EdgeTypes) (content : Content) (front : ListPrefix) (query : Query) (id1 : Id) (atype : AType) → content ≡ ListIs front → query ≡ AssocCount id1 atype
     → content_decides types content query ≡ true

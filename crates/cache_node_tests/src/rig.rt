@@ -68,6 +68,15 @@ pub enum Step {
     Range {
         limit: u32,
     },
+    /// A copy of a fill of one edge, kept by a leader for itself.
+    Copy {
+        version: u64,
+        as_of: u64,
+    },
+    /// What the node hands on for a count, at the version or above.
+    Serve {
+        floor: u64,
+    },
     Evict,
     EvictLast,
     Reset {
@@ -91,6 +100,14 @@ pub enum Said {
     Kept {
         count: u64,
         kept: Kept,
+    },
+    /// Whether a copy was kept.
+    Copied(Kept),
+    /// The version of a fill that was handed on, what it is as of, and how many edges it has.
+    Handed {
+        version: u64,
+        as_of: u64,
+        edges: u64,
     },
     Miss,
     Count {
@@ -159,6 +176,8 @@ impl Rig {
             } => self.fill(self.asked, version, as_of, held, total),
             Step::Bare { version, as_of } => self.fill(None, version, as_of, 1, 1),
             Step::Own { version, as_of } => self.own(version, as_of),
+            Step::Copy { version, as_of } => self.copy(version, as_of),
+            Step::Serve { floor } => self.serve(floor),
             Step::Set { time, version } => self.set(time, version),
             Step::CatchUp { version } => self.catch_up(version),
             Step::Count { floor } => self.count(floor),
@@ -245,6 +264,21 @@ impl Rig {
         let fill = Fill::seal(list, version, as_of, Content::List(front), note);
         let (answer, kept) = self.node.keep_own(&self.schema, &query, fill)?;
         Ok(fill_said(&answer, kept))
+    }
+
+    fn copy(&mut self, version: u64, as_of: u64) -> Result<Said, OutOfMemory> {
+        let front = front(self.alloc, 1, 1)?;
+        let note = self.note()?;
+        let mut fill = Fill::seal(self.list(), version, as_of, Content::List(front), note);
+        Ok(Said::Copied(self.node.keep_copy(&mut fill)))
+    }
+
+    fn serve(&mut self, floor: u64) -> Result<Said, OutOfMemory> {
+        let query = self.count_query();
+        match self.node.serve(&self.schema, &query, floor)? {
+            Some(fill) => Ok(handed_said(&fill)),
+            None => Ok(Said::Miss),
+        }
     }
 
     fn set(&mut self, time: Time, version: u64) -> Result<Said, OutOfMemory> {
@@ -396,6 +430,17 @@ fn item_said(item: &Item) -> Said {
             version: item.version,
             edges: front.edges().len() as u64,
             last: front.edges().last().map_or(0, |edge| edge.time),
+        },
+        Content::Object(_) => Said::Done,
+    }
+}
+
+fn handed_said(fill: &Fill) -> Said {
+    match fill.content() {
+        Content::List(front) => Said::Handed {
+            version: fill.version(),
+            as_of: fill.as_of(),
+            edges: front.edges().len() as u64,
         },
         Content::Object(_) => Said::Done,
     }

@@ -90,6 +90,19 @@ const fn own(version: u64, as_of: u64) -> Step {
     Step::Own { version, as_of }
 }
 
+const fn copy(version: u64, as_of: u64) -> Step {
+    Step::Copy { version, as_of }
+}
+
+/// A fill for a count, which no edge is needed for.
+const fn handed(version: u64, as_of: u64) -> Said {
+    Said::Handed {
+        version,
+        as_of,
+        edges: 0,
+    }
+}
+
 const fn set(time: Time, version: u64) -> Step {
     Step::Set { time, version }
 }
@@ -196,6 +209,23 @@ fn a_leader_keeps_what_is_as_of_each_marked_position(rt: HostRuntime) -> Result<
         (Step::Count { floor: 2 }, counted(1, 2), 0),
         (Step::CatchUp { version: 3 }, Said::Done, 2),
         (Step::Count { floor: 0 }, Said::Miss, 2),
+    ];
+    play(&rt, &mut rig, &rows)
+}
+
+#[test]
+fn what_is_held_is_handed_on_as_of_the_mark(rt: HostRuntime) -> Result<(), Fail> {
+    let mut rig = rig(rt.alloc(), 0)?;
+    let rows = [
+        (Step::Serve { floor: 0 }, Said::Miss, 0),
+        (copy(2, 0), Said::Copied(Kept::Yes), 0),
+        (deliver(2, 2), NOTHING_DROPPED, 0),
+        (copy(3, 1), Said::Copied(Kept::Mark { have: 1, need: 2 }), 0),
+        (Step::Serve { floor: 2 }, handed(2, 0), 0),
+        (deliver(1, 1), NOTHING_DROPPED, 2),
+        (Step::Serve { floor: 2 }, handed(2, 2), 2),
+        (Step::Serve { floor: 3 }, Said::Miss, 2),
+        (Step::Count { floor: 2 }, counted(1, 2), 2),
     ];
     play(&rt, &mut rig, &rows)
 }

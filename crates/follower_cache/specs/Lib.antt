@@ -1,0 +1,2 @@
+pub mod Refills
+pub mod Seen

@@ -9,6 +9,6 @@ mod names;
 #[cfg(test)]
 mod places;
 #[cfg(test)]
-mod replies;
-#[cfg(test)]
 mod schemas;
+#[cfg(test)]
+mod spelled_replies;

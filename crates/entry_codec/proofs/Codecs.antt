@@ -2,7 +2,7 @@
 use Rattle.std.proofs.Common.{◌≡◌, ℕ, ◌+◌, ◌≤◌, Bool, true, false, cond, List, [], ◌++◌, length, take, drop, Result, Ok, Err, refl, sym, ap, subst, ◌∙◌, append_assoc, arith, inl, inr, leb, nat_le}
 use Rattle.std.proofs.lemmas.Bool.{cases_lt, le-leb, leb-true}
 use Rattle.std.proofs.lemmas.List.{take_at, drop_at, take-append-drop, length-append, length-take, get_or-drop, get_or-take, get_or_past}
-use Rattle.entry_codec.specs.Fields.{AreBytes, Rest, Field, ◌>>=◌, and_then, bytes_at, give, kept_if, only, up_to}
+use Rattle.entry_codec.specs.Fields.{AreBytes, Rest, Field, ◌>>=◌, and_then, spelled_bytes, give, kept_if, only, up_to}
 
 pub bytes-drop : (n : ℕ) (bytes : List ℕ) → AreBytes bytes → AreBytes (drop n bytes)
 bytes-drop n bytes fits i = rw get_or-drop (fits (n + i))
@@ -131,7 +131,7 @@ like_codec spelled2 Allowed2 codec to from = record {
 
 -- ---- bytes and numbers
 
-pub bytes_codec : (n : ℕ) → IsCodec (bytes_at n) (λ text. text) (λ at text. length text ≡ n)
+pub bytes_codec : (n : ℕ) → IsCodec (spelled_bytes n) (λ text. text) (λ at text. length text ≡ n)
 bytes_codec n = record {
   takes = λ rest x next fits e.
       let g = guard_ok (leb n (length rest.bytes)) rest.at (take n rest.bytes, rest_after n rest) (x, next) e in

@@ -8,9 +8,9 @@ use Rattle.tao_base.specs.declared.entry.Entry.{Entry}
 use Rattle.tao_base.specs.declared.entry.Kind.{Kind}
 use Rattle.tao_base.specs.declared.entry.Origin.{Origin}
 use Rattle.tao_base.specs.declared.entry.Touch.{Touch}
-use Rattle.entry_codec.specs.Fields.{AreBytes, Rest, ended, whole}
+use Rattle.entry_codec.specs.Fields.{AreBytes, Rest, ended, if_ended}
 use Rattle.entry_codec.specs.Gives.{Answers}
-use Rattle.entry_codec.specs.Reading.{decoded, entry_at}
+use Rattle.entry_codec.specs.Reading.{decoded, spelled_entry}
 use Rattle.entry_codec.specs.declared.refusal.EntryRefusal.{EntryRefusal}
 use Rattle.entry_codec.specs.Values.{EntryFits, TouchFits}
 use Rattle.entry_codec.proofs.Codecs.{IsCodec, Takes, done, give_again, give_reads, ok_is, then_again, then_reads}
@@ -44,7 +44,7 @@ touches_allowed e ok = record {
   once = ok.1.once;
 }
 
-pub entry_codec : IsCodec entry_at spelling (λ at e. IsAllowed e)
+pub entry_codec : IsCodec spelled_entry spelling (λ at e. IsAllowed e)
 entry_codec = record {
   takes = λ rest. then_reads (positive_codec w64 (2 ^ 64) wide64) rest _ (λ e text. (text ≡ spelling e) × IsAllowed e) (λ position a place fits position_ok.
       then_reads kind_codec a _ _ (λ kind b place fits kind_ok. then_reads (origin_codec kind) b _ _ (λ origin c place fits origin_ok. then_reads count_codec c _ _ (λ count d place fits count_ok.
@@ -65,7 +65,7 @@ entry_codec = record {
 abbrev all_of : List ℕ → Rest
 all_of bytes = record { at = 0; bytes = bytes }
 
-whole_ok : {X : Type 0} (x y : X) (place : ℕ) (bytes : List ℕ) → whole x place bytes ≡ Ok y → (x ≡ y) × (bytes ≡ [])
+whole_ok : {X : Type 0} (x y : X) (place : ℕ) (bytes : List ℕ) → if_ended x place bytes ≡ Ok y → (x ≡ y) × (bytes ≡ [])
 whole_ok x y place [] e = (cc, refl)
 whole_ok x y place (b ∷ bytes) e = absurd cc
 
@@ -77,41 +77,41 @@ is_nil : (bytes : List ℕ) → (length bytes == 0) ≡ true → bytes ≡ []
 is_nil [] e = refl
 is_nil (b ∷ bytes) e = let none = eqb-true _ _ e in absurd (omega (arith, none))
 
-whole_refused : {X : Type 0} (x : X) (place : ℕ) (bytes : List ℕ) → (length bytes == 0) ≡ false → whole x place bytes ≡ Err place
+whole_refused : {X : Type 0} (x : X) (place : ℕ) (bytes : List ℕ) → (length bytes == 0) ≡ false → if_ended x place bytes ≡ Err place
 whole_refused x place [] e = absurd (true≢false e)
 whole_refused x place (b ∷ bytes) e = refl
 
 -- an entry is read, and nothing is left
-pub read_to_end : (bytes : List ℕ) (rest next : Rest) (e : Entry) (at_end : Bool) → rest ≡ all_of bytes → entry_at rest ≡ Ok (e, next) → at_end ≡ (length next.bytes == 0) → at_end ≡ true → decoded bytes ≡ Ok e
+pub read_to_end : (bytes : List ℕ) (rest next : Rest) (e : Entry) (at_end : Bool) → rest ≡ all_of bytes → spelled_entry rest ≡ Ok (e, next) → at_end ≡ (length next.bytes == 0) → at_end ≡ true → decoded bytes ≡ Ok e
 read_to_end bytes rest next e at_end all read is nothing =
-    ap (λ r. ended (entry_at r)) (sym all) ∙ ap ended read ∙ ap (whole e next.at) (is_nil next.bytes (sym is ∙ nothing))
+    ap (λ r. ended (spelled_entry r)) (sym all) ∙ ap ended read ∙ ap (if_ended e next.at) (is_nil next.bytes (sym is ∙ nothing))
 
 -- an entry is read, and bytes follow
-pub bytes_follow : (bytes : List ℕ) (rest next : Rest) (e : Entry) (at_end : Bool) (place : ℕ) → rest ≡ all_of bytes → entry_at rest ≡ Ok (e, next) → at_end ≡ (length next.bytes == 0) → at_end ≡ false → place ≡ next.at
+pub bytes_follow : (bytes : List ℕ) (rest next : Rest) (e : Entry) (at_end : Bool) (place : ℕ) → rest ≡ all_of bytes → spelled_entry rest ≡ Ok (e, next) → at_end ≡ (length next.bytes == 0) → at_end ≡ false → place ≡ next.at
     → decoded bytes ≡ Err place
 bytes_follow bytes rest next e at_end place all read is some same =
-    ap (λ r. ended (entry_at r)) (sym all) ∙ ap ended read ∙ rw same (whole_refused e next.at next.bytes (sym is ∙ some))
+    ap (λ r. ended (spelled_entry r)) (sym all) ∙ ap ended read ∙ rw same (whole_refused e next.at next.bytes (sym is ∙ some))
 
 -- what is decoded is spelled so
 pub decoded_is : (bytes : List ℕ) (e : Entry) → AreBytes bytes → decoded bytes ≡ Ok e → EntryFits e × IsSpelled e × (spelling e ≡ bytes)
 decoded_is bytes e fits is =
-    let read = ended_ok (entry_at (all_of bytes)) e is in
+    let read = ended_ok (spelled_entry (all_of bytes)) e is in
     let taken = entry_codec.takes (all_of bytes) e read.0 fits read.1 in
     (taken.3.1.0, taken.3.1.1, sym (taken.1.parts ∙ ap (λ rest. taken.0 ++ rest) read.2 ∙ append-nil taken.0 ∙ taken.3.0))
 
-entry_read : (e : Entry) (more : List ℕ) → EntryFits e → IsSpelled e → entry_at (all_of (spelling e ++ more)) ≡ Ok (e, record { at = length (spelling e); bytes = more })
+entry_read : (e : Entry) (more : List ℕ) → EntryFits e → IsSpelled e → spelled_entry (all_of (spelling e ++ more)) ≡ Ok (e, record { at = length (spelling e); bytes = more })
 entry_read e more fits spelled = entry_codec.again (all_of (spelling e ++ more)) e (record { at = length (spelling e); bytes = more }) (fits, spelled) (record { parts = refl; place = omega arith })
 
 -- what is spelled is decoded
 pub spelled_is_decoded : (e : Entry) → EntryFits e → IsSpelled e → decoded (spelling e) ≡ Ok e
-spelled_is_decoded e fits spelled = ap (λ bytes. ended (entry_at (all_of bytes))) (sym (append-nil (spelling e))) ∙ ap ended (entry_read e [] fits spelled)
+spelled_is_decoded e fits spelled = ap (λ bytes. ended (spelled_entry (all_of bytes))) (sym (append-nil (spelling e))) ∙ ap ended (entry_read e [] fits spelled)
 
 -- bytes that begin with two spellings begin with one
 pub one_spelling : (e f : Entry) (xs ys : List ℕ) → EntryFits e → IsSpelled e → EntryFits f → IsSpelled f → spelling e ++ xs ≡ spelling f ++ ys → (e ≡ f) × (xs ≡ ys)
 one_spelling e f xs ys e_fits e_spelled f_fits f_spelled same =
     let read : Entry × Rest = (e, record { at = length (spelling e); bytes = xs }) in
     let again : Entry × Rest = (f, record { at = length (spelling f); bytes = ys }) in
-    let one : read ≡ again = ok_is read again (sym (entry_read e xs e_fits e_spelled) ∙ ap (λ bytes. entry_at (all_of bytes)) same ∙ entry_read f ys f_fits f_spelled) in
+    let one : read ≡ again = ok_is read again (sym (entry_read e xs e_fits e_spelled) ∙ ap (λ bytes. spelled_entry (all_of bytes)) same ∙ entry_read f ys f_fits f_spelled) in
     (ap (λ (r : Entry × Rest). r.0) one, ap (λ (r : Entry × Rest). r.1.bytes) one)
 
 pub found : (bytes : List ℕ) (r : Result Entry EntryRefusal) → AreBytes bytes → Answers r (decoded bytes) → IfOk r (λ e. EntryFits e × IsSpelled e × (spelling e ≡ bytes))

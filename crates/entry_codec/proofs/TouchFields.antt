@@ -20,7 +20,7 @@ use Rattle.tao_base.specs.declared.id.AType.{AType}
 use Rattle.tao_base.specs.declared.id.Key.{Key}
 use Rattle.tao_base.specs.declared.id.Key.TheVariants.{Obj, List as Assocs}
 use Rattle.entry_codec.specs.Fields.{Rest}
-use Rattle.entry_codec.specs.Reading.{any_key_at, between, change_at, key_at, stamp_at, touch_at, touches_at, was_at}
+use Rattle.entry_codec.specs.Reading.{spelled_any_key, lies_between, spelled_change, spelled_key, spelled_stamp, spelled_touch, spelled_touches, spelled_was}
 use Rattle.entry_codec.specs.Values.{ChangeFits, KeyFits, WasFits}
 use Rattle.entry_codec.proofs.Codecs.{IsCodec, Reads, Takes, give_again, give_reads, only_codec, reads_like, then_again, then_reads}
 use Rattle.entry_codec.proofs.DataFields.{data_codec}
@@ -28,7 +28,7 @@ use Rattle.entry_codec.proofs.Numbers.{between_is, id_codec, is_between, number1
 
 -- ---- keys
 
-any_key_codec : IsCodec any_key_at key_bytes (λ at key. KeyFits key)
+any_key_codec : IsCodec spelled_any_key key_bytes (λ at key. KeyFits key)
 any_key_codec = record {
   takes = λ rest. tag_reads 1 2 rest _ (λ key text. (text ≡ key_bytes key) × KeyFits key)
       (λ mid. then_reads id_codec mid _ _ (λ id last place fits ok. give_reads last (Obj id) _ (refl, ok)))
@@ -36,7 +36,7 @@ any_key_codec = record {
   again = again;
 }
   where
-    again : (rest : Rest) (key : Key) (next : Rest) → KeyFits key → Takes rest (key_bytes key) next → any_key_at rest ≡ Ok (key, next)
+    again : (rest : Rest) (key : Key) (next : Rest) → KeyFits key → Takes rest (key_bytes key) next → spelled_any_key rest ≡ Ok (key, next)
     again rest (Obj id) next ok t = tag_again 1 2 rest _ 1 (to_be_bytes w64 id) (Obj id) next (omega arith) refl t (λ mid t.
         then_again id_codec mid _ id [] (Obj id) next ok t (λ last place t. give_again last (Obj id) next t))
     again rest (Assocs id1 atype) next ok t = tag_again 1 2 rest _ 2 (to_be_bytes w64 id1 ++ to_be_bytes w16 atype.0) (Assocs id1 atype) next (omega arith) refl t (λ mid t.
@@ -47,7 +47,7 @@ any_key_codec = record {
 abbrev has_key : Key → List Touch → Bool
 has_key key touches = list_any (λ touch. same_key touch.key key) touches
 
-pub key_codec : (earlier : List Touch) → IsCodec (key_at earlier) key_bytes (λ at key. KeyFits key × (not (has_key key earlier) ≡ true))
+pub key_codec : (earlier : List Touch) → IsCodec (spelled_key earlier) key_bytes (λ at key. KeyFits key × (not (has_key key earlier) ≡ true))
 key_codec earlier = only_codec (λ key. not (has_key key earlier)) any_key_codec
 
 not_true : (b : Bool) → not b ≡ true → b ≡ false
@@ -68,17 +68,17 @@ differing_keys key touches differ = ap not (list_any_none (λ touch. same_key to
 abbrev StampAllowed : Stamp → Type 0
 StampAllowed stamp = (0 < stamp.number) × (stamp.number < 2 ^ 63) × (stamp.shard < 2 ^ 16)
 
-stamp_codec : IsCodec stamp_at stamp_bytes (λ at stamp. StampAllowed stamp)
+stamp_codec : IsCodec spelled_stamp stamp_bytes (λ at stamp. StampAllowed stamp)
 stamp_codec = record {
-  takes = λ rest. then_reads (only_codec (between 1 (9223372036854775807)) number64) rest _ (λ stamp text. (text ≡ stamp_bytes stamp) × StampAllowed stamp) (λ number mid place fits ok.
+  takes = λ rest. then_reads (only_codec (lies_between 1 (9223372036854775807)) number64) rest _ (λ stamp text. (text ≡ stamp_bytes stamp) × StampAllowed stamp) (λ number mid place fits ok.
       let limits = between_is 1 (9223372036854775807) number ok.1 in
       then_reads number16 mid _ _ (λ shard last place fits lt. give_reads last (record { number = number; shard = shard }) _ (refl, (omega (arith, limits), omega (arith, limits), lt))));
-  again = λ rest stamp next ok t. then_again (only_codec (between 1 (9223372036854775807)) number64) rest _ stamp.number (to_be_bytes w16 stamp.shard) stamp next
+  again = λ rest stamp next ok t. then_again (only_codec (lies_between 1 (9223372036854775807)) number64) rest _ stamp.number (to_be_bytes w16 stamp.shard) stamp next
       (omega (arith, ok.1), is_between 1 (9223372036854775807) stamp.number ok.0 (omega (arith, ok.1))) t
       (λ mid place t. then_again number16 mid _ stamp.shard [] stamp next ok.2 t (λ last place t. give_again last stamp next t));
 }
 
-was_codec : IsCodec was_at was_bytes (λ at was. WasFits was)
+was_codec : IsCodec spelled_was was_bytes (λ at was. WasFits was)
 was_codec = record {
   takes = λ rest. tag_reads 0 1 rest _ (λ was text. (text ≡ was_bytes was) × WasFits was)
       (λ mid. give_reads mid None _ (refl, tt))
@@ -86,7 +86,7 @@ was_codec = record {
   again = again;
 }
   where
-    again : (rest : Rest) (was : Option ℕ) (next : Rest) → WasFits was → Takes rest (was_bytes was) next → was_at rest ≡ Ok (was, next)
+    again : (rest : Rest) (was : Option ℕ) (next : Rest) → WasFits was → Takes rest (was_bytes was) next → spelled_was rest ≡ Ok (was, next)
     again rest None next ok t = tag_again 0 1 rest _ 0 [] None next (omega arith) refl t (λ mid t. give_again mid None next t)
     again rest (Some time) next ok t = tag_again 0 1 rest _ 1 (to_be_bytes w32 time) (Some time) next (omega arith) refl t (λ mid t.
         then_again number32 mid _ time [] (Some time) next ok t (λ last place t. give_again last (Some time) next t))
@@ -95,7 +95,7 @@ was_codec = record {
 abbrev ChangeAllowed : Key → Change → Type 0
 ChangeAllowed key change = IsChangeAt key change × ChangeFits change
 
-object_change_codec : (id : ℕ) → IsCodec (change_at (Obj id)) change_bytes (λ at change. ChangeAllowed (Obj id) change)
+object_change_codec : (id : ℕ) → IsCodec (spelled_change (Obj id)) change_bytes (λ at change. ChangeAllowed (Obj id) change)
 object_change_codec id = record {
   takes = λ rest. tag_reads 1 2 rest _ (λ change text. (text ≡ change_bytes change) × ChangeAllowed (Obj id) change)
       (λ mid. then_reads number16 mid _ _ (λ otype last place fits lt. then_reads data_codec last _ _ (λ payload end place fits ok.
@@ -104,7 +104,7 @@ object_change_codec id = record {
   again = again;
 }
   where
-    again : (rest : Rest) (change : Change) (next : Rest) → ChangeAllowed (Obj id) change → Takes rest (change_bytes change) next → change_at (Obj id) rest ≡ Ok (change, next)
+    again : (rest : Rest) (change : Change) (next : Rest) → ChangeAllowed (Obj id) change → Takes rest (change_bytes change) next → spelled_change (Obj id) rest ≡ Ok (change, next)
     again rest (PutObject object) next ok t = tag_again 1 2 rest _ 1 (to_be_bytes w16 object.otype.0 ++ data_bytes object.payload) (PutObject object) next (omega arith) refl t (λ mid t.
         then_again number16 mid _ object.otype.0 (data_bytes object.payload) (PutObject object) next ok.1.0 t (λ last place t.
         then_again data_codec last _ object.payload [] (PutObject object) next ok.1.1 (subst (λ text. Takes last text next) (sym (append-nil (data_bytes object.payload))) t) (λ end place t.
@@ -113,7 +113,7 @@ object_change_codec id = record {
     again rest (SetEdge edge was) next ok t = absurd ok.0
     again rest (CutEdge id2 stamp was) next ok t = absurd ok.0
 
-edge_change_codec : (id1 : ℕ) (atype : AType) → IsCodec (change_at (Assocs id1 atype)) change_bytes (λ at change. ChangeAllowed (Assocs id1 atype) change)
+edge_change_codec : (id1 : ℕ) (atype : AType) → IsCodec (spelled_change (Assocs id1 atype)) change_bytes (λ at change. ChangeAllowed (Assocs id1 atype) change)
 edge_change_codec id1 atype = record {
   takes = λ rest. tag_reads 3 4 rest _ (λ change text. (text ≡ change_bytes change) × ChangeAllowed (Assocs id1 atype) change)
       (λ mid. then_reads id_codec mid _ _ (λ id2 a place fits id_ok. then_reads number32 a _ _ (λ time b place fits time_ok. then_reads stamp_codec b _ _ (λ stamp c place fits stamp_ok.
@@ -130,7 +130,7 @@ edge_change_codec id1 atype = record {
   again = again;
 }
   where
-    again : (rest : Rest) (change : Change) (next : Rest) → ChangeAllowed (Assocs id1 atype) change → Takes rest (change_bytes change) next → change_at (Assocs id1 atype) rest ≡ Ok (change, next)
+    again : (rest : Rest) (change : Change) (next : Rest) → ChangeAllowed (Assocs id1 atype) change → Takes rest (change_bytes change) next → spelled_change (Assocs id1 atype) rest ≡ Ok (change, next)
     again rest (PutObject object) next ok t = absurd ok.0
     again rest DropObject next ok t = absurd ok.0
     again rest (SetEdge edge was) next ok t = tag_again 3 4 rest _ 3 (to_be_bytes w64 edge.id2 ++ to_be_bytes w32 edge.time ++ stamp_bytes edge.stamp ++ was_bytes was ++ data_bytes edge.payload) (SetEdge edge was) next (omega arith) refl t (λ mid t.
@@ -146,7 +146,7 @@ edge_change_codec id1 atype = record {
         then_again was_codec b _ was [] (CutEdge id2 stamp was) next ok.1.2 (subst (λ text. Takes b text next) (sym (append-nil (was_bytes was))) t) (λ end place t.
         give_again end (CutEdge id2 stamp was) next t))))
 
-change_codec : (key : Key) → IsCodec (change_at key) change_bytes (λ at change. ChangeAllowed key change)
+change_codec : (key : Key) → IsCodec (spelled_change key) change_bytes (λ at change. ChangeAllowed key change)
 change_codec (Obj id) = object_change_codec id
 change_codec (Assocs id1 atype) = edge_change_codec id1 atype
 
@@ -160,7 +160,7 @@ pub record TouchAllowed (t : Touch) : Type 0 where
 abbrev IsNew : List Touch → Touch → Type 0
 IsNew earlier t = not (has_key t.key earlier) ≡ true
 
-touch_codec : (earlier : List Touch) → IsCodec (touch_at earlier) touch_bytes (λ at t. TouchAllowed t × IsNew earlier t)
+touch_codec : (earlier : List Touch) → IsCodec (spelled_touch earlier) touch_bytes (λ at t. TouchAllowed t × IsNew earlier t)
 touch_codec earlier = record {
   takes = λ rest. then_reads (key_codec earlier) rest _ (λ t text. (text ≡ touch_bytes t) × (TouchAllowed t × IsNew earlier t)) (λ key a place fits key_ok.
       then_reads (positive_codec w64 (2 ^ 64) wide64) a _ _ (λ version b place fits version_ok. then_reads (change_codec key) b _ _ (λ change end place fits change_ok.
@@ -187,10 +187,10 @@ pub record TouchesRead (earlier : List Touch) (n : ℕ) (all : List Touch) (text
   pub each : All TouchAllowed all
   pub once : AllPairs AreApart all
 
-touches_read : (n : ℕ) (earlier : List Touch) (rest : Rest) → All TouchAllowed earlier → AllPairs AreApart earlier → Reads rest (touches_at n earlier) (TouchesRead earlier n)
+touches_read : (n : ℕ) (earlier : List Touch) (rest : Rest) → All TouchAllowed earlier → AllPairs AreApart earlier → Reads rest (spelled_touches n earlier) (TouchesRead earlier n)
 touches_read zero earlier rest each once = give_reads rest earlier _ (record { later = []; joined = sym (append-nil earlier); count = refl; spelled = refl; each = each; once = once })
 touches_read (suc n) earlier rest each once = then_reads (touch_codec earlier) rest _ _ (λ t mid place fits ok.
-    reads_like mid (touches_at n (earlier ++ t ∷ [])) _ _ (λ all text h. record {
+    reads_like mid (spelled_touches n (earlier ++ t ∷ [])) _ _ (λ all text h. record {
       later = t ∷ h.later;
       joined = h.joined ∙ append_assoc earlier (t ∷ []) h.later;
       count = ap suc h.count;
@@ -206,7 +206,7 @@ new_from_once earlier t later once = differing_keys t.key earlier (λ k d lt sam
     apart (ap (λ (x : Touch). x.key) (get_or_append_left earlier (t ∷ later) d k lt) ∙ same ∙ ap (λ (x : Touch). x.key) (sym (get_or-append_seam earlier t later d))))
 
 touches_again : (later earlier : List Touch) (rest : Rest) (all : List Touch) (next : Rest) → all ≡ earlier ++ later → All TouchAllowed later → AllPairs AreApart all
-    → Takes rest (flat_map touch_bytes later) next → touches_at (length later) earlier rest ≡ Ok (all, next)
+    → Takes rest (flat_map touch_bytes later) next → spelled_touches (length later) earlier rest ≡ Ok (all, next)
 touches_again [] earlier rest all next joined each once t = rw (joined ∙ append-nil earlier) (give_again rest earlier next t)
 touches_again (x ∷ later) earlier rest all next joined each once t =
     then_again (touch_codec earlier) rest _ x (flat_map touch_bytes later) all next (All-head TouchAllowed x later each, new_from_once earlier x later (subst (AllPairs AreApart) joined once)) t (λ mid place t.
@@ -217,10 +217,10 @@ pub record TouchesAllowed (n : ℕ) (touches : List Touch) : Type 0 where
   pub each : All TouchAllowed touches
   pub once : AllPairs AreApart touches
 
-pub touches_codec : (n : ℕ) → IsCodec (touches_at n []) (flat_map touch_bytes) (λ at touches. TouchesAllowed n touches)
+pub touches_codec : (n : ℕ) → IsCodec (spelled_touches n []) (flat_map touch_bytes) (λ at touches. TouchesAllowed n touches)
 touches_codec n = record {
-  takes = λ rest. reads_like rest (touches_at n []) _ _ (λ touches text h.
+  takes = λ rest. reads_like rest (spelled_touches n []) _ _ (λ touches text h.
       (h.spelled ∙ ap (flat_map touch_bytes) (sym h.joined), record { count = ap length h.joined ∙ h.count; each = h.each; once = h.once }))
       (touches_read n [] rest (All-nil TouchAllowed) (λ i j d lt below. absurd (omega arith)));
-  again = λ rest touches next ok t. subst (λ k. touches_at k [] rest ≡ Ok (touches, next)) ok.count (touches_again touches [] rest touches next refl ok.each ok.once t);
+  again = λ rest touches next ok t. subst (λ k. spelled_touches k [] rest ≡ Ok (touches, next)) ok.count (touches_again touches [] rest touches next refl ok.each ok.once t);
 }

@@ -28,12 +28,12 @@ abbrev pub give : {X : Type 0} → X → Field X
 give x rest = Ok (x, rest)
 
 -- the place of the next field
-abbrev pub here : Field ℕ
-here rest = Ok (rest.at, rest)
+abbrev pub place_here : Field ℕ
+place_here rest = Ok (rest.at, rest)
 
 -- n bytes, where so many are left
-abbrev pub bytes_at : ℕ → Field (List ℕ)
-bytes_at n rest = if nat_le n (length rest.bytes) then Ok (take n rest.bytes, record { at = rest.at + n; bytes = drop n rest.bytes }) else Err rest.at
+abbrev pub spelled_bytes : ℕ → Field (List ℕ)
+spelled_bytes n rest = if nat_le n (length rest.bytes) then Ok (take n rest.bytes, record { at = rest.at + n; bytes = drop n rest.bytes }) else Err rest.at
 
 -- what was read, where it passes the test; else it is refused at the place
 abbrev pub kept_if : {X : Type 0} → (X × Rest → Bool) → ℕ → Result (X × Rest) ℕ → Result (X × Rest) ℕ
@@ -48,17 +48,17 @@ only allowed field rest = kept_if (λ read. allowed read.0) rest.at (field rest)
 abbrev pub up_to : {X : Type 0} → ℕ → Field X → Field X
 up_to end field rest = kept_if (λ read. nat_le read.1.at end) rest.at (field rest)
 
-abbrev pub number_at : Width → Field ℕ
-number_at w = do
-  bytes ← bytes_at (byte_len w)
+abbrev pub spelled_number : Width → Field ℕ
+spelled_number w = do
+  bytes ← spelled_bytes (byte_len w)
   give (from_be_bytes w bytes)
 
 -- the value, where no bytes are left; else they are refused
-abbrev pub whole : {X : Type 0} → X → ℕ → List ℕ → Result X ℕ
-whole x place [] = Ok x
-whole x place (b ∷ bytes) = Err place
+abbrev pub if_ended : {X : Type 0} → X → ℕ → List ℕ → Result X ℕ
+if_ended x place [] = Ok x
+if_ended x place (b ∷ bytes) = Err place
 
 -- what a last field gives
 abbrev pub ended : {X : Type 0} → Result (X × Rest) ℕ → Result X ℕ
-ended (Ok read) = whole read.0 read.1.at read.1.bytes
+ended (Ok read) = if_ended read.0 read.1.at read.1.bytes
 ended (Err at) = Err at

@@ -12,9 +12,9 @@ IsRefused (BadEntry at) read = read ≡ Err at
 IsRefused OutOfMemory read = Unit {0}
 
 -- the result and what is left are those of the reading, unless memory ran out
-abbrev pub Gives : {X : Type 0} → Result X EntryRefusal → Rest → Result (X × Rest) ℕ → Type 0
-Gives (Ok x) left read = read ≡ Ok (x, left)
-Gives (Err refusal) left read = IsRefused refusal read
+abbrev pub GivesValue : {X : Type 0} → Result X EntryRefusal → Rest → Result (X × Rest) ℕ → Type 0
+GivesValue (Ok x) left read = read ≡ Ok (x, left)
+GivesValue (Err refusal) left read = IsRefused refusal read
 
 -- the same for bytes that are lent
 abbrev pub GivesBytes : Result (Bor (List ℕ)) EntryRefusal → Rest → Result (List ℕ × Rest) ℕ → Type 0

@@ -1,8 +1,8 @@
 //! The fields of a data.
 ghost use Rattle.std.specs.Int.{w16};
-ghost use Rattle.entry_codec.specs.Fields.{bytes_at, number_at, only, up_to};
-ghost use Rattle.entry_codec.specs.Gives.{Gives, GivesBytes, GivesItems};
-ghost use Rattle.entry_codec.specs.Reading.{data_at, is_next_key, next_key_at, pair_at, pairs_at, text_at};
+ghost use Rattle.entry_codec.specs.Fields.{spelled_bytes, spelled_number, only, up_to};
+ghost use Rattle.entry_codec.specs.Gives.{GivesValue, GivesBytes, GivesItems};
+ghost use Rattle.entry_codec.specs.Reading.{spelled_data, is_next_key, spelled_next_key, spelled_pair, spelled_pairs, spelled_text};
 ghost use Rattle.std.specs.Prelude.{◌≡◌, ◌<◌, ◌^◌, []};
 ghost use Rattle.std.specs.Str.{is_utf8};
 
@@ -13,7 +13,7 @@ use tao_base::{Data, Pair, Text};
 
 /// A data: the number of its pairs, and each key with its value.
 pub fn read_data(alloc: Global, reader: &mut Reader) -> Result<Data, EntryRefusal>
-    ensures { Gives result reader.new (data_at reader.old) }
+    ensures { GivesValue result reader.new (spelled_data reader.old) }
 {
     let start = reader.place();
     let count = reader.take_u8()?;
@@ -30,7 +30,7 @@ fn read_pairs(
     end: u64,
     count: u8,
 ) -> Result<Vec<Pair>, EntryRefusal>
-    ensures { GivesItems result reader.new (pairs_at end count [] reader.old) }
+    ensures { GivesItems result reader.new (spelled_pairs end count [] reader.old) }
 {
     let mut pairs = Vec::new(alloc);
     for _ in 0..count {
@@ -46,7 +46,7 @@ fn read_pair(
     end: u64,
     earlier: &[Pair],
 ) -> Result<Pair, EntryRefusal>
-    ensures { Gives result reader.new (pair_at end earlier.now reader.old) }
+    ensures { GivesValue result reader.new (spelled_pair end earlier.now reader.old) }
 {
     let key = read_next_key(alloc, reader, end, earlier)?;
     let value = read_text(alloc, reader, end)?;
@@ -54,7 +54,7 @@ fn read_pair(
 }
 
 fn read_text(alloc: Global, reader: &mut Reader, end: u64) -> Result<Text, EntryRefusal>
-    ensures { Gives result reader.new (text_at end reader.old) }
+    ensures { GivesValue result reader.new (spelled_text end reader.old) }
 {
     let len = read_len(reader, end)?;
     let text = read_utf8(reader, end, len)?;
@@ -68,7 +68,7 @@ fn read_next_key(
     end: u64,
     earlier: &[Pair],
 ) -> Result<Text, EntryRefusal>
-    ensures { Gives result reader.new (next_key_at end earlier.now reader.old) }
+    ensures { GivesValue result reader.new (spelled_next_key end earlier.now reader.old) }
 {
     let len = read_len(reader, end)?;
     let at = reader.place();
@@ -89,7 +89,7 @@ fn is_above_last(earlier: &[Pair], key: &str) -> bool
 }
 
 fn read_len(reader: &mut Reader, end: u64) -> Result<usize, EntryRefusal>
-    ensures { Gives result reader.new (up_to end (number_at w16) reader.old) }
+    ensures { GivesValue result reader.new (up_to end (spelled_number w16) reader.old) }
 {
     let at = reader.place();
     let len = reader.take_u16()?;
@@ -100,7 +100,7 @@ fn read_len(reader: &mut Reader, end: u64) -> Result<usize, EntryRefusal>
 }
 
 fn read_utf8<'a>(reader: &mut Reader<'a>, end: u64, len: usize) -> Result<&'a str, EntryRefusal>
-    ensures { GivesBytes result reader.new (only is_utf8 (up_to end (bytes_at len)) reader.old) }
+    ensures { GivesBytes result reader.new (only is_utf8 (up_to end (spelled_bytes len)) reader.old) }
 {
     let at = reader.place();
     let bytes = reader.take_up_to(end, len)?;

@@ -1,7 +1,7 @@
 //! The fields of an entry.
 ghost use Rattle.std.specs.Prelude.{◌≡◌, []};
-ghost use Rattle.entry_codec.specs.Gives.{Gives, GivesItems};
-ghost use Rattle.entry_codec.specs.Reading.{client_at, count_at, entry_at, kind_at, merge_at, origin_at, touches_at};
+ghost use Rattle.entry_codec.specs.Gives.{GivesValue, GivesItems};
+ghost use Rattle.entry_codec.specs.Reading.{spelled_client, spelled_count, spelled_entry, spelled_kind, spelled_merge, spelled_origin, spelled_touches};
 
 use crate::reader::Reader;
 use crate::refusal::EntryRefusal;
@@ -13,7 +13,7 @@ use tao_base::{Entry, Kind, Origin, Touch, Touches};
 const MOST_TOUCHES: u8 = 4;
 
 pub fn read_entry(alloc: Global, reader: &mut Reader) -> Result<Entry, EntryRefusal>
-    ensures { Gives result reader.new (entry_at reader.old) }
+    ensures { GivesValue result reader.new (spelled_entry reader.old) }
 {
     let position = reader.positive_u64()?;
     let kind = read_kind(reader)?;
@@ -29,7 +29,7 @@ pub fn read_entry(alloc: Global, reader: &mut Reader) -> Result<Entry, EntryRefu
 }
 
 fn read_kind(reader: &mut Reader) -> Result<Kind, EntryRefusal>
-    ensures { Gives result reader.new (kind_at reader.old) }
+    ensures { GivesValue result reader.new (spelled_kind reader.old) }
 {
     let at = reader.place();
     match reader.take_u8()? {
@@ -45,7 +45,7 @@ fn read_kind(reader: &mut Reader) -> Result<Kind, EntryRefusal>
 }
 
 fn read_origin(reader: &mut Reader, kind: Kind) -> Result<Origin, EntryRefusal>
-    ensures { Gives result reader.new (origin_at kind reader.old) }
+    ensures { GivesValue result reader.new (spelled_origin kind reader.old) }
 {
     match kind {
         Kind::Merge => read_merge(reader),
@@ -54,7 +54,7 @@ fn read_origin(reader: &mut Reader, kind: Kind) -> Result<Origin, EntryRefusal>
 }
 
 fn read_client(reader: &mut Reader) -> Result<Origin, EntryRefusal>
-    ensures { Gives result reader.new (client_at reader.old) }
+    ensures { GivesValue result reader.new (spelled_client reader.old) }
 {
     let session = reader.positive_u32()?;
     let seq = reader.positive_u64()?;
@@ -62,7 +62,7 @@ fn read_client(reader: &mut Reader) -> Result<Origin, EntryRefusal>
 }
 
 fn read_merge(reader: &mut Reader) -> Result<Origin, EntryRefusal>
-    ensures { Gives result reader.new (merge_at reader.old) }
+    ensures { GivesValue result reader.new (spelled_merge reader.old) }
 {
     let at = reader.place();
     let number = reader.take_u32()?;
@@ -74,7 +74,7 @@ fn read_merge(reader: &mut Reader) -> Result<Origin, EntryRefusal>
 }
 
 fn read_count(reader: &mut Reader) -> Result<u8, EntryRefusal>
-    ensures { Gives result reader.new (count_at reader.old) }
+    ensures { GivesValue result reader.new (spelled_count reader.old) }
 {
     let at = reader.place();
     let count = reader.take_u8()?;
@@ -85,7 +85,7 @@ fn read_count(reader: &mut Reader) -> Result<u8, EntryRefusal>
 }
 
 fn read_touches(alloc: Global, reader: &mut Reader, count: u8) -> Result<Vec<Touch>, EntryRefusal>
-    ensures { GivesItems result reader.new (touches_at count [] reader.old) }
+    ensures { GivesItems result reader.new (spelled_touches count [] reader.old) }
 {
     let mut touches = Vec::new(alloc);
     for _ in 0..count {

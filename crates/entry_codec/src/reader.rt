@@ -1,6 +1,6 @@
 //! The bytes of an entry, read from left to right.
 ghost use Rattle.std.specs.Int.{w8, w16, w32, w64};
-ghost use Rattle.entry_codec.specs.Reading.{id_at, positive_at};
+ghost use Rattle.entry_codec.specs.Reading.{spelled_id, spelled_positive};
 
 use crate::refusal::EntryRefusal;
 use byteorder::{BigEndian, ByteOrder};
@@ -28,8 +28,8 @@ impl<'a> Model for Reader<'a> {
 
 impl<'a> Reader<'a> {
     ghost use Rattle.std.specs.Prelude.{◌≡◌, ◌==◌, ◌<◌, ◌^◌, length};
-    ghost use Rattle.entry_codec.specs.Fields.{AreBytes, bytes_at, number_at, up_to};
-    ghost use Rattle.entry_codec.specs.Gives.{Gives, GivesBytes};
+    ghost use Rattle.entry_codec.specs.Fields.{AreBytes, spelled_bytes, spelled_number, up_to};
+    ghost use Rattle.entry_codec.specs.Gives.{GivesValue, GivesBytes};
 
     /// A reader of all of the bytes.
     pub fn of(bytes: &'a [u8]) -> Reader<'a>
@@ -55,7 +55,7 @@ impl<'a> Reader<'a> {
     }
 
     fn take(&mut self, len: usize) -> Result<&'a [u8], EntryRefusal>
-        ensures { GivesBytes result self.new (bytes_at len self.old) }
+        ensures { GivesBytes result self.new (spelled_bytes len self.old) }
     {
         if self.left.len() < len {
             return Err(EntryRefusal::BadEntry { at: self.at });
@@ -68,7 +68,7 @@ impl<'a> Reader<'a> {
 
     /// The next bytes, where they end at the place `end` or before.
     pub fn take_up_to(&mut self, end: u64, len: usize) -> Result<&'a [u8], EntryRefusal>
-        ensures { GivesBytes result self.new (up_to end (bytes_at len) self.old) }
+        ensures { GivesBytes result self.new (up_to end (spelled_bytes len) self.old) }
     {
         let at = self.at;
         let taken = self.take(len)?;
@@ -79,32 +79,32 @@ impl<'a> Reader<'a> {
     }
 
     pub fn take_u8(&mut self) -> Result<u8, EntryRefusal>
-        ensures { Gives result self.new (number_at w8 self.old) }
+        ensures { GivesValue result self.new (spelled_number w8 self.old) }
     {
         Ok(self.take(1)?[0])
     }
 
     pub fn take_u16(&mut self) -> Result<u16, EntryRefusal>
-        ensures { Gives result self.new (number_at w16 self.old) }
+        ensures { GivesValue result self.new (spelled_number w16 self.old) }
     {
         Ok(BigEndian::read_u16(self.take(2)?))
     }
 
     pub fn take_u32(&mut self) -> Result<u32, EntryRefusal>
-        ensures { Gives result self.new (number_at w32 self.old) }
+        ensures { GivesValue result self.new (spelled_number w32 self.old) }
     {
         Ok(BigEndian::read_u32(self.take(4)?))
     }
 
     pub fn take_u64(&mut self) -> Result<u64, EntryRefusal>
-        ensures { Gives result self.new (number_at w64 self.old) }
+        ensures { GivesValue result self.new (spelled_number w64 self.old) }
     {
         Ok(BigEndian::read_u64(self.take(8)?))
     }
 
     /// A number from 1.
     pub fn positive_u32(&mut self) -> Result<u32, EntryRefusal>
-        ensures { Gives result self.new (positive_at w32 self.old) }
+        ensures { GivesValue result self.new (spelled_positive w32 self.old) }
     {
         let at = self.at;
         match self.take_u32()? {
@@ -115,7 +115,7 @@ impl<'a> Reader<'a> {
 
     /// A number from 1.
     pub fn positive_u64(&mut self) -> Result<u64, EntryRefusal>
-        ensures { Gives result self.new (positive_at w64 self.old) }
+        ensures { GivesValue result self.new (spelled_positive w64 self.old) }
     {
         let at = self.at;
         match self.take_u64()? {
@@ -125,7 +125,7 @@ impl<'a> Reader<'a> {
     }
 
     pub fn id(&mut self) -> Result<Id, EntryRefusal>
-        ensures { Gives result self.new (id_at self.old) }
+        ensures { GivesValue result self.new (spelled_id self.old) }
     {
         let at = self.at;
         let number = self.take_u64()?;

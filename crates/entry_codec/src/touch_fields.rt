@@ -2,8 +2,8 @@
 ghost use Rattle.std.specs.Prelude.{◌≡◌};
 ghost use Rattle.std.specs.List.{list_any};
 ghost use Rattle.tao_base.specs.Keys.{same_key};
-ghost use Rattle.entry_codec.specs.Gives.{Gives};
-ghost use Rattle.entry_codec.specs.Reading.{any_key_at, change_at, cut_at, key_at, put_at, set_at, stamp_at, touch_at, was_at};
+ghost use Rattle.entry_codec.specs.Gives.{GivesValue};
+ghost use Rattle.entry_codec.specs.Reading.{spelled_any_key, spelled_change, spelled_cut, spelled_key, spelled_put, spelled_set, spelled_stamp, spelled_touch, spelled_was};
 
 use crate::data_fields::read_data;
 use crate::reader::Reader;
@@ -17,7 +17,7 @@ pub fn read_touch(
     reader: &mut Reader,
     earlier: &[Touch],
 ) -> Result<Touch, EntryRefusal>
-    ensures { Gives result reader.new (touch_at earlier.now reader.old) }
+    ensures { GivesValue result reader.new (spelled_touch earlier.now reader.old) }
 {
     let key = read_key(reader, earlier)?;
     let version = reader.positive_u64()?;
@@ -30,7 +30,7 @@ pub fn read_touch(
 }
 
 fn read_key(reader: &mut Reader, earlier: &[Touch]) -> Result<Key, EntryRefusal>
-    ensures { Gives result reader.new (key_at earlier.now reader.old) }
+    ensures { GivesValue result reader.new (spelled_key earlier.now reader.old) }
 {
     let at = reader.place();
     let key = read_any_key(reader)?;
@@ -47,7 +47,7 @@ fn is_touched(touches: &[Touch], key: &Key) -> bool
 }
 
 fn read_any_key(reader: &mut Reader) -> Result<Key, EntryRefusal>
-    ensures { Gives result reader.new (any_key_at reader.old) }
+    ensures { GivesValue result reader.new (spelled_any_key reader.old) }
 {
     let at = reader.place();
     match reader.take_u8()? {
@@ -61,7 +61,7 @@ fn read_any_key(reader: &mut Reader) -> Result<Key, EntryRefusal>
 }
 
 fn read_change(alloc: Global, reader: &mut Reader, key: &Key) -> Result<Change, EntryRefusal>
-    ensures { Gives result reader.new (change_at key.now reader.old) }
+    ensures { GivesValue result reader.new (spelled_change key.now reader.old) }
 {
     let at = reader.place();
     match (key, reader.take_u8()?) {
@@ -74,7 +74,7 @@ fn read_change(alloc: Global, reader: &mut Reader, key: &Key) -> Result<Change, 
 }
 
 fn read_put(alloc: Global, reader: &mut Reader) -> Result<Change, EntryRefusal>
-    ensures { Gives result reader.new (put_at reader.old) }
+    ensures { GivesValue result reader.new (spelled_put reader.old) }
 {
     let otype = OType(reader.take_u16()?);
     let payload = read_data(alloc, reader)?;
@@ -82,7 +82,7 @@ fn read_put(alloc: Global, reader: &mut Reader) -> Result<Change, EntryRefusal>
 }
 
 fn read_set(alloc: Global, reader: &mut Reader) -> Result<Change, EntryRefusal>
-    ensures { Gives result reader.new (set_at reader.old) }
+    ensures { GivesValue result reader.new (spelled_set reader.old) }
 {
     let id2 = reader.id()?;
     let time = reader.take_u32()?;
@@ -99,7 +99,7 @@ fn read_set(alloc: Global, reader: &mut Reader) -> Result<Change, EntryRefusal>
 }
 
 fn read_cut(reader: &mut Reader) -> Result<Change, EntryRefusal>
-    ensures { Gives result reader.new (cut_at reader.old) }
+    ensures { GivesValue result reader.new (spelled_cut reader.old) }
 {
     let id2 = reader.id()?;
     let stamp = read_stamp(reader)?;
@@ -108,7 +108,7 @@ fn read_cut(reader: &mut Reader) -> Result<Change, EntryRefusal>
 }
 
 fn read_stamp(reader: &mut Reader) -> Result<Stamp, EntryRefusal>
-    ensures { Gives result reader.new (stamp_at reader.old) }
+    ensures { GivesValue result reader.new (spelled_stamp reader.old) }
 {
     let at = reader.place();
     let number = reader.take_u64()?;
@@ -120,7 +120,7 @@ fn read_stamp(reader: &mut Reader) -> Result<Stamp, EntryRefusal>
 }
 
 fn read_was(reader: &mut Reader) -> Result<Option<Time>, EntryRefusal>
-    ensures { Gives result reader.new (was_at reader.old) }
+    ensures { GivesValue result reader.new (spelled_was reader.old) }
 {
     let at = reader.place();
     match reader.take_u8()? {

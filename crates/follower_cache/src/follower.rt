@@ -167,8 +167,10 @@ impl Follower {
     /// changeset of a shard that isn't served changes nothing.
     pub fn take_changeset(&mut self, schema: &Schema, change: Changeset)
         requires { IfSome (log_at (key_shard change.key) self.old.node.served) (λ log. log ≡ change.note.log) }
-        ensures items { OnSome (served_at (key_shard change.key) self.old.node.served) (ChangesItems (types_of schema.now) change self.old.node.items self.new.node.items) }
-        ensures node { OnSome (served_at (key_shard change.key) self.old.node.served) (self.new ≡ record self.old { node = with_change change self.new.node.items self.old.node }) }
+        ensures items { OnSome (served_at (key_shard change.key) self.old.node.served)
+            (ChangesItems (types_of schema.now) change self.old.node.items self.new.node.items) }
+        ensures node { OnSome (served_at (key_shard change.key) self.old.node.served)
+            (self.new ≡ record self.old { node = with_change change self.new.node.items self.old.node }) }
         ensures unserved { IfNone (served_at (key_shard change.key) self.old.node.served) (self.new ≡ self.old) }
     {
         self.node.take_changeset(schema, change);

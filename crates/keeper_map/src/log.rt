@@ -9,7 +9,8 @@ use tao_base::{Entry, Kind, Origin};
 
 fn place_of(entries: &[Entry], origin: Origin) -> Option<usize>
     ensures within { IfSome result (λ place. place < length entries.now) }
-    ensures place { MatchOption result (IsNewOrigin entries.now origin) (λ place. IsSomeAnd (slice_get entries.now place) (λ entry. entry.origin ≡ origin)) }
+    ensures place { MatchOption result (IsNewOrigin entries.now origin)
+        (λ place. IsSomeAnd (slice_get entries.now place) (λ entry. entry.origin ≡ origin)) }
 {
     entries.iter().position(|entry| entry.origin == origin)
 }

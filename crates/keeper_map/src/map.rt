@@ -6,7 +6,8 @@ ghost use Rattle.graph_model.specs.Soundness.{CanFollow};
 ghost use Rattle.tao_base.specs.declared.id.StoreName.{StoreName as Store};
 ghost use Rattle.tao_keeper.specs.Given.{AreGiven, HaveSmallStamps, IsGivenEntry, IsGivenJob, IsPosition};
 ghost use Rattle.keeper_map.specs.MapKeeper.{call_plan, shown_by, told_by};
-ghost use Rattle.keeper_map.specs.Plan.{CallsAsPlanned, CommitsAsPlanned, from_one};
+ghost use Rattle.counts.specs.Planned.{from_one};
+ghost use Rattle.keeper_map.specs.Plan.{CallsAsPlanned, CommitsAsPlanned};
 ghost use Rattle.tao_keeper.specs.Table.{Changes, IsLeastJob, IsJobAt, OpensAs, StandsAt, Stays, after_commit, after_end, after_open, empty_table};
 
 use crate::log;

@@ -1,8 +1,9 @@
 //! Which calls of the keeper in memory fail.
-ghost use Rattle.std.specs.Prelude.{◌≡◌, ◌↔◌, IsTrue};
-ghost use Rattle.keeper_map.specs.Plan.{after_next, from_one, CallsAsPlanned, CommitsAsPlanned, EndsAsPlanned, IsNextListed};
+ghost use Rattle.std.specs.Prelude.{◌≡◌, IsTrue};
+ghost use Rattle.counts.specs.Planned.{from_one};
+ghost use Rattle.keeper_map.specs.Plan.{CallsAsPlanned, CommitsAsPlanned, EndsAsPlanned};
 
-use counts::Count;
+use counts::{Count, PlannedCalls};
 use std::marker::Model;
 use tao_keeper::KeepFail;
 
@@ -13,46 +14,11 @@ pub struct Fails {
     pub commits: Vec<u64>,
 }
 
-/// Numbers from 1 on, which are counted through. Some of them are listed.
-#[derive(Drop)]
-struct Numbers {
-    listed: Vec<u64>,
-    count: Count,
-}
-
-impl Model for Numbers {
-    ghost use Rattle.keeper_map.specs.Plan.{Numbered};
-
-    ghost Value = { Numbered };
-
-    ghost view = { λ n. record { listed = n.listed.items; count = n.count } };
-}
-
-impl Numbers {
-    fn of(listed: Vec<u64>) -> Numbers
-        ensures { result ≡ from_one listed.items }
-    {
-        Numbers {
-            listed,
-            count: Count::new(),
-        }
-    }
-
-    /// Counts to the next number. Says whether it is listed.
-    fn next(&mut self) -> bool
-        ensures listed { IsTrue result ↔ IsNextListed self.old }
-        ensures counted { self.new ≡ after_next self.old }
-    {
-        self.count.rise();
-        self.listed.contains(&self.count.value())
-    }
-}
-
 /// Which calls fail, and what was counted so far.
 #[derive(Drop)]
 pub struct FaultPlan {
-    calls: Numbers,
-    commits: Numbers,
+    calls: PlannedCalls,
+    commits: PlannedCalls,
     faults: Count,
 }
 
@@ -72,8 +38,8 @@ impl FaultPlan {
         ensures faults { result.faults ≡ 0 }
     {
         FaultPlan {
-            calls: Numbers::of(fails.calls),
-            commits: Numbers::of(fails.commits),
+            calls: PlannedCalls::of(fails.calls),
+            commits: PlannedCalls::of(fails.commits),
             faults: Count::new(),
         }
     }
@@ -81,7 +47,7 @@ impl FaultPlan {
     pub fn calls(&self) -> u64
         ensures { result ≡ self.now.calls.count }
     {
-        self.calls.count.value()
+        self.calls.count()
     }
 
     pub fn faults(&self) -> u64
@@ -94,7 +60,7 @@ impl FaultPlan {
     pub fn begin_call(&mut self) -> Result<(), KeepFail>
         ensures { CallsAsPlanned self.old self.new result }
     {
-        let fails = self.calls.next();
+        let fails = self.calls.next_fails();
         self.fail_where(fails)
     }
 
@@ -102,8 +68,8 @@ impl FaultPlan {
     pub fn begin_commit(&mut self) -> Result<(), KeepFail>
         ensures { CommitsAsPlanned self.old self.new result }
     {
-        let call_fails = self.calls.next();
-        let commit_fails = self.commits.next();
+        let call_fails = self.calls.next_fails();
+        let commit_fails = self.commits.next_fails();
         self.fail_where(call_fails || commit_fails)
     }
 

@@ -92,7 +92,8 @@ pub(crate) fn begin<'c, S: Sink, K: Keeper>(
         first.now.line.items (serves serving (K.state keepers.new)) (Appends
         (S.taken output.old) (S.taken output.new))) }
     ensures serving { IfOk result (λ serving. MayServe K.TELLS serving (K.state keepers.new).told) }
-    ensures err { IfErr result (λ stop. BegunInPart (stop_code stop) K.TELLS (traces (K.state keepers.old) (S.taken output.old)) (traces (K.state keepers.new) (S.taken output.new)) first.now.line.items) }
+    ensures err { IfErr result (λ stop. BegunInPart (stop_code stop) K.TELLS
+        (traces (K.state keepers.old) (S.taken output.old)) (traces (K.state keepers.new) (S.taken output.new)) first.now.line.items) }
     ensures keepers { result ≡ Err Stop.Keepers → OpensInPart K.TELLS
         (K.state keepers.old) (K.state keepers.new) first.now.line.items
         (S.taken output.old) (S.taken output.new) }

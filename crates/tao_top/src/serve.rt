@@ -25,7 +25,9 @@ fn serve_line<R: Source, S: Sink, K: Keeper>(
     keepers: &mut K,
 ) -> Result<bool, Interrupt>
     requires serving { MayServe K.TELLS serving.old (K.state keepers.old).told }
-    ensures ok { OnOk result (Served K.TELLS (serves serving.old (K.state keepers.old)) (serves serving.new (K.state keepers.new)) (streams (to_come reader.old (R.left input.old)) (S.taken output.old)) (streams (to_come reader.new (R.left input.new)) (S.taken output.new))) }
+    ensures ok { OnOk result (Served K.TELLS (serves serving.old (K.state keepers.old)) (serves serving.new (K.state keepers.new))
+        (streams (to_come reader.old (R.left input.old)) (S.taken output.old))
+        (streams (to_come reader.new (R.left input.new)) (S.taken output.new))) }
     ensures uses { result ≡ Ok true → may_give reader.new < may_give reader.old }
     ensures end { result ≡ Ok false → IsAtEnd (to_come reader.new (R.left input.new)) }
     ensures short { result ≡ Ok false → reader.new.taken < 2 ^ 40 }

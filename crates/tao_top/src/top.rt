@@ -32,7 +32,8 @@ fn go<R: Source, S: Sink, K: Keeper>(
         (K.state keepers.old) (K.state keepers.new) (R.left input.old)
         (S.taken output.old) (S.taken output.new)) }
     ensures short { OnOk result (IfSome (R.left input.old) (λ bytes. length bytes < 2 ^ 40)) }
-    ensures err { IfErr result (λ stop. EndsInPart (stop_code stop) K.TELLS (traces (K.state keepers.old) (S.taken output.old)) (traces (K.state keepers.new) (S.taken output.new)) (R.left input.old)) }
+    ensures err { IfErr result (λ stop. EndsInPart (stop_code stop) K.TELLS
+        (traces (K.state keepers.old) (S.taken output.old)) (traces (K.state keepers.new) (S.taken output.new)) (R.left input.old)) }
     ensures keepers { result ≡ Err Stop.Keepers → StopsOpening K.TELLS
         (K.state keepers.old) (K.state keepers.new) (R.left input.old)
         (S.taken output.old) (S.taken output.new) }
@@ -94,7 +95,8 @@ pub fn run<R: Source, S: Sink, K: Keeper>(
     ensures done { result.code ≡ 0 → Done K.TELLS
         (K.state keepers.old) (K.state keepers.new) (R.left input.old)
         (S.taken output.old) (S.taken output.new) }
-    ensures in_part { EndsInPart result.code K.TELLS (traces (K.state keepers.old) (S.taken output.old)) (traces (K.state keepers.new) (S.taken output.new)) (R.left input.old) }
+    ensures in_part { EndsInPart result.code K.TELLS
+        (traces (K.state keepers.old) (S.taken output.old)) (traces (K.state keepers.new) (S.taken output.new)) (R.left input.old) }
 
     ensures words { (result.code ≡ 2) ↔ (is_run (map string_bytes words.now) ≡ false) }
     ensures idle { result.code ≡ 2 → (input.new ≡ input.old) × (output.new ≡ output.old) × (keepers.new ≡ keepers.old) }

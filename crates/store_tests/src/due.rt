@@ -45,7 +45,8 @@ pub(crate) fn check_due(
     position: u64,
     end: &JobEdge,
 ) -> Result<bool, KeepFail>
-    ensures is { IfOk result (λ d. IsTrue d → IsNewOrigin (told_by keeper.old THERE).log (Merge 0 position) ⊎ HasStamp (told_by keeper.old THERE).log end.now) }
+    ensures is { IfOk result (λ d. IsTrue d
+        → IsNewOrigin (told_by keeper.old THERE).log (Merge 0 position) ⊎ HasStamp (told_by keeper.old THERE).log end.now) }
     ensures stays { Stays (told_by keeper.old) (told_by keeper.new) }
 {
     if misses_merge(keeper, position)? {

@@ -184,8 +184,7 @@ impl Follower {
         ensures refills { Queues (types_of schema.now) (dropped_lists self.old.node.items message.keys) self.old.refills self.new.refills }
     {
         let delivered = self.node.deliver(message);
-        self.refills
-            .queue_all(schema, delivered.lists.as_slice());
+        self.refills.queue_all(schema, delivered.lists.as_slice());
         delivered.dropped
     }
 

@@ -38,4 +38,3 @@ restarted [] lows notes = []
 restarted (s ∷ ss) [] notes = s ∷ ss
 restarted (s ∷ ss) (low ∷ lows) [] = s ∷ ss
 restarted (s ∷ ss) (low ∷ lows) (note ∷ notes) = restarting low note s ∷ restarted ss lows notes
-

@@ -1,2 +1,1 @@
-pub mod FollowerLemmas
 pub mod RigLemmas

@@ -8,6 +8,7 @@
 
 mod added;
 mod laws;
+mod leader_answer;
 mod merges;
 mod open_jobs;
 mod opening;
@@ -19,6 +20,7 @@ mod writes;
 
 pub use added::object_added;
 pub use laws::writes_are_steps;
+pub use leader_answer::LeaderAnswer;
 pub use opening::log_of;
 pub use read_out::{ReadOut, answer_of_fill};
 pub use reads::Found;

@@ -40,7 +40,7 @@ use Rattle.cache_node.specs.True.{AreTold, IsServed, IsTrueAsk, IsTrueAskOf, IsT
 pub content_reached : (log : List Entry) (key : Key) (at : ℕ) (content : Content) → IsExactContent log key at content → at ≤ version log key
 content_reached log (Obj id) at (ObjectIs found) exact = exact.reached
 content_reached log (Obj id) at (ListIs prefix) exact = absurd exact
-content_reached log (Assocs id1 atype) at (ListIs prefix) exact = exact.exact.reached
+content_reached log (Assocs id1 atype) at (ListIs prefix) exact = exact.reached
 content_reached log (Assocs id1 atype) at (ObjectIs found) exact = absurd exact
 
 -- the fill is one of what was seen, and has at least the version of each touch of its key at a marked position

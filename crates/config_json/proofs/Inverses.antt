@@ -16,8 +16,8 @@ use Rattle.tao_schema.specs.declared.lines.AssocLine.{AssocLine}
 use Rattle.tao_schema.specs.declared.refusal.SchemaField.TheVariants.{Assocs}
 use Rattle.topology.specs.Config.{Settings}
 use Rattle.config_json.proofs.KeptRules.{passed, said_of}
-use Rattle.config_json.specs.Config.{config_in, config_of, fields, in_field, unless_strange}
-use Rattle.config_json.specs.Object.{object_in}
+use Rattle.config_json.specs.Config.{config_in, config_of, field_names, in_field, unless_strange}
+use Rattle.config_json.specs.Object.{line_object}
 use Rattle.config_json.specs.Regions.{masters_at, regions_at}
 use Rattle.config_json.specs.Stage.{IsWithoutInverses, has_no_inverse, have_no_inverse}
 use Rattle.config_json.specs.Types.{assoc_of, assocs_at, objects_at}
@@ -62,13 +62,13 @@ none_said d s is =
     let assocs = then_ok (in_field (codes "assocs") (assocs_at d)) _ s objects.2 in
     let log_max = then_ok (in_field (codes "log_max") (number_or (codes "log_max") 16384 1 65536 d)) _ s assocs.2 in
     let cache_items = then_ok (in_field (codes "cache_items") (number_or (codes "cache_items") 1024 1 65536 d)) _ s log_max.2 in
-    subst (λ t. have_no_inverse t.schema.assocs ≡ true) (whole (strange_at fields d) _ s cache_items.2) (none_read d assocs.0 (said_of (codes "assocs") (assocs_at d) assocs.0 assocs.1))
+    subst (λ t. have_no_inverse t.schema.assocs ≡ true) (whole (strange_at field_names d) _ s cache_items.2) (none_read d assocs.0 (said_of (codes "assocs") (assocs_at d) assocs.0 assocs.1))
 
 without : (d : Data) (s : Settings) → config_of d ≡ Ok s → IsWithoutInverses s
 without d s is atype = ap (λ place. option_map atype_at place) (none_at s.schema.assocs s.schema.assocs atype.0 (none_said d s is))
 
 pub without_inverses : (line : List ℕ) (s : Settings) → config_in line ≡ Ok s → IsWithoutInverses s
-without_inverses line s is = let object = then_ok (in_field [] (object_in line)) config_of s is in without object.0 s object.2
+without_inverses line s is = let object = then_ok (in_field [] (line_object line)) config_of s is in without object.0 s object.2
 
 -- what is taken is such a configuration
 pub taken_without : {E : Type 0} (result : Result Settings E) (d : Data) → IfOk result (λ s. config_of d ≡ Ok s) → IfOk result IsWithoutInverses

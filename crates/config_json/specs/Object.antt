@@ -7,7 +7,7 @@ use Rattle.outcomes.specs.Options.{◌>>=◌}
 use Rattle.json_fields.specs.Json.{json_of}
 
 -- what a line says: nothing where it is too long, isn't UTF-8, is no JSON or no object
-abbrev pub object_in : List ℕ → Option Data
-object_in line = do
+abbrev pub line_object : List ℕ → Option Data
+line_object line = do
   d ← json_of line
   then_some (is_some (as_object d)) d

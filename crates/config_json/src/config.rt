@@ -1,7 +1,7 @@
 //! The configuration line.
 ghost use Rattle.std.specs.Prelude.{◌≡◌, ◌≢◌, Ok, Err, IfOk, IfErr, option_map};
 ghost use Rattle.serde_json.specs.View.{view};
-ghost use Rattle.config_json.specs.Object.{object_in};
+ghost use Rattle.config_json.specs.Object.{line_object};
 ghost use Rattle.config_json.specs.Config.{in_field, config_of, config_in};
 ghost use Rattle.config_json.specs.Stage.{IsWithoutInverses};
 
@@ -41,15 +41,15 @@ pub fn read_config(alloc: Global, line: &[u8]) -> Result<Config, ConfigRefusal>
     ensures no_inverse { IfOk result IsWithoutInverses }
     ensures refused { IfErr result (λ refusal. refusal ≢ ConfigRefusal.OutOfMemory → config_in line.now ≡ Err refusal) }
 {
-    match object_in(alloc, line)? {
+    match line_object(alloc, line)? {
         Some(value) => config_of(alloc, &value),
         None => Err(bad(alloc, "")),
     }
 }
 
 /// The object that a line is.
-fn object_in(alloc: Global, line: &[u8]) -> Result<Option<Value>, AllocError>
-    ensures { IfOk result (λ value. option_map view value ≡ object_in line.now) }
+fn line_object(alloc: Global, line: &[u8]) -> Result<Option<Value>, AllocError>
+    ensures { IfOk result (λ value. option_map view value ≡ line_object line.now) }
 {
     match parse(alloc, line)? {
         Some(value) => Ok(value.is_object().then_some(value)),

@@ -1,7 +1,7 @@
 -- Exact items stay exact.
 use Rattle.std.proofs.Common.{◌≡◌, ℕ, ◌≤◌, ◌+◌, List, [], ◌∷◌, ◌++◌, length, take, drop, refl, sym, ap, subst, ◌∙◌, inl, inr, arith, zero, suc}
 use Rattle.std.proofs.lemmas.Bool.{cases_lt}
-use Rattle.std.proofs.lemmas.List.{length-take, take-append-drop, take-append-le, take-take, take_all}
+use Rattle.std.proofs.lemmas.List.{take-append-drop, take-append-le, take-take, take_all}
 use Rattle.std.proofs.lemmas.List.Elements.{All-contains}
 use Rattle.std.proofs.Math.Seq.{take-append_seam}
 use Rattle.std.specs.Prelude.{IfSome, Option, Some, None, option_to_list}
@@ -79,10 +79,8 @@ list_depends id1 atype edges total p q e h = subst (λ cs. IsPrefixOf edges tota
 pub items_stay : (log more : List Entry) → ExactStays log more
 items_stay log more = record {
   object_stays = λ id v found exact. exact_stays log more (Obj id) v (λ part. object part id ≡ found) (object_depends id found) exact;
-  list_stays = λ id1 atype bound v edges total exact. record {
-    exact = exact_stays log more (Assocs id1 atype) v (λ part. IsPrefixOf edges total (edge_list part id1 atype)) (list_depends id1 atype edges total) exact.exact;
-    bounded = exact.bounded;
-  };
+  list_stays = λ id1 atype v edges total exact.
+      exact_stays log more (Assocs id1 atype) v (λ part. IsPrefixOf edges total (edge_list part id1 atype)) (list_depends id1 atype edges total) exact;
 }
 
 take_begins : (count : ℕ) (xs : List Edge) → IsPrefixOf (take count xs) (length xs) xs
@@ -96,13 +94,10 @@ take_begins count xs = record { begins = first count xs; length_is = refl }
 pub beginning_is_exact : (log : List Entry) (n : ℕ) → BeginningIsExact log n
 beginning_is_exact log n = record {
   object_is = λ id. exact_from log (Obj id) (λ part. object part id ≡ object (take n log) id) n (version (take n log) (Obj id)) (object_depends id (object (take n log) id)) refl refl;
-  list_is = λ id1 atype bound count le.
+  list_is = λ id1 atype count.
       let whole : List Edge = edge_list (take n log) id1 atype in
-      record {
-        exact = exact_from log (Assocs id1 atype) (λ part. IsPrefixOf (take count whole) (length whole) (edge_list part id1 atype)) n (version (take n log) (Assocs id1 atype))
-            (list_depends id1 atype (take count whole) (length whole)) refl (take_begins count whole);
-        bounded = (let most = length-take count whole in omega arith);
-      };
+      exact_from log (Assocs id1 atype) (λ part. IsPrefixOf (take count whole) (length whole) (edge_list part id1 atype)) n (version (take n log) (Assocs id1 atype))
+      (list_depends id1 atype (take count whole) (length whole)) refl (take_begins count whole);
 }
 
 -- `was` says whether the edge stands in the list
@@ -153,25 +148,22 @@ object_next log t sound touch id v found key next exact =
     (ap (λ l. object l id) s.with_it ∙ s.applies.object_is id key ∙ ap (object_after t.change) old)
 
 list_next : (log : List Entry) (t : Touch) → IsSound log → IsTouchOf log t → (id1 : Id) (atype : AType) (bound v : ℕ) (edges : List Edge) (total : ℕ) → t.key ≡ Assocs id1 atype
-    → t.version ≡ v + 1 → IsExactList log id1 atype bound v edges total
-    → IsExactList log id1 atype bound (v + 1) (take bound (edges_after t.change edges total)) (total_after t.change total)
+    → t.version ≡ v + 1 → IsExactList log id1 atype v edges total
+    → IsExactList log id1 atype (v + 1) (take bound (edges_after t.change edges total)) (total_after t.change total)
 list_next log t sound touch id1 atype bound v edges total key next exact =
     let s = step_at log t sound touch in
     let n : ℕ = touch.place in
     let after : List Edge = take bound (edges_after t.change edges total) in
-    let old : IsPrefixOf edges total (edge_list (take n log) id1 atype) = exact.exact.gives n (ap (version (take n log)) (sym key) ∙ before_it log t n v touch.entry s next) in
+    let old : IsPrefixOf edges total (edge_list (take n log) id1 atype) = exact.gives n (ap (version (take n log)) (sym key) ∙ before_it log t n v touch.entry s next) in
     let was : SaysWas t.change (edge_list (take n log) id1 atype) =
     says_was (take n log) id1 atype t.change (subst (λ k. IfSome (update_at k t.change) (λ u. was_of t.change ≡ live_time (edge_record (take n log) u.0 u.1 u.2))) key s.follows.was_is) in
     let sorted = (in_order_list (changes_of (take n log) (Assocs id1 atype))).newest_first in
     let new : IsPrefixOf after (total_after t.change total) (list_after t.change (edge_list (take n log) id1 atype)) =
     (prefix_follows bound t.change edges total).follows (edge_list (take n log) id1 atype) old sorted was in
     let list : list_after t.change (edge_list (take n log) id1 atype) ≡ edge_list (take (n + 1) log) id1 atype = sym (s.applies.list_is id1 atype key) ∙ ap (λ l. edge_list l id1 atype) (sym s.with_it) in
-    record {
-      exact = exact_from log (Assocs id1 atype) (λ part. IsPrefixOf after (total_after t.change total) (edge_list part id1 atype)) (n + 1) (v + 1)
-          (list_depends id1 atype after (total_after t.change total)) (ap (version (take (n + 1) log)) (sym key) ∙ after_it log t n v touch.entry s next)
-          (subst (IsPrefixOf after (total_after t.change total)) list new);
-      bounded = (let most = length-take bound (edges_after t.change edges total) in omega arith);
-    }
+    exact_from log (Assocs id1 atype) (λ part. IsPrefixOf after (total_after t.change total) (edge_list part id1 atype)) (n + 1) (v + 1)
+    (list_depends id1 atype after (total_after t.change total)) (ap (version (take (n + 1) log)) (sym key) ∙ after_it log t n v touch.entry s next)
+    (subst (IsPrefixOf after (total_after t.change total)) list new)
 
 pub exact_follows : (log : List Entry) (t : Touch) → ExactFollows log t
 exact_follows log t = record { object_follows = object_next log t; list_follows = list_next log t }

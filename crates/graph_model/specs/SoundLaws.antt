@@ -1,17 +1,15 @@
 -- Laws of sound logs.
-use Rattle.std.specs.Prelude.{ℕ, true, List, [], ◌∷◌, ◌++◌, take, All, Contains, IfSome, IsTrue, Some, slice_get, ◌≡◌, ◌+◌, ◌<◌}
+use Rattle.std.specs.Prelude.{ℕ, true, List, [], ◌∷◌, ◌++◌, take, All, Contains, IfSome, Some, slice_get, ◌≡◌, ◌+◌, ◌<◌}
 use Rattle.tao_base.specs.EdgeTypes.{EdgeTypes}
-use Rattle.tao_base.specs.Ids.{shard_of}
 use Rattle.tao_base.specs.Stamps.{stamp_of, is_earlier}
 use Rattle.tao_base.specs.declared.edge.EdgeState.{EdgeState}
 use Rattle.tao_base.specs.declared.id.Id.{Id}
 use Rattle.tao_base.specs.declared.id.AType.{AType}
 use Rattle.tao_base.specs.declared.entry.Entry.{Entry}
-use Rattle.tao_base.specs.declared.entry.Origin.{Origin}
 use Rattle.graph_model.specs.Edges.{edge_record, live_time}
 use Rattle.graph_model.specs.Log.{version}
-use Rattle.graph_model.specs.Records.{HasStamp, is_news}
-use Rattle.graph_model.specs.Soundness.{CanFollow, EdgeUpdate, IsSound, IsSoundOf, KeepsEnds, TouchFollows, is_client, update_at, updates_of, was_of}
+use Rattle.graph_model.specs.Records.{HasStamp}
+use Rattle.graph_model.specs.Soundness.{CanFollow, EdgeUpdate, IsSound, IsSoundOf, KeepsEnds, update_at, updates_of, was_of}
 
 -- a sound log grows by an entry that can follow it, and each beginning of a sound log is sound
 pub record SoundGrows (log : List Entry) (e : Entry) : Type 0 where

@@ -19,4 +19,4 @@ pub record VersionsAreOfBeginnings (log : List Entry) (key : Key) : Type 0 where
 -- a list of a sound log is no longer than its version, and no exact item tells of a longer one
 pub record LengthIsWithinVersion (log : List Entry) (id1 : Id) (atype : AType) : Type 0 where
   pub list_is : IsSound log → length (edge_list log id1 atype) ≤ version log (Assocs id1 atype)
-  pub item_is : IsSound log → (bound v : ℕ) (edges : List Edge) (total : ℕ) → IsExactList log id1 atype bound v edges total → total ≤ v
+  pub item_is : IsSound log → (v : ℕ) (edges : List Edge) (total : ℕ) → IsExactList log id1 atype v edges total → total ≤ v

@@ -2,13 +2,10 @@
 use Rattle.std.proofs.Common.{◌≡◌, ℕ, ◌+◌, ◌-◌, ◌^◌, ◌<◌, ◌≤◌, Bool, not, List, ◌++◌, length, max, take, drop, Option, Some, None, refl, sym, ◌∙◌, ap, subst, arith, inl, inr, length-append, Result, Ok, Err, OnOk}
 use Rattle.std.specs.Prelude.{◌==◌, ◌||◌, nat_eq, nat_lt, filter, option_to_list, IfSome}
 use Rattle.std.proofs.lemmas.Bool.{cases_Bool, lt-ltb, ltb-false}
-use Rattle.std.proofs.lemmas.Bool.Decides.{nat_tests}
 use Rattle.std.proofs.lemmas.List.{length-take, take-append-drop, take_all}
 use Rattle.std.proofs.lemmas.List.Elements.{All-contains, filter-append}
 use Rattle.std.proofs.lemmas.List.Filters.{length-filter_both}
 use Rattle.tao_base.specs.declared.edge.Edge.{Edge}
-use Rattle.tao_base.specs.declared.edge.EdgeState.{EdgeState}
-use Rattle.tao_base.specs.declared.edge.EdgeState.TheVariants.{Live, Cut}
 use Rattle.tao_base.specs.declared.entry.Change.{Change}
 use Rattle.tao_base.specs.declared.entry.Change.TheVariants.{PutObject, DropObject, SetEdge, CutEdge}
 use Rattle.tao_base.specs.declared.entry.Entry.{Entry}
@@ -19,9 +16,8 @@ use Rattle.tao_base.specs.declared.id.Key.TheVariants.{List as Assocs}
 use Rattle.graph_model.proofs.Applied.{length_insert, prefix_take}
 use Rattle.graph_model.proofs.Exact.{exact_follows, says_was}
 use Rattle.graph_model.proofs.Lengths.{item_within}
-use Rattle.graph_model.proofs.Lists.{edge_list_law}
-use Rattle.graph_model.specs.Edges.{edge_list, edge_record, edges_to, live_edge, live_time, without_edge}
-use Rattle.graph_model.specs.Log.{IsTouchOf, changes_of, version}
+use Rattle.graph_model.specs.Edges.{edge_list, edge_record, edges_to, live_time, without_edge}
+use Rattle.graph_model.specs.Log.{IsTouchOf, version}
 use Rattle.graph_model.specs.Prefixes.{IsExactList, IsPrefixOf, SaysWas, edges_after, is_before_last, put_among, total_after, total_without}
 use Rattle.graph_model.specs.Soundness.{IsSound, TouchFollows, update_at, was_of}
 use Rattle.list_prefix.proofs.Changed.{length_rest}
@@ -135,12 +131,10 @@ stood log t id1 atype v sound touch key next =
     }
 
 -- a front of an exact prefix is exact
-pub front_is_exact : (log : List Entry) (id1 : Id) (atype : AType) (bound v n : ℕ) (edges : List Edge) (total : ℕ) → IsExactList log id1 atype bound v edges total
+pub front_is_exact : (log : List Entry) (id1 : Id) (atype : AType) (v n : ℕ) (edges : List Edge) (total : ℕ) → IsExactList log id1 atype v edges total
     → IsExactPrefix log id1 atype v (list_prefix (take n edges) total)
-front_is_exact log id1 atype bound v n edges total exact = record {
-  exact = record { reached = exact.exact.reached; gives = λ m h. prefix_take n edges (edge_list (take m log) id1 atype) total (exact.exact.gives m h) };
-  bounded = omega arith;
-}
+front_is_exact log id1 atype v n edges total exact =
+    record { reached = exact.reached; gives = λ m h. prefix_take n edges (edge_list (take m log) id1 atype) total (exact.gives m h) }
 
 -- the plain rule keeps all edges exact
 plain_is_exact : (log : List Entry) (t : Touch) (id1 : Id) (atype : AType) (v : ℕ) (p : ListPrefix) → IsSound log → IsTouchOf log t → t.key ≡ Assocs id1 atype
@@ -148,22 +142,21 @@ plain_is_exact : (log : List Entry) (t : Touch) (id1 : Id) (atype : AType) (v : 
 plain_is_exact log t id1 atype v p sound touch key next exact =
     let after : List Edge = edges_after t.change p.edges p.total in
     let room : ℕ = length p.edges + length after in
-    let next_is = (exact_follows log t).list_follows sound touch id1 atype room v p.edges p.total key next (record { exact = exact.exact; bounded = omega arith }) in
+    let next_is = (exact_follows log t).list_follows sound touch id1 atype room v p.edges p.total key next exact in
     let all : take room after ≡ after = take_all room after (omega arith) in
-    let whole = subst (λ es. IsExactList log id1 atype room (v + 1) es (total_after t.change p.total)) all next_is in
-    record { exact = whole.exact; bounded = omega arith }
+    subst (λ es. IsExactList log id1 atype (v + 1) es (total_after t.change p.total)) all next_is
 
 follows : (change : Change) (old new : ListPrefix) (bound : ℕ) → new ≡ prefix_after change old bound → (log : List Entry) (t : Touch) (id1 : Id) (atype : AType) (v : ℕ)
     → IsSound log → IsTouchOf log t → t.key ≡ Assocs id1 atype → t.change ≡ change → t.version ≡ v + 1 → t.version < 2 ^ 64
     → IsExactPrefix log id1 atype v old → IsExactPrefix log id1 atype (v + 1) new
 follows change old new bound is log t id1 atype v sound touch key same next small exact =
     let before = stood log t id1 atype v sound touch key next in
-    let begins : IsPrefixOf old.edges old.total (edge_list (take before.place log) id1 atype) = exact.exact.gives before.place before.at in
+    let begins : IsPrefixOf old.edges old.total (edge_list (take before.place log) id1 atype) = exact.gives before.place before.at in
     let begun : IsPrefixOf old.edges old.total (edge_list (take touch.place log) id1 atype) = subst (IsPrefixOf old.edges old.total) before.is begins in
-    let short = item_within log id1 atype sound (length old.edges) v old.edges old.total exact in
+    let short = item_within log id1 atype sound v old.edges old.total exact in
     let front = after_is t.change old bound (edge_list (take touch.place log) id1 atype) begun before.says (omega arith) in
     let plain = plain_is_exact log t id1 atype v old sound touch key next exact in
-    let cut = front_is_exact log id1 atype _ (v + 1) front.count (edges_after t.change old.edges old.total) (total_after t.change old.total) plain in
+    let cut = front_is_exact log id1 atype (v + 1) front.count (edges_after t.change old.edges old.total) (total_after t.change old.total) plain in
     subst (λ p. IsExactPrefix log id1 atype (v + 1) p) (front.is ∙ ap (λ c. prefix_after c old bound) same ∙ sym is) cut
 
 pub stays_exact : (change : Change) (old new : ListPrefix) (bound : ℕ) → new ≡ prefix_after change old bound → StaysExact change old new bound

@@ -22,4 +22,4 @@ pub record CanBegin (edges : List Edge) (total : ℕ) : Type 0 where
 
 -- the prefix is exact at a version that the log has reached: the first edges of the list at that version, and its length. Any number of them is
 abbrev pub IsExactPrefix : List Entry → Id → AType → ℕ → ListPrefix → Type 0
-IsExactPrefix log id1 atype v p = IsExactList log id1 atype (length p.edges) v p.edges p.total
+IsExactPrefix log id1 atype v p = IsExactList log id1 atype v p.edges p.total

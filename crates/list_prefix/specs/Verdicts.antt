@@ -38,6 +38,6 @@ AnswersEachList p query bound Undecided = ⊤
 -- where the prefix is exact at a version, an answer that is decided is what the log answered at that version
 abbrev pub AnswersLog : ListPrefix → Query → ℕ → Verdict → Type 0
 AnswersLog p query bound (Decided answer) = (types : EdgeTypes) (log : List Entry) (id1 : Id) (atype : AType) (v n : ℕ) → query_key query ≡ Assocs id1 atype
-    → types.bound atype ≡ bound → IsExactList log id1 atype bound v p.edges p.total → version (take n log) (Assocs id1 atype) ≡ v
+    → types.bound atype ≡ bound → IsExactList log id1 atype v p.edges p.total → version (take n log) (Assocs id1 atype) ≡ v
     → answer ≡ log_answer types (take n log) query
 AnswersLog p query bound Undecided = ⊤

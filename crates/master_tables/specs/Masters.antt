@@ -12,13 +12,13 @@ pub record Masters : Type 0 where
   pub of_shard : (shard : ℕ) → (name shard).shard ≡ shard
 
 -- what a function gives of so many numbers from one on
-abbrev pub each : (ℕ → List Entry) → ℕ → ℕ → List (List Entry)
-each f from zero = []
-each f from (suc n) = f from ∷ each f (from + 1) n
+abbrev pub each_shard : (ℕ → List Entry) → ℕ → ℕ → List (List Entry)
+each_shard f from zero = []
+each_shard f from (suc n) = f from ∷ each_shard f (from + 1) n
 
 -- the log and the jobs that the tables give each shard
 abbrev pub stores_of : Masters → Tables → Stores
 stores_of m tables = record {
-  logs = each (λ shard. (tables (m.name shard)).log) 0 m.shards;
+  logs = each_shard (λ shard. (tables (m.name shard)).log) 0 m.shards;
   job = λ shard position. if nat_lt shard m.shards then (tables (m.name shard)).jobs position else None;
 }

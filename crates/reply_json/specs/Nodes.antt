@@ -91,7 +91,8 @@ streamed_data r =
 
 -- a repair is told by its hops, its job, and whether it wrote an entry
 abbrev pub repaired_data : Repaired → Data
-repaired_data r = fields ((codes "hops", whole r.hops) ∷ (codes "job", whole r.job) ∷ (codes "ok", text (word_text word.Repair)) ∷ (codes "wrote", boolean r.wrote) ∷ [])
+repaired_data r =
+    fields ((codes "hops", whole r.hops) ∷ (codes "job", whole r.job) ∷ (codes "ok", text (word_text word.Repair)) ∷ (codes "wrote", boolean r.wrote) ∷ [])
 
 -- what is told of a node
 abbrev pub node_data : Settings → NodeReply → Data

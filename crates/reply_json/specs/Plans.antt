@@ -12,5 +12,6 @@ use Rattle.topology.specs.Config.{Settings}
 
 -- a plan is told by its next stage, or by the reply to its call
 abbrev pub plan_data : Settings → PlanReply → Data
-plan_data s (Next which plan next) = fields ((codes "next", text (stage_text next)) ∷ (codes "ok", text (word_text (word.Plan which))) ∷ (codes "plan", whole plan) ∷ [])
+plan_data s (Next which plan next) =
+    fields ((codes "next", text (stage_text next)) ∷ (codes "ok", text (word_text (word.Plan which))) ∷ (codes "plan", whole plan) ∷ [])
 plan_data s (Ended plan reply) = call_data s (Some plan) reply

@@ -62,18 +62,24 @@ when_position (After position) = position
 
 -- a node was down
 abbrev pub node_down : List ℕ → When → Data
-node_down name when = fields ((codes "name", text name) ∷ (codes "no", text (codes "node_down")) ∷ (codes "position", whole (when_position when)) ∷ (codes "when", text (when_text when)) ∷ [])
+node_down name when =
+    fields ((codes "name", text name) ∷ (codes "no", text (codes "node_down")) ∷ (codes "position", whole (when_position when))
+    ∷ (codes "when", text (when_text when)) ∷ [])
 
 -- a carry failed
 abbrev pub link_fault : ℕ → When → Data
-link_fault count when = fields ((codes "count", whole count) ∷ (codes "no", text (codes "link_fault")) ∷ (codes "position", whole (when_position when)) ∷ (codes "when", text (when_text when)) ∷ [])
+link_fault count when =
+    fields ((codes "count", whole count) ∷ (codes "no", text (codes "link_fault")) ∷ (codes "position", whole (when_position when))
+    ∷ (codes "when", text (when_text when)) ∷ [])
 
 -- what a node could not do is told by the node, or by what was asked of it
 abbrev pub node_refused : Settings → NodeRefused → Data
 node_refused s (NoMessage message) = fields ((codes "message", whole message) ∷ (codes "no", text (codes "no_message")) ∷ [])
 node_refused s (NoRefill node) = fields ((codes "no", text (codes "no_refill")) ∷ (codes "node", text (node_text s node)) ∷ [])
-node_refused s (IsMaster store) = fields ((codes "no", text (codes "is_master")) ∷ (codes "region", text (region_name s.regions store.region)) ∷ (codes "shard", whole store.shard) ∷ [])
-node_refused s (NoEntry length position) = fields ((codes "length", whole length) ∷ (codes "no", text (codes "no_entry")) ∷ (codes "position", whole position) ∷ [])
+node_refused s (IsMaster store) =
+    fields ((codes "no", text (codes "is_master")) ∷ (codes "region", text (region_name s.regions store.region)) ∷ (codes "shard", whole store.shard) ∷ [])
+node_refused s (NoEntry length position) =
+    fields ((codes "length", whole length) ∷ (codes "no", text (codes "no_entry")) ∷ (codes "position", whole position) ∷ [])
 node_refused s (NoServer region) = about_name (codes "no_server") (region_name s.regions region)
 node_refused s (NodeDown node when) = node_down (node_text s node) when
 
@@ -85,7 +91,8 @@ store_refused (StampFull number) = fields ((codes "no", text (codes "stamp_full"
 store_refused (LogFull length) = fields ((codes "length", whole length) ∷ (codes "no", text (codes "log_full")) ∷ [])
 store_refused (KeeperFault count) = fields ((codes "count", whole count) ∷ (codes "no", text (codes "keeper_fault")) ∷ [])
 store_refused (LinkFault count when) = link_fault count when
-store_refused (Unsettled shard why) = fields ((codes "no", text (codes "unsettled")) ∷ (codes "shard", whole shard) ∷ (codes "why", text (unsettled_text why)) ∷ [])
+store_refused (Unsettled shard why) =
+    fields ((codes "no", text (codes "unsettled")) ∷ (codes "shard", whole shard) ∷ (codes "why", text (unsettled_text why)) ∷ [])
 
 -- a refusal, as it is told
 abbrev pub refusal_data : Settings → Refusal → Data

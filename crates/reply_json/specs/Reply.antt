@@ -24,11 +24,13 @@ bad_configuration_data field = fields ((codes "bad", text (codes "configuration"
 
 -- stores that disagree are told by the first position at which they do
 abbrev pub bad_stores_data : Settings → StoreName → ℕ → Data
-bad_stores_data s store position = fields ((codes "bad", text (codes "stores")) ∷ (codes "position", whole position) ∷ (codes "store", text (node_text s (Store store))) ∷ [])
+bad_stores_data s store position =
+    fields ((codes "bad", text (codes "stores")) ∷ (codes "position", whole position) ∷ (codes "store", text (node_text s (Store store))) ∷ [])
 
 -- an audit is told by its answer and the length of the log
 abbrev pub audit_data : Settings → Answer → ℕ → Data
-audit_data s answer position = fields ((answer_name answer, answer_data s answer) ∷ (codes "ok", text (word_text word.Audit)) ∷ (codes "position", whole position) ∷ [])
+audit_data s answer position =
+    fields ((answer_name answer, answer_data s answer) ∷ (codes "ok", text (word_text word.Audit)) ∷ (codes "position", whole position) ∷ [])
 
 -- the value that a reply is
 abbrev pub data_of : Settings → Reply → Data

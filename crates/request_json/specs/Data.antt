@@ -18,4 +18,5 @@ pairs_of (member key d ms) = do
 
 -- pairs that are in order are data, unless they are more than 32 or are spelled in more than 4,096 bytes
 abbrev pub fitting : List Pair → Result (List Pair) LineRefusal
-fitting pairs = if nat_le (length pairs) 32 && nat_le (length (data_bytes pairs)) 4096 then Ok pairs else Err (TooLarge (length (data_bytes pairs)) (length pairs))
+fitting pairs = if nat_le (length pairs) 32 && nat_le (length (data_bytes pairs)) 4096 then Ok pairs
+    else Err (TooLarge (length (data_bytes pairs)) (length pairs))

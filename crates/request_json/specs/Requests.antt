@@ -38,9 +38,9 @@ open_of d = do
   Ok (request.Open (record { session = session; region = region; tier = tier }))
 
 -- the fields of a request within another count as the field `request` of that one; its data comes after all fields of both
-abbrev pub within : {A : Type 0} → List (List ℕ) → Data → Result A LineRefusal → Result A LineRefusal
-within names d (Err (BadLine field)) = Err (BadLine (codes "request"))
-within names d inner = do
+abbrev pub asked_within : {A : Type 0} → List (List ℕ) → Data → Result A LineRefusal → Result A LineRefusal
+asked_within names d (Err (BadLine field)) = Err (BadLine (codes "request"))
+asked_within names d inner = do
   known ← only_fields names d
   inner
 
@@ -69,7 +69,7 @@ abbrev pub hold_of : Data → Result Request LineRefusal
 hold_of d = do
   plan ← plan_field d
   inner ← inner_field d
-  call ← within (codes "do" ∷ codes "plan" ∷ codes "request" ∷ []) d (call_by (word_of inner) inner)
+  call ← asked_within (codes "do" ∷ codes "plan" ∷ codes "request" ∷ []) d (call_by (word_of inner) inner)
   Ok (request.Hold plan call)
 
 abbrev pub advance_of : Data → Result Request LineRefusal
@@ -81,7 +81,7 @@ advance_of d = do
 abbrev pub audit_of : Data → Result Request LineRefusal
 audit_of d = do
   inner ← inner_field d
-  read ← within (codes "do" ∷ codes "request" ∷ []) d (read_by (word_of inner) inner)
+  read ← asked_within (codes "do" ∷ codes "request" ∷ []) d (read_by (word_of inner) inner)
   Ok (request.Audit read)
 
 abbrev pub settle_of : Data → Result Request LineRefusal

@@ -5,7 +5,7 @@ ghost use Rattle.outcomes.specs.Results.{Gives};
 ghost use Rattle.request_json.specs.Refusal.{unless_memory};
 ghost use Rattle.request_json.specs.Fields.{said};
 ghost use Rattle.request_json.specs.Word.{word_of};
-ghost use Rattle.request_json.specs.Requests.{open_of, within, call_by, read_by, plan_field, hold_of, advance_of, audit_of, settle_of};
+ghost use Rattle.request_json.specs.Requests.{open_of, asked_within, call_by, read_by, plan_field, hold_of, advance_of, audit_of, settle_of};
 ghost use Rattle.request_json.specs.declared.refusal.LineRefusal.{LineRefusal};
 
 use crate::calls::{read_of, session_field, write_of};
@@ -43,7 +43,7 @@ pub(crate) fn hold_of(fields: &Fields<'_>) -> Result<Request, LineRefusal>
     };
     let alloc = fields.alloc;
     let inner = call_of(&Fields { alloc, value });
-    let call = within(fields, &["do", "plan", "request"], inner)?;
+    let call = asked_within(fields, &["do", "plan", "request"], inner)?;
     Ok(Request::Hold { plan, call })
 }
 
@@ -63,7 +63,7 @@ pub(crate) fn audit_of(fields: &Fields<'_>) -> Result<Request, LineRefusal>
     };
     let alloc = fields.alloc;
     let inner = inner_read_of(&Fields { alloc, value });
-    let read = within(fields, &["do", "request"], inner)?;
+    let read = asked_within(fields, &["do", "request"], inner)?;
     Ok(Request::Audit(read))
 }
 
@@ -99,13 +99,13 @@ fn inner_read_of(fields: &Fields<'_>) -> Result<ReadCall, LineRefusal>
 
 /// What a request within another one asks: all its fields are the field `request` of that one, whose
 /// strange fields are looked for before the size of the inner one's data.
-fn within<T: Drop>(
+fn asked_within<T: Drop>(
     fields: &Fields<'_>,
     names: &[&str],
     inner: Result<T, LineRefusal>,
 ) -> Result<T, LineRefusal>
     ensures { (asked : Result T LineRefusal) → Gives unless_memory inner asked
-        → Gives unless_memory result (within (map (λ n. n.now) names.now) (said fields.now) asked) }
+        → Gives unless_memory result (asked_within (map (λ n. n.now) names.now) (said fields.now) asked) }
 {
     match inner {
         Err(LineRefusal::OutOfMemory) => Err(LineRefusal::OutOfMemory),

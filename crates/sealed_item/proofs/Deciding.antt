@@ -1,5 +1,5 @@
 -- What is read off an exact content is what its log answers.
-use Rattle.std.proofs.Common.{◌≡◌, ℕ, ◌≤◌, true, false, List, Option, Some, None, length, min, take, refl, sym, ◌∙◌, ap, subst, arith}
+use Rattle.std.proofs.Common.{◌≡◌, ℕ, ◌≤◌, true, false, List, Some, None, length, take, refl, sym, ◌∙◌, ap, subst, arith}
 use Rattle.std.proofs.lemmas.Bool.{ltb-true}
 use Rattle.std.proofs.lemmas.List.{length-take, take_all}
 use Rattle.tao_base.specs.EdgeTypes.{EdgeTypes}
@@ -18,12 +18,12 @@ use Rattle.graph_model.proofs.Decided.{decides_rightly}
 use Rattle.graph_model.proofs.Lists.{in_order_list}
 use Rattle.graph_model.specs.Answers.{list_answer}
 use Rattle.graph_model.specs.Edges.{edge_list}
-use Rattle.graph_model.specs.Log.{changes_of, version}
+use Rattle.graph_model.specs.Log.{changes_of}
 use Rattle.graph_model.specs.Prefixes.{IsExact, IsPrefixOf, decides}
 use Rattle.list_prefix.proofs.Exact.{front_is_exact}
 use Rattle.list_prefix.proofs.Longer.{decides_more}
 use Rattle.list_prefix.specs.Fronts.{IsLeftOpen, IsShortestFront}
-use Rattle.list_prefix.specs.ListPrefix.{CanBegin, ListPrefix, list_prefix}
+use Rattle.list_prefix.specs.ListPrefix.{CanBegin, ListPrefix}
 use Rattle.sealed_item.specs.Decided.{IsContentFront, IsExactAnswer, IsWithinBound, content_answer, content_decides, is_longer_content, query_bound}
 use Rattle.sealed_item.specs.DecidedLaws.{ContentsAnswer, FrontsDecide, LongerContentsAnswer}
 use Rattle.sealed_item.specs.Fills.{IsExactContent}
@@ -44,13 +44,13 @@ pub content_answers : (types : EdgeTypes) (log : List Entry) (query : Query) (v 
 content_answers types log (ObjGet id) v (ObjectIs found) exact decided = record { reached = exact.reached; gives = λ n e. ap ObjectAnswer (sym (exact.gives n e)) }
 content_answers types log (ObjGet id) v (ListIs prefix) exact decided = absurd exact
 content_answers types log (AssocGet id1 atype ids high low) v (ObjectIs found) exact decided = absurd exact
-content_answers types log (AssocGet id1 atype ids high low) v (ListIs prefix) exact decided = list_gives (types.bound atype) (AssocGet id1 atype ids high low) log id1 atype v prefix exact.exact decided
+content_answers types log (AssocGet id1 atype ids high low) v (ListIs prefix) exact decided = list_gives (types.bound atype) (AssocGet id1 atype ids high low) log id1 atype v prefix exact decided
 content_answers types log (AssocCount id1 atype) v (ObjectIs found) exact decided = absurd exact
-content_answers types log (AssocCount id1 atype) v (ListIs prefix) exact decided = list_gives (types.bound atype) (AssocCount id1 atype) log id1 atype v prefix exact.exact decided
+content_answers types log (AssocCount id1 atype) v (ListIs prefix) exact decided = list_gives (types.bound atype) (AssocCount id1 atype) log id1 atype v prefix exact decided
 content_answers types log (AssocRange id1 atype pos limit) v (ObjectIs found) exact decided = absurd exact
-content_answers types log (AssocRange id1 atype pos limit) v (ListIs prefix) exact decided = list_gives (types.bound atype) (AssocRange id1 atype pos limit) log id1 atype v prefix exact.exact decided
+content_answers types log (AssocRange id1 atype pos limit) v (ListIs prefix) exact decided = list_gives (types.bound atype) (AssocRange id1 atype pos limit) log id1 atype v prefix exact decided
 content_answers types log (AssocTimeRange id1 atype high low limit) v (ObjectIs found) exact decided = absurd exact
-content_answers types log (AssocTimeRange id1 atype high low limit) v (ListIs prefix) exact decided = list_gives (types.bound atype) (AssocTimeRange id1 atype high low limit) log id1 atype v prefix exact.exact decided
+content_answers types log (AssocTimeRange id1 atype high low limit) v (ListIs prefix) exact decided = list_gives (types.bound atype) (AssocTimeRange id1 atype high low limit) log id1 atype v prefix exact decided
 
 pub contents_answer : ContentsAnswer
 contents_answer = record { answers = content_answers }
@@ -80,7 +80,7 @@ longer_by_key types log query key v short (ObjectIs found) a b longer h = absurd
 longer_by_key types log query key v (ObjectIs found) (ListIs long) a b longer h = absurd (cc)
 longer_by_key types log query (Obj id) v (ListIs short) (ListIs long) a b longer h = absurd a
 longer_by_key types log query (Assocs id1 atype) v (ListIs short) (ListIs long) a b longer h =
-    longer_lists (query_bound types query) query log id1 atype v short long a.exact b.exact (let lt = ltb-true (length short.edges) (length long.edges) longer in omega arith) h
+    longer_lists (query_bound types query) query log id1 atype v short long a b (let lt = ltb-true (length short.edges) (length long.edges) longer in omega arith) h
 
 pub longer_contents_answer : LongerContentsAnswer
 longer_contents_answer = record {
@@ -100,7 +100,7 @@ front_exact types query (ObjectIs found) (ListIs front) log key v is exact = abs
 front_exact types query (ListIs prefix) (ObjectIs front) log key v is exact = absurd is
 front_exact types query (ListIs prefix) (ListIs front) log (Obj id) v is exact = absurd exact
 front_exact types query (ListIs prefix) (ListIs front) log (Assocs id1 atype) v is exact =
-    subst (λ p. IsExactContent log (Assocs id1 atype) v (ListIs p)) (sym is.is) (front_is_exact log id1 atype (length prefix.edges) v is.count prefix.edges prefix.total exact)
+    subst (λ p. IsExactContent log (Assocs id1 atype) v (ListIs p)) (sym is.is) (front_is_exact log id1 atype v is.count prefix.edges prefix.total exact)
 
 front_decides : (types : EdgeTypes) (query : Query) (content front : Content) → IsContentFront types content query (Some front) → content_decides types front query ≡ true
 front_decides types query (ObjectIs found) (ObjectIs front) is = is.0
@@ -119,7 +119,7 @@ whole_decides types query (ListIs prefix) (ListIs front) log (Assocs id1 atype) 
     let cut = front_exact types query (ListIs prefix) (ListIs front) log (Assocs id1 atype) v is exact in
     let same = ap (λ (f : ListPrefix). length f.edges) is.is in
     let fewer = length-take is.count prefix.edges in
-    longer_lists (query_bound types query) query log id1 atype v front prefix cut.exact exact.exact (omega arith) (front_decides types query (ListIs prefix) (ListIs front) is)
+    longer_lists (query_bound types query) query log id1 atype v front prefix cut exact (omega arith) (front_decides types query (ListIs prefix) (ListIs front) is)
 
 front_few : (bound : ℕ) (query : Query) (p front : ListPrefix) → IsShortestFront p query bound front → length front.edges ≤ bound
 front_few bound query p front is =

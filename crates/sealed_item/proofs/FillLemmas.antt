@@ -1,12 +1,11 @@
 -- A fill stays one while the log grows, and the first entries of a log make one.
-use Rattle.std.proofs.Common.{ℕ, ◌≤◌, List, length, take, sym, ap, subst, ◌∙◌, arith}
+use Rattle.std.proofs.Common.{ℕ, ◌≤◌, List, take, sym, ap, subst, ◌∙◌, arith}
 use Rattle.tao_base.specs.declared.entry.Entry.{Entry}
 use Rattle.tao_base.specs.declared.id.AType.{AType}
 use Rattle.tao_base.specs.declared.id.Id.{Id}
 use Rattle.tao_base.specs.declared.id.Key.{Key}
 use Rattle.tao_base.specs.declared.id.Key.TheVariants.{Obj, List as Assocs}
 use Rattle.graph_model.proofs.Exact.{beginning_is_exact}
-use Rattle.graph_model.specs.Edges.{edge_list}
 use Rattle.graph_model.specs.Log.{version}
 use Rattle.shard_log.proofs.Beginnings.{begins-length}
 use Rattle.shard_log.proofs.GrowthLemmas.{list_stays, object_stays, versions_stay}
@@ -22,7 +21,7 @@ pub content_stays : (v w : View) (key : Key) (at : ℕ) (content : Content) → 
     → WhereTold v.log.told (IsExactContent v.entries key at content) → WhereTold w.log.told (IsExactContent w.entries key at content)
 content_stays v w (Obj id) at (ObjectIs found) grows = object_stays v w id at found grows
 content_stays v w (Obj id) at (ListIs prefix) grows = λ was told. was (ap (λ l. l.told) (sym grows.log_is) ∙ told)
-content_stays v w (Assocs id1 atype) at (ListIs prefix) grows = list_stays v w id1 atype (length prefix.edges) at prefix.edges prefix.total grows
+content_stays v w (Assocs id1 atype) at (ListIs prefix) grows = list_stays v w id1 atype at prefix.edges prefix.total grows
 content_stays v w (Assocs id1 atype) at (ObjectIs found) grows = λ was told. was (ap (λ l. l.told) (sym grows.log_is) ∙ told)
 
 since_stays : (v w : View) (key : Key) (at as_of : ℕ) → Grows v w → IsSince v.entries key at as_of → IsSince w.entries key at as_of
@@ -51,8 +50,7 @@ refl_le n = omega arith
 front_is_exact : (log : List Entry) (n : ℕ) (id1 : Id) (atype : AType) (count : ℕ)
     → IsExactContent log (Assocs id1 atype) (version (take n log) (Assocs id1 atype)) (ListIs (front_of count (take n log) id1 atype))
 front_is_exact log n id1 atype count =
-    let front = (beginning_is_exact log n).list_is id1 atype count count (refl_le count) in
-    record { exact = front.exact; bounded = refl_le (length (take count (edge_list (take n log) id1 atype))) }
+    (beginning_is_exact log n).list_is id1 atype count
 
 pub beginning_is_sealed : (log : List Entry) (n : ℕ) → BeginningIsSealed log n
 beginning_is_sealed log n = record {

@@ -56,10 +56,10 @@ pub object_stays : (v w : View) (id : Id) (at : ℕ) (found : Option Object) →
     → WhereTold v.log.told (IsExactObject v.entries id at found) → WhereTold w.log.told (IsExactObject w.entries id at found)
 object_stays v w id at found grows = stays_told v w (λ log. IsExactObject log id at found) grows ((items_stay v.entries (rest_of v w)).object_stays id at found)
 
-pub list_stays : (v w : View) (id1 : Id) (atype : AType) (bound at : ℕ) (edges : List Edge) (total : ℕ) → Grows v w
-    → WhereTold v.log.told (IsExactList v.entries id1 atype bound at edges total) → WhereTold w.log.told (IsExactList w.entries id1 atype bound at edges total)
-list_stays v w id1 atype bound at edges total grows =
-    stays_told v w (λ log. IsExactList log id1 atype bound at edges total) grows ((items_stay v.entries (rest_of v w)).list_stays id1 atype bound at edges total)
+pub list_stays : (v w : View) (id1 : Id) (atype : AType) (at : ℕ) (edges : List Edge) (total : ℕ) → Grows v w
+    → WhereTold v.log.told (IsExactList v.entries id1 atype at edges total) → WhereTold w.log.told (IsExactList w.entries id1 atype at edges total)
+list_stays v w id1 atype at edges total grows =
+    stays_told v w (λ log. IsExactList log id1 atype at edges total) grows ((items_stay v.entries (rest_of v w)).list_stays id1 atype at edges total)
 
 pub items_stay_exact : ItemsStayExact
 items_stay_exact = record { object_stays = object_stays; list_stays = list_stays }

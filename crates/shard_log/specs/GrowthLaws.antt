@@ -31,8 +31,8 @@ pub record GrowthGoesOn : Type 0 where
 pub record ItemsStayExact : Type 0 where
   pub object_stays : (v w : View) (id : Id) (at : ℕ) (found : Option Object) → Grows v w
       → WhereTold v.log.told (IsExactObject v.entries id at found) → WhereTold w.log.told (IsExactObject w.entries id at found)
-  pub list_stays : (v w : View) (id1 : Id) (atype : AType) (bound at : ℕ) (edges : List Edge) (total : ℕ) → Grows v w
-      → WhereTold v.log.told (IsExactList v.entries id1 atype bound at edges total) → WhereTold w.log.told (IsExactList w.entries id1 atype bound at edges total)
+  pub list_stays : (v w : View) (id1 : Id) (atype : AType) (at : ℕ) (edges : List Edge) (total : ℕ) → Grows v w
+      → WhereTold v.log.told (IsExactList v.entries id1 atype at edges total) → WhereTold w.log.told (IsExactList w.entries id1 atype at edges total)
 
 -- what a view's first entries are stays, and so do the versions of each key in them. A key's version in the whole view never falls
 pub record VersionsStay : Type 0 where

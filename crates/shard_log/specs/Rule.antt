@@ -1,4 +1,5 @@
--- The rule of a log's table. Word 0 is the log's length. The entries stand in proofs alone, in the views of the seats: the first seat is the pen's, whose view is the whole log, and the view of each note begins it.
+-- The rule of a log's table. Word 0 is the log's length. The entries stand in proofs alone, in the views of the seats: the first seat is the pen's,
+-- whose view is the whole log, and the view of each note begins it.
 use Rattle.std.specs.Prelude.{ℕ, ◌≡◌, ◌≢◌, ◌+◌, ◌≤◌, List, [], ◌∷◌, ◌++◌, All, length, true}
 use mathlib.Core.Option.{some}
 use lib.ListN.{get_elem?}
@@ -86,7 +87,8 @@ pub record Confirms {S : Type 0} (step : Step S) (old : Me S Seen) (found : ℕ)
 
 -- how contracts see a seat
 abbrev pub seat_view : {S : Type 0} → TableId → Me S Seen → View
-seat_view table me = record { log = record { table = table; told = me.0.told; pins = me.0.pins }; entries = me.0.entries; stored = me.0.stored; floors = me.0.floors }
+seat_view table me =
+    record { log = record { table = table; told = me.0.told; pins = me.0.pins }; entries = me.0.entries; stored = me.0.stored; floors = me.0.floors }
 
 -- the seat is at the table, holds no slot, and has confirmed what it met
 pub record IsSeated {S : Type 0} (table own : TableId) (me : Me S Seen) : Type 0 where

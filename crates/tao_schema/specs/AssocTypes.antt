@@ -52,7 +52,8 @@ keeps_inverse_rule lines place (Some name) = is_name name && names_back lines pl
 
 -- a name that stands at no earlier place, with an inverse that keeps its rule and a bound from 1 to 6,000
 abbrev pub keeps_assoc_rules : List AssocLine → ℕ → AssocLine → Bool
-keeps_assoc_rules lines place line = is_name line.name && option_eq nat_eq (place_of (names_of lines) line.name) (Some place) && keeps_inverse_rule lines place line.inverse && nat_le 1 line.bound && nat_le line.bound 6000
+keeps_assoc_rules lines place line = is_name line.name && option_eq nat_eq (place_of (names_of lines) line.name) (Some place)
+    && keeps_inverse_rule lines place line.inverse && nat_le 1 line.bound && nat_le line.bound 6000
 
 abbrev pub assocs_of : List AssocLine → Result (List AssocLine) SchemaRefusal
 assocs_of lines = unless_broken Assocs lines (broken (keeps_assoc_rules lines) lines)

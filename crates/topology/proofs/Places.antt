@@ -8,7 +8,7 @@ use Rattle.node_name.specs.declared.NodeName.{NodeName}
 use Rattle.node_name.specs.declared.NodeName.TheVariants.{Store, Leader, Follower}
 use Rattle.topology.specs.Counts.{KeepCounts, NodeCounts, follower_count, leader_count, tier_count}
 use Rattle.topology.specs.States.{KeepPlaces, NodeStates, SetsUp, is_cache, is_up, node_place}
-use Rattle.topology.specs.Suspicions.{SetsTrust, Suspicion, is_leader, leader_place, may_suspect, suspicion_of, suspicion_place}
+use Rattle.topology.specs.Suspicions.{SetsTrust, Suspicion, is_leader, leader_index, may_suspect, suspicion_of, suspicion_place}
 
 gate_not : (gate x y : Bool) → (IsTrue gate → x ≡ y) → (gate && not x) ≡ (gate && not y)
 gate_not true x y h = ap not (h refl)
@@ -118,12 +118,12 @@ module _ (states : NodeStates) (keep : KeepPlaces states) where
       others (Follower region tier index) differs = flag_there node known (not up) (Follower region tier index) differs
 
   -- suspicions that may be have places of their own
-  leader_place_below : (node : NodeName) → IsTrue (is_leader states.regions node) → leader_place node < 16
-  leader_place_below (Store store) known = absurd cc
-  leader_place_below (Follower region tier index) known = absurd cc
-  leader_place_below (Leader region index) known = let below = leader_below region index known in omega (arith, below.0, below.1)
+  leader_index_below : (node : NodeName) → IsTrue (is_leader states.regions node) → leader_index node < 16
+  leader_index_below (Store store) known = absurd cc
+  leader_index_below (Follower region tier index) known = absurd cc
+  leader_index_below (Leader region index) known = let below = leader_below region index known in omega (arith, below.0, below.1)
 
-  one_leader_place : (m n : NodeName) → IsTrue (is_leader states.regions m) → IsTrue (is_leader states.regions n) → leader_place m ≡ leader_place n → m ≡ n
+  one_leader_place : (m n : NodeName) → IsTrue (is_leader states.regions m) → IsTrue (is_leader states.regions n) → leader_index m ≡ leader_index n → m ≡ n
   one_leader_place (Store store) n known other e = absurd cc
   one_leader_place (Follower r t i) n known other e = absurd cc
   one_leader_place (Leader r i) (Store store) known other e = absurd cc
@@ -138,16 +138,16 @@ module _ (states : NodeStates) (keep : KeepPlaces states) where
   pub suspicion_place_below : (s : Suspicion) → IsTrue (may_suspect states.regions s) → suspicion_place s < 256
   suspicion_place_below s may =
       let parts = and_parts _ _ may in
-      let tier = tier_below s.region s.tier parts.0 in let leader = leader_place_below s.leader parts.1 in omega (arith, tier.0, tier.1, leader)
+      let tier = tier_below s.region s.tier parts.0 in let leader = leader_index_below s.leader parts.1 in omega (arith, tier.0, tier.1, leader)
 
   one_suspicion : (s u : Suspicion) → IsTrue (may_suspect states.regions s) → IsTrue (may_suspect states.regions u) → suspicion_place s ≡ suspicion_place u → s ≡ u
   one_suspicion s u may other e =
       let p = and_parts _ _ may in let q = and_parts _ _ other in
       let a = tier_below s.region s.tier p.0 in let b = tier_below u.region u.tier q.0 in
-      let l = leader_place_below s.leader p.1 in let m = leader_place_below u.leader q.1 in
+      let l = leader_index_below s.leader p.1 in let m = leader_index_below u.leader q.1 in
       let region : s.region ≡ u.region = omega (arith, a.1, b.1, l, m, e) in
       let tier : s.tier ≡ u.tier = omega (arith, a.1, b.1, l, m, e, region) in
-      let place : leader_place s.leader ≡ leader_place u.leader = omega (arith, e, region, tier) in
+      let place : leader_index s.leader ≡ leader_index u.leader = omega (arith, e, region, tier) in
       let leader : s.leader ≡ u.leader = one_leader_place s.leader u.leader p.1 q.1 place in same_suspicion region tier leader
 
   pub sets_trust : (s : Suspicion) → IsTrue (may_suspect states.regions s) → (trusted : Bool)

@@ -43,7 +43,8 @@ abbrev pub node_in : Settings → ℕ → List ℕ → List ℕ → Option NodeN
 node_in s region word number =
     if bytes_eq word (codes "store") then option_map (λ shard. Store (record { region = region; shard = shard })) (number_below s.shards number)
     else (if bytes_eq word (codes "leader") then option_map (λ index. Leader region index) (number_below (leaders_of s.regions region) number)
-    else option_and_then (λ tier. option_map (λ index. Follower region tier index) (number_below (followers_of s.regions region tier) number)) (tier_in s.regions region word))
+    else option_and_then (λ tier. option_map (λ index. Follower region tier index) (number_below (followers_of s.regions region tier) number))
+    (tier_in s.regions region word))
 
 -- the configured node of a text: a region's name, a word and a number, with a `/` between them
 abbrev pub node_at : Settings → List ℕ → Option NodeName

@@ -20,10 +20,10 @@ is_leader regions (Store store) = false
 is_leader regions (Follower region tier index) = false
 
 -- four places for each region's leaders
-abbrev pub leader_place : NodeName → ℕ
-leader_place (Leader region index) = region * 4 + index
-leader_place (Store store) = 0
-leader_place (Follower region tier index) = 0
+abbrev pub leader_index : NodeName → ℕ
+leader_index (Leader region index) = region * 4 + index
+leader_index (Store store) = 0
+leader_index (Follower region tier index) = 0
 
 -- the tier is configured, and the node is a configured leader of any region
 abbrev pub may_suspect : List NodeCounts → Suspicion → Bool
@@ -31,7 +31,7 @@ may_suspect regions s = nat_lt s.tier (tier_count regions s.region) && is_leader
 
 -- the place of a suspicion's flag: sixteen for each tier, of which four are for each region's leaders
 abbrev pub suspicion_place : Suspicion → ℕ
-suspicion_place s = (s.region * 4 + s.tier) * 16 + leader_place s.leader
+suspicion_place s = (s.region * 4 + s.tier) * 16 + leader_index s.leader
 
 -- a tier suspects a leader
 abbrev pub suspects : NodeStates → Suspicion → Bool

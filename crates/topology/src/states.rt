@@ -3,7 +3,7 @@ ghost use Rattle.std.specs.Prelude.{◌≡◌, ◌≢◌, ◌↔◌, ◌<◌, �
 ghost use Rattle.topology.specs.Counts.{KeepCounts, counts_of, follower_count, leader_count, tier_count};
 ghost use Rattle.topology.specs.Lookup.{followers_of, leaders_of};
 ghost use Rattle.topology.specs.States.{SetsUp, all_up, is_cache, is_up, node_place};
-ghost use Rattle.topology.specs.Suspicions.{SetsTrust, is_leader, leader_place, may_suspect, suspects, suspicion_of, suspicion_place, ChangesTrust};
+ghost use Rattle.topology.specs.Suspicions.{SetsTrust, is_leader, leader_index, may_suspect, suspects, suspicion_of, suspicion_place, ChangesTrust};
 
 use super::config::Config;
 use super::counts::Counts;
@@ -194,11 +194,11 @@ fn is_leader(regions: &[Counts], node: NodeName) -> bool
 fn suspicion_place(region: u16, tier: u16, leader: NodeName) -> usize
     ensures { result ≡ suspicion_place (suspicion_of region tier leader) }
 {
-    (usize::from(region) * 4 + usize::from(tier)) * 16 + leader_place(leader)
+    (usize::from(region) * 4 + usize::from(tier)) * 16 + leader_index(leader)
 }
 
-fn leader_place(node: NodeName) -> usize
-    ensures place { result ≡ leader_place node }
+fn leader_index(node: NodeName) -> usize
+    ensures place { result ≡ leader_index node }
     ensures bound { result < 2 ^ 20 }
 {
     match node {

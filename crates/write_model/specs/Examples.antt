@@ -122,7 +122,8 @@ of_least_time_is_undecided : decides 6000 (edge 2 9 1 ∷ edge 3 8 1 ∷ []) 3 (
 of_least_time_is_undecided = refl
 
 -- a time range has its ends, and one that ends before it begins has nothing
-latest_time_is_in_range : answer one_type (added (add 2 4294967295 ∷ [])) (AssocTimeRange 1 likes 4294967295 4294967295 10) ≡ EdgesAre (edge 2 4294967295 1 ∷ [])
+latest_time_is_in_range :
+    answer one_type (added (add 2 4294967295 ∷ [])) (AssocTimeRange 1 likes 4294967295 4294967295 10) ≡ EdgesAre (edge 2 4294967295 1 ∷ [])
 latest_time_is_in_range = refl
 
 range_of_no_time : answer one_type (added (add 2 4294967295 ∷ [])) (AssocTimeRange 1 likes 5 6 10) ≡ EdgesAre []
@@ -218,11 +219,11 @@ far_job : flat_map (job_of four_types) far_follow ≡ (far, followed_by, 1, Live
 far_job = refl
 
 -- the log with the merges of entries of another shard
-abbrev pub merged : ℕ → List Entry → List Entry → List Entry
-merged shard log [] = log
-merged shard log (e ∷ es) = merged shard (log ++ option_to_list (merge_entry four_types log shard e)) es
+abbrev pub after_merges : ℕ → List Entry → List Entry → List Entry
+after_merges shard log [] = log
+after_merges shard log (e ∷ es) = after_merges shard (log ++ option_to_list (merge_entry four_types log shard e)) es
 
-far_merge : merged 0 [] far_follow ≡ record {
+far_merge : after_merges 0 [] far_follow ≡ record {
   position = 1;
   kind = Merged;
   origin = Merge 0 1;
@@ -230,7 +231,7 @@ far_merge : merged 0 [] far_follow ≡ record {
 } ∷ []
 far_merge = refl
 
-far_merge_again_is_nothing : merged 0 (merged 0 [] far_follow) far_follow ≡ merged 0 [] far_follow
+far_merge_again_is_nothing : after_merges 0 (after_merges 0 [] far_follow) far_follow ≡ after_merges 0 [] far_follow
 far_merge_again_is_nothing = refl
 
 -- an edge that was merged is added again at one end and deleted at the other, before either hears of it: the delete, of the greater shard, stays at both
@@ -238,13 +239,13 @@ abbrev pub here : List Entry
 here = written (AssocAdd 1 friend far 5 [] ∷ AssocAdd 1 friend far 9 [] ∷ [])
 
 abbrev pub there : List Entry
-there = log_after four_types 1 3 (merged 0 [] (take 1 here)) (AssocDelete far friend 1 ∷ [])
+there = log_after four_types 1 3 (after_merges 0 [] (take 1 here)) (AssocDelete far friend 1 ∷ [])
 
 abbrev pub here_in_the_end : List Entry
-here_in_the_end = merged 1 here (drop 1 there)
+here_in_the_end = after_merges 1 here (drop 1 there)
 
 abbrev pub there_in_the_end : List Entry
-there_in_the_end = merged 0 there here
+there_in_the_end = after_merges 0 there here
 
 deleted_here : answer four_types here_in_the_end (AssocCount 1 friend) ≡ Count 0
 deleted_here = refl

@@ -27,6 +27,14 @@ use Rattle.reply_json.specs.Texts.{unsettled_text, when_text}
 abbrev pub about_name : List ℕ → List ℕ → Data
 about_name word name = fields ((codes "name", text name) ∷ (codes "no", text word) ∷ [])
 
+-- a refusal about a number whose name comes behind `no` in the order of names
+abbrev pub about_number : List ℕ → List ℕ → ℕ → Data
+about_number word name n = fields ((codes "no", text word) ∷ (name, whole n) ∷ [])
+
+-- a refusal about a number whose name comes before `no`
+abbrev pub number_about : List ℕ → ℕ → List ℕ → Data
+number_about name n word = fields ((name, whole n) ∷ (codes "no", text word) ∷ [])
+
 -- a line that is refused is told by what is wrong with it
 abbrev pub line_refused : LineRefused → Data
 line_refused (BadLine field) = fields ((codes "field", text field) ∷ (codes "no", text (codes "bad_line")) ∷ [])
@@ -36,22 +44,22 @@ line_refused (NotHere word) = fields ((codes "do", text (word_text word)) ∷ (c
 
 -- a plan that isn't taken further is told by its number, or by how many are held
 abbrev pub plan_refused : PlanRefused → Data
-plan_refused (NoPlan plan) = fields ((codes "no", text (codes "no_plan")) ∷ (codes "plan", whole plan) ∷ [])
-plan_refused (PlanThere plan) = fields ((codes "no", text (codes "plan_there")) ∷ (codes "plan", whole plan) ∷ [])
-plan_refused (PlanFull plans) = fields ((codes "no", text (codes "plan_full")) ∷ (codes "plans", whole plans) ∷ [])
+plan_refused (NoPlan plan) = about_number (codes "no_plan") (codes "plan") plan
+plan_refused (PlanThere plan) = about_number (codes "plan_there") (codes "plan") plan
+plan_refused (PlanFull plans) = about_number (codes "plan_full") (codes "plans") plans
 
 -- a session that is refused is told by its number, or by how many are open
 abbrev pub session_refused : SessionRefused → Data
-session_refused (NoSession session) = fields ((codes "no", text (codes "no_session")) ∷ (codes "session", whole session) ∷ [])
-session_refused (SessionThere session) = fields ((codes "no", text (codes "session_there")) ∷ (codes "session", whole session) ∷ [])
-session_refused (SessionFull sessions) = fields ((codes "no", text (codes "session_full")) ∷ (codes "sessions", whole sessions) ∷ [])
+session_refused (NoSession session) = about_number (codes "no_session") (codes "session") session
+session_refused (SessionThere session) = about_number (codes "session_there") (codes "session") session
+session_refused (SessionFull sessions) = about_number (codes "session_full") (codes "sessions") sessions
 
 -- a name that is refused is told as it was given, or by what of it is too much
 abbrev pub name_refused : NameRefused → Data
 name_refused (NoTier name) = about_name (codes "no_tier") name
 name_refused (NoNode name) = about_name (codes "no_node") name
 name_refused (UnknownType name) = about_name (codes "unknown_type") name
-name_refused (NoShard shard) = fields ((codes "no", text (codes "no_shard")) ∷ (codes "shard", whole shard) ∷ [])
+name_refused (NoShard shard) = about_number (codes "no_shard") (codes "shard") shard
 name_refused (SameType name) = about_name (codes "same_type") name
 name_refused (Limit bound count) = fields ((codes "bound", whole bound) ∷ (codes "count", whole count) ∷ (codes "no", text (codes "limit")) ∷ [])
 
@@ -74,7 +82,7 @@ link_fault count when =
 
 -- what a node could not do is told by the node, or by what was asked of it
 abbrev pub node_refused : Settings → NodeRefused → Data
-node_refused s (NoMessage message) = fields ((codes "message", whole message) ∷ (codes "no", text (codes "no_message")) ∷ [])
+node_refused s (NoMessage message) = number_about (codes "message") message (codes "no_message")
 node_refused s (NoRefill node) = fields ((codes "no", text (codes "no_refill")) ∷ (codes "node", text (node_text s node)) ∷ [])
 node_refused s (IsMaster store) =
     fields ((codes "no", text (codes "is_master")) ∷ (codes "region", text (region_name s.regions store.region)) ∷ (codes "shard", whole store.shard) ∷ [])
@@ -85,11 +93,11 @@ node_refused s (NodeDown node when) = node_down (node_text s node) when
 
 -- what a store could not do is told by the number that stood against it
 abbrev pub store_refused : StoreRefused → Data
-store_refused (SeqReused position) = fields ((codes "no", text (codes "seq_reused")) ∷ (codes "position", whole position) ∷ [])
-store_refused (ShardFull serial) = fields ((codes "no", text (codes "shard_full")) ∷ (codes "serial", whole serial) ∷ [])
-store_refused (StampFull number) = fields ((codes "no", text (codes "stamp_full")) ∷ (codes "number", whole number) ∷ [])
-store_refused (LogFull length) = fields ((codes "length", whole length) ∷ (codes "no", text (codes "log_full")) ∷ [])
-store_refused (KeeperFault count) = fields ((codes "count", whole count) ∷ (codes "no", text (codes "keeper_fault")) ∷ [])
+store_refused (SeqReused position) = about_number (codes "seq_reused") (codes "position") position
+store_refused (ShardFull serial) = about_number (codes "shard_full") (codes "serial") serial
+store_refused (StampFull number) = about_number (codes "stamp_full") (codes "number") number
+store_refused (LogFull length) = number_about (codes "length") length (codes "log_full")
+store_refused (KeeperFault count) = number_about (codes "count") count (codes "keeper_fault")
 store_refused (LinkFault count when) = link_fault count when
 store_refused (Unsettled shard why) =
     fields ((codes "no", text (codes "unsettled")) ∷ (codes "shard", whole shard) ∷ (codes "why", text (unsettled_text why)) ∷ [])
@@ -102,4 +110,4 @@ refusal_data s (Session refused) = session_refused refused
 refusal_data s (Name refused) = name_refused refused
 refusal_data s (Node refused) = node_refused s refused
 refusal_data s (Store refused) = store_refused refused
-refusal_data s (Memory position) = fields ((codes "no", text (codes "memory")) ∷ (codes "position", whole position) ∷ [])
+refusal_data s (Memory position) = about_number (codes "memory") (codes "position") position

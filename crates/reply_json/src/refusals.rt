@@ -1,6 +1,6 @@
 //! Refusals: each is told by its name, and by what it is about.
 ghost use Rattle.std.specs.Prelude.{◌≡◌};
-ghost use Rattle.reply_json.specs.Refusals.{about_name, line_refused, link_fault, name_refused, node_down, node_refused, plan_refused, refusal_data, session_refused, store_refused, when_position};
+ghost use Rattle.reply_json.specs.Refusals.{about_name, about_number, number_about, line_refused, link_fault, name_refused, node_down, node_refused, plan_refused, refusal_data, session_refused, store_refused, when_position};
 ghost use Rattle.reply_json.specs.Writing.{Puts};
 
 use crate::said::Said;
@@ -28,13 +28,7 @@ pub(crate) fn put_refusal(
         Refusal::Name(refused) => put_name_refused(out, refused),
         Refusal::Node(refused) => put_node_refused(alloc, out, config, refused),
         Refusal::Store(refused) => put_store_refused(out, refused),
-        Refusal::Memory { position } => put_members(
-            out,
-            &[
-                ("no", Said::Text("memory")),
-                ("position", Said::Whole(*position)),
-            ],
-        ),
+        Refusal::Memory { position } => put_about_number(out, "memory", "position", *position),
     }
 }
 
@@ -86,27 +80,14 @@ fn put_plan_refused(out: &mut Writer, refused: &PlanRefused) -> Result<(), Alloc
     ensures { Puts result out.old out.new (plan_refused refused.now) }
 {
     match refused {
-        PlanRefused::NoPlan { plan } => put_members(
+        PlanRefused::NoPlan { plan } => put_about_number(out, "no_plan", "plan", *plan as u64),
+        PlanRefused::PlanThere { plan } => put_about_number(
             out,
-            &[
-                ("no", Said::Text("no_plan")),
-                ("plan", Said::Whole(*plan as u64)),
-            ],
+            "plan_there",
+            "plan",
+            *plan as u64,
         ),
-        PlanRefused::PlanThere { plan } => put_members(
-            out,
-            &[
-                ("no", Said::Text("plan_there")),
-                ("plan", Said::Whole(*plan as u64)),
-            ],
-        ),
-        PlanRefused::PlanFull { plans } => put_members(
-            out,
-            &[
-                ("no", Said::Text("plan_full")),
-                ("plans", Said::Whole(*plans)),
-            ],
-        ),
+        PlanRefused::PlanFull { plans } => put_about_number(out, "plan_full", "plans", *plans),
     }
 }
 
@@ -114,33 +95,24 @@ fn put_session_refused(out: &mut Writer, refused: &SessionRefused) -> Result<(),
     ensures { Puts result out.old out.new (session_refused refused.now) }
 {
     match refused {
-        SessionRefused::NoSession { session } => {
-            put_members(
-                out,
-                &[
-                    ("no", Said::Text("no_session")),
-                    ("session", Said::Whole(*session as u64)),
-                ],
-            )
-        }
-        SessionRefused::SessionThere { session } => {
-            put_members(
-                out,
-                &[
-                    ("no", Said::Text("session_there")),
-                    ("session", Said::Whole(*session as u64)),
-                ],
-            )
-        }
-        SessionRefused::SessionFull { sessions } => {
-            put_members(
-                out,
-                &[
-                    ("no", Said::Text("session_full")),
-                    ("sessions", Said::Whole(*sessions)),
-                ],
-            )
-        }
+        SessionRefused::NoSession { session } => put_about_number(
+            out,
+            "no_session",
+            "session",
+            *session as u64,
+        ),
+        SessionRefused::SessionThere { session } => put_about_number(
+            out,
+            "session_there",
+            "session",
+            *session as u64,
+        ),
+        SessionRefused::SessionFull { sessions } => put_about_number(
+            out,
+            "session_full",
+            "sessions",
+            *sessions,
+        ),
     }
 }
 
@@ -151,13 +123,7 @@ fn put_name_refused(out: &mut Writer, refused: &NameRefused) -> Result<(), Alloc
         NameRefused::NoTier { name } => put_about_name(out, "no_tier", name.as_str()),
         NameRefused::NoNode { name } => put_about_name(out, "no_node", name.as_str()),
         NameRefused::UnknownType { name } => put_about_name(out, "unknown_type", name.as_str()),
-        NameRefused::NoShard { shard } => put_members(
-            out,
-            &[
-                ("no", Said::Text("no_shard")),
-                ("shard", Said::Whole(*shard as u64)),
-            ],
-        ),
+        NameRefused::NoShard { shard } => put_about_number(out, "no_shard", "shard", *shard as u64),
         NameRefused::SameType { name } => put_about_name(out, "same_type", name.as_str()),
         NameRefused::Limit { bound, count } => {
             put_members(
@@ -178,6 +144,26 @@ fn put_about_name(out: &mut Writer, word: &str, name: &str) -> Result<(), AllocE
     put_members(out, &[("name", Said::Text(name)), ("no", Said::Text(word))])
 }
 
+/// A word, and a number whose name comes behind `no` in the order of names.
+fn put_about_number(out: &mut Writer, word: &str, name: &str, number: u64) -> Result<(), AllocError>
+    ensures { Puts result out.old out.new (about_number word.now name.now number) }
+{
+    put_members(
+        out,
+        &[("no", Said::Text(word)), (name, Said::Whole(number))],
+    )
+}
+
+/// A number whose name comes before `no` in the order of names, and a word.
+fn put_number_about(out: &mut Writer, name: &str, number: u64, word: &str) -> Result<(), AllocError>
+    ensures { Puts result out.old out.new (number_about name.now number word.now) }
+{
+    put_members(
+        out,
+        &[(name, Said::Whole(number)), ("no", Said::Text(word))],
+    )
+}
+
 fn put_node_refused(
     alloc: Global,
     out: &mut Writer,
@@ -187,15 +173,12 @@ fn put_node_refused(
     ensures { Puts result out.old out.new (node_refused config.now refused.now) }
 {
     match refused {
-        NodeRefused::NoMessage { message } => {
-            put_members(
-                out,
-                &[
-                    ("message", Said::Whole(*message as u64)),
-                    ("no", Said::Text("no_message")),
-                ],
-            )
-        }
+        NodeRefused::NoMessage { message } => put_number_about(
+            out,
+            "message",
+            *message as u64,
+            "no_message",
+        ),
         NodeRefused::NoRefill { node } => {
             let node = config.node_text(alloc, *node)?;
             put_members(
@@ -256,51 +239,31 @@ fn put_store_refused(out: &mut Writer, refused: &StoreRefused) -> Result<(), All
     ensures { Puts result out.old out.new (store_refused refused.now) }
 {
     match refused {
-        StoreRefused::SeqReused { position } => {
-            put_members(
-                out,
-                &[
-                    ("no", Said::Text("seq_reused")),
-                    ("position", Said::Whole(*position)),
-                ],
-            )
-        }
-        StoreRefused::ShardFull { serial } => {
-            put_members(
-                out,
-                &[
-                    ("no", Said::Text("shard_full")),
-                    ("serial", Said::Whole(*serial)),
-                ],
-            )
-        }
-        StoreRefused::StampFull { number } => {
-            put_members(
-                out,
-                &[
-                    ("no", Said::Text("stamp_full")),
-                    ("number", Said::Whole(*number)),
-                ],
-            )
-        }
-        StoreRefused::LogFull { length } => {
-            put_members(
-                out,
-                &[
-                    ("length", Said::Whole(*length)),
-                    ("no", Said::Text("log_full")),
-                ],
-            )
-        }
-        StoreRefused::KeeperFault { count } => {
-            put_members(
-                out,
-                &[
-                    ("count", Said::Whole(*count)),
-                    ("no", Said::Text("keeper_fault")),
-                ],
-            )
-        }
+        StoreRefused::SeqReused { position } => put_about_number(
+            out,
+            "seq_reused",
+            "position",
+            *position,
+        ),
+        StoreRefused::ShardFull { serial } => put_about_number(
+            out,
+            "shard_full",
+            "serial",
+            *serial,
+        ),
+        StoreRefused::StampFull { number } => put_about_number(
+            out,
+            "stamp_full",
+            "number",
+            *number,
+        ),
+        StoreRefused::LogFull { length } => put_number_about(out, "length", *length, "log_full"),
+        StoreRefused::KeeperFault { count } => put_number_about(
+            out,
+            "count",
+            *count,
+            "keeper_fault",
+        ),
         StoreRefused::LinkFault { count, when } => put_link_fault(out, *count, *when),
         StoreRefused::Unsettled { shard, why } => {
             put_members(

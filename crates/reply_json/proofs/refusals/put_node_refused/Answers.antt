@@ -1,7 +1,7 @@
 use Rattle.reply_json.proofs.refusals.put_node_refused.Goals as goal
 
 pub returns-in_ok-node-in-NoRefill : goal.returns-in_ok-node-in-NoRefill
-returns-in_ok-node-in-NoRefill c = rw (c.in-NoRefill.is, ← c.in_ok-node-in-NoRefill.ensures, ← c.as_str.ensures) c.put_members-in-NoRefill.ensures
+returns-in_ok-node-in-NoRefill c = rw (c.in-NoRefill.is, ← c.in_ok-node-in-NoRefill.ensures, ← c.as_str.ensures) c.put_members.ensures
 
 pub returns-in-IsMaster : goal.returns-in-IsMaster
 returns-in-IsMaster c = rw (c.in-IsMaster.is, ← c.region_name-region.ensures) c.put_members-in-IsMaster.ensures

@@ -1,36 +1,13 @@
 //! Changesets of a told log and of one that is not.
 ghost use Rattle.std.specs.Prelude.{◌≡◌, ◌<◌, length, IfOk};
 
-use crate::given::{LIKES, first_edge, id, set_touch, stamp, untold_note};
+use crate::given::first_edge;
 use changeset::Changeset;
+use log_fixtures::{FOLLOWS, LIKES, id, moved_edge, untold_note};
 use shard_log::ShardLog;
 use std::alloc::{AllocError, Global};
 use std::test::Fail;
 use tao_base::{AType, Change, Entry, Id, Key, Kind, Origin, OutOfMemory, Touch, Touches};
-
-const FOLLOWS: AType = AType(1);
-
-/// An entry that moves an edge: the third that touches the list that it leaves, and the first at the other.
-fn moved_edge(alloc: Global, id1: Id, id2: Id) -> Result<Entry, AllocError>
-    ensures { IfOk result (λ entry. length entry.touches ≡ 2) }
-{
-    let cut = Touch {
-        key: Key::List(id1, LIKES),
-        change: Change::CutEdge {
-            id2,
-            stamp: stamp(id1),
-            was: Some(5),
-        },
-        version: 3,
-    };
-    let set = set_touch(alloc, id1, FOLLOWS, id2);
-    Ok(Entry {
-        position: 3,
-        kind: Kind::AssocChangeType,
-        origin: Origin::Client { session: 1, seq: 3 },
-        touches: Touches::of(vec![in alloc; cut, set]?),
-    })
-}
 
 /// Of a log that isn't told, a changeset may be of any entry.
 fn untold_change(alloc: Global, entry: &Entry, place: usize) -> Result<Changeset, OutOfMemory>
@@ -44,7 +21,7 @@ fn untold_change(alloc: Global, entry: &Entry, place: usize) -> Result<Changeset
 fn a_changeset_is_of_the_touch_at_its_place(rt: HostRuntime) -> Result<(), Fail> {
     let alloc = rt.alloc();
     let (one, two) = (id(1)?, id(2)?);
-    let entry = moved_edge(alloc, one, two)?;
+    let entry = moved_edge(alloc, 3, one, two)?;
     let cut = untold_change(alloc, &entry, 0)?;
     assert_eq!(rt;
         (cut.key(), cut.before(), cut.after()),

@@ -2,8 +2,9 @@
 ghost use Rattle.std.specs.Prelude.{◌≡◌, [], false};
 ghost use Rattle.sealed_item.specs.Fills.{sealed_item};
 
-use crate::given::{LIKES, first_edge, id, untold_note};
+use crate::given::first_edge;
 use list_prefix::Prefix;
+use log_fixtures::{LIKES, id, untold_note};
 use sealed_item::laws::beginnings_are_sealed;
 use sealed_item::{Content, Fill};
 use shard_log::{Note, ShardLog};

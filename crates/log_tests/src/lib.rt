@@ -11,4 +11,6 @@ mod given;
 #[cfg(test)]
 mod logs;
 #[cfg(test)]
+mod messages;
+#[cfg(test)]
 mod two_threads;

@@ -1,5 +1,6 @@
 //! A pen and its notes.
-use crate::given::{first_edge, id};
+use crate::given::first_edge;
+use log_fixtures::id;
 use shard_log::ShardLog;
 use std::test::Fail;
 

@@ -3,7 +3,8 @@ ghost use Rattle.std.specs.Prelude.{◌≡◌, false, Some, IfSome, OnSome};
 ghost use Rattle.graph_model.specs.Log.{entry_at};
 ghost use Rattle.shard_log.specs.View.{Begins, Grows};
 
-use crate::given::{first_edge, id};
+use crate::given::first_edge;
+use log_fixtures::id;
 use shard_log::{Note, Pen, ShardLog};
 use std::marker::{Brand, Model, PhantomData};
 use std::sync::{Mutex, Wait};

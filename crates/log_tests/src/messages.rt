@@ -1,65 +1,10 @@
-ghost use Rattle.std.specs.Prelude.{◌≡◌, [], false, IfOk};
+//! Messages of entries, and inboxes.
 
-use crate::{Inbox, InboxRefusal, KeyVersion, Maint};
-use shard_log::{Note, ShardLog};
-use std::alloc::{AllocError, Global};
+use log_fixtures::{FOLLOWS, LIKES, entry, id, moved_edge, untold_note};
+use maint_msg::{Inbox, InboxRefusal, KeyVersion, Maint};
+use std::alloc::Global;
 use std::test::Fail;
-use tao_base::{
-    AType, Change, Data, Edge, Entry, Id, Key, Kind, Origin, OutOfMemory, Stamp, Touch, Touches,
-};
-
-const LIKES: AType = AType(0);
-
-const FRIEND: AType = AType(1);
-
-fn id(number: u64) -> Result<Id, &'static str> {
-    Id::read(number).ok_or("an id")
-}
-
-/// An entry that makes a friend of what was liked.
-fn befriending(alloc: Global, position: u64, id1: Id, id2: Id) -> Result<Entry, AllocError> {
-    let stamp = Stamp {
-        number: 2,
-        shard: 0,
-    };
-    let edge = Edge {
-        id2,
-        time: 5,
-        payload: Data::empty(alloc),
-        stamp,
-    };
-    let cut = Touch {
-        key: Key::List(id1, LIKES),
-        change: Change::CutEdge {
-            id2,
-            stamp,
-            was: Some(5),
-        },
-        version: 3,
-    };
-    let set = Touch {
-        key: Key::List(id1, FRIEND),
-        change: Change::SetEdge { edge, was: None },
-        version: 8,
-    };
-    Ok(Entry {
-        position,
-        kind: Kind::AssocChangeType,
-        origin: Origin::Client {
-            session: 1,
-            seq: position,
-        },
-        touches: Touches::of(vec![in alloc; cut, set]?),
-    })
-}
-
-/// A note of a log that isn't told.
-fn untold_note(alloc: Global) -> Result<Note, OutOfMemory>
-    ensures { IfOk result (λ note. note.log.told ≡ false) }
-{
-    let mut pen = ShardLog::make(alloc, Vec::new(alloc), false)?;
-    pen.note()
-}
+use tao_base::{Entry, Key, Kind, OutOfMemory};
 
 /// Of a log that isn't told, a message may be of any entry.
 fn message_of(alloc: Global, entry: &Entry, shard: u16) -> Result<Maint, OutOfMemory> {
@@ -71,12 +16,12 @@ fn message_of(alloc: Global, entry: &Entry, shard: u16) -> Result<Maint, OutOfMe
 fn a_message_names_the_touched_keys(rt: HostRuntime) -> Result<(), Fail> {
     let alloc = rt.alloc();
     let (one, two) = (id(7)?, id(9)?);
-    let mut message = message_of(alloc, &befriending(alloc, 4, one, two)?, 0)?;
+    let mut message = message_of(alloc, &moved_edge(alloc, 4, one, two)?, 0)?;
     assert_eq!(rt;
         (message.shard(), message.position(), message.look()),
         (0, 4, 0)
     );
-    let named = [(Key::List(one, LIKES), 3), (Key::List(one, FRIEND), 8)].map(|(
+    let named = [(Key::List(one, LIKES), 3), (Key::List(one, FOLLOWS), 1)].map(|(
         key,
         version,
     )| KeyVersion { key, version });
@@ -89,16 +34,8 @@ fn a_message_names_the_touched_keys(rt: HostRuntime) -> Result<(), Fail> {
 
 /// Puts the message of an entry without touches. Of a message that was handed back the position.
 fn put(alloc: Global, inbox: &mut Inbox, position: u64) -> Result<Option<u64>, OutOfMemory> {
-    let entry = Entry {
-        position,
-        kind: Kind::ObjDelete,
-        origin: Origin::Client {
-            session: 1,
-            seq: position,
-        },
-        touches: Touches::of(Vec::new(alloc)),
-    };
-    match inbox.put(message_of(alloc, &entry, 0)?) {
+    let untouching = entry(Kind::ObjDelete, position, Vec::new(alloc));
+    match inbox.put(message_of(alloc, &untouching, 0)?) {
         Ok(()) => Ok(None),
         Err(InboxRefusal::Full(back)) => Ok(Some(back.position())),
         Err(InboxRefusal::OutOfMemory(_)) => Err(OutOfMemory),

@@ -1,5 +1,5 @@
 //! What reads hand out after some writes.
-ghost use Rattle.std.specs.Prelude.{true};
+ghost use Rattle.std.specs.Prelude.{IfOk, true};
 ghost use Rattle.keeper_map.specs.MapKeeper.{told_by};
 ghost use Rattle.shard_tables.specs.Stores.{IsStoreOf};
 
@@ -94,17 +94,24 @@ fn objects_are_handed_out(rt: HostRuntime) -> Result<(), Fail> {
     assert_read_outs(&rt, alloc, &mut keeper, &mut store, &rows)
 }
 
-/// The shortest front that decides is handed out, and past two edges the answer.
-#[test]
-fn fronts_of_lists_are_handed_out(rt: HostRuntime) -> Result<(), Fail> {
-    let alloc = rt.alloc();
+/// A keeper with its store, where three edges stand in one list, and one in another.
+fn two_lists(alloc: Global) -> Result<(MapKeeper, StoreNode), Fail>
+    ensures keeper { IfOk result (λ made. IsStoreOf true (told_by made.0) made.1) }
+{
     let asks = [
         Ask::Set(1, SAW, 2, 10, "x"),
         Ask::Set(1, SAW, 3, 30, "x"),
         Ask::Set(1, SAW, 4, 20, "x"),
         Ask::Set(1, LIKES, 2, 50, "x"),
     ];
-    let (mut keeper, mut store) = written(alloc, &schema(alloc)?, &asks)?;
+    written(alloc, &schema(alloc)?, &asks)
+}
+
+/// The shortest front that decides is handed out, and past two edges the answer.
+#[test]
+fn fronts_of_ranges_are_handed_out(rt: HostRuntime) -> Result<(), Fail> {
+    let alloc = rt.alloc();
+    let (mut keeper, mut store) = two_lists(alloc)?;
     let rows = [
         (
             Look::Count(1, SAW),
@@ -123,6 +130,17 @@ fn fronts_of_lists_are_handed_out(rt: HostRuntime) -> Result<(), Fail> {
             ("past, of 3", "4@20 2@10 version 3"),
         ),
         (Look::Range(1, SAW, 3, 9), ("0 of 3 as of 4", "version 3")),
+        (Look::Range(2, SAW, 0, 9), ("0 of 0 as of 4", "version 0")),
+    ];
+    assert_read_outs(&rt, alloc, &mut keeper, &mut store, &rows)
+}
+
+/// So are fronts that are searched by times and by ids.
+#[test]
+fn fronts_of_searches_are_handed_out(rt: HostRuntime) -> Result<(), Fail> {
+    let alloc = rt.alloc();
+    let (mut keeper, mut store) = two_lists(alloc)?;
+    let rows = [
         (
             Look::Times(1, SAW, 30, 30, 1),
             ("1 of 3 as of 4", "3@30 version 3"),
@@ -151,7 +169,6 @@ fn fronts_of_lists_are_handed_out(rt: HostRuntime) -> Result<(), Fail> {
             Look::Ids(1, LIKES, &[2], None, None),
             ("1 of 1 as of 4", "2@50 version 1"),
         ),
-        (Look::Range(2, SAW, 0, 9), ("0 of 0 as of 4", "version 0")),
     ];
     assert_read_outs(&rt, alloc, &mut keeper, &mut store, &rows)
 }

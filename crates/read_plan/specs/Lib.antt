@@ -1,0 +1,4 @@
+pub mod Keeping
+pub mod PlanView
+pub mod Readings
+pub mod Standings

@@ -4,7 +4,6 @@ use Rattle.cache_items.specs.declared.look.Kept.{Kept as KeptWhy}
 use Rattle.cache_items.specs.declared.look.Kept.TheVariants as was
 use Rattle.replies.specs.declared.nodes.KeptOrNot.{KeptOrNot}
 use Rattle.replies.specs.declared.nodes.KeptOrNot.TheVariants.{Kept, Not}
-use Rattle.replies.specs.declared.nodes.NotKept.{NotKept}
 use Rattle.replies.specs.declared.nodes.NotKeptWhy.{NotKeptWhy}
 use Rattle.replies.specs.declared.nodes.NotKeptWhy.TheVariants.{Bound, Asks, Lost, Mark, Floor, Memory}
 

@@ -1,4 +1,6 @@
+pub mod Held
 pub mod Keeping
 pub mod PlanView
 pub mod Readings
+pub mod Runs
 pub mod Standings

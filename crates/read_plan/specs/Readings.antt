@@ -1,5 +1,5 @@
 -- How contracts see a read that is under way.
-use Rattle.std.specs.Prelude.{ℕ, ◌≡◌, ◌+◌, ◌-◌, ◌^◌, ⊤, Bool, true, false, ◌||◌, min, Option, None}
+use Rattle.std.specs.Prelude.{ℕ, ◌+◌, ◌-◌, ◌^◌, ⊤, Bool, true, false, ◌||◌, min, Option, None}
 use Rattle.tao_base.specs.declared.query.Query.{Query}
 use Rattle.node_name.specs.declared.NodeName.{NodeName}
 use Rattle.read_plan.specs.Standings.{standing_after, without_fill, without_note}

@@ -1,5 +1,5 @@
 -- Where a read stands after each stage.
-use Rattle.std.specs.Prelude.{ℕ, ◌≡◌, ⊤, Bool, true, false, is_some, List, Option, Some, None, Result, Ok, Err}
+use Rattle.std.specs.Prelude.{ℕ, ◌≡◌, ⊤, Bool, true, false, is_some, Option, Some, None, Ok, Err}
 use Rattle.tao_base.specs.declared.query.Answer.{Answer}
 use Rattle.cache_items.specs.declared.look.Kept.{Kept as KeptWhy}
 use Rattle.cache_items.specs.declared.look.Look.{Look}
@@ -14,7 +14,6 @@ use Rattle.shard_tables.specs.declared.leader_answer.LeaderAnswer.TheVariants as
 use Rattle.shard_tables.specs.declared.read_out.ReadOut.{ReadOut}
 use Rattle.shard_tables.specs.declared.read_out.ReadOut.TheVariants as store
 use Rattle.read_plan.specs.Keeping.{kept_or_not, past_bound}
-use Rattle.read_plan.specs.declared.end.ReadEnd.{ReadEnd}
 use Rattle.read_plan.specs.declared.end.ReadEnd.TheVariants.{Answered, Refused}
 use Rattle.read_plan.specs.declared.stages.ReadResult.{ReadResult}
 use Rattle.read_plan.specs.declared.stages.ReadResult.TheVariants as came
@@ -94,17 +93,17 @@ standing_after critical bound at (came.Ask (Err reply)) = Ended (Refused reply)
 standing_after critical bound at (came.Master (Err reply)) = Ended (Refused reply)
 standing_after critical bound at (came.Keep (Err reply)) = Ended (Refused reply)
 
--- the follower answered exactly where a fill was given
-abbrev pub AnswersFill : Standing → Option (Answer × KeptWhy) → Type 0
-AnswersFill (Keeping given) found = is_fill given ≡ is_some found
-AnswersFill Looking found = ⊥
-AnswersFill Asking found = ⊥
-AnswersFill Mastering found = ⊥
-AnswersFill (Ended end) found = ⊥
+-- the follower is to answer from a fill
+abbrev pub has_fill : Standing → Bool
+has_fill (Keeping given) = is_fill given
+has_fill Looking = false
+has_fill Asking = false
+has_fill Mastering = false
+has_fill (Ended end) = false
 
--- a keeping that wasn't refused is that of what was given
+-- the follower answered exactly where a fill was given
 abbrev pub IsAnsweredFrom : Standing → ReadResult → Type 0
-IsAnsweredFrom at (came.Keep (Ok found)) = AnswersFill at found
+IsAnsweredFrom at (came.Keep (Ok found)) = has_fill at ≡ is_some found
 IsAnsweredFrom at (came.Keep (Err reply)) = ⊤
 IsAnsweredFrom at (came.Look look) = ⊤
 IsAnsweredFrom at (came.Ask answer) = ⊤

@@ -7,6 +7,7 @@
 
 mod end;
 mod keeping;
+pub mod laws;
 mod plan;
 mod stages;
 mod standing;

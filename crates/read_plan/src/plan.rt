@@ -1,5 +1,5 @@
 //! `ReadPlan`, a read between its stages.
-ghost use Rattle.std.specs.Prelude.{◌≡◌, Some};
+ghost use Rattle.std.specs.Prelude.{◌≡◌, true, IfSome};
 
 use crate::end::ReadEnd;
 use crate::stages::{ReadResult, ReadStage};
@@ -44,7 +44,7 @@ impl Model for ReadPlan {
 
 impl ReadPlan {
     ghost use Rattle.read_plan.specs.Readings.{NeverAsks, fill_handed, new_reading, note_handed, taken};
-    ghost use Rattle.read_plan.specs.Standings.{IsAnsweredFrom, came_of, fill_of, note_of, stage_of};
+    ghost use Rattle.read_plan.specs.Standings.{IsAnsweredFrom, came_of, fill_of, has_fill, note_of, stage_of};
 
     /// A read that is begun: its query, the region and tier that it is asked from, by their places, its floor, whether it is
     /// critical, and its follower. No ask is open for it, and the bound of its type is to be set.
@@ -168,11 +168,20 @@ impl ReadPlan {
         self.store = self.store || store;
     }
 
+    /// Whether a fill was given, handed out or not: whether the follower is to answer from one.
+    pub fn has_fill(&self) -> bool
+        ensures { result ≡ has_fill self.now.at }
+    {
+        self.at.has_fill()
+    }
+
     /// Hands out the fill that was given, from which the follower is to answer. None exactly where none was given, or it was
     /// handed out. The plan keeps its version.
     pub fn fill(&mut self) -> Option<Fill>
         ensures fill { result ≡ fill_of self.old.at }
         ensures handed { self.new ≡ fill_handed self.old }
+        ensures left { has_fill self.new.at ≡ has_fill self.old.at }
+        ensures some { IfSome result (λ _. has_fill self.old.at ≡ true) }
     {
         self.at.hand_fill()
     }

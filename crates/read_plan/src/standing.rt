@@ -1,7 +1,22 @@
 //! Where a read stands between two stages.
-ghost use Rattle.std.specs.Prelude.{◌≡◌, Some, None, is_some};
-ghost use Rattle.read_plan.specs.Standings.{AnswersFill, IsAnsweredFrom, after_ask, after_given, after_keep, after_look, after_master, fill_of, is_fill, note_of, stage_of,
-    standing_after, without_fill, without_note};
+ghost use Rattle.std.specs.Prelude.{◌≡◌, true, IfSome, Some, None, is_some};
+ghost use Rattle.read_plan.specs.Standings.{
+  IsAnsweredFrom,
+  after_ask,
+  after_given,
+  after_keep,
+  after_look,
+  after_master,
+  came_of,
+  fill_of,
+  has_fill,
+  is_fill,
+  note_of,
+  stage_of,
+  standing_after,
+  without_fill,
+  without_note,
+};
 
 use crate::end::ReadEnd;
 use crate::keeping::{kept_or_not, past_bound};
@@ -20,7 +35,9 @@ pub enum Given {
     /// A fill, from which the follower is to answer.
     Fill(Fill),
     /// The fill was handed out; it was of this version.
-    HandedOut { version: u64 },
+    HandedOut {
+        version: u64,
+    },
     /// No first edges of the list within the bound of its type decide the query: the answer, with the list's version and
     /// length, and until it is handed out a note of the log.
     Past {
@@ -55,9 +72,21 @@ impl Standing {
         }
     }
 
+    /// Whether the follower is to answer from a fill.
+    pub(crate) fn has_fill(&self) -> bool
+        ensures { result ≡ has_fill self.now }
+    {
+        match self {
+            Standing::Keeping(given) => !matches!(given, Given::Past { .. }),
+            _ => false,
+        }
+    }
+
     /// Hands out the fill that is there, and keeps its version.
     pub(crate) fn hand_fill(&mut self) -> Option<Fill>
         ensures fill { result ≡ fill_of self.old }
+        ensures left { has_fill self.new ≡ has_fill self.old }
+        ensures some { IfSome result (λ _. has_fill self.old ≡ true) }
         ensures handed { self.new ≡ without_fill self.old }
     {
         match mem::replace(self, Standing::Looking) {
@@ -87,7 +116,8 @@ impl Standing {
 
 /// Takes a read on after a stage that came to this.
 pub(crate) fn advance(at: &mut Standing, outcome: ReadResult, critical: bool, bound: u64)
-    requires { IsAnsweredFrom at.old outcome }
+    requires stage { came_of outcome ≡ stage_of at.old }
+    requires answered { IsAnsweredFrom at.old outcome }
     ensures { at.new ≡ standing_after critical bound at.old outcome }
 {
     let next = standing_after(at, outcome, critical, bound);
@@ -102,13 +132,9 @@ fn put<T: Drop>(place: &mut T, value: T)
 }
 
 /// Where a read stands after a stage that came to this. Takes out what was given, where the stage kept it.
-fn standing_after(
-    at: &mut Standing,
-    outcome: ReadResult,
-    critical: bool,
-    bound: u64,
-) -> Standing
-    requires { IsAnsweredFrom at.old outcome }
+fn standing_after(at: &mut Standing, outcome: ReadResult, critical: bool, bound: u64) -> Standing
+    requires stage { came_of outcome ≡ stage_of at.old }
+    requires answered { IsAnsweredFrom at.old outcome }
     ensures { result ≡ standing_after critical bound at.old outcome }
 {
     match outcome {
@@ -193,7 +219,8 @@ fn after_master(out: ReadOut) -> Standing
 }
 
 fn after_keep(bound: u64, at: &mut Standing, found: Option<(Answer, Kept)>) -> Standing
-    requires { AnswersFill at.old found }
+    requires stage { stage_of at.old ≡ ReadStage.Keep }
+    requires answered { has_fill at.old ≡ is_some found }
     ensures { result ≡ after_keep bound at.old found }
 {
     match mem::replace(at, Standing::Looking) {

@@ -21,7 +21,7 @@ use Rattle.read_plan.specs.declared.standing.Given.TheVariants.{Fill, HandedOut,
 use Rattle.read_plan.specs.declared.standing.Standing.{Standing}
 use Rattle.read_plan.specs.declared.standing.Standing.TheVariants.{Looking, Asking, Mastering, Keeping, Ended}
 
--- the fill is of the query's key and decides the query, and where the log is told it is at the floor or above. That it is true of the log is in its type
+-- the fill is of the query's key and decides the query, and where the log is told it is at the floor or above. That it is true is in its type
 pub record IsGivenFill (types : EdgeTypes) (query : Query) (floor : ℕ) (fill : SealedItem) : Type 0 where
   pub key_is : fill.key ≡ query_key query
   pub decides : content_decides types fill.content query ≡ true
@@ -31,7 +31,8 @@ abbrev pub version_given : ReadOut → ℕ
 version_given (store.Filled fill) = fill.version
 version_given (store.Past answer version total note) = version
 
--- some beginning of the log was read so: it answers so at the version, which is at the floor or above, and the list's first edges, as many as its bound, leave the query open
+-- some beginning of the log was read so: it answers so at the version, the floor or above, and the list's first edges, as many as its
+-- bound, leave the query open
 pub record WasRead (types : EdgeTypes) (log : List Entry) (query : Query) (floor : ℕ) (out : ReadOut) : Type 0 where
   pub n : ℕ
   pub out_is : IsReadOutOf types (take n log) query out
@@ -40,7 +41,8 @@ pub record WasRead (types : EdgeTypes) (log : List Entry) (query : Query) (floor
 -- what was given to a read with that query and floor is there, and right
 abbrev pub IsGiven : EdgeTypes → Query → ℕ → Given → Type 0
 IsGiven types query floor (Fill fill) = IsGivenFill types query floor fill
-IsGiven types query floor (Past answer version total (Some seen)) = WhereTold seen.log.told (WasRead types seen.entries query floor (store.Past answer version total seen))
+IsGiven types query floor (Past answer version total (Some seen)) =
+    WhereTold seen.log.told (WasRead types seen.entries query floor (store.Past answer version total seen))
 IsGiven types query floor (Past answer version total None) = ⊥
 IsGiven types query floor (HandedOut version) = ⊥
 
@@ -59,7 +61,8 @@ IsHeldRead types p = MayStand types p.query p.floor p.at
 pub record ReadsGoOn (types : EdgeTypes) (p : Reading) (hops : ℕ) (called : Bool) : Type 0 where
   pub begun : IsHeldRead types (new_reading p.query p.region p.tier p.floor p.critical p.follower)
   pub filled : (fill : SealedItem) → IsGivenFill types p.query p.floor fill
-      → IsHeldRead types (taken (came.Ask (Ok (leader.Filled fill))) hops called p) × IsHeldRead types (taken (came.Master (Ok (store.Filled fill))) hops called p)
+      → IsHeldRead types (taken (came.Ask (Ok (leader.Filled fill))) hops called p)
+      × IsHeldRead types (taken (came.Master (Ok (store.Filled fill))) hops called p)
   pub past : (answer : Answer) (version total : ℕ) (note : View) → IsGiven types p.query p.floor (Past answer version total (Some note))
       → IsHeldRead types (taken (came.Ask (Ok (leader.Past answer version total note))) hops called p)
       × IsHeldRead types (taken (came.Master (Ok (store.Past answer version total note))) hops called p)

@@ -1,3 +1,4 @@
+pub mod Ends
 pub mod Held
 pub mod Keeping
 pub mod PlanView

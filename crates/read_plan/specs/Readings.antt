@@ -7,7 +7,8 @@ use Rattle.read_plan.specs.declared.stages.ReadResult.{ReadResult}
 use Rattle.read_plan.specs.declared.standing.Standing.{Standing}
 use Rattle.read_plan.specs.declared.standing.Standing.TheVariants.{Looking, Asking, Mastering, Keeping, Ended}
 
--- a read: what it asks, from which tier, with which floor and at which follower; the ask that it opened, and the bound of the type that it reads; where it stands, and what its stages have cost
+-- a read: what it asks, from which tier, with which floor and at which follower; the ask that it opened, and the bound of the type that
+-- it reads; where it stands, and what its stages have cost
 pub record Reading : Type 0 where
   pub query : Query
   pub region : ℕ

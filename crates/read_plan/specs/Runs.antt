@@ -71,11 +71,13 @@ ComesFrom at (came.Keep (Err reply)) answer version = ⊥
 ComesFrom at (came.Ask given) answer version = ⊥
 ComesFrom at (came.Master given) answer version = ⊥
 
--- each answer comes from what was found or given, at its version; of a critical read from what was given. Handing out the fill or the note changes nothing of how the read ends
+-- each answer comes from what was found or given, at its version; of a critical read from what was given. Handing out the fill or the
+-- note changes nothing of how the read ends
 pub record AnswersAreGiven (p : Reading) (outcome : ReadResult) (hops : ℕ) (called : Bool) : Type 0 where
   pub given : (answer : Answer) (version : ℕ) (kept : KeptOrNot) → IsNext p outcome → (taken outcome hops called p).at ≡ Ended (Answered answer version kept)
       → ComesFrom p.at outcome answer version
-  pub critical : (answer : Answer) (version : ℕ) (kept : KeptOrNot) → p.critical ≡ true → (taken outcome hops called p).at ≡ Ended (Answered answer version kept)
+  pub critical : (answer : Answer) (version : ℕ) (kept : KeptOrNot) → p.critical ≡ true
+      → (taken outcome hops called p).at ≡ Ended (Answered answer version kept)
       → came_of outcome ≡ stage.Keep
   pub fill_out : IsNext p outcome → taken outcome hops called (fill_handed p) ≡ taken outcome hops called p
   pub note_out : IsNext p outcome → taken outcome hops called (note_handed p) ≡ taken outcome hops called p

@@ -12,6 +12,5 @@ mod plan;
 mod stages;
 mod standing;
 
-pub use end::ReadEnd;
 pub use plan::ReadPlan;
 pub use stages::{ReadResult, ReadStage};

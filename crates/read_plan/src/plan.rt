@@ -1,15 +1,18 @@
 //! `ReadPlan`, a read between its stages.
 ghost use Rattle.std.specs.Prelude.{◌≡◌, true, IfSome};
+ghost use Rattle.read_plan.specs.Ends.{read_reply};
 
 use crate::end::ReadEnd;
 use crate::stages::{ReadResult, ReadStage};
 use crate::standing::{Standing, advance};
 use ask_table::AskNo;
 use node_name::NodeName;
+use replies::{CallReply, ReadReply, Reply, query_word};
 use sealed_item::Fill;
 use shard_log::Note;
 use std::marker::Model;
 use tao_base::Query;
+use words::ReadWord;
 
 /// A read between its stages: what it asks and with which floor, at which follower, which stage follows, and what was given
 /// to it. What it holds does not age, since an answer is exact in its own note of the log.
@@ -43,6 +46,7 @@ impl Model for ReadPlan {
 }
 
 impl ReadPlan {
+    ghost use Rattle.read_plan.specs.Ends.{EndsWith};
     ghost use Rattle.read_plan.specs.Readings.{NeverAsks, fill_handed, new_reading, note_handed, taken};
     ghost use Rattle.read_plan.specs.Standings.{IsAnsweredFrom, came_of, fill_of, has_fill, note_of, stage_of};
 
@@ -182,6 +186,7 @@ impl ReadPlan {
         ensures handed { self.new ≡ fill_handed self.old }
         ensures left { has_fill self.new.at ≡ has_fill self.old.at }
         ensures some { IfSome result (λ _. has_fill self.old.at ≡ true) }
+        ensures stage { stage_of self.new.at ≡ stage_of self.old.at }
     {
         self.at.hand_fill()
     }
@@ -191,20 +196,51 @@ impl ReadPlan {
     pub fn note(&mut self) -> Option<Note>
         ensures note { result ≡ note_of self.old.at }
         ensures handed { self.new ≡ note_handed self.old }
+        ensures left { has_fill self.new.at ≡ has_fill self.old.at }
+        ensures stage { stage_of self.new.at ≡ stage_of self.old.at }
     {
         self.at.hand_note()
     }
 
-    /// What the read ended with.
-    pub fn end(self) -> ReadEnd
+    /// The reply: the answer at its version, with the hops and calls of all stages, and whether the follower keeps it; or the
+    /// refusal that ended the read.
+    pub fn finish(self) -> Reply
         requires { stage_of self.at ≡ ReadStage.Done }
-        ensures { self.at ≡ Standing.Ended result }
+        ensures { EndsWith self result }
     {
-        let ReadPlan { query, at, .. } = self;
+        let ReadPlan {
+            query,
+            at,
+            hops,
+            store,
+            ..
+        } = self;
+        let word = query_word(&query);
         drop(query);
         match at {
-            Standing::Ended(end) => end,
+            Standing::Ended(end) => read_reply(end, word, hops, store),
             _ => unreachable!(),
         }
+    }
+}
+
+/// The reply to a read of that word, whose stages took so many hops.
+fn read_reply(end: ReadEnd, word: ReadWord, hops: u64, store: bool) -> Reply
+    ensures { result ≡ read_reply word hops store end }
+{
+    match end {
+        ReadEnd::Answered {
+            answer,
+            version,
+            kept,
+        } => Reply::Called(CallReply::Read(ReadReply {
+            word,
+            answer,
+            version,
+            hops,
+            store,
+            kept,
+        })),
+        ReadEnd::Refused(reply) => reply,
     }
 }

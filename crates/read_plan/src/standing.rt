@@ -87,6 +87,7 @@ impl Standing {
         ensures fill { result ≡ fill_of self.old }
         ensures left { has_fill self.new ≡ has_fill self.old }
         ensures some { IfSome result (λ _. has_fill self.old ≡ true) }
+        ensures stage { stage_of self.new ≡ stage_of self.old }
         ensures handed { self.new ≡ without_fill self.old }
     {
         match mem::replace(self, Standing::Looking) {
@@ -106,6 +107,8 @@ impl Standing {
     pub(crate) fn hand_note(&mut self) -> Option<Note>
         ensures note { result ≡ note_of self.old }
         ensures handed { self.new ≡ without_note self.old }
+        ensures left { has_fill self.new ≡ has_fill self.old }
+        ensures stage { stage_of self.new ≡ stage_of self.old }
     {
         match self {
             Standing::Keeping(Given::Past { note, .. }) => note.take(),

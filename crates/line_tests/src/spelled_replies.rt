@@ -121,6 +121,9 @@ fn read(word: ReadWord, answer: Answer) -> CallReply {
         word,
         answer,
         version: 1,
+        hops: 0,
+        store: true,
+        kept: KeptOrNot::Kept,
     })
 }
 

@@ -1,8 +1,9 @@
 //! The replies to writes and reads.
 ghost use Rattle.std.specs.Prelude.{◌≡◌};
-ghost use Rattle.replies.specs.Kinds.{kind_word};
+ghost use Rattle.replies.specs.Kinds.{kind_word, query_word};
 
-use tao_base::{Answer, Id};
+use super::nodes::KeptOrNot;
+use tao_base::{Answer, Id, Query};
 use words::{ReadWord, WriteWord};
 
 /// The reply to a write or a read that was carried out.
@@ -73,6 +74,25 @@ pub struct ReadReply {
     pub word: ReadWord,
     pub answer: Answer,
     pub version: u64,
+    /// How many carries over links the read took.
+    pub hops: u64,
+    /// Whether a keeper was called for it.
+    pub store: bool,
+    /// Whether the follower that replied holds what it answered from.
+    pub kept: KeptOrNot,
+}
+
+/// The word of the read that asks a query.
+pub fn query_word(query: &Query) -> ReadWord
+    ensures { result ≡ query_word query.now }
+{
+    match query {
+        Query::ObjGet { .. } => ReadWord::ObjGet,
+        Query::AssocGet { .. } => ReadWord::AssocGet,
+        Query::AssocCount { .. } => ReadWord::AssocCount,
+        Query::AssocRange { .. } => ReadWord::AssocRange,
+        Query::AssocTimeRange { .. } => ReadWord::AssocTimeRange,
+    }
 }
 
 impl WriteKind {

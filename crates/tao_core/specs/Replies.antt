@@ -10,7 +10,6 @@ use Rattle.tao_base.specs.declared.entry.Origin.{Origin}
 use Rattle.tao_base.specs.declared.entry.Origin.TheVariants.{Client}
 use Rattle.tao_base.specs.declared.query.Answer.{Answer}
 use Rattle.tao_base.specs.declared.query.Query.{Query}
-use Rattle.tao_base.specs.declared.query.Query.TheVariants as query
 use Rattle.tao_base.specs.declared.write.Write.{Write}
 use Rattle.tao_base.specs.declared.write.Write.TheVariants as write
 use Rattle.graph_model.specs.Answers.{answer}
@@ -19,8 +18,7 @@ use Rattle.write_model.specs.Machine.{ChangesNothing, Repeats}
 use Rattle.write_model.specs.Merges.{Stores}
 use Rattle.write_model.specs.Steps.{CommitsWithJob, JobsStay}
 use Rattle.master_tables.specs.Masters.{stores_of}
-use Rattle.words.specs.declared.ReadWord.{ReadWord}
-use Rattle.words.specs.declared.ReadWord.TheVariants as word
+use Rattle.replies.specs.Kinds.{query_word}
 use Rattle.replies.specs.declared.calls.CallReply.TheVariants as called
 use Rattle.replies.specs.declared.calls.InverseEnd.TheVariants as inverse
 use Rattle.replies.specs.declared.calls.WriteKind.{WriteKind}
@@ -190,14 +188,6 @@ pub record IsAudit (types : EdgeTypes) (log : List Entry) (asked : Query) (given
 -- the log of a query's shard
 abbrev pub log_for : Settings → KeeperState → Query → List Entry
 log_for s keepers asked = master_log s keepers.told (key_shard (query_key asked))
-
--- which read it is
-abbrev pub query_word : Query → ReadWord
-query_word (query.ObjGet id) = word.ObjGet
-query_word (query.AssocGet id1 atype ids high low) = word.AssocGet
-query_word (query.AssocCount id1 atype) = word.AssocCount
-query_word (query.AssocRange id1 atype pos limit) = word.AssocRange
-query_word (query.AssocTimeRange id1 atype high low limit) = word.AssocTimeRange
 
 -- a read is refused by a fault that came now, and in no other way
 abbrev pub ReadRefused : Bool → KeeperState → StoreRefused → KeeperState → Type 0

@@ -3,7 +3,7 @@ ghost use Rattle.std.specs.Prelude.{◌≡◌, IfOk};
 ghost use Rattle.tao_base.specs.Queries.{query_key};
 ghost use Rattle.shard_tables.specs.ReadOuts.{IsFor};
 ghost use Rattle.request_check.specs.Placed.{IsPlacedKey};
-ghost use Rattle.tao_core.specs.Replies.{AnswersAudit, AnswersRead, IsReadOff, IsReadReply, query_word};
+ghost use Rattle.tao_core.specs.Replies.{AnswersAudit, AnswersRead, IsReadOff, IsReadReply};
 ghost use Rattle.tao_core.specs.Stores.{AreStoresOf};
 ghost use Rattle.tao_keeper.specs.KeeperState.{IsLater, KeepsTables};
 ghost use Rattle.tao_schema.specs.Schema.{types_of};
@@ -11,27 +11,13 @@ ghost use Rattle.tao_schema.specs.Schema.{types_of};
 use crate::opening::master_store;
 use crate::refusals::{failed_as, out_of_memory, refused_as};
 use plain_graph::answer;
-use replies::{CallReply, ReadReply, Reply};
+use replies::{CallReply, KeptOrNot, ReadReply, Reply, query_word};
 use request_check::CheckedRead;
 use shard_tables::{ReadOut, StoreNode, StoreRefusal, log_of};
 use std::alloc::Global;
 use tao_base::{OutOfMemory, Query};
 use tao_keeper::Keeper;
 use topology::Config;
-use words::ReadWord;
-
-/// Which read it is.
-fn query_word(query: &Query) -> ReadWord
-    ensures { result ≡ query_word query.now }
-{
-    match query {
-        Query::ObjGet { .. } => ReadWord::ObjGet,
-        Query::AssocGet { .. } => ReadWord::AssocGet,
-        Query::AssocCount { .. } => ReadWord::AssocCount,
-        Query::AssocRange { .. } => ReadWord::AssocRange,
-        Query::AssocTimeRange { .. } => ReadWord::AssocTimeRange,
-    }
-}
 
 /// The reply to a read, of what its store handed out for it. Copies the answer.
 fn reply_off(out: ReadOut, config: &Config, query: &Query) -> Reply
@@ -44,6 +30,10 @@ fn reply_off(out: ReadOut, config: &Config, query: &Query) -> Reply
                 word: query_word(query),
                 answer: found.answer,
                 version: found.version,
+                // No line says these: there are no nodes yet, and each read is answered by its store.
+                hops: 0,
+                store: true,
+                kept: KeptOrNot::Kept,
             }))
         }
         Err(OutOfMemory) => out_of_memory(),

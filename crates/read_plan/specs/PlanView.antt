@@ -1,0 +1,18 @@
+-- What contracts see of a plan.
+use Rattle.read_plan.specs.Readings.{Reading}
+use Rattle.read_plan.specs.declared.plan.ReadPlan.TheInside.{Inside}
+
+abbrev pub reading : Inside → Reading
+reading p = record {
+  query = p.query;
+  region = p.region;
+  tier = p.tier;
+  floor = p.floor;
+  critical = p.critical;
+  follower = p.follower;
+  ask = p.ask;
+  bound = p.bound;
+  at = p.at;
+  hops = p.hops;
+  store = p.store;
+}

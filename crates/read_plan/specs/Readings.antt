@@ -1,0 +1,64 @@
+-- How contracts see a read that is under way.
+use Rattle.std.specs.Prelude.{ℕ, ◌+◌, ◌-◌, ◌^◌, ⊤, Bool, true, false, ◌||◌, min, Option, None}
+use Rattle.tao_base.specs.declared.query.Query.{Query}
+use Rattle.node_name.specs.declared.NodeName.{NodeName}
+use Rattle.read_plan.specs.Standings.{standing_after, without_fill, without_note}
+use Rattle.read_plan.specs.declared.stages.ReadResult.{ReadResult}
+use Rattle.read_plan.specs.declared.standing.Standing.{Standing}
+use Rattle.read_plan.specs.declared.standing.Standing.TheVariants.{Looking, Asking, Mastering, Keeping, Ended}
+
+-- a read: what it asks, from which tier, with which floor and at which follower; the ask that it opened, and the bound of the type that
+-- it reads; where it stands, and what its stages have cost
+pub record Reading : Type 0 where
+  pub query : Query
+  pub region : ℕ
+  pub tier : ℕ
+  pub floor : ℕ
+  pub critical : Bool
+  pub follower : NodeName
+  pub ask : Option ℕ
+  pub bound : ℕ
+  pub at : Standing
+  pub hops : ℕ
+  pub store : Bool
+
+-- a read that is begun
+abbrev pub new_reading : Query → ℕ → ℕ → ℕ → Bool → NodeName → Reading
+new_reading query region tier floor critical follower = record {
+  query = query;
+  region = region;
+  tier = tier;
+  floor = floor;
+  critical = critical;
+  follower = follower;
+  ask = None;
+  bound = 0;
+  at = Looking;
+  hops = 0;
+  store = false;
+}
+
+-- so many hops more. At its last value a count stands still
+abbrev pub hops_after : ℕ → ℕ → ℕ
+hops_after hops more = min (hops + more) (2 ^ 64 - 1)
+
+-- a read after a stage that came to this, with its hops, and whether it called a keeper
+abbrev pub taken : ReadResult → ℕ → Bool → Reading → Reading
+taken outcome hops store p =
+    record p { at = standing_after p.critical p.bound p.at outcome; hops = hops_after p.hops hops; store = p.store || store }
+
+-- a read whose fill, or note, is handed out
+abbrev pub fill_handed : Reading → Reading
+fill_handed p = record p { at = without_fill p.at }
+
+abbrev pub note_handed : Reading → Reading
+note_handed p = record p { at = without_note p.at }
+
+-- a critical read asks no leader
+abbrev pub NeverAsks : Bool → Standing → Type 0
+NeverAsks true Asking = ⊥
+NeverAsks true Looking = ⊤
+NeverAsks true Mastering = ⊤
+NeverAsks true (Keeping given) = ⊤
+NeverAsks true (Ended end) = ⊤
+NeverAsks false at = ⊤

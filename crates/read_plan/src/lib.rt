@@ -1,0 +1,16 @@
+//! The plan of a read: its stages, one at a time, and the reply that they end with.
+//!
+//! A read goes from its follower, which looks among its items, to a leader of the region, to the master's store where that
+//! leader's store is behind, and back to the follower, which keeps what was given. The plan says which stage follows, and
+//! holds what the stages found; who carries out a stage is not said here. So a read may be held between two stages.
+#![tactic(auto)]
+
+mod end;
+mod keeping;
+pub mod laws;
+mod plan;
+mod stages;
+mod standing;
+
+pub use plan::ReadPlan;
+pub use stages::{ReadResult, ReadStage};

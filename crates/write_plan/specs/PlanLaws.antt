@@ -1,0 +1,2 @@
+-- laws
+use Rattle.std.specs.Prelude.{ℕ}

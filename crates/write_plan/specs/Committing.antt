@@ -1,5 +1,5 @@
 -- What the answer of a commit says of its write.
-use Rattle.std.specs.Prelude.{ℕ, Bool, false, ◌||◌, Option, Some, None, is_some, option_map, ⊤}
+use Rattle.std.specs.Prelude.{Bool, false, ◌||◌, Option, Some, None, is_some, option_map, ⊤}
 use Rattle.replies.specs.declared.calls.WriteKind.{WriteKind}
 use Rattle.replies.specs.declared.calls.WriteKind.TheVariants as kind
 use Rattle.shard_tables.specs.Added.{first_put}

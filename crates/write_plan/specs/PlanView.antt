@@ -5,7 +5,10 @@ use Rattle.write_plan.specs.declared.plan.WritePlan.TheInside.{Inside}
 abbrev pub plan_seen : Inside → Plan
 plan_seen p = record {
   write = p.write;
-  asker = p.asker;
+  origin = p.origin;
+  region = p.region;
+  tier = p.tier;
+  follower = p.follower;
   committed = p.committed;
   job = p.job;
   other = p.other;

@@ -1,18 +1,20 @@
 -- How contracts see the plan of a write: what was taken, which stage is next, and the reply.
-use Rattle.std.specs.Prelude.{ℕ, ◌≡◌, ◌+◌, Bool, true, false, ◌||◌, Option, Some, None, is_some, min, option_and_then, unwrap_or, Result, Ok, Err}
+use Rattle.std.specs.Prelude.{ℕ, ◌+◌, Bool, true, false, ◌||◌, Option, Some, None, is_some, min, option_and_then, unwrap_or, Result, Ok, Err}
 use Rattle.node_name.specs.declared.NodeName.{NodeName}
-use Rattle.replies.specs.declared.calls.CallReply.TheVariants.{Write as Wrote_}
+use Rattle.replies.specs.declared.calls.CallReply.TheVariants.{Write as OfWrite}
 use Rattle.replies.specs.declared.calls.InverseEnd.{InverseEnd}
 use Rattle.replies.specs.declared.calls.InverseEnd.TheVariants as inverse
 use Rattle.replies.specs.declared.calls.Written.{Written}
+use Rattle.replies.specs.declared.refusals.When.{When}
+use Rattle.replies.specs.declared.refusals.When.TheVariants.{Before, After}
 use Rattle.replies.specs.declared.reply.Reply.{Reply}
 use Rattle.replies.specs.declared.reply.Reply.TheVariants.{Called}
 use Rattle.shard_tables.specs.declared.writes.Wrote.{Wrote}
 use Rattle.tao_base.specs.declared.entry.Entry.{Entry}
+use Rattle.tao_base.specs.declared.entry.Origin.{Origin}
 use Rattle.tao_base.specs.declared.write.Write.{Write}
 use Rattle.tao_keeper.specs.declared.jobs.Job.{Job}
 use Rattle.write_plan.specs.declared.committed.Committed.{Committed}
-use Rattle.write_plan.specs.declared.plan.Asker.{Asker}
 use Rattle.write_plan.specs.declared.progress.OtherEnd.{OtherEnd}
 use Rattle.write_plan.specs.declared.progress.OtherEnd.TheVariants.{Due, Merged, Ended, Open}
 use Rattle.write_plan.specs.declared.progress.WayBack.{WayBack}
@@ -24,11 +26,14 @@ use Rattle.write_plan.specs.declared.results.WriteResult.TheVariants as came
 use Rattle.write_plan.specs.declared.stage.WriteStage.{WriteStage}
 use Rattle.write_plan.specs.declared.stage.WriteStage.TheVariants as stage
 
--- a write and who asked it; what its commit answered; how far its job has come, and what was written at the other end; how far
--- the way back has come; the reply that refuses it; and the carries so far
+-- a write, who asked for it, from which tier, and at which follower; what its commit answered; how far its job has come, and what was
+-- written at the other end; how far the way back has come; the reply that refuses it; and the carries so far
 pub record Plan : Type 0 where
   pub write : Write
-  pub asker : Asker
+  pub origin : Origin
+  pub region : ℕ
+  pub tier : ℕ
+  pub follower : NodeName
   pub committed : Option Committed
   pub job : OtherEnd
   pub other : Option Wrote
@@ -37,9 +42,20 @@ pub record Plan : Type 0 where
   pub hops : ℕ
 
 -- a plan of which nothing was done
-abbrev pub new_plan : Write → Asker → Plan
-new_plan write asker =
-    record { write = write; asker = asker; committed = None; job = Due; other = None; back = Ahead; refused = None; hops = 0 }
+abbrev pub new_plan : Write → Origin → ℕ → ℕ → NodeName → Plan
+new_plan write origin region tier follower = record {
+  write = write;
+  origin = origin;
+  region = region;
+  tier = tier;
+  follower = follower;
+  committed = None;
+  job = Due;
+  other = None;
+  back = Ahead;
+  refused = None;
+  hops = 0;
+}
 
 -- ---- stages
 
@@ -123,6 +139,11 @@ answered_entry p = option_and_then (λ c. c.wrote.entry) p.committed
 abbrev pub answered_job : Plan → Option Job
 answered_job p = option_and_then (λ c. c.wrote.job) p.committed
 
+-- whether a refusal comes after an entry stands, and where it does
+abbrev pub when_of : Option Entry → When
+when_of None = Before
+when_of (Some entry) = After entry.position
+
 -- ---- the reply
 
 -- the edge that was written has another end
@@ -142,7 +163,7 @@ written_by retry told (Some entry) = record { changed = true; inverse = told; po
 
 -- the reply to a write that was carried out
 abbrev pub reply_after : Committed → OtherEnd → ℕ → Reply
-reply_after c job hops = Called (Wrote_ (record {
+reply_after c job hops = Called (OfWrite (record {
   kind = c.kind;
   written = written_by c.wrote.retry (inverse_told (has_other c) job) c.wrote.entry;
   hops = hops;

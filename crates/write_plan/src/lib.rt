@@ -4,13 +4,14 @@
 #![tactic(auto)]
 
 mod committed;
+pub mod laws;
 mod plan;
 mod progress;
 mod results;
 mod stage;
 
 pub use committed::Committed;
-pub use plan::{Asker, EndedWrite, WritePlan};
+pub use plan::{EndedWrite, WritePlan};
 pub use progress::{OtherEnd, WayBack};
 pub use results::{Late, WriteResult};
 pub use stage::WriteStage;

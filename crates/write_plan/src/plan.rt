@@ -6,24 +6,12 @@ use crate::progress::{OtherEnd, WayBack, reply_by, stage_after};
 use crate::results::{Late, WriteResult};
 use crate::stage::WriteStage;
 use node_name::NodeName;
-use replies::Reply;
+use replies::{Reply, When};
 use shard_log::Note;
 use shard_tables::Wrote;
 use std::marker::Model;
 use tao_base::{Entry, Origin, OutOfMemory, Write};
 use tao_keeper::Job;
-
-/// Who asked for a write.
-#[derive(Clone, Copy, Debug, PartialEq, Eq)]
-pub struct Asker {
-    /// The session, and the number of its write.
-    pub origin: Origin,
-    /// The places of the session's region, and of its tier in that region.
-    pub region: u16,
-    pub tier: u16,
-    /// The follower that was asked.
-    pub follower: NodeName,
-}
 
 /// What a write leaves at its end.
 #[derive(Drop)]
@@ -41,7 +29,10 @@ pub struct EndedWrite {
 #[derive(Drop)]
 pub struct WritePlan {
     write: Write,
-    asker: Asker,
+    origin: Origin,
+    region: u16,
+    tier: u16,
+    follower: NodeName,
     committed: Option<Committed>,
     job: OtherEnd,
     other: Option<Wrote>,
@@ -61,7 +52,7 @@ impl Model for WritePlan {
 
 impl WritePlan {
     ghost use Rattle.replies.specs.declared.reply.Reply.{Reply};
-    ghost use Rattle.write_plan.specs.Plans.{after_late, after_result, after_stage, after_way, answered_entry, answered_job, new_plan, next_of, refused_by, reply_of, written_there};
+    ghost use Rattle.write_plan.specs.Plans.{after_late, after_result, after_stage, after_way, answered_entry, answered_job, new_plan, next_of, refused_by, reply_of, when_of, written_there};
     ghost use Rattle.write_plan.specs.Stages.{result_stage};
     ghost use Rattle.write_plan.specs.declared.stage.WriteStage.TheVariants.{Done};
 
@@ -73,16 +64,14 @@ impl WritePlan {
         tier: u16,
         follower: NodeName,
     ) -> WritePlan
-        ensures { result ≡ new_plan write (record { origin = origin; region = region; tier = tier; follower = follower }) }
+        ensures { result ≡ new_plan write origin region tier follower }
     {
         WritePlan {
             write,
-            asker: Asker {
-                origin,
-                region,
-                tier,
-                follower,
-            },
+            origin,
+            region,
+            tier,
+            follower,
             committed: None,
             job: OtherEnd::Due,
             other: None,
@@ -112,11 +101,32 @@ impl WritePlan {
         &self.write
     }
 
-    /// Who asked for it.
-    pub fn asker(&self) -> Asker
-        ensures { result ≡ self.now.asker }
+    /// The session that asked for it, and the number of its write.
+    pub fn origin(&self) -> Origin
+        ensures { result ≡ self.now.origin }
     {
-        self.asker
+        self.origin
+    }
+
+    /// The place of the region that it is asked from.
+    pub fn region(&self) -> u16
+        ensures { result ≡ self.now.region }
+    {
+        self.region
+    }
+
+    /// The place of the tier that it is asked from, in its region.
+    pub fn tier(&self) -> u16
+        ensures { result ≡ self.now.tier }
+    {
+        self.tier
+    }
+
+    /// The follower that was asked.
+    pub fn follower(&self) -> NodeName
+        ensures { result ≡ self.now.follower }
+    {
+        self.follower
     }
 
     /// What the commit answered; none before it, and where it was refused.
@@ -143,6 +153,19 @@ impl WritePlan {
         match &self.committed {
             Some(committed) => committed.wrote.job.as_ref(),
             None => None,
+        }
+    }
+
+    /// Whether what ends the plan now ends it after its entry stands, which a refusal tells: where the commit answered an entry, also
+    /// one that stood there before.
+    pub fn when(&self) -> When
+        ensures { result ≡ when_of (answered_entry self.now) }
+    {
+        match self.entry() {
+            Some(entry) => When::After {
+                position: entry.position,
+            },
+            None => When::Before,
         }
     }
 

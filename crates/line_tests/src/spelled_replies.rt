@@ -113,6 +113,7 @@ fn wrote(kind: WriteKind, inverse: InverseEnd) -> CallReply {
             position: 1,
             retry: false,
         },
+        hops: 0,
     })
 }
 

@@ -18,6 +18,8 @@ pub enum CallReply {
 pub struct WriteReply {
     pub kind: WriteKind,
     pub written: Written,
+    /// How many carries over links the write took. Lines don't tell it yet.
+    pub hops: u64,
 }
 
 /// Which write was asked.

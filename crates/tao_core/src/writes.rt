@@ -73,6 +73,7 @@ fn reply_to(write: &Write, wrote: Result<Wrote, StoreRefusal>, faults: u64) -> R
             Reply::Called(CallReply::Write(WriteReply {
                 kind: replied_kind(write, &wrote.entry),
                 written: written_of(&wrote),
+                hops: 0,
             }))
         }
         Err(refusal) => refused_as(refusal, faults),

@@ -1,0 +1,5 @@
+pub mod Committing
+pub mod PlanLaws
+pub mod Plans
+pub mod PlanView
+pub mod Stages

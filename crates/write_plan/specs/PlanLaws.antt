@@ -1,0 +1,156 @@
+-- What a plan is, over all results that it takes: its stages in order, its carries, and what its reply tells.
+use Rattle.std.specs.Prelude.{ℕ, ◌≡◌, ◌+◌, ◌≤◌, ◌⊎◌, Bool, true, false, if◌then◌else◌, List, [], ◌∷◌, ◌++◌, length, min, Option, Some, None, IfNone, IfSome, Ok, Err}
+use Rattle.node_name.specs.declared.NodeName.{NodeName}
+use Rattle.replies.specs.declared.calls.CallReply.TheVariants.{Write as OfWrite}
+use Rattle.replies.specs.declared.calls.InverseEnd.{InverseEnd}
+use Rattle.replies.specs.declared.calls.InverseEnd.TheVariants as inverse
+use Rattle.replies.specs.declared.calls.ScheduledWhy.{ScheduledWhy}
+use Rattle.replies.specs.declared.calls.WriteReply.{WriteReply}
+use Rattle.replies.specs.declared.reply.Reply.{Reply}
+use Rattle.replies.specs.declared.reply.Reply.TheVariants.{Called}
+use Rattle.shard_tables.specs.declared.writes.Wrote.{Wrote}
+use Rattle.tao_base.specs.declared.entry.Origin.{Origin}
+use Rattle.tao_base.specs.declared.write.Write.{Write}
+use Rattle.tao_keeper.specs.declared.jobs.Job.{Job}
+use Rattle.write_plan.specs.Plans.{Plan, after_stage, most_hops, new_plan, next_of, reply_of}
+use Rattle.write_plan.specs.Stages.{result_stage}
+use Rattle.write_plan.specs.declared.committed.Committed.{Committed}
+use Rattle.write_plan.specs.declared.results.Late.TheVariants.{Scheduled, Refused}
+use Rattle.write_plan.specs.declared.results.WriteResult.{WriteResult}
+use Rattle.write_plan.specs.declared.results.WriteResult.TheVariants.{Commit, Inverse, End, Relay, Apply}
+use Rattle.write_plan.specs.declared.stage.WriteStage.TheVariants.{Done}
+
+-- what came of a stage, and its carries
+pub record Came : Type 0 where
+  pub result : WriteResult
+  pub hops : ℕ
+
+abbrev pub came : WriteResult → ℕ → Came
+came result hops = record { result = result; hops = hops }
+
+-- a plan takes these in turn, each of the stage that is next, and becomes the other
+abbrev pub Takes : Plan → List Came → Plan → Type 0
+Takes p [] q = q ≡ p
+Takes p (c ∷ rest) q = (result_stage c.result ≡ next_of p) × Takes (after_stage p c.result c.hops) rest q
+
+-- the carries of all of them
+abbrev pub carries_of : List Came → ℕ
+carries_of [] = 0
+carries_of (c ∷ rest) = c.hops + carries_of rest
+
+-- ---- a write that is carried out
+
+-- its job was merged and then removed: the inverse is written
+pub record EndsJob (cs : List Came) (other : Option Wrote) (told : InverseEnd) : Type 0 where
+  pub wrote : Wrote
+  pub merges : ℕ
+  pub ends : ℕ
+  pub came_is : cs ≡ came (Inverse (Ok wrote)) merges ∷ came (End (Ok tt)) ends ∷ []
+  pub other_is : other ≡ Some wrote
+  pub told_is : told ≡ inverse.Written
+
+-- its job was merged and not removed: it is scheduled, for that reason
+pub record EndsLate (cs : List Came) (other : Option Wrote) (told : InverseEnd) : Type 0 where
+  pub wrote : Wrote
+  pub why : ScheduledWhy
+  pub more : Option Wrote
+  pub merges : ℕ
+  pub ends : ℕ
+  pub came_is : cs ≡ came (Inverse (Ok wrote)) merges ∷ came (End (Err (Scheduled why more))) ends ∷ []
+  pub other_is : other ≡ Some wrote
+  pub told_is : told ≡ inverse.Scheduled why
+
+-- its job was not merged, or its answer lost: it is scheduled, for that reason, and what was written is kept
+pub record MergesLate (cs : List Came) (other : Option Wrote) (told : InverseEnd) : Type 0 where
+  pub why : ScheduledWhy
+  pub merges : ℕ
+  pub came_is : cs ≡ came (Inverse (Err (Scheduled why other))) merges ∷ []
+  pub told_is : told ≡ inverse.Scheduled why
+
+-- what came of the job that the commit answered, with what was written at the other end and how the inverse is then told. Without one
+-- there is no such stage, and the inverse is written where the write's type has one
+abbrev pub CameOfJob : Option Job → Bool → List Came → Option Wrote → InverseEnd → Type 0
+CameOfJob None paired cs other told = (cs ≡ []) × (other ≡ None) × (told ≡ (if paired then inverse.Written else inverse.None))
+CameOfJob (Some job) paired cs other told = EndsJob cs other told ⊎ (EndsLate cs other told ⊎ MergesLate cs other told)
+
+-- the follower took the changes
+pub record Applies (cs : List Came) : Type 0 where
+  pub applies : ℕ
+  pub came_is : cs ≡ came (Apply (Ok tt)) applies ∷ []
+
+-- the leader that was passed took the changes, and then the follower
+pub record RelaysAndApplies (cs : List Came) : Type 0 where
+  pub relays : ℕ
+  pub applies : ℕ
+  pub came_is : cs ≡ came (Relay (Ok tt)) relays ∷ came (Apply (Ok tt)) applies ∷ []
+
+-- what came of the way back
+abbrev pub CameBack : Option NodeName → List Came → Type 0
+CameBack None cs = Applies cs
+CameBack (Some leader) cs = RelaysAndApplies cs
+
+-- the commit answered this; then came the stages of its job, and then the way back
+pub record CameInOrder (c : Committed) (cs : List Came) (other : Option Wrote) (told : InverseEnd) : Type 0 where
+  pub commits : ℕ
+  pub of_job : List Came
+  pub of_way : List Came
+  pub came_is : cs ≡ came (Commit (Ok c)) commits ∷ (of_job ++ of_way)
+  pub job : CameOfJob c.wrote.job c.paired of_job other told
+  pub way : CameBack c.passed of_way
+
+-- a reply names the entry that the commit answered, or none where it answered none
+pub record Tells (c : Committed) (told : InverseEnd) (hops : ℕ) (w : WriteReply) : Type 0 where
+  pub kind_is : w.kind ≡ c.kind
+  pub retry_is : w.written.retry ≡ c.wrote.retry
+  pub entry : IfSome c.wrote.entry (λ e. (w.written.changed ≡ true) × (w.written.position ≡ e.position) × (w.written.inverse ≡ told))
+  pub nothing : IfNone c.wrote.entry ((w.written.changed ≡ false) × (w.written.position ≡ 0) × (w.written.inverse ≡ inverse.None))
+  pub hops_is : w.hops ≡ hops
+
+-- the write was carried out: its stages came in order, and its reply tells what was committed, what became of the inverse, and all carries
+pub record IsCarriedOut (cs : List Came) (p : Plan) : Type 0 where
+  pub committed : Committed
+  pub told : InverseEnd
+  pub reply : WriteReply
+  pub answered : p.committed ≡ Some committed
+  pub stages : CameInOrder committed cs p.other told
+  pub reply_is : reply_of p ≡ Some (Called (OfWrite reply))
+  pub tells : Tells committed told (min (carries_of cs) most_hops) reply
+
+-- ---- a write that is refused
+
+-- the result refuses the write with the reply
+abbrev pub RefusesBy : WriteResult → Reply → Type 0
+RefusesBy (Commit (Err refused)) reply = refused ≡ reply
+RefusesBy (Inverse (Err (Refused refused))) reply = refused ≡ reply
+RefusesBy (End (Err (Refused refused))) reply = refused ≡ reply
+RefusesBy (Relay (Err refused)) reply = refused ≡ reply
+RefusesBy (Apply (Err refused)) reply = refused ≡ reply
+RefusesBy (Commit (Ok answer)) reply = ⊥
+RefusesBy (Inverse (Ok answer)) reply = ⊥
+RefusesBy (Inverse (Err (Scheduled why wrote))) reply = ⊥
+RefusesBy (End (Ok answer)) reply = ⊥
+RefusesBy (End (Err (Scheduled why wrote))) reply = ⊥
+RefusesBy (Relay (Ok answer)) reply = ⊥
+RefusesBy (Apply (Ok answer)) reply = ⊥
+
+-- its last result refused it, and is its reply
+pub record IsRefusedBy (cs : List Came) (p : Plan) : Type 0 where
+  pub reply : Reply
+  pub reply_is : reply_of p ≡ Some reply
+  pub before : List Came
+  pub last : Came
+  pub came_is : cs ≡ before ++ (last ∷ [])
+  pub refuses : RefusesBy last.result reply
+
+-- ---- laws
+
+-- what a plan is after these results
+pub record IsAfter (cs : List Came) (p : Plan) : Type 0 where
+  pub few : length cs ≤ 5
+  pub hops : p.hops ≡ min (carries_of cs) most_hops
+  pub done : next_of p ≡ Done → IsCarriedOut cs p ⊎ IsRefusedBy cs p
+
+-- a plan ends after five stages at most. Its write is then carried out, or refused by the last result
+pub record PlanLaws : Type 0 where
+  pub ends : (write : Write) (origin : Origin) (region tier : ℕ) (follower : NodeName) (cs : List Came) (p : Plan)
+      → Takes (new_plan write origin region tier follower) cs p → IsAfter cs p

@@ -1,0 +1,18 @@
+-- What contracts see of the plan of a write.
+use Rattle.write_plan.specs.Plans.{Plan}
+use Rattle.write_plan.specs.declared.plan.WritePlan.TheInside.{Inside}
+
+abbrev pub plan_seen : Inside → Plan
+plan_seen p = record {
+  write = p.write;
+  origin = p.origin;
+  region = p.region;
+  tier = p.tier;
+  follower = p.follower;
+  committed = p.committed;
+  job = p.job;
+  other = p.other;
+  back = p.back;
+  refused = p.refused;
+  hops = p.hops;
+}

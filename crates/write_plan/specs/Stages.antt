@@ -1,0 +1,25 @@
+-- Which stage a result comes of, and how a reply tells a stage.
+use Rattle.std.specs.Prelude.{Option, Some, None}
+use Rattle.replies.specs.declared.plans.Stage.{Stage}
+use Rattle.replies.specs.declared.plans.Stage.TheVariants as told
+use Rattle.write_plan.specs.declared.results.WriteResult.{WriteResult}
+use Rattle.write_plan.specs.declared.results.WriteResult.TheVariants as came
+use Rattle.write_plan.specs.declared.stage.WriteStage.{WriteStage}
+use Rattle.write_plan.specs.declared.stage.WriteStage.TheVariants.{Commit, Inverse, End, Relay, Apply, Done}
+
+-- how a reply tells a stage; none where nothing is left
+abbrev pub told_stage : WriteStage → Option Stage
+told_stage Commit = Some told.Commit
+told_stage Inverse = Some told.Inverse
+told_stage End = Some told.End
+told_stage Relay = Some told.Relay
+told_stage Apply = Some told.Apply
+told_stage Done = None
+
+-- the stage that a result came of
+abbrev pub result_stage : WriteResult → WriteStage
+result_stage (came.Commit answer) = Commit
+result_stage (came.Inverse answer) = Inverse
+result_stage (came.End answer) = End
+result_stage (came.Relay answer) = Relay
+result_stage (came.Apply answer) = Apply

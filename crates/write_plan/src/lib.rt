@@ -1,0 +1,17 @@
+//! The plan of a write: which stage follows, from the commit at the master's leader to the follower that was asked, and the
+//! reply that comes of it. A plan does no stage itself. Who has the nodes does the stage that is next and tells the plan what
+//! came of it, so a plan may be held between two stages.
+#![tactic(auto)]
+
+mod committed;
+pub mod laws;
+mod plan;
+mod progress;
+mod results;
+mod stage;
+
+pub use committed::Committed;
+pub use plan::{EndedWrite, WritePlan};
+pub use progress::{OtherEnd, WayBack};
+pub use results::{Late, WriteResult};
+pub use stage::WriteStage;

@@ -1,0 +1,318 @@
+//! `WritePlan`, the plan of a write.
+ghost use Rattle.std.specs.Prelude.{◌≡◌, ◌≢◌, IfOk, Some, option_copied, option_map};
+
+use crate::committed::Committed;
+use crate::progress::{OtherEnd, WayBack, reply_by, stage_after};
+use crate::results::{Late, WriteResult};
+use crate::stage::WriteStage;
+use node_name::NodeName;
+use replies::{Reply, When};
+use shard_log::Note;
+use shard_tables::Wrote;
+use std::marker::Model;
+use tao_base::{Entry, Origin, OutOfMemory, Write};
+use tao_keeper::Job;
+
+/// What a write leaves at its end.
+#[derive(Drop)]
+pub struct EndedWrite {
+    pub reply: Reply,
+    /// What its commit answered; none where that was refused.
+    pub committed: Option<Committed>,
+    /// What it wrote at the other end, as far as that is known.
+    pub other: Option<Wrote>,
+}
+
+/// The plan of a write: what came of the stages that were done, from which the next one and in the end the reply follow.
+///
+/// `note` alone takes memory, and each call costs constant time.
+#[derive(Drop)]
+pub struct WritePlan {
+    write: Write,
+    origin: Origin,
+    region: u16,
+    tier: u16,
+    follower: NodeName,
+    committed: Option<Committed>,
+    job: OtherEnd,
+    other: Option<Wrote>,
+    back: WayBack,
+    refused: Option<Reply>,
+    hops: u64,
+}
+
+impl Model for WritePlan {
+    ghost use Rattle.write_plan.specs.PlanView.{plan_seen};
+    ghost use Rattle.write_plan.specs.Plans.{Plan};
+
+    ghost Value = { Plan };
+
+    ghost view = { plan_seen };
+}
+
+impl WritePlan {
+    ghost use Rattle.replies.specs.declared.reply.Reply.{Reply};
+    ghost use Rattle.write_plan.specs.Plans.{after_late, after_result, after_stage, after_way, answered_entry, answered_job, new_plan, next_of, refused_by, reply_of, when_of, written_there};
+    ghost use Rattle.write_plan.specs.Stages.{result_stage};
+    ghost use Rattle.write_plan.specs.declared.stage.WriteStage.TheVariants.{Done};
+
+    /// The plan of a write that a session of a tier asked a follower for. Nothing of it is done yet.
+    pub fn begin(
+        write: Write,
+        origin: Origin,
+        region: u16,
+        tier: u16,
+        follower: NodeName,
+    ) -> WritePlan
+        ensures { result ≡ new_plan write origin region tier follower }
+    {
+        WritePlan {
+            write,
+            origin,
+            region,
+            tier,
+            follower,
+            committed: None,
+            job: OtherEnd::Due,
+            other: None,
+            back: WayBack::Ahead,
+            refused: None,
+            hops: 0,
+        }
+    }
+
+    /// The stage that is next.
+    pub fn next(&self) -> WriteStage
+        ensures { result ≡ next_of self.now }
+    {
+        if self.refused.is_some() {
+            return WriteStage::Done;
+        }
+        match &self.committed {
+            None => WriteStage::Commit,
+            Some(committed) => stage_after(committed, self.job, self.back),
+        }
+    }
+
+    /// What is to be written.
+    pub fn write(&self) -> &Write
+        ensures { result.now ≡ self.now.write }
+    {
+        &self.write
+    }
+
+    /// The session that asked for it, and the number of its write.
+    pub fn origin(&self) -> Origin
+        ensures { result ≡ self.now.origin }
+    {
+        self.origin
+    }
+
+    /// The place of the region that it is asked from.
+    pub fn region(&self) -> u16
+        ensures { result ≡ self.now.region }
+    {
+        self.region
+    }
+
+    /// The place of the tier that it is asked from, in its region.
+    pub fn tier(&self) -> u16
+        ensures { result ≡ self.now.tier }
+    {
+        self.tier
+    }
+
+    /// The follower that was asked.
+    pub fn follower(&self) -> NodeName
+        ensures { result ≡ self.now.follower }
+    {
+        self.follower
+    }
+
+    /// What the commit answered; none before it, and where it was refused.
+    pub fn committed(&self) -> Option<&Committed>
+        ensures { option_copied result ≡ self.now.committed }
+    {
+        self.committed.as_ref()
+    }
+
+    /// The entry in the answer of the commit; none exactly where it had none.
+    pub fn entry(&self) -> Option<&Entry>
+        ensures { option_copied result ≡ answered_entry self.now }
+    {
+        match &self.committed {
+            Some(committed) => committed.wrote.entry.as_ref(),
+            None => None,
+        }
+    }
+
+    /// The job in the answer of the commit; none exactly where it had none.
+    pub fn job(&self) -> Option<&Job>
+        ensures { option_copied result ≡ answered_job self.now }
+    {
+        match &self.committed {
+            Some(committed) => committed.wrote.job.as_ref(),
+            None => None,
+        }
+    }
+
+    /// Whether what ends the plan now ends it after its entry stands, which a refusal tells: where the commit answered an entry, also
+    /// one that stood there before.
+    pub fn when(&self) -> When
+        ensures { result ≡ when_of (answered_entry self.now) }
+    {
+        match self.entry() {
+            Some(entry) => When::After {
+                position: entry.position,
+            },
+            None => When::Before,
+        }
+    }
+
+    /// What was written at the other end, as far as that is known.
+    pub fn other(&self) -> Option<&Wrote>
+        ensures { option_copied result ≡ self.now.other }
+    {
+        self.other.as_ref()
+    }
+
+    /// How many carries over links the stages took so far. At its last value, 2^64 - 1, the number stands still.
+    pub fn hops(&self) -> u64
+        ensures { result ≡ self.now.hops }
+    {
+        self.hops
+    }
+
+    /// A second note of what was seen of the log of the write's shard, in which the answered entry stands; none exactly where
+    /// there is no answer of a commit. The one error is want of memory.
+    pub fn note(&mut self) -> Result<Option<Note>, OutOfMemory>
+        ensures same { self.new ≡ self.old }
+        ensures view { IfOk result (λ note. note ≡ option_map (λ c. c.wrote.note) self.old.committed) }
+    {
+        match &mut self.committed {
+            Some(committed) => Ok(Some(committed.wrote.note.split()?)),
+            None => Ok(None),
+        }
+    }
+
+    /// Takes what came of the stage that is next, and how many carries it took. What came of another stage changes nothing.
+    pub fn take(&mut self, came: WriteResult, hops: u64)
+        ensures next { result_stage came ≡ next_of self.old → self.new ≡ after_stage self.old came hops }
+        ensures other { result_stage came ≢ next_of self.old → self.new ≡ self.old }
+    {
+        if came.stage() == self.next() {
+            self.hops = self.hops.saturating_add(hops);
+            self.keep(came);
+        }
+    }
+
+    /// Keeps what came of a stage.
+    fn keep(&mut self, came: WriteResult)
+        ensures { self.new ≡ after_result self.old came }
+    {
+        match came {
+            WriteResult::Commit(answer) => self.keep_commit(answer),
+            WriteResult::Inverse(answer) => self.keep_inverse(answer),
+            WriteResult::End(answer) => self.keep_end(answer),
+            WriteResult::Relay(answer) => self.keep_way(answer, WayBack::Relayed),
+            WriteResult::Apply(answer) => self.keep_way(answer, WayBack::Applied),
+        }
+    }
+
+    fn keep_commit(&mut self, answer: Result<Committed, Reply>)
+        ensures { self.new ≡ after_result self.old (WriteResult.Commit answer) }
+    {
+        match answer {
+            Ok(committed) => self.committed = Some(committed),
+            Err(reply) => self.refuse(reply),
+        }
+    }
+
+    fn keep_inverse(&mut self, answer: Result<Wrote, Late>)
+        ensures { self.new ≡ after_result self.old (WriteResult.Inverse answer) }
+    {
+        match answer {
+            Ok(wrote) => {
+                self.job = OtherEnd::Merged;
+                self.know(Some(wrote));
+            }
+            Err(late) => self.keep_late(late),
+        }
+    }
+
+    fn keep_end(&mut self, answer: Result<(), Late>)
+        ensures { self.new ≡ after_result self.old (WriteResult.End answer) }
+    {
+        match answer {
+            Ok(()) => self.job = OtherEnd::Ended,
+            Err(late) => self.keep_late(late),
+        }
+    }
+
+    fn keep_late(&mut self, late: Late)
+        ensures { self.new ≡ after_late self.old late }
+    {
+        match late {
+            Late::Scheduled { why, wrote } => {
+                self.job = OtherEnd::Open { why };
+                self.know(wrote);
+            }
+            Late::Refused(reply) => self.refuse(reply),
+        }
+    }
+
+    fn keep_way(&mut self, answer: Result<(), Reply>, back: WayBack)
+        ensures { self.new ≡ after_way self.old answer back }
+    {
+        match answer {
+            Ok(()) => self.back = back,
+            Err(reply) => self.refuse(reply),
+        }
+    }
+
+    /// Keeps what was written at the other end.
+    fn know(&mut self, wrote: Option<Wrote>)
+        ensures { self.new ≡ record self.old { other = written_there self.old.other wrote } }
+    {
+        if self.other.is_none() {
+            self.other = wrote;
+        }
+    }
+
+    fn refuse(&mut self, reply: Reply)
+        ensures { self.new ≡ refused_by self.old reply }
+    {
+        self.refused = Some(reply);
+    }
+
+    /// The reply of a plan that is done, with what its commit answered and what was written at the other end.
+    pub fn into_parts(self) -> EndedWrite
+        requires { next_of self ≡ Done }
+        ensures reply { reply_of self ≡ Some result.reply }
+        ensures committed { result.committed ≡ self.committed }
+        ensures other { result.other ≡ self.other }
+    {
+        let WritePlan {
+            committed,
+            job,
+            other,
+            refused,
+            hops,
+            ..
+        } = self;
+        EndedWrite {
+            reply: reply_by(refused, &committed, job, hops),
+            committed,
+            other,
+        }
+    }
+
+    /// The reply of a plan that is done.
+    pub fn finish(self) -> Reply
+        requires { next_of self ≡ Done }
+        ensures { reply_of self ≡ Some result }
+    {
+        let EndedWrite { reply, .. } = self.into_parts();
+        reply
+    }
+}

@@ -1,5 +1,5 @@
 //! Reads of a store's own log, as fills for the caches above it.
-ghost use Rattle.std.specs.Prelude.{◌≡◌, ◌≤◌, ℕ, List, IfErr, IfOk, length};
+ghost use Rattle.std.specs.Prelude.{◌≡◌, ◌≤◌, ℕ, List, IfErr, IfOk, length, true};
 ghost use Rattle.counts.specs.Count.{Rose};
 ghost use Rattle.graph_model.specs.Answers.{answer as log_answer};
 ghost use Rattle.tao_base.specs.Queries.{query_key};
@@ -9,9 +9,10 @@ ghost use Rattle.graph_model.specs.Told.{WhereTold};
 ghost use Rattle.list_prefix.specs.Fronts.{IsFrontFor};
 ghost use Rattle.list_prefix.specs.ListPrefix.{CanBegin, list_prefix};
 ghost use Rattle.list_prefix.specs.Verdicts.{IsOfList};
+ghost use Rattle.sealed_item.specs.Decided.{content_answer, content_decides, query_bound};
 ghost use Rattle.shard_log.specs.View.{Begins};
 ghost use Rattle.shard_tables.specs.Refusals.{IsOfReads};
-ghost use Rattle.shard_tables.specs.ReadOuts.{AreNeeded, IsContentFor, IsFillFor, IsFilled, IsFor, IsReadOutOf, ContentDecides, needed_count, read_note};
+ghost use Rattle.shard_tables.specs.ReadOuts.{AreNeeded, IsFillFor, IsFilled, IsFor, IsReadOutOf, needed_count, read_note};
 ghost use Rattle.shard_tables.specs.Reads.{whole_answer};
 ghost use Rattle.shard_tables.specs.Stores.{IsStoreOf, note_of};
 ghost use Rattle.tao_base.specs.declared.entry.Entry.{Entry};
@@ -76,12 +77,14 @@ impl ReadOut {
 
 /// The answer to a query for which a fill was read: that of each log of which the fill is what the
 /// query reads. Copies what the answer gives.
+#[tactic(auto, using(crate::proofs::ReadLemmas::filled_answers))]
 pub fn answer_of_fill(fill: &Fill, schema: &Schema, query: &Query) -> Result<Answer, OutOfMemory>
     requires { IsFillFor (types_of schema.now) query.now fill.now }
     ensures { IfOk result (λ answer. (log : List Entry) → IsFilled (types_of schema.now) log query.now fill.now
         → answer ≡ log_answer (types_of schema.now) log query.now) }
 {
-    answer_of_content(fill.content(), schema, query)
+    let answer = answer_of_content(fill.content(), schema, query)?;
+    Ok(answer)
 }
 
 fn answer_of_content(
@@ -89,9 +92,8 @@ fn answer_of_content(
     schema: &Schema,
     query: &Query,
 ) -> Result<Answer, OutOfMemory>
-    requires { ContentDecides (types_of schema.now) query.now (query_key query.now) content.now }
-    ensures { IfOk result (λ answer. (log : List Entry) → IsContentFor (types_of schema.now) log query.now (query_key query.now) content.now
-        → answer ≡ log_answer (types_of schema.now) log query.now) }
+    requires { content_decides (types_of schema.now) content.now query.now ≡ true }
+    ensures { IfOk result (λ answer. answer ≡ content_answer (types_of schema.now) content.now query.now) }
 {
     match content {
         Content::Object(found) => {
@@ -112,18 +114,24 @@ fn copy_of_object(found: &Option<Object>) -> Result<Option<Object>, OutOfMemory>
 }
 
 fn answer_of_front(front: &Prefix, schema: &Schema, query: &Query) -> Result<Answer, OutOfMemory>
-    requires { ContentDecides (types_of schema.now) query.now (query_key query.now) (Content.List front.now) }
-    ensures { IfOk result (λ answer. (log : List Entry) → IsContentFor (types_of schema.now) log query.now (query_key query.now)
-        (Content.List front.now) → answer ≡ log_answer (types_of schema.now) log query.now) }
+    requires { content_decides (types_of schema.now) (Content.List front.now) query.now ≡ true }
+    ensures { IfOk result (λ answer. answer ≡ content_answer (types_of schema.now) (Content.List front.now) query.now) }
 {
-    let bound = match query.key() {
-        Key::Obj(_) => unreachable!(),
-        Key::List(_, atype) => schema.bound(atype),
-    };
+    let bound = bound_of(schema, query);
     let verdict = front.read(query, bound)?;
     match verdict {
         Verdict::Decided(answer) => Ok(answer),
         Verdict::Undecided => unreachable!(),
+    }
+}
+
+/// How many edges an answer to the query gives at most.
+fn bound_of(schema: &Schema, query: &Query) -> u64
+    ensures { result ≡ query_bound (types_of schema.now) query.now }
+{
+    match query.key() {
+        Key::Obj(_) => 0,
+        Key::List(_, atype) => schema.bound(atype),
     }
 }
 

@@ -8,7 +8,8 @@ use tao_base::{Entry, Id, Kind, Origin, Touches};
 
 /// The entry that adds an edge to an empty log.
 pub(crate) fn first_edge(alloc: Global, id1: Id, id2: Id) -> Result<Entry, AllocError>
-    ensures { IfOk result (λ entry. entry ≡ plain_add [] (Origin.Client 1 1) id1 LIKES id2 5 []) }
+    ensures { IfOk result (λ entry. entry ≡ plain_add [] (Origin.Client 1 1) id1 LIKES
+        (record { id2 = id2; time = 5; payload = []; stamp = record { number = 1; shard = shard_of id1 } })) }
 {
     let touch = set_touch(alloc, id1, LIKES, id2);
     Ok(Entry {

@@ -148,6 +148,7 @@ first_jobs_are_first m tables = record {
       let owed = open_jobs_are_owed.owed types (stores_of m tables) shard job.position job.edges u kept is h in (
         owed.0,
         owed.1,
+        owed.2,
         record {
           job = owed.1.job;
           first = λ p below.

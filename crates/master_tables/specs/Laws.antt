@@ -1,5 +1,6 @@
 -- What the calls of a keeper do to the tables, seen as steps of the stores of all shards.
 use Rattle.std.specs.Prelude.{ℕ, ◌≡◌, ◌<◌, Contains, Some, None}
+use Rattle.tao_base.specs.Ids.{shard_of}
 use Rattle.tao_base.specs.EdgeTypes.{EdgeTypes}
 use Rattle.tao_base.specs.declared.entry.Entry.{Entry}
 use Rattle.write_model.specs.Machine.{ClientWrite, IsFirstJob, Owed}
@@ -42,7 +43,8 @@ pub record CallsAreSteps (m : Masters) (old new : Tables) : Type 0 where
 pub record FirstJobsAreFirst (m : Masters) (tables : Tables) : Type 0 where
   pub first : (types : EdgeTypes) (shard : ℕ) (job : Job) (u : EdgeUpdate) → shard < m.shards → AreSoundAndCovered types (stores_of m tables)
       → IsLeastJob (tables (m.name shard)).jobs (Some job) → Contains job.edges u
-      → (by : Owed) × IsJobOf types (stores_of m tables) shard job.position job.edges u by × IsFirstJob types (stores_of m tables) by
+      → (by : Owed) × IsJobOf types (stores_of m tables) shard job.position job.edges by × (by.other ≡ shard_of u.0)
+      × IsFirstJob types (stores_of m tables) by
   pub none : (shard position : ℕ) → shard < m.shards → IsLeastJob (tables (m.name shard)).jobs None → (stores_of m tables).job shard position ≡ None
 
 -- these hold of all tables

@@ -22,7 +22,8 @@ pub record LongerContentsAnswer : Type 0 where
       → IsExactContent log (query_key query) at other → content_decides types one query ≡ true → content_decides types other query ≡ true
       → content_answer types one query ≡ content_answer types other query
 
--- the shortest front of an exact content that decides a query is exact, decides it and is within the bound, and so does the whole content. A content within the bound that has none leaves the query open
+-- the shortest front of an exact content that decides a query is exact, decides it and is within the bound, and the whole content decides it.
+-- A content within the bound that has none leaves the query open
 pub record FrontsDecide (types : EdgeTypes) (query : Query) (content : Content) : Type 0 where
   pub exact : (log : List Entry) (at : ℕ) (front : Content) → IsContentFront types content query (Some front)
       → IsExactContent log (query_key query) at content → IsExactContent log (query_key query) at front

@@ -14,25 +14,23 @@ use Rattle.tao_base.specs.declared.id.Key.TheVariants.{Obj, List as Assocs}
 use Rattle.tao_base.specs.declared.query.Answer.{Answer}
 use Rattle.tao_base.specs.declared.query.Query.{Query}
 use Rattle.tao_base.specs.declared.query.Query.TheVariants.{ObjGet, AssocGet, AssocCount, AssocRange, AssocTimeRange}
-use Rattle.graph_model.proofs.Decided.{decides_rightly}
-use Rattle.graph_model.proofs.Lists.{in_order_list}
 use Rattle.graph_model.specs.Answers.{answer as log_answer, list_answer}
 use Rattle.tao_base.specs.Queries.{query_key}
-use Rattle.graph_model.specs.Edges.{IsInListOrder, edge_list}
-use Rattle.graph_model.specs.Log.{changes_of, object, version}
+use Rattle.graph_model.specs.Edges.{edge_list}
+use Rattle.graph_model.specs.Log.{object, version}
 use Rattle.graph_model.specs.Prefixes.{decides}
 use Rattle.list_prefix.specs.Fronts.{IsFrontFor, IsLeftOpen, IsShortestFront}
 use Rattle.list_prefix.specs.ListPrefix.{ListPrefix, list_prefix}
-use Rattle.list_prefix.specs.Verdicts.{IsOfList, verdict_of}
-use Rattle.list_prefix.specs.declared.prefix.Verdict.{Verdict}
-use Rattle.list_prefix.specs.declared.prefix.Verdict.TheVariants.{Decided, Undecided}
+use Rattle.list_prefix.specs.Verdicts.{IsOfList}
 use Rattle.shard_log.proofs.Beginnings.{begins-length}
 use Rattle.shard_log.specs.View.{View, Begins}
+use Rattle.sealed_item.proofs.Deciding.{contents_answer, fronts_decide}
 use Rattle.sealed_item.proofs.FillLemmas.{beginning_is_sealed}
+use Rattle.sealed_item.specs.Decided.{IsContentFront, content_answer, query_bound}
 use Rattle.sealed_item.specs.FillLaws.{front_of}
-use Rattle.sealed_item.specs.Fills.{SealedItem, IsFill, sealed_item}
+use Rattle.sealed_item.specs.Fills.{SealedItem, IsExactContent, IsFill, sealed_item}
 use Rattle.sealed_item.specs.declared.content.Content.TheVariants.{Object as ObjectIs, List as ListIs}
-use Rattle.shard_tables.specs.ReadOuts.{AreNeeded, IsContentFor, IsFilled, IsOpenAt, needed_count, whole_list}
+use Rattle.shard_tables.specs.ReadOuts.{AreNeeded, HasTotal, IsFilled, IsOpenList, needed_count, whole_content, whole_list}
 use Rattle.shard_tables.specs.Reads.{AnswersAtVersion}
 
 -- a front of a list's first edges is one of the list
@@ -136,6 +134,17 @@ answer_at types log (AssocCount id1 atype) h = refl
 answer_at types log (AssocRange id1 atype pos limit) h = refl
 answer_at types log (AssocTimeRange id1 atype high low limit) h = refl
 
+-- how many edges an answer to a query of a list gives at most
+bound_is : (types : EdgeTypes) (query : Query) (id1 : Id) (atype : AType) → query_key query ≡ Assocs id1 atype → query_bound types query ≡ types.bound atype
+bound_is types query id1 atype key = by query ∙ ap (bound_at types) key
+  where
+    by : (q : Query) → query_bound types q ≡ bound_at types (query_key q)
+    by (ObjGet id) = refl
+    by (AssocGet other a ids high low) = refl
+    by (AssocCount other a) = refl
+    by (AssocRange other a pos limit) = refl
+    by (AssocTimeRange other a high low limit) = refl
+
 -- what a log answers to a query of a list is what the list answers
 answer_is : (types : EdgeTypes) (log : List Entry) (query : Query) (id1 : Id) (atype : AType) → query_key query ≡ Assocs id1 atype
     → log_answer types log query ≡ list_answer (types.bound atype) (edge_list log id1 atype) (length (edge_list log id1 atype)) query
@@ -185,14 +194,15 @@ module _ (log later : List Entry) (id1 : Id) (atype : AType) (query : Query) (bo
       subst (IsFilled types log query) (sym made) (record {
         version_is = at ∙ ap (version log) (sym key);
         as_of_is = of;
-        content_is = subst (λ k. IsContentFor types log query k (ListIs front)) (sym key) (subst (λ b. IsShortestFront (whole_list log id1 atype) query b front) bounded whole);
+        content_is = subst (λ k. IsContentFront types (whole_content log k) query (Some (ListIs front))) (sym key)
+            (subst (λ b. IsShortestFront (whole_list log id1 atype) query b front) (bounded ∙ sym (bound_is types query id1 atype key)) whole);
       })
 
   -- the answer where no front within the bound decides the query
   pub list_past : (types : EdgeTypes) (last : List Entry) (v : ℕ) (answer : Answer) → query_key query ≡ Assocs id1 atype → bound ≡ types.bound atype
       → v ≡ version log (Assocs id1 atype) → IsLeftOpen bound edges total query → last ≡ later
       → answer ≡ list_answer bound (edge_list last id1 atype) (length (edge_list last id1 atype)) query
-      → AnswersAtVersion types log query answer v × IsOpenAt types log query (query_key query) total
+      → AnswersAtVersion types log query answer v × IsOpenList types log query total
   list_past types last v answer key bounded at is still answers =
       let whole : IsLeftOpen bound (edge_list log id1 atype) (length (edge_list log id1 atype)) query = front_in_log None is in (
         record {
@@ -200,35 +210,31 @@ module _ (log later : List Entry) (id1 : Id) (atype : AType) (query : Query) (bo
               ∙ ap (λ b. list_answer b (edge_list log id1 atype) (length (edge_list log id1 atype)) query) bounded ∙ sym (answer_is types log query id1 atype key);
           version_is = at ∙ ap (version log) (sym key);
         },
-        subst (λ k. IsOpenAt types log query k total) (sym key) (record {
-          total_is = needed.total_is ∙ ap (λ l. length (edge_list l id1 atype)) same;
-          left_open = subst (λ b. IsLeftOpen b (edge_list log id1 atype) (length (edge_list log id1 atype)) query) bounded whole;
-        }),
+        record {
+          total_is = subst (λ k. HasTotal (whole_content log k) total) (sym key) (needed.total_is ∙ ap (λ l. length (edge_list l id1 atype)) same);
+          left_open = subst (λ k. IsContentFront types (whole_content log k) query None) (sym key)
+              (subst (λ b. IsLeftOpen b (edge_list log id1 atype) (length (edge_list log id1 atype)) query) (bounded ∙ sym (bound_is types query id1 atype key)) whole);
+        },
       )
 
--- the shortest front of a list that decides the query answers as the list
-shortest_answers : (list : List Edge) (query : Query) (bound : ℕ) (front : ListPrefix) → IsInListOrder list → IsShortestFront (list_prefix list (length list)) query bound front
-    → list_answer bound front.edges front.total query ≡ list_answer bound list (length list) query
-shortest_answers list query bound front order is =
-    let within : is.count ≤ min (length list) bound = is.shortest.within in
-    let cut : length (take is.count list) ≡ is.count = length-take is.count list ∙ omega arith in
-    ap (λ p. list_answer bound p.edges p.total query) is.is
-    ∙ decides_rightly bound (take is.count list) (length list) query is.shortest.decided list
-    (record { begins = ap (λ n. take n list) (sym cut); length_is = refl }) order
+-- all that a log has at a key is exact at the key's version
+whole_exact : (log : List Entry) (key : Key) → IsExactContent log key (version log key) (whole_content log key)
+whole_exact log (Obj id) =
+    subst (λ l. IsExactContent log (Obj id) (version l (Obj id)) (ObjectIs (object l id))) (take_all (length log) log (omega arith))
+    ((beginning_is_sealed log (length log)).object_is id (omega arith)).exact
+whole_exact log (Assocs id1 atype) =
+    let list : List Edge = edge_list log id1 atype in
+    subst (λ es. IsExactContent log (Assocs id1 atype) (version log (Assocs id1 atype)) (ListIs (list_prefix es (length list)))) (take_all (length list) list (omega arith))
+    (subst (λ l. IsExactContent log (Assocs id1 atype) (version l (Assocs id1 atype)) (ListIs (front_of (length list) l id1 atype))) (take_all (length log) log (omega arith))
+    ((beginning_is_sealed log (length log)).list_is id1 atype (length list) (omega arith)).exact)
 
--- the front of a list's fill answers as the log
-pub front_answers : (types : EdgeTypes) (log : List Entry) (query : Query) (id1 : Id) (atype : AType) (bound : ℕ) (front : ListPrefix) → query_key query ≡ Assocs id1 atype
-    → bound ≡ types.bound atype → IsContentFor types log query (query_key query) (ListIs front) → list_answer bound front.edges front.total query ≡ log_answer types log query
-front_answers types log query id1 atype bound front key bounded is =
-    let shortest : IsShortestFront (whole_list log id1 atype) query (types.bound atype) front = subst (λ k. IsContentFor types log query k (ListIs front)) key is in
-    ap (λ b. list_answer b front.edges front.total query) bounded
-    ∙ shortest_answers (edge_list log id1 atype) query (types.bound atype) front (in_order_list (changes_of log (Assocs id1 atype))) shortest
-    ∙ sym (answer_is types log query id1 atype key)
-
--- what a prefix answers where it decides
-pub decided_is : (p : ListPrefix) (query : Query) (bound : ℕ) (verdict : Verdict) (answer : Answer) → verdict ≡ verdict_of p query bound → verdict ≡ Decided answer
-    → answer ≡ list_answer bound p.edges p.total query
-decided_is p query bound verdict answer is so = elim (cases_Bool (decides bound p.edges p.total query)) [
-  | inl on ↦ let e : verdict ≡ Decided (list_answer bound p.edges p.total query) = rw on at is in cc
-  | inr off ↦ let e : verdict ≡ Undecided = rw off at is in absurd (cc)
-]
+-- a fill of what the whole log has answers as the log
+pub filled_answers : (types : EdgeTypes) (log : List Entry) (query : Query) (fill : SealedItem) → IsFilled types log query fill
+    → content_answer types fill.content query ≡ log_answer types log query
+filled_answers types log query fill is =
+    let at : ℕ = version log (query_key query) in
+    let law = fronts_decide types query (whole_content log (query_key query)) in
+    let exact = law.exact log at fill.content is.content_is (whole_exact log (query_key query)) in
+    let whole : take (length log) log ≡ log = take_all (length log) log (omega arith) in
+    (contents_answer.answers types log query at fill.content exact (law.decided fill.content is.content_is)).gives (length log) (ap (λ l. version l (query_key query)) whole)
+    ∙ ap (λ l. log_answer types l query) whole

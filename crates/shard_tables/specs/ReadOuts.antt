@@ -1,5 +1,5 @@
 -- What a read of a store hands out: a fill, or the answer to a query that no front within the bound decides.
-use Rattle.std.specs.Prelude.{ℕ, ◌+◌, ◌≤◌, ◌≡◌, ⊤, true, List, length, min, take}
+use Rattle.std.specs.Prelude.{ℕ, ◌+◌, ◌≡◌, ⊤, true, List, length, min, take, Some, None}
 use Rattle.tao_base.specs.EdgeTypes.{EdgeTypes}
 use Rattle.tao_base.specs.declared.edge.Edge.{Edge}
 use Rattle.tao_base.specs.declared.entry.Entry.{Entry}
@@ -12,10 +12,9 @@ use Rattle.tao_base.specs.declared.query.Query.TheVariants.{ObjGet, AssocGet, As
 use Rattle.tao_base.specs.Queries.{query_key}
 use Rattle.graph_model.specs.Edges.{edge_list}
 use Rattle.graph_model.specs.Log.{object, version as version_of}
-use Rattle.graph_model.specs.Prefixes.{decides}
-use Rattle.list_prefix.specs.Fronts.{IsLeftOpen, IsShortestFront}
 use Rattle.list_prefix.specs.ListPrefix.{ListPrefix, list_prefix}
 use Rattle.shard_log.specs.View.{View}
+use Rattle.sealed_item.specs.Decided.{IsContentFront, IsWithinBound, content_decides}
 use Rattle.sealed_item.specs.Fills.{SealedItem}
 use Rattle.sealed_item.specs.declared.content.Content.{Content}
 use Rattle.sealed_item.specs.declared.content.Content.TheVariants.{Object as ObjectIs, List as ListIs}
@@ -27,49 +26,37 @@ use Rattle.shard_tables.specs.declared.read_out.ReadOut.TheVariants.{Filled, Pas
 abbrev pub whole_list : List Entry → Id → AType → ListPrefix
 whole_list log id1 atype = list_prefix (edge_list log id1 atype) (length (edge_list log id1 atype))
 
--- what the log has at the key for the query: the object, or the shortest front of the list that decides the query
-abbrev pub IsContentFor : EdgeTypes → List Entry → Query → Key → Content → Type 0
-IsContentFor types log query (Obj id) (ObjectIs found) = found ≡ object log id
-IsContentFor types log query (Obj id) (ListIs prefix) = ⊥
-IsContentFor types log query (Assocs id1 atype) (ListIs prefix) = IsShortestFront (whole_list log id1 atype) query (types.bound atype) prefix
-IsContentFor types log query (Assocs id1 atype) (ObjectIs found) = ⊥
+-- what the log has at the key: the object, or all of the list
+abbrev pub whole_content : List Entry → Key → Content
+whole_content log (Obj id) = ObjectIs (object log id)
+whole_content log (Assocs id1 atype) = ListIs (whole_list log id1 atype)
 
--- the fill is what the whole log has at the query's key
+-- the fill is what the whole log has for the query: the object, or the shortest front of the list that decides the query
 pub record IsFilled (types : EdgeTypes) (log : List Entry) (query : Query) (fill : SealedItem) : Type 0 where
   pub version_is : fill.version ≡ version_of log (query_key query)
   pub as_of_is : fill.as_of ≡ length log
-  pub content_is : IsContentFor types log query (query_key query) fill.content
+  pub content_is : IsContentFront types (whole_content log (query_key query)) query (Some fill.content)
 
--- the list has that length, and none of its fronts within the bound decides the query
-pub record IsOpenList (types : EdgeTypes) (log : List Entry) (query : Query) (id1 : Id) (atype : AType) (total : ℕ) : Type 0 where
-  pub total_is : total ≡ length (edge_list log id1 atype)
-  pub left_open : IsLeftOpen (types.bound atype) (edge_list log id1 atype) (length (edge_list log id1 atype)) query
+-- the content is a list of that length
+abbrev pub HasTotal : Content → ℕ → Type 0
+HasTotal (ObjectIs found) total = ⊥
+HasTotal (ListIs prefix) total = total ≡ prefix.total
 
-abbrev pub IsOpenAt : EdgeTypes → List Entry → Query → Key → ℕ → Type 0
-IsOpenAt types log query (Obj id) total = ⊥
-IsOpenAt types log query (Assocs id1 atype) total = IsOpenList types log query id1 atype total
+-- the log has a list of that length for the query, and none of its fronts within the bound decides the query
+pub record IsOpenList (types : EdgeTypes) (log : List Entry) (query : Query) (total : ℕ) : Type 0 where
+  pub total_is : HasTotal (whole_content log (query_key query)) total
+  pub left_open : IsContentFront types (whole_content log (query_key query)) query None
 
 -- what is read of the log: a fill where a front within the bound decides the query, and else the answer
 abbrev pub IsReadOutOf : EdgeTypes → List Entry → Query → ReadOut → Type 0
 IsReadOutOf types log query (Filled fill) = IsFilled types log query fill
-IsReadOutOf types log query (Past answer version total note) = AnswersAtVersion types log query answer version × IsOpenAt types log query (query_key query) total
+IsReadOutOf types log query (Past answer version total note) = AnswersAtVersion types log query answer version × IsOpenList types log query total
 
--- the first edges of a list decide the query, and are no more than the bound
-pub record DecidesWithin (bound : ℕ) (query : Query) (prefix : ListPrefix) : Type 0 where
-  pub few : length prefix.edges ≤ bound
-  pub decided : decides bound prefix.edges prefix.total query ≡ true
-
--- the content is of the key's kind, and answers the query
-abbrev pub ContentDecides : EdgeTypes → Query → Key → Content → Type 0
-ContentDecides types query (Obj id) (ObjectIs found) = ⊤
-ContentDecides types query (Obj id) (ListIs prefix) = ⊥
-ContentDecides types query (Assocs id1 atype) (ListIs prefix) = DecidesWithin (types.bound atype) query prefix
-ContentDecides types query (Assocs id1 atype) (ObjectIs found) = ⊥
-
--- told or not, the fill is of the query's key, and answers the query
+-- told or not, the fill is of the query's key, and decides the query with no more edges than the bound
 pub record IsFillFor (types : EdgeTypes) (query : Query) (fill : SealedItem) : Type 0 where
   pub key_is : fill.key ≡ query_key query
-  pub serves : ContentDecides types query (query_key query) fill.content
+  pub decided : content_decides types fill.content query ≡ true
+  pub within : IsWithinBound types (query_key query) fill.content
 
 -- told or not, what is read is for the query
 abbrev pub IsFor : EdgeTypes → Query → ReadOut → Type 0

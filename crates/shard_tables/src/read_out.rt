@@ -1,5 +1,6 @@
 //! Reads of a store's own log, as fills for the caches above it.
-ghost use Rattle.std.specs.Prelude.{◌≡◌, ◌≤◌, ℕ, List, IfErr, IfOk, length};
+ghost use Rattle.std.specs.Prelude.{◌≡◌, ◌≤◌, ℕ, List, IfErr, IfOk, length, true};
+ghost use Rattle.counts.specs.Count.{Rose};
 ghost use Rattle.graph_model.specs.Answers.{answer as log_answer};
 ghost use Rattle.tao_base.specs.Queries.{query_key};
 ghost use Rattle.graph_model.specs.Edges.{edge_list};
@@ -8,9 +9,10 @@ ghost use Rattle.graph_model.specs.Told.{WhereTold};
 ghost use Rattle.list_prefix.specs.Fronts.{IsFrontFor};
 ghost use Rattle.list_prefix.specs.ListPrefix.{CanBegin, list_prefix};
 ghost use Rattle.list_prefix.specs.Verdicts.{IsOfList};
+ghost use Rattle.sealed_item.specs.Decided.{content_answer, content_decides, query_bound};
 ghost use Rattle.shard_log.specs.View.{Begins};
 ghost use Rattle.shard_tables.specs.Refusals.{IsOfReads};
-ghost use Rattle.shard_tables.specs.ReadOuts.{AreNeeded, IsContentFor, IsFillFor, IsFilled, IsFor, IsReadOutOf, ContentDecides, needed_count, read_note};
+ghost use Rattle.shard_tables.specs.ReadOuts.{AreNeeded, IsFillFor, IsFilled, IsFor, IsReadOutOf, needed_count, read_note};
 ghost use Rattle.shard_tables.specs.Reads.{whole_answer};
 ghost use Rattle.shard_tables.specs.Stores.{IsStoreOf, note_of};
 ghost use Rattle.tao_base.specs.declared.entry.Entry.{Entry};
@@ -75,12 +77,14 @@ impl ReadOut {
 
 /// The answer to a query for which a fill was read: that of each log of which the fill is what the
 /// query reads. Copies what the answer gives.
+#[tactic(auto, using(crate::proofs::ReadLemmas::filled_answers))]
 pub fn answer_of_fill(fill: &Fill, schema: &Schema, query: &Query) -> Result<Answer, OutOfMemory>
     requires { IsFillFor (types_of schema.now) query.now fill.now }
     ensures { IfOk result (λ answer. (log : List Entry) → IsFilled (types_of schema.now) log query.now fill.now
         → answer ≡ log_answer (types_of schema.now) log query.now) }
 {
-    answer_of_content(fill.content(), schema, query)
+    let answer = answer_of_content(fill.content(), schema, query)?;
+    Ok(answer)
 }
 
 fn answer_of_content(
@@ -88,9 +92,8 @@ fn answer_of_content(
     schema: &Schema,
     query: &Query,
 ) -> Result<Answer, OutOfMemory>
-    requires { ContentDecides (types_of schema.now) query.now (query_key query.now) content.now }
-    ensures { IfOk result (λ answer. (log : List Entry) → IsContentFor (types_of schema.now) log query.now (query_key query.now) content.now
-        → answer ≡ log_answer (types_of schema.now) log query.now) }
+    requires { content_decides (types_of schema.now) content.now query.now ≡ true }
+    ensures { IfOk result (λ answer. answer ≡ content_answer (types_of schema.now) content.now query.now) }
 {
     match content {
         Content::Object(found) => {
@@ -111,18 +114,24 @@ fn copy_of_object(found: &Option<Object>) -> Result<Option<Object>, OutOfMemory>
 }
 
 fn answer_of_front(front: &Prefix, schema: &Schema, query: &Query) -> Result<Answer, OutOfMemory>
-    requires { ContentDecides (types_of schema.now) query.now (query_key query.now) (Content.List front.now) }
-    ensures { IfOk result (λ answer. (log : List Entry) → IsContentFor (types_of schema.now) log query.now (query_key query.now)
-        (Content.List front.now) → answer ≡ log_answer (types_of schema.now) log query.now) }
+    requires { content_decides (types_of schema.now) (Content.List front.now) query.now ≡ true }
+    ensures { IfOk result (λ answer. answer ≡ content_answer (types_of schema.now) (Content.List front.now) query.now) }
 {
-    let bound = match query.key() {
-        Key::Obj(_) => unreachable!(),
-        Key::List(_, atype) => schema.bound(atype),
-    };
+    let bound = bound_of(schema, query);
     let verdict = front.read(query, bound)?;
     match verdict {
         Verdict::Decided(answer) => Ok(answer),
         Verdict::Undecided => unreachable!(),
+    }
+}
+
+/// How many edges an answer to the query gives at most.
+fn bound_of(schema: &Schema, query: &Query) -> u64
+    ensures { result ≡ query_bound (types_of schema.now) query.now }
+{
+    match query.key() {
+        Key::Obj(_) => 0,
+        Key::List(_, atype) => schema.bound(atype),
     }
 }
 
@@ -170,6 +179,7 @@ impl StoreNode {
         ensures logs { LogsGrow M.TELLS (M.state keeper.old).told (M.state keeper.new).told }
         ensures same { self.new ≡ self.old }
         ensures keeper { IsStoreOf M.TELLS (M.state keeper.new).told self.new }
+        ensures asked { IfOk result (λ _. Rose (M.state keeper.old).calls (M.state keeper.new).calls) }
         ensures calls { CallsKeeper StoreRefusal.KeeperFault (M.state keeper.old) (M.state keeper.new) result }
     {
         let note = self.note()?;
@@ -193,6 +203,7 @@ fn read_out<M: Keeper>(
     ensures note { IfOk result (λ out. read_note out ≡ note) }
     ensures refused { IfErr result IsOfReads }
     ensures stays { KeepsTables M.TELLS (M.state keeper.old) (M.state keeper.new) }
+    ensures asked { IfOk result (λ _. Rose (M.state keeper.old).calls (M.state keeper.new).calls) }
     ensures calls { CallsKeeper StoreRefusal.KeeperFault (M.state keeper.old) (M.state keeper.new) result }
 {
     let found = match query.key() {
@@ -217,6 +228,7 @@ fn read_object<M: Keeper>(
     ensures fits { IfOk result (IsFor (types_of schema.now) query.now) }
     ensures note { IfOk result (λ out. read_note out ≡ note) }
     ensures stays { KeepsTables M.TELLS (M.state keeper.old) (M.state keeper.new) }
+    ensures asked { IfOk result (λ _. Rose (M.state keeper.old).calls (M.state keeper.new).calls) }
     ensures calls { CallsKeeper KeepFail.Failed (M.state keeper.old) (M.state keeper.new) result }
 {
     let Reach { version, length } = reached(keeper, at, Key::Obj(id))?;
@@ -241,6 +253,7 @@ fn read_list<M: Keeper>(
     ensures fits { IfOk result (IsFor (types_of schema.now) query.now) }
     ensures note { IfOk result (λ out. read_note out ≡ note) }
     ensures stays { KeepsTables M.TELLS (M.state keeper.old) (M.state keeper.new) }
+    ensures asked { IfOk result (λ _. Rose (M.state keeper.old).calls (M.state keeper.new).calls) }
     ensures calls { CallsKeeper KeepFail.Failed (M.state keeper.old) (M.state keeper.new) result }
 {
     let bound = schema.bound(atype);
@@ -270,6 +283,7 @@ fn reached<M: Keeper>(keeper: &mut M, at: StoreName, key: Key) -> Result<Reach, 
     ensures version { WhereTold M.TELLS (IfOk result (λ reached. reached.version ≡ version_of ((M.state keeper.old).told at).log key)) }
     ensures length { WhereTold M.TELLS (IfOk result (λ reached. reached.length ≡ length ((M.state keeper.old).told at).log)) }
     ensures stays { KeepsTables M.TELLS (M.state keeper.old) (M.state keeper.new) }
+    ensures asked { IfOk result (λ _. Rose (M.state keeper.old).calls (M.state keeper.new).calls) }
     ensures calls { CallsKeeper KeepFail.Failed (M.state keeper.old) (M.state keeper.new) result }
 {
     let version = keeper.version(at, key)?;

@@ -64,7 +64,8 @@ fn stamp(id1: Id) -> Stamp
 
 /// The first entry of a log, which sets an edge.
 fn set_edge(alloc: Global, id1: Id, id2: Id, time: Time) -> Result<Entry, AllocError>
-    ensures { IfOk result (λ entry. entry ≡ plain_add [] (Origin.Client 1 1) id1 LIKES id2 time []) }
+    ensures { IfOk result (λ entry. entry ≡ plain_add [] (Origin.Client 1 1) id1 LIKES
+        (record { id2 = id2; time = time; payload = []; stamp = record { number = 1; shard = shard_of id1 } })) }
 {
     let edge = Edge {
         id2,

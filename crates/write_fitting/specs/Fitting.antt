@@ -59,10 +59,12 @@ cuts other DropObject = false
 
 -- whether the first touch is the write's
 abbrev pub fits_first : Write → Key → Change → Bool
-fits_first (ObjAdd shard otype payload) key change = puts (λ id object. shard_of id == shard && object.otype.0 == otype.0 && same_data object.payload payload) key change
+fits_first (ObjAdd shard otype payload) key change =
+    puts (λ id object. shard_of id == shard && object.otype.0 == otype.0 && same_data object.payload payload) key change
 fits_first (ObjUpdate id payload) key change = puts (λ other object. other == id && same_data object.payload payload) key change
 fits_first (ObjDelete id) key change = drops id key change
-fits_first (AssocAdd id1 atype id2 time payload) key change = is_list id1 atype key && sets (λ edge. edge.id2 == id2 && edge.time == time && same_data edge.payload payload) change
+fits_first (AssocAdd id1 atype id2 time payload) key change =
+    is_list id1 atype key && sets (λ edge. edge.id2 == id2 && edge.time == time && same_data edge.payload payload) change
 fits_first (AssocDelete id1 atype id2) key change = is_list id1 atype key && cuts id2 change
 fits_first (AssocChangeType id1 atype id2 newtype) key change = is_list id1 atype key && cuts id2 change
 

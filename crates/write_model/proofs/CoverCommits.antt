@@ -1,5 +1,5 @@
 -- A commit with its job keeps the stores sound and covered.
-use Rattle.std.proofs.Common.{◌≡◌, ◌≢◌, ℕ, ◌+◌, ◌⊎◌, List, [], ◌∷◌, length, inl, inr, refl, sym, ap, ◌∙◌, subst, arith}
+use Rattle.std.proofs.Common.{◌≡◌, ◌≢◌, ℕ, ◌+◌, ◌⊎◌, List, [], ◌∷◌, length, inl, inr, refl, sym, ap, ◌∙◌, subst, arith, take}
 use Rattle.std.proofs.lemmas.Bool.{cases_eq}
 use Rattle.std.proofs.lemmas.List.Elements.{All-nil, All-weaker}
 use Rattle.std.proofs.lemmas.Option.{same_Some}
@@ -33,7 +33,7 @@ pub record KeepsCover (types : EdgeTypes) (old new : Stores) (shard : ℕ) (e : 
   pub jobs : (s p : ℕ) (us : List EdgeUpdate) → new.job s p ≡ Some us → IsJob types (log_of new.logs s) p us
   pub still_open : (s p : ℕ) (x : Entry) → entry_at (log_of old.logs s) p ≡ Some x → IsSome (old.job s p) → IsSome (new.job s p)
   pub owed : IsTrue (is_client e.origin) → All (λ u. IsSome (new.job shard (length (log_of old.logs shard) + 1)) ⊎ HasStamp (log_of new.logs (shard_of u.0)) u) (job_of types e)
-  pub merge : (from source : ℕ) → e.origin ≡ Merge from source → IsMergeAt types (log_of new.logs) shard (length (log_of old.logs shard) + 1) e from source
+  pub merge : (from source : ℕ) → e.origin ≡ Merge from source → IsMergeAt types (log_of new.logs) (take (length (log_of old.logs shard) + 1) (log_of new.logs shard)) e from source
   pub numbers : (u : EdgeUpdate) → Contains (updates_of e) u → (stamp_of u.3).number ≤ sum_by length old.logs + 1
 
 module _ (types : EdgeTypes) (old new : Stores) (shard : ℕ) (e : Entry) (g : IsGain types old.logs new.logs shard e) (was : AreSoundAndCovered types old) (k : KeepsCover types old new shard e) where
@@ -59,13 +59,14 @@ module _ (types : EdgeTypes) (old new : Stores) (shard : ℕ) (e : Entry) (g : I
         (subst (λ i. All (λ u. IsSome (new.job shard i) ⊎ HasStamp (log_of new.logs (shard_of u.0)) u) (job_of types e)) (sym last.1) (k.owed client))))
   ]
 
-  merges_new : (s p : ℕ) (x : Entry) (from source : ℕ) → entry_at (log_of new.logs s) p ≡ Some x → x.origin ≡ Merge from source → IsMergeAt types (log_of new.logs) s p x from source
+  merges_new : (s p : ℕ) (x : Entry) (from source : ℕ) → entry_at (log_of new.logs s) p ≡ Some x → x.origin ≡ Merge from source
+      → IsMergeAt types (log_of new.logs) (take p (log_of new.logs s)) x from source
   merges_new s p x from source at origin = elim (gained_entry types old.logs new.logs shard e g s p x at) [
     | inl before ↦ merge_stays types old new grown s p x from source before (was.covered.merges s p x from source before origin)
     | inr last ↦ (
-        subst (λ y. IsMergeAt types (log_of new.logs) s p y from source) last.2
-        (subst (λ i. IsMergeAt types (log_of new.logs) i p e from source) (sym last.0)
-        (subst (λ i. IsMergeAt types (log_of new.logs) shard i e from source) (sym last.1) (k.merge from source (ap (λ y. y.origin) last.2 ∙ origin)))))
+        subst (λ y. IsMergeAt types (log_of new.logs) (take p (log_of new.logs s)) y from source) last.2
+        (subst (λ i. IsMergeAt types (log_of new.logs) (take p (log_of new.logs i)) e from source) (sym last.0)
+        (subst (λ i. IsMergeAt types (log_of new.logs) (take i (log_of new.logs shard)) e from source) (sym last.1) (k.merge from source (ap (λ y. y.origin) last.2 ∙ origin)))))
   ]
 
   number_here : (id1 : Id) (atype : AType) (id2 : Id) (o : Option EdgeState) → edge_record (e ∷ []) id1 atype id2 ≡ o

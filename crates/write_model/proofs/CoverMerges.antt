@@ -93,14 +93,14 @@ module _ (types : EdgeTypes) (old new : Stores) (owed : Owed) (match : InversesM
         let longer : length (log_of new.logs owed.other) ≡ length log + 1 = ap length here ∙ length-append log (m.merged ∷ []) in
         take_all (length log + 1) (log_of new.logs owed.other) (omega (arith, longer))
 
-    merge_at : (from source : ℕ) → m.merged.origin ≡ Merge from source → IsMergeAt types (log_of new.logs) owed.other (length log + 1) m.merged from source
+    merge_at : (from source : ℕ) → m.merged.origin ≡ Merge from source → IsMergeAt types (log_of new.logs) (take (length log + 1) (log_of new.logs owed.other)) m.merged from source
     merge_at from source origin =
         let same : Merge owed.shard e.position ≡ Merge from source = sym origin_is ∙ origin in
         let from_is : owed.shard ≡ from = cc in
         let source_is : e.position ≡ source = cc in
         let stands = client_stays types old new grown owed.shard e.position e h.owes.stands in
-        subst (λ s. IsMergeAt types (log_of new.logs) owed.other (length log + 1) m.merged s source) from_is
-        (subst (λ p. IsMergeAt types (log_of new.logs) owed.other (length log + 1) m.merged owed.shard p) source_is
+        subst (λ s. IsMergeAt types (log_of new.logs) (take (length log + 1) (log_of new.logs owed.other)) m.merged s source) from_is
+        (subst (λ p. IsMergeAt types (log_of new.logs) (take (length log + 1) (log_of new.logs owed.other)) m.merged owed.shard p) source_is
         (record { entry = e; stands = stands; touches = touches; done = subst (λ l. HasJob types l e) (sym whole) done }))
 
     numbers : (u : EdgeUpdate) → Contains (updates_of m.merged) u → (stamp_of u.3).number ≤ sum_by length old.logs + 1

@@ -9,6 +9,7 @@ use Rattle.tao_base.specs.declared.data.Pair.{Pair}
 use Rattle.tao_base.specs.declared.id.Id.{Id}
 use Rattle.tao_base.specs.declared.id.AType.{AType}
 use Rattle.tao_base.specs.declared.id.Key.TheVariants.{Obj}
+use Rattle.tao_base.specs.declared.edge.Edge.{Edge}
 use Rattle.tao_base.specs.declared.edge.Object.{Object}
 use Rattle.tao_base.specs.declared.edge.EdgeState.{EdgeState}
 use Rattle.tao_base.specs.declared.edge.EdgeState.TheVariants.{Live, Cut}
@@ -177,9 +178,10 @@ forward_stays types shard log origin (AssocChangeType id1 atype id2 newtype) e m
 pub forward_follows : (shard : ℕ) (log : List Entry) (origin : Origin) (write : Write) (e : Entry) → ForwardFollows shard log origin write e
 forward_follows shard log origin write e = record { stays = λ types may h. forward_stays types shard log origin write e may h }
 
-pub plain_add_follows : (log : List Entry) (origin : Origin) (id1 : Id) (atype : AType) (id2 : Id) (time : ℕ) (payload : List Pair) → PlainAddFollows log origin id1 atype id2 time payload
-plain_add_follows log origin id1 atype id2 time payload =
-    let state : EdgeState = Live time payload (next_stamp log id1 atype id2) in
+pub plain_add_follows : (log : List Entry) (origin : Origin) (id1 : Id) (atype : AType) (edge : Edge) → PlainAddFollows log origin id1 atype edge
+plain_add_follows log origin id1 atype edge =
+    let id2 : Id = edge.id2 in
+    let state : EdgeState = Live edge.time edge.payload (next_stamp log id1 atype id2) in
     record {
       entry_is = λ types none. rw (none, when-none (is_near (id1, atype, id2, state))) refl;
       follows = λ new. one_touch_follows log AssocAdded origin (edge_touch log (id1, atype, id2, state)) new

@@ -68,8 +68,8 @@ module _ (types : EdgeTypes) (old new : Stores) (grown : Grown old.logs new.logs
   pub job_stays : (shard position : ℕ) (us : List EdgeUpdate) → IsJob types (log_of old.logs shard) position us → IsJob types (log_of new.logs shard) position us
   job_stays shard position us h = record { entry = h.entry; stands = client_stays shard position h.entry h.stands; job_is = h.job_is; some = h.some }
 
-  pub merge_stays : (shard position : ℕ) (e : Entry) (from source : ℕ) → entry_at (log_of old.logs shard) position ≡ Some e → IsMergeAt types (log_of old.logs) shard position e from source
-      → IsMergeAt types (log_of new.logs) shard position e from source
+  pub merge_stays : (shard position : ℕ) (e : Entry) (from source : ℕ) → entry_at (log_of old.logs shard) position ≡ Some e → IsMergeAt types (log_of old.logs) (take position (log_of old.logs shard)) e from source
+      → IsMergeAt types (log_of new.logs) (take position (log_of new.logs shard)) e from source
   merge_stays shard position e from source at h = record {
     entry = h.entry;
     stands = client_stays from source h.entry h.stands;

@@ -39,7 +39,7 @@ module _ (types : EdgeTypes) (stores : Stores) (shard position : ℕ) (us : List
   stands_there : IsClientEntry (log_of stores.logs shard) job.entry.position job.entry
   stands_there = subst (λ p. IsClientEntry (log_of stores.logs shard) p job.entry) (sym position_is) job.stands
 
-  owed_by : (u : EdgeUpdate) → Contains us u → IsJobOf types stores shard position us u (record { shard = shard; entry = job.entry; other = shard_of u.0 })
+  owed_by : (u : EdgeUpdate) → Contains us u → IsJobOf types stores shard position us (record { shard = shard; entry = job.entry; other = shard_of u.0 })
   owed_by u k =
       let at = at_place types shard (log_of stores.logs shard) position job.entry (kept.sound shard) job.stands.stands in
       let far = (jobs_are_far shard (log_of stores.logs shard)).far types (kept.sound shard) at.0 job.entry u at.1 (subst (λ vs. Contains vs u) job.job_is k) in
@@ -48,7 +48,6 @@ module _ (types : EdgeTypes) (stores : Stores) (shard position : ℕ) (us : List
         owes = record { stands = stands_there; there = far.there };
         shard_is = refl;
         position_is = position_is;
-        other_is = refl;
         records_are = job.job_is;
       }
 
@@ -90,7 +89,11 @@ closed_is_there types stores owed kept owes none = All-from_in (HasStamp (log_of
 pub open_jobs_are_owed : OpenJobsAreOwed
 open_jobs_are_owed = record {
   some = λ types stores shard position us kept h. (kept.covered.jobs shard position us h).some;
-  owed = λ types stores shard position us u kept h k. (record { shard = shard; entry = (job types stores shard position us kept h).entry; other = shard_of u.0 }, owed_by types stores shard position us kept h u k);
+  owed = λ types stores shard position us u kept h k. (
+    record { shard = shard; entry = (job types stores shard position us kept h).entry; other = shard_of u.0 },
+    owed_by types stores shard position us kept h u k,
+    refl,
+  );
   owes = λ types stores shard position e u kept stands h. entry_owes types stores shard position e u kept stands h;
   mergeable = λ types stores owed match kept owes some. owed_mergeable types stores owed match kept owes some;
   closed = λ types stores owed kept owes none. closed_is_there types stores owed kept owes none;

@@ -41,7 +41,7 @@ pub record OpenJobsAreOwed : Type 0 where
   pub some : (types : EdgeTypes) (stores : Stores) (shard position : ℕ) (us : List EdgeUpdate) → AreSoundAndCovered types stores
       → stores.job shard position ≡ Some us → 0 < length us
   pub owed : (types : EdgeTypes) (stores : Stores) (shard position : ℕ) (us : List EdgeUpdate) (u : EdgeUpdate) → AreSoundAndCovered types stores
-      → stores.job shard position ≡ Some us → Contains us u → (by : Owed) × IsJobOf types stores shard position us u by
+      → stores.job shard position ≡ Some us → Contains us u → (by : Owed) × IsJobOf types stores shard position us by × (by.other ≡ shard_of u.0)
   -- so does each record of a client's entry that stands, whether its job is still open or not
   pub owes : (types : EdgeTypes) (stores : Stores) (shard position : ℕ) (e : Entry) (u : EdgeUpdate) → AreSoundAndCovered types stores
       → IsClientEntry (log_of stores.logs shard) position e → Contains (job_of types e) u

@@ -122,8 +122,8 @@ of_least_time_is_undecided : decides 6000 (edge 2 9 1 ∷ edge 3 8 1 ∷ []) 3 (
 of_least_time_is_undecided = refl
 
 -- a time range has its ends, and one that ends before it begins has nothing
-latest_time_is_in_range :
-    answer one_type (added (add 2 4294967295 ∷ [])) (AssocTimeRange 1 likes 4294967295 4294967295 10) ≡ EdgesAre (edge 2 4294967295 1 ∷ [])
+latest_time_is_in_range : answer one_type (added (add 2 4294967295 ∷ [])) (AssocTimeRange 1 likes 4294967295 4294967295 10)
+    ≡ EdgesAre (edge 2 4294967295 1 ∷ [])
 latest_time_is_in_range = refl
 
 range_of_no_time : answer one_type (added (add 2 4294967295 ∷ [])) (AssocTimeRange 1 likes 5 6 10) ≡ EdgesAre []

@@ -1,20 +1,14 @@
--- What a caller sees: floors, the steps of the plain machine, legal reads, settled and paired states. The plain machine is the logs alone.
-use Rattle.std.specs.Prelude.{ℕ, List, [], ◌∷◌, ◌++◌, length, All, AllPairs, Some, None, slice_set, take, max, fold, if◌then◌else◌, ◌≡◌, ◌⊎◌, ◌≤◌, ◌<◌}
+-- What a caller sees: the steps of the plain machine, settled and paired states. The plain machine is the logs alone.
+use Rattle.std.specs.Prelude.{ℕ, List, [], ◌∷◌, ◌++◌, length, All, AllPairs, Some, None, slice_set, ◌≡◌, ◌⊎◌, ◌<◌}
 use Rattle.tao_base.specs.EdgeTypes.{EdgeTypes}
 use Rattle.tao_base.specs.Ids.{shard_of}
 use Rattle.tao_base.specs.declared.id.Id.{Id}
 use Rattle.tao_base.specs.declared.id.AType.{AType}
-use Rattle.tao_base.specs.declared.id.Key.{Key}
 use Rattle.tao_base.specs.declared.entry.Entry.{Entry}
 use Rattle.tao_base.specs.declared.entry.Origin.{Origin}
 use Rattle.tao_base.specs.declared.write.Write.{Write}
-use Rattle.tao_base.specs.declared.query.Answer.{Answer}
-use Rattle.tao_base.specs.declared.query.Query.{Query}
-use Rattle.graph_model.specs.Answers.{answer}
-use Rattle.tao_base.specs.Queries.{query_key}
 use Rattle.graph_model.specs.Edges.{edge_record}
-use Rattle.tao_base.specs.Keys.{same_key}
-use Rattle.graph_model.specs.Log.{version, entry_at}
+use Rattle.graph_model.specs.Log.{entry_at}
 use Rattle.write_model.specs.Merges.{Stores, log_of, job_of, merge_entry}
 use Rattle.write_model.specs.Writes.{forward_entry, FitsWrite}
 

@@ -115,7 +115,8 @@ RecordsAgree types log jobs id1 atype id2 = AllAgree (option_to_list (edge_recor
 
 -- the same jobs in another order, or more than once, leave the same records
 pub record OrderIsFree (shard : ℕ) (log : List Entry) : Type 0 where
-  pub same : (types : EdgeTypes) (jobs others : List (ℕ × Entry)) → AreMergeable types shard log jobs → ((job : ℕ × Entry) → Contains jobs job ↔ Contains others job)
+  pub same : (types : EdgeTypes) (jobs others : List (ℕ × Entry)) → AreMergeable types shard log jobs
+      → ((job : ℕ × Entry) → Contains jobs job ↔ Contains others job)
       → (id1 : Id) (atype : AType) (id2 : Id) → RecordsAgree types log jobs id1 atype id2
       → edge_record (merged_in_turn types log jobs) id1 atype id2 ≡ edge_record (merged_in_turn types log others) id1 atype id2
 

@@ -1,11 +1,9 @@
 -- The other ends of edges that lie on another shard: joins, jobs, merges, and when the stores are covered.
-use Rattle.std.specs.Prelude.{ℕ, zero, suc, ◌<◌, Bool, true, false, if◌then◌else◌, List, [], length, take, map, filter, filter_map, All, Contains, sum_by, Option, Some, None, IsSome, IsSomeAnd, IsTrue, slice_get, slice_index_or, ◌≡◌, ◌⊎◌, ◌≤◌, not}
+use Rattle.std.specs.Prelude.{ℕ, ◌<◌, List, [], length, take, map, filter, filter_map, All, Contains, sum_by, Option, Some, IsSome, IsSomeAnd, IsTrue, slice_index_or, ◌≡◌, ◌⊎◌, ◌≤◌, not}
 use Rattle.tao_base.specs.EdgeTypes.{EdgeTypes}
-use Rattle.tao_base.specs.Stamps.{stamp_of, is_earlier}
 use Rattle.tao_base.specs.Ids.{shard_of}
 use Rattle.tao_base.specs.declared.id.Id.{Id}
 use Rattle.tao_base.specs.declared.id.AType.{AType}
-use Rattle.tao_base.specs.declared.edge.EdgeState.{EdgeState}
 use Rattle.tao_base.specs.declared.entry.Entry.{Entry}
 use Rattle.tao_base.specs.declared.entry.Kind.TheVariants.{Merge as Merged}
 use Rattle.tao_base.specs.declared.entry.Origin.TheVariants.{Merge}
@@ -52,12 +50,12 @@ pub record IsJob (types : EdgeTypes) (log : List Entry) (position : ℕ) (us : L
 abbrev pub HasJob : EdgeTypes → List Entry → Entry → Type 0
 HasJob types log e = All (HasStamp log) (job_of types e)
 
--- a merge entry at a position: its touches are records of the job that its origin names, and with it the log has all of that job
-pub record IsMergeAt (types : EdgeTypes) (log : ℕ → List Entry) (shard position : ℕ) (e : Entry) (from source : ℕ) : Type 0 where
+-- a merge entry, the last of these entries of its log: its touches are records of the job that its origin names, and with it the log has all of that job
+pub record IsMergeAt (types : EdgeTypes) (log : ℕ → List Entry) (entries : List Entry) (e : Entry) (from source : ℕ) : Type 0 where
   pub entry : Entry
   pub stands : IsClientEntry (log from) source entry
   pub touches : All (λ t. IsSomeAnd (update_at t.key t.change) (Contains (job_of types entry))) e.touches
-  pub done : HasJob types (take position (log shard)) entry
+  pub done : HasJob types entries entry
 
 -- each record that a client's entry of the shard owes is owed by its open job, or it or a later one is there
 abbrev pub OwesOpenly : EdgeTypes → (ℕ → List Entry) → (ℕ → Option (List EdgeUpdate)) → ℕ → Type 0
@@ -71,7 +69,7 @@ HasItsJobs types log job = (position : ℕ) (us : List EdgeUpdate) → job posit
 -- each merge entry of the shard is one of a job
 abbrev pub HasItsMerges : EdgeTypes → (ℕ → List Entry) → ℕ → Type 0
 HasItsMerges types log shard = (position : ℕ) (e : Entry) (from source : ℕ) → entry_at (log shard) position ≡ Some e → e.origin ≡ Merge from source
-    → IsMergeAt types log shard position e from source
+    → IsMergeAt types log (take position (log shard)) e from source
 
 -- the stores are covered: whatever is missing at an other end is owed by an open job
 pub record AreCovered (types : EdgeTypes) (stores : Stores) : Type 0 where

@@ -74,13 +74,12 @@ abbrev pub AllRest : Stores → List Stores → Type 0
 AllRest old [] = Unit {0}
 AllRest old (new ∷ later) = (new.logs ≡ old.logs) × HaveNoJobs new × AllRest old later
 
--- what an open job owes, and where
-pub record IsJobOf (types : EdgeTypes) (stores : Stores) (shard position : ℕ) (us : List EdgeUpdate) (u : EdgeUpdate) (owed : Owed) : Type 0 where
+-- what an open job owes
+pub record IsJobOf (types : EdgeTypes) (stores : Stores) (shard position : ℕ) (us : List EdgeUpdate) (owed : Owed) : Type 0 where
   pub job : IsOpenJob types stores owed
   pub owes : IsOwed types stores owed
   pub shard_is : owed.shard ≡ shard
   pub position_is : owed.entry.position ≡ position
-  pub other_is : owed.other ≡ shard_of u.0
   pub records_are : us ≡ job_of types owed.entry
 
 -- the record was written by an entry of its shard's log

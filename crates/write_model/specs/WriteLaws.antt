@@ -1,9 +1,9 @@
 -- Laws of writes: the entry of a write follows the log that it is made on.
-use Rattle.std.specs.Prelude.{ℕ, true, IsTrue, List, [], ◌∷◌, ◌++◌, length, count_by, All, Some, None, ◌≡◌, ◌≢◌, ◌+◌, ◌^◌, ◌<◌, ⊤}
+use Rattle.std.specs.Prelude.{ℕ, true, IsTrue, List, [], ◌∷◌, ◌++◌, length, Some, None, ◌≡◌, ◌+◌, ◌^◌, ◌<◌}
 use Rattle.tao_base.specs.EdgeTypes.{EdgeTypes, InversesMatch}
 use Rattle.tao_base.specs.Ids.{shard_of}
 use Rattle.tao_base.specs.Stamps.{stamp_of}
-use Rattle.tao_base.specs.declared.data.Pair.{Pair}
+use Rattle.tao_base.specs.declared.edge.Edge.{Edge}
 use Rattle.tao_base.specs.declared.id.Id.{Id}
 use Rattle.tao_base.specs.declared.id.AType.{AType}
 use Rattle.tao_base.specs.declared.id.Key.TheVariants.{List as Assocs}
@@ -13,37 +13,32 @@ use Rattle.tao_base.specs.declared.entry.Kind.TheVariants.{AssocAdd as AssocAdde
 use Rattle.tao_base.specs.declared.entry.Origin.{Origin}
 use Rattle.tao_base.specs.declared.write.Write.{Write}
 use Rattle.tao_base.specs.declared.write.Write.TheVariants.{ObjAdd, ObjUpdate, ObjDelete, AssocAdd, AssocDelete, AssocChangeType}
-use Rattle.graph_model.specs.Edges.{edge_record, live_time, number_of}
-use Rattle.graph_model.specs.Log.{version, is_addition, additions}
+use Rattle.graph_model.specs.Edges.{edge_record, live_time}
+use Rattle.graph_model.specs.Log.{version, additions}
 use Rattle.graph_model.specs.Soundness.{CanFollow, IsNewOrigin, IsSoundOf, KeepsEnds, TouchFollows, is_client}
 use Rattle.write_model.specs.Writes.{forward_entry, edge_touch, next_stamp}
 use Rattle.graph_model.specs.Records.{is_news}
 use Rattle.tao_base.specs.declared.edge.EdgeState.{EdgeState}
 use Rattle.tao_base.specs.Writes.{ChangesType}
 
--- the entry of an add with one touch: the edge is set at id1, with the number after that of its record
-abbrev pub plain_add : List Entry → Origin → Id → AType → Id → ℕ → List Pair → Entry
-plain_add log origin id1 atype id2 time payload = record {
+-- the entry of an add with one touch: the edge is set at id1, with the number after that of its record, whatever stamp it has
+abbrev pub plain_add : List Entry → Origin → Id → AType → Edge → Entry
+plain_add log origin id1 atype edge = record {
   position = length log + 1;
   kind = AssocAdded;
   origin = origin;
   touches = record {
     key = Assocs id1 atype;
-    change = SetEdge (record {
-      id2 = id2;
-      time = time;
-      payload = payload;
-      stamp = record { number = number_of (edge_record log id1 atype id2) + 1; shard = shard_of id1 };
-    }) (live_time (edge_record log id1 atype id2));
+    change = SetEdge (record edge { stamp = next_stamp log id1 atype edge.id2 }) (live_time (edge_record log id1 atype edge.id2));
     version = version log (Assocs id1 atype) + 1;
   } ∷ [];
 }
 
 -- an edge of a type without an inverse is added by that entry, which follows the log where its origin is new
-pub record PlainAddFollows (log : List Entry) (origin : Origin) (id1 : Id) (atype : AType) (id2 : Id) (time : ℕ) (payload : List Pair) : Type 0 where
+pub record PlainAddFollows (log : List Entry) (origin : Origin) (id1 : Id) (atype : AType) (edge : Edge) : Type 0 where
   pub entry_is : (types : EdgeTypes) → types.inverse atype ≡ None
-      → forward_entry types log origin (AssocAdd id1 atype id2 time payload) ≡ Some (plain_add log origin id1 atype id2 time payload)
-  pub follows : IsNewOrigin log origin → CanFollow log (plain_add log origin id1 atype id2 time payload)
+      → forward_entry types log origin (AssocAdd id1 atype edge.id2 edge.time edge.payload) ≡ Some (plain_add log origin id1 atype edge)
+  pub follows : IsNewOrigin log origin → CanFollow log (plain_add log origin id1 atype edge)
 
 -- the write is of the shard; an object that is added has room for its serial
 abbrev pub IsOfShard : ℕ → List Entry → Write → Type 0

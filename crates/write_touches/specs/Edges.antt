@@ -51,7 +51,8 @@ pub record AreStamped (us : List EdgeUpdate) : Type 0 where
 abbrev pub AreOverSome : Write → List EdgeUpdate → Type 0
 AreOverSome (AssocAdd id1 atype id2 time payload) us = (old : Option EdgeState) × (us ≡ (id1, atype, id2, Live time payload (stamp_after id1 old)) ∷ [])
 AreOverSome (AssocDelete id1 atype id2) us = (old : Option EdgeState) × (us ≡ cut_over id1 atype id2 old)
-AreOverSome (AssocChangeType id1 atype id2 newtype) us = (old : Option EdgeState) × (there : Option EdgeState) × (us ≡ move_over id1 atype id2 newtype old there)
+AreOverSome (AssocChangeType id1 atype id2 newtype) us =
+    (old : Option EdgeState) × (there : Option EdgeState) × (us ≡ move_over id1 atype id2 newtype old there)
 AreOverSome (ObjAdd shard otype payload) us = us ≡ []
 AreOverSome (ObjUpdate id payload) us = us ≡ []
 AreOverSome (ObjDelete id) us = us ≡ []

@@ -13,9 +13,9 @@ use Rattle.tao_keeper.specs.declared.jobs.Job.{Job}
 abbrev pub far_record : EdgeTypes → EdgeUpdate → Option EdgeUpdate
 far_record types u = when (not (is_near u)) (other_end types u)
 
--- what a touch owes to another shard
-abbrev pub owed_by : EdgeTypes → Touch → Option EdgeUpdate
-owed_by types t = owed_of (update_at t.key t.change)
+-- the record that a touch owes to another shard, where it owes one
+abbrev pub owed_record : EdgeTypes → Touch → Option EdgeUpdate
+owed_record types t = owed_of (update_at t.key t.change)
   where
     owed_of : Option EdgeUpdate → Option EdgeUpdate
     owed_of None = None

@@ -2,7 +2,7 @@
 ghost use Rattle.std.specs.Prelude.{◌≡◌, ◌++◌, IfOk, IfSome, OnOk, filter_map};
 ghost use Rattle.std.specs.Option.{option_to_list};
 ghost use Rattle.graph_model.specs.Soundness.{update_at};
-ghost use Rattle.write_touches.specs.FarJobs.{far_record, job_for, owed_by};
+ghost use Rattle.write_touches.specs.FarJobs.{far_record, job_for, owed_record};
 ghost use Rattle.tao_keeper.specs.Given.{HaveSmallStamps, IsGivenJob, IsPosition};
 ghost use Rattle.tao_schema.specs.Schema.{types_of};
 
@@ -49,7 +49,7 @@ fn far_record(schema: &Schema, update: EdgeUpdate) -> Option<JobEdge>
 }
 
 fn add_owed(owed: &mut Vec<JobEdge>, schema: &Schema, touch: &Touch) -> Result<(), AllocError>
-    ensures { OnOk result (owed.new.items ≡ owed.old.items ++ option_to_list (owed_by (types_of schema.now) touch.now)) }
+    ensures { OnOk result (owed.new.items ≡ owed.old.items ++ option_to_list (owed_record (types_of schema.now) touch.now)) }
 {
     if let Some(update) = update_of(touch)? {
         if let Some(end) = far_record(schema, update) {
@@ -60,12 +60,12 @@ fn add_owed(owed: &mut Vec<JobEdge>, schema: &Schema, touch: &Touch) -> Result<(
 }
 
 /// The records that touches owe to another shard.
-fn owed_by_all(
+fn owed_records(
     alloc: Global,
     schema: &Schema,
     touches: &[Touch],
 ) -> Result<Vec<JobEdge>, AllocError>
-    ensures { IfOk result (λ owed. owed.items ≡ filter_map (owed_by (types_of schema.now)) touches.now) }
+    ensures { IfOk result (λ owed. owed.items ≡ filter_map (owed_record (types_of schema.now)) touches.now) }
 {
     let mut owed = Vec::new(alloc);
     for touch in touches {
@@ -82,7 +82,7 @@ pub fn far_job(alloc: Global, schema: &Schema, entry: &Entry) -> Result<Option<J
     ensures position { IfOk result (λ job. IfSome job (λ j. j.position ≡ entry.now.position)) }
     ensures given { IfOk result (λ job. IfSome job IsGivenJob) }
 {
-    let owed = owed_by_all(alloc, schema, entry.touches.as_slice())?;
+    let owed = owed_records(alloc, schema, entry.touches.as_slice())?;
     if owed.is_empty() {
         return Ok(None);
     }

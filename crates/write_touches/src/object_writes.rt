@@ -66,7 +66,8 @@ pub fn add_object<M: Keeper>(
         (HasNone ((M.state keeper.old).told at).log (Write.ObjAdd shard otype payload.now))) }
     ensures names { IfOk result (λ ts. NameWrite (Write.ObjAdd shard otype payload.now) ts.items) }
     ensures one { IfOk result (λ ts. HasTouch (Write.ObjAdd shard otype payload.now) ts.items) }
-    ensures serial { WhereTold M.TELLS (IfOk result (λ _. lacks_serial ((M.state keeper.old).told at).log (Write.ObjAdd shard otype payload.now) ≡ false)) }
+    ensures serial { WhereTold M.TELLS (IfOk result (λ _.
+        lacks_serial ((M.state keeper.old).told at).log (Write.ObjAdd shard otype payload.now) ≡ false)) }
     ensures small { IfOk result (λ ts. HaveSmallStamps ts.items) }
     ensures stays { KeepsTables M.TELLS (M.state keeper.old) (M.state keeper.new) }
     ensures calls { CallsKeeper TouchRefusal.KeeperFault (M.state keeper.old) (M.state keeper.new) result }
@@ -91,7 +92,8 @@ pub fn update_object<M: Keeper>(
     id: Id,
     payload: &Data,
 ) -> Result<Vec<Touch>, KeepFail>
-    ensures touches { WhereTold M.TELLS (IfOk result (λ ts. ts.items ≡ object_touches ((M.state keeper.old).told at).log (Write.ObjUpdate id payload.now))) }
+    ensures touches { WhereTold M.TELLS (IfOk result (λ ts. ts.items
+        ≡ object_touches ((M.state keeper.old).told at).log (Write.ObjUpdate id payload.now))) }
     ensures names { IfOk result (λ ts. NameWrite (Write.ObjUpdate id payload.now) ts.items) }
     ensures small { IfOk result (λ ts. HaveSmallStamps ts.items) }
     ensures stays { KeepsTables M.TELLS (M.state keeper.old) (M.state keeper.new) }

@@ -1,5 +1,5 @@
 use Rattle.write_touches.proofs.More.{more}
-use Rattle.write_touches.proofs.far_jobs.owed_by_all.Goals as goal
+use Rattle.write_touches.proofs.far_jobs.owed_records.Goals as goal
 
 pub loop-touch-preserved : goal.loop-touch-preserved
 loop-touch-preserved c =

@@ -1,5 +1,5 @@
 -- A node that takes all changesets of an entry stays true of its logs.
-use Rattle.std.proofs.Common.{◌≡◌, ℕ, ◌+◌, ◌-◌, ◌*◌, ◌<◌, ◌≤◌, ◌^◌, true, false, cond, List, [], ◌∷◌, length, map, Option, Some, None, refl, sym, ◌∙◌, ap, subst, inl, inr, arith}
+use Rattle.std.proofs.Common.{◌≡◌, ℕ, ◌+◌, ◌-◌, ◌<◌, ◌≤◌, ◌^◌, true, cond, List, [], ◌∷◌, length, map, Option, Some, None, refl, sym, ◌∙◌, ap, subst, inl, inr, arith}
 use Rattle.std.proofs.lemmas.Bool.{both_ways, cases_Bool}
 use Rattle.std.proofs.lemmas.List.Elements.{All-contains, All-contains_itself, All-weaker, recursion_from_All}
 use Rattle.std.proofs.lemmas.List.Sums.{count_by-le-length}
@@ -22,10 +22,10 @@ use Rattle.changeset.proofs.ChangeLemmas.{is_one_touch, touch_at, touches_stay}
 use Rattle.changeset.specs.Changes.{SeenChange, change_by, own_touch}
 use Rattle.maint_msg.specs.KeyVersions.{key_version, keys_of}
 use Rattle.served_shards.specs.Meetings.{MeetsAt}
-use Rattle.served_shards.specs.Served.{ServedShard, changed_at, log_at, marking, seeing, served_at}
+use Rattle.served_shards.specs.Served.{ServedShard, log_at, seeing, served_at}
 use Rattle.cache_items.specs.declared.item.Item.{Item}
 use Rattle.cache_items.specs.Node.{Items, Node, item_at, met, without}
-use Rattle.cache_items.specs.Taken.{ChangesItems, TakesChange, changed_item, key_bound}
+use Rattle.cache_items.specs.Taken.{TakesChange, changed_item, key_bound}
 use Rattle.cache_items.specs.TakenEntry.{TakesEntry, TakesTouches}
 use Rattle.cache_node.proofs.Changing.{touch_is_true, touch_reached}
 use Rattle.cache_node.proofs.Keys.{distinct_without, held_fewer, held_gone, key_laws}

@@ -36,7 +36,7 @@ module _ (log : List Entry) (from position : ℕ) (us : List EdgeUpdate) (ts : L
       by (x ∷ xs) h = absurd (omega (arith, h))
 
 -- the touches that were asked for under the store's name, and of the job's records
-news_at : (tables : Tables) (at name : StoreName) (us vs : List EdgeUpdate) (ts : List Touch) → at ≡ name → us ≡ vs
+pub news_at : (tables : Tables) (at name : StoreName) (us vs : List EdgeUpdate) (ts : List Touch) → at ≡ name → us ≡ vs
     → ts ≡ map (edge_touch (tables at).log) (filter (is_news (tables at).log) us) → ts ≡ map (edge_touch (tables name).log) (filter (is_news (tables name).log) vs)
 news_at tables at name us vs ts at_is us_is are =
     are ∙ ap (λ n. map (edge_touch (tables n).log) (filter (is_news (tables n).log) us)) at_is ∙ ap (λ v. map (edge_touch (tables name).log) (filter (is_news (tables name).log) v)) us_is

@@ -1,6 +1,7 @@
 -- What a client's write does to the log of its shard, and what it is answered with.
-use Rattle.std.specs.Prelude.{ℕ, ◌+◌, ◌<◌, ◌≤◌, ◌≡◌, Bool, true, false, if◌then◌else◌, List, length, Option, Some, None, Result, Ok, Err, ⊤}
+use Rattle.std.specs.Prelude.{ℕ, ◌+◌, ◌<◌, ◌≤◌, ◌≡◌, Bool, true, false, if◌then◌else◌, All, List, length, Option, Some, None, Result, Ok, Err, ⊤}
 use Rattle.tao_base.specs.EdgeTypes.{EdgeTypes}
+use Rattle.tao_base.specs.Keys.{key_shard}
 use Rattle.tao_base.specs.Writes.{write_kind}
 use Rattle.tao_base.specs.declared.entry.Entry.{Entry}
 use Rattle.tao_base.specs.declared.entry.Origin.{Origin}
@@ -10,6 +11,8 @@ use Rattle.tao_base.specs.declared.write.Write.{Write}
 use Rattle.tao_base.specs.declared.write.Write.TheVariants.{ObjAdd, ObjUpdate, ObjDelete, AssocAdd, AssocDelete, AssocChangeType}
 use Rattle.graph_model.specs.Log.{entry_at}
 use Rattle.graph_model.specs.Soundness.{IsNewOrigin}
+use Rattle.graph_model.specs.Told.{WhereTold}
+use Rattle.shard_log.specs.View.{View}
 use Rattle.write_model.specs.Writes.{FitsWrite, forward_entry}
 use Rattle.tao_keeper.specs.Table.{Tables, Stays, Becomes, after_commit}
 use Rattle.tao_keeper.specs.declared.jobs.Job.{Job}
@@ -122,3 +125,11 @@ HasEntry (ObjDelete id) entry = ⊤
 HasEntry (AssocAdd id1 atype id2 time payload) entry = ⊤
 HasEntry (AssocDelete id1 atype id2) entry = ⊤
 HasEntry (AssocChangeType id1 atype id2 newtype) entry = ⊤
+
+-- where the log is told, the entry stands at its own position in what was seen
+abbrev pub StandsIn : View → Entry → Type 0
+StandsIn seen entry = WhereTold seen.log.told (entry_at seen.entries entry.position ≡ Some entry)
+
+-- where the log is told, each key that the entry touches lies on the shard
+abbrev pub LiesOn : View → ℕ → Entry → Type 0
+LiesOn seen shard entry = WhereTold seen.log.told (All (λ t. key_shard t.key ≡ shard) entry.touches)

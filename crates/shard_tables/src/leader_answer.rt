@@ -19,5 +19,7 @@ pub enum LeaderAnswer {
         note: Note,
     },
     /// The leader's store has not come to the floor: the version that it has.
-    Behind { version: u64 },
+    Behind {
+        version: u64,
+    },
 }

@@ -1,5 +1,5 @@
 //! Merges of what entries of other shards owe to this one.
-ghost use Rattle.std.specs.Prelude.{◌≡◌, ◌<◌, All, IfErr, IfOk, None, false};
+ghost use Rattle.std.specs.Prelude.{◌≡◌, ◌<◌, All, IfErr, IfOk, IfSome, None, false};
 ghost use Rattle.write_model.specs.MergeLaws.{MayBeMerged};
 ghost use Rattle.graph_model.specs.Records.{HasStamp};
 ghost use Rattle.graph_model.specs.Soundness.{IsSoundOf};
@@ -7,7 +7,7 @@ ghost use Rattle.graph_model.specs.Told.{WhereTold};
 ghost use Rattle.shard_log.specs.View.{Grows, as_note, most_entries};
 ghost use Rattle.shard_tables.specs.Jobs.{IsOfMerges, MergesAs, made_merge};
 ghost use Rattle.shard_tables.specs.Stores.{IsStoreOf, store_with};
-ghost use Rattle.shard_tables.specs.Written.{TableGains, added_entry};
+ghost use Rattle.shard_tables.specs.Written.{LiesOn, StandsIn, TableGains, added_entry};
 ghost use Rattle.shard_tables.specs.declared.store.Role.TheVariants.{Master};
 ghost use Rattle.tao_base.specs.EdgeTypes.{EdgeTypes};
 ghost use Rattle.tao_keeper.specs.KeeperState.{CallsKeeper};
@@ -67,6 +67,8 @@ impl StoreNode {
         ensures log { self.new ≡ store_with self.old (added_entry result) }
         ensures grows { Grows self.old.view self.new.view }
         ensures note { IfOk result (λ wrote. wrote.note ≡ as_note self.new.view) }
+        ensures stands { IfOk result (λ wrote. IfSome wrote.entry (StandsIn wrote.note)) }
+        ensures here { IfOk result (λ wrote. IfSome wrote.entry (LiesOn wrote.note self.old.name.shard)) }
         ensures keeper { IsStoreOf M.TELLS (M.state keeper.new).told self.new }
         ensures sound { WhereTold M.TELLS ((types : EdgeTypes) → IsSoundOf types self.old.name.shard ((M.state keeper.old).told self.old.name).log
             → IsSoundOf types self.old.name.shard ((M.state keeper.new).told self.old.name).log) }

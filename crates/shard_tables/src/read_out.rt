@@ -1,5 +1,6 @@
 //! Reads of a store's own log, as fills for the caches above it.
 ghost use Rattle.std.specs.Prelude.{◌≡◌, ◌≤◌, ℕ, List, IfErr, IfOk, length};
+ghost use Rattle.counts.specs.Count.{Rose};
 ghost use Rattle.graph_model.specs.Answers.{answer as log_answer};
 ghost use Rattle.tao_base.specs.Queries.{query_key};
 ghost use Rattle.graph_model.specs.Edges.{edge_list};
@@ -170,6 +171,7 @@ impl StoreNode {
         ensures logs { LogsGrow M.TELLS (M.state keeper.old).told (M.state keeper.new).told }
         ensures same { self.new ≡ self.old }
         ensures keeper { IsStoreOf M.TELLS (M.state keeper.new).told self.new }
+        ensures asked { IfOk result (λ _. Rose (M.state keeper.old).calls (M.state keeper.new).calls) }
         ensures calls { CallsKeeper StoreRefusal.KeeperFault (M.state keeper.old) (M.state keeper.new) result }
     {
         let note = self.note()?;
@@ -193,6 +195,7 @@ fn read_out<M: Keeper>(
     ensures note { IfOk result (λ out. read_note out ≡ note) }
     ensures refused { IfErr result IsOfReads }
     ensures stays { KeepsTables M.TELLS (M.state keeper.old) (M.state keeper.new) }
+    ensures asked { IfOk result (λ _. Rose (M.state keeper.old).calls (M.state keeper.new).calls) }
     ensures calls { CallsKeeper StoreRefusal.KeeperFault (M.state keeper.old) (M.state keeper.new) result }
 {
     let found = match query.key() {
@@ -217,6 +220,7 @@ fn read_object<M: Keeper>(
     ensures fits { IfOk result (IsFor (types_of schema.now) query.now) }
     ensures note { IfOk result (λ out. read_note out ≡ note) }
     ensures stays { KeepsTables M.TELLS (M.state keeper.old) (M.state keeper.new) }
+    ensures asked { IfOk result (λ _. Rose (M.state keeper.old).calls (M.state keeper.new).calls) }
     ensures calls { CallsKeeper KeepFail.Failed (M.state keeper.old) (M.state keeper.new) result }
 {
     let Reach { version, length } = reached(keeper, at, Key::Obj(id))?;
@@ -241,6 +245,7 @@ fn read_list<M: Keeper>(
     ensures fits { IfOk result (IsFor (types_of schema.now) query.now) }
     ensures note { IfOk result (λ out. read_note out ≡ note) }
     ensures stays { KeepsTables M.TELLS (M.state keeper.old) (M.state keeper.new) }
+    ensures asked { IfOk result (λ _. Rose (M.state keeper.old).calls (M.state keeper.new).calls) }
     ensures calls { CallsKeeper KeepFail.Failed (M.state keeper.old) (M.state keeper.new) result }
 {
     let bound = schema.bound(atype);
@@ -270,6 +275,7 @@ fn reached<M: Keeper>(keeper: &mut M, at: StoreName, key: Key) -> Result<Reach, 
     ensures version { WhereTold M.TELLS (IfOk result (λ reached. reached.version ≡ version_of ((M.state keeper.old).told at).log key)) }
     ensures length { WhereTold M.TELLS (IfOk result (λ reached. reached.length ≡ length ((M.state keeper.old).told at).log)) }
     ensures stays { KeepsTables M.TELLS (M.state keeper.old) (M.state keeper.new) }
+    ensures asked { IfOk result (λ _. Rose (M.state keeper.old).calls (M.state keeper.new).calls) }
     ensures calls { CallsKeeper KeepFail.Failed (M.state keeper.old) (M.state keeper.new) result }
 {
     let version = keeper.version(at, key)?;

@@ -7,7 +7,7 @@ ghost use Rattle.write_model.specs.Writes.{FitsWrite};
 ghost use Rattle.shard_log.specs.View.{Grows, as_note, most_entries};
 ghost use Rattle.shard_tables.specs.Jobs.{FindsJob, OpensJob, job_with};
 ghost use Rattle.shard_tables.specs.Stores.{IsStoreOf, store_with};
-ghost use Rattle.shard_tables.specs.Written.{HasEntry, TableGains, WriteAnswers, added_entry, asked_write, made_entry};
+ghost use Rattle.shard_tables.specs.Written.{HasEntry, LiesOn, StandsIn, TableGains, WriteAnswers, added_entry, asked_write, made_entry};
 ghost use Rattle.shard_tables.specs.declared.store.Role.TheVariants.{Master};
 ghost use Rattle.tao_base.specs.EdgeTypes.{EdgeTypes, InversesMatch};
 ghost use Rattle.tao_base.specs.declared.entry.Origin.{Origin};
@@ -100,6 +100,8 @@ impl StoreNode {
         ensures log { self.new ≡ store_with self.old (added_entry result) }
         ensures grows { Grows self.old.view self.new.view }
         ensures note { IfOk result (λ wrote. wrote.note ≡ as_note self.new.view) }
+        ensures stands { IfOk result (λ wrote. IfSome wrote.entry (StandsIn wrote.note)) }
+        ensures here { IfOk result (λ wrote. IfSome wrote.entry (LiesOn wrote.note self.old.name.shard)) }
         ensures keeper { IsStoreOf M.TELLS (M.state keeper.new).told self.new }
         ensures sound { WhereTold M.TELLS (IsSoundOf (types_of schema.now) self.old.name.shard ((M.state keeper.new).told self.old.name).log) }
         ensures calls { CallsKeeper StoreRefusal.KeeperFault (M.state keeper.old) (M.state keeper.new) result }
@@ -234,6 +236,8 @@ fn write_first<M: Keeper>(
     ensures logs { LogsGrow M.TELLS (M.state keeper.old).told (M.state keeper.new).told }
     ensures log { store.new ≡ store_with store.old (added_entry result) }
     ensures note { IfOk result (λ wrote. wrote.note ≡ as_note store.new.view) }
+    ensures stands { IfOk result (λ wrote. IfSome wrote.entry (StandsIn wrote.note)) }
+    ensures here { IfOk result (λ wrote. IfSome wrote.entry (LiesOn wrote.note store.old.name.shard)) }
     ensures keeper { IsStoreOf M.TELLS (M.state keeper.new).told store.new }
     ensures sound { WhereTold M.TELLS (IsSoundOf (types_of schema.now) store.old.name.shard ((M.state keeper.new).told store.old.name).log) }
     ensures calls { CallsKeeper StoreRefusal.KeeperFault (M.state keeper.old) (M.state keeper.new) result }

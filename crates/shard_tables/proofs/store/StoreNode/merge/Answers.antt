@@ -4,8 +4,10 @@ use Rattle.std.specs.Prelude.{All, Some}
 use Rattle.tao_base.specs.declared.id.StoreName.{StoreName}
 use Rattle.graph_model.specs.Records.{HasStamp}
 use Rattle.graph_model.specs.Soundness.{CanFollow, IsSoundOf}
-use Rattle.shard_tables.proofs.MergeLemmas.{grown_log, made_is, none_left}
+use Rattle.shard_tables.proofs.MergeLemmas.{grown_log, made_is, news_at, none_left}
+use Rattle.shard_tables.proofs.Standing.{new_lies, news_lie}
 use Rattle.shard_tables.proofs.WriteLemmas.{has_all}
+use Rattle.shard_tables.specs.Stores.{store_with}
 use Rattle.shard_tables.proofs.store.StoreNode.merge.Goals as goal
 
 pub returns-then-is_empty-clause-done : goal.returns-then-is_empty-clause-done
@@ -61,3 +63,15 @@ returns-clause-done g c = λ told.
     let grown = grown_log (g.M.Keeper.state c.args.keeper.now).told (g.M.Keeper.state c.news_touches.new.keeper).told (g.M.Keeper.state c.add_entry.new.keeper).told c.note.new.self.name c.args.self.now.name
     c.merge_of-entry.result c.merge_of-entry.result (ap (λ s. s.name) c.note.ensures.same) (c.in_ok-touches.ensures.stays told) (c.in_ok-added.ensures.tables told) refl in
     subst (λ l. All (HasStamp l) c.args.job.now.edges) (sym grown) (made.done (g.met.M.Keeper.sound c.args.keeper.now c.args.self.now.name told))
+
+pub returns-clause-here : goal.returns-clause-here
+returns-clause-here g c =
+    let self_is : c.add_entry.new.store ≡ store_with c.args.self.now (Some c.merge_of-entry.result) =
+    c.in_ok-added.ensures.log ∙ ap (λ s. store_with s (Some c.merge_of-entry.result)) c.note.ensures.same in
+    new_lies c.args.self.now c.add_entry.new.store c.renew.result c.merge_of-entry.result c.in_ok-added.added.entry g.M.Keeper.TELLS
+    self_is c.renew.ensures.view c.in_ok-added.ensures.entry c.requires.keeper.told_is (λ told.
+    let at_is : c.name.result ≡ c.args.self.now.name = c.name.ensures ∙ ap (λ s. s.name) c.note.ensures.same in
+    let are = news_at (g.M.Keeper.state c.args.keeper.now).told c.name.result c.args.self.now.name c.as_slice.result.now c.args.job.now.edges c.in_ok-touches.touches.items at_is c.as_slice.ensures
+    (c.in_ok-touches.ensures.touches told) in
+    let lies = news_lie c.args.self.now.name.shard ((g.M.Keeper.state c.args.keeper.now).told c.args.self.now.name).log c.args.job.now.edges (c.requires.may told).here in
+    rw (c.merge_of-entry.ensures, are) lies)

@@ -1,7 +1,6 @@
 -- What a leader hands out is legal at the floor.
-use Rattle.std.proofs.Common.{◌≡◌, ℕ, ◌<◌, ◌≤◌, Bool, true, List, Option, Some, None, length, take, refl, sym, ◌∙◌, ap, subst, inl, inr, arith}
+use Rattle.std.proofs.Common.{◌≡◌, ℕ, ◌≤◌, Bool, true, List, Option, Some, None, length, take, refl, sym, ◌∙◌, ap, subst, arith}
 use Rattle.tao_base.specs.EdgeTypes.{EdgeTypes}
-use Rattle.tao_base.specs.Keys.{key_shard}
 use Rattle.tao_base.specs.Queries.{query_key}
 use Rattle.tao_base.specs.declared.entry.Entry.{Entry}
 use Rattle.tao_base.specs.declared.id.Key.{Key}
@@ -26,7 +25,6 @@ use Rattle.cache_items.specs.Kept.{item_of}
 use Rattle.cache_items.specs.Node.{Node, item_at}
 use Rattle.cache_items.specs.declared.item.Item.{Item}
 use Rattle.cache_node.proofs.Answering.{fill_answers}
-use Rattle.cache_node.specs.Answered.{ViewAnswers}
 use Rattle.tao_keeper.specs.Table.{Tables}
 use Rattle.shard_tables.specs.ReadOuts.{ContentDecides, IsFillFor, IsReadOutOf, read_note}
 use Rattle.shard_tables.specs.Reads.{AnswersAtVersion}

@@ -4,6 +4,7 @@ use Rattle.tao_base.specs.EdgeTypes.{EdgeTypes}
 use Rattle.tao_base.specs.Keys.{key_shard}
 use Rattle.tao_base.specs.Queries.{query_key}
 use Rattle.tao_base.specs.declared.query.Query.{Query}
+use Rattle.counts.specs.Count.{Rose}
 use Rattle.graph_model.specs.Told.{WhereTold}
 use Rattle.sealed_item.specs.Decided.{IsWithinBound, content_answer, content_decides}
 use Rattle.sealed_item.specs.Fills.{SealedItem}
@@ -51,7 +52,7 @@ KeepsGiven old (Filled fill) new = (kept : Kept) × GivesKept (own_kept_of (top_
 KeepsGiven old (Past answer version total note) new = new ≡ old
 KeepsGiven old (Behind version) new = new ≡ old
 
--- no item of its own serves, and it answers what the store read of its log, at the floor
+-- no item of its own serves: the store is read, with calls of the keeper, and what it read of its log is answered, at the floor
 pub record ReadsStore (asked : AskedRead) (store : Store) (given : LeaderAnswer) (new : Node) (before after : KeeperState) : Type 0 where
   pub none : HandsOn asked.types asked.node asked.query asked.floor None
   pub out : ReadOut
@@ -59,6 +60,7 @@ pub record ReadsStore (asked : AskedRead) (store : Store) (given : LeaderAnswer)
   pub note_is : read_note out ≡ note_of store
   pub given_is : given ≡ at_floor asked.floor out
   pub keeps : KeepsGiven asked.node given new
+  pub called : Rose before.calls after.calls
 
 -- a leader answers of an item of its own, or of its store
 abbrev pub AnswersRead : AskedRead → Store → LeaderAnswer → Node → KeeperState → KeeperState → Type 0

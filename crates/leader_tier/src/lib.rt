@@ -7,6 +7,7 @@
 
 mod leader;
 mod reading;
+mod writing;
 
 pub use cache_node::{Delivered, DroppedList, DroppedLists, Item};
 pub use leader::{Leader, leaders_are_true};

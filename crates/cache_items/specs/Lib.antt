@@ -5,3 +5,4 @@ pub mod Look
 pub mod Node
 pub mod NodeView
 pub mod Taken
+pub mod TakenEntry

@@ -18,8 +18,9 @@ ghost use Rattle.cache_items.specs.Look.{look_of, looked_at};
 ghost use Rattle.served_shards.specs.Meetings.{AreSeenSound, MeetEach, MeetsAt};
 ghost use Rattle.served_shards.specs.Served.{IsLowWater, changed_at, forgetting, log_at, low_at, marking, served_at, top_at, view_at};
 ghost use Rattle.cache_items.specs.Taken.{ChangesItems, TakesChange, with_change};
+ghost use Rattle.cache_items.specs.TakenEntry.{TakesEntry, TakesTouches};
 ghost use Rattle.maint_msg.specs.KeyVersions.{key_version, keys_of};
-ghost use Rattle.changeset.specs.Changes.{seen_change};
+ghost use Rattle.changeset.specs.Changes.{change_by, seen_change};
 ghost use Rattle.shard_log.specs.View.{View};
 
 use crate::delivered::{Delivered, DroppedLists};
@@ -453,6 +454,48 @@ impl Holdings {
         if !stays {
             self.evict(key);
         }
+    }
+
+    /// Takes an entry that the node's own side wrote: lets the items take what its touches do, as changesets,
+    /// raises the asks on the touched keys, and marks the position. Only items that grow take memory, and one
+    /// that finds none is dropped.
+    pub fn take_entry(&mut self, schema: &Schema, shard: u16, entry: &Entry, note: Note)
+        requires { IfSome (log_at shard self.old.served) (λ log. log ≡ note.log) }
+        ensures entry { TakesEntry (types_of schema.now) shard entry.now note self.old self.new }
+        ensures meets { MeetsAt shard note self.old.served }
+    {
+        self.meet(shard, note);
+        self.change_items(schema, entry.touches.as_slice());
+        self.mark(shard, entry.position);
+    }
+
+    // Lets the items take what the touches do, and raises the asks on their keys.
+    fn change_items(&mut self, schema: &Schema, touches: &[Touch])
+        ensures items { (note : View) → TakesTouches (types_of schema.now) note touches.now self.old.items self.new.items }
+        ensures node { self.new
+            ≡ record self.old {
+              items = self.new.items;
+              asks = raised_all (map key_version touches.now) self.old.asks;
+            } }
+    {
+        for touch in touches {
+            self.change_touched(schema, touch);
+        }
+    }
+
+    // Lets the item at the touched key take what the touch does, and raises the asks on the key.
+    fn change_touched(&mut self, schema: &Schema, touch: &Touch)
+        ensures items { (note : View) → ChangesItems (types_of schema.now) (change_by touch.now note) self.old.items self.new.items }
+        ensures node { self.new
+            ≡ record self.old {
+              items = self.new.items;
+              asks = with_floor touch.now.key touch.now.version self.old.asks;
+            } }
+    {
+        let before = touch.version.saturating_sub(1);
+        let bound = bound_at(schema, &touch.key);
+        self.change_item(&touch.key, before, before + 1, &touch.change, bound);
+        self.raise(&touch.key, touch.version);
     }
 
     /// Processes a message: drops the named items that are below their versions, raises the asks on the

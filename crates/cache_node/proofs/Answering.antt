@@ -1,27 +1,12 @@
 -- What is read off an exact content is what its log answers.
-use Rattle.std.proofs.Common.{◌≡◌, ℕ, true, Option, Some, None, refl, sym, ap, subst, inl, inr}
+use Rattle.std.proofs.Common.{◌≡◌, ℕ, true, Option, Some, None, refl, sym, subst, inl, inr}
 use Rattle.std.proofs.lemmas.Bool.{and_parts, cases_Bool}
-use Rattle.std.specs.Prelude.{◌&&◌, IsSome, IsSomeAnd, List, length, nat_le, take}
+use Rattle.std.specs.Prelude.{◌&&◌, IsSome, IsSomeAnd, nat_le}
 use Rattle.tao_base.specs.EdgeTypes.{EdgeTypes}
-use Rattle.tao_base.specs.declared.entry.Entry.{Entry}
-use Rattle.tao_base.specs.declared.id.AType.{AType}
-use Rattle.tao_base.specs.declared.id.Id.{Id}
-use Rattle.tao_base.specs.declared.id.Key.TheVariants.{List as Assocs}
-use Rattle.tao_base.specs.declared.query.Answer.TheVariants.{Object as ObjectAnswer}
 use Rattle.tao_base.specs.declared.query.Query.{Query}
-use Rattle.tao_base.specs.declared.query.Query.TheVariants.{ObjGet, AssocGet, AssocCount, AssocRange, AssocTimeRange}
-use Rattle.graph_model.proofs.Decided.{decides_rightly}
-use Rattle.graph_model.proofs.Lists.{in_order_list}
 use Rattle.tao_base.specs.Queries.{query_key}
-use Rattle.graph_model.specs.Answers.{list_answer}
-use Rattle.graph_model.specs.Edges.{edge_list}
 use Rattle.tao_base.specs.Keys.{key_shard}
-use Rattle.graph_model.specs.Log.{changes_of}
-use Rattle.graph_model.specs.Prefixes.{IsExact, IsPrefixOf, decides}
-use Rattle.list_prefix.specs.ListPrefix.{ListPrefix}
 use Rattle.sealed_item.specs.Fills.{IsExactContent, IsSealed, SealedItem}
-use Rattle.sealed_item.specs.declared.content.Content.{Content}
-use Rattle.sealed_item.specs.declared.content.Content.TheVariants.{Object as ObjectIs, List as ListIs}
 use Rattle.sealed_item.proofs.Deciding.{content_answers}
 use Rattle.cache_items.specs.declared.item.Item.{Item}
 use Rattle.cache_items.specs.declared.look.Look.{Look}

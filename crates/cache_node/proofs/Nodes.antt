@@ -118,9 +118,9 @@ filled_own old new fill (Ok x) distinct is log sealed meets due same same_err =
     subst IsTrueNode (sym same) (took_own_is_true fill x.1 old distinct is (is_served old.served (key_shard fill.key) fill.note.log log) meets sealed due)
 filled_own old new fill (Err e) distinct is log sealed meets due same same_err = subst IsTrueNode (sym same_err) is
 
-pub changed : (old new : Node) (c : SeenChange) (bound : ℕ) → IsDistinct same_key (keys_held old.items) → IsTrueNode old → IsServed old.served (key_shard c.key) → MeetsAt (key_shard c.key) c.note old.served
+pub changed : (old new : Node) (c : SeenChange) (bound : ℕ) → IsDistinct same_key (keys_held old.items) → IsTrueNode old → MeetsAt (key_shard c.key) c.note old.served
     → IsOneTouch c → c.after < 2 ^ 64 → TakesChange bound (item_at old.items c.key) c old.items new.items → new ≡ with_change c new.items old → IsTrueNode new
-changed old new c bound distinct is served meets touch bits takes same = subst IsTrueNode (sym same) (changed_is_true old c bound new.items distinct is served meets touch bits takes)
+changed old new c bound distinct is meets touch bits takes same = subst IsTrueNode (sym same) (changed_is_true old c bound new.items distinct is meets touch bits takes)
 
 pub message_came : (old new : Node) (m : SeenMaint) → IsDistinct same_key (keys_held old.items) → IsTrueNode old → log_at m.shard old.served ≡ Some m.note.log → IsMaint m
     → MeetsAt m.shard m.note old.served → new ≡ delivered m old → IsTrueNode new

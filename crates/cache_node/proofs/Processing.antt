@@ -123,19 +123,20 @@ raise_all_is_true (k ∷ ks) n is high =
     let one = raised_is_true n k.key k.version is (λ s told was at. (high told was).0 s at) in
     raise_all_is_true ks (record n { asks = with_floor k.key k.version n.asks }) one (λ told was. (high told (is.told told)).1)
 
--- a position that is named was processed
-pub processed_is_true : (shard position : ℕ) (keys : List KeyVersion) (n : Node) → IsDistinct same_key (keys_held n.items) → IsTrueNode n → (s : ServedShard) → served_at shard n.served ≡ Some s
-    → (s.view.log.told ≡ true → NamesEntry s.view.entries shard position keys) → IsTrueNode (processed shard position keys n)
-processed_is_true shard position keys n distinct is s at names =
-    let left = fewer_is_true n (dropped n.items keys) is (λ key item h. (held_dropped keys n.items key item distinct h).0) in
-    let n1 : Node = record n { items = dropped n.items keys } in
+-- a position that is named was processed, after which each item has at least the version that is named for it
+pub processed_with : (shard position : ℕ) (keys : List KeyVersion) (items : Items) (n : Node) → IsTrueNode (record n { items = items })
+    → ((key : Key) (item : Item) → item_at items key ≡ Some item → (v : ℕ) → version_among keys key ≡ Some v → v ≤ item.version)
+    → (s : ServedShard) → served_at shard n.served ≡ Some s → (s.view.log.told ≡ true → NamesEntry s.view.entries shard position keys)
+    → IsTrueNode (record n { items = items; asks = raised_all keys n.asks; served = changed_at shard (marking position) n.served })
+processed_with shard position keys items n left held s at names =
+    let n1 : Node = record n { items = items } in
     let raised = raise_all_is_true keys n1 left (λ told was. reached told was) in
     marked_is_true (record n1 { asks = raised_all keys n.asks }) shard position raised (λ other there told. can_mark other (same_served other there) told)
   where
     same_served : (other : ServedShard) → served_at shard n.served ≡ Some other → other ≡ s
     same_served other there = let e : Some other ≡ Some s = sym there ∙ at in cc
 
-    reached : AreTold n.served → IsTrueOfLogs (record n { items = dropped n.items keys }) → AreReachedBy n.served keys
+    reached : AreTold n.served → IsTrueOfLogs (record n { items = items }) → AreReachedBy n.served keys
     reached told was =
         let named = names (told shard s at) in
         let here = recursion_from_All (λ k. key_shard k.key ≡ shard) keys named.here in
@@ -151,17 +152,24 @@ processed_is_true shard position keys n distinct is s at names =
           both ks here.1 versions.1,
         )
 
-    can_mark : (other : ServedShard) → other ≡ s → other.view.log.told ≡ true → CanMark (record n { items = dropped n.items keys; asks = raised_all keys n.asks }) shard position other
-    can_mark other same told = subst (CanMark (record n { items = dropped n.items keys; asks = raised_all keys n.asks }) shard position) (sym same) (can (names (subst (λ o. o.view.log.told ≡ true) same told)))
+    can_mark : (other : ServedShard) → other ≡ s → other.view.log.told ≡ true → CanMark (record n { items = items; asks = raised_all keys n.asks }) shard position other
+    can_mark other same told = subst (CanMark (record n { items = items; asks = raised_all keys n.asks }) shard position) (sym same) (can (names (subst (λ o. o.view.log.told ≡ true) same told)))
       where
-        can : NamesEntry s.view.entries shard position keys → CanMark (record n { items = dropped n.items keys; asks = raised_all keys n.asks }) shard position s
+        can : NamesEntry s.view.entries shard position keys → CanMark (record n { items = items; asks = raised_all keys n.asks }) shard position s
         can named = record {
           within = named_within s.view.entries position keys named.names;
-          items = λ key item v here h at_key. (held_dropped keys n.items key item distinct h).1 v (touched_named s.view.entries position keys key v named.names at_key);
+          items = λ key item v here h at_key. held key item h v (touched_named s.view.entries position keys key v named.names at_key);
           asks = λ a v here in_asks at_key.
               all_in (λ a. (v : ℕ) → version_among keys a.key ≡ Some v → v ≤ a.floor) (raised_all keys n.asks).asks a (floors_reach keys n.asks) in_asks v
               (touched_named s.view.entries position keys a.key v named.names at_key);
         }
+
+-- a position that is named was processed as a message of it
+pub processed_is_true : (shard position : ℕ) (keys : List KeyVersion) (n : Node) → IsDistinct same_key (keys_held n.items) → IsTrueNode n → (s : ServedShard) → served_at shard n.served ≡ Some s
+    → (s.view.log.told ≡ true → NamesEntry s.view.entries shard position keys) → IsTrueNode (processed shard position keys n)
+processed_is_true shard position keys n distinct is s at names =
+    processed_with shard position keys (dropped n.items keys) n (fewer_is_true n (dropped n.items keys) is (λ key item h. (held_dropped keys n.items key item distinct h).0))
+    (λ key item h. (held_dropped keys n.items key item distinct h).1) s at names
 
 -- entries that are named in what was seen were processed
 pub caught_up_is_true : (shard : ℕ) (entries : List Entry) (n : Node) → IsDistinct same_key (keys_held n.items) → IsTrueNode n → (s : ServedShard) → served_at shard n.served ≡ Some s
@@ -190,6 +198,14 @@ stand_at log low (e ∷ es) sound is =
     let position : e.position ≡ suc low = let at = (sound low e first.0).position_is in omega arith in
     (ap (entry_at log) position ∙ first.0, stand_at log (suc low) es sound first.1)
 
+-- an entry of what a note has seen is named in what it grew into
+pub entry_named : (v w : View) (shard : ℕ) (e : Entry) → Grows v w → entry_at v.entries e.position ≡ Some e → All (λ t. key_shard t.key ≡ shard) e.touches
+    → NamesEntry w.entries shard e.position (keys_of e)
+entry_named v w shard e grows stands here = record {
+  names = ap (option_map keys_of) (entry_stays v w e.position e grows stands);
+  here = All-map (λ (k : KeyVersion). key_shard k.key ≡ shard) key_version e.touches here;
+}
+
 -- entries that follow each other in what a note has seen are named in what it grew into
 pub follow_named : (v w : View) (shard low : ℕ) (entries : List Entry) → Grows v w → IsSound v.entries → entries ≡ take (length entries) (drop low v.entries)
     → All (λ e. All (λ t. key_shard t.key ≡ shard) e.touches) entries → AllByRecursion (λ e. NamesEntry w.entries shard e.position (keys_of e)) entries
@@ -199,10 +215,4 @@ follow_named v w shard low entries grows sound is here =
     both : (es : List Entry) → AllByRecursion (λ e. entry_at v.entries e.position ≡ Some e) es → AllByRecursion (λ e. All (λ t. key_shard t.key ≡ shard) e.touches) es
         → AllByRecursion (λ e. NamesEntry w.entries shard e.position (keys_of e)) es
     both [] stand on = tt
-    both (e ∷ es) stand on = (
-      record {
-        names = ap (option_map keys_of) (entry_stays v w e.position e grows stand.0);
-        here = All-map (λ (k : KeyVersion). key_shard k.key ≡ shard) key_version e.touches on.0;
-      },
-      both es stand.1 on.1,
-    )
+    both (e ∷ es) stand on = (entry_named v w shard e grows stand.0 on.0, both es stand.1 on.1)

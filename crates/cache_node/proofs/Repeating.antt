@@ -1,8 +1,8 @@
 -- A query that was just answered is answered again.
-use Rattle.std.proofs.Common.{◌≡◌, ℕ, ◌≤◌, Bool, true, false, List, Option, Some, None, refl, ap, sym, subst, ◌∙◌, inl, inr, arith}
+use Rattle.std.proofs.Common.{◌≡◌, ℕ, ◌≤◌, true, false, List, Option, Some, None, refl, ap, sym, subst, ◌∙◌, inl, inr, arith}
 use Rattle.std.proofs.lemmas.Bool.{and_parts, cases_Bool, eqb-true}
 use Rattle.std.specs.Map.{lookup}
-use Rattle.std.specs.Prelude.{if◌then◌else◌, ◌&&◌, ◌==◌, nat_le, is_some}
+use Rattle.std.specs.Prelude.{◌&&◌, ◌==◌, nat_le, is_some}
 use Rattle.lru.proofs.CallerLemmas.{lookup-put_entries}
 use Rattle.lru.proofs.Pairs.{promoted_absent, promoted_put}
 use Rattle.lru.specs.LruCache.{lru_cache, promoted, put_entries}
@@ -17,7 +17,6 @@ use Rattle.sealed_item.proofs.Deciding.{longer_contents_answer}
 use Rattle.sealed_item.specs.Decided.{content_answer, content_decides, is_longer_content}
 use Rattle.sealed_item.specs.Fills.{IsExactContent, SealedItem}
 use Rattle.cache_items.specs.declared.item.Item.{Item}
-use Rattle.cache_items.specs.declared.look.Look.{Look}
 use Rattle.cache_items.specs.declared.look.Look.TheVariants.{Hit, Miss}
 use Rattle.cache_items.specs.Kept.{item_of, kept_items, stays}
 use Rattle.cache_items.specs.Look.{look_of}

@@ -20,7 +20,8 @@ use tao_base::{
 };
 use tao_schema::Schema;
 
-const SHARD: u16 = 0;
+/// The one shard that is served.
+pub(crate) const SHARD: u16 = 0;
 
 /// What is done to the node. All of it is about one list, whose newest edges have the greatest times.
 #[derive(Clone, Copy, Debug)]
@@ -354,21 +355,21 @@ impl Rig {
 }
 
 /// A note of a log that isn't told.
-fn untold_note(alloc: Global) -> Result<Note, OutOfMemory>
+pub(crate) fn untold_note(alloc: Global) -> Result<Note, OutOfMemory>
     ensures { IfOk result (λ note. note.log.told ≡ false) }
 {
     let mut pen = ShardLog::make(alloc, Vec::new(alloc), false)?;
     pen.note()
 }
 
-fn one_note(alloc: Global, note: Note) -> Result<Vec<Note>, OutOfMemory>
+pub(crate) fn one_note(alloc: Global, note: Note) -> Result<Vec<Note>, OutOfMemory>
     ensures { IfOk result (λ notes. notes.items ≡ note ∷ []) }
 {
     Ok(vec![in alloc; note]?)
 }
 
 /// An entry of one touch.
-fn entry(alloc: Global, position: u64, touch: Touch) -> Result<Entry, OutOfMemory>
+pub(crate) fn entry(alloc: Global, position: u64, touch: Touch) -> Result<Entry, OutOfMemory>
     ensures { IfOk result (λ entry. entry.touches ≡ touch ∷ []) }
 {
     Ok(Entry {
@@ -388,7 +389,7 @@ const STAMP: Stamp = Stamp {
 };
 
 /// A touch that gives the list the version.
-fn cut(list: Key, id2: Id, version: u64) -> Touch {
+pub(crate) fn cut(list: Key, id2: Id, version: u64) -> Touch {
     Touch {
         key: list,
         change: Change::CutEdge {
@@ -415,7 +416,7 @@ fn set_edge(alloc: Global, time: Time) -> Result<Change, OutOfMemory> {
 }
 
 /// The first edges, `held` at most, of a list of edges of the times 10, 20 and so on, so many.
-fn front(alloc: Global, held: u64, total: u32) -> Result<Prefix, OutOfMemory> {
+pub(crate) fn front(alloc: Global, held: u64, total: u32) -> Result<Prefix, OutOfMemory> {
     let mut front = Prefix::of(Edges::of(Vec::new(alloc)), 0);
     for place in 0..total {
         let time = place.saturating_add(1).saturating_mul(10);

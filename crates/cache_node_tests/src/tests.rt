@@ -8,7 +8,7 @@ use tao_base::{Text, Time};
 use tao_schema::{AssocLine, Schema};
 
 /// A list of this schema has three edges in a cache at most.
-fn schema(alloc: Global) -> Result<Schema, Fail> {
+pub(crate) fn schema(alloc: Global) -> Result<Schema, Fail> {
     let objects = vec![in alloc; Text::copy_of(alloc, "user")?]?;
     let likes = AssocLine {
         name: Text::copy_of(alloc, "likes")?,

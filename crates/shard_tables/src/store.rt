@@ -153,7 +153,7 @@ impl StoreNode {
     }
 
     /// A note that has seen the master's whole log, in place of a note that was taken before. Takes no memory.
-    pub(crate) fn renew(&mut self, note: Note) -> Note
+    pub fn renew(&mut self, note: Note) -> Note
         requires master { self.old.role ≡ Master }
         requires one_log { self.old.view.log ≡ note.log }
         ensures same { self.new ≡ self.old }

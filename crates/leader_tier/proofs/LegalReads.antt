@@ -1,0 +1,116 @@
+-- What a leader hands out is legal at the floor.
+use Rattle.std.proofs.Common.{◌≡◌, ℕ, ◌≤◌, Bool, true, List, Option, Some, None, length, take, refl, sym, ◌∙◌, ap, subst, arith}
+use Rattle.tao_base.specs.EdgeTypes.{EdgeTypes}
+use Rattle.tao_base.specs.Queries.{query_key}
+use Rattle.tao_base.specs.declared.entry.Entry.{Entry}
+use Rattle.tao_base.specs.declared.id.Key.{Key}
+use Rattle.tao_base.specs.declared.id.Key.TheVariants.{Obj, List as Assocs}
+use Rattle.tao_base.specs.declared.query.Answer.{Answer}
+use Rattle.tao_base.specs.declared.query.Query.{Query}
+use Rattle.tao_base.specs.declared.query.Query.TheVariants.{ObjGet, AssocGet, AssocCount, AssocRange, AssocTimeRange}
+use Rattle.graph_model.proofs.Exact.{version_take}
+use Rattle.graph_model.proofs.Versions.{version_fixes}
+use Rattle.graph_model.specs.Answers.{answer as log_answer}
+use Rattle.graph_model.specs.Log.{version as version_of}
+use Rattle.graph_model.specs.Told.{WhereTold}
+use Rattle.shard_log.proofs.Beginnings.{begins-self}
+use Rattle.shard_log.specs.View.{Begins, LogName, View}
+use Rattle.sealed_item.proofs.Deciding.{fronts_decide}
+use Rattle.sealed_item.specs.Decided.{IsExactAnswer, IsWithinBound, content_decides}
+use Rattle.sealed_item.specs.Fills.{IsSealed, SealedItem}
+use Rattle.sealed_item.specs.declared.content.Content.{Content}
+use Rattle.sealed_item.specs.declared.content.Content.TheVariants.{Object as ObjectIs, List as ListIs}
+use Rattle.cache_items.specs.HandedOn.{HandsOn, IsFrontHeld}
+use Rattle.cache_items.specs.Kept.{item_of}
+use Rattle.cache_items.specs.Node.{Node, item_at}
+use Rattle.cache_items.specs.declared.item.Item.{Item}
+use Rattle.cache_node.proofs.Answering.{fill_answers}
+use Rattle.tao_keeper.specs.Table.{Tables}
+use Rattle.shard_tables.specs.ReadOuts.{ContentDecides, IsFillFor, IsReadOutOf, read_note}
+use Rattle.shard_tables.specs.Reads.{AnswersAtVersion}
+use Rattle.shard_tables.specs.StoreView.{Store}
+use Rattle.shard_tables.specs.Stores.{HasSeen, IsStoreOf, note_of, seen_by}
+use Rattle.shard_tables.specs.declared.read_out.ReadOut.{ReadOut}
+use Rattle.shard_tables.specs.declared.read_out.ReadOut.TheVariants as out
+use Rattle.shard_tables.specs.declared.store.Role.{Role}
+use Rattle.shard_tables.specs.declared.store.Role.TheVariants.{Master, Slave}
+use Rattle.leader_tier.specs.LeaderReads.{AreAnswersSeen, IsFillAt}
+
+-- the store's word and the node's word for one thing
+fill_decides : (types : EdgeTypes) (query : Query) (content : Content) → ContentDecides types query (query_key query) content → content_decides types content query ≡ true
+fill_decides types (ObjGet id) (ObjectIs found) serves = refl
+fill_decides types (ObjGet id) (ListIs prefix) serves = absurd serves
+fill_decides types (AssocGet id1 atype ids high low) (ObjectIs found) serves = absurd serves
+fill_decides types (AssocGet id1 atype ids high low) (ListIs prefix) serves = serves.decided
+fill_decides types (AssocCount id1 atype) (ObjectIs found) serves = absurd serves
+fill_decides types (AssocCount id1 atype) (ListIs prefix) serves = serves.decided
+fill_decides types (AssocRange id1 atype pos limit) (ObjectIs found) serves = absurd serves
+fill_decides types (AssocRange id1 atype pos limit) (ListIs prefix) serves = serves.decided
+fill_decides types (AssocTimeRange id1 atype high low limit) (ObjectIs found) serves = absurd serves
+fill_decides types (AssocTimeRange id1 atype high low limit) (ListIs prefix) serves = serves.decided
+
+fill_within : (types : EdgeTypes) (query : Query) (key : Key) (content : Content) → ContentDecides types query key content → IsWithinBound types key content
+fill_within types query (Obj id) content serves = tt
+fill_within types query (Assocs id1 atype) (ObjectIs found) serves = absurd serves
+fill_within types query (Assocs id1 atype) (ListIs prefix) serves = serves.few
+
+-- a fill that a store read, which has come to the floor
+pub read_is_at : (types : EdgeTypes) (query : Query) (floor : ℕ) (fill : SealedItem) → IsFillFor types query fill → IsSealed fill → floor ≤ fill.version → IsFillAt types query floor fill
+read_is_at types query floor fill for sealed reaches =
+    let decides = fill_decides types query fill.content for.serves in
+    record {
+      key_is = for.key_is;
+      decides = decides;
+      within = fill_within types query (query_key query) fill.content for.serves;
+      reaches = reaches;
+      legal = fill_answers types query fill for.key_is decides sealed;
+    }
+
+-- a fill of an item of its own
+pub own_is_at : (types : EdgeTypes) (n : Node) (query : Query) (floor : ℕ) (fill : SealedItem) → HandsOn types n query floor (Some fill) → IsSealed fill → IsFillAt types query floor fill
+own_is_at types n query floor fill hands sealed = by_item (item_at n.items (query_key query)) hands.0
+  where
+    by_item : (o : Option Item) → IsFrontHeld types query floor o (Some (item_of fill)) → IsFillAt types query floor fill
+    by_item None front = absurd (cc)
+    by_item (Some item) front =
+        let law = fronts_decide types query item.content in
+        let decides = law.decided fill.content front.2 in
+        record {
+          key_is = hands.1.key_is;
+          decides = decides;
+          within = law.within fill.content front.2;
+          reaches = let le = front.0 in let same = front.1 in omega arith;
+          legal = fill_answers types query fill hands.1.key_is decides sealed;
+        }
+
+-- what a log answers at its own version is exact in all that it begins
+answer_is_exact : (types : EdgeTypes) (log seen : List Entry) (query : Query) (given : Answer) (at : ℕ) → Begins log seen → AnswersAtVersion types log query given at
+    → IsExactAnswer types seen query given at
+answer_is_exact types log seen query given at begins answers =
+    let version : at ≡ version_of (take (length log) seen) (query_key query) = answers.version_is ∙ ap (λ l. version_of l (query_key query)) begins in
+    let le = version_take (length log) seen (query_key query) in
+    record {
+      reached = omega arith;
+      gives = λ n h. answers.answer_is ∙ ap (λ l. log_answer types l query) begins ∙ version_fixes seen query types (length log) n (sym version ∙ sym h);
+    }
+
+begins_seen : (role : Role) (log : List Entry) (view : View) → HasSeen role log view.entries → Begins log (seen_by role view).entries
+begins_seen Master log view seen = subst (λ l. Begins l view.entries) seen (begins-self view.entries)
+begins_seen Slave log view seen = seen
+
+same_name : (role : Role) (view : View) → (seen_by role view).log ≡ view.log
+same_name Master view = refl
+same_name Slave view = refl
+
+-- what a store read past the bound is exact in what its note has seen
+pub read_is_seen : (tells : Bool) (tables : Tables) (types : EdgeTypes) (query : Query) (store : Store) (read : ReadOut) → IsStoreOf tells tables store → read_note read ≡ note_of store
+    → WhereTold tells (IsReadOutOf types (tables store.name).log query read) → AreAnswersSeen types query read
+read_is_seen tells tables types query store (out.Filled fill) is note reads = tt
+read_is_seen tells tables types query store (out.Past answer version total seen) is note reads = λ told.
+    let there : tells ≡ true = sym is.told_is ∙ (ap (λ (l : LogName). l.told) (sym (same_name store.role store.view)) ∙ (ap (λ (v : View). v.log.told) (sym note) ∙ told)) in
+    let begins = begins_seen store.role (tables store.name).log store.view (is.seen there) in
+    subst (λ v. IsExactAnswer types v.entries query answer version) (sym note) (answer_is_exact types (tables store.name).log (note_of store).entries query answer version begins (reads there).0)
+
+-- the log of the note is the one that the store's is
+pub read_log : (store : Store) (read : ReadOut) → read_note read ≡ note_of store → (read_note read).log ≡ store.view.log
+read_log store read note = ap (λ (v : View). v.log) note ∙ same_name store.role store.view

@@ -1,0 +1,2 @@
+pub mod LeaderReads
+pub mod TakenWrites

@@ -7,7 +7,7 @@ use Rattle.keeper_map.specs.OpenJobs.{jobs_of}
 use Rattle.keeper_map.specs.declared.store.StoreTable.{StoreTable}
 
 abbrev pub table_of : StoreTable → Table
-table_of store = record { log = store.log.items; jobs = jobs_of store.jobs; line = option_map (λ line. line.items) store.line }
+table_of store = record { log = store.log; jobs = jobs_of store.jobs; line = option_map (λ line. line.items) store.line }
 
 -- whether the table is of the store
 abbrev pub is_of : StoreName → StoreTable → Bool

@@ -23,7 +23,6 @@ use tao_keeper::{Commit, Job, KeepFail, Keeper, MOST_ENTRIES, Opened, SERIAL_LIM
 /// plan's numbers likewise; what more it takes is said at the call.
 #[derive(Drop)]
 pub struct MapKeeper {
-    alloc: Global,
     stores: Stores,
     plan: FaultPlan,
 }
@@ -38,7 +37,6 @@ impl MapKeeper {
         ensures faults { (call_plan result).faults ≡ 0 }
     {
         MapKeeper {
-            alloc,
             stores: Stores::new(alloc),
             plan: FaultPlan::of(fails),
         }
@@ -92,7 +90,7 @@ impl Keeper for MapKeeper {
         ensures plan { CallsAsPlanned (call_plan self.old) (call_plan self.new) result }
     {
         self.plan.begin_call()?;
-        Ok(plain_graph::record_of(self.alloc, self.stores.log(at), id1, atype, id2)?)
+        Ok(self.stores.log(at).record(id1, atype, id2)?)
     }
 
     /// Reads the log once, and keeps the list in order through each of its changes, in time of their product. Refers to
@@ -111,7 +109,7 @@ impl Keeper for MapKeeper {
         ensures plan { CallsAsPlanned (call_plan self.old) (call_plan self.new) result }
     {
         self.plan.begin_call()?;
-        Ok(plain_graph::edges_of(self.alloc, self.stores.log(at), id1, atype, pos, most)?)
+        Ok(self.stores.log(at).edges(id1, atype, pos, most)?)
     }
 
     /// Reads the log once, refers to each change of the object, and copies the object.
@@ -121,7 +119,7 @@ impl Keeper for MapKeeper {
         ensures plan { CallsAsPlanned (call_plan self.old) (call_plan self.new) result }
     {
         self.plan.begin_call()?;
-        Ok(plain_graph::object_of(self.alloc, self.stores.log(at), id)?)
+        Ok(self.stores.log(at).object(id)?)
     }
 
     /// Takes the time of `edges`. Refers to each change of the list, and copies nothing.
@@ -132,7 +130,7 @@ impl Keeper for MapKeeper {
         ensures plan { CallsAsPlanned (call_plan self.old) (call_plan self.new) result }
     {
         self.plan.begin_call()?;
-        Ok(plain_graph::count_of(self.alloc, self.stores.log(at), id1, atype)?)
+        Ok(self.stores.log(at).count(id1, atype)?)
     }
 
     /// Reads the log once, and takes no memory.
@@ -143,7 +141,7 @@ impl Keeper for MapKeeper {
         ensures plan { CallsAsPlanned (call_plan self.old) (call_plan self.new) result }
     {
         self.plan.begin_call()?;
-        Ok(plain_graph::version_of(self.stores.log(at), &key))
+        Ok(self.stores.log(at).version(key))
     }
 
     /// Reads no entry, and takes no memory.
@@ -154,7 +152,7 @@ impl Keeper for MapKeeper {
         ensures plan { CallsAsPlanned (call_plan self.old) (call_plan self.new) result }
     {
         self.plan.begin_call()?;
-        Ok(self.stores.log(at).len() as u64)
+        Ok(self.stores.log(at).as_slice().len() as u64)
     }
 
     /// Reads no other entry, and copies this one.
@@ -165,7 +163,7 @@ impl Keeper for MapKeeper {
         ensures plan { CallsAsPlanned (call_plan self.old) (call_plan self.new) result }
     {
         self.plan.begin_call()?;
-        Ok(log::entry_of(self.stores.log(at), position)?)
+        Ok(log::entry_of(self.stores.log(at).as_slice(), position)?)
     }
 
     /// Reads the log once, and takes no memory.
@@ -176,7 +174,7 @@ impl Keeper for MapKeeper {
         ensures plan { CallsAsPlanned (call_plan self.old) (call_plan self.new) result }
     {
         self.plan.begin_call()?;
-        Ok(log::additions_in(self.stores.log(at)))
+        Ok(self.stores.log(at).added())
     }
 
     /// Reads the log up to the entry, and takes no memory.
@@ -187,7 +185,7 @@ impl Keeper for MapKeeper {
         ensures plan { CallsAsPlanned (call_plan self.old) (call_plan self.new) result }
     {
         self.plan.begin_call()?;
-        Ok(log::position_of(self.stores.log(at), origin))
+        Ok(self.stores.log(at).position(origin))
     }
 
     /// Reads no other job, and copies this one.

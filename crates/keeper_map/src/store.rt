@@ -1,5 +1,5 @@
 //! The tables of one store, in memory.
-ghost use Rattle.std.specs.Prelude.{◌≡◌, ◌<◌, ◌≤◌, ◌++◌, ◌∷◌, [], ℕ, All, IfSome, None, if◌then◌else◌, is_ok, length};
+ghost use Rattle.std.specs.Prelude.{◌≡◌, ◌<◌, ◌≤◌, ◌++◌, ◌∷◌, [], ℕ, All, IfSome, None, Some, if◌then◌else◌, is_ok, length};
 ghost use Rattle.std.proofs.Props.{props};
 ghost use Rattle.graph_model.specs.Soundness.{IsSound};
 ghost use Rattle.keeper_map.specs.OpenJobs.{jobs_of};
@@ -8,6 +8,7 @@ ghost use Rattle.tao_keeper.specs.Table.{with_new_job};
 ghost use Rattle.tao_keeper.specs.declared.keeper.TheConstants.{MOST_ENTRIES};
 
 use crate::jobs::OpenJobs;
+use log_index::IndexedLog;
 use std::alloc::{AllocError, Global};
 use tao_base::{Entry, StoreName};
 use tao_keeper::{Job, MOST_ENTRIES, Opened};
@@ -16,13 +17,13 @@ use tao_keeper::{Job, MOST_ENTRIES, Opened};
 #[derive(Drop)]
 pub struct StoreTable {
     pub name: StoreName,
-    log: Vec<Entry>,
+    log: IndexedLog,
     jobs: OpenJobs,
     line: Option<Vec<u8>>,
-    ghost sound: { IsSound log.items } by { Prim.hlevel props },
-    ghost short: { length log.items ≤ MOST_ENTRIES },
-    ghost small: { All (λ entry. HaveSmallStamps entry.touches) log.items },
-    ghost of_entries: { (position : ℕ) → length log.items < position → jobs_of jobs position ≡ None },
+    ghost sound: { IsSound log } by { Prim.hlevel props },
+    ghost short: { length log ≤ MOST_ENTRIES },
+    ghost small: { All (λ entry. HaveSmallStamps entry.touches) log },
+    ghost of_entries: { (position : ℕ) → length log < position → jobs_of jobs position ≡ None },
 }
 
 impl StoreTable {
@@ -38,13 +39,13 @@ impl StoreTable {
     {
         StoreTable {
             name,
-            log: Vec::new(alloc),
+            log: IndexedLog::new(alloc),
             jobs: OpenJobs::new(alloc),
             line: None,
         }
     }
 
-    pub fn log(&self) -> &[Entry]
+    pub fn log(&self) -> &IndexedLog
         ensures { result.now ≡ (table_of self.now).log }
     {
         &self.log
@@ -111,22 +112,38 @@ impl StoreTable {
 
 /// Adds an entry at the end of a log and opens its job, where it has one, or does neither.
 fn push_both(
-    log: &mut Vec<Entry>,
+    log: &mut IndexedLog,
     jobs: &mut OpenJobs,
     entry: Entry,
     job: Option<Job>,
 ) -> Result<(), AllocError>
     requires given { IfSome job IsGivenJob }
     requires last { IfSome job (λ job. (position : ℕ) → job.position ≤ position → jobs_of jobs.old position ≡ None) }
-    ensures log { log.new.items ≡ (if is_ok result then log.old.items ++ entry ∷ [] else log.old.items) }
+    ensures log { log.new ≡ (if is_ok result then log.old ++ entry ∷ [] else log.old) }
     ensures jobs { jobs_of jobs.new ≡ (if is_ok result then with_new_job (jobs_of jobs.old) job else jobs_of jobs.old) }
 {
-    log.reserve(1)?;
-    if let Some(job) = job {
-        jobs.open(job)?;
+    match job {
+        Some(job) => push_with_job(log, jobs, entry, job),
+        None => log.push(entry),
     }
-    if log.push(entry).is_err() {
-        unreachable!();
+}
+
+fn push_with_job(
+    log: &mut IndexedLog,
+    jobs: &mut OpenJobs,
+    entry: Entry,
+    job: Job,
+) -> Result<(), AllocError>
+    requires given { IsGivenJob job }
+    requires last { (position : ℕ) → job.position ≤ position → jobs_of jobs.old position ≡ None }
+    ensures log { log.new ≡ (if is_ok result then log.old ++ entry ∷ [] else log.old) }
+    ensures jobs { jobs_of jobs.new ≡ (if is_ok result then with_new_job (jobs_of jobs.old) (Some job) else jobs_of jobs.old) }
+{
+    let position = job.position;
+    jobs.open(job)?;
+    let pushed = log.push(entry);
+    if pushed.is_err() {
+        jobs.end(position);
     }
-    Ok(())
+    pushed
 }

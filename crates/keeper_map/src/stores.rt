@@ -1,5 +1,5 @@
 //! The tables of all stores, in memory.
-ghost use Rattle.std.specs.Prelude.{◌≡◌, ◌<◌, ◌≤◌, All, IfOk, IfSome, find, length, option_copied, position};
+ghost use Rattle.std.specs.Prelude.{[], ◌≡◌, ◌<◌, ◌≤◌, All, IfOk, IfSome, find, length, option_copied, position};
 ghost use Rattle.graph_model.specs.Soundness.{CanFollow, IsSound};
 ghost use Rattle.tao_base.specs.declared.id.StoreName.{StoreName as Store};
 ghost use Rattle.tao_keeper.specs.Given.{HaveSmallStamps, IsGivenJob};
@@ -7,6 +7,7 @@ ghost use Rattle.keeper_map.specs.Store.{is_of, tables_of};
 ghost use Rattle.tao_keeper.specs.Table.{Becomes, Changes, IsLeastJob, IsJobAt, OpensAs, Stays, after_commit, after_end, after_open, empty_table};
 
 use super::store::StoreTable;
+use log_index::IndexedLog;
 use std::alloc::{AllocError, Global};
 use tao_base::{Entry, StoreName};
 use tao_keeper::{Job, MOST_ENTRIES, Opened};
@@ -16,6 +17,8 @@ use tao_keeper::{Job, MOST_ENTRIES, Opened};
 pub struct Stores {
     alloc: Global,
     tables: Vec<StoreTable>,
+    empty: IndexedLog,
+    ghost empty_is: { empty ≡ [] },
 }
 
 impl Stores {
@@ -25,11 +28,12 @@ impl Stores {
         Stores {
             alloc,
             tables: Vec::new(alloc),
+            empty: IndexedLog::new(alloc),
         }
     }
 
     /// The log of a store.
-    pub fn log(&self, at: StoreName) -> &[Entry]
+    pub fn log(&self, at: StoreName) -> &IndexedLog
         ensures log { result.now ≡ (tables_of self.now.tables.items at).log }
         ensures sound { IsSound result.now }
         ensures few { length result.now ≤ MOST_ENTRIES }
@@ -37,7 +41,7 @@ impl Stores {
     {
         match self.table(at) {
             Some(table) => table.log(),
-            None => &[],
+            None => &self.empty,
         }
     }
 

@@ -10,13 +10,12 @@ ghost use Rattle.tao_keeper.specs.declared.keeper.TheConstants.{MOST_ENTRIES};
 use crate::jobs::OpenJobs;
 use log_index::IndexedLog;
 use std::alloc::{AllocError, Global};
-use tao_base::{Entry, StoreName};
+use tao_base::Entry;
 use tao_keeper::{Job, MOST_ENTRIES, Opened};
 
 /// The tables of one store.
 #[derive(Drop)]
 pub struct StoreTable {
-    pub name: StoreName,
     log: IndexedLog,
     jobs: OpenJobs,
     line: Option<Vec<u8>>,
@@ -33,12 +32,10 @@ impl StoreTable {
     ghost use Rattle.tao_keeper.specs.Table.{IsLeastJob, IsJobAt, OpensAs, after_commit, after_end, after_open, empty_table};
 
     /// A store that was not opened yet.
-    pub fn new(alloc: Global, name: StoreName) -> StoreTable
-        ensures name { result.name ≡ name }
-        ensures table { table_of result ≡ empty_table }
+    pub fn new(alloc: Global) -> StoreTable
+        ensures { table_of result ≡ empty_table }
     {
         StoreTable {
-            name,
             log: IndexedLog::new(alloc),
             jobs: OpenJobs::new(alloc),
             line: None,
@@ -69,8 +66,7 @@ impl StoreTable {
 
     /// Ends the job of a position, where one is open.
     pub fn end_job(&mut self, position: u64)
-        ensures name { self.new.name ≡ self.old.name }
-        ensures table { table_of self.new ≡ after_end (table_of self.old) position }
+        ensures { table_of self.new ≡ after_end (table_of self.old) position }
     {
         self.jobs.end(position);
     }
@@ -82,15 +78,13 @@ impl StoreTable {
         requires given { IfSome job IsGivenJob }
         requires room { length (table_of self.old).log < MOST_ENTRIES }
         requires follows { CanFollow (table_of self.old).log entry }
-        ensures name { self.new.name ≡ self.old.name }
-        ensures table { table_of self.new ≡ (if is_ok result then after_commit (table_of self.old) entry job else table_of self.old) }
+        ensures { table_of self.new ≡ (if is_ok result then after_commit (table_of self.old) entry job else table_of self.old) }
     {
         push_both(&mut self.log, &mut self.jobs, entry, job)
     }
 
     /// Opens the store with a line. It keeps the first that it was opened with.
     pub fn open(&mut self, alloc: Global, line: &[u8]) -> Result<Opened, AllocError>
-        ensures name { self.new.name ≡ self.old.name }
         ensures answer { IfOk result (λ opened. OpensAs opened (table_of self.old) line.now) }
         ensures table { table_of self.new ≡ (if is_ok result then after_open (table_of self.old) line.now else table_of self.old) }
     {

@@ -1,14 +1,13 @@
 -- What calls find among the open jobs in memory, and make of them.
-use Rattle.std.proofs.Common.{◌≡◌, ◌≢◌, ◌∙◌, ℕ, ◌<◌, ◌≤◌, Bool, true, false, cond, List, [], length, refl, sym, ap, subst, inl, inr, arith}
-use Rattle.std.proofs.lemmas.Bool.{cases_Bool}
+use Rattle.std.proofs.Common.{◌≡◌, ◌∙◌, ℕ, ◌<◌, Bool, true, false, cond, refl, sym, ap, subst, arith}
 use Rattle.std.proofs.lemmas.Bool.Decides.{nat_tests}
 use Rattle.std.specs.BTreeMap.{BTreeMap, IsLowerBound, IsUnchanged, Updates, get, is_at}
 use Rattle.std.specs.Map.{lookup}
 use Rattle.std.specs.Option.{option_map}
 use Rattle.std.specs.Ordering.{is_eq, is_gt, nat_cmp}
-use Rattle.std.specs.Prelude.{Option, Some, None, Result, Ok, Err, IfSome, IsSome, OnErr, OnOk, ◌==◌}
+use Rattle.std.specs.Prelude.{Option, Some, None, Result, Ok, Err, IsSome, OnErr, OnOk, ◌==◌}
 use Rattle.tao_keeper.specs.Given.{IsGivenJob}
-use Rattle.tao_keeper.specs.Table.{IsLeastJob, IsJobAt, Jobs, with_job}
+use Rattle.tao_keeper.specs.Table.{IsLeastJob, IsJobAt}
 use Rattle.tao_keeper.specs.declared.jobs.Job.{Job}
 use Rattle.keeper_map.specs.Jobs.{IsJobOf, StandAtPositions, listed}
 

@@ -1,14 +1,14 @@
 -- Edges by their places, with one more or one less.
-use Rattle.std.proofs.Common.{◌≡◌, ◌≢◌, ◌∙◌, ℕ, Bool, true, false, cond, List, [], ◌∷◌, refl, sym, ap, subst, inl, inr, arith, map, Option, Some, None}
+use Rattle.std.proofs.Common.{◌≡◌, ◌≢◌, ◌∙◌, ℕ, true, false, List, [], ◌∷◌, refl, sym, ap, inl, inr, arith, Option}
 use Rattle.std.proofs.lemmas.Bool.{cases_Bool}
 use Rattle.std.proofs.lemmas.Bool.Decides.{nat_tests}
-use Rattle.std.specs.Prelude.{◌==◌, filter, not, option_to_list}
+use Rattle.std.specs.Prelude.{◌==◌, option_to_list}
 use Rattle.std.specs.BTreeMap.{BTreeMap, insert_entry, is_at, values}
 use Rattle.std.specs.Map.{lookup, remove_entry, values_of}
-use Rattle.std.specs.Ordering.{is_eq, match_ordering}
+use Rattle.std.specs.Ordering.{is_eq}
 use Rattle.std.specs.declared.cmp.Ordering.TheVariants.{Less, Greater}
 use Rattle.tao_base.specs.declared.edge.Edge.{Edge}
-use Rattle.graph_model.proofs.Lists.{apart-eqb, eqb-apart, eqb-same, eqb-self, without_same}
+use Rattle.graph_model.proofs.Lists.{apart-eqb, eqb-apart, eqb-same, without_same}
 use Rattle.graph_model.specs.Edges.{Without, edges_to, insert_edge, is_newer, without_edge}
 use Rattle.list_index.specs.OrderKeys.{order_key_of, order_cmp}
 use Rattle.list_index.specs.AtKeys.{AreAtKeys, at_keys, times_to}

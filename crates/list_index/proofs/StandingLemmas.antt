@@ -1,18 +1,17 @@
 -- How edges stand, with one change more.
-use Rattle.std.proofs.Common.{◌≡◌, ◌∙◌, ℕ, Bool, true, false, cond, List, [], ◌∷◌, refl, sym, ap, subst, inl, inr, arith, map, Option, Some, None}
+use Rattle.std.proofs.Common.{◌≡◌, ◌∙◌, ℕ, Bool, true, false, cond, List, [], ◌∷◌, refl, sym, ap, inl, inr, arith, map, Option, Some}
 use Rattle.std.proofs.lemmas.Bool.{cases_Bool}
 use Rattle.std.proofs.lemmas.Bool.Decides.{nat_tests}
 use Rattle.std.specs.Prelude.{◌==◌, Result, Ok, Err, IfOk}
 use Rattle.tao_base.specs.declared.edge.Edge.{Edge}
-use Rattle.tao_base.specs.declared.edge.EdgeState.{EdgeState}
 use Rattle.tao_base.specs.declared.edge.Stamp.{Stamp}
 use Rattle.tao_base.specs.declared.entry.Change.TheVariants.{SetEdge, CutEdge}
 use Rattle.tao_base.specs.declared.id.Id.{Id}
-use Rattle.graph_model.proofs.Lists.{apart-eqb, eqb-self, eqb-same, without_none, without_same}
-use Rattle.graph_model.specs.Edges.{Without, edges_to, insert_edge, is_newer, record_after, without_edge}
-use Rattle.list_index.proofs.KeyLemmas.{no_times, none_to}
+use Rattle.graph_model.proofs.Lists.{without_same}
+use Rattle.graph_model.specs.Edges.{edges_to, insert_edge, is_newer, record_after, without_edge}
+use Rattle.list_index.proofs.KeyLemmas.{no_times}
 use Rattle.list_index.specs.AtKeys.{times_to}
-use Rattle.list_index.specs.ListState.{ListIsAfter, ListState, StandAsListed, live_times, record_from, record_to, standing_of}
+use Rattle.list_index.specs.ListState.{ListIsAfter, StandAsListed, live_times, record_from, standing_of}
 use Rattle.list_index.specs.declared.table.Standing.{Standing}
 use Rattle.list_index.specs.declared.table.Standing.TheVariants.{Live, Cut}
 

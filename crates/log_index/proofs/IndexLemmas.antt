@@ -1,5 +1,5 @@
 -- The index of a log with one more entry.
-use Rattle.std.proofs.Common.{◌≡◌, ◌∙◌, ℕ, ◌+◌, ◌<◌, ◌≤◌, Bool, true, false, cond, List, [], ◌∷◌, ◌++◌, ap, arith, get_or, length, refl, subst, sym, take}
+use Rattle.std.proofs.Common.{◌≡◌, ◌∙◌, ℕ, ◌+◌, ◌<◌, ◌≤◌, List, [], ◌∷◌, ◌++◌, ap, arith, get_or, length, subst, sym, take}
 use Rattle.std.proofs.lemmas.List.{length-take, take_all, take_more}
 use Rattle.tao_base.specs.declared.entry.Entry.{Entry}
 use Rattle.log_index.specs.IndexOf.{IsIndexOf}

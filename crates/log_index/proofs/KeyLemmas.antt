@@ -1,17 +1,16 @@
 -- What one more touch makes of what the touches leave.
-use Rattle.std.proofs.Common.{◌≡◌, ◌∙◌, ℕ, ◌+◌, true, false, List, [], ◌∷◌, ◌++◌, append-nil, append_assoc, refl, sym, ap, subst, inl, inr, length, length-append, map, get_or, take, drop, zero, suc, arith, ◌<◌, Option, Some, None, unwrap_or}
+use Rattle.std.proofs.Common.{◌≡◌, ◌∙◌, ℕ, ◌+◌, true, false, List, [], ◌∷◌, ◌++◌, append-nil, append_assoc, refl, sym, ap, subst, inl, inr, length, length-append, get_or, take, drop, zero, suc, arith, ◌<◌, None, unwrap_or}
 use Rattle.std.proofs.lemmas.Bool.{cases_Bool}
 use Rattle.std.proofs.lemmas.List.{map-append, take_more}
 use Rattle.std.proofs.lemmas.List.Elements.{filter-append}
 use Rattle.std.proofs.lemmas.Grind.{flat_map-append}
-use Rattle.std.specs.Prelude.{filter}
 use Rattle.tao_base.specs.declared.entry.Entry.{Entry}
 use Rattle.std.specs.BTreeMap.{BTreeMap, get}
 use Rattle.tao_base.specs.Keys.{key_cmp, same_key}
 use Rattle.tao_base.specs.declared.entry.Change.{Change}
 use Rattle.tao_base.specs.declared.entry.Touch.{Touch}
 use Rattle.tao_base.specs.declared.id.Key.{Key}
-use Rattle.graph_model.proofs.Keys.{same_key-same, same_key-self}
+use Rattle.graph_model.proofs.Keys.{same_key-same}
 use Rattle.graph_model.proofs.Lists.{list-snoc, record_in-snoc}
 use Rattle.graph_model.proofs.Objects.{object_in-snoc}
 use Rattle.graph_model.specs.Edges.{list_after, record_after}

@@ -1,9 +1,9 @@
 -- Where entries stand, with one more of them.
-use Rattle.std.proofs.Common.{◌≡◌, ◌≢◌, ◌∙◌, ℕ, zero, suc, ◌+◌, ◌<◌, cond, List, [], ◌∷◌, ◌++◌, length, refl, sym, ap, subst, inl, inr, Option, Some, None, arith}
+use Rattle.std.proofs.Common.{◌≡◌, ◌≢◌, ◌∙◌, ℕ, zero, suc, ◌+◌, cond, List, [], ◌∷◌, ◌++◌, length, refl, sym, ap, subst, inl, inr, Option, Some, None, arith}
 use Rattle.std.proofs.lemmas.Bool.{cases_Bool, true≢false}
 use Rattle.std.proofs.lemmas.Bool.Decides.{nat_tests}
 use Rattle.std.proofs.lemmas.List.Elements.{All-nil, All-push}
-use Rattle.std.specs.Prelude.{◌==◌, ◌&&◌, true, false, IfSome, IsSomeAnd, slice_get}
+use Rattle.std.specs.Prelude.{◌==◌, ◌&&◌, true, false, IsSomeAnd, slice_get}
 use Rattle.tao_base.specs.declared.entry.Entry.{Entry}
 use Rattle.tao_keeper.specs.Table.{StandsAt}
 use Rattle.graph_model.specs.Log.{entry_at}

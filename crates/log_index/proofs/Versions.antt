@@ -1,5 +1,5 @@
 -- In a sound log the version of a key is how many changes there are.
-use Rattle.std.proofs.Common.{◌≡◌, ◌≢◌, ◌∙◌, ℕ, ◌+◌, ◌≤◌, true, false, List, [], ◌∷◌, append-nil, refl, sym, ap, inl, inr, length, length-append, map, arith}
+use Rattle.std.proofs.Common.{◌≡◌, ◌≢◌, ◌∙◌, ◌+◌, ◌≤◌, true, List, [], ◌∷◌, append-nil, refl, sym, ap, inl, inr, length, length-append, arith}
 use Rattle.std.proofs.lemmas.Bool.{cases_Bool}
 use Rattle.std.proofs.lemmas.List.{length-map}
 use Rattle.std.proofs.lemmas.List.Elements.{All-from_get_or, filter_passes, recursion_from_All}

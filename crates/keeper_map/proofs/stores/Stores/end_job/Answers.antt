@@ -1,5 +1,4 @@
-use Rattle.std.proofs.Common.{◌∙◌, sym}
-use Rattle.keeper_map.proofs.StoreLemmas.{ends_there, found_at, is_there, nothing_ends, written}
+use Rattle.keeper_map.proofs.StoreLemmas.{ends_there, found_at, is_there, written}
 use Rattle.keeper_map.proofs.stores.Stores.end_job.Goals as goal
 
 pub returns-in-Some : goal.returns-in-Some

@@ -1,6 +1,5 @@
-use Rattle.std.proofs.Common.{◌≡◌, ◌∙◌, ap, subst, sym}
+use Rattle.std.proofs.Common.{◌∙◌, ap, subst, sym}
 use Rattle.graph_model.specs.Edges.{Without, insert_edge}
-use Rattle.list_index.specs.AtKeys.{at_keys}
 use Rattle.list_index.proofs.KeyLemmas.{put_at_keys, at_keys_again, at_keys_values}
 use Rattle.list_index.proofs.edges.EdgesInOrder.put_in.Goals as goal
 

@@ -1,4 +1,4 @@
-use Rattle.std.proofs.Common.{List, ◌∙◌, ◌≡◌, ap, subst, sym}
+use Rattle.std.proofs.Common.{◌∙◌, ◌≡◌, subst, sym}
 use Rattle.graph_model.proofs.Lists.{without_none}
 use Rattle.graph_model.specs.Edges.{Without, insert_edge, without_edge}
 use Rattle.tao_base.specs.declared.edge.Edge.{Edge}

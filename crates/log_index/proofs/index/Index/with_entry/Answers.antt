@@ -1,5 +1,4 @@
 use Rattle.std.proofs.Common.{◌∙◌, Some, ap, cond, subst, sym}
-use Rattle.log_index.specs.IndexOf.{IsIndexOf}
 use Rattle.log_index.specs.KeyIndex.{KeysTell, all_touches}
 use Rattle.log_index.specs.Positions.{kept_position, same_origin}
 use Rattle.log_index.proofs.KeyLemmas.{touches_more}

@@ -3,10 +3,10 @@ use Rattle.std.proofs.Common.{◌≡◌, ℕ, ◌+◌, ◌<◌, ◌≤◌, Bool,
 use Rattle.std.proofs.lemmas.Bool.{cases_Bool}
 use Rattle.std.proofs.lemmas.Bool.Decides.{nat_tests}
 use Rattle.std.proofs.lemmas.List.Elements.{All-push}
-use Rattle.std.specs.Prelude.{Option, Some, None, All, IfSome, ◌==◌}
+use Rattle.std.specs.Prelude.{Option, Some, None, Result, Ok, Err, All, IfSome, is_err, is_ok, ◌==◌}
 use Rattle.tao_base.specs.declared.entry.Entry.{Entry}
 use Rattle.graph_model.proofs.Sound.{sound_grows}
-use Rattle.graph_model.specs.Soundness.{CanFollow, IsSound}
+use Rattle.graph_model.specs.Soundness.{CanFollow, EdgeUpdate, IsSound}
 use Rattle.tao_keeper.specs.Table.{Jobs, with_job, with_new_job}
 use Rattle.tao_keeper.specs.declared.jobs.Job.{Job}
 
@@ -50,3 +50,15 @@ still_of_entries true log now entry jobs after job log_is jobs_is follows of_ent
 -- a job that is ended leaves none where there was none
 pub ended_of_entries : (jobs : Jobs) (at position : ℕ) → jobs position ≡ None → with_job jobs at None position ≡ None
 ended_of_entries jobs at position none = elim (cases_Bool (position == at)) [ inl h ↦ rw h refl | inr h ↦ rw h none ]
+
+-- a job that is opened and ended
+pub closed_again : (jobs : Jobs) (at : ℕ) (given : Option (List EdgeUpdate)) → jobs at ≡ None → (position : ℕ) → with_job (with_job jobs at given) at None position ≡ jobs position
+closed_again jobs at given none position = elim (cases_Bool (position == at)) [
+  | inl h ↦ (let same : position ≡ at = grind (arith, nat_tests) in rw h (sym (ap jobs same ∙ none)))
+  | inr h ↦ rw h refl
+]
+
+-- what an error leaves
+pub not_opened : {T E : Type 0} (result : Result T E) (jobs now opened : Jobs) → is_err result ≡ true → now ≡ jobs → now ≡ cond (is_ok result) opened jobs
+not_opened (Ok x) jobs now opened h is = absurd (cc)
+not_opened (Err e) jobs now opened h is = is

@@ -6,7 +6,7 @@ use Rattle.tao_keeper.specs.KeeperState.{KeeperState}
 use Rattle.tao_keeper.specs.Table.{Tables}
 
 abbrev pub told_by : MapKeeper → Tables
-told_by keeper = tables_of keeper.stores.tables.items
+told_by keeper = tables_of keeper.stores.tables
 
 -- which calls fail, and what was counted so far
 abbrev pub call_plan : MapKeeper → CallPlan

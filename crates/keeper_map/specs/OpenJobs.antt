@@ -4,4 +4,4 @@ use Rattle.keeper_map.specs.Jobs.{listed}
 use Rattle.keeper_map.specs.declared.jobs.OpenJobs.{OpenJobs}
 
 abbrev pub jobs_of : OpenJobs → Jobs
-jobs_of open_jobs = listed open_jobs.jobs.items
+jobs_of open_jobs = listed open_jobs.jobs

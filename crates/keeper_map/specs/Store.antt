@@ -1,18 +1,25 @@
 -- The tables that the keeper in memory holds.
-use Rattle.std.specs.Prelude.{Bool, ◌&&◌, ◌==◌, List, find}
+use Rattle.std.specs.Prelude.{ℕ}
+use Rattle.std.specs.BTreeMap.{BTreeMap, get}
 use Rattle.std.specs.Option.{option_map, option_map_or}
+use Rattle.std.specs.Ordering.{nat_cmp, ordering_then}
+use Rattle.std.specs.declared.cmp.Ordering.{Ordering}
 use Rattle.tao_base.specs.declared.id.StoreName.{StoreName}
 use Rattle.tao_keeper.specs.Table.{Table, Tables, empty_table}
 use Rattle.keeper_map.specs.OpenJobs.{jobs_of}
 use Rattle.keeper_map.specs.declared.store.StoreTable.{StoreTable}
 
 abbrev pub table_of : StoreTable → Table
-table_of store = record { log = store.log.items; jobs = jobs_of store.jobs; line = option_map (λ line. line.items) store.line }
+table_of store = record { log = store.log; jobs = jobs_of store.jobs; line = option_map (λ line. line.items) store.line }
 
--- whether the table is of the store
-abbrev pub is_of : StoreName → StoreTable → Bool
-is_of name store = store.name.region == name.region && store.name.shard == name.shard
+-- what a store's table is found by: its region and its shard
+abbrev pub store_key : StoreName → ℕ × ℕ
+store_key name = (name.region, name.shard)
+
+-- stores are in the order of their regions, then of their shards
+abbrev pub store_cmp : ℕ × ℕ → ℕ × ℕ → Ordering
+store_cmp x y = ordering_then (nat_cmp x.0 y.0) (nat_cmp x.1 y.1)
 
 -- the tables of all stores: a store that has none yet is empty
-abbrev pub tables_of : List StoreTable → Tables
-tables_of stores name = option_map_or table_of (find (is_of name) stores) empty_table
+abbrev pub tables_of : BTreeMap (ℕ × ℕ) StoreTable → Tables
+tables_of stores name = option_map_or table_of (get store_cmp stores (store_key name)) empty_table

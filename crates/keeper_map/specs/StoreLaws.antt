@@ -1,19 +1,24 @@
 -- What each table in memory keeps.
-use Rattle.std.proofs.Common.{List, [], ◌∷◌, inl, inr, refl}
-use Rattle.std.proofs.lemmas.Bool.{cases_Bool}
+use Rattle.std.proofs.Common.{ℕ, refl}
+use Rattle.std.specs.BTreeMap.{BTreeMap, get}
+use Rattle.std.specs.Option.{option_map_or}
+use Rattle.std.specs.Prelude.{Option, Some, None}
 use Rattle.tao_base.specs.declared.id.StoreName.{StoreName}
 use Rattle.keeper_map.specs.declared.store.StoreTable.{StoreTable}
 use Rattle.graph_model.specs.Soundness.{IsSound}
-use Rattle.keeper_map.specs.Store.{is_of, tables_of}
-use Rattle.tao_keeper.specs.Table.{AreOfEntries}
+use Rattle.keeper_map.specs.Store.{store_cmp, store_key, table_of, tables_of}
+use Rattle.tao_keeper.specs.Table.{AreOfEntries, empty_table}
 
-pub told_sound : (stores : List StoreTable) (at : StoreName) → IsSound (tables_of stores at).log
-told_sound [] at = λ n e h. absurd (cc)
-told_sound (store ∷ stores) at = elim (cases_Bool (is_of at store)) [ inl h ↦ rw h store.sound | inr h ↦ rw h (told_sound stores at) ]
+sound_in : (found : Option StoreTable) → IsSound (option_map_or table_of found empty_table).log
+sound_in None = λ n e h. absurd (cc)
+sound_in (Some store) = store.sound
 
-pub told_of_entries : (stores : List StoreTable) (at : StoreName) → AreOfEntries (tables_of stores at)
-told_of_entries [] at = record { none_past = λ position past. refl }
-told_of_entries (store ∷ stores) at = elim (cases_Bool (is_of at store)) [
-  | inl h ↦ rw h (record { none_past = store.of_entries })
-  | inr h ↦ rw h (told_of_entries stores at)
-]
+of_entries_in : (found : Option StoreTable) → AreOfEntries (option_map_or table_of found empty_table)
+of_entries_in None = record { none_past = λ position past. refl }
+of_entries_in (Some store) = record { none_past = store.of_entries }
+
+pub told_sound : (stores : BTreeMap (ℕ × ℕ) StoreTable) (at : StoreName) → IsSound (tables_of stores at).log
+told_sound stores at = sound_in (get store_cmp stores (store_key at))
+
+pub told_of_entries : (stores : BTreeMap (ℕ × ℕ) StoreTable) (at : StoreName) → AreOfEntries (tables_of stores at)
+told_of_entries stores at = of_entries_in (get store_cmp stores (store_key at))

@@ -1,27 +1,9 @@
-//! What the keeper's tables say besides the graph: places of entries, and the last serial.
-ghost use Rattle.std.specs.Prelude.{◌≡◌, ◌<◌, IfOk, IfSome, IsSomeAnd, MatchOption, length, option_copied, slice_get};
-ghost use Rattle.graph_model.specs.Log.{entry_at, is_addition, additions};
-ghost use Rattle.graph_model.specs.Soundness.{IsNewOrigin};
-ghost use Rattle.tao_keeper.specs.Table.{StandsAt};
+//! Entries of a log by their positions.
+ghost use Rattle.std.specs.Prelude.{◌≡◌, IfOk, option_copied};
+ghost use Rattle.graph_model.specs.Log.{entry_at};
 
 use std::alloc::AllocError;
-use tao_base::{Entry, Kind, Origin};
-
-fn place_of(entries: &[Entry], origin: Origin) -> Option<usize>
-    ensures within { IfSome result (λ place. place < length entries.now) }
-    ensures place { MatchOption result (IsNewOrigin entries.now origin)
-        (λ place. IsSomeAnd (slice_get entries.now place) (λ entry. entry.origin ≡ origin)) }
-{
-    entries.iter().position(|entry| entry.origin == origin)
-}
-
-/// The position of the entry of an origin, where there is one.
-pub fn position_of(entries: &[Entry], origin: Origin) -> Option<u64>
-    ensures { StandsAt entries.now origin result }
-{
-    let place = place_of(entries, origin)?;
-    Some(place as u64 + 1)
-}
+use tao_base::Entry;
 
 fn stands_at(entries: &[Entry], position: u64) -> Option<&Entry>
     ensures { option_copied result ≡ entry_at entries.now position }
@@ -38,17 +20,4 @@ pub fn entry_of(entries: &[Entry], position: u64) -> Result<Option<Entry>, Alloc
         Some(entry) => Ok(Some(entry.clone()?)),
         None => Ok(None),
     }
-}
-
-fn adds_object(entry: &Entry) -> bool
-    ensures { result ≡ is_addition entry.now.kind }
-{
-    matches!(entry.kind, Kind::ObjAdd)
-}
-
-/// How many objects were added. Takes no memory.
-pub fn additions_in(entries: &[Entry]) -> u64
-    ensures { result ≡ additions entries.now }
-{
-    entries.iter().filter(|entry| adds_object(entry)).count() as u64
 }

@@ -19,11 +19,11 @@ use tao_keeper::{Commit, Job, KeepFail, Keeper, MOST_ENTRIES, Opened, SERIAL_LIM
 
 /// A keeper that holds its tables in memory. It fails exactly where its plan says so, and tells everything.
 ///
-/// No call copies a log. Each finds its store by going through the stores that something was written to, and the
-/// plan's numbers likewise; what more it takes is said at the call.
+/// No call copies a log. Each goes through the plan's numbers, finds its store by one look-up, and what it asks of the
+/// graph by a look-up or two in the log's index; what more it takes is said at the call. Where there was no memory for the
+/// index each call reads the log itself, until the next commit makes the index anew.
 #[derive(Drop)]
 pub struct MapKeeper {
-    alloc: Global,
     stores: Stores,
     plan: FaultPlan,
 }
@@ -38,7 +38,6 @@ impl MapKeeper {
         ensures faults { (call_plan result).faults ≡ 0 }
     {
         MapKeeper {
-            alloc,
             stores: Stores::new(alloc),
             plan: FaultPlan::of(fails),
         }
@@ -64,9 +63,9 @@ impl Keeper for MapKeeper {
 
     ghost state = { shown_by };
 
-    ghost sound = { λ keeper at _. told_sound keeper.stores.tables.items at };
+    ghost sound = { λ keeper at _. told_sound keeper.stores.tables at };
 
-    ghost of_entries = { λ keeper at _. told_of_entries keeper.stores.tables.items at };
+    ghost of_entries = { λ keeper at _. told_of_entries keeper.stores.tables at };
 
     /// Copies the line of a store that is opened first.
     fn open(&mut self, at: StoreName, line: &[u8]) -> Result<Opened, KeepFail>
@@ -78,7 +77,7 @@ impl Keeper for MapKeeper {
         Ok(self.stores.open(at, line)?)
     }
 
-    /// Reads the log once, refers to each change of the list, and copies the record.
+    /// Copies the record.
     fn edge(
         &mut self,
         at: StoreName,
@@ -92,11 +91,10 @@ impl Keeper for MapKeeper {
         ensures plan { CallsAsPlanned (call_plan self.old) (call_plan self.new) result }
     {
         self.plan.begin_call()?;
-        Ok(plain_graph::record_of(self.alloc, self.stores.log(at), id1, atype, id2)?)
+        Ok(self.stores.log(at).record(id1, atype, id2)?)
     }
 
-    /// Reads the log once, and keeps the list in order through each of its changes, in time of their product. Refers to
-    /// each change of the list, and copies the edges that it gives.
+    /// Goes past the edges before `pos`, and copies those that it gives.
     fn edges(
         &mut self,
         at: StoreName,
@@ -111,20 +109,20 @@ impl Keeper for MapKeeper {
         ensures plan { CallsAsPlanned (call_plan self.old) (call_plan self.new) result }
     {
         self.plan.begin_call()?;
-        Ok(plain_graph::edges_of(self.alloc, self.stores.log(at), id1, atype, pos, most)?)
+        Ok(self.stores.log(at).edges(id1, atype, pos, most)?)
     }
 
-    /// Reads the log once, refers to each change of the object, and copies the object.
+    /// Copies the object.
     fn object(&mut self, at: StoreName, id: Id) -> Result<Option<Object>, KeepFail>
         ensures answer { IfOk result (λ found. found ≡ object (told_by self.old at).log id) }
         ensures stays { Stays (told_by self.old) (told_by self.new) }
         ensures plan { CallsAsPlanned (call_plan self.old) (call_plan self.new) result }
     {
         self.plan.begin_call()?;
-        Ok(plain_graph::object_of(self.alloc, self.stores.log(at), id)?)
+        Ok(self.stores.log(at).object(id)?)
     }
 
-    /// Takes the time of `edges`. Refers to each change of the list, and copies nothing.
+    /// Reads no edge, and copies nothing.
     fn count(&mut self, at: StoreName, id1: Id, atype: AType) -> Result<u64, KeepFail>
         ensures answer { IfOk result (λ count. count ≡ length (edge_list (told_by self.old at).log id1 atype)) }
         ensures few { IfOk result (λ count. count ≤ MOST_ENTRIES) }
@@ -132,10 +130,10 @@ impl Keeper for MapKeeper {
         ensures plan { CallsAsPlanned (call_plan self.old) (call_plan self.new) result }
     {
         self.plan.begin_call()?;
-        Ok(plain_graph::count_of(self.alloc, self.stores.log(at), id1, atype)?)
+        Ok(self.stores.log(at).count(id1, atype)?)
     }
 
-    /// Reads the log once, and takes no memory.
+    /// Reads no entry, and takes no memory.
     fn version(&mut self, at: StoreName, key: Key) -> Result<u64, KeepFail>
         ensures answer { IfOk result (λ count. count ≡ version (told_by self.old at).log key) }
         ensures few { IfOk result (λ count. count ≤ MOST_ENTRIES) }
@@ -143,7 +141,7 @@ impl Keeper for MapKeeper {
         ensures plan { CallsAsPlanned (call_plan self.old) (call_plan self.new) result }
     {
         self.plan.begin_call()?;
-        Ok(plain_graph::version_of(self.stores.log(at), &key))
+        Ok(self.stores.log(at).version(key))
     }
 
     /// Reads no entry, and takes no memory.
@@ -154,7 +152,7 @@ impl Keeper for MapKeeper {
         ensures plan { CallsAsPlanned (call_plan self.old) (call_plan self.new) result }
     {
         self.plan.begin_call()?;
-        Ok(self.stores.log(at).len() as u64)
+        Ok(self.stores.log(at).as_slice().len() as u64)
     }
 
     /// Reads no other entry, and copies this one.
@@ -165,10 +163,10 @@ impl Keeper for MapKeeper {
         ensures plan { CallsAsPlanned (call_plan self.old) (call_plan self.new) result }
     {
         self.plan.begin_call()?;
-        Ok(log::entry_of(self.stores.log(at), position)?)
+        Ok(log::entry_of(self.stores.log(at).as_slice(), position)?)
     }
 
-    /// Reads the log once, and takes no memory.
+    /// Reads no entry, and takes no memory.
     fn last_serial(&mut self, at: StoreName) -> Result<u64, KeepFail>
         ensures answer { IfOk result (λ serial. serial ≡ additions (told_by self.old at).log) }
         ensures small { IfOk result (λ serial. serial < SERIAL_LIMIT) }
@@ -176,10 +174,10 @@ impl Keeper for MapKeeper {
         ensures plan { CallsAsPlanned (call_plan self.old) (call_plan self.new) result }
     {
         self.plan.begin_call()?;
-        Ok(log::additions_in(self.stores.log(at)))
+        Ok(self.stores.log(at).added())
     }
 
-    /// Reads the log up to the entry, and takes no memory.
+    /// One look-up, which takes no memory.
     fn origin(&mut self, at: StoreName, origin: Origin) -> Result<Option<u64>, KeepFail>
         ensures answer { IfOk result (StandsAt (told_by self.old at).log origin) }
         ensures within { IfOk result (λ found. IfSome found IsPosition) }
@@ -187,7 +185,7 @@ impl Keeper for MapKeeper {
         ensures plan { CallsAsPlanned (call_plan self.old) (call_plan self.new) result }
     {
         self.plan.begin_call()?;
-        Ok(log::position_of(self.stores.log(at), origin))
+        Ok(self.stores.log(at).position(origin))
     }
 
     /// Reads no other job, and copies this one.
@@ -201,7 +199,7 @@ impl Keeper for MapKeeper {
         Ok(copied(self.stores.first_job(at))?)
     }
 
-    /// Goes through the store's open jobs, and copies this one.
+    /// One look-up, and copies this one.
     fn job(&mut self, at: StoreName, position: u64) -> Result<Option<Job>, KeepFail>
         ensures answer { IfOk result (IsJobAt (told_by self.old at).jobs position) }
         ensures given { IfOk result (λ found. IfSome found IsGivenJob) }
@@ -212,7 +210,7 @@ impl Keeper for MapKeeper {
         Ok(copied(self.stores.job(at, position))?)
     }
 
-    /// Goes through the store's open jobs, and takes no memory.
+    /// One look-up, which takes no memory.
     fn end_job(&mut self, at: StoreName, position: u64) -> Result<(), KeepFail>
         ensures changes { Changes result (told_by self.old) (told_by self.new) at (after_end (told_by self.old at) position) }
         ensures plan { CallsAsPlanned (call_plan self.old) (call_plan self.new) result }
@@ -222,7 +220,8 @@ impl Keeper for MapKeeper {
         Ok(())
     }
 
-    /// Reads no entry, and copies the one that is added and its job.
+    /// Copies the entry that is added and its job, and for the index the objects and edges that the entry sets. Two
+    /// look-ups for each key that it touches, and one for its origin.
     fn commit(&mut self, at: StoreName, commit: &Commit) -> Result<(), KeepFail>
         requires stamps { HaveSmallStamps commit.now.entry.touches }
         requires job { IfSome commit.now.job (λ job. job.position ≡ commit.now.entry.position) }

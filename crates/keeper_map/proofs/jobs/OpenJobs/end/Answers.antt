@@ -1,19 +1,8 @@
-use Rattle.std.proofs.Common.{◌<◌, ◌∙◌, ap}
-use Rattle.std.proofs.lemmas.List.Elements.{All-filter}
-use Rattle.std.proofs.lemmas.List.Kept.{AllPairs-filter}
-use Rattle.std.specs.Prelude.{not}
-use Rattle.tao_keeper.specs.Given.{IsGivenJob}
-use Rattle.keeper_map.proofs.JobLemmas.{ended}
-use Rattle.keeper_map.specs.Jobs.{is_job_at, listed}
+use Rattle.std.proofs.Common.{None}
+use Rattle.keeper_map.proofs.JobLemmas.{still_stand}
 use Rattle.keeper_map.proofs.jobs.OpenJobs.end.Goals as goal
 
-pub invariant_of-self-clause-rising : goal.invariant_of-self-clause-rising
-invariant_of-self-clause-rising c =
-    rw (c.take_out.ensures) (AllPairs-filter (λ x y. x.position < y.position) (λ j. not (is_job_at c.args.position j)) c.args.self.now.jobs.items c.args.self.now.rising)
-
-pub invariant_of-self-clause-given : goal.invariant_of-self-clause-given
-invariant_of-self-clause-given c =
-    rw (c.take_out.ensures) (All-filter (λ j. not (is_job_at c.args.position j)) IsGivenJob c.args.self.now.jobs.items c.args.self.now.given)
-
-pub returns : goal.returns
-returns c = ap listed c.take_out.ensures ∙ (λ i position. ended c.args.self.now.jobs.items c.args.position position i)
+pub invariant_of-self : goal.invariant_of-self
+invariant_of-self c = record {
+  stand = still_stand c.args.position None c.args.self.now.jobs c.remove.new.self c.remove.ensures.updates.0 c.args.self.now.stand (λ job h. absurd (cc));
+}

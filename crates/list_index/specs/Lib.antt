@@ -1,0 +1,3 @@
+pub mod AtKeys
+pub mod ListState
+pub mod OrderKeys

@@ -1,0 +1,5 @@
+pub mod Ids
+pub mod IndexLemmas
+pub mod KeyLemmas
+pub mod PositionLemmas
+pub mod Versions

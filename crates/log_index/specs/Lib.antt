@@ -1,0 +1,4 @@
+pub mod IndexOf
+pub mod KeyIndex
+pub mod KeyState
+pub mod Positions

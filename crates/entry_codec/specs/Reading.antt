@@ -194,3 +194,7 @@ spelled_entry = do
 -- the entry that the bytes spell, or the place of the first field that is refused
 abbrev pub decoded : List ℕ → Result Entry ℕ
 decoded bytes = ended (spelled_entry (record { at = 0; bytes = bytes }))
+
+-- the data that the bytes spell, or the place of the first field that is refused
+abbrev pub data_in : List ℕ → Result (List Pair) ℕ
+data_in bytes = ended (spelled_data (record { at = 0; bytes = bytes }))

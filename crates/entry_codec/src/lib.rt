@@ -18,6 +18,7 @@
 ghost use Rattle.entry_codec.specs.Laws.{OneSpelling};
 
 mod data_fields;
+mod data_spelled;
 mod entry_fields;
 mod reader;
 mod refusal;
@@ -25,6 +26,7 @@ mod spelled;
 mod touch_fields;
 mod writing;
 
+pub use data_spelled::{decode_data, encode_data};
 pub use refusal::EntryRefusal;
 pub use spelled::Spelled;
 

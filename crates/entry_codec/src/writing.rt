@@ -164,7 +164,7 @@ fn put_was(out: &mut Vec<u8>, was: Option<Time>) -> Result<(), AllocError>
     }
 }
 
-fn put_data(out: &mut Vec<u8>, payload: &Data) -> Result<(), AllocError>
+pub fn put_data(out: &mut Vec<u8>, payload: &Data) -> Result<(), AllocError>
     ensures bytes { OnOk result (out.new.items ≡ out.old.items ++ data_bytes payload.now) }
     ensures fits { OnOk result (DataFits payload.now) }
 {

@@ -1,0 +1,23 @@
+-- Examples of words compute.
+use Rattle.std.proofs.Common.{refl}
+use Rattle.clap.proofs.OnLiterals.{clap_on_literals}
+use Rattle.command_words.specs.CommandLine.{faults_in, subcommand_in}
+use Rattle.command_words.specs.Read.{ExamplesOfWords}
+
+pub examples_of_words : ExamplesOfWords
+unfolding clap_on_literals faults_in subcommand_in
+examples_of_words = record {
+  in_memory = refl;
+  in_a_file = refl;
+  with_equals = refl;
+  none = refl;
+  unknown = refl;
+  one_more = refl;
+  no_file = refl;
+  two_files = refl;
+  unknown_option = refl;
+  help = refl;
+  help_of_run = refl;
+  version = refl;
+  no_help = refl;
+}

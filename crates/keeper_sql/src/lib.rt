@@ -1,0 +1,19 @@
+//! A keeper of tables in a file, over SQL.
+//!
+//! It tells how often it was called and failed, and not its tables: what a file holds no contract can say. So each
+//! answer is held to what a keeper may hand out, and a row that is otherwise counts as a fault. Besides that its few
+//! lines of SQL are trusted, and tested.
+#![tactic(auto)]
+
+mod columns;
+mod given;
+mod keeper;
+mod open;
+mod order;
+mod reading;
+mod rows;
+mod schema;
+mod spelled;
+mod writing;
+
+pub use keeper::SqlKeeper;

@@ -1,0 +1,321 @@
+//! What is read of the tables.
+ghost use Rattle.std.specs.Prelude.{◌<◌, ◌≤◌, IfOk, IfSome};
+ghost use Rattle.graph_model.specs.Edges.{number_of};
+ghost use Rattle.tao_keeper.specs.Given.{AreGiven, IsGivenEntry, IsGivenJob, IsPosition};
+
+use crate::columns::{bytes, id, maybe_bytes, number, short, word};
+use crate::rows::{all, first, place};
+use crate::{given, spelled};
+use sqlite::{Alter, Connection, Row, params};
+use std::alloc::Global;
+use tao_base::{
+    AType, Edge, EdgeState, Edges, Entry, Id, Key, OType, Object, Origin, Stamp, StoreName,
+};
+use tao_keeper::{Job, KeepFail, MOST_ENTRIES, SERIAL_LIMIT, STAMP_LIMIT};
+
+/// The line that a store was first opened with, where it was.
+pub(crate) fn first_line<S: Alter>(
+    conn: &mut Connection<S>,
+    at: StoreName,
+) -> Result<Option<Vec<u8>>, KeepFail> {
+    let (region, shard) = place(at);
+    let sql = "SELECT line FROM store WHERE region = ?1 AND shard = ?2";
+    match first(conn, sql, params![region, shard])? {
+        Some(row) => maybe_bytes(&row, 0),
+        None => Ok(None),
+    }
+}
+
+/// A stamp, in two columns from a place on.
+fn stamp(row: &Row, at: usize) -> Result<Stamp, KeepFail>
+    requires { at < 64 }
+{
+    Ok(Stamp {
+        number: number(row, at)?,
+        shard: short(row, at + 1)?,
+    })
+}
+
+/// The record of a row: whether it is live, its time, its stamp and its data.
+fn record_of(alloc: Global, row: &Row) -> Result<EdgeState, KeepFail> {
+    let stamp = stamp(row, 2)?;
+    match number(row, 0)? {
+        0 => Ok(EdgeState::Cut { stamp }),
+        1 => Ok(EdgeState::Live {
+            time: word(row, 1)?,
+            payload: spelled::data_of(alloc, &bytes(row, 4)?)?,
+            stamp,
+        }),
+        _ => Err(KeepFail::Failed),
+    }
+}
+
+/// The row of an edge.
+fn edge_row<S: Alter>(
+    conn: &mut Connection<S>,
+    at: StoreName,
+    id1: Id,
+    atype: AType,
+    id2: Id,
+) -> Result<Option<Row>, KeepFail> {
+    let (region, shard) = place(at);
+    let (id1, id2) = (id1.number().cast_signed(), id2.number().cast_signed());
+    let sql = "SELECT live, time, number, sshard, data FROM edge \
+        WHERE region = ?1 AND shard = ?2 AND id1 = ?3 AND atype = ?4 AND id2 = ?5";
+    first(
+        conn,
+        sql,
+        params![region, shard, id1, i64::from(atype.0), id2],
+    )
+}
+
+/// The record of an edge.
+pub(crate) fn edge<S: Alter>(
+    alloc: Global,
+    conn: &mut Connection<S>,
+    at: StoreName,
+    id1: Id,
+    atype: AType,
+    id2: Id,
+) -> Result<Option<EdgeState>, KeepFail>
+    ensures { IfOk result (λ found. number_of found < STAMP_LIMIT) }
+{
+    match edge_row(conn, at, id1, atype, id2)? {
+        Some(row) => Ok(Some(given::state(record_of(alloc, &row)?)?)),
+        None => Ok(None),
+    }
+}
+
+/// The rows of a list's live edges at the places from `pos` on, at most `most`.
+fn edge_rows<S: Alter>(
+    conn: &mut Connection<S>,
+    at: StoreName,
+    id1: Id,
+    atype: AType,
+    pos: u64,
+    most: u64,
+) -> Result<Vec<Row>, KeepFail> {
+    let (region, shard) = place(at);
+    let id1 = id1.number().cast_signed();
+    let (pos, most) = (pos.min(MOST_ENTRIES) as i64, most.min(MOST_ENTRIES) as i64);
+    let sql = "SELECT id2, time, number, sshard, data FROM edge \
+        WHERE region = ?1 AND shard = ?2 AND id1 = ?3 AND atype = ?4 AND live = 1 \
+        ORDER BY time DESC, idkey DESC LIMIT ?5 OFFSET ?6";
+    all(
+        conn,
+        sql,
+        params![region, shard, id1, i64::from(atype.0), most, pos],
+    )
+}
+
+fn edge_of(alloc: Global, row: &Row) -> Result<Edge, KeepFail> {
+    Ok(Edge {
+        id2: id(row, 0)?,
+        time: word(row, 1)?,
+        payload: spelled::data_of(alloc, &bytes(row, 4)?)?,
+        stamp: stamp(row, 2)?,
+    })
+}
+
+/// The live edges of a list at the places from `pos` on, at most `most`.
+pub(crate) fn edges<S: Alter>(
+    alloc: Global,
+    conn: &mut Connection<S>,
+    at: StoreName,
+    id1: Id,
+    atype: AType,
+    pos: u64,
+    most: u64,
+) -> Result<Edges, KeepFail>
+    ensures { IfOk result (AreGiven most) }
+{
+    let rows = edge_rows(conn, at, id1, atype, pos, most)?;
+    let mut edges = Vec::new(alloc);
+    for row in &rows {
+        edges.push(edge_of(alloc, row)?)?;
+    }
+    given::edges(edges, most)
+}
+
+fn object_of(alloc: Global, row: &Row) -> Result<Object, KeepFail> {
+    Ok(Object {
+        otype: OType(short(row, 0)?),
+        payload: spelled::data_of(alloc, &bytes(row, 1)?)?,
+    })
+}
+
+/// The object of an id.
+pub(crate) fn object<S: Alter>(
+    alloc: Global,
+    conn: &mut Connection<S>,
+    at: StoreName,
+    id: Id,
+) -> Result<Option<Object>, KeepFail> {
+    let (region, shard) = place(at);
+    let sql = "SELECT otype, data FROM object WHERE region = ?1 AND shard = ?2 AND id = ?3";
+    match first(conn, sql, params![region, shard, id.number().cast_signed()])? {
+        Some(row) => Ok(Some(object_of(alloc, &row)?)),
+        None => Ok(None),
+    }
+}
+
+/// The number in the first column, 0 where there is no row.
+fn number_or_none(row: Option<Row>) -> Result<u64, KeepFail> {
+    match row {
+        Some(row) => number(&row, 0),
+        None => Ok(0),
+    }
+}
+
+/// The length of a list.
+pub(crate) fn count<S: Alter>(
+    conn: &mut Connection<S>,
+    at: StoreName,
+    id1: Id,
+    atype: AType,
+) -> Result<u64, KeepFail>
+    ensures { IfOk result (λ count. count ≤ MOST_ENTRIES) }
+{
+    let (region, shard) = place(at);
+    let id1 = id1.number().cast_signed();
+    let sql = "SELECT n FROM size WHERE region = ?1 AND shard = ?2 AND id1 = ?3 AND atype = ?4";
+    let row = first(conn, sql, params![region, shard, id1, i64::from(atype.0)])?;
+    given::few(number_or_none(row)?)
+}
+
+/// A key as it stands in rows: its tag, its id and its type.
+pub(crate) fn key_columns(key: Key) -> (i64, i64, i64) {
+    match key {
+        Key::Obj(id) => (1, id.number().cast_signed(), 0),
+        Key::List(id, atype) => (2, id.number().cast_signed(), i64::from(atype.0)),
+    }
+}
+
+/// The version of a key.
+pub(crate) fn version<S: Alter>(
+    conn: &mut Connection<S>,
+    at: StoreName,
+    key: Key,
+) -> Result<u64, KeepFail>
+    ensures { IfOk result (λ count. count ≤ MOST_ENTRIES) }
+{
+    let (region, shard) = place(at);
+    let (tag, id, atype) = key_columns(key);
+    let sql = "SELECT n FROM version \
+        WHERE region = ?1 AND shard = ?2 AND tag = ?3 AND id = ?4 AND atype = ?5";
+    let row = first(conn, sql, params![region, shard, tag, id, atype])?;
+    given::few(number_or_none(row)?)
+}
+
+/// The length of the log.
+pub(crate) fn length<S: Alter>(conn: &mut Connection<S>, at: StoreName) -> Result<u64, KeepFail>
+    ensures { IfOk result (λ count. count ≤ MOST_ENTRIES) }
+{
+    let (region, shard) = place(at);
+    let sql = "SELECT position FROM log WHERE region = ?1 AND shard = ?2 \
+        ORDER BY position DESC LIMIT 1";
+    let row = first(conn, sql, params![region, shard])?;
+    given::few(number_or_none(row)?)
+}
+
+/// The entry at a position.
+pub(crate) fn entry<S: Alter>(
+    alloc: Global,
+    conn: &mut Connection<S>,
+    at: StoreName,
+    position: u64,
+) -> Result<Option<Entry>, KeepFail>
+    ensures { IfOk result (λ found. IfSome found IsGivenEntry) }
+{
+    let (region, shard) = place(at);
+    let sql = "SELECT entry FROM log WHERE region = ?1 AND shard = ?2 AND position = ?3";
+    match first(conn, sql, params![region, shard, position.cast_signed()])? {
+        Some(row) => {
+            let entry = spelled::entry_of(alloc, &bytes(&row, 0)?)?;
+            Ok(Some(given::entry(entry, position)?))
+        }
+        None => Ok(None),
+    }
+}
+
+/// The serial of the last object that was added.
+pub(crate) fn last_serial<S: Alter>(
+    conn: &mut Connection<S>,
+    at: StoreName,
+) -> Result<u64, KeepFail>
+    ensures { IfOk result (λ serial. serial < SERIAL_LIMIT) }
+{
+    let (region, shard) = place(at);
+    let sql = "SELECT serial FROM store WHERE region = ?1 AND shard = ?2";
+    let row = first(conn, sql, params![region, shard])?;
+    given::serial(number_or_none(row)?)
+}
+
+/// An origin as it stands in rows: its tag and its two parts.
+pub(crate) fn origin_columns(origin: Origin) -> (i64, i64, i64) {
+    match origin {
+        Origin::Client { session, seq } => (1, i64::from(session), seq.cast_signed()),
+        Origin::Merge { shard, position } => (2, i64::from(shard), position.cast_signed()),
+    }
+}
+
+/// Where the entry of an origin stands.
+pub(crate) fn origin<S: Alter>(
+    conn: &mut Connection<S>,
+    at: StoreName,
+    origin: Origin,
+) -> Result<Option<u64>, KeepFail>
+    ensures { IfOk result (λ found. IfSome found IsPosition) }
+{
+    let (region, shard) = place(at);
+    let (tag, a, b) = origin_columns(origin);
+    let sql = "SELECT position FROM log \
+        WHERE region = ?1 AND shard = ?2 AND tag = ?3 AND a = ?4 AND b = ?5";
+    match first(conn, sql, params![region, shard, tag, a, b])? {
+        Some(row) => Ok(Some(given::position(number(&row, 0)?)?)),
+        None => Ok(None),
+    }
+}
+
+/// The job of a row, where there is one.
+fn job_of(alloc: Global, row: Option<Row>) -> Result<Option<Job>, KeepFail>
+    ensures { IfOk result (λ found. IfSome found IsGivenJob) }
+{
+    match row {
+        Some(row) => {
+            let job = spelled::job_of(alloc, &bytes(&row, 1)?)?;
+            Ok(Some(given::job(job, number(&row, 0)?)?))
+        }
+        None => Ok(None),
+    }
+}
+
+/// The open job of the least position.
+pub(crate) fn first_job<S: Alter>(
+    alloc: Global,
+    conn: &mut Connection<S>,
+    at: StoreName,
+) -> Result<Option<Job>, KeepFail>
+    ensures { IfOk result (λ found. IfSome found IsGivenJob) }
+{
+    let (region, shard) = place(at);
+    let sql = "SELECT position, edges FROM job WHERE region = ?1 AND shard = ?2 \
+        ORDER BY position LIMIT 1";
+    let row = first(conn, sql, params![region, shard])?;
+    job_of(alloc, row)
+}
+
+/// The open job of a position.
+pub(crate) fn job<S: Alter>(
+    alloc: Global,
+    conn: &mut Connection<S>,
+    at: StoreName,
+    position: u64,
+) -> Result<Option<Job>, KeepFail>
+    ensures { IfOk result (λ found. IfSome found IsGivenJob) }
+{
+    let (region, shard) = place(at);
+    let sql = "SELECT position, edges FROM job WHERE region = ?1 AND shard = ?2 AND position = ?3";
+    let row = first(conn, sql, params![region, shard, position.cast_signed()])?;
+    job_of(alloc, row)
+}

@@ -10,7 +10,9 @@ mod plans;
 mod refusals;
 mod reply;
 
-pub use calls::{CallReply, InverseEnd, ReadReply, ScheduledWhy, WriteKind, WriteReply, Written, query_word};
+pub use calls::{
+    CallReply, InverseEnd, ReadReply, ScheduledWhy, WriteKind, WriteReply, Written, query_word,
+};
 pub use lists::{Lengths, Message, Messages};
 pub use nodes::{
     CacheReply, Delivered, KeptOrNot, NodeReply, NotKept, NotKeptWhy, Refilled, Repaired, Shown,

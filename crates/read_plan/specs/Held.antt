@@ -9,8 +9,8 @@ use Rattle.graph_model.specs.Told.{WhereTold}
 use Rattle.sealed_item.specs.Decided.{content_answer, content_decides}
 use Rattle.sealed_item.specs.Fills.{SealedItem, IsSealed}
 use Rattle.shard_log.specs.GrowthLaws.{IsLegalIn}
-use Rattle.shard_log.specs.View.{View}
-use Rattle.shard_tables.specs.ReadOuts.{IsReadOutOf}
+use Rattle.shard_log.specs.View.{View, Begins}
+use Rattle.shard_tables.specs.ReadOuts.{IsFillFor, IsReadOutOf}
 use Rattle.shard_tables.specs.declared.leader_answer.LeaderAnswer.TheVariants as leader
 use Rattle.shard_tables.specs.declared.read_out.ReadOut.{ReadOut}
 use Rattle.shard_tables.specs.declared.read_out.ReadOut.TheVariants as store
@@ -67,6 +67,13 @@ pub record ReadsGoOn (types : EdgeTypes) (p : Reading) (hops : ℕ) (called : Bo
       → IsHeldRead types (taken (came.Ask (Ok (leader.Past answer version total note))) hops called p)
       × IsHeldRead types (taken (came.Master (Ok (store.Past answer version total note))) hops called p)
   pub behind : (version : ℕ) → IsHeldRead types (taken (came.Ask (Ok (leader.Behind version))) hops called p)
+
+-- what a store read of its log, of which the note has seen a beginning at least as long, may be given at a floor that its version has
+pub record ReadsAreGiven (types : EdgeTypes) (query : Query) (floor : ℕ) : Type 0 where
+  pub filled : (fill : SealedItem) → IsFillFor types query fill → WhereTold fill.note.log.told (floor ≤ fill.version) → IsGivenFill types query floor fill
+  pub past : (log : List Entry) (answer : Answer) (version total : ℕ) (note : View) → WhereTold note.log.told (Begins log note.entries)
+      → WhereTold note.log.told (IsReadOutOf types log query (store.Past answer version total note)) → WhereTold note.log.told (floor ≤ version)
+      → IsGiven types query floor (Past answer version total (Some note))
 
 -- what is answered from what is right is legal in what was seen of the log
 pub record GivenIsLegal (types : EdgeTypes) (query : Query) (floor : ℕ) : Type 0 where

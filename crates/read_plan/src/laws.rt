@@ -3,7 +3,7 @@ ghost use Rattle.std.specs.Prelude.{ℕ, Bool};
 ghost use Rattle.tao_base.specs.EdgeTypes.{EdgeTypes};
 ghost use Rattle.tao_base.specs.declared.query.Query.{Query as AnyQuery};
 ghost use Rattle.node_name.specs.declared.NodeName.{NodeName as AnyNode};
-ghost use Rattle.read_plan.specs.Held.{GivenIsLegal, ReadsGoOn};
+ghost use Rattle.read_plan.specs.Held.{GivenIsLegal, ReadsAreGiven, ReadsGoOn};
 ghost use Rattle.read_plan.specs.Readings.{Reading};
 ghost use Rattle.read_plan.specs.Runs.{AnswersAreGiven, ReadsEnd};
 ghost use Rattle.read_plan.specs.declared.stages.ReadResult.{ReadResult};
@@ -19,6 +19,12 @@ pub fn reads_end()
 #[tactic(auto, using(crate::proofs::HeldLemmas::reads_go_on))]
 pub fn reads_go_on()
     ensures { (types : EdgeTypes) (p : Reading) (hops : ℕ) (called : Bool) → ReadsGoOn types p hops called }
+{}
+
+/// What a store read may be given to a read, whose floor its version has.
+#[tactic(auto, using(crate::proofs::HeldLemmas::reads_are_given))]
+pub fn reads_are_given()
+    ensures { (types : EdgeTypes) (query : AnyQuery) (floor : ℕ) → ReadsAreGiven types query floor }
 {}
 
 /// What is answered from what was given is legal in what was seen of the log.

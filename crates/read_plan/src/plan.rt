@@ -161,7 +161,7 @@ impl ReadPlan {
     }
 
     /// Takes what the stage that follows came to, with the carries over links that it took, and whether it called a keeper.
-    /// The hops add up, and stand still at 2^64 - 1.
+    /// A critical read takes a hit as a miss. The hops add up, and stand still at 2^64 - 1.
     pub fn take(&mut self, outcome: ReadResult, hops: u64, store: bool)
         requires stage { came_of outcome ≡ stage_of self.old.at }
         requires answered { IsAnsweredFrom self.old.at outcome }

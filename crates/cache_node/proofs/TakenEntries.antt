@@ -162,10 +162,9 @@ touches_seen shard e note m s at grows on few sound stands here =
         let found : Some s ≡ Some other = sym at ∙ (ap (λ k. served_at k m) (sym on_shard) ∙ there) in
         let same : s ≡ other = cc in
         let reached = touch_reached note.entries (own_touch (change_by t note)) (sound is) touch in
-        let within = count_by-le-length (touches_key t.key) note.entries in
-        (
+        let within = count_by-le-length (touches_key t.key) note.entries in (
           subst (λ (o : ServedShard). IsTouchOf o.view.entries (own_touch (change_by t note))) same
-          (touches_stay.stays note s.view (own_touch (change_by t note)) grows (λ told. touch) (ap (λ (l : LogName). l.told) grows.log_is ∙ is)),
+              (touches_stay.stays note s.view (own_touch (change_by t note)) grows (λ told. touch) (ap (λ (l : LogName). l.told) grows.log_is ∙ is)),
           omega arith,
         )
 

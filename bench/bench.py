@@ -5,9 +5,11 @@ usage: bench.py TAO [YARDSTICK]
 
 TAO is the built program (crates/tao/out/tao once ./tao was run), YARDSTICK that of bench/yardstick.
 Prints the lines that a second takes of 20,000 mixed calls, what a call costs as the log of its shard
-grows, and, with a yardstick, the ratio of the times on one script of ranges (below 1 TAO is faster).
+grows, beside what the same tables take in sqlite3 in memory, and, with a yardstick, the ratio of the
+times on one script of ranges (below 1 TAO is faster).
 """
 import json
+import sqlite3
 import subprocess
 import sys
 import time
@@ -100,17 +102,64 @@ def best(command, data):
     return min(times)
 
 
+TABLES = """
+create table log (position integer primary key, session integer, seq integer, key blob, entry blob, unique (session, seq));
+create table versions (key blob primary key, version integer, edges integer) without rowid;
+create table edges (key blob, id2 integer, time integer, stamp integer, data blob, primary key (key, id2)) without rowid;
+create unique index newest on edges (key, time desc, id2 desc);
+"""
+RAISE = "insert into versions values (?, 1, 1) on conflict (key) do update set version = version + 1, edges = edges + 1"
+KEY = b"\x00" * 7 + b"\x01\x00\x00"
+
+
+def rows_added(tables, count):
+    """Edges of one list, each a transaction: its origin and record are asked for, then its entry, version and edge written."""
+    ask = tables.execute
+    for i in range(count):
+        ask("begin")
+        ask("select position from log where session = 1 and seq = ?", (i + 1,)).fetchone()
+        ask("select time, stamp, data from edges where key = ? and id2 = ?", (KEY, i + 2)).fetchone()
+        ask("select version from versions where key = ?", (KEY,)).fetchone()
+        ask("insert into log values (?, 1, ?, ?, ?)", (i + 1, i + 1, KEY, b""))
+        ask(RAISE, (KEY,))
+        ask("insert or replace into edges values (?, ?, ?, 1, ?)", (KEY, i + 2, i, b""))
+        ask("commit")
+
+
+def rows_ranged(tables, count):
+    """What a range asks for: the list's version, the log's length, the list's length and its first ten edges."""
+    ask = tables.execute
+    for _ in range(count):
+        ask("select version, edges from versions where key = ?", (KEY,)).fetchone()
+        ask("select max(position) from log").fetchone()
+        ask("select id2, time, stamp, data from edges where key = ? order by time desc, id2 desc limit 10", (KEY,)).fetchall()
+
+
+def in_sqlite(length, asked):
+    """Seconds that an add and a range take, with a list of that length."""
+    tables = sqlite3.connect(":memory:", isolation_level=None)
+    tables.executescript(TABLES)
+    start = time.perf_counter()
+    rows_added(tables, length)
+    added = time.perf_counter()
+    rows_ranged(tables, asked)
+    return (added - start) / length, (time.perf_counter() - added) / asked
+
+
 def main():
     tao = [sys.argv[1], "run"]
     calls = 20_000
     took = best(tao, script(mixed(calls)))
     print(f"{calls:,} mixed calls on {SHARDS} shards: {calls / took:,.0f} lines a second")
-    for length in (1_000, 2_000, 4_000, 8_000):
+    asks = 5_000
+    for length in (1_000, 8_000, 65_536):
         grown = best(tao, script(front(1), adds(length)))
-        asked = best(tao, script(front(1), adds(length), ranges(500)))
+        asked = best(tao, script(front(1), adds(length), ranges(asks)))
+        add, found = grown / length, (asked - grown) / asks
+        row_added, row_found = in_sqlite(length, asks)
         print(
-            f"a log of {length:,} entries: an add {grown / length * 1e6:,.0f} microseconds on the way there,"
-            f" a range {(asked - grown) / 500 * 1e6:,.0f} at its end"
+            f"a log of {length:,} entries: an add {add * 1e6:,.1f} microseconds on the way there, {add / row_added:.2f} of"
+            f" sqlite's; a range of ten edges {found * 1e6:,.1f} at its end, {found / row_found:.2f} of sqlite's"
         )
     if len(sys.argv) > 2:
         lines = 100_000

@@ -26,7 +26,7 @@ use Rattle.cache_items.specs.Node.{Node, item_at}
 use Rattle.cache_items.specs.declared.item.Item.{Item}
 use Rattle.cache_node.proofs.Answering.{fill_answers}
 use Rattle.tao_keeper.specs.Table.{Tables}
-use Rattle.shard_tables.specs.ReadOuts.{ContentDecides, IsFillFor, IsReadOutOf, read_note}
+use Rattle.shard_tables.specs.ReadOuts.{IsFillFor, IsReadOutOf, read_note}
 use Rattle.shard_tables.specs.Reads.{AnswersAtVersion}
 use Rattle.shard_tables.specs.StoreView.{Store}
 use Rattle.shard_tables.specs.Stores.{HasSeen, IsStoreOf, note_of, seen_by}
@@ -36,34 +36,15 @@ use Rattle.shard_tables.specs.declared.store.Role.{Role}
 use Rattle.shard_tables.specs.declared.store.Role.TheVariants.{Master, Slave}
 use Rattle.leader_tier.specs.LeaderReads.{AreAnswersSeen, IsFillAt}
 
--- the store's word and the node's word for one thing
-fill_decides : (types : EdgeTypes) (query : Query) (content : Content) → ContentDecides types query (query_key query) content → content_decides types content query ≡ true
-fill_decides types (ObjGet id) (ObjectIs found) serves = refl
-fill_decides types (ObjGet id) (ListIs prefix) serves = absurd serves
-fill_decides types (AssocGet id1 atype ids high low) (ObjectIs found) serves = absurd serves
-fill_decides types (AssocGet id1 atype ids high low) (ListIs prefix) serves = serves.decided
-fill_decides types (AssocCount id1 atype) (ObjectIs found) serves = absurd serves
-fill_decides types (AssocCount id1 atype) (ListIs prefix) serves = serves.decided
-fill_decides types (AssocRange id1 atype pos limit) (ObjectIs found) serves = absurd serves
-fill_decides types (AssocRange id1 atype pos limit) (ListIs prefix) serves = serves.decided
-fill_decides types (AssocTimeRange id1 atype high low limit) (ObjectIs found) serves = absurd serves
-fill_decides types (AssocTimeRange id1 atype high low limit) (ListIs prefix) serves = serves.decided
-
-fill_within : (types : EdgeTypes) (query : Query) (key : Key) (content : Content) → ContentDecides types query key content → IsWithinBound types key content
-fill_within types query (Obj id) content serves = tt
-fill_within types query (Assocs id1 atype) (ObjectIs found) serves = absurd serves
-fill_within types query (Assocs id1 atype) (ListIs prefix) serves = serves.few
-
 -- a fill that a store read, which has come to the floor
 pub read_is_at : (types : EdgeTypes) (query : Query) (floor : ℕ) (fill : SealedItem) → IsFillFor types query fill → IsSealed fill → floor ≤ fill.version → IsFillAt types query floor fill
 read_is_at types query floor fill for sealed reaches =
-    let decides = fill_decides types query fill.content for.serves in
     record {
       key_is = for.key_is;
-      decides = decides;
-      within = fill_within types query (query_key query) fill.content for.serves;
+      decides = for.decided;
+      within = for.within;
       reaches = reaches;
-      legal = fill_answers types query fill for.key_is decides sealed;
+      legal = fill_answers types query fill for.key_is for.decided sealed;
     }
 
 -- a fill of an item of its own

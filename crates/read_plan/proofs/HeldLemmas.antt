@@ -11,7 +11,7 @@ use Rattle.sealed_item.proofs.Deciding.{contents_answer}
 use Rattle.sealed_item.specs.Decided.{IsExactAnswer, content_answer, content_decides}
 use Rattle.sealed_item.specs.declared.content.Content.{Content}
 use Rattle.sealed_item.specs.declared.content.Content.TheVariants.{Object as ObjectIs, List as ListIs}
-use Rattle.shard_tables.specs.ReadOuts.{ContentDecides, IsReadOutOf}
+use Rattle.shard_tables.specs.ReadOuts.{IsReadOutOf}
 use Rattle.shard_tables.specs.declared.read_out.ReadOut.TheVariants as store
 use Rattle.sealed_item.specs.Fills.{SealedItem, IsExactContent, IsSealed}
 use Rattle.shard_log.specs.GrowthLaws.{IsLegalIn}
@@ -49,22 +49,9 @@ given_is_legal types query floor = record {
       record { n = was.n; answers = was.out_is.0.answer_is; version_is = was.out_is.0.version_is; reached = was.reaches };
 }
 
--- what answers a query decides it
-decides_for : (types : EdgeTypes) (query : Query) (content : Content) → ContentDecides types query (query_key query) content → content_decides types content query ≡ true
-decides_for types (ObjGet id) (ObjectIs found) serves = refl
-decides_for types (ObjGet id) (ListIs prefix) serves = absurd serves
-decides_for types (AssocGet id1 atype ids high low) (ListIs prefix) serves = serves.decided
-decides_for types (AssocGet id1 atype ids high low) (ObjectIs found) serves = absurd serves
-decides_for types (AssocCount id1 atype) (ListIs prefix) serves = serves.decided
-decides_for types (AssocCount id1 atype) (ObjectIs found) serves = absurd serves
-decides_for types (AssocRange id1 atype pos limit) (ListIs prefix) serves = serves.decided
-decides_for types (AssocRange id1 atype pos limit) (ObjectIs found) serves = absurd serves
-decides_for types (AssocTimeRange id1 atype high low limit) (ListIs prefix) serves = serves.decided
-decides_for types (AssocTimeRange id1 atype high low limit) (ObjectIs found) serves = absurd serves
-
 pub reads_are_given : (types : EdgeTypes) (query : Query) (floor : ℕ) → ReadsAreGiven types query floor
 reads_are_given types query floor = record {
-  filled = λ fill for reaches. record { key_is = for.key_is; decides = decides_for types query fill.content for.serves; reaches = reaches };
+  filled = λ fill for reaches. record { key_is = for.key_is; decides = for.decided; reaches = reaches };
   past = λ log answer version total note begins reads reaches told.
       let P : List Entry → Type 0 = λ part. IsReadOutOf types part query (store.Past answer version total note) in
       record { n = length log; out_is = subst P (begins told) (reads told); reaches = reaches told };

@@ -1,29 +1,28 @@
 -- What the tests' leader keeps through each call.
-use Rattle.std.proofs.Common.{◌≡◌, ℕ, ◌-◌, Bool, true, false, List, [], ◌∷◌, ◌++◌, length, take, drop, Option, Some, None, Result, Ok, Err, IfOk, OnErr, refl, sym, ◌∙◌, ap, subst, inl, inr, arith, suc, zero}
+use Rattle.std.proofs.Common.{◌≡◌, ℕ, ◌-◌, Bool, true, false, List, [], ◌∷◌, length, take, drop, Option, Some, None, Result, Ok, Err, IfOk, OnErr, refl, sym, ◌∙◌, ap, subst, inl, inr, arith, suc, zero}
 use Rattle.std.proofs.lemmas.Bool.{cases_Bool}
 use Rattle.std.specs.Bool.{OnTrue}
 use Rattle.std.specs.Option.{option_map}
-use Rattle.std.specs.Prelude.{◌==◌, ◌≢◌, IfNone, IfSome, IsSome, OnSome, if◌then◌else◌, map, slice_get}
+use Rattle.std.specs.Prelude.{◌==◌, ◌≢◌, IfNone, IfSome, OnSome, if◌then◌else◌, map, slice_get}
 use Rattle.tao_base.specs.EdgeTypes.{EdgeTypes}
 use Rattle.tao_base.specs.declared.entry.Entry.{Entry}
 use Rattle.tao_base.specs.declared.entry.Touch.{Touch}
-use Rattle.tao_base.specs.declared.id.Key.{Key}
 use Rattle.tao_base.specs.declared.id.StoreName.{StoreName}
 use Rattle.tao_base.specs.Keys.{key_shard}
 use Rattle.graph_model.proofs.Lists.{eqb-self}
 use Rattle.graph_model.specs.Log.{entry_at}
 use Rattle.graph_model.specs.Soundness.{IsSoundOf}
 use Rattle.graph_model.specs.Told.{WhereTold}
-use Rattle.shard_log.specs.View.{LogName, View, as_note}
+use Rattle.shard_log.specs.View.{LogName, View}
 use Rattle.changeset.specs.Changes.{SeenChange, change_by, seen_change_at}
 use Rattle.maint_msg.specs.KeyVersions.{keys_of}
 use Rattle.maint_msg.specs.Maints.{SeenMaint}
 use Rattle.sealed_item.specs.Fills.{SealedItem}
-use Rattle.served_shards.specs.Begun.{AreNotesOf, AreToldAlike, begun_at, restarted}
-use Rattle.served_shards.specs.Served.{ServedShard, changed_at, log_at, marking, restarting, seeing, served_at, view_at}
+use Rattle.served_shards.specs.Begun.{AreNotesOf, restarted}
+use Rattle.served_shards.specs.Served.{ServedShard, changed_at, log_at, marking, restarting, seeing}
 use Rattle.cache_items.specs.Kept.{is_yes, item_of, took, with_item}
 use Rattle.cache_items.specs.HandedOn.{with_copy}
-use Rattle.cache_items.specs.Node.{Node, caught_up, delivered, emptied, empty_node, met, processed}
+use Rattle.cache_items.specs.Node.{Node, caught_up, delivered, emptied, met, processed}
 use Rattle.cache_items.specs.Taken.{with_change}
 use Rattle.cache_items.specs.declared.look.Kept.{Kept}
 use Rattle.cache_node.proofs.ServedAt.{KeepsLog}
@@ -161,9 +160,15 @@ pub where_true : (b : Bool) (P : Type 0) → P → OnTrue b P
 where_true true P holds = holds
 where_true false P holds = tt
 
+pub named_log : (shard : ℕ) (store : Store) (n : Node) → store.name ≡ name_of shard → ServesOne shard store.view.log n → log_at store.name.shard n.served ≡ Some store.view.log
+named_log shard store n named one = subst (λ (at : StoreName). log_at at.shard n.served ≡ Some store.view.log) (sym named) (has_log shard store.view.log n one)
+
 pub led_log : (types : EdgeTypes) (tables : Tables) (store : Store) (n : Node) → IsLed types 0 tables store n → log_at store.name.shard n.served ≡ Some store.view.log
-led_log types tables store n led =
-    subst (λ (at : StoreName). log_at at.shard n.served ≡ Some store.view.log) (sym led.named) (has_log 0 store.view.log n led.serves)
+led_log types tables store n led = named_log 0 store n led.named led.serves
+
+-- the node still serves the shard of the store whose log has grown
+pub still_one : (shard : ℕ) (store written : Store) (n : Node) (added : Option Entry) → written ≡ store_with store added → ServesOne shard store.view.log n → ServesOne shard written.view.log n
+still_one shard store written n added same one = subst (λ l. ServesOne shard l n) (sym (ap (λ (s : Store). s.view.log) same)) one
 
 pub led_write : (types : EdgeTypes) (tables after : Tables) (store written : Store) (n m : Node) (added : Option Entry) → IsLed types 0 tables store n → written ≡ store_with store added
     → IsStoreOf true after written → WhereTold true (IsSoundOf types store.name.shard (after store.name).log) → ServesOne 0 store.view.log m → IsLed types 0 after written m

@@ -1,7 +1,9 @@
 //! Tests of `leader_tier` over the keeper in memory, by public calls alone: reads of a leader's own items and of its store,
-//! writes through the preferred leader and through a stand-in, and what the leader is told of those.
+//! writes and merges through the preferred leader and through a stand-in, and what the leader is told of those.
 #![tactic(auto)]
 
+#[cfg(test)]
+mod merges;
 #[cfg(test)]
 mod rig;
 #[cfg(test)]

@@ -1,4 +1,4 @@
-use Rattle.std.proofs.Common.{◌≡◌, ◌∙◌, Some, ap, refl, sym}
+use Rattle.std.proofs.Common.{◌∙◌, ap, refl, sym}
 use Rattle.keeper_map.specs.MapKeeper.{told_by}
 use Rattle.served_shards.specs.Served.{log_at}
 use Rattle.tao_schema.specs.Schema.{types_of}

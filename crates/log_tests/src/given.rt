@@ -1,5 +1,6 @@
 //! The entry that logs are begun with.
 ghost use Rattle.std.specs.Prelude.{◌≡◌, [], IfOk};
+ghost use Rattle.tao_base.specs.Ids.{shard_of};
 ghost use Rattle.write_model.specs.WriteLaws.{plain_add};
 
 use log_fixtures::{LIKES, set_touch};

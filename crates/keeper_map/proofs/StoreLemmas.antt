@@ -24,12 +24,14 @@ Puts at now old new = (q : ℕ × ℕ) → get store_cmp new q ≡ cond (is_eq (
 
 -- keys tell the stores apart
 same_name : (at name : StoreName) → is_eq (store_cmp (store_key at) (store_key name)) ≡ true → at ≡ name
+unfolding store_key
 same_name at name h =
     let region : at.region ≡ name.region = grind (arith, nat_tests) in
     let shard : at.shard ≡ name.shard = grind (arith, nat_tests) in
     λ i. record { region = region i; shard = shard i }
 
 own_key : (at : StoreName) → is_eq (store_cmp (store_key at) (store_key at)) ≡ true
+unfolding store_key
 own_key at = grind (arith, nat_tests)
 
 put_here : (at : StoreName) (now : StoreTable) (old new : Stored) → Puts at now old new → tables_of new at ≡ table_of now

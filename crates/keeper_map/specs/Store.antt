@@ -12,8 +12,8 @@ use Rattle.keeper_map.specs.declared.store.StoreTable.{StoreTable}
 abbrev pub table_of : StoreTable → Table
 table_of store = record { log = store.log; jobs = jobs_of store.jobs; line = option_map (λ line. line.items) store.line }
 
--- what a store's table is found by: its region and its shard
-abbrev pub store_key : StoreName → ℕ × ℕ
+-- what a store's table is found by: its region and its shard. It stays folded, so that a fact of all stores is found for each one
+unfoldable pub store_key : StoreName → ℕ × ℕ
 store_key name = (name.region, name.shard)
 
 -- stores are in the order of their regions, then of their shards

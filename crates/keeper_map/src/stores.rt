@@ -124,6 +124,7 @@ impl Stores {
     }
 }
 
+#[tactic(auto, unfolding(crate::specs::Store::store_key))]
 fn key_of(name: StoreName) -> (u16, u16)
     ensures { result ≡ store_key name }
 {

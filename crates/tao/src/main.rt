@@ -1,15 +1,21 @@
 //! The program: `tao run` reads a configuration line and one request a line from standard input, and
-//! writes one reply a line to standard output, over stores in memory.
+//! writes one reply a line to standard output, over stores in memory or, with `--sql FILE`, in a file.
 #![tactic(auto)]
 
-use keeper_map::{Fails, MapKeeper};
+mod run;
+
+use command_words::{Words, WordsRefusal, asked_text, read_words};
 use std::env;
 use std::io::{self, ErrorKind};
 use std::process::ExitCode;
-use tao_io::{StdSink, StdSource};
+use tao_base::Text;
+use tao_io::{StdSink, write_all};
 
 /// The status of a faulty command line.
 const FAULTY_WORDS: u8 = 2;
+
+/// The status where standard output failed.
+const FAULTY_OUTPUT: u8 = 5;
 
 /// The status where there was no memory.
 const NO_MEMORY: u8 = 7;
@@ -23,22 +29,36 @@ fn words(rt: &HostRuntime) -> io::Result<Vec<String>> {
     Ok(words)
 }
 
-/// Runs over the standard streams. Each reply is written as soon as it is there.
-fn run(rt: &HostRuntime, words: &[String]) -> u8 {
-    let alloc = rt.alloc();
-    let fails = Fails {
-        calls: Vec::new(alloc),
-        commits: Vec::new(alloc),
-    };
-    let mut input = StdSource::of(rt.stdin());
-    let mut output = StdSink::of(rt.stdout());
-    let mut keepers = MapKeeper::make(alloc, fails);
-    tao_top::run(alloc, words, &mut input, &mut output, &mut keepers).code
+/// Writes a text that the words asked for.
+fn show(rt: &HostRuntime, text: &Text) -> u8 {
+    match write_all(&mut StdSink::of(rt.stdout()), text.as_str().as_bytes()) {
+        Ok(()) => 0,
+        Err(_) => FAULTY_OUTPUT,
+    }
+}
+
+/// Shows help or the version, where the words ask for these.
+fn answer(rt: &HostRuntime, words: &[String]) -> u8 {
+    match asked_text(rt.alloc(), words) {
+        Ok(Some(text)) => show(rt, &text),
+        Ok(None) => FAULTY_WORDS,
+        Err(_) => NO_MEMORY,
+    }
+}
+
+/// Does what the words ask for.
+fn obey(rt: &HostRuntime, words: &[String]) -> u8 {
+    match read_words(rt.alloc(), words) {
+        Ok(Words::Run { sql: None }) => run::in_memory(rt, words),
+        Ok(Words::Run { sql: Some(file) }) => run::in_file(rt, words, file.as_str()),
+        Err(WordsRefusal::Usage) => answer(rt, words),
+        Err(WordsRefusal::OutOfMemory) => NO_MEMORY,
+    }
 }
 
 fn main(rt: HostRuntime) -> ExitCode {
     let code = match words(&rt) {
-        Ok(words) => run(&rt, &words),
+        Ok(words) => obey(&rt, &words),
         Err(error) if error.kind() == ErrorKind::OutOfMemory => NO_MEMORY,
         Err(_) => FAULTY_WORDS,
     };

@@ -1,5 +1,5 @@
 -- What a run has read and written by its end.
-use Rattle.std.specs.Prelude.{◌≡◌, ◌⊎◌, ℕ, Bool, false, ⊤, List, [], ◌∷◌, ◌++◌, Option, Some, None, take, codes, bytes_eq, Ok}
+use Rattle.std.specs.Prelude.{◌≡◌, ◌⊎◌, ℕ, Bool, ⊤, List, [], ◌∷◌, ◌++◌, Option, Some, None, take, Ok}
 use Rattle.tao_keeper.specs.KeeperState.{KeeperState, KeepsTables, IsLater}
 use Rattle.std.specs.List.{flat_map}
 use Rattle.std.specs.Io.KnownBytes.{Appends}
@@ -12,12 +12,6 @@ use Rattle.tao_core.specs.Opening.{IsOpenedInPart}
 use Rattle.tao_io.specs.Lines.{lines_of, GivesLines}
 use Rattle.tao_top.specs.Step.{State, waiting, serving, ended, Configures, Run, line_of}
 use Rattle.topology.specs.Config.{Settings}
-
--- the one word run
-abbrev pub is_run : List (List ℕ) → Bool
-is_run [] = false
-is_run (word ∷ []) = bytes_eq word (codes "run")
-is_run (word ∷ other ∷ words) = false
 
 -- the lines of the known bytes are these
 abbrev pub AreLines : Option (List ℕ) → List (List ℕ) → Type 0

@@ -1,11 +1,11 @@
 -- The statuses of a run, and when it can only succeed.
-use Rattle.std.specs.Prelude.{◌≡◌, ◌<◌, ◌^◌, ℕ, Bool, true, List, [], ◌∷◌, length, Option, Some, Contains, Ok}
+use Rattle.std.specs.Prelude.{◌≡◌, ◌<◌, ◌^◌, ℕ, Bool, true, List, [], ◌∷◌, length, Option, Some, Contains, IsOk, Ok}
 use Rattle.tao_keeper.specs.KeeperState.{KeeperState}
+use Rattle.command_words.specs.Read.{words_in}
 use Rattle.counts.specs.Count.{Rose}
 use Rattle.config_json.specs.Config.{config_in}
 use Rattle.tao_core.specs.Opening.{AreReady}
 use Rattle.tao_io.specs.Lines.{lines_of}
-use Rattle.tao_top.specs.Served.{is_run}
 use Rattle.tao_top.specs.Stop.{Faults}
 use Rattle.topology.specs.Config.{Settings}
 
@@ -13,13 +13,13 @@ use Rattle.topology.specs.Config.{Settings}
 abbrev pub IsStatus : ℕ → Type 0
 IsStatus code = Contains (0 ∷ 2 ∷ 3 ∷ 4 ∷ 5 ∷ 6 ∷ 7 ∷ 9 ∷ []) code
 
--- the word is right, the input is short enough, and its first line is a configuration that each of its stores can be opened with
+-- the words ask for a run, the input is short enough, and its first line is a configuration that each of its stores can be opened with
 pub record IsGood (tells : Bool) (words : List (List ℕ)) (keepers : KeeperState) (left : Option (List ℕ)) : Type 0 where
   pub bytes : List ℕ
   pub first : List ℕ
   pub others : List (List ℕ)
   pub settings : Settings
-  pub word : is_run words ≡ true
+  pub asked : IsOk (words_in words)
   pub known : left ≡ Some bytes
   pub short : length bytes < 2 ^ 40
   pub lines : lines_of bytes ≡ first ∷ others

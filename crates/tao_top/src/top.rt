@@ -1,11 +1,13 @@
 //! The top call.
-ghost use Rattle.std.specs.Prelude.{◌≡◌, ◌⊎◌, ◌↔◌, ◌<◌, ◌≤◌, ◌^◌, false, map, length, string_bytes, Err, IfErr, OnOk, IfSome};
+ghost use Rattle.std.specs.Prelude.{◌≡◌, ◌⊎◌, ◌<◌, ◌≤◌, ◌^◌, map, length, string_bytes, Err, IfErr, IfSome, IsNone, IsOk, OnOk};
 ghost use Rattle.std.specs.Io.KnownBytes.{IsAtEnd};
+ghost use Rattle.command_words.specs.Read.{words_in};
+ghost use Rattle.command_words.specs.declared.WordsRefusal.TheVariants.{Usage};
 ghost use Rattle.counts.specs.Count.{Rose};
 ghost use Rattle.graph_model.specs.Told.{WhereTold};
 ghost use Rattle.tao_keeper.specs.Growing.{LogsGrow};
 ghost use Rattle.tao_top.specs.Kept.{LeavesTables, MayRun, StillBegin};
-ghost use Rattle.tao_top.specs.Served.{Done, EndsInPart, FailsOpening, RefusesConfiguration, StopsOpening, is_run, traces};
+ghost use Rattle.tao_top.specs.Served.{Done, EndsInPart, FailsOpening, RefusesConfiguration, StopsOpening, traces};
 ghost use Rattle.tao_top.specs.Stop.{StopHasCause, faults, stop_code};
 ghost use Rattle.tao_top.specs.declared.stop.Interrupt.TheVariants.{InputTooLong};
 ghost use Rattle.tao_top.specs.Status.{IsGood, IsStatus, NoFault};
@@ -14,6 +16,7 @@ ghost use Rattle.tao_top.specs.Taken.{Takes, TakesFirst};
 use crate::begin::{begin, read_first};
 use crate::serve::serve;
 use crate::stop::Stop;
+use command_words::{Words, WordsRefusal, read_words};
 use std::alloc::Global;
 use tao_io::{LineReader, Sink, Source, Status};
 use tao_keeper::Keeper;
@@ -56,12 +59,16 @@ fn go<R: Source, S: Sink, K: Keeper>(
     Ok(())
 }
 
-fn is_run(words: &[String]) -> bool
-    ensures { result ≡ is_run (map string_bytes words.now) }
+/// The status where the words ask for no run, or there was no memory to read them.
+fn refusal(alloc: Global, words: &[String]) -> Option<u8>
+    ensures none { IsNone result → IsOk (words_in (map string_bytes words.now)) }
+    ensures usage { IfSome result (λ code. code ≡ 2 → words_in (map string_bytes words.now) ≡ Err Usage) }
+    ensures code { IfSome result (λ code. (code ≡ 2) ⊎ (code ≡ 7)) }
 {
-    match words {
-        [word] => word.as_str() == "run",
-        _ => false,
+    match read_words(alloc, words) {
+        Ok(Words::Run { .. }) => None,
+        Err(WordsRefusal::Usage) => Some(2),
+        Err(WordsRefusal::OutOfMemory) => Some(7),
     }
 }
 
@@ -70,11 +77,11 @@ fn is_run(words: &[String]) -> bool
 /// input. The status is
 ///
 /// - 0 where the input was read to its end, and each reply written whole;
-/// - 2 where the words aren't the one word `run`;
+/// - 2 where the words don't ask for a run;
 /// - 3 where the first line is missing, is no configuration, or isn't the one that a store was first
 ///   opened with: a line says so;
 /// - 4, 5, 6 where the source, the sink, or the keepers at their opening failed;
-/// - 7 where there was no memory to read a line, to open the stores, or to spell a reply;
+/// - 7 where there was no memory to read the words or a line, to open the stores, or to spell a reply;
 /// - 9 where 2^40 bytes were taken and the end had not come.
 ///
 /// What was written before any status is a front of the replies' lines. With 6 nothing was: a keeper that
@@ -98,8 +105,9 @@ pub fn run<R: Source, S: Sink, K: Keeper>(
     ensures in_part { EndsInPart result.code K.TELLS
         (traces (K.state keepers.old) (S.taken output.old)) (traces (K.state keepers.new) (S.taken output.new)) (R.left input.old) }
 
-    ensures words { (result.code ≡ 2) ↔ (is_run (map string_bytes words.now) ≡ false) }
-    ensures idle { result.code ≡ 2 → (input.new ≡ input.old) × (output.new ≡ output.old) × (keepers.new ≡ keepers.old) }
+    ensures words { result.code ≡ 2 → words_in (map string_bytes words.now) ≡ Err Usage }
+    ensures usage { words_in (map string_bytes words.now) ≡ Err Usage → (result.code ≡ 2) ⊎ (result.code ≡ 7) }
+    ensures idle { words_in (map string_bytes words.now) ≡ Err Usage → (input.new ≡ input.old) × (output.new ≡ output.old) × (keepers.new ≡ keepers.old) }
     ensures configuration { result.code ≡ 3 → RefusesConfiguration K.TELLS
         (K.state keepers.old) (K.state keepers.new) (R.left input.old)
         (S.taken output.old) (S.taken output.new) }
@@ -122,13 +130,12 @@ pub fn run<R: Source, S: Sink, K: Keeper>(
         (K.state keepers.old).faults (K.state keepers.new).faults
         → (result.code ≡ 0) ⊎ (result.code ≡ 7) }
 {
-    let code = if !is_run(words) {
-        2
-    } else {
-        match go(alloc, input, output, keepers) {
+    let code = match refusal(alloc, words) {
+        Some(code) => code,
+        None => match go(alloc, input, output, keepers) {
             Ok(()) => 0,
             Err(stop) => stop.code(),
-        }
+        },
     };
     Status { code }
 }

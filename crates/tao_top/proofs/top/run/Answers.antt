@@ -1,4 +1,4 @@
-use Rattle.std.proofs.Common.{Err, ap, inr, subst, sym, ◌∙◌}
+use Rattle.std.proofs.Common.{◌≡◌, ◌⊎◌, ℕ, Err, ap, inl, inr, lit<, refl, subst, sym, ◌∙◌}
 use Rattle.tao_top.proofs.Complete.{known_status}
 use Rattle.tao_top.proofs.OneLine.{part_unread}
 use Rattle.tao_top.proofs.WholeRun.{done_whole, fails_opening, takes_none}
@@ -6,8 +6,8 @@ use Rattle.tao_top.specs.Served.{EndsInPart, start, traces}
 use Rattle.tao_top.specs.Status.{IsStatus}
 use Rattle.tao_top.proofs.top.run.Goals as goal
 
-pub returns-then-not-is_run-clause-in_part : goal.returns-then-not-is_run-clause-in_part
-returns-then-not-is_run-clause-in_part g c = inr (inr (part_unread g.K.Keeper.TELLS (start (g.K.Keeper.state c.args.keepers.now)) _ _))
+pub returns-in-Some-clause-in_part : goal.returns-in-Some-clause-in_part
+returns-in-Some-clause-in_part g c = inr (inr (part_unread g.K.Keeper.TELLS (start (g.K.Keeper.state c.args.keepers.now)) _ _))
 
 pub returns-in-Ok-clause-in_part : goal.returns-in-Ok-clause-in_part
 returns-in-Ok-clause-in_part g c =
@@ -25,8 +25,15 @@ returns-in-Err-clause-keepers g c = λ is.
     let keepers = g.K.Keeper.state in
     fails_opening g.K.Keeper.TELLS (keepers c.args.keepers.now) (keepers c.go.new.keepers) _ _ _ _ _ c.in-Err.stop (sym c.code.ensures ∙ is) (λ same. c.in-Err.ensures.keepers (ap (λ s. Err s) same)) c.in-Err.ensures.cause
 
-pub returns-then-not-is_run-clause-taken : goal.returns-then-not-is_run-clause-taken
-returns-then-not-is_run-clause-taken g c = takes_none (g.R.Source.left c.args.input.now)
+pub returns-in-Some-clause-taken : goal.returns-in-Some-clause-taken
+returns-in-Some-clause-taken g c = takes_none (g.R.Source.left c.args.input.now)
 
 pub returns-in-Err-clause-known : goal.returns-in-Err-clause-known
 returns-in-Err-clause-known g c = subst IsStatus (sym c.code.ensures) (known_status c.in-Err.stop)
+
+refused_status : (code : ℕ) → (code ≡ 2) ⊎ (code ≡ 7) → IsStatus code
+refused_status code (inl two) = subst IsStatus (sym two) (1, lit< tt, refl)
+refused_status code (inr seven) = subst IsStatus (sym seven) (6, lit< tt, refl)
+
+pub returns-in-Some-clause-known : goal.returns-in-Some-clause-known
+returns-in-Some-clause-known g c = refused_status c.in-Some.code c.in-Some.ensures.code

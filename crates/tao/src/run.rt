@@ -1,0 +1,53 @@
+//! A run over the standard streams.
+ghost use Rattle.graph_model.specs.Told.{WhereTold};
+ghost use Rattle.tao_top.specs.Kept.{MayBeginAny};
+
+use keeper_map::{Fails, MapKeeper};
+use keeper_sql::SqlKeeper;
+use sqlite::Alter;
+use tao_io::{StdSink, StdSource};
+use tao_keeper::{KeepFail, Keeper};
+
+/// The status where the file can't be opened.
+const NO_FILE: u8 = 6;
+
+/// The status where there was no memory.
+const NO_MEMORY: u8 = 7;
+
+/// Serves over these keepers. Each reply is written as soon as it is there.
+fn over<K: Keeper>(rt: &HostRuntime, words: &[String], keepers: &mut K) -> u8
+    requires { WhereTold K.TELLS (MayBeginAny (K.state keepers.old).told) }
+{
+    let mut input = StdSource::of(rt.stdin());
+    let mut output = StdSink::of(rt.stdout());
+    tao_top::run(rt.alloc(), words, &mut input, &mut output, keepers).code
+}
+
+/// Serves over stores in memory, which nothing was written to.
+pub fn in_memory(rt: &HostRuntime, words: &[String]) -> u8 {
+    let alloc = rt.alloc();
+    let fails = Fails {
+        calls: Vec::new(alloc),
+        commits: Vec::new(alloc),
+    };
+    let mut keepers = MapKeeper::make(alloc, fails);
+    over(rt, words, &mut keepers)
+}
+
+/// Serves over tables by SQL, and drops their keeper.
+fn over_tables<S: Alter + Drop>(
+    rt: &HostRuntime,
+    words: &[String],
+    mut keepers: SqlKeeper<S>,
+) -> u8 {
+    over(rt, words, &mut keepers)
+}
+
+/// Serves over stores in a file, which is made where it isn't there.
+pub fn in_file(rt: &HostRuntime, words: &[String], path: &str) -> u8 {
+    match SqlKeeper::open_file(rt, path) {
+        Ok(keepers) => over_tables(rt, words, keepers),
+        Err(KeepFail::Failed) => NO_FILE,
+        Err(KeepFail::OutOfMemory) => NO_MEMORY,
+    }
+}

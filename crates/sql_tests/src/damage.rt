@@ -26,19 +26,34 @@ enum Call {
 /// What is done to the tables, and what then is a fault.
 const ROWS: [(&str, Call); 14] = [
     ("UPDATE log SET entry = x'00'", Call::Entry),
-    ("UPDATE log SET position = 70000 WHERE position = 1", Call::Origin),
-    ("UPDATE log SET position = 70000 WHERE position = 3", Call::Length),
+    (
+        "UPDATE log SET position = 70000 WHERE position = 1",
+        Call::Origin,
+    ),
+    (
+        "UPDATE log SET position = 70000 WHERE position = 3",
+        Call::Length,
+    ),
     ("UPDATE edge SET live = 2", Call::Edge),
     ("UPDATE edge SET number = 4611686018427387904", Call::Edge),
     ("UPDATE edge SET data = x'01'", Call::Edge),
     ("UPDATE edge SET time = 4294967296", Call::Edges),
     ("UPDATE edge SET time = 0 - 1", Call::Edges),
-    ("UPDATE edge SET idkey = x'0000000000000001' WHERE id2 = 3", Call::Edges),
+    (
+        "UPDATE edge SET idkey = x'0000000000000001' WHERE id2 = 3",
+        Call::Edges,
+    ),
     ("UPDATE object SET otype = 65536", Call::Object),
     ("UPDATE size SET n = 65537", Call::Count),
     ("UPDATE version SET n = 0 - 1", Call::Version),
-    ("UPDATE store SET serial = 281474976710656", Call::LastSerial),
-    ("INSERT INTO job (region, shard, position, edges) VALUES (0, 0, 1, x'')", Call::FirstJob),
+    (
+        "UPDATE store SET serial = 281474976710656",
+        Call::LastSerial,
+    ),
+    (
+        "INSERT INTO job (region, shard, position, edges) VALUES (0, 0, 1, x'')",
+        Call::FirstJob,
+    ),
 ];
 
 const AT: StoreName = StoreName {

@@ -15,7 +15,11 @@ fn is_refused(rt: &HostRuntime, path: &str) -> bool {
 #[test]
 fn what_is_no_database_is_refused(rt: HostRuntime) -> Result<(), Fail> {
     let path = "text.test.db";
-    fs::write(&rt, path, "SQLite is what this file isn't, however long it may be.\n")?;
+    fs::write(
+        &rt,
+        path,
+        "SQLite is what this file isn't, however long it may be.\n",
+    )?;
     assert!(rt; is_refused(&rt, path));
     remove(&rt, path)
 }

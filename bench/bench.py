@@ -5,13 +5,16 @@ usage: bench.py TAO [YARDSTICK]
 
 TAO is the built program (crates/tao/out/tao once ./tao was run), YARDSTICK that of bench/yardstick.
 Prints the lines that a second takes of 20,000 mixed calls, what a call costs as the log of its shard
-grows, beside what the same tables take in sqlite3 in memory, and, with a yardstick, the ratio of the
+grows, beside what the same tables take in sqlite3 in memory, what adds and ranges take over a file
+beside sqlite3's own, and, with a yardstick, the ratio of the
 times on one script of ranges (below 1 TAO is faster).
 """
 import json
+import os
 import sqlite3
 import subprocess
 import sys
+import tempfile
 import time
 
 SHARDS = 8
@@ -135,15 +138,32 @@ def rows_ranged(tables, count):
         ask("select id2, time, stamp, data from edges where key = ? order by time desc, id2 desc limit 10", (KEY,)).fetchall()
 
 
-def in_sqlite(length, asked):
-    """Seconds that an add and a range take, with a list of that length."""
-    tables = sqlite3.connect(":memory:", isolation_level=None)
+def in_sqlite(length, asked, path=":memory:"):
+    """Seconds that an add and a range take, with a list of that length. A file has a log that is written ahead, as ours."""
+    tables = sqlite3.connect(path, isolation_level=None)
+    tables.execute("pragma journal_mode = wal")
     tables.executescript(TABLES)
     start = time.perf_counter()
     rows_added(tables, length)
     added = time.perf_counter()
     rows_ranged(tables, asked)
     return (added - start) / length, (time.perf_counter() - added) / asked
+
+
+def over_file(tao, length, asked):
+    """Prints what adds and ranges take over tables in a file, beside sqlite's own."""
+    with tempfile.TemporaryDirectory() as folder:
+        over = tao + ["--sql", os.path.join(folder, "tables")]
+        start = time.perf_counter()
+        subprocess.run(over, input=script(front(1), adds(length)), stdout=subprocess.DEVNULL, check=True)
+        add = (time.perf_counter() - start) / length
+        opened = best(over, script(front(1)))
+        found = (best(over, script(front(1), ranges(asked))) - opened) / asked
+        row_added, row_found = in_sqlite(length, asked, os.path.join(folder, "rows"))
+    print(
+        f"over a file: {1 / add:,.0f} adds a second, {add / row_added:.2f} of sqlite's time;"
+        f" {1 / found:,.0f} ranges of ten edges a second, {found / row_found:.2f} of sqlite's"
+    )
 
 
 def main():
@@ -161,6 +181,7 @@ def main():
             f"a log of {length:,} entries: an add {add * 1e6:,.1f} microseconds on the way there, {add / row_added:.2f} of"
             f" sqlite's; a range of ten edges {found * 1e6:,.1f} at its end, {found / row_found:.2f} of sqlite's"
         )
+    over_file(tao, 4_000, 20_000)
     if len(sys.argv) > 2:
         lines = 100_000
         data = script(front(1), adds(10), ranges(lines))

@@ -171,7 +171,7 @@ def main():
     calls = 20_000
     took = best(tao, script(mixed(calls)))
     print(f"{calls:,} mixed calls on {SHARDS} shards: {calls / took:,.0f} lines a second")
-    asks = 5_000
+    asks = 60_000
     for length in (1_000, 8_000, 65_536):
         grown = best(tao, script(front(1), adds(length)))
         asked = best(tao, script(front(1), adds(length), ranges(asks)))

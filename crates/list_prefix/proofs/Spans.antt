@@ -1,5 +1,5 @@
 -- Where the edges of some times stand.
-use Rattle.std.proofs.Common.{◌≡◌, ℕ, zero, suc, ◌+◌, ◌-◌, ◌<◌, ◌≤◌, Bool, true, false, ◌&&◌, List, [], ◌∷◌, length, take, drop, get_or, min, Some, refl, sym, ◌∙◌, ap, arith, inl, inr, length-take, length-drop}
+use Rattle.std.proofs.Common.{◌≡◌, ℕ, zero, suc, ◌+◌, ◌-◌, ◌<◌, ◌≤◌, Bool, true, false, ◌&&◌, List, [], ◌∷◌, length, map, take, drop, get_or, min, Some, refl, sym, ◌∙◌, ap, arith, inl, inr, length-take, length-drop}
 use Rattle.std.specs.Prelude.{nat_lt, nat_le, filter}
 use Rattle.std.specs.List.{AllByRecursion}
 use Rattle.std.specs.List.Sorted.{IsPartitionedBy, IsPartitionPoint}
@@ -20,32 +20,36 @@ one_more n = omega arith
 pub time_falls : (x y : Edge) → is_newer x y ≡ true → y.time ≤ x.time
 time_falls x y h = grind (arith, nat_tests)
 
--- a partition point is the number of edges that pass at the front
-pub point_is : (p : Edge → Bool) (xs : List Edge) (i : ℕ) → IsPartitionPoint (λ y. p y ≡ true) (λ y. p y ≡ false) xs i → i ≤ length xs → i ≡ prefix_len p xs
-point_is p [] i point le = omega arith
-point_is p (x ∷ xs) zero point le = rw (point.1 zero x (omega arith) (omega arith))
-point_is p (x ∷ xs) (suc i) point le =
-    rw (point.0 zero x (omega arith) (omega arith), one_more)
-    (ap suc (point_is p xs i ((λ k d a b. point.0 (suc k) d (omega arith) (omega arith)), (λ k d a b. point.1 (suc k) d (omega arith) (omega arith))) (omega arith)))
+module _ {A : Type 0} (edge : A → Edge) where
+  -- a partition point is the number of edges that pass at the front
+  pub point_is : (p : Edge → Bool) (xs : List A) (i : ℕ) → IsPartitionPoint (λ y. p (edge y) ≡ true) (λ y. p (edge y) ≡ false) xs i → i ≤ length xs
+      → i ≡ prefix_len p (map edge xs)
+  point_is p [] i point le = omega arith
+  point_is p (x ∷ xs) zero point le = rw (point.1 zero x (omega arith) (omega arith))
+  point_is p (x ∷ xs) (suc i) point le =
+      rw (point.0 zero x (omega arith) (omega arith), one_more)
+      (ap suc (point_is p xs i ((λ k d a b. point.0 (suc k) d (omega arith) (omega arith)), (λ k d a b. point.1 (suc k) d (omega arith) (omega arith))) (omega arith)))
 
-later_falls : (x : Edge) (xs : List Edge) → AllByRecursion (λ y. is_newer x y ≡ true) xs → (k : ℕ) (d : Edge) → k < length xs → (get_or xs k d).time ≤ x.time
-later_falls x [] before k d h = absurd (omega arith)
-later_falls x (y ∷ ys) before zero d h = time_falls x y before.0
-later_falls x (y ∷ ys) before (suc k) d h = later_falls x ys before.1 k d (omega arith)
+  later_falls : (x : Edge) (xs : List A) → AllByRecursion (λ y. is_newer x y ≡ true) (map edge xs) → (k : ℕ) (d : A) → k < length xs
+      → (edge (get_or xs k d)).time ≤ x.time
+  later_falls x [] before k d h = absurd (omega arith)
+  later_falls x (y ∷ ys) before zero d h = time_falls x (edge y) before.0
+  later_falls x (y ∷ ys) before (suc k) d h = later_falls x ys before.1 k d (omega arith)
 
--- times fall along a list
-times_fall : (xs : List Edge) → IsNewestFirst xs → (i j : ℕ) (d : Edge) → i ≤ j → j < length xs → (get_or xs j d).time ≤ (get_or xs i d).time
-times_fall [] sorted i j d l h = absurd (omega arith)
-times_fall (x ∷ xs) sorted zero zero d l h = omega arith
-times_fall (x ∷ xs) sorted zero (suc j) d l h = later_falls x xs sorted.0 j d (omega arith)
-times_fall (x ∷ xs) sorted (suc i) zero d l h = absurd (omega arith)
-times_fall (x ∷ xs) sorted (suc i) (suc j) d l h = times_fall xs sorted.1 i j d (omega arith) (omega arith)
+  -- times fall along a list
+  times_fall : (xs : List A) → IsNewestFirst (map edge xs) → (i j : ℕ) (d : A) → i ≤ j → j < length xs
+      → (edge (get_or xs j d)).time ≤ (edge (get_or xs i d)).time
+  times_fall [] sorted i j d l h = absurd (omega arith)
+  times_fall (x ∷ xs) sorted zero zero d l h = omega arith
+  times_fall (x ∷ xs) sorted zero (suc j) d l h = later_falls (edge x) xs sorted.0 j d (omega arith)
+  times_fall (x ∷ xs) sorted (suc i) zero d l h = absurd (omega arith)
+  times_fall (x ∷ xs) sorted (suc i) (suc j) d l h = times_fall xs sorted.1 i j d (omega arith) (omega arith)
 
-pub later_parted : (xs : List Edge) (high : ℕ) → IsNewestFirst xs → IsPartitionedBy (λ e. nat_lt high e.time) xs
-later_parted xs high sorted i j d l h later = let falls = times_fall xs sorted i j d l h in lt-ltb high _ (omega (arith, falls, ltb-true high _ later))
+  pub later_parted : (xs : List A) (high : ℕ) → IsNewestFirst (map edge xs) → IsPartitionedBy (λ x. nat_lt high (edge x).time) xs
+  later_parted xs high sorted i j d l h later = let falls = times_fall xs sorted i j d l h in lt-ltb high _ (omega (arith, falls, ltb-true high _ later))
 
-pub from_parted : (xs : List Edge) (low : ℕ) → IsNewestFirst xs → IsPartitionedBy (λ e. nat_le low e.time) xs
-from_parted xs low sorted i j d l h later = let falls = times_fall xs sorted i j d l h in le-leb low _ (omega (arith, falls, leb-true low _ later))
+  pub from_parted : (xs : List A) (low : ℕ) → IsNewestFirst (map edge xs) → IsPartitionedBy (λ x. nat_le low (edge x).time) xs
+  from_parted xs low sorted i j d l h later = let falls = times_fall xs sorted i j d l h in le-leb low _ (omega (arith, falls, leb-true low _ later))
 
 -- the edges from place i up to place j
 abbrev stretch : ℕ → ℕ → List Edge → List Edge

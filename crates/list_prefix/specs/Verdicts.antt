@@ -25,6 +25,14 @@ IsOfList (AssocCount id1 atype) = ⊤
 IsOfList (AssocRange id1 atype pos limit) = ⊤
 IsOfList (AssocTimeRange id1 atype high low limit) = ⊤
 
+-- the query is answered with edges
+abbrev pub AsksForEdges : Query → Type 0
+AsksForEdges (ObjGet id) = ⊥
+AsksForEdges (AssocGet id1 atype ids high low) = ⊤
+AsksForEdges (AssocCount id1 atype) = ⊥
+AsksForEdges (AssocRange id1 atype pos limit) = ⊤
+AsksForEdges (AssocTimeRange id1 atype high low limit) = ⊤
+
 -- decided exactly where the table of deciding prefixes says so, and then what the first edges and the length answer
 abbrev pub verdict_of : ListPrefix → Query → ℕ → Verdict
 verdict_of p query bound = if decides bound p.edges p.total query then Decided (list_answer bound p.edges p.total query) else Undecided

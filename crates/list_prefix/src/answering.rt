@@ -1,6 +1,6 @@
-//! What the first edges of a list and its length answer. Each answer copies the edges that it gives
-//! and no others.
-ghost use Rattle.std.specs.Prelude.{◌≡◌, ◌&&◌, IfOk, Some, drop, take};
+//! What the edges of a list and its length answer, of edges that are held or referred to. Each answer
+//! copies the edges that it gives and no others.
+ghost use Rattle.std.specs.Prelude.{◌≡◌, ◌++◌, ◌∷◌, ◌&&◌, [], IfOk, OnErr, OnOk, Some, drop, filter, map, take};
 ghost use Rattle.graph_model.specs.Answers.{
   at_least,
   at_most,
@@ -11,32 +11,37 @@ ghost use Rattle.graph_model.specs.Answers.{
 };
 ghost use Rattle.graph_model.specs.Edges.{IsInListOrder};
 ghost use Rattle.list_prefix.specs.Spans.{is_wanted};
-ghost use Rattle.list_prefix.specs.Verdicts.{IsOfList};
+ghost use Rattle.list_prefix.specs.Verdicts.{AsksForEdges};
 
+use crate::as_edge::AsEdge;
 use crate::deciding::used_limit;
 use crate::order::{from_count, later_count};
-use std::alloc::{AllocError, Global};
-use tao_base::{Answer, Edge, Edges, IdSet, Query, Time};
+use std::alloc::Global;
+use tao_base::{Answer, Edge, Edges, IdSet, OutOfMemory, Query, Time};
 
-/// What a list answers to a query of it, of which these are the edges and the length. Costs as many
-/// copies as edges are given, and two binary searches for a time range, or for edges to some ids a
-/// binary search among the ids for each edge.
-pub fn answer_of(
+/// What a list answers to a query of it, of which these are the edges and the length. `bound` is how
+/// many edges of such a list a range or a time range gives at most. A query of an object is one of no
+/// list, and gives no object.
+///
+/// Costs as many copies as edges are given, and two binary searches for a time range, or for edges to
+/// some ids a binary search among the ids for each edge. The one error is want of memory, where edges
+/// are asked for.
+pub fn answer_of<E: AsEdge>(
     alloc: Global,
-    edges: &[Edge],
+    edges: &[E],
     total: u64,
     query: &Query,
     bound: u64,
-) -> Result<Answer, AllocError>
-    requires in_order { IsInListOrder edges.now }
-    requires of_list { IsOfList query.now }
-    ensures { IfOk result (λ answer. answer ≡ list_answer bound edges.now total query.now) }
+) -> Result<Answer, OutOfMemory>
+    requires { IsInListOrder (map E.edge edges.now) }
+    ensures answer { IfOk result (λ answer. answer ≡ list_answer bound (map E.edge edges.now) total query.now) }
+    ensures memory { OnErr result (AsksForEdges query.now) }
 {
     let given = match query {
-        Query::ObjGet { .. } => unreachable!(),
+        Query::ObjGet { .. } => return Ok(Answer::Object(None)),
         Query::AssocCount { .. } => return Ok(Answer::Count(total)),
         Query::AssocRange { pos, limit, .. } => {
-            edges_at(alloc, edges, *pos, used_limit(*limit, bound))?
+            edges_at(alloc, edges, u64::from(*pos), used_limit(*limit, bound))?
         }
         Query::AssocTimeRange {
             high,
@@ -49,49 +54,70 @@ pub fn answer_of(
     Ok(Answer::Edges(given))
 }
 
-fn edges_at(alloc: Global, edges: &[Edge], pos: u32, used: u64) -> Result<Edges, AllocError>
-    ensures { IfOk result (λ given. given ≡ range pos used edges.now) }
+/// The edges at the places from `pos` on, at most `most` of them. Copies these.
+pub fn edges_at<E: AsEdge>(
+    alloc: Global,
+    edges: &[E],
+    pos: u64,
+    most: u64,
+) -> Result<Edges, OutOfMemory>
+    ensures { IfOk result (λ given. given ≡ range pos most (map E.edge edges.now)) }
 {
-    copies_of(alloc, part(edges, pos as usize, used as usize))
+    copies_of(alloc, part(edges, pos, most))
 }
 
-fn time_range(
+fn part<T>(items: &[T], pos: u64, most: u64) -> &[T]
+    ensures { result.now ≡ take most (drop pos items.now) }
+{
+    let rest = &items[items.len().min(pos as usize)..];
+    &rest[..rest.len().min(most as usize)]
+}
+
+fn time_range<E: AsEdge>(
     alloc: Global,
-    edges: &[Edge],
+    edges: &[E],
     high: Time,
     low: Time,
     used: u64,
-) -> Result<Edges, AllocError>
-    requires { IsInListOrder edges.now }
-    ensures { IfOk result (λ given. given ≡ take used (within (Some low) (Some high) edges.now)) }
+) -> Result<Edges, OutOfMemory>
+    requires { IsInListOrder (map E.edge edges.now) }
+    ensures { IfOk result (λ given. given ≡ take used (within (Some low) (Some high) (map E.edge edges.now))) }
 {
-    let start = later_count(edges, high);
-    let count = from_count(edges, low).saturating_sub(start);
-    copies_of(alloc, part(edges, start, count.min(used as usize)))
+    let start = later_count(edges, high) as u64;
+    let count = (from_count(edges, low) as u64).saturating_sub(start);
+    edges_at(alloc, edges, start, count.min(used))
 }
 
-fn get(
+fn get<E: AsEdge>(
     alloc: Global,
-    edges: &[Edge],
+    edges: &[E],
     ids: &IdSet,
     high: Option<Time>,
     low: Option<Time>,
-) -> Result<Edges, AllocError>
-    ensures { IfOk result (λ given. given ≡ within low high (to_ids ids.now edges.now)) }
+) -> Result<Edges, OutOfMemory>
+    ensures { IfOk result (λ given. given ≡ within low high (to_ids ids.now (map E.edge edges.now))) }
 {
     let mut given = Vec::new(alloc);
-    for edge in edges {
-        if is_asked_for(edge, ids, high, low) {
-            given.push(copy_of(edge)?)?;
-        }
+    for item in edges {
+        push_wanted(&mut given, item.as_edge(), ids, high, low)?;
     }
     Ok(Edges::of(given))
 }
 
-fn is_asked_for(edge: &Edge, ids: &IdSet, high: Option<Time>, low: Option<Time>) -> bool
-    ensures { result ≡ is_wanted ids.now low high edge.now }
+/// Appends a copy of an edge that is asked for.
+fn push_wanted(
+    given: &mut Vec<Edge>,
+    edge: &Edge,
+    ids: &IdSet,
+    high: Option<Time>,
+    low: Option<Time>,
+) -> Result<(), OutOfMemory>
+    ensures { OnOk result (given.new.items ≡ given.old.items ++ filter (is_wanted ids.now low high) (edge.now ∷ [])) }
 {
-    is_within(edge.time, high, low) && ids.contains(edge.id2)
+    if is_within(edge.time, high, low) && ids.contains(edge.id2) {
+        given.push(copy_of(edge)?)?;
+    }
+    Ok(())
 }
 
 fn is_within(time: Time, high: Option<Time>, low: Option<Time>) -> bool
@@ -100,28 +126,20 @@ fn is_within(time: Time, high: Option<Time>, low: Option<Time>) -> bool
     low.is_none_or(|low| low <= time) && high.is_none_or(|high| time <= high)
 }
 
-/// The edges at the places from one on, at most `most` of them.
-fn part(edges: &[Edge], from: usize, most: usize) -> &[Edge]
-    ensures { result.now ≡ take most (drop from edges.now) }
-{
-    let rest = &edges[edges.len().min(from)..];
-    &rest[..rest.len().min(most)]
-}
-
 /// Copies of the edges, each of which takes memory.
-pub fn copies_of(alloc: Global, edges: &[Edge]) -> Result<Edges, AllocError>
-    ensures { IfOk result (λ copies. copies ≡ edges.now) }
+pub fn copies_of<E: AsEdge>(alloc: Global, edges: &[E]) -> Result<Edges, OutOfMemory>
+    ensures { IfOk result (λ copies. copies ≡ map E.edge edges.now) }
 {
     let mut copies = Vec::with_capacity(alloc, edges.len())?;
-    for edge in edges {
-        copies.push(copy_of(edge)?)?;
+    for item in edges {
+        copies.push(copy_of(item.as_edge())?)?;
     }
     Ok(Edges::of(copies))
 }
 
 /// A copy of an edge. Its payload takes memory.
-pub fn copy_of(edge: &Edge) -> Result<Edge, AllocError>
+pub fn copy_of(edge: &Edge) -> Result<Edge, OutOfMemory>
     ensures { IfOk result (λ copy. copy ≡ edge.now) }
 {
-    edge.clone()
+    Ok(edge.clone()?)
 }

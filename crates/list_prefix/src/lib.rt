@@ -3,11 +3,14 @@
 #![tactic(auto)]
 
 mod answering;
+mod as_edge;
 mod changing;
 mod deciding;
 mod fronts;
 mod order;
 mod prefix;
 
+pub use answering::{answer_of, edges_at};
+pub use as_edge::AsEdge;
 pub use fronts::shortest_front;
 pub use prefix::{Prefix, Verdict};

@@ -1,4 +1,3 @@
-pub mod Chosen
 pub mod LastObject
 pub mod LastRecord
 pub mod Listed

@@ -1,7 +1,7 @@
 -- What is done to a list of references, seen as the list of what they point to.
-use Rattle.std.proofs.Common.{◌≡◌, ℕ, ◌+◌, ◌<◌, ◌≤◌, Bool, List, [], ◌∷◌, ◌++◌, refl, sym, ap, ◌∙◌, inl, inr, length, get_or, map, take, drop, Bor}
+use Rattle.std.proofs.Common.{◌≡◌, ℕ, Bool, List, [], ◌∷◌, refl, sym, ap, ◌∙◌, inl, inr, length, map, take, drop, Bor}
 use Rattle.std.proofs.lemmas.Bool.{cases_Bool}
-use Rattle.std.proofs.lemmas.List.{drop-map, length-map, map-append, take-map, take_all, take_more}
+use Rattle.std.proofs.lemmas.List.{drop-map, length-map, map-append, take-map}
 use Rattle.std.specs.Prelude.{filter, insert, position, unwrap_or}
 use Rattle.std.specs.List.{position_or_len}
 use Rattle.tao_base.specs.declared.edge.Edge.{Edge}
@@ -22,18 +22,6 @@ module _ {A B : Type 0} (f : A → B) where
 
   position-map : (p : B → Bool) (xs : List A) → position p (map f xs) ≡ position (λ x. p (f x)) xs
   position-map p xs = rw (position_or_len-map p xs, length-map xs f) refl
-
-  -- one element more
-  pub map_more : (xs : List A) (i : ℕ) (x : A) → i < length xs → x ≡ get_or xs i x → map f (take (i + 1) xs) ≡ map f (take i xs) ++ f x ∷ []
-  map_more xs i x lt is = ap (map f) (take_more xs i x lt ∙ ap (λ y. take i xs ++ y ∷ []) (sym is)) ∙ map-append f (take i xs) (x ∷ [])
-
-  -- a part of the list
-  pub map_part : (pos most : ℕ) (xs : List A) → map f (take most (drop pos xs)) ≡ take most (drop pos (map f xs))
-  map_part pos most xs = sym (ap (take most) (drop-map f pos xs) ∙ take-map f most (drop pos xs))
-
-  -- all of the list
-  pub take_mapped : (xs : List A) (i : ℕ) → length xs ≤ i → take i (map f xs) ≡ map f xs
-  take_mapped xs i end = take-map f i xs ∙ ap (map f) (take_all i xs end)
 
 -- an edge is put before the first that it is newer than
 pub put_in_place : (e : Bor Edge) (edges : List (Bor Edge))

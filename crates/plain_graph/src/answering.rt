@@ -5,7 +5,7 @@ ghost use Rattle.tao_schema.specs.Schema.{types_of};
 
 use crate::lists::list_of;
 use crate::objects::object_of;
-use crate::selecting::select_from;
+use list_prefix::answer_of;
 use std::alloc::Global;
 use tao_base::{AType, Answer, Entry, Id, OutOfMemory, Query};
 use tao_schema::Schema;
@@ -46,5 +46,5 @@ fn of_list(
     ensures { IfOk result (λ found. found ≡ assoc_answer (types_of schema.now) entries.now id1 atype query.now) }
 {
     let list = list_of(alloc, entries, id1, atype)?;
-    select_from(alloc, &list, query, schema.bound(atype))
+    answer_of(alloc, &list, list.len() as u64, query, schema.bound(atype))
 }

@@ -5,16 +5,13 @@
 #![tactic(auto)]
 
 mod answering;
-mod as_edge;
 mod changes;
 mod lists;
 mod objects;
 mod records;
-mod selecting;
 
 pub use answering::answer;
 pub use changes::version_of;
 pub use lists::{count_of, edges_of};
 pub use objects::object_of;
 pub use records::record_of;
-pub use selecting::select;

@@ -11,7 +11,7 @@ ghost use Rattle.graph_model.specs.Edges.{
 };
 
 use crate::changes::changes_at;
-use crate::selecting::edges_at;
+use list_prefix::edges_at;
 use std::alloc::Global;
 use tao_base::{AType, Change, Edge, Edges, Entry, Id, Key, OutOfMemory};
 

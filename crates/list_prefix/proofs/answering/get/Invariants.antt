@@ -1,7 +1,7 @@
-use Rattle.std.proofs.Common.{◌≡◌, take}
+use Rattle.std.proofs.Common.{◌≡◌, map, take}
 use Rattle.std.specs.Prelude.{filter}
 use Rattle.list_prefix.specs.Spans.{is_wanted}
 use Rattle.list_prefix.proofs.answering.get.Given as goal
 
-abbrev pub invariant-loop-edge : goal.invariant-loop-edge
-invariant-loop-edge l = l.given.items ≡ filter (is_wanted l.ids l.low l.high) (take l.edge-index l.edges)
+abbrev pub invariant-loop-item : goal.invariant-loop-item
+invariant-loop-item g l = l.given.items ≡ filter (is_wanted l.ids l.low l.high) (map g.E.AsEdge.edge (take l.item-index l.edges))

@@ -5,6 +5,9 @@ use Rattle.list_prefix.proofs.Spans.{from_parted, point_is}
 use Rattle.list_prefix.proofs.order.from_count.Goals as goal
 
 pub returns-clause-value : goal.returns-clause-value
-returns-clause-value c =
-    let point = IsPartitionPoint-from_clause (λ e. nat_le c.args.low e.time) _ _ c.partition_point.ensures.partitioned (from_parted c.args.edges.now c.args.low c.requires.newest_first) (λ a r q k. search rules) in
-    point_is (λ e. nat_le c.args.low e.time) c.args.edges.now _ point c.partition_point.ensures.bound
+returns-clause-value g c =
+    let edge = g.E.AsEdge.edge in
+    let parted = from_parted edge c.args.edges.now c.args.low c.requires.newest_first in
+    let stands = c.partition_point.ensures in
+    let point = IsPartitionPoint-from_clause (λ e. nat_le c.args.low (edge e).time) _ _ stands.partitioned parted (λ a r q k. search rules) in
+    point_is edge (λ e. nat_le c.args.low e.time) c.args.edges.now _ point stands.bound

@@ -1,16 +1,13 @@
 -- What was given may be held, and is legal.
-use Rattle.std.proofs.Common.{ℕ, ◌≡◌, Bool, true, List, length, refl, sym, subst}
+use Rattle.std.proofs.Common.{ℕ, Bool, List, length, sym, subst}
 use Rattle.tao_base.specs.EdgeTypes.{EdgeTypes}
 use Rattle.tao_base.specs.Queries.{query_key}
 use Rattle.tao_base.specs.declared.id.Key.{Key}
 use Rattle.tao_base.specs.declared.query.Query.{Query}
 use Rattle.tao_base.specs.declared.entry.Entry.{Entry}
-use Rattle.tao_base.specs.declared.query.Query.TheVariants.{ObjGet, AssocGet, AssocCount, AssocRange, AssocTimeRange}
 use Rattle.graph_model.proofs.Beginnings.{beginning_of}
 use Rattle.sealed_item.proofs.Deciding.{contents_answer}
-use Rattle.sealed_item.specs.Decided.{IsExactAnswer, content_answer, content_decides}
-use Rattle.sealed_item.specs.declared.content.Content.{Content}
-use Rattle.sealed_item.specs.declared.content.Content.TheVariants.{Object as ObjectIs, List as ListIs}
+use Rattle.sealed_item.specs.Decided.{IsExactAnswer, content_answer}
 use Rattle.shard_tables.specs.ReadOuts.{IsReadOutOf}
 use Rattle.shard_tables.specs.declared.read_out.ReadOut.TheVariants as store
 use Rattle.sealed_item.specs.Fills.{SealedItem, IsExactContent, IsSealed}

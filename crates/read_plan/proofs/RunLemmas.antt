@@ -1,14 +1,16 @@
 -- The stages of a read, one after another.
-use Rattle.std.proofs.Common.{ℕ, ◌≡◌, ◌≤◌, ◌+◌, ◌-◌, ◌^◌, Bool, true, false, ◌||◌, min, List, [], ◌∷◌, length, Some, None, Ok, Err, refl, sym, ap, subst, ◌∙◌, arith}
+use Rattle.std.proofs.Common.{ℕ, ◌≡◌, ◌≤◌, ◌+◌, Bool, true, false, ◌||◌, min, List, [], ◌∷◌, length, Some, None, Ok, Err, refl, sym, ap, subst, ◌∙◌, arith}
 use Rattle.std.specs.List.{list_any}
 use Rattle.tao_base.specs.declared.query.Answer.{Answer}
 use Rattle.tao_base.specs.declared.query.Query.{Query}
+use Rattle.hop_count.proofs.Adding.{hops_add}
+use Rattle.hop_count.specs.Hops.{hops_after, most_hops}
 use Rattle.node_name.specs.declared.NodeName.{NodeName}
 use Rattle.cache_items.specs.declared.look.Look.TheVariants.{Hit, Miss}
 use Rattle.replies.specs.declared.nodes.KeptOrNot.{KeptOrNot}
 use Rattle.shard_tables.specs.declared.leader_answer.LeaderAnswer.TheVariants as leader
 use Rattle.shard_tables.specs.declared.read_out.ReadOut.TheVariants as store
-use Rattle.read_plan.specs.Readings.{NeverAsks, Reading, hops_after, new_reading, taken}
+use Rattle.read_plan.specs.Readings.{NeverAsks, Reading, new_reading, taken}
 use Rattle.read_plan.specs.Runs.{AnswersAreGiven, ComesFrom, DoneStage, Goes, ReadsEnd, hops_of, is_ask}
 use Rattle.read_plan.specs.Standings.{IsAnsweredFrom, came_of, stage_of, standing_after, without_fill, without_note}
 use Rattle.read_plan.specs.declared.end.ReadEnd.TheVariants.{Answered}
@@ -106,14 +108,10 @@ few_left p q (s ∷ rest) goes =
     let more = few_left (taken s.came s.hops s.store p) q rest goes.1 in
     omega arith
 
--- two sums, the first of which stands still at the last value
-sum_stands : (a b c : ℕ) → min (hops_after a b + c) (2 ^ 64 - 1) ≡ min (a + (b + c)) (2 ^ 64 - 1)
-sum_stands a b c = omega arith
-
-hops_add : (p q : Reading) (stages : List DoneStage) → Goes p stages q → p.hops ≤ 2 ^ 64 - 1 → q.hops ≡ min (p.hops + hops_of stages) (2 ^ 64 - 1)
-hops_add p q [] goes within = let same : q.hops ≡ p.hops = ap (λ r. r.hops) goes in omega arith
-hops_add p q (s ∷ rest) goes within =
-    hops_add (taken s.came s.hops s.store p) q rest goes.1 (omega arith) ∙ sum_stands p.hops s.hops (hops_of rest)
+hops_run : (p q : Reading) (stages : List DoneStage) → Goes p stages q → p.hops ≤ most_hops → q.hops ≡ min (p.hops + hops_of stages) most_hops
+hops_run p q [] goes within = let same : q.hops ≡ p.hops = ap (λ r. r.hops) goes in omega arith
+hops_run p q (s ∷ rest) goes within =
+    hops_run (taken s.came s.hops s.store p) q rest goes.1 (omega arith) ∙ hops_add p.hops s.hops (hops_of rest)
 
 or_assoc : (a b c : Bool) → (a || b) || c ≡ a || (b || c)
 or_assoc true b c = refl
@@ -142,7 +140,7 @@ reads_end query region tier floor critical follower = record {
       let p = new_reading query region tier floor critical follower in
       record {
         few = few_left p q stages goes;
-        hops = hops_add p q stages goes (omega arith) ∙ (let zero_first : 0 + hops_of stages ≡ hops_of stages = omega arith in ap (λ n. min n (2 ^ 64 - 1)) zero_first);
+        hops = hops_run p q stages goes (omega arith) ∙ (let zero_first : 0 + hops_of stages ≡ hops_of stages = omega arith in ap (λ n. min n most_hops) zero_first);
         store = store_adds p q stages goes;
         unasked = λ is. asks_none p q stages goes is tt;
       };

@@ -1,6 +1,7 @@
 -- How contracts see a read that is under way.
-use Rattle.std.specs.Prelude.{ℕ, ◌+◌, ◌-◌, ◌^◌, ⊤, Bool, true, false, ◌||◌, min, Option, None}
+use Rattle.std.specs.Prelude.{ℕ, ⊤, Bool, true, false, ◌||◌, Option, None}
 use Rattle.tao_base.specs.declared.query.Query.{Query}
+use Rattle.hop_count.specs.Hops.{hops_after}
 use Rattle.node_name.specs.declared.NodeName.{NodeName}
 use Rattle.read_plan.specs.Standings.{standing_after, without_fill, without_note}
 use Rattle.read_plan.specs.declared.stages.ReadResult.{ReadResult}
@@ -37,10 +38,6 @@ new_reading query region tier floor critical follower = record {
   hops = 0;
   store = false;
 }
-
--- so many hops more. At its last value a count stands still
-abbrev pub hops_after : ℕ → ℕ → ℕ
-hops_after hops more = min (hops + more) (2 ^ 64 - 1)
 
 -- a read after a stage that came to this, with its hops, and whether it called a keeper
 abbrev pub taken : ReadResult → ℕ → Bool → Reading → Reading

@@ -1,8 +1,9 @@
 -- The stages of a read, one after another: how many they are, what they cost, and where an answer comes from.
-use Rattle.std.specs.Prelude.{ℕ, ◌≡◌, ◌≤◌, ◌+◌, ◌-◌, ◌^◌, Bool, true, false, min, List, [], ◌∷◌, length, Option, Some, None, Ok, Err}
+use Rattle.std.specs.Prelude.{ℕ, ◌≡◌, ◌≤◌, ◌+◌, Bool, true, false, min, List, [], ◌∷◌, length, Option, Some, None, Ok, Err}
 use Rattle.std.specs.List.{list_any}
 use Rattle.tao_base.specs.declared.query.Answer.{Answer}
 use Rattle.tao_base.specs.declared.query.Query.{Query}
+use Rattle.hop_count.specs.Hops.{most_hops}
 use Rattle.node_name.specs.declared.NodeName.{NodeName}
 use Rattle.cache_items.specs.declared.look.Kept.{Kept as KeptWhy}
 use Rattle.cache_items.specs.declared.look.Look.TheVariants.{Hit, Miss}
@@ -46,7 +47,7 @@ is_ask (came.Keep found) = false
 -- at most four stages are done. Their hops add up, and a keeper was called where one of them called one. A critical read asks no leader
 pub record StagesAdd (critical : Bool) (stages : List DoneStage) (q : Reading) : Type 0 where
   pub few : length stages ≤ 4
-  pub hops : q.hops ≡ min (hops_of stages) (2 ^ 64 - 1)
+  pub hops : q.hops ≡ min (hops_of stages) most_hops
   pub store : q.store ≡ list_any (λ s. s.store) stages
   pub unasked : critical ≡ true → list_any (λ s. is_ask s.came) stages ≡ false
 

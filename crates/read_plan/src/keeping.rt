@@ -9,7 +9,7 @@ use replies::{KeptOrNot, NotKept, NotKeptWhy};
 const MOST_ASKS: u64 = 256;
 
 /// What a reply says of a fill that the follower kept or didn't.
-pub(crate) fn kept_or_not(kept: Kept) -> KeptOrNot
+pub fn kept_or_not(kept: Kept) -> KeptOrNot
     ensures { result ≡ kept_or_not kept }
 {
     match kept {
@@ -23,7 +23,7 @@ pub(crate) fn kept_or_not(kept: Kept) -> KeptOrNot
 }
 
 /// What it says of an answer that no first edges within the bound decide, of a list of that length.
-pub(crate) fn past_bound(bound: u64, total: u64) -> KeptOrNot
+pub fn past_bound(bound: u64, total: u64) -> KeptOrNot
     ensures { result ≡ past_bound bound total }
 {
     not_kept(NotKeptWhy::Bound, bound, total)

@@ -12,5 +12,6 @@ mod plan;
 mod stages;
 mod standing;
 
+pub use keeping::{kept_or_not, past_bound};
 pub use plan::ReadPlan;
 pub use stages::{ReadResult, ReadStage};

@@ -1,6 +1,8 @@
 -- A plan ends: its stages in order, one lemma for each part of the way, from its end to its beginning.
 use Rattle.std.proofs.Common.{◌≡◌, ℕ, ◌+◌, ◌≤◌, ◌⊎◌, ◌∙◌, Bool, true, false, List, [], ◌∷◌, ◌++◌, length, refl, sym, ap, subst, inl, inr, zero-add, arith}
 use Rattle.std.specs.Prelude.{Option, Some, None, Ok, Err, IfNone, IfSome, if◌then◌else◌, min, option_and_then, is_some, unwrap_or, ◌||◌}
+use Rattle.hop_count.proofs.Adding.{hops_add}
+use Rattle.hop_count.specs.Hops.{hops_after, most_hops}
 use Rattle.node_name.specs.declared.NodeName.{NodeName}
 use Rattle.replies.specs.declared.calls.InverseEnd.{InverseEnd}
 use Rattle.replies.specs.declared.calls.InverseEnd.TheVariants as inverse
@@ -11,7 +13,7 @@ use Rattle.tao_base.specs.declared.entry.Origin.{Origin}
 use Rattle.tao_base.specs.declared.write.Write.{Write}
 use Rattle.tao_keeper.specs.declared.jobs.Job.{Job}
 use Rattle.write_plan.specs.PlanLaws.{Applies, Came, CameBack, CameOfJob, EndsJob, EndsLate, IsAfter, IsCarriedOut, IsRefusedBy, MergesLate, PlanLaws, RefusesBy, Takes, came, carries_of}
-use Rattle.write_plan.specs.Plans.{Plan, after_result, after_stage, back_stage, has_other, hops_after, inverse_told, job_stage, most_hops, new_plan, next_of, reply_of, stage_after, written_by}
+use Rattle.write_plan.specs.Plans.{Plan, after_result, after_stage, back_stage, has_other, inverse_told, job_stage, new_plan, next_of, reply_of, stage_after, written_by}
 use Rattle.write_plan.specs.Stages.{result_stage}
 use Rattle.write_plan.specs.declared.committed.Committed.{Committed}
 use Rattle.write_plan.specs.declared.progress.OtherEnd.{OtherEnd}
@@ -40,9 +42,6 @@ hops_stay p (Relay (Err reply)) = refl
 hops_stay p (Apply (Ok done)) = refl
 hops_stay p (Apply (Err reply)) = refl
 
-added : (a h rest now : ℕ) → now ≡ hops_after a h → min (now + rest) most_hops ≡ min (a + (h + rest)) most_hops
-added a h rest now is = omega (arith, is)
-
 -- the plan has the carries of all that it took
 hops_sum : (p : Plan) (cs : List Came) (q : Plan) → p.hops ≤ most_hops → Takes p cs q → q.hops ≡ min (p.hops + carries_of cs) most_hops
 hops_sum p [] q low takes = let is : q.hops ≡ p.hops = ap (λ x. x.hops) takes in omega arith
@@ -50,7 +49,7 @@ hops_sum p (c ∷ rest) q low takes =
     let now = after_stage p c.result c.hops in
     let is : now.hops ≡ hops_after p.hops c.hops = hops_stay (record p { hops = hops_after p.hops c.hops }) c.result in
     let under : now.hops ≤ most_hops = omega arith in
-    hops_sum now rest q under takes.1 ∙ added p.hops c.hops (carries_of rest) now.hops is
+    hops_sum now rest q under takes.1 ∙ ap (λ n. min (n + carries_of rest) most_hops) is ∙ hops_add p.hops c.hops (carries_of rest)
 
 -- ---- ends
 

@@ -1,5 +1,6 @@
 -- What a plan is, over all results that it takes: its stages in order, its carries, and what its reply tells.
 use Rattle.std.specs.Prelude.{ℕ, ◌≡◌, ◌+◌, ◌≤◌, ◌⊎◌, Bool, true, false, if◌then◌else◌, List, [], ◌∷◌, ◌++◌, length, min, Option, Some, None, IfNone, IfSome, Ok, Err}
+use Rattle.hop_count.specs.Hops.{most_hops}
 use Rattle.node_name.specs.declared.NodeName.{NodeName}
 use Rattle.replies.specs.declared.calls.CallReply.TheVariants.{Write as OfWrite}
 use Rattle.replies.specs.declared.calls.InverseEnd.{InverseEnd}
@@ -12,7 +13,7 @@ use Rattle.shard_tables.specs.declared.writes.Wrote.{Wrote}
 use Rattle.tao_base.specs.declared.entry.Origin.{Origin}
 use Rattle.tao_base.specs.declared.write.Write.{Write}
 use Rattle.tao_keeper.specs.declared.jobs.Job.{Job}
-use Rattle.write_plan.specs.Plans.{Plan, after_stage, most_hops, new_plan, next_of, reply_of}
+use Rattle.write_plan.specs.Plans.{Plan, after_stage, new_plan, next_of, reply_of}
 use Rattle.write_plan.specs.Stages.{result_stage}
 use Rattle.write_plan.specs.declared.committed.Committed.{Committed}
 use Rattle.write_plan.specs.declared.results.Late.TheVariants.{Scheduled, Refused}

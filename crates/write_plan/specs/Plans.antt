@@ -1,5 +1,6 @@
 -- How contracts see the plan of a write: what was taken, which stage is next, and the reply.
-use Rattle.std.specs.Prelude.{ℕ, ◌+◌, Bool, true, false, ◌||◌, Option, Some, None, is_some, min, option_and_then, unwrap_or, Result, Ok, Err}
+use Rattle.std.specs.Prelude.{ℕ, Bool, true, false, ◌||◌, Option, Some, None, is_some, option_and_then, unwrap_or, Result, Ok, Err}
+use Rattle.hop_count.specs.Hops.{hops_after}
 use Rattle.node_name.specs.declared.NodeName.{NodeName}
 use Rattle.replies.specs.declared.calls.CallReply.TheVariants.{Write as OfWrite}
 use Rattle.replies.specs.declared.calls.InverseEnd.{InverseEnd}
@@ -87,13 +88,6 @@ abbrev pub next_of : Plan → WriteStage
 next_of p = next_stage p.refused p.committed p.job p.back
 
 -- ---- what is taken
-
-abbrev pub most_hops : ℕ
-most_hops = 18446744073709551615
-
--- so many carries more; at its last value the number stands still
-abbrev pub hops_after : ℕ → ℕ → ℕ
-hops_after hops more = min (hops + more) most_hops
 
 -- the plan ends with the reply
 abbrev pub refused_by : Plan → Reply → Plan

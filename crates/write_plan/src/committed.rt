@@ -41,7 +41,7 @@ fn adding(entry: &Option<Entry>, write: &Write) -> WriteKind
 }
 
 /// Which write it was.
-fn told_kind(write: &Write, entry: &Option<Entry>) -> WriteKind
+pub fn told_kind(write: &Write, entry: &Option<Entry>) -> WriteKind
     requires fits { IfSome entry.now (λ e. FitsWrite e write.now) }
     requires entry { HasEntry write.now entry.now }
     ensures { told_kind write.now entry.now ≡ Some result }

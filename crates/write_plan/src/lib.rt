@@ -10,7 +10,7 @@ mod progress;
 mod results;
 mod stage;
 
-pub use committed::Committed;
+pub use committed::{Committed, told_kind};
 pub use plan::{EndedWrite, WritePlan};
 pub use progress::{OtherEnd, WayBack};
 pub use results::{Late, WriteResult};

@@ -15,13 +15,20 @@ abbrev pub TakesTouches : EdgeTypes → View → List Touch → Items → Items 
 TakesTouches types note [] old new = new ≡ old
 TakesTouches types note (t ∷ ts) old new = (between : Items) × ChangesItems types (change_by t note) old between × TakesTouches types note ts between new
 
--- the node after the changesets of an entry left these items: the note is met, the asks on the touched keys are raised, and the position is marked
+-- the node after the changesets of an entry left these items: the note is met, and the asks on the touched keys are raised
+abbrev pub with_applied : ℕ → Entry → View → Items → Node → Node
+with_applied shard e note items n = met shard note (record n { items = items; asks = raised_all (keys_of e) n.asks })
+
+-- the same, and the position of the entry is marked
 abbrev pub with_entry : ℕ → Entry → View → Items → Node → Node
-with_entry shard e note items n = record n {
-  items = items;
-  asks = raised_all (keys_of e) n.asks;
-  served = changed_at shard (marking e.position) (met shard note n).served;
-}
+with_entry shard e note items n =
+    let applied : Node = with_applied shard e note items n in
+    record applied { served = changed_at shard (marking e.position) applied.served }
+
+-- the node took all changesets of the entry, and processed no position
+pub record AppliesEntry (types : EdgeTypes) (shard : ℕ) (e : Entry) (note : View) (old new : Node) : Type 0 where
+  pub items : TakesTouches types note e.touches old.items new.items
+  pub node_is : new ≡ with_applied shard e note new.items old
 
 -- the node took all changesets of the entry, and processed its position
 pub record TakesEntry (types : EdgeTypes) (shard : ℕ) (e : Entry) (note : View) (old new : Node) : Type 0 where

@@ -18,7 +18,7 @@ ghost use Rattle.cache_items.specs.Look.{look_of, looked_at};
 ghost use Rattle.served_shards.specs.Meetings.{AreSeenSound, MeetEach, MeetsAt};
 ghost use Rattle.served_shards.specs.Served.{IsLowWater, changed_at, forgetting, log_at, low_at, marking, served_at, top_at, view_at};
 ghost use Rattle.cache_items.specs.Taken.{ChangesItems, TakesChange, with_change};
-ghost use Rattle.cache_items.specs.TakenEntry.{TakesEntry, TakesTouches};
+ghost use Rattle.cache_items.specs.TakenEntry.{AppliesEntry, TakesEntry, TakesTouches};
 ghost use Rattle.maint_msg.specs.KeyVersions.{key_version, keys_of};
 ghost use Rattle.changeset.specs.Changes.{change_by, seen_change};
 ghost use Rattle.shard_log.specs.View.{View};
@@ -464,9 +464,19 @@ impl Holdings {
         ensures entry { TakesEntry (types_of schema.now) shard entry.now note self.old self.new }
         ensures meets { MeetsAt shard note self.old.served }
     {
+        self.apply_entry(schema, shard, entry, note);
+        self.mark(shard, entry.position);
+    }
+
+    /// Applies an entry that the node's own side wrote, as `take_entry` does, and marks nothing: its message is
+    /// still to come.
+    pub fn apply_entry(&mut self, schema: &Schema, shard: u16, entry: &Entry, note: Note)
+        requires { IfSome (log_at shard self.old.served) (λ log. log ≡ note.log) }
+        ensures entry { AppliesEntry (types_of schema.now) shard entry.now note self.old self.new }
+        ensures meets { MeetsAt shard note self.old.served }
+    {
         self.meet(shard, note);
         self.change_items(schema, entry.touches.as_slice());
-        self.mark(shard, entry.position);
     }
 
     // Lets the items take what the touches do, and raises the asks on their keys.

@@ -123,20 +123,16 @@ raise_all_is_true (k ∷ ks) n is high =
     let one = raised_is_true n k.key k.version is (λ s told was at. (high told was).0 s at) in
     raise_all_is_true ks (record n { asks = with_floor k.key k.version n.asks }) one (λ told was. (high told (is.told told)).1)
 
--- a position that is named was processed, after which each item has at least the version that is named for it
-pub processed_with : (shard position : ℕ) (keys : List KeyVersion) (items : Items) (n : Node) → IsTrueNode (record n { items = items })
-    → ((key : Key) (item : Item) → item_at items key ≡ Some item → (v : ℕ) → version_among keys key ≡ Some v → v ≤ item.version)
-    → (s : ServedShard) → served_at shard n.served ≡ Some s → (s.view.log.told ≡ true → NamesEntry s.view.entries shard position keys)
-    → IsTrueNode (record n { items = items; asks = raised_all keys n.asks; served = changed_at shard (marking position) n.served })
-processed_with shard position keys items n left held s at names =
-    let n1 : Node = record n { items = items } in
-    let raised = raise_all_is_true keys n1 left (λ told was. reached told was) in
-    marked_is_true (record n1 { asks = raised_all keys n.asks }) shard position raised (λ other there told. can_mark other (same_served other there) told)
-  where
-    same_served : (other : ServedShard) → served_at shard n.served ≡ Some other → other ≡ s
-    same_served other there = let e : Some other ≡ Some s = sym there ∙ at in cc
+-- what is had of a shard is one thing
+one_served : (served : List ServedShard) (shard : ℕ) (s other : ServedShard) → served_at shard served ≡ Some s → served_at shard served ≡ Some other → other ≡ s
+one_served served shard s other at there = let e : Some other ≡ Some s = sym there ∙ at in cc
 
-    reached : AreTold n.served → IsTrueOfLogs (record n { items = items }) → AreReachedBy n.served keys
+-- the asks on the keys that are named at a position were raised
+pub raised_with : (shard position : ℕ) (keys : List KeyVersion) (n : Node) → IsTrueNode n → (s : ServedShard) → served_at shard n.served ≡ Some s
+    → (s.view.log.told ≡ true → NamesEntry s.view.entries shard position keys) → IsTrueNode (record n { asks = raised_all keys n.asks })
+raised_with shard position keys n is s at names = raise_all_is_true keys n is reached
+  where
+    reached : AreTold n.served → IsTrueOfLogs n → AreReachedBy n.served keys
     reached told was =
         let named = names (told shard s at) in
         let here = recursion_from_All (λ k. key_shard k.key ≡ shard) keys named.here in
@@ -147,11 +143,21 @@ processed_with shard position keys items n left held s at names =
         both [] here versions = tt
         both (k ∷ ks) here versions = (
           λ other there. (
-              let same : other ≡ s = same_served other (subst (λ i. served_at i n.served ≡ Some other) here.0 there) in
+              let same : other ≡ s = one_served n.served shard s other at (subst (λ i. served_at i n.served ≡ Some other) here.0 there) in
               subst (λ o. k.version ≤ version o.view.entries k.key) (sym same) versions.0),
           both ks here.1 versions.1,
         )
 
+-- a position that is named was processed, after which each item has at least the version that is named for it
+pub processed_with : (shard position : ℕ) (keys : List KeyVersion) (items : Items) (n : Node) → IsTrueNode (record n { items = items })
+    → ((key : Key) (item : Item) → item_at items key ≡ Some item → (v : ℕ) → version_among keys key ≡ Some v → v ≤ item.version)
+    → (s : ServedShard) → served_at shard n.served ≡ Some s → (s.view.log.told ≡ true → NamesEntry s.view.entries shard position keys)
+    → IsTrueNode (record n { items = items; asks = raised_all keys n.asks; served = changed_at shard (marking position) n.served })
+processed_with shard position keys items n left held s at names =
+    let n1 : Node = record n { items = items } in
+    let raised = raised_with shard position keys n1 left s at names in
+    marked_is_true (record n1 { asks = raised_all keys n.asks }) shard position raised (λ other there told. can_mark other (one_served n.served shard s other at there) told)
+  where
     can_mark : (other : ServedShard) → other ≡ s → other.view.log.told ≡ true → CanMark (record n { items = items; asks = raised_all keys n.asks }) shard position other
     can_mark other same told = subst (CanMark (record n { items = items; asks = raised_all keys n.asks }) shard position) (sym same) (can (names (subst (λ o. o.view.log.told ≡ true) same told)))
       where

@@ -1,4 +1,4 @@
--- A node that takes all changesets of an entry stays true of its logs.
+-- A node that takes all changesets of an entry stays true of its logs, whether it marks the entry's position or not.
 use Rattle.std.proofs.Common.{◌≡◌, ℕ, ◌+◌, ◌-◌, ◌<◌, ◌≤◌, ◌^◌, true, cond, List, [], ◌∷◌, length, map, Option, Some, None, refl, sym, ◌∙◌, ap, subst, inl, inr, arith}
 use Rattle.std.proofs.lemmas.Bool.{both_ways, cases_Bool}
 use Rattle.std.proofs.lemmas.List.Elements.{All-contains, All-contains_itself, All-weaker, recursion_from_All}
@@ -17,20 +17,21 @@ use Rattle.graph_model.proofs.Keys.{same_key-same, same_key-self}
 use Rattle.graph_model.specs.Log.{IsTouchOf, entry_at, touches_key, version}
 use Rattle.graph_model.specs.Soundness.{IsSound}
 use Rattle.graph_model.specs.Told.{WhereTold}
-use Rattle.shard_log.specs.View.{Grows, LogName, View, longer_view, most_entries}
+use Rattle.shard_log.specs.View.{Grows, LogName, View, most_entries}
 use Rattle.changeset.proofs.ChangeLemmas.{is_one_touch, touch_at, touches_stay}
 use Rattle.changeset.specs.Changes.{SeenChange, change_by, own_touch}
 use Rattle.maint_msg.specs.KeyVersions.{key_version, keys_of}
+use Rattle.maint_msg.specs.Maints.{NamesEntry}
 use Rattle.served_shards.specs.Meetings.{MeetsAt}
 use Rattle.served_shards.specs.Served.{ServedShard, log_at, seeing, served_at}
 use Rattle.cache_items.specs.declared.item.Item.{Item}
 use Rattle.cache_items.specs.Node.{Items, Node, item_at, met, without}
 use Rattle.cache_items.specs.Taken.{TakesChange, changed_item, key_bound}
-use Rattle.cache_items.specs.TakenEntry.{TakesEntry, TakesTouches}
+use Rattle.cache_items.specs.TakenEntry.{TakesTouches, with_applied, with_entry}
 use Rattle.cache_node.proofs.Changing.{touch_is_true, touch_reached}
 use Rattle.cache_node.proofs.Keys.{distinct_without, held_fewer, held_gone, key_laws}
 use Rattle.cache_node.proofs.Nodes.{served_of_log}
-use Rattle.cache_node.proofs.Processing.{entry_named, processed_with}
+use Rattle.cache_node.proofs.Processing.{entry_named, processed_with, raised_with}
 use Rattle.cache_node.proofs.ServedAt.{changed_there}
 use Rattle.cache_node.proofs.Truth.{met_is_true, seeing_keeps}
 use Rattle.cache_node.specs.True.{AreTold, IsTrueNode, version_among}
@@ -91,7 +92,7 @@ change_rises bound old new c key item distinct next takes h = by_item (item_at o
         set_rises old c was (changed_item was c.change c.after bound) key item some (let same = takes.0 in omega arith) refl (subst (λ xs. item_at xs key ≡ Some item) takes.1 h)
 
 -- no key is held twice after a changeset
-distinct_change : (bound : ℕ) (old new : Items) (c : SeenChange) → IsDistinct same_key (keys_held old) → TakesChange bound (item_at old c.key) c old new → IsDistinct same_key (keys_held new)
+pub distinct_change : (bound : ℕ) (old new : Items) (c : SeenChange) → IsDistinct same_key (keys_held old) → TakesChange bound (item_at old c.key) c old new → IsDistinct same_key (keys_held new)
 distinct_change bound old new c distinct takes = by_item (item_at old c.key) takes
   where
     by_item : (o : Option Item) → TakesChange bound o c old new → IsDistinct same_key (keys_held new)
@@ -168,22 +169,44 @@ touches_seen shard e note m s at grows on few sound stands here =
           omega arith,
         )
 
-pub entry_came : (types : EdgeTypes) (old new : Node) (shard : ℕ) (e : Entry) (note : View) → IsDistinct same_key (keys_held old.items) → IsTrueNode old → log_at shard old.served ≡ Some note.log
-    → length note.entries ≤ most_entries → WhereTold note.log.told (IsSound note.entries) → WhereTold note.log.told (entry_at note.entries e.position ≡ Some e)
-    → WhereTold note.log.told (All (λ t. key_shard t.key ≡ shard) e.touches) → MeetsAt shard note old.served → TakesEntry types shard e note old new → IsTrueNode new
-entry_came types old new shard e note distinct is log few sound stands here meets takes =
-    let at = served_of_log old.served shard note.log log in
-    let m : Node = met shard note old in
-    let s : ServedShard = seeing note at.0 in
-    let there : served_at shard (met shard note old).served ≡ Some (seeing note at.0) =
-    changed_there shard (seeing note) (seeing_keeps note).shard old.served ∙ ap (option_map (seeing note)) at.1 in
-    let grows : Grows note (longer_view at.0.view note) = (meets.meets at.0 at.1).from_note in
-    let on : AreTold (met shard note old).served → note.log.told ≡ true = λ told. ap (λ (l : LogName). l.told) (sym at.2) ∙ told shard (seeing note at.0) there in
-    let seen = touches_seen shard e note (met shard note old).served (seeing note at.0) there grows on few sound stands here in
-    let taken = touches_are_true types note e.touches (met shard note old) new.items distinct (met_is_true old shard note is meets) seen takes.items in
-    subst IsTrueNode (sym takes.node_is)
-    (processed_with shard e.position (keys_of e) new.items (met shard note old) taken
-    (λ key item h. (touches_rise types note e.touches old.items new.items key item distinct takes.items h).reaches) (seeing note at.0) there
-    (λ told.
-    let is_told : note.log.told ≡ true = ap (λ (l : LogName). l.told) (sym at.2) ∙ told in
-    entry_named note (longer_view at.0.view note) shard e grows (stands is_told) (here is_told)))
+-- a node met the note of an entry that its log has, and its items took the changesets of the entry
+module _ (types : EdgeTypes) (old new : Node) (shard : ℕ) (e : Entry) (note : View) (distinct : IsDistinct same_key (keys_held old.items)) (is : IsTrueNode old)
+    (log : log_at shard old.served ≡ Some note.log) (few : length note.entries ≤ most_entries) (sound : WhereTold note.log.told (IsSound note.entries))
+    (stands : WhereTold note.log.told (entry_at note.entries e.position ≡ Some e)) (here : WhereTold note.log.told (All (λ t. key_shard t.key ≡ shard) e.touches))
+    (meets : MeetsAt shard note old.served) (takes : TakesTouches types note e.touches old.items new.items) where
+  -- what was had of the shard
+  was : (s : ServedShard) × (served_at shard old.served ≡ Some s) × (s.view.log ≡ note.log)
+  was = served_of_log old.served shard note.log log
+
+  -- what is had of it now
+  abbrev seen_shard : ServedShard
+  seen_shard = seeing note was.0
+
+  there : served_at shard (met shard note old).served ≡ Some seen_shard
+  there = changed_there shard (seeing note) (seeing_keeps note).shard old.served ∙ ap (option_map (seeing note)) was.1
+
+  grows : Grows note seen_shard.view
+  grows = (meets.meets was.0 was.1).from_note
+
+  taken : IsTrueNode (record (met shard note old) { items = new.items })
+  taken =
+      let on : AreTold (met shard note old).served → note.log.told ≡ true = λ told. ap (λ (l : LogName). l.told) (sym was.2) ∙ told shard seen_shard there in
+      let seen = touches_seen shard e note (met shard note old).served seen_shard there grows on few sound stands here in
+      touches_are_true types note e.touches (met shard note old) new.items distinct (met_is_true old shard note is meets) seen takes
+
+  named : seen_shard.view.log.told ≡ true → NamesEntry seen_shard.view.entries shard e.position (keys_of e)
+  named told =
+      let is_told : note.log.told ≡ true = ap (λ (l : LogName). l.told) (sym was.2) ∙ told in
+      entry_named note seen_shard.view shard e grows (stands is_told) (here is_told)
+
+  -- nothing was marked
+  pub entry_applied : new ≡ with_applied shard e note new.items old → IsTrueNode new
+  entry_applied node_is =
+      subst IsTrueNode (sym node_is) (raised_with shard e.position (keys_of e) (record (met shard note old) { items = new.items }) taken seen_shard there named)
+
+  -- the position was marked
+  pub entry_came : new ≡ with_entry shard e note new.items old → IsTrueNode new
+  entry_came node_is =
+      subst IsTrueNode (sym node_is)
+      (processed_with shard e.position (keys_of e) new.items (met shard note old) taken
+      (λ key item h. (touches_rise types note e.touches old.items new.items key item distinct takes h).reaches) seen_shard there named)

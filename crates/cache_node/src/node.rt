@@ -18,7 +18,7 @@ ghost use Rattle.sealed_item.specs.Decided.{content_answer, content_decides};
 ghost use Rattle.cache_items.specs.Look.{look_of, looked_at};
 ghost use Rattle.served_shards.specs.Served.{IsLowWater, log_at, low_at, served_at, top_at, view_at};
 ghost use Rattle.cache_items.specs.Taken.{ChangesItems, with_change};
-ghost use Rattle.cache_items.specs.TakenEntry.{TakesEntry};
+ghost use Rattle.cache_items.specs.TakenEntry.{AppliesEntry, TakesEntry};
 ghost use Rattle.graph_model.specs.Log.{entry_at};
 ghost use Rattle.cache_node.specs.True.{IsTrueNode};
 
@@ -265,6 +265,21 @@ impl CacheNode {
         notes_are_sound(&note);
         self.holdings.keys_differ();
         self.holdings.take_entry(schema, shard, entry, note);
+    }
+
+    /// Applies an entry of the log that was written on the node's behalf: all its changesets, one after another, as
+    /// `take_changeset` does, with one note. Nothing is marked, so the entry's message is processed when it comes.
+    ///
+    /// Only items that grow take memory, and one that finds none is dropped.
+    pub fn apply_entry(&mut self, schema: &Schema, shard: u16, entry: &Entry, note: Note)
+        requires log { log_at shard self.old.served ≡ Some note.log }
+        requires stands { WhereTold note.log.told (entry_at note.entries entry.now.position ≡ Some entry.now) }
+        requires here { WhereTold note.log.told (All (λ t. key_shard t.key ≡ shard) entry.now.touches) }
+        ensures { AppliesEntry (types_of schema.now) shard entry.now note self.old self.new }
+    {
+        notes_are_sound(&note);
+        self.holdings.keys_differ();
+        self.holdings.apply_entry(schema, shard, entry, note);
     }
 
     /// Processes a message: drops each named item that is below its version, raises the asks on the

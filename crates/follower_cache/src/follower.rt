@@ -6,6 +6,7 @@ ghost use Rattle.lru.specs.LruCache.{last_entry};
 ghost use Rattle.ask_table.specs.Asks.{IsTable, is_full};
 ghost use Rattle.tao_base.specs.Queries.{query_key};
 ghost use Rattle.tao_base.specs.Keys.{key_shard, same_key};
+ghost use Rattle.graph_model.specs.Log.{entry_at};
 ghost use Rattle.graph_model.specs.Told.{WhereTold};
 ghost use Rattle.tao_schema.specs.Schema.{types_of};
 ghost use Rattle.sealed_item.specs.Decided.{content_answer, content_decides};
@@ -16,6 +17,7 @@ ghost use Rattle.cache_items.specs.Kept.{GivesKept, ask_at, kept_of, took};
 ghost use Rattle.cache_items.specs.Look.{look_of, looked_at};
 ghost use Rattle.cache_items.specs.Node.{caught_up, delivered, drop_count, empty_node, emptied, item_at, met, with_ended_ask, with_opened_ask, without, without_last};
 ghost use Rattle.cache_items.specs.Taken.{ChangesItems, with_change};
+ghost use Rattle.cache_items.specs.TakenEntry.{AppliesEntry};
 ghost use Rattle.cache_node.specs.Answered.{LookAnswers, ViewAnswers};
 ghost use Rattle.cache_node.specs.True.{IsTrueNode};
 ghost use Rattle.follower_cache.specs.Refills.{Queues};
@@ -174,6 +176,21 @@ impl Follower {
         ensures unserved { IfNone (served_at (key_shard change.key) self.old.node.served) (self.new ≡ self.old) }
     {
         self.node.take_changeset(schema, change);
+    }
+
+    /// Applies an entry of the log that was written on the follower's behalf: all its changesets, one after another,
+    /// as `take_changeset` does, with one note. Nothing is marked, so the entry's message is processed when it comes.
+    /// The refills stay.
+    ///
+    /// Only items that grow take memory, and one that finds none is dropped.
+    pub fn apply_entry(&mut self, schema: &Schema, shard: u16, entry: &Entry, note: Note)
+        requires log { log_at shard self.old.node.served ≡ Some note.log }
+        requires stands { WhereTold note.log.told (entry_at note.entries entry.now.position ≡ Some entry.now) }
+        requires here { WhereTold note.log.told (All (λ t. key_shard t.key ≡ shard) entry.now.touches) }
+        ensures node { AppliesEntry (types_of schema.now) shard entry.now note self.old.node self.new.node }
+        ensures refills { self.new.refills ≡ self.old.refills }
+    {
+        self.node.apply_entry(schema, shard, entry, note);
     }
 
     /// Processes a message: drops each named item that is below its version, raises the asks on the

@@ -3,11 +3,8 @@ use Rattle.std.proofs.Common.{◌≡◌, ℕ, ◌≤◌, Bool, true, List, Optio
 use Rattle.tao_base.specs.EdgeTypes.{EdgeTypes}
 use Rattle.tao_base.specs.Queries.{query_key}
 use Rattle.tao_base.specs.declared.entry.Entry.{Entry}
-use Rattle.tao_base.specs.declared.id.Key.{Key}
-use Rattle.tao_base.specs.declared.id.Key.TheVariants.{Obj, List as Assocs}
 use Rattle.tao_base.specs.declared.query.Answer.{Answer}
 use Rattle.tao_base.specs.declared.query.Query.{Query}
-use Rattle.tao_base.specs.declared.query.Query.TheVariants.{ObjGet, AssocGet, AssocCount, AssocRange, AssocTimeRange}
 use Rattle.graph_model.proofs.Exact.{version_take}
 use Rattle.graph_model.proofs.Versions.{version_fixes}
 use Rattle.graph_model.specs.Answers.{answer as log_answer}
@@ -16,10 +13,8 @@ use Rattle.graph_model.specs.Told.{WhereTold}
 use Rattle.shard_log.proofs.Beginnings.{begins-self}
 use Rattle.shard_log.specs.View.{Begins, LogName, View}
 use Rattle.sealed_item.proofs.Deciding.{fronts_decide}
-use Rattle.sealed_item.specs.Decided.{IsExactAnswer, IsWithinBound, content_decides}
+use Rattle.sealed_item.specs.Decided.{IsExactAnswer}
 use Rattle.sealed_item.specs.Fills.{IsSealed, SealedItem}
-use Rattle.sealed_item.specs.declared.content.Content.{Content}
-use Rattle.sealed_item.specs.declared.content.Content.TheVariants.{Object as ObjectIs, List as ListIs}
 use Rattle.cache_items.specs.HandedOn.{HandsOn, IsFrontHeld}
 use Rattle.cache_items.specs.Kept.{item_of}
 use Rattle.cache_items.specs.Node.{Node, item_at}

@@ -48,7 +48,8 @@ pub record HandsOnOwn (asked : AskedRead) (given : LeaderAnswer) (new : Node) (b
 
 -- the node after its store's answer: a copy of a fill is kept or not, by the rule of a leader's own. It stays where nothing was filled
 abbrev pub KeepsGiven : Node → LeaderAnswer → Node → Type 0
-KeepsGiven old (Filled fill) new = (kept : Kept) × GivesKept (own_kept_of (top_at (key_shard fill.key) old.served) fill.as_of) kept × (new ≡ with_copy fill kept old)
+KeepsGiven old (Filled fill) new =
+    (kept : Kept) × GivesKept (own_kept_of (top_at (key_shard fill.key) old.served) fill.as_of) kept × (new ≡ with_copy fill kept old)
 KeepsGiven old (Past answer version total note) new = new ≡ old
 KeepsGiven old (Behind version) new = new ≡ old
 

@@ -16,7 +16,7 @@ ghost use Rattle.cache_items.specs.HandedOn.{HandsOn, handed_on, with_copy};
 ghost use Rattle.cache_items.specs.Kept.{GivesKept, own_kept_of};
 ghost use Rattle.cache_items.specs.Node.{caught_up, delivered, drop_count, empty_node, emptied, item_at, met, without, without_last};
 ghost use Rattle.cache_items.specs.Taken.{ChangesItems, with_change};
-ghost use Rattle.cache_items.specs.TakenEntry.{TakesEntry};
+ghost use Rattle.cache_items.specs.TakenEntry.{AppliesEntry, TakesEntry};
 ghost use Rattle.cache_node.specs.True.{IsTrueNode};
 
 use cache_node::{CacheNode, Delivered, Item, Kept, nodes_are_true};
@@ -108,6 +108,20 @@ impl Leader {
         ensures unserved { IfNone (served_at (key_shard change.key) self.old.served) (self.new ≡ self.old) }
     {
         self.node.take_changeset(schema, change);
+    }
+
+    /// Applies an entry of the log that another node wrote: all its changesets, one after another, as
+    /// `take_changeset` does, with one note. Nothing is marked, so the entry's message is processed when it comes.
+    /// A leader of a slave region does so with a write that passed it on the way to the master.
+    ///
+    /// Only items that grow take memory, and one that finds none is dropped.
+    pub fn apply_entry(&mut self, schema: &Schema, shard: u16, entry: &Entry, note: Note)
+        requires log { log_at shard self.old.served ≡ Some note.log }
+        requires stands { WhereTold note.log.told (entry_at note.entries entry.now.position ≡ Some entry.now) }
+        requires here { WhereTold note.log.told (All (λ t. key_shard t.key ≡ shard) entry.now.touches) }
+        ensures { AppliesEntry (types_of schema.now) shard entry.now note self.old self.new }
+    {
+        self.node.apply_entry(schema, shard, entry, note);
     }
 
     /// Processes a message: drops each named item that is below its version, and marks the position. No refill

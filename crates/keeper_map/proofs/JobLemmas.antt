@@ -9,7 +9,7 @@ use Rattle.std.specs.Prelude.{Option, Some, None, Result, Ok, Err, IsSome, OnErr
 use Rattle.tao_keeper.specs.Given.{IsGivenJob}
 use Rattle.tao_keeper.specs.Table.{IsLeastJob, IsJobAt}
 use Rattle.tao_keeper.specs.declared.jobs.Job.{Job}
-use Rattle.keeper_map.specs.Jobs.{IsJobOf, StandAtPositions, listed}
+use Rattle.keeper_map.specs.Jobs.{IsGivenJobAt, StandAtPositions, listed}
 
 same_order : (x y : ℕ) → is_eq (nat_cmp x y) ≡ (y == x)
 same_order x y = grind (arith, nat_tests)
@@ -39,16 +39,16 @@ abbrev pub Changed : ℕ → Option Job → BTreeMap ℕ Job → BTreeMap ℕ Jo
 Changed position given old new = (q : ℕ) → get nat_cmp new q ≡ cond (is_eq (nat_cmp position q)) given (get nat_cmp old q)
 
 pub still_stand : (position : ℕ) (given : Option Job) (old new : BTreeMap ℕ Job) → Changed position given old new → StandAtPositions old
-    → ((job : Job) → given ≡ Some job → IsJobOf position job) → StandAtPositions new
+    → ((job : Job) → given ≡ Some job → IsGivenJobAt position job) → StandAtPositions new
 still_stand position given old new step stand is q job h = by (q == position) (sym (step q ∙ ap (λ b. cond b given (get nat_cmp old q)) (same_order position q)) ∙ h) refl
   where
-    by : (b : Bool) → cond b given (get nat_cmp old q) ≡ Some job → (q == position) ≡ b → IsJobOf q job
-    by true found same = let here : position ≡ q = grind (arith, nat_tests) in subst (λ p. IsJobOf p job) here (is job found)
+    by : (b : Bool) → cond b given (get nat_cmp old q) ≡ Some job → (q == position) ≡ b → IsGivenJobAt q job
+    by true found same = let here : position ≡ q = grind (arith, nat_tests) in subst (λ p. IsGivenJobAt p job) here (is job found)
     by false found same = stand q job found
 
 pub still_stand_opened : {T E : Type 0} (result : Result T E) (job : Job) (old new : BTreeMap ℕ Job) → OnOk result (Updates nat_cmp old new job.position (Some job))
     → OnErr result (IsUnchanged old new) → StandAtPositions old → IsGivenJob job → StandAtPositions new
 still_stand_opened (Ok x) job old new done failed stand given =
     still_stand job.position (Some job) old new done.0 stand
-    (λ other h. let same : job ≡ other = cc in subst (IsJobOf job.position) same (record { position_is = refl; given = given }))
+    (λ other h. let same : job ≡ other = cc in subst (IsGivenJobAt job.position) same (record { position_is = refl; given = given }))
 still_stand_opened (Err e) job old new done failed stand given = λ q other h. stand q other (ap (λ es. lookup (is_at (nat_cmp q)) es) (sym failed) ∙ h)

@@ -12,10 +12,10 @@ abbrev pub listed : BTreeMap ℕ Job → Jobs
 listed jobs position = option_map (λ job. job.edges) (get nat_cmp jobs position)
 
 -- the job of an entry at that position, which may be given
-pub record IsJobOf (position : ℕ) (job : Job) : Type 0 where
+pub record IsGivenJobAt (position : ℕ) (job : Job) : Type 0 where
   pub position_is : job.position ≡ position
   pub given : IsGivenJob job
 
 -- each job stands at its position
 abbrev pub StandAtPositions : BTreeMap ℕ Job → Type 0
-StandAtPositions jobs = (position : ℕ) (job : Job) → get nat_cmp jobs position ≡ Some job → IsJobOf position job
+StandAtPositions jobs = (position : ℕ) (job : Job) → get nat_cmp jobs position ≡ Some job → IsGivenJobAt position job

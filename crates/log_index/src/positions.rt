@@ -34,7 +34,8 @@ impl Positions {
     }
 
     pub fn put(&mut self, origin: Origin, stands: u64) -> Result<(), OutOfMemory>
-        ensures { OnOk result ((other : OriginValue) → kept_position self.new other ≡ (if same_origin origin other then Some stands else kept_position self.old other)) }
+        ensures { OnOk result ((other : OriginValue) → kept_position self.new other
+            ≡ (if same_origin origin other then Some stands else kept_position self.old other)) }
     {
         match origin {
             Origin::Client { session, seq } => {

@@ -1,1 +1,2 @@
+pub mod PlacedNodes
 pub mod Placing

@@ -1,16 +1,19 @@
--- Each shard and key that a checked request names is configured.
-use Rattle.std.proofs.Common.{◌≡◌, ◌≢◌, ℕ, ◌<◌, Bool, true, false, not, Option, None, Some, Result, Ok, Err, IfOk, IfSome, refl, ap, inl, inr}
+-- Each region, tier, node, shard and key that a checked request names is configured.
+use Rattle.std.proofs.Common.{◌≡◌, ◌≢◌, ℕ, ◌<◌, length, Bool, true, false, not, List, Option, None, Some, Result, Ok, Err, IfOk, IfSome, refl, ap, inl, inr}
 use Rattle.std.specs.Prelude.{◌==◌, nat_lt}
 use Rattle.std.proofs.lemmas.Bool.{cases_Bool, eq-eqb, ltb-true}
-use Rattle.outcomes.specs.Results.{◌>>=◌, refused_unless}
+use Rattle.outcomes.specs.Results.{◌>>=◌, needed, refused_unless}
 use Rattle.tao_base.specs.EdgeTypes.{EdgeTypes}
 use Rattle.tao_base.specs.Ids.{shard_of}
 use Rattle.tao_base.specs.Queries.{query_key}
 use Rattle.tao_base.specs.declared.id.AType.{AType}
 use Rattle.tao_schema.specs.Schema.{types_of}
 use Rattle.topology.specs.Config.{Settings}
+use Rattle.topology.specs.Lookup.{tier_in}
+use Rattle.topology.specs.Regions.{region_at}
+use Rattle.topology.proofs.Found.{region_configured, tier_configured}
 use Rattle.replies.specs.declared.refusals.NameRefused.{NameRefused}
-use Rattle.replies.specs.declared.refusals.NameRefused.TheVariants.{NoShard, SameType}
+use Rattle.replies.specs.declared.refusals.NameRefused.TheVariants.{NoShard, NoTier, SameType}
 use Rattle.requests.specs.declared.request.Call.{Call}
 use Rattle.requests.specs.declared.request.Call.TheVariants as call
 use Rattle.requests.specs.declared.request.EdgeName.{EdgeName}
@@ -26,11 +29,16 @@ use Rattle.requests.specs.declared.request.WriteCall.{WriteCall}
 use Rattle.requests.specs.declared.request.WriteText.{WriteText}
 use Rattle.requests.specs.declared.request.WriteText.TheVariants.{ObjAdd, ObjUpdate, ObjDelete, AssocAdd, AssocDelete, AssocChangeType}
 use Rattle.request_check.specs.Calls.{checked_query, checked_write, configured_ends, edge_type, has_type, is_type, bounded_ids, list_type}
-use Rattle.request_check.specs.Names.{atype_named, configured_id, configured_shard, node_named, otype_named, region_named, tier_named}
-use Rattle.request_check.specs.Placed.{IsPlaced, IsPlacedCall, IsPlacedKey, IsPlacedWrite}
-use Rattle.request_check.specs.Requests.{checked_call, checked_of, checked_read_call, checked_write_call, key_named, leader_place, link_place, maybe_key_named, placed_as}
+use Rattle.request_check.specs.Names.{atype_named, configured_id, configured_shard, node_named, otype_named, region_named, tier_named, tier_text}
+use Rattle.request_check.specs.Kind.{takes}
+use Rattle.request_check.specs.Placed.{IsPlaced, IsPlacedCall, IsPlacedKey, IsPlacedLeader, IsPlacedNode, IsPlacedTier, IsPlacedWrite}
+use Rattle.request_check.specs.Requests.{checked_call, checked_of, checked_read_call, checked_write_call, key_named, leader_place, link_place, maybe_key_named}
 use Rattle.request_check.specs.declared.checked.Checked.{Checked}
-use Rattle.request_check.specs.declared.kind.NodeKind.TheVariants.{Cache, Follower}
+use Rattle.request_check.specs.declared.kind.NodeKind.TheVariants.{Cache, Leader, Follower}
+use Rattle.request_check.proofs.PlacedNodes.{needed_holds, node_placed}
+use Rattle.node_name.specs.declared.NodeName.{NodeName}
+use Rattle.node_name.specs.declared.NodeName.TheVariants as name
+use Rattle.requests.specs.declared.request.LeaderName.{LeaderName}
 
 -- ---- one step after another
 
@@ -127,28 +135,57 @@ module _ (s : Settings) where
   maybe_key_placed None = tt
   maybe_key_placed (Some name) = andthen _ _ (key_named s name) _ (key_placed name) (λ key here. here)
 
-  placed_node : {A : Type 0} (found : Result A NameRefused) (to : A → Checked) → ((a : A) → IsPlaced s (to a)) → IfOk (placed_as to found) (IsPlaced s)
-  placed_node found to holds = whatever _ found _ holds
+  -- ---- places
+
+  region_placed : (name : List ℕ) → IfOk (region_named s name) (λ region. region < length s.regions)
+  region_placed name = needed_holds _ (NoTier name) (region_at s.regions name) (region_configured s.regions name)
+
+  tier_placed : (region tier : List ℕ) → IfOk (tier_named s region tier) (λ place. IsPlacedTier s place.region place.tier)
+  tier_placed region tier = andthen _ _ (region_named s region) _ (region_placed region) (λ place here.
+      andthen _ _ (needed (NoTier (tier_text region tier)) (tier_in s.regions place tier)) _
+      (needed_holds _ (NoTier (tier_text region tier)) (tier_in s.regions place tier) (tier_configured s.regions place tier))
+      (λ found there. record { configured = here; within = there }))
+
+  leads_cache : (node : NodeName) → takes Leader node ≡ true → takes Cache node ≡ true
+  leads_cache (name.Store store) is = is
+  leads_cache (name.Leader region index) is = refl
+  leads_cache (name.Follower region tier index) is = refl
+
+  follows_cache : (node : NodeName) → takes Follower node ≡ true → takes Cache node ≡ true
+  follows_cache (name.Store store) is = is
+  follows_cache (name.Leader region index) is = refl
+  follows_cache (name.Follower region tier index) is = refl
+
+  cache_placed : (Q : Checked → Type 0) (name : List ℕ) (next : NodeName → Result Checked NameRefused)
+      → ((node : NodeName) → IsPlacedNode s node → IfOk (next node) Q) → IfOk (node_named s Cache name >>= next) Q
+  cache_placed Q name next holds = andthen _ _ (node_named s Cache name) next (node_placed s Cache (λ node is. is) name) (λ node here. holds node here.0)
+
+  leader_placed : (leader : LeaderName) → IfOk (leader_place s leader) (IsPlacedLeader s)
+  leader_placed leader = andthen _ _ (tier_named s leader.region leader.tier) _ (tier_placed leader.region leader.tier) (λ found seen.
+      andthen _ _ (node_named s Leader leader.node) _ (node_placed s Leader leads_cache leader.node) (λ node here.
+      record { seer = seen; configured = here.0; leads = here.1 }))
 
   pub placed : (asked : Request) → IfOk (checked_of s asked) (IsPlaced s)
-  placed (request.Open opening) = whatever _ (tier_named s opening.region opening.tier) _ (λ found. tt)
+  placed (request.Open opening) = andthen _ _ (tier_named s opening.region opening.tier) _ (tier_placed opening.region opening.tier) (λ found here. here)
   placed (request.Call text) = andthen _ _ (checked_call s text) _ (call_placed text) (λ c here. here)
   placed (request.Hold plan text) = andthen _ _ (checked_call s text) _ (call_placed text) (λ c here. here)
   placed (request.Advance plan) = tt
-  placed (request.Deliver name) = placed_node (node_named s Cache name.node) _ (λ node. tt)
-  placed (request.Again name) = placed_node (node_named s Cache name.node) _ (λ node. tt)
-  placed (request.Drop name) = placed_node (node_named s Cache name.node) _ (λ node. tt)
-  placed (request.Refill name) = placed_node (node_named s Follower name) _ (λ node. tt)
-  placed (request.Stream region shard position) = whatever _ (region_named s region) _ (λ r. andthen _ _ (configured_shard s shard) _ (shard_placed shard) (λ u here. here))
+  placed (request.Deliver name) = cache_placed _ name.node _ (λ node here. here)
+  placed (request.Again name) = cache_placed _ name.node _ (λ node here. here)
+  placed (request.Drop name) = cache_placed _ name.node _ (λ node here. here)
+  placed (request.Refill name) = andthen _ _ (node_named s Follower name) _ (node_placed s Follower follows_cache name)
+      (λ node here. record { configured = here.0; follows = here.1 })
+  placed (request.Stream region shard position) = andthen _ _ (region_named s region) _ (region_placed region)
+      (λ r here. andthen _ _ (configured_shard s shard) _ (shard_placed shard) (λ u there. (here, there)))
   placed (request.Repair shard) = andthen _ _ (configured_shard s shard) _ (shard_placed shard) (λ u here. here)
-  placed (request.Evict name key) = whatever _ (node_named s Cache name) _ (λ node. andthen _ _ (maybe_key_named s key) _ (maybe_key_placed key) (λ k here. here))
-  placed (request.Show name key) = whatever _ (node_named s Cache name) _ (λ node. andthen _ _ (key_named s key) _ (key_placed key) (λ k here. here))
-  placed (request.Inbox name) = placed_node (node_named s Cache name) _ (λ node. tt)
-  placed (request.Down name) = placed_node (node_named s Cache name) _ (λ node. tt)
-  placed (request.Up name) = placed_node (node_named s Cache name) _ (λ node. tt)
-  placed (request.Suspect leader) = placed_node (leader_place s leader) _ (λ place. tt)
-  placed (request.Trust leader) = placed_node (leader_place s leader) _ (λ place. tt)
-  placed (request.Cut link) = placed_node (link_place s link) _ (λ place. tt)
-  placed (request.Mend link) = placed_node (link_place s link) _ (λ place. tt)
+  placed (request.Evict name key) = cache_placed _ name _ (λ node here. andthen _ _ (maybe_key_named s key) _ (maybe_key_placed key) (λ k there. (here, there)))
+  placed (request.Show name key) = cache_placed _ name _ (λ node here. andthen _ _ (key_named s key) _ (key_placed key) (λ k there. (here, there)))
+  placed (request.Inbox name) = cache_placed _ name _ (λ node here. here)
+  placed (request.Down name) = cache_placed _ name _ (λ node here. here)
+  placed (request.Up name) = cache_placed _ name _ (λ node here. here)
+  placed (request.Suspect leader) = andthen _ _ (leader_place s leader) _ (leader_placed leader) (λ place here. here)
+  placed (request.Trust leader) = andthen _ _ (leader_place s leader) _ (leader_placed leader) (λ place here. here)
+  placed (request.Cut link) = whatever _ (link_place s link) _ (λ place. tt)
+  placed (request.Mend link) = whatever _ (link_place s link) _ (λ place. tt)
   placed request.Settle = tt
   placed (request.Audit text) = andthen _ _ (checked_read_call s text) _ (read_call_placed text) (λ r here. here)

@@ -26,7 +26,7 @@ use topology::Config;
 /// takes time in their length; a name of a region or tier is compared with each.
 pub fn check(alloc: Global, config: &Config, request: &Request) -> Result<Checked, CheckRefusal>
     ensures checked { Gives reply_unless_memory result (replied (named (checked_of config.now request.now))) }
-    // Each shard and key that is named is configured, and a change of type is one.
+    // Each region, tier, cache node, shard and key that is named is configured, and a change of type is one.
     ensures placed { IfOk result (IsPlaced config.now) }
 {
     let checked = checked_of(&Names { alloc, config }, request)?;

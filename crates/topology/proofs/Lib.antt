@@ -1,3 +1,3 @@
-mod Found
+pub mod Found
 mod Numbers
 mod Places

@@ -1,0 +1,222 @@
+-- A node stays one of its core, whatever it does and whatever the logs grow by.
+use Rattle.std.proofs.Common.{◌≡◌, ℕ, ◌-◌, Bool, true, false, List, [], ◌∷◌, length, map, Option, Some, None, refl, ap, sym, subst, ◌∙◌, inl, inr}
+use Rattle.std.proofs.lemmas.Bool.{cases_Bool}
+use Rattle.std.specs.List.{IsDistinct}
+use Rattle.std.specs.Map.{keys_of as keys_held}
+use Rattle.std.specs.Prelude.{if◌then◌else◌, ◌==◌}
+use Rattle.tao_base.specs.EdgeTypes.{EdgeTypes}
+use Rattle.tao_base.specs.Keys.{key_shard, same_key}
+use Rattle.tao_base.specs.Queries.{query_key}
+use Rattle.tao_base.specs.declared.entry.Entry.{Entry}
+use Rattle.tao_base.specs.declared.entry.Touch.{Touch}
+use Rattle.tao_base.specs.declared.id.Key.{Key}
+use Rattle.changeset.specs.Changes.{change_by}
+use Rattle.cache_items.specs.Kept.{is_yes, item_of, took, with_item}
+use Rattle.cache_items.specs.Node.{Items, Node, with_ended_ask, without, without_last}
+use Rattle.cache_items.specs.Taken.{key_bound}
+use Rattle.cache_items.specs.TakenEntry.{AppliesEntry, TakesEntry, TakesTouches}
+use Rattle.cache_items.specs.declared.look.Kept.{Kept}
+use Rattle.cache_items.specs.declared.look.Look.{Look}
+use Rattle.cache_items.specs.declared.look.Look.TheVariants.{Hit, Miss}
+use Rattle.cache_node.proofs.Bounds.{items_are_fewer, items_stay_within}
+use Rattle.cache_node.proofs.Keys.{held_take}
+use Rattle.cache_node.proofs.TakenEntries.{distinct_change}
+use Rattle.cache_node.specs.Laws.{KeepsShard}
+use Rattle.cache_node.specs.True.{IsTrueNode}
+use Rattle.cache_node.specs.Within.{AreFewer, AreWithin}
+use Rattle.follower_cache.specs.Seen.{FollowerState}
+use Rattle.leader_tier.specs.LeaderReads.{KeepsGiven}
+use Rattle.leader_tier.specs.TakenWrites.{TakesWritten}
+use Rattle.lru.specs.LruCache.{promoted}
+use Rattle.node_name.specs.declared.NodeName.{NodeName}
+use Rattle.sealed_item.specs.Decided.{IsWithinBound}
+use Rattle.sealed_item.specs.Fills.{SealedItem}
+use Rattle.served_shards.specs.Served.{ServedShard, changed_at, forgetting, marking, seeing}
+use Rattle.shard_log.specs.View.{View}
+use Rattle.shard_tables.specs.declared.leader_answer.LeaderAnswer.{LeaderAnswer}
+use Rattle.shard_tables.specs.declared.leader_answer.LeaderAnswer.TheVariants as leader
+use Rattle.shard_tables.specs.StoreView.{Store}
+use Rattle.tao_keeper.specs.KeeperState.{KeeperState}
+use Rattle.tao_schema.specs.Schema.{types_of}
+use Rattle.topology.specs.Config.{Settings}
+use Rattle.core_model.specs.Consistent.{AreSeen, IsNodeOf}
+use Rattle.core_model.specs.Laws.{NodesStay}
+use Rattle.core_model.specs.Pens.{IsSeen, Pens, Rise}
+use Rattle.core_model.specs.Reads.{AfterLook, IsGivenAnswer, IsGivenFill, LeaderAnswers, Wanted}
+use Rattle.core_model.proofs.NodesSeen.{served-forgets, served-marks, served-meets, served-rises}
+
+-- ---- the shards that are served
+
+abbrev numbers_of : List ServedShard → List ℕ
+numbers_of served = map (λ t. t.shard) served
+
+-- a shard that is changed keeps its number
+pub numbers_stay : (shard : ℕ) (f : ServedShard → ServedShard) (served : List ServedShard) → KeepsShard f → numbers_of (changed_at shard f served) ≡ numbers_of served
+numbers_stay shard f [] keeps = refl
+numbers_stay shard f (s ∷ ss) keeps = elim (cases_Bool (s.shard == shard)) [
+  | inl here ↦ rw here (ap (λ n. n ∷ numbers_of ss) (keeps s))
+  | inr there ↦ rw there (ap (λ ns. s.shard ∷ ns) (numbers_stay shard f ss keeps))
+]
+
+-- ---- the items that are held
+
+-- what was held stays within the bounds after the changesets of some touches
+pub touches_within : (types : EdgeTypes) (note : View) (ts : List Touch) (old new : Items) → IsDistinct same_key (keys_held old) → TakesTouches types note ts old new
+    → AreWithin types old → AreWithin types new
+touches_within types note [] old new distinct same within = subst (AreWithin types) (sym same) within
+touches_within types note (t ∷ ts) old new distinct takes within =
+    touches_within types note ts takes.0 new (distinct_change (key_bound types t.key) old takes.0 (change_by t note) distinct takes.1) takes.2
+    ((items_stay_within types old).changed (change_by t note) takes.0 distinct takes.1 within)
+
+-- an item that is looked at stands first, or all stays
+used_within : (types : EdgeTypes) (items : Items) (key : Key) (used : Bool) → IsDistinct same_key (keys_held items) → AreWithin types items
+    → AreWithin types (if used then promoted (same_key key) items else items)
+used_within types items key true distinct within =
+    (items_stay_within types items).fewer (promoted (same_key key) items) ((items_are_fewer items distinct).used key) within
+used_within types items key false distinct within = within
+
+-- ---- a node
+
+module _ (s : Settings) (pens : Pens) (name : NodeName) where
+  -- what it is made of is still what it should be
+  pub node_after : (from to : Node) → IsNodeOf s pens name from → IsTrueNode to → numbers_of to.served ≡ numbers_of from.served → AreSeen pens to.served
+      → AreWithin (types_of s.schema) to.items → IsNodeOf s pens name to
+  node_after from to is truth numbers seen within = record { shards = numbers ∙ is.shards; seen = seen; truth = truth; within = within }
+
+  -- what it serves stays
+  pub node_same : (from to : Node) → IsNodeOf s pens name from → IsTrueNode to → to.served ≡ from.served → AreWithin (types_of s.schema) to.items → IsNodeOf s pens name to
+  node_same from to is truth same within = node_after from to is truth (ap numbers_of same) (subst (AreSeen pens) (sym same) is.seen) within
+
+  -- it is changed at one shard
+  pub node_changed : (shard : ℕ) (f : ServedShard → ServedShard) (from to : Node) → IsNodeOf s pens name from → IsTrueNode to → KeepsShard f
+      → AreSeen pens (changed_at shard f from.served) → to.served ≡ changed_at shard f from.served → AreWithin (types_of s.schema) to.items → IsNodeOf s pens name to
+  node_changed shard f from to is truth keeps seen same within =
+      node_after from to is truth (ap numbers_of same ∙ numbers_stay shard f from.served keeps) (subst (AreSeen pens) (sym same) seen) within
+
+  pub looks_node : (key : Key) (look : Look) (ask : Option ℕ) (from to : Node) → AfterLook key look ask from to → IsDistinct same_key (keys_held from.items) → IsTrueNode to
+      → IsNodeOf s pens name from → IsNodeOf s pens name to
+  looks_node key (Hit answer version) ask from to looks distinct truth is =
+      node_same from to is truth (ap (λ (n : Node). n.served) looks.1)
+      (subst (λ (n : Node). AreWithin (types_of s.schema) n.items) (sym looks.1) (used_within (types_of s.schema) from.items key true distinct is.within))
+  looks_node key Miss None from to looks distinct truth is = subst (IsNodeOf s pens name) (sym looks.1) is
+  looks_node key Miss (Some number) from to looks distinct truth is =
+      node_changed (key_shard key) forgetting from to is truth (λ t. refl) (served-forgets pens (key_shard key) from.served is.seen) (ap (λ (n : Node). n.served) looks.2)
+      (subst (λ (n : Node). AreWithin (types_of s.schema) n.items) (sym looks.2) is.within)
+
+  -- an ask that ends
+  ended_same : (ask : Option ℕ) (n : Node) → ((with_ended_ask ask n).served ≡ n.served) × ((with_ended_ask ask n).items ≡ n.items)
+  ended_same None n = (refl, refl)
+  ended_same (Some number) n = (refl, refl)
+
+  pub ends_node : (ask : Option ℕ) (from to : Node) → to ≡ with_ended_ask ask from → IsTrueNode to → IsNodeOf s pens name from → IsNodeOf s pens name to
+  ends_node ask from to same truth is =
+      let end = ended_same ask from in
+      node_same from to is truth (ap (λ (n : Node). n.served) same ∙ end.0)
+      (subst (AreWithin (types_of s.schema)) (sym (ap (λ (n : Node). n.items) same ∙ end.1)) is.within)
+
+  -- a fill that is kept, or not
+  took_within : (fill : SealedItem) (kept : Bool) (n : Node) → IsDistinct same_key (keys_held n.items) → IsWithinBound (types_of s.schema) fill.key fill.content
+      → AreWithin (types_of s.schema) n.items → AreWithin (types_of s.schema) (if kept then with_item fill.key (item_of fill) n else n).items
+  took_within fill true n distinct bound within = (items_stay_within (types_of s.schema) n.items).kept n.most fill.key (item_of fill) distinct bound within
+  took_within fill false n distinct bound within = within
+
+  took_served : (fill : SealedItem) (kept : Bool) (n : Node) → (if kept then with_item fill.key (item_of fill) n else n).served ≡ n.served
+  took_served fill true n = refl
+  took_served fill false n = refl
+
+  -- of a node that has ended an ask, or none
+  pub takes_node : (fill : SealedItem) (kept : Kept) (ask : Option ℕ) (from to : Node) → to ≡ took fill kept (with_ended_ask ask from) → IsSeen pens (key_shard fill.key) fill.note
+      → IsWithinBound (types_of s.schema) fill.key fill.content → IsDistinct same_key (keys_held from.items) → IsTrueNode to → IsNodeOf s pens name from → IsNodeOf s pens name to
+  takes_node fill kept ask from to same seen bound distinct truth is =
+      let end = ended_same ask from in
+      let mid : Node = with_ended_ask ask from in
+      let apart : IsDistinct same_key (keys_held mid.items) = subst (λ xs. IsDistinct same_key (keys_held xs)) (sym end.1) distinct in
+      let held : AreWithin (types_of s.schema) mid.items = subst (AreWithin (types_of s.schema)) (sym end.1) is.within in
+      node_changed (key_shard fill.key) (seeing fill.note) from to is truth (λ t. refl) (served-meets pens (key_shard fill.key) fill.note from.served seen is.seen)
+      (ap (λ (n : Node). n.served) same ∙ ap (changed_at (key_shard fill.key) (seeing fill.note)) (took_served fill (is_yes kept) mid ∙ end.0))
+      (subst (λ (n : Node). AreWithin (types_of s.schema) n.items) (sym same) (took_within fill (is_yes kept) mid apart bound held))
+
+  -- what was given for a read is of its key
+  given_seen : (read_key : Key) (fill : SealedItem) → fill.key ≡ read_key → IsSeen pens (key_shard read_key) fill.note → IsSeen pens (key_shard fill.key) fill.note
+  given_seen key fill same seen = subst (λ k. IsSeen pens (key_shard k) fill.note) (sym same) seen
+
+  given_within : (key : Key) (fill : SealedItem) → fill.key ≡ key → IsWithinBound (types_of s.schema) key fill.content → IsWithinBound (types_of s.schema) fill.key fill.content
+  given_within key fill same within = subst (λ k. IsWithinBound (types_of s.schema) k fill.content) (sym same) within
+
+  -- a leader's copy of a fill
+  copies_node : (fill : SealedItem) (kept : Kept) (yes_or_not : Bool) (from to : Node) → is_yes kept ≡ yes_or_not → to ≡ (if yes_or_not then took fill kept from else from)
+      → IsSeen pens (key_shard fill.key) fill.note → IsWithinBound (types_of s.schema) fill.key fill.content → IsDistinct same_key (keys_held from.items) → IsTrueNode to
+      → IsNodeOf s pens name from → IsNodeOf s pens name to
+  copies_node fill kept true from to which same seen bound distinct truth is = takes_node fill kept None from to same seen bound distinct truth is
+  copies_node fill kept false from to which same seen bound distinct truth is = subst (IsNodeOf s pens name) (sym same) is
+
+  -- a leader that answered of its store
+  gives_node : (read : Wanted) (given : LeaderAnswer) (from to : Node) → KeepsGiven from given to → IsGivenAnswer (types_of s.schema) pens read given
+      → IsDistinct same_key (keys_held from.items) → IsTrueNode to → IsNodeOf s pens name from → IsNodeOf s pens name to
+  gives_node read (leader.Filled fill) from to keeps is_given distinct truth is =
+      copies_node fill keeps.0 (is_yes keeps.0) from to refl keeps.2 (given_seen (query_key read.query) fill is_given.key_is is_given.seen)
+      (given_within (query_key read.query) fill is_given.key_is is_given.within) distinct truth is
+  gives_node read (leader.Past answer version total note) from to keeps is_given distinct truth is = subst (IsNodeOf s pens name) (sym keeps) is
+  gives_node read (leader.Behind version) from to keeps is_given distinct truth is = subst (IsNodeOf s pens name) (sym keeps) is
+
+  pub answers_node : (read : Wanted) (given : LeaderAnswer) (masters : List Store) (before after : KeeperState) (from to : Node)
+      → LeaderAnswers (types_of s.schema) read given masters before after from to → IsGivenAnswer (types_of s.schema) pens read given
+      → IsDistinct same_key (keys_held from.items) → IsTrueNode to → IsNodeOf s pens name from → IsNodeOf s pens name to
+  answers_node read given masters before after from to answers is_given distinct truth is = elim answers.answers [
+    | inl own ↦
+        node_same from to is truth (ap (λ (n : Node). n.served) own.node_is)
+        (subst (λ (n : Node). AreWithin (types_of s.schema) n.items) (sym own.node_is) (used_within (types_of s.schema) from.items (query_key read.query) true distinct is.within))
+    | inr reads ↦ gives_node read given from to reads.keeps is_given distinct truth is
+  ]
+
+  pub keeps_node : (read : Wanted) (ask : Option ℕ) (fill : SealedItem) (kept : Kept) (from to : Node) → to ≡ took fill kept (with_ended_ask ask from)
+      → IsGivenFill (types_of s.schema) pens read fill → IsDistinct same_key (keys_held from.items) → IsTrueNode to → IsNodeOf s pens name from → IsNodeOf s pens name to
+  keeps_node read ask fill kept from to same is_given distinct truth is =
+      takes_node fill kept ask from to same (given_seen (query_key read.query) fill is_given.key_is is_given.seen)
+      (given_within (query_key read.query) fill is_given.key_is is_given.within) distinct truth is
+
+  -- the entry was taken, and its position marked
+  pub entry_node : (shard : ℕ) (entry : Entry) (note : View) (from to : Node) → TakesEntry (types_of s.schema) shard entry note from to → IsSeen pens shard note
+      → IsDistinct same_key (keys_held from.items) → IsTrueNode to → IsNodeOf s pens name from → IsNodeOf s pens name to
+  entry_node shard entry note from to takes seen distinct truth is =
+      let mid : List ServedShard = changed_at shard (seeing note) from.served in
+      let served : to.served ≡ changed_at shard (marking entry.position) mid = ap (λ (n : Node). n.served) takes.node_is in
+      node_after from to is truth
+      (ap numbers_of served ∙ numbers_stay shard (marking entry.position) mid (λ t. refl) ∙ numbers_stay shard (seeing note) from.served (λ t. refl))
+      (subst (AreSeen pens) (sym served) (served-marks pens shard entry.position mid (served-meets pens shard note from.served seen is.seen)))
+      (touches_within (types_of s.schema) note entry.touches from.items to.items distinct takes.items is.within)
+
+  pub writes_node : (shard : ℕ) (entry : Option Entry) (note : View) (from to : Node) → TakesWritten (types_of s.schema) shard entry note from to → IsSeen pens shard note
+      → IsDistinct same_key (keys_held from.items) → IsTrueNode to → IsNodeOf s pens name from → IsNodeOf s pens name to
+  writes_node shard None note from to takes seen distinct truth is = subst (IsNodeOf s pens name) (sym takes) is
+  writes_node shard (Some entry) note from to takes seen distinct truth is = entry_node shard entry note from to takes seen distinct truth is
+
+  -- the entry was taken, and nothing marked
+  pub applies_node : (shard : ℕ) (entry : Entry) (note : View) (from to : Node) → AppliesEntry (types_of s.schema) shard entry note from to → IsSeen pens shard note
+      → IsDistinct same_key (keys_held from.items) → IsTrueNode to → IsNodeOf s pens name from → IsNodeOf s pens name to
+  applies_node shard entry note from to applies seen distinct truth is =
+      node_changed shard (seeing note) from to is truth (λ t. refl) (served-meets pens shard note from.served seen is.seen) (ap (λ (n : Node). n.served) applies.node_is)
+      (touches_within (types_of s.schema) note entry.touches from.items to.items distinct applies.items is.within)
+
+  -- it holds fewer items
+  pub fewer_node : (items : Items) (from to : Node) → to ≡ record from { items = items } → AreFewer from.items items → IsTrueNode to → IsNodeOf s pens name from → IsNodeOf s pens name to
+  fewer_node items from to same fewer truth is =
+      node_same from to is truth (ap (λ (n : Node). n.served) same)
+      (subst (λ (n : Node). AreWithin (types_of s.schema) n.items) (sym same) ((items_stay_within (types_of s.schema) from.items).fewer items fewer is.within))
+
+  pub node_rises : (later : Pens) (node : Node) → Rise pens later → IsNodeOf s pens name node → IsNodeOf s later name node
+  node_rises later node rise is = record { shards = is.shards; seen = served-rises pens later node.served rise is.seen; truth = is.truth; within = is.within }
+
+  pub nodes_stay : NodesStay s pens name
+  nodes_stay = record {
+    rises = node_rises;
+    looks = λ read look ask old new looks distinct truth is. looks_node (query_key read.query) look ask old.node new.node looks.node distinct truth is;
+    answers = answers_node;
+    keeps = λ read ask fill answer kept old new keeps given distinct truth is.
+        keeps_node read ask fill kept old.node new.node (ap (λ (f : FollowerState). f.node) keeps.node_is) given distinct truth is;
+    ends = λ ask old new ends truth is. ends_node ask old.node new.node (ap (λ (f : FollowerState). f.node) ends) truth is;
+    writes = writes_node;
+    applies = λ shard entry note old new applies seen distinct truth is. applies_node shard entry note old.node new.node applies.node seen distinct truth is;
+    evicts = λ key old new same distinct truth is. fewer_node (without key old.items) old new same ((items_are_fewer old.items distinct).without_one key) truth is;
+    evicts_last = λ old new same truth is. fewer_node (without_last old.items) old new same (λ key item h. held_take (length old.items - 1) old.items key item h) truth is;
+  }

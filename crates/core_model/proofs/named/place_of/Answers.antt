@@ -1,0 +1,8 @@
+use Rattle.core_model.proofs.Names.{first_at, none_named}
+use Rattle.core_model.proofs.named.place_of.Goals as goal
+
+pub unreachable-requires : goal.unreachable-requires
+unreachable-requires g c = none_named c.args.nodes.now c.args.name c.in-None.ensures c.requires.there
+
+pub returns : goal.returns
+returns g c = first_at c.args.nodes.now c.args.name c.in-Some.place c.in-Some.ensures

@@ -1,0 +1,56 @@
+-- When the nodes of a core are consistent.
+use Rattle.std.specs.Prelude.{ℕ, ◌≡◌, Bool, List, Some, map, slice_get}
+use Rattle.std.specs.List.{AllByRecursion}
+use Rattle.cache_items.specs.Node.{Node}
+use Rattle.cache_node.specs.True.{IsTrueNode}
+use Rattle.cache_node.specs.Within.{AreWithin}
+use Rattle.follower_cache.specs.Seen.{FollowerState}
+use Rattle.node_name.specs.declared.NodeName.{NodeName}
+use Rattle.served_shards.specs.Served.{ServedShard}
+use Rattle.tao_keeper.specs.Table.{Tables}
+use Rattle.tao_schema.specs.Schema.{types_of}
+use Rattle.topology.specs.Config.{Settings}
+use Rattle.core_model.specs.Asks.{AsksGoOn}
+use Rattle.core_model.specs.Fleet.{Fleet, follower_names, leader_names, names_of, served_by}
+use Rattle.core_model.specs.Pens.{IsSeen, Pens, Rise, pens_of}
+use Rattle.core_model.specs.Stores.{AreStoresOf}
+use Rattle.core_model.specs.declared.named.Named.{Named}
+
+-- what was seen of each shard's log begins it
+abbrev pub AreSeen : Pens → List ServedShard → Type 0
+AreSeen pens served = AllByRecursion (λ s. IsSeen pens s.shard s.view) served
+
+-- the node serves its shards, has seen beginnings of their logs, is true of these, and holds no list past the bound of its type
+pub record IsNodeOf (s : Settings) (pens : Pens) (name : NodeName) (node : Node) : Type 0 where
+  pub shards : map (λ t. t.shard) node.served ≡ served_by s name
+  pub seen : AreSeen pens node.served
+  pub truth : IsTrueNode node
+  pub within : AreWithin (types_of s.schema) node.items
+
+abbrev pub AreLeadersOf : Settings → Pens → List (Named Node) → Type 0
+AreLeadersOf s pens leaders =
+    (place : ℕ) (name : NodeName) (node : Node) → slice_get leaders place ≡ Some (record { name = name; node = node }) → IsNodeOf s pens name node
+
+abbrev pub AreFollowersOf : Settings → Pens → List (Named FollowerState) → Type 0
+AreFollowersOf s pens followers =
+    (place : ℕ) (name : NodeName) (f : FollowerState) → slice_get followers place ≡ Some (record { name = name; node = f }) → IsNodeOf s pens name f.node
+
+-- the nodes are those of the configuration, and each is one that it should be
+pub record IsFleetOf (s : Settings) (f : Fleet) : Type 0 where
+  pub leader_names : names_of f.leaders ≡ leader_names s
+  pub follower_names : names_of f.followers ≡ follower_names s
+  pub leaders : AreLeadersOf s (pens_of f.masters) f.leaders
+  pub followers : AreFollowersOf s (pens_of f.masters) f.followers
+
+-- the stores are the configuration's masters over keepers that tell these tables, and the nodes before them are consistent with their logs
+pub record IsConsistent (tells : Bool) (s : Settings) (tables : Tables) (f : Fleet) : Type 0 where
+  pub stores : AreStoresOf tells s tables f.masters
+  pub fleet : IsFleetOf s f
+
+-- what each step keeps, whatever it does: logs and the names of nodes, and asks go on
+pub record GoesOn (old new : Fleet) : Type 0 where
+  pub rise : Rise (pens_of old.masters) (pens_of new.masters)
+  pub leaders : names_of new.leaders ≡ names_of old.leaders
+  pub followers : names_of new.followers ≡ names_of old.followers
+  pub asks : (place : ℕ) (name : NodeName) (to : FollowerState) → slice_get new.followers place ≡ Some (record { name = name; node = to })
+      → (from : FollowerState) × (slice_get old.followers place ≡ Some (record { name = name; node = from })) × AsksGoOn from.node.asks to.node.asks

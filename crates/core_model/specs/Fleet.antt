@@ -1,0 +1,93 @@
+-- The nodes of a core, by their names.
+use Rattle.std.specs.Prelude.{ℕ, ◌≡◌, ◌<◌, ◌%◌, ◌+◌, ◌==◌, Bool, Contains, IsSomeAnd, List, [], ◌∷◌, ◌++◌, Some, filter, map, slice_get, slice_set}
+use Rattle.std.specs.List.{range_with_len}
+use Rattle.cache_items.specs.Node.{Node}
+use Rattle.follower_cache.specs.Seen.{FollowerState}
+use Rattle.node_name.specs.declared.NodeName.{NodeName}
+use Rattle.node_name.specs.declared.NodeName.TheVariants.{Store as StoreName_, Leader, Follower}
+use Rattle.shard_tables.specs.StoreView.{Store}
+use Rattle.topology.specs.Config.{Settings}
+use Rattle.topology.specs.Counts.{NodeCounts, counts_of, follower_count, leader_count}
+use Rattle.tao_base.specs.declared.id.Key.{Key}
+use Rattle.core_model.specs.Asks.{IsAskOn}
+use Rattle.core_model.specs.declared.named.Named.{Named}
+
+-- the leaders and the followers in the order of their names, and the master's store of each shard
+pub record Fleet : Type 0 where
+  pub leaders : List (Named Node)
+  pub followers : List (Named FollowerState)
+  pub masters : List Store
+
+abbrev pub named : {N : Type 0} → NodeName → N → Named N
+named name node = record { name = name; node = node }
+
+abbrev pub names_of : {N : Type 0} → List (Named N) → List NodeName
+names_of nodes = map (λ n. n.name) nodes
+
+-- one of the nodes has the name
+abbrev pub HasNode : {N : Type 0} → NodeName → List (Named N) → Type 0
+HasNode name nodes = Contains (names_of nodes) name
+
+-- the node at the place has the name
+abbrev pub IsNodeAt : {N : Type 0} → NodeName → List (Named N) → ℕ → Type 0
+IsNodeAt name nodes place = IsSomeAnd (slice_get nodes place) (λ n. n.name ≡ name)
+
+-- it is the first of them at the place
+pub record IsFirstAt {N : Type 0} (name : NodeName) (nodes : List (Named N)) (place : ℕ) : Type 0 where
+  pub here : IsNodeAt name nodes place
+  pub before : (other : ℕ) → other < place → IsNodeAt name nodes other → ⊥
+
+-- the node of that name changes so, and no other
+pub record ChangesNode {N : Type 0} (name : NodeName) (By : N → N → Type 0) (old new : List (Named N)) : Type 0 where
+  pub place : ℕ
+  pub first : IsFirstAt name old place
+  pub from : N
+  pub to : N
+  pub stands : slice_get old place ≡ Some (named name from)
+  pub by : By from to
+  pub is : new ≡ slice_set old place (named name to)
+
+-- the follower of that name has an ask of this number on the key, or had it
+abbrev pub HasAsk : NodeName → ℕ → Key → List (Named FollowerState) → Type 0
+HasAsk name number key followers = (place : ℕ) (f : FollowerState) → IsFirstAt name followers place → slice_get followers place ≡ Some (named name f)
+    → IsAskOn f.node.asks number key
+
+-- ---- the names of a configuration
+
+abbrev pub regions_of : Settings → List NodeCounts
+regions_of s = map counts_of s.regions
+
+-- the leaders of the regions, the first of which stands at a place
+abbrev pub leaders_from : ℕ → List NodeCounts → List NodeName
+leaders_from region [] = []
+leaders_from region (r ∷ rs) = map (Leader region) (range_with_len 0 r.leaders) ++ leaders_from (region + 1) rs
+
+-- the followers of a region's tiers, the first of which stands at a place and has so many
+abbrev pub tiers_from : ℕ → ℕ → List ℕ → List NodeName
+tiers_from region tier [] = []
+tiers_from region tier (count ∷ counts) = map (Follower region tier) (range_with_len 0 count) ++ tiers_from region (tier + 1) counts
+
+-- the followers of the regions, the first of which stands at a place
+abbrev pub followers_from : ℕ → List NodeCounts → List NodeName
+followers_from region [] = []
+followers_from region (r ∷ rs) = tiers_from region 0 r.followers ++ followers_from (region + 1) rs
+
+-- the leaders of a configuration, region by region
+abbrev pub leader_names : Settings → List NodeName
+leader_names s = leaders_from 0 (regions_of s)
+
+-- the followers of a configuration, region by region and tier by tier
+abbrev pub follower_names : Settings → List NodeName
+follower_names s = followers_from 0 (regions_of s)
+
+-- ---- who serves a shard
+
+-- the nodes of a tier, and the leaders of a region, take turns: the node serves the shard
+abbrev pub serves_in_turn : List NodeCounts → NodeName → ℕ → Bool
+serves_in_turn regions (StoreName_ store) shard = store.shard == shard
+serves_in_turn regions (Leader region index) shard = (shard % leader_count regions region) == index
+serves_in_turn regions (Follower region tier index) shard = (shard % follower_count regions region tier) == index
+
+-- the shards that a node serves, in order
+abbrev pub served_by : Settings → NodeName → List ℕ
+served_by s name = filter (serves_in_turn (regions_of s) name) (range_with_len 0 s.shards)

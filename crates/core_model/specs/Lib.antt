@@ -1,0 +1,11 @@
+pub mod Asks
+pub mod Consistent
+pub mod Evictions
+pub mod Fleet
+pub mod Growing
+pub mod Laws
+pub mod Pens
+pub mod Reads
+pub mod Serving
+pub mod Stores
+pub mod Writes

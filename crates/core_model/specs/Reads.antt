@@ -1,0 +1,91 @@
+-- What each stage of a read does to the node that acts.
+use Rattle.std.specs.Prelude.{ℕ, ◌≡◌, ◌≤◌, ◌<◌, ◌+◌, ⊤, true, false, List, Option, Some, None, slice_get}
+use Rattle.ask_table.specs.Asks.{is_full}
+use Rattle.cache_items.specs.Kept.{GivesKept, kept_of, took}
+use Rattle.cache_items.specs.Look.{look_of, looked_at}
+use Rattle.cache_items.specs.Node.{Node, item_at, with_ended_ask, with_opened_ask}
+use Rattle.cache_items.specs.declared.look.Kept.{Kept}
+use Rattle.cache_items.specs.declared.look.Look.{Look}
+use Rattle.cache_items.specs.declared.look.Look.TheVariants.{Hit, Miss}
+use Rattle.follower_cache.specs.Seen.{FollowerState}
+use Rattle.leader_tier.specs.LeaderReads.{AnswersRead, asked_read}
+use Rattle.sealed_item.specs.Decided.{IsWithinBound, content_answer, content_decides}
+use Rattle.sealed_item.specs.Fills.{SealedItem}
+use Rattle.shard_log.specs.GrowthLaws.{IsLegalIn}
+use Rattle.shard_tables.specs.StoreView.{Store}
+use Rattle.shard_tables.specs.declared.leader_answer.LeaderAnswer.{LeaderAnswer}
+use Rattle.shard_tables.specs.declared.leader_answer.LeaderAnswer.TheVariants as leader
+use Rattle.tao_base.specs.EdgeTypes.{EdgeTypes}
+use Rattle.tao_base.specs.Queries.{query_key, query_shard}
+use Rattle.tao_base.specs.declared.id.Key.{Key}
+use Rattle.tao_base.specs.declared.query.Answer.{Answer}
+use Rattle.tao_base.specs.declared.query.Query.{Query}
+use Rattle.tao_keeper.specs.KeeperState.{KeeperState}
+use Rattle.core_model.specs.Pens.{IsSeen, Pens}
+
+-- a follower with another node
+abbrev pub with_node : Node → FollowerState → FollowerState
+with_node node f = record f { node = node }
+
+-- a read's query, and the version that its answer must have at least
+pub record Wanted : Type 0 where
+  pub query : Query
+  pub floor : ℕ
+
+abbrev pub wanted : Query → ℕ → Wanted
+wanted query floor = record { query = query; floor = floor }
+
+-- ---- look
+
+-- what comes of a look at a key: a hit brings the key's item to the front; a miss opens an ask on the key, unless as many are open as may be
+abbrev pub AfterLook : Key → Look → Option ℕ → Node → Node → Type 0
+AfterLook key (Hit answer version) ask old new = (ask ≡ None) × (new ≡ looked_at key (Hit answer version) old)
+AfterLook key Miss None old new = (is_full old.asks ≡ true) × (new ≡ old)
+AfterLook key Miss (Some number) old new = (is_full old.asks ≡ false) × (number ≡ old.asks.given + 1) × (new ≡ with_opened_ask key old)
+
+-- the follower answers exactly where it holds an item of the key at the floor or above that decides the query, and else opens an ask
+pub record LooksFirst (types : EdgeTypes) (read : Wanted) (look : Look) (ask : Option ℕ) (old new : FollowerState) : Type 0 where
+  pub look_is : look ≡ look_of types (item_at old.node.items (query_key read.query)) read.query read.floor
+  pub node : AfterLook (query_key read.query) look ask old.node new.node
+  pub refills : new.refills ≡ old.refills
+
+-- an answer of the follower's own item is legal in the shard's log
+abbrev pub IsLegalLook : EdgeTypes → Pens → Wanted → Look → Type 0
+IsLegalLook types pens read (Hit answer version) = IsLegalIn types (pens (query_shard read.query)) read.query read.floor answer version
+IsLegalLook types pens read Miss = ⊤
+
+-- ---- ask
+
+-- a leader answers of an item of its own, or of the shard's store
+pub record LeaderAnswers (types : EdgeTypes) (read : Wanted) (given : LeaderAnswer) (masters : List Store)
+    (before after : KeeperState) (old new : Node) : Type 0 where
+  pub store : Store
+  pub stands : slice_get masters (query_shard read.query) ≡ Some store
+  pub answers : AnswersRead (asked_read types old read.query read.floor) store given new before after
+
+-- what was given is for the read, was seen of its shard's log, and is at its floor
+pub record IsGivenFill (types : EdgeTypes) (pens : Pens) (read : Wanted) (fill : SealedItem) : Type 0 where
+  pub key_is : fill.key ≡ query_key read.query
+  pub decides : content_decides types fill.content read.query ≡ true
+  pub within : IsWithinBound types (query_key read.query) fill.content
+  pub reaches : read.floor ≤ fill.version
+  pub seen : IsSeen pens (query_shard read.query) fill.note
+
+abbrev pub IsGivenAnswer : EdgeTypes → Pens → Wanted → LeaderAnswer → Type 0
+IsGivenAnswer types pens read (leader.Filled fill) = IsGivenFill types pens read fill
+IsGivenAnswer types pens read (leader.Past answer version total note) =
+    IsLegalIn types note read.query read.floor answer version × IsSeen pens (query_shard read.query) note
+IsGivenAnswer types pens read (leader.Behind version) = version < read.floor
+
+-- ---- keep
+
+-- the follower answers from the fill, and keeps it or not by the rule of its ask, which ends
+pub record KeepsFill (types : EdgeTypes) (query : Query) (ask : Option ℕ) (fill : SealedItem) (answer : Answer) (kept : Kept)
+    (old new : FollowerState) : Type 0 where
+  pub answer_is : answer ≡ content_answer types fill.content query
+  pub kept_is : GivesKept (kept_of ask old.node.asks fill.version fill.as_of) kept
+  pub node_is : new ≡ with_node (took fill kept (with_ended_ask ask old.node)) old
+
+-- the follower's ask has ended
+abbrev pub EndsAsk : Option ℕ → FollowerState → FollowerState → Type 0
+EndsAsk ask old new = new ≡ with_node (with_ended_ask ask old.node) old

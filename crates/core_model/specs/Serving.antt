@@ -1,0 +1,17 @@
+-- Which nodes may be asked about a shard.
+use Rattle.std.specs.Prelude.{ℕ, ◌<◌, Contains, IsTrue}
+use Rattle.node_name.specs.declared.NodeName.{NodeName}
+use Rattle.topology.specs.Config.{Settings}
+use Rattle.core_model.specs.Fleet.{follower_names, leader_names, regions_of, serves_in_turn}
+
+-- the follower is one of the configuration's, and serves the shard, which is configured
+pub record IsFollowerFor (s : Settings) (shard : ℕ) (name : NodeName) : Type 0 where
+  pub here : shard < s.shards
+  pub configured : Contains (follower_names s) name
+  pub serves : IsTrue (serves_in_turn (regions_of s) name shard)
+
+-- the leader is one of the configuration's, and serves the shard, which is configured
+pub record IsLeaderFor (s : Settings) (shard : ℕ) (name : NodeName) : Type 0 where
+  pub here : shard < s.shards
+  pub configured : Contains (leader_names s) name
+  pub serves : IsTrue (serves_in_turn (regions_of s) name shard)

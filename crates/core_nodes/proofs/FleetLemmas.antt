@@ -1,0 +1,103 @@
+-- The nodes of a core, of which one changes.
+use Rattle.std.proofs.Common.{◌≡◌, ℕ, Contains, List, Some, refl, ap, sym, ◌∙◌, subst, inl, inr}
+use Rattle.std.specs.Prelude.{slice_get, slice_set}
+use Rattle.cache_items.specs.Node.{Node}
+use Rattle.follower_cache.specs.Seen.{FollowerState}
+use Rattle.node_name.specs.declared.NodeName.{NodeName}
+use Rattle.shard_log.proofs.GrowthLemmas.{grows-self}
+use Rattle.shard_tables.specs.StoreView.{Store}
+use Rattle.topology.specs.Config.{Settings}
+use Rattle.core_model.specs.Asks.{AsksGoOn}
+use Rattle.core_model.specs.Consistent.{GoesOn, IsFleetOf, IsNodeOf}
+use Rattle.core_model.specs.Fleet.{ChangesNode, Fleet, HasNode, named}
+use Rattle.core_model.specs.Pens.{Rise, pens_of}
+use Rattle.core_model.specs.Serving.{IsFollowerFor, IsLeaderFor}
+use Rattle.core_model.specs.declared.named.Named.{Named}
+use Rattle.core_nodes.proofs.NamedNodes.{all_set, names_set}
+use Rattle.core_nodes.proofs.Places.{get_set}
+
+pub rise_self : (xs : List Store) → Rise (pens_of xs) (pens_of xs)
+rise_self xs shard = grows-self (pens_of xs shard)
+
+pub goes_self : (f : Fleet) → GoesOn f f
+goes_self f = record {
+  rise = rise_self f.masters;
+  leaders = refl;
+  followers = refl;
+  asks = λ place name to h. (to, h, (λ number key is. is));
+}
+
+-- what a stage leaves: the nodes are still those of the configuration, and go on
+pub record FleetStep (s : Settings) (old new : Fleet) : Type 0 where
+  pub fleet : IsFleetOf s new
+  pub goes : GoesOn old new
+
+-- a node stays one of its core, whatever it does
+abbrev pub StaysOf : {N : Type 0} → (NodeName → N → Type 0) → NodeName → (N → N → Type 0) → Type 0
+StaysOf {N} Such name By = (from to : N) → By from to → Such name from → Such name to
+
+follower_goes : (f : Fleet) (name : NodeName) (place : ℕ) (from to : FollowerState) → slice_get f.followers place ≡ Some (named name from)
+    → AsksGoOn from.node.asks to.node.asks
+    → GoesOn f (record f { followers = slice_set f.followers place (named name to) })
+follower_goes f name place from to stands asks = record {
+  rise = rise_self f.masters;
+  leaders = refl;
+  followers = names_set f.followers place name from to stands;
+  asks = λ other called node h. elim (get_set f.followers place (named name to) other (named called node) h) [
+    | inl e ↦ (node, e.1, (λ number key is. is))
+    | inr e ↦
+        let there = ap (slice_get f.followers) e.0 ∙ stands ∙ ap (λ n. Some (named n.name from)) e.1 in
+        (from, there, subst (λ n. AsksGoOn from.node.asks n.node.node.asks) e.1 asks)
+  ];
+}
+
+pub follower_step : (By : FollowerState → FollowerState → Type 0) (s : Settings) (old : Fleet) (name : NodeName) (fs : List (Named FollowerState))
+    → IsFleetOf s old
+    → ChangesNode name By old.followers fs → StaysOf (λ called node. IsNodeOf s (pens_of old.masters) called node.node) name By
+    → ((from to : FollowerState) → By from to → AsksGoOn from.node.asks to.node.asks) → FleetStep s old (record old { followers = fs })
+follower_step By s old name fs fleet change stays asks =
+    let was = fleet.followers change.place name change.from change.stands in
+    let is = stays change.from change.to change.by was in
+    let there : FleetStep s old (record old { followers = slice_set old.followers change.place (named name change.to) }) = record {
+      fleet = record {
+        leader_names = fleet.leader_names;
+        follower_names = names_set old.followers change.place name change.from change.to change.stands ∙ fleet.follower_names;
+        leaders = fleet.leaders;
+        followers = all_set (λ called node. IsNodeOf s (pens_of old.masters) called node.node) old.followers change.place name change.to fleet.followers is;
+      };
+      goes = follower_goes old name change.place change.from change.to change.stands (asks change.from change.to change.by);
+    } in
+    subst (λ l. FleetStep s old (record old { followers = l })) (sym change.is) there
+
+pub leader_step : (By : Node → Node → Type 0) (s : Settings) (old : Fleet) (name : NodeName) (ls : List (Named Node)) → IsFleetOf s old
+    → ChangesNode name By old.leaders ls → StaysOf (λ called node. IsNodeOf s (pens_of old.masters) called node) name By
+    → FleetStep s old (record old { leaders = ls })
+leader_step By s old name ls fleet change stays =
+    let was = fleet.leaders change.place name change.from change.stands in
+    let is = stays change.from change.to change.by was in
+    let there : FleetStep s old (record old { leaders = slice_set old.leaders change.place (named name change.to) }) = record {
+      fleet = record {
+        leader_names = names_set old.leaders change.place name change.from change.to change.stands ∙ fleet.leader_names;
+        follower_names = fleet.follower_names;
+        leaders = all_set (λ called node. IsNodeOf s (pens_of old.masters) called node) old.leaders change.place name change.to fleet.leaders is;
+        followers = fleet.followers;
+      };
+      goes = record {
+        rise = rise_self old.masters;
+        leaders = names_set old.leaders change.place name change.from change.to change.stands;
+        followers = refl;
+        asks = λ place called node h. (node, h, (λ number key is. is));
+      };
+    } in
+    subst (λ l. FleetStep s old (record old { leaders = l })) (sym change.is) there
+
+-- nothing changes
+pub fleet_rests : (s : Settings) (old : Fleet) → IsFleetOf s old → FleetStep s old old
+fleet_rests s old fleet = record { fleet = fleet; goes = goes_self old }
+
+-- a node that may be asked is one of them
+pub follower_here : (s : Settings) (f : Fleet) (shard : ℕ) (name : NodeName) → IsFleetOf s f → IsFollowerFor s shard name → HasNode name f.followers
+follower_here s f shard name fleet is = subst (λ names. Contains names name) (sym fleet.follower_names) is.configured
+
+pub leader_here : (s : Settings) (f : Fleet) (shard : ℕ) (name : NodeName) → IsFleetOf s f → IsLeaderFor s shard name → HasNode name f.leaders
+leader_here s f shard name fleet is = subst (λ names. Contains names name) (sym fleet.leader_names) is.configured

@@ -1,0 +1,59 @@
+-- The nodes of a core after some were lent as slices.
+use Rattle.std.proofs.Common.{◌≡◌, List, length, ap, ◌∙◌}
+use Rattle.std.specs.Vec.{with_items}
+use Rattle.std.proofs.lemmas.List.{with_items_is}
+use Rattle.cache_items.specs.Node.{Node}
+use Rattle.follower_cache.specs.Seen.{FollowerState}
+use Rattle.shard_tables.specs.StoreView.{Store}
+use Rattle.core_model.specs.Fleet.{Fleet}
+use Rattle.core_model.specs.declared.named.Named.{Named}
+use Rattle.core_nodes.specs.FleetView.{fleet_seen}
+use Rattle.core_nodes.specs.declared.fleet.Fleet.TheInside.{Inside}
+
+-- the followers were lent, and some were left in their place
+pub record LendsFollowers (inside : Inside) (old : Fleet) (lent left : List (Named FollowerState)) : Type 0 where
+  pub view : fleet_seen inside ≡ old
+  pub own : lent ≡ old.followers
+  pub long : length left ≡ inside.followers.len
+
+-- the leaders were lent
+pub record LendsLeaders (inside : Inside) (old : Fleet) (lent left : List (Named Node)) : Type 0 where
+  pub view : fleet_seen inside ≡ old
+  pub own : lent ≡ old.leaders
+  pub long : length left ≡ inside.leaders.len
+
+-- the stores were lent too, and were left as they were
+pub record LendsBoth (inside : Inside) (old : Fleet) (lent left : List (Named Node)) (stores same : List Store) : Type 0 where
+  pub leaders : LendsLeaders inside old lent left
+  pub own : stores ≡ old.masters
+  pub long : length same ≡ inside.masters.len
+  pub is : same ≡ stores
+
+abbrev pub after_followers : Inside → List (Named FollowerState) → Fleet
+after_followers inside left = fleet_seen (record inside { followers = with_items inside.followers left })
+
+abbrev pub after_leaders : Inside → List (Named Node) → Fleet
+after_leaders inside left = fleet_seen (record inside { leaders = with_items inside.leaders left })
+
+abbrev pub after_both : Inside → List (Named Node) → List Store → Fleet
+after_both inside left same = fleet_seen (record inside { leaders = with_items inside.leaders left; masters = with_items inside.masters same })
+
+pub followers_after : (inside : Inside) (old : Fleet) (lent left : List (Named FollowerState)) → LendsFollowers inside old lent left
+    → after_followers inside left ≡ record old { followers = left }
+followers_after inside old lent left lends =
+    ap (λ items. record (fleet_seen inside) { followers = items }) (with_items_is inside.followers left lends.long)
+    ∙ ap (λ (g : Fleet). record g { followers = left }) lends.view
+
+pub leaders_after : (inside : Inside) (old : Fleet) (lent left : List (Named Node)) → LendsLeaders inside old lent left
+    → after_leaders inside left ≡ record old { leaders = left }
+leaders_after inside old lent left lends =
+    ap (λ items. record (fleet_seen inside) { leaders = items }) (with_items_is inside.leaders left lends.long)
+    ∙ ap (λ (g : Fleet). record g { leaders = left }) lends.view
+
+pub both_after : (inside : Inside) (old : Fleet) (lent left : List (Named Node)) (stores same : List Store) → LendsBoth inside old lent left stores same
+    → after_both inside left same ≡ record old { leaders = left }
+both_after inside old lent left stores same lends =
+    ap (λ items. record (fleet_seen inside) { leaders = items; masters = (with_items inside.masters same).items })
+    (with_items_is inside.leaders left lends.leaders.long)
+    ∙ ap (λ items. record (fleet_seen inside) { leaders = left; masters = items }) (with_items_is inside.masters same lends.long ∙ lends.is ∙ lends.own)
+    ∙ ap (λ (g : Fleet). record g { leaders = left; masters = old.masters }) lends.leaders.view

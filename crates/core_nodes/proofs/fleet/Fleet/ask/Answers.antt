@@ -1,0 +1,69 @@
+use Rattle.std.proofs.Common.{◌≡◌, List, Some, slice_get, ap, arith, ◌∙◌, subst, sym}
+use Rattle.cache_items.specs.Node.{Node}
+use Rattle.served_shards.specs.Served.{log_at}
+use Rattle.shard_tables.specs.StoreView.{Store}
+use Rattle.tao_base.specs.Queries.{query_shard}
+use Rattle.topology.specs.Config.{Settings}
+use Rattle.core_model.specs.Fleet.{Fleet}
+use Rattle.core_model.specs.Reads.{wanted}
+use Rattle.core_model.specs.Stores.{HaveSeen}
+use Rattle.core_model.specs.declared.named.Named.{Named}
+use Rattle.core_nodes.specs.Stages.{NodeIs}
+use Rattle.core_nodes.proofs.AskLemmas.{leader_log}
+use Rattle.core_nodes.proofs.LentLemmas.{ask_lent}
+use Rattle.core_nodes.proofs.ViewLemmas.{LendsBoth}
+use Rattle.core_nodes.proofs.fleet.Fleet.ask.Goals as goal
+
+pub ask_at-requires-clause-logs : goal.ask_at-requires-clause-logs
+ask_at-requires-clause-logs g c =
+    let own = c.deref_mut.ensures.value ∙ ap (λ (f : Fleet). f.leaders) c.self.view_is in
+    let stores = c.deref_mut-2.ensures.value ∙ ap (λ (f : Fleet). f.masters) c.self.view_is in
+    let Logs : List Store → List (Named Node) → Type 0 = λ xs ls. NodeIs c.args.leader
+    (λ (node : Node). (store : Store) → slice_get xs (query_shard c.args.query.now) ≡ Some store
+    → log_at (query_shard c.args.query.now) node.served ≡ Some store.view.log) ls in
+    subst (Logs c.deref_mut-2.result.now) (sym own) (subst (λ xs. Logs xs c.args.self.now.leaders) (sym stores)
+    (leader_log c.args.config.now c.args.self.now (query_shard c.args.query.now) c.args.leader c.requires.consistent.fleet c.requires.leader))
+
+pub ask_at-requires-clause-keeper : goal.ask_at-requires-clause-keeper
+ask_at-requires-clause-keeper g c =
+    let own = c.deref_mut-2.ensures.value ∙ ap (λ (f : Fleet). f.masters) c.self.view_is in
+    subst (HaveSeen g.K.Keeper.TELLS (g.K.Keeper.state c.args.keepers.now).told) (sym own) c.requires.consistent.stores.seen
+
+pub returns-clause-consistent : goal.returns-clause-consistent
+returns-clause-consistent g c =
+    let state = g.K.Keeper.state in
+    let own = c.deref_mut.ensures.value ∙ ap (λ (f : Fleet). f.leaders) c.self.view_is in
+    let stores = c.deref_mut-2.ensures.value ∙ ap (λ (f : Fleet). f.masters) c.self.view_is in
+    let lends : LendsBoth c.self.inside c.args.self.now c.deref_mut.result.now c.ask_at.new.leaders c.deref_mut-2.result.now c.ask_at.new.masters =
+    record { leaders = record { view = c.self.view_is; own = own; long = omega arith }; own = stores; long = omega arith; is = c.ask_at.ensures.same } in
+    (ask_lent g.K.Keeper.TELLS c.args.config.now c.config.inside.schema c.args.leader (wanted c.args.query.now c.args.floor) (state c.args.keepers.now)
+    (state c.ask_at.new.keepers) c.self.inside c.args.self.now
+    c.deref_mut.result.now c.ask_at.new.leaders c.deref_mut-2.result.now c.ask_at.new.masters c.ask_at.result lends
+    (ap (λ (s : Settings). s.schema) c.config.view_is) c.requires.consistent
+    c.ask_at.ensures.given c.ask_at.ensures.legal c.ask_at.ensures.err c.ask_at.ensures.tables).consistent
+
+pub returns-clause-goes : goal.returns-clause-goes
+returns-clause-goes g c =
+    let state = g.K.Keeper.state in
+    let own = c.deref_mut.ensures.value ∙ ap (λ (f : Fleet). f.leaders) c.self.view_is in
+    let stores = c.deref_mut-2.ensures.value ∙ ap (λ (f : Fleet). f.masters) c.self.view_is in
+    let lends : LendsBoth c.self.inside c.args.self.now c.deref_mut.result.now c.ask_at.new.leaders c.deref_mut-2.result.now c.ask_at.new.masters =
+    record { leaders = record { view = c.self.view_is; own = own; long = omega arith }; own = stores; long = omega arith; is = c.ask_at.ensures.same } in
+    (ask_lent g.K.Keeper.TELLS c.args.config.now c.config.inside.schema c.args.leader (wanted c.args.query.now c.args.floor) (state c.args.keepers.now)
+    (state c.ask_at.new.keepers) c.self.inside c.args.self.now
+    c.deref_mut.result.now c.ask_at.new.leaders c.deref_mut-2.result.now c.ask_at.new.masters c.ask_at.result lends
+    (ap (λ (s : Settings). s.schema) c.config.view_is) c.requires.consistent
+    c.ask_at.ensures.given c.ask_at.ensures.legal c.ask_at.ensures.err c.ask_at.ensures.tables).goes
+
+pub returns-clause-given : goal.returns-clause-given
+returns-clause-given g c =
+    let state = g.K.Keeper.state in
+    let own = c.deref_mut.ensures.value ∙ ap (λ (f : Fleet). f.leaders) c.self.view_is in
+    let stores = c.deref_mut-2.ensures.value ∙ ap (λ (f : Fleet). f.masters) c.self.view_is in
+    let lends : LendsBoth c.self.inside c.args.self.now c.deref_mut.result.now c.ask_at.new.leaders c.deref_mut-2.result.now c.ask_at.new.masters =
+    record { leaders = record { view = c.self.view_is; own = own; long = omega arith }; own = stores; long = omega arith; is = c.ask_at.ensures.same } in
+    (ask_lent g.K.Keeper.TELLS c.args.config.now c.config.inside.schema c.args.leader (wanted c.args.query.now c.args.floor) (state c.args.keepers.now)
+    (state c.ask_at.new.keepers) c.self.inside c.args.self.now
+    c.deref_mut.result.now c.ask_at.new.leaders c.deref_mut-2.result.now c.ask_at.new.masters c.ask_at.result lends
+    (ap (λ (s : Settings). s.schema) c.config.view_is) c.requires.consistent
+    c.ask_at.ensures.given c.ask_at.ensures.legal c.ask_at.ensures.err c.ask_at.ensures.tables).given

@@ -1,0 +1,82 @@
+use Rattle.std.proofs.Common.{◌≡◌, ap, arith, ◌∙◌, subst, sym, IfSome, Some}
+use Rattle.cache_items.specs.Kept.{ask_at}
+use Rattle.follower_cache.specs.Seen.{FollowerState}
+use Rattle.served_shards.specs.Served.{log_at}
+use Rattle.tao_base.specs.Queries.{query_key, query_shard}
+use Rattle.topology.specs.Config.{Settings}
+use Rattle.core_model.specs.Fleet.{Fleet}
+use Rattle.core_model.specs.Reads.{wanted}
+use Rattle.core_nodes.specs.Stages.{NodeIs}
+use Rattle.core_nodes.proofs.LentLemmas.{keep_lent}
+use Rattle.core_nodes.proofs.ReadLemmas.{follower_log, keeps_ask}
+use Rattle.core_nodes.proofs.ViewLemmas.{LendsFollowers}
+use Rattle.core_nodes.proofs.fleet.Fleet.keep.Goals as goal
+
+pub keep_at-requires-clause-log : goal.keep_at-requires-clause-log
+keep_at-requires-clause-log c =
+    let own = c.deref_mut.ensures.value ∙ ap (λ (f : Fleet). f.followers) c.self.view_is in
+    subst (NodeIs c.args.follower (λ (f : FollowerState). log_at (query_shard c.args.query.now) f.node.served ≡ Some c.args.fill.note.log)) (sym own)
+    (follower_log c.args.config.now c.args.self.now (query_shard c.args.query.now) c.args.follower c.args.fill.note c.requires.fleet c.requires.follower
+    c.requires.given.seen)
+
+pub keep_at-requires-clause-ask : goal.keep_at-requires-clause-ask
+keep_at-requires-clause-ask c =
+    let own = c.deref_mut.ensures.value ∙ ap (λ (f : Fleet). f.followers) c.self.view_is in
+    subst (NodeIs c.args.follower (λ (f : FollowerState). IfSome c.args.ask
+    (λ number. IfSome (ask_at number f.node.asks) (λ a. a.key ≡ query_key c.args.query.now)))) (sym own)
+    (keeps_ask c.args.follower c.args.ask (query_key c.args.query.now) c.args.self.now.followers c.requires.ask)
+
+pub returns-clause-keeps : goal.returns-clause-keeps
+returns-clause-keeps c =
+    let own = c.deref_mut.ensures.value ∙ ap (λ (f : Fleet). f.followers) c.self.view_is in
+    let lends : LendsFollowers c.self.inside c.args.self.now c.deref_mut.result.now c.keep_at.new.followers =
+    record { view = c.self.view_is; own = own; long = omega arith } in
+    (keep_lent c.args.config.now c.config.inside.schema c.args.follower
+    (wanted c.args.query.now c.args.floor) c.args.ask c.args.fill c.self.inside c.args.self.now c.deref_mut.result.now
+    c.keep_at.new.followers c.keep_at.result lends (ap (λ (s : Settings). s.schema) c.config.view_is) c.requires.fleet c.requires.given
+    c.keep_at.ensures.keeps c.keep_at.ensures.err
+    c.keep_at.ensures.legal).keeps
+
+pub returns-clause-err : goal.returns-clause-err
+returns-clause-err c =
+    let own = c.deref_mut.ensures.value ∙ ap (λ (f : Fleet). f.followers) c.self.view_is in
+    let lends : LendsFollowers c.self.inside c.args.self.now c.deref_mut.result.now c.keep_at.new.followers =
+    record { view = c.self.view_is; own = own; long = omega arith } in
+    (keep_lent c.args.config.now c.config.inside.schema c.args.follower
+    (wanted c.args.query.now c.args.floor) c.args.ask c.args.fill c.self.inside c.args.self.now c.deref_mut.result.now
+    c.keep_at.new.followers c.keep_at.result lends (ap (λ (s : Settings). s.schema) c.config.view_is) c.requires.fleet c.requires.given
+    c.keep_at.ensures.keeps c.keep_at.ensures.err
+    c.keep_at.ensures.legal).err
+
+pub returns-clause-fleet : goal.returns-clause-fleet
+returns-clause-fleet c =
+    let own = c.deref_mut.ensures.value ∙ ap (λ (f : Fleet). f.followers) c.self.view_is in
+    let lends : LendsFollowers c.self.inside c.args.self.now c.deref_mut.result.now c.keep_at.new.followers =
+    record { view = c.self.view_is; own = own; long = omega arith } in
+    (keep_lent c.args.config.now c.config.inside.schema c.args.follower
+    (wanted c.args.query.now c.args.floor) c.args.ask c.args.fill c.self.inside c.args.self.now c.deref_mut.result.now
+    c.keep_at.new.followers c.keep_at.result lends (ap (λ (s : Settings). s.schema) c.config.view_is) c.requires.fleet c.requires.given
+    c.keep_at.ensures.keeps c.keep_at.ensures.err
+    c.keep_at.ensures.legal).step.fleet
+
+pub returns-clause-goes : goal.returns-clause-goes
+returns-clause-goes c =
+    let own = c.deref_mut.ensures.value ∙ ap (λ (f : Fleet). f.followers) c.self.view_is in
+    let lends : LendsFollowers c.self.inside c.args.self.now c.deref_mut.result.now c.keep_at.new.followers =
+    record { view = c.self.view_is; own = own; long = omega arith } in
+    (keep_lent c.args.config.now c.config.inside.schema c.args.follower
+    (wanted c.args.query.now c.args.floor) c.args.ask c.args.fill c.self.inside c.args.self.now c.deref_mut.result.now
+    c.keep_at.new.followers c.keep_at.result lends (ap (λ (s : Settings). s.schema) c.config.view_is) c.requires.fleet c.requires.given
+    c.keep_at.ensures.keeps c.keep_at.ensures.err
+    c.keep_at.ensures.legal).step.goes
+
+pub returns-clause-legal : goal.returns-clause-legal
+returns-clause-legal c =
+    let own = c.deref_mut.ensures.value ∙ ap (λ (f : Fleet). f.followers) c.self.view_is in
+    let lends : LendsFollowers c.self.inside c.args.self.now c.deref_mut.result.now c.keep_at.new.followers =
+    record { view = c.self.view_is; own = own; long = omega arith } in
+    (keep_lent c.args.config.now c.config.inside.schema c.args.follower
+    (wanted c.args.query.now c.args.floor) c.args.ask c.args.fill c.self.inside c.args.self.now c.deref_mut.result.now
+    c.keep_at.new.followers c.keep_at.result lends (ap (λ (s : Settings). s.schema) c.config.view_is) c.requires.fleet c.requires.given
+    c.keep_at.ensures.keeps c.keep_at.ensures.err
+    c.keep_at.ensures.legal).legal

@@ -1,0 +1,21 @@
+use Rattle.std.proofs.Common.{◌≡◌, ◌+◌, ◌<◌, length, take, ◌∙◌, arith}
+use Rattle.std.proofs.lemmas.List.{length-map}
+use Rattle.topology.specs.Counts.{counts_of}
+use Rattle.core_model.specs.Fleet.{followers_from, regions_of}
+use Rattle.core_nodes.proofs.NameLemmas.{followers_more, more_names}
+use Rattle.core_nodes.proofs.names.follower_names.Goals as goal
+
+pub loop-region-preserved : goal.loop-region-preserved
+loop-region-preserved c =
+    let regions = regions_of c.args.config.now in
+    let place = c.loop-region.region in
+    let within : place < length regions = omega (
+      arith,
+      c.loop-region-test.true,
+      c.region_count-region-end.ensures,
+      length-map
+          c.args.config.now.regions counts_of,
+    ) in
+    let here : 0 + place ≡ place = omega arith in
+    more_names _ _ _ _ _ (λ k. followers_from 0 (take k (regions_of c.args.config.now))) place c.in_ok-extend_from_slice.ensures.items
+    (c.deref.ensures.value ∙ c.in_ok-followers.ensures) c.loop-region.invariant (followers_more regions 0 place place within here)

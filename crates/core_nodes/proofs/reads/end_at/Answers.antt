@@ -1,0 +1,10 @@
+use Rattle.core_model.specs.Reads.{EndsAsk}
+use Rattle.core_nodes.specs.Stages.{FollowerDoes}
+use Rattle.core_nodes.proofs.NamedNodes.{changes_at}
+use Rattle.core_nodes.proofs.reads.end_at.Goals as goal
+
+pub returns : goal.returns
+returns c =
+    changes_at (FollowerDoes (EndsAsk c.args.ask)) c.args.followers.now c.args.name c.place_of-place.result c.index-followers-place.result
+    c.end_open_ask.new.follower c.place_of-place.ensures
+    c.end_open_ask.ensures

@@ -1,0 +1,4 @@
+pub mod Beginning
+pub mod FleetView
+pub mod Opening
+pub mod Stages

@@ -1,0 +1,17 @@
+//! The nodes of a core at work: its leaders and followers before the masters' stores, one stage of a read or a write a method.
+//!
+//! Each call does to the node that acts just what `core_model` says of its stage, and leaves every other as it was; what was
+//! consistent stays so, whatever the call answers.
+#![tactic(auto)]
+
+mod beginning;
+mod evictions;
+mod fleet;
+mod names;
+mod opening;
+mod reads;
+mod writes;
+
+pub use fleet::Fleet;
+pub use opening::{master_store, open_stores};
+pub use reads::FirstLook;

@@ -1,0 +1,353 @@
+//! The stages of a read.
+ghost use Rattle.std.specs.Prelude.{◌≡◌, ◌≤◌, ◌<◌, IfErr, IfOk, IfSome, IsSome, OnErr, Some, length, slice_get, true};
+ghost use Rattle.cache_items.specs.Kept.{ask_at as open_ask_at};
+ghost use Rattle.cache_node.specs.Answered.{ViewAnswers};
+ghost use Rattle.core_model.specs.Consistent.{GoesOn, IsConsistent, IsFleetOf};
+ghost use Rattle.core_model.specs.Fleet.{ChangesNode, HasAsk, HasNode};
+ghost use Rattle.core_model.specs.Pens.{pens_of};
+ghost use Rattle.core_model.specs.Reads.{EndsAsk, IsGivenAnswer, IsGivenFill, IsLegalLook, KeepsFill, LeaderAnswers, LooksFirst, wanted};
+ghost use Rattle.core_model.specs.Serving.{IsFollowerFor, IsLeaderFor};
+ghost use Rattle.core_model.specs.Stores.{HaveSeen};
+ghost use Rattle.core_nodes.specs.Stages.{FollowerDoes, NodeIs, LeaderDoes, LooksTrue, OpensAsk};
+ghost use Rattle.leader_tier.specs.LeaderReads.{AnswersRead, IsLegalAt, asked_read};
+ghost use Rattle.sealed_item.specs.Decided.{content_decides};
+ghost use Rattle.served_shards.specs.Served.{log_at, served_at};
+ghost use Rattle.shard_log.specs.GrowthLaws.{IsLegalIn};
+ghost use Rattle.shard_tables.specs.Refusals.{IsOfReads};
+ghost use Rattle.shard_tables.specs.Stores.{IsStoreOf};
+ghost use Rattle.shard_tables.specs.StoreView.{Store};
+ghost use Rattle.tao_base.specs.Keys.{key_shard};
+ghost use Rattle.tao_base.specs.Queries.{query_key, query_shard};
+ghost use Rattle.tao_keeper.specs.KeeperState.{CallsKeeper, KeepsTables};
+ghost use Rattle.tao_keeper.specs.Growing.{LogsGrow};
+ghost use Rattle.tao_schema.specs.Schema.{types_of};
+
+use crate::fleet::Fleet;
+use ask_table::AskNo;
+use core_model::{Named, place_of};
+use follower_cache::{Follower, Kept, Look, followers_are_true};
+use leader_tier::{Leader, leaders_are_true};
+use node_name::NodeName;
+use sealed_item::Fill;
+use shard_tables::{LeaderAnswer, StoreNode, StoreRefusal};
+use std::alloc::Global;
+use tao_base::{Answer, Key, OutOfMemory, Query};
+use tao_keeper::Keeper;
+use tao_schema::Schema;
+use topology::Config;
+
+/// What a follower found among its items, and the ask that it opened where it found nothing that answers.
+#[derive(Drop)]
+pub struct FirstLook {
+    pub look: Look,
+    /// None after a hit, and where as many asks are open on the follower as may be.
+    pub ask: Option<AskNo>,
+}
+
+// Each stage is done at the node itself, beside what every node keeps, and then at the node of a name among its like.
+
+/// Opens an ask on the key after a miss.
+fn open_ask(follower: &mut Follower, look: &Look, key: Key) -> Option<AskNo>
+    requires { IsSome (served_at (key_shard key) follower.old.node.served) }
+    ensures node { OpensAsk key look.now result follower.old.node follower.new.node }
+    ensures rest { follower.new ≡ record follower.old { node = follower.new.node } }
+{
+    match look {
+        Look::Hit { .. } => None,
+        Look::Miss => follower.begin_ask(key),
+    }
+}
+
+/// The answer of an item that is held, or an ask on its key.
+fn look_and_open(
+    follower: &mut Follower,
+    schema: &Schema,
+    query: &Query,
+    floor: u64,
+) -> Result<FirstLook, OutOfMemory>
+    requires { IsSome (served_at (query_shard query.now) follower.old.node.served) }
+    ensures looks { IfOk result (λ first. LooksTrue (types_of schema.now) (wanted query.now floor) first.look first.ask follower.old follower.new) }
+    ensures err { OnErr result (follower.new ≡ follower.old) }
+{
+    let look = follower.look(schema, query, floor)?;
+    let ask = open_ask(follower, &look, query.key());
+    Ok(FirstLook { look, ask })
+}
+
+fn look_first(
+    follower: &mut Follower,
+    schema: &Schema,
+    query: &Query,
+    floor: u64,
+) -> Result<FirstLook, OutOfMemory>
+    requires { IsSome (served_at (query_shard query.now) follower.old.node.served) }
+    ensures looks { IfOk result (λ first.
+        FollowerDoes (LooksTrue (types_of schema.now) (wanted query.now floor) first.look first.ask) follower.old follower.new) }
+    ensures err { OnErr result (follower.new ≡ follower.old) }
+{
+    followers_are_true(follower);
+    let first = look_and_open(follower, schema, query, floor);
+    followers_are_true(follower);
+    first
+}
+
+fn look_at(
+    followers: &mut [Named<Follower>],
+    schema: &Schema,
+    name: NodeName,
+    query: &Query,
+    floor: u64,
+) -> Result<FirstLook, OutOfMemory>
+    requires there { HasNode name followers.old }
+    requires serves { NodeIs name (λ f. IsSome (served_at (query_shard query.now) f.node.served)) followers.old }
+    ensures looks { IfOk result (λ first. ChangesNode name
+        (FollowerDoes (LooksTrue (types_of schema.now) (wanted query.now floor) first.look first.ask)) followers.old followers.new) }
+    ensures err { OnErr result (followers.new ≡ followers.old) }
+{
+    let place = place_of(followers, name);
+    look_first(&mut followers[place].node, schema, query, floor)
+}
+
+fn ask_leader<K: Keeper>(
+    alloc: Global,
+    leader: &mut Leader,
+    store: &mut StoreNode,
+    keepers: &mut K,
+    schema: &Schema,
+    query: &Query,
+    floor: u64,
+) -> Result<LeaderAnswer, StoreRefusal>
+    requires log { log_at (query_shard query.now) leader.old.served ≡ Some store.old.view.log }
+    requires keeper { IsStoreOf K.TELLS (K.state keepers.old).told store.old }
+    ensures given { IfOk result (λ given. LeaderDoes (λ from to. AnswersRead (asked_read (types_of schema.now) from query.now floor) store.old given to
+        (K.state keepers.old) (K.state keepers.new)) leader.old leader.new) }
+    ensures legal { IfOk result (IsLegalAt (types_of schema.now) query.now floor) }
+    ensures err { OnErr result (leader.new ≡ leader.old) }
+    ensures refused { IfErr result IsOfReads }
+    ensures same { store.new ≡ store.old }
+    ensures tables { KeepsTables K.TELLS (K.state keepers.old) (K.state keepers.new) }
+    ensures logs { LogsGrow K.TELLS (K.state keepers.old).told (K.state keepers.new).told }
+    ensures calls { CallsKeeper StoreRefusal.KeeperFault (K.state keepers.old) (K.state keepers.new) result }
+{
+    leaders_are_true(leader);
+    let given = leader.answer(alloc, store, keepers, schema, query, floor);
+    leaders_are_true(leader);
+    given
+}
+
+fn ask_at<K: Keeper>(
+    alloc: Global,
+    leaders: &mut [Named<Leader>],
+    masters: &mut [StoreNode],
+    keepers: &mut K,
+    schema: &Schema,
+    name: NodeName,
+    query: &Query,
+    floor: u64,
+) -> Result<LeaderAnswer, StoreRefusal>
+    requires there { HasNode name leaders.old }
+    requires here { query_shard query.now < length masters.old }
+    requires logs { NodeIs name (λ node. (store : Store) → slice_get masters.old (query_shard query.now) ≡ Some store
+        → log_at (query_shard query.now) node.served ≡ Some store.view.log) leaders.old }
+    requires keeper { HaveSeen K.TELLS (K.state keepers.old).told masters.old }
+    ensures given { IfOk result (λ given. ChangesNode name (LeaderDoes
+        (LeaderAnswers (types_of schema.now) (wanted query.now floor) given masters.old (K.state keepers.old) (K.state keepers.new)))
+        leaders.old leaders.new) }
+    ensures legal { IfOk result (IsLegalAt (types_of schema.now) query.now floor) }
+    ensures err { OnErr result (leaders.new ≡ leaders.old) }
+    ensures refused { IfErr result IsOfReads }
+    ensures same { masters.new ≡ masters.old }
+    ensures tables { KeepsTables K.TELLS (K.state keepers.old) (K.state keepers.new) }
+    ensures logs { LogsGrow K.TELLS (K.state keepers.old).told (K.state keepers.new).told }
+    ensures calls { CallsKeeper StoreRefusal.KeeperFault (K.state keepers.old) (K.state keepers.new) result }
+{
+    let place = place_of(leaders, name);
+    let shard = usize::from(query.shard());
+    let leader = &mut leaders[place].node;
+    let store = &mut masters[shard];
+    ask_leader(alloc, leader, store, keepers, schema, query, floor)
+}
+
+fn keep_fill(
+    follower: &mut Follower,
+    schema: &Schema,
+    query: &Query,
+    ask: Option<AskNo>,
+    fill: Fill,
+) -> Result<(Answer, Kept), OutOfMemory>
+    requires key { fill.key ≡ query_key query.now }
+    requires decides { content_decides (types_of schema.now) fill.content query.now ≡ true }
+    requires log { log_at (query_shard query.now) follower.old.node.served ≡ Some fill.note.log }
+    requires ask { IfSome ask (λ number. IfSome (open_ask_at number follower.old.node.asks) (λ a. a.key ≡ query_key query.now)) }
+    ensures keeps { IfOk result (λ r. FollowerDoes (KeepsFill (types_of schema.now) query.now ask fill r.0 r.1) follower.old follower.new) }
+    ensures err { OnErr result (FollowerDoes (EndsAsk ask) follower.old follower.new) }
+    ensures legal { IfOk result (λ r. ViewAnswers (types_of schema.now) fill.note query.now r.0 fill.version) }
+{
+    followers_are_true(follower);
+    let kept = follower.take_fill(schema, ask, query, fill);
+    followers_are_true(follower);
+    kept
+}
+
+fn keep_at(
+    followers: &mut [Named<Follower>],
+    schema: &Schema,
+    name: NodeName,
+    query: &Query,
+    ask: Option<AskNo>,
+    fill: Fill,
+) -> Result<(Answer, Kept), OutOfMemory>
+    requires there { HasNode name followers.old }
+    requires key { fill.key ≡ query_key query.now }
+    requires decides { content_decides (types_of schema.now) fill.content query.now ≡ true }
+    requires log { NodeIs name (λ f. log_at (query_shard query.now) f.node.served ≡ Some fill.note.log) followers.old }
+    requires ask { NodeIs name (λ f. IfSome ask (λ number. IfSome (open_ask_at number f.node.asks) (λ a. a.key ≡ query_key query.now))) followers.old }
+    ensures keeps { IfOk result (λ r. ChangesNode name
+        (FollowerDoes (KeepsFill (types_of schema.now) query.now ask fill r.0 r.1)) followers.old followers.new) }
+    ensures err { OnErr result (ChangesNode name (FollowerDoes (EndsAsk ask)) followers.old followers.new) }
+    ensures legal { IfOk result (λ r. ViewAnswers (types_of schema.now) fill.note query.now r.0 fill.version) }
+{
+    let place = place_of(followers, name);
+    keep_fill(&mut followers[place].node, schema, query, ask, fill)
+}
+
+/// Ends the ask, where there is one.
+fn end_given(follower: &mut Follower, ask: Option<AskNo>)
+    ensures { EndsAsk ask follower.old follower.new }
+{
+    if let Some(ask) = ask {
+        follower.end_ask(ask);
+    }
+}
+
+fn end_open_ask(follower: &mut Follower, ask: Option<AskNo>)
+    ensures { FollowerDoes (EndsAsk ask) follower.old follower.new }
+{
+    followers_are_true(follower);
+    end_given(follower, ask);
+    followers_are_true(follower);
+}
+
+fn end_at(followers: &mut [Named<Follower>], name: NodeName, ask: Option<AskNo>)
+    requires { HasNode name followers.old }
+    ensures { ChangesNode name (FollowerDoes (EndsAsk ask)) followers.old followers.new }
+{
+    let place = place_of(followers, name);
+    end_open_ask(&mut followers[place].node, ask);
+}
+
+impl Fleet {
+    /// The stage `look`: the follower answers where it holds an item of the key at the floor or above that decides the query,
+    /// which then stands first. Else it opens an ask on the key, unless 256 are open.
+    ///
+    /// The one error is want of memory for the answer, which leaves all as it was. Costs a look-up, and the answer.
+    pub fn look(
+        &mut self,
+        config: &Config,
+        follower: NodeName,
+        query: &Query,
+        floor: u64,
+    ) -> Result<FirstLook, OutOfMemory>
+        requires fleet { IsFleetOf config.now self.old }
+        requires follower { IsFollowerFor config.now (query_shard query.now) follower }
+        ensures looks { IfOk result (λ first. ChangesNode follower
+            (LooksFirst (types_of config.now.schema) (wanted query.now floor) first.look first.ask) self.old.followers self.new.followers) }
+        ensures rest { self.new ≡ record self.old { followers = self.new.followers } }
+        ensures err { OnErr result (self.new ≡ self.old) }
+        ensures fleet { IsFleetOf config.now self.new }
+        ensures goes { GoesOn self.old self.new }
+        ensures ask { IfOk result (λ first. IfSome first.ask (λ number. HasAsk follower number (query_key query.now) self.new.followers)) }
+        ensures legal { IfOk result (λ first. IsLegalLook (types_of config.now.schema) (pens_of self.new.masters) (wanted query.now floor) first.look) }
+    {
+        look_at(&mut self.followers, &config.schema, follower, query, floor)
+    }
+
+    /// The stage `ask`, once it was carried to a leader that serves the shard: the leader answers of an item of its own, or of
+    /// the shard's store, and keeps what the store gave.
+    ///
+    /// `KeeperFault` comes only where the keepers' count of faults rose, and `OutOfMemory` where there was no memory; no node
+    /// has changed then. Costs what `Leader::answer` does.
+    pub fn ask<K: Keeper>(
+        &mut self,
+        alloc: Global,
+        config: &Config,
+        keepers: &mut K,
+        leader: NodeName,
+        query: &Query,
+        floor: u64,
+    ) -> Result<LeaderAnswer, StoreRefusal>
+        requires consistent { IsConsistent K.TELLS config.now (K.state keepers.old).told self.old }
+        requires leader { IsLeaderFor config.now (query_shard query.now) leader }
+        ensures answers { IfOk result (λ given. ChangesNode leader
+            (LeaderAnswers (types_of config.now.schema) (wanted query.now floor) given self.old.masters (K.state keepers.old) (K.state keepers.new))
+            self.old.leaders self.new.leaders) }
+        ensures rest { self.new ≡ record self.old { leaders = self.new.leaders } }
+        ensures err { OnErr result (self.new ≡ self.old) }
+        ensures consistent { IsConsistent K.TELLS config.now (K.state keepers.new).told self.new }
+        ensures goes { GoesOn self.old self.new }
+        ensures given { IfOk result (IsGivenAnswer (types_of config.now.schema) (pens_of self.new.masters) (wanted query.now floor)) }
+        ensures refused { IfErr result IsOfReads }
+        ensures tables { KeepsTables K.TELLS (K.state keepers.old) (K.state keepers.new) }
+        ensures logs { LogsGrow K.TELLS (K.state keepers.old).told (K.state keepers.new).told }
+        ensures calls { CallsKeeper StoreRefusal.KeeperFault (K.state keepers.old) (K.state keepers.new) result }
+    {
+        ask_at(
+            alloc,
+            &mut self.leaders,
+            &mut self.masters,
+            keepers,
+            &config.schema,
+            leader,
+            query,
+            floor,
+        )
+    }
+
+    /// The stage `keep`, where a fill was given: the follower answers from it, and keeps it or not by the rule of its ask, which
+    /// ends.
+    ///
+    /// The one error is want of memory for the answer: the ask has ended, and nothing else changed.
+    pub fn keep(
+        &mut self,
+        config: &Config,
+        follower: NodeName,
+        query: &Query,
+        floor: u64,
+        ask: Option<AskNo>,
+        fill: Fill,
+    ) -> Result<(Answer, Kept), OutOfMemory>
+        requires fleet { IsFleetOf config.now self.old }
+        requires follower { IsFollowerFor config.now (query_shard query.now) follower }
+        requires given { IsGivenFill (types_of config.now.schema) (pens_of self.old.masters) (wanted query.now floor) fill }
+        requires ask { IfSome ask (λ number. HasAsk follower number (query_key query.now) self.old.followers) }
+        ensures keeps { IfOk result (λ r. ChangesNode follower
+            (KeepsFill (types_of config.now.schema) query.now ask fill r.0 r.1) self.old.followers self.new.followers) }
+        ensures err { OnErr result (ChangesNode follower (EndsAsk ask) self.old.followers self.new.followers) }
+        ensures rest { self.new ≡ record self.old { followers = self.new.followers } }
+        ensures fleet { IsFleetOf config.now self.new }
+        ensures goes { GoesOn self.old self.new }
+        ensures legal { IfOk result (λ r.
+            IsLegalIn (types_of config.now.schema) (pens_of self.new.masters (query_shard query.now)) query.now floor r.0 fill.version) }
+    {
+        keep_at(
+            &mut self.followers,
+            &config.schema,
+            follower,
+            query,
+            ask,
+            fill,
+        )
+    }
+
+    /// Ends the ask of a read that is over without a fill.
+    pub fn end_ask(&mut self, config: &Config, follower: NodeName, shard: u16, ask: Option<AskNo>)
+        requires fleet { IsFleetOf config.now self.old }
+        requires follower { IsFollowerFor config.now shard follower }
+        ensures ends { ChangesNode follower (EndsAsk ask) self.old.followers self.new.followers }
+        ensures rest { self.new ≡ record self.old { followers = self.new.followers } }
+        ensures fleet { IsFleetOf config.now self.new }
+        ensures goes { GoesOn self.old self.new }
+    {
+        end_at(&mut self.followers, follower, ask);
+    }
+}

@@ -1,0 +1,5 @@
+pub mod ReadSteps
+pub mod Reads
+pub mod Replies
+pub mod Routes
+pub mod Writes

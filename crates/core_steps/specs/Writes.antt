@@ -1,0 +1,151 @@
+-- What a write along a route is answered, and what it does to the log of its shard and to the nodes.
+use Rattle.std.specs.Prelude.{ℕ, ◌≡◌, ◌⊎◌, Bool, true, false, Option, Some, None, if◌then◌else◌}
+use Rattle.counts.specs.Count.{Rose}
+use Rattle.core_model.specs.Fleet.{ChangesNode, Fleet}
+use Rattle.core_model.specs.Stores.{master_log, master_store, masters_of}
+use Rattle.core_model.specs.Writes.{AppliesTo}
+use Rattle.graph_model.specs.Told.{WhereTold}
+use Rattle.leader_tier.specs.TakenWrites.{TakesWritten}
+use Rattle.master_tables.specs.Masters.{stores_of}
+use Rattle.replies.specs.declared.calls.CallReply.TheVariants as called
+use Rattle.replies.specs.declared.calls.InverseEnd.TheVariants as inverse
+use Rattle.replies.specs.declared.calls.WriteReply.{WriteReply}
+use Rattle.replies.specs.declared.refusals.Refusal.TheVariants.{Store, Memory}
+use Rattle.replies.specs.declared.refusals.StoreRefused.{StoreRefused}
+use Rattle.replies.specs.declared.refusals.StoreRefused.TheVariants.{SeqReused, ShardFull, StampFull, LogFull, KeeperFault, LinkFault, Unsettled}
+use Rattle.replies.specs.declared.refusals.When.{When}
+use Rattle.replies.specs.declared.refusals.When.TheVariants.{Before}
+use Rattle.replies.specs.declared.reply.Reply.{Reply}
+use Rattle.replies.specs.declared.reply.Reply.TheVariants.{Called, Refused}
+use Rattle.shard_log.specs.View.{View}
+use Rattle.shard_tables.specs.Jobs.{job_with}
+use Rattle.shard_tables.specs.WriteSteps.{client_write}
+use Rattle.shard_tables.specs.Written.{AnswersAs, AskedWrite, IsLogFull, IsReused, IsShardFull, IsStampFull, TableGains, asked_write}
+use Rattle.tao_base.specs.EdgeTypes.{EdgeTypes}
+use Rattle.tao_base.specs.Writes.{write_shard}
+use Rattle.tao_base.specs.declared.entry.Entry.{Entry}
+use Rattle.tao_base.specs.declared.entry.Origin.{Origin}
+use Rattle.tao_base.specs.declared.write.Write.{Write}
+use Rattle.tao_keeper.specs.KeeperState.{KeeperState, KeepsTables}
+use Rattle.tao_link.specs.Shown.{after_carry}
+use Rattle.tao_schema.specs.Schema.{types_of}
+use Rattle.topology.specs.Config.{Settings}
+use Rattle.write_model.specs.Machine.{ChangesNothing, Repeats}
+use Rattle.write_model.specs.Merges.{Stores}
+use Rattle.write_model.specs.Steps.{CommitsWithJob, JobsStay}
+use Rattle.write_plan.specs.Committing.{told_kind}
+use Rattle.write_plan.specs.Plans.{when_of, written_by}
+use Rattle.core_steps.specs.Routes.{FailsCarry, Scene, hops_between, there_and_back}
+use Rattle.core_steps.specs.declared.routes.Route.{Route}
+
+-- the write of a client, under its origin
+pub record ClientWrite : Type 0 where
+  pub origin : Origin
+  pub write : Write
+
+abbrev pub client_call : Origin → Write → ClientWrite
+client_call origin write = record { origin = origin; write = write }
+
+-- the write, as it is asked of the log of its shard
+abbrev pub asked_of_log : Settings → KeeperState → ClientWrite → AskedWrite
+asked_of_log s keepers call = asked_write (types_of s.schema) s.log_max (master_log s keepers.told (write_shard call.write)) call.origin call.write
+
+-- the logs and open jobs of all shards
+abbrev pub stores_now : Settings → KeeperState → Stores
+stores_now s keepers = stores_of (masters_of s) keepers.told
+
+-- ---- what is committed
+
+-- the entry that the log gains
+abbrev pub new_entry : Bool → Option Entry → Option Entry
+new_entry retry entry = if retry then None else entry
+
+-- the step of the plain machine: a write of the shard commits its entry with the job of it, finds it standing there, or finds nothing to change
+abbrev pub StepsAs : AskedWrite → Bool → Option Entry → ℕ → Stores → Stores → Type 0
+StepsAs asked false (Some e) shard old new = CommitsWithJob asked.types old new (client_write shard asked) e
+StepsAs asked true (Some e) shard old new =
+    Repeats asked.types old.logs new.logs (client_write shard asked) e shard × (new.logs ≡ old.logs) × JobsStay old new
+StepsAs asked false None shard old new = ChangesNothing asked.types old.logs new.logs (client_write shard asked) × JobsStay old new
+StepsAs asked true None shard old new = ⊥
+
+-- the log's answer to a write is this entry, or none, new or not: a step of the plain machine. The log had room for a new one, and its table gains it
+-- with its job
+pub record Commits (tells : Bool) (s : Settings) (call : ClientWrite) (retry : Bool) (entry : Option Entry) (old new : KeeperState) : Type 0 where
+  pub step : WhereTold tells (StepsAs (asked_of_log s old call) retry entry (write_shard call.write) (stores_now s old) (stores_now s new))
+  pub answers : WhereTold tells (AnswersAs (asked_of_log s old call) retry entry)
+  pub gains : WhereTold tells (TableGains old.told new.told (master_store s (write_shard call.write)) (new_entry retry entry)
+      (job_with (types_of s.schema) (new_entry retry entry)))
+
+-- ---- what the nodes take of it
+
+-- the leader that wrote takes the entry, where there is one, and marks it
+pub record LeaderTakes (types : EdgeTypes) (route : Route) (shard : ℕ) (entry : Option Entry) (old new : Fleet) : Type 0 where
+  pub note : View
+  pub takes : ChangesNode route.leader (TakesWritten types shard entry note) old.leaders new.leaders
+
+-- the follower that asked for it takes its changes
+abbrev pub FollowerTakes : EdgeTypes → Route → ℕ → Option Entry → Fleet → Fleet → Type 0
+FollowerTakes types route shard None old new = new.followers ≡ old.followers
+FollowerTakes types route shard (Some e) old new = (note : View) × ChangesNode route.follower (AppliesTo types shard e note) old.followers new.followers
+
+-- ---- a write that was carried out
+
+-- a write that was carried out, by one carry there and one back: its reply tells the entry. No type has an inverse, since a core serves
+-- configurations without one
+pub record IsWritten (tells : Bool) (s : Settings) (route : Route) (call : ClientWrite) (reply : WriteReply) (old new : Scene) : Type 0 where
+  pub entry : Option Entry
+  pub retry : Bool
+  pub kind_is : told_kind call.write entry ≡ Some reply.kind
+  pub written_is : reply.written ≡ written_by retry inverse.None entry
+  pub commits : Commits tells s call retry entry old.keepers new.keepers
+  pub leader : LeaderTakes (types_of s.schema) route (write_shard call.write) entry old.fleet new.fleet
+  pub follower : FollowerTakes (types_of s.schema) route (write_shard call.write) entry old.fleet new.fleet
+  pub link : new.link ≡ there_and_back old.link
+  pub hops_is : reply.hops ≡ hops_between old.link new.link
+
+-- ---- a write that was refused
+
+-- the store refused it: by the log, or for a fault that came now. Nothing changed
+abbrev pub StoreRefuses : Bool → AskedWrite → StoreRefused → KeeperState → KeeperState → Type 0
+StoreRefuses tells asked (SeqReused position) old new = WhereTold tells (IsReused asked position)
+StoreRefuses tells asked (ShardFull serial) old new = WhereTold tells (IsShardFull asked serial)
+StoreRefuses tells asked (StampFull number) old new = WhereTold tells (IsStampFull asked number)
+StoreRefuses tells asked (LogFull count) old new = WhereTold tells (IsLogFull asked count)
+StoreRefuses tells asked (KeeperFault count) old new = (count ≡ new.faults) × Rose old.faults new.faults
+StoreRefuses tells asked (LinkFault count when) old new = ⊥
+StoreRefuses tells asked (Unsettled shard why) old new = ⊥
+
+-- no node and no table changed
+pub record ChangesNoScene (tells : Bool) (old new : Scene) : Type 0 where
+  pub fleet : new.fleet ≡ old.fleet
+  pub tables : KeepsTables tells old.keepers new.keepers
+
+-- the way there failed, and nothing changed
+pub record FailsThere (tells : Bool) (route : Route) (when : When) (old new : Scene) : Type 0 where
+  pub before : when ≡ Before
+  pub carry : FailsCarry route.follower route.leader old.link new.link
+  pub same : ChangesNoScene tells old new
+
+-- the way back failed: the write stands, at the position that the reply tells where there is an entry. The follower's items stay
+pub record FailsBack (tells : Bool) (s : Settings) (route : Route) (call : ClientWrite) (when : When) (old new : Scene) : Type 0 where
+  pub entry : Option Entry
+  pub retry : Bool
+  pub when_is : when ≡ when_of entry
+  pub carry : FailsCarry route.leader route.follower (after_carry old.link) new.link
+  pub commits : Commits tells s call retry entry old.keepers new.keepers
+  pub leader : LeaderTakes (types_of s.schema) route (write_shard call.write) entry old.fleet new.fleet
+  pub followers : new.fleet.followers ≡ old.fleet.followers
+
+-- why a write along a route was refused
+abbrev pub WriteRefused : Bool → Settings → Route → ClientWrite → StoreRefused → Scene → Scene → Type 0
+WriteRefused tells s route call (LinkFault count when) old new =
+    (count ≡ new.link.faults) × (FailsThere tells route when old new ⊎ FailsBack tells s route call when old new)
+WriteRefused tells s route call refused old new =
+    StoreRefuses tells (asked_of_log s old.keepers call) refused old.keepers new.keepers × ChangesNoScene tells old new
+
+-- what a write along a route is answered
+abbrev pub WritesAlong : Bool → Settings → Route → ClientWrite → Reply → Scene → Scene → Type 0
+WritesAlong tells s route call (Called (called.Write reply)) old new = IsWritten tells s route call reply old new
+WritesAlong tells s route call (Refused (Store refused)) old new = WriteRefused tells s route call refused old new
+WritesAlong tells s route call (Refused (Memory position)) old new = (position ≡ 0) × ChangesNoScene tells old new
+WritesAlong tells s route call reply old new = ⊥

@@ -1,0 +1,15 @@
+//! Reads and writes along their route: from the follower of a session over a link to a leader, and back.
+//!
+//! Each call says what it did to the nodes, stage by stage, which carries it took, and what its reply tells of the log; what was
+//! consistent stays so. Which nodes are on the route is not said here.
+#![tactic(auto)]
+
+mod reads;
+mod refusals;
+mod routes;
+mod writes;
+
+pub use reads::read_along;
+pub use refusals::{out_of_memory, refused_as};
+pub use routes::Route;
+pub use writes::write_along;

@@ -1,0 +1,38 @@
+//! The replies where a step gives no answer.
+ghost use Rattle.std.specs.Prelude.{◌≡◌};
+ghost use Rattle.core_steps.specs.Replies.{refused_as};
+
+use replies::{Refusal, Reply, StoreRefused, When};
+use shard_tables::StoreRefusal;
+
+/// Want of memory, before anything is committed.
+pub fn out_of_memory() -> Reply
+    ensures { result ≡ Reply.Refused (Refusal.Memory 0) }
+{
+    Reply::Refused(Refusal::Memory { position: 0 })
+}
+
+/// A store's refusal, where the keepers have counted so many faults.
+pub fn refused_as(refusal: StoreRefusal, faults: u64) -> Reply
+    ensures { result ≡ refused_as faults refusal }
+{
+    let refused = match refusal {
+        StoreRefusal::SeqReused { position } => StoreRefused::SeqReused { position },
+        StoreRefusal::ShardFull { serial } => StoreRefused::ShardFull { serial },
+        StoreRefusal::StampFull { number } => StoreRefused::StampFull { number },
+        StoreRefusal::LogFull { length } => StoreRefused::LogFull { length },
+        StoreRefusal::KeeperFault => StoreRefused::KeeperFault { count: faults },
+        StoreRefusal::OutOfMemory => return out_of_memory(),
+    };
+    Reply::Refused(Refusal::Store(refused))
+}
+
+/// A carry failed, where the link has counted so many faults.
+pub(crate) fn link_fault(faults: u64, when: When) -> Reply
+    ensures { result ≡ Reply.Refused (Refusal.Store (StoreRefused.LinkFault faults when)) }
+{
+    Reply::Refused(Refusal::Store(StoreRefused::LinkFault {
+        count: faults,
+        when,
+    }))
+}

@@ -1,0 +1,179 @@
+//! The writes of sessions.
+ghost use Rattle.std.specs.Prelude.{◌≡◌, IfErr, IfSome, IsTrue, OnErr, OnOk, Some};
+ghost use Rattle.core_model.specs.Consistent.{GoesOn, IsConsistent, IsFleetOf};
+ghost use Rattle.core_model.specs.Growing.{MastersGrow};
+ghost use Rattle.core_model.specs.Pens.{pens_of};
+ghost use Rattle.core_model.specs.Serving.{IsFollowerFor, IsLeaderFor};
+ghost use Rattle.core_model.specs.Writes.{IsSeenEntry};
+ghost use Rattle.core_steps.specs.Routes.{FailsCarry, scene};
+ghost use Rattle.core_steps.specs.Writes.{FollowerTakes, WritesAlong, client_call};
+ghost use Rattle.graph_model.specs.Soundness.{is_client};
+ghost use Rattle.shard_tables.specs.Written.{HasEntry, LiesOn};
+ghost use Rattle.tao_base.specs.Writes.{ChangesType, write_shard};
+ghost use Rattle.tao_keeper.specs.KeeperState.{IsLater};
+ghost use Rattle.tao_link.specs.Shown.{after_carry};
+ghost use Rattle.tao_schema.specs.Schema.{types_of};
+ghost use Rattle.write_model.specs.Writes.{FitsWrite};
+ghost use Rattle.write_plan.specs.Committing.{told_kind};
+ghost use Rattle.write_plan.specs.Plans.{when_of, written_by};
+
+use crate::refusals::{link_fault, refused_as};
+use crate::routes::{Route, carry};
+use core_nodes::Fleet;
+use replies::{CallReply, InverseEnd, Reply, When, WriteReply, Written};
+use shard_log::Note;
+use shard_tables::Wrote;
+use std::alloc::Global;
+use tao_base::{Entry, Origin, Write};
+use tao_keeper::Keeper;
+use tao_link::{Link, LinkFailed};
+use topology::Config;
+use write_plan::told_kind;
+
+/// What was written. No type has an inverse yet.
+fn written_of(retry: bool, entry: &Option<Entry>) -> Written
+    ensures { result ≡ written_by retry InverseEnd.None entry.now }
+{
+    Written {
+        changed: entry.is_some(),
+        inverse: InverseEnd::None,
+        position: match entry {
+            Some(entry) => entry.position,
+            None => 0,
+        },
+        retry,
+    }
+}
+
+/// Whether a fault now comes after an entry stands.
+fn when_of(entry: &Option<Entry>) -> When
+    ensures { result ≡ when_of entry.now }
+{
+    match entry {
+        Some(entry) => When::After {
+            position: entry.position,
+        },
+        None => When::Before,
+    }
+}
+
+/// The reply to a write that was carried out.
+fn write_reply(write: &Write, retry: bool, entry: &Option<Entry>, hops: u64) -> WriteReply
+    requires fits { IfSome entry.now (λ e. FitsWrite e write.now) }
+    requires entry { HasEntry write.now entry.now }
+    ensures kind { told_kind write.now entry.now ≡ Some result.kind }
+    ensures written { result.written ≡ written_by retry InverseEnd.None entry.now }
+    ensures hops { result.hops ≡ hops }
+{
+    WriteReply {
+        kind: told_kind(write, entry),
+        written: written_of(retry, entry),
+        hops,
+    }
+}
+
+/// Lets the follower of the route take what was committed, where there is an entry.
+fn apply_written(
+    fleet: &mut Fleet,
+    config: &Config,
+    route: Route,
+    shard: u16,
+    entry: &Option<Entry>,
+    note: Note,
+)
+    requires fleet { IsFleetOf config.now fleet.old }
+    requires follower { IsFollowerFor config.now shard route.follower }
+    requires seen { IfSome entry.now (IsSeenEntry (pens_of fleet.old.masters) shard note) }
+    requires here { IfSome entry.now (LiesOn note shard) }
+    ensures takes { FollowerTakes (types_of config.now.schema) route shard entry.now fleet.old fleet.new }
+    ensures rest { fleet.new ≡ record fleet.old { followers = fleet.new.followers } }
+    ensures fleet { IsFleetOf config.now fleet.new }
+    ensures goes { GoesOn fleet.old fleet.new }
+{
+    if let Some(entry) = entry {
+        fleet.apply(config, route.follower, shard, entry, note);
+    }
+}
+
+/// Brings what was committed back over the link to the follower, which takes the changes. Where the link fails, no node changes.
+fn apply_along<L: Link>(
+    fleet: &mut Fleet,
+    config: &Config,
+    link: &mut L,
+    route: Route,
+    shard: u16,
+    entry: &Option<Entry>,
+    note: Note,
+) -> Result<(), LinkFailed>
+    requires fleet { IsFleetOf config.now fleet.old }
+    requires follower { IsFollowerFor config.now shard route.follower }
+    requires seen { IfSome entry.now (IsSeenEntry (pens_of fleet.old.masters) shard note) }
+    requires here { IfSome entry.now (LiesOn note shard) }
+    ensures carried { OnOk result (L.shown link.new ≡ after_carry (L.shown link.old)) }
+    ensures failed { IfErr result (λ _. FailsCarry route.leader route.follower (L.shown link.old) (L.shown link.new)) }
+    ensures takes { OnOk result (FollowerTakes (types_of config.now.schema) route shard entry.now fleet.old fleet.new) }
+    ensures stays { OnErr result (fleet.new ≡ fleet.old) }
+    ensures rest { fleet.new ≡ record fleet.old { followers = fleet.new.followers } }
+    ensures fleet { IsFleetOf config.now fleet.new }
+    ensures goes { GoesOn fleet.old fleet.new }
+{
+    if let Err(LinkFailed) = carry(link, route.leader, route.follower) {
+        return Err(LinkFailed);
+    }
+    apply_written(fleet, config, route, shard, entry, note);
+    Ok(())
+}
+
+/// Makes the write of a client along its route: over the link the leader writes to the shard's store and takes what was written, and
+/// over the link back the follower takes the changes.
+///
+/// Refused as the store refuses it, with nothing changed. `LinkFault` comes only where the link's count of faults rose: at the way
+/// there nothing was written; at the way back the write stands, at the position that it tells. Nothing but the link fails once the
+/// entry is written. Want of memory comes before.
+///
+/// Costs what `Leader::write` does, and a look-up at the follower for each touch.
+pub fn write_along<K: Keeper, L: Link>(
+    alloc: Global,
+    fleet: &mut Fleet,
+    config: &Config,
+    keepers: &mut K,
+    link: &mut L,
+    route: Route,
+    origin: Origin,
+    write: &Write,
+) -> Reply
+    requires consistent { IsConsistent K.TELLS config.now (K.state keepers.old).told fleet.old }
+    requires client { IsTrue (is_client origin) }
+    requires changes { ChangesType (types_of config.now.schema) write.now }
+    requires follower { IsFollowerFor config.now (write_shard write.now) route.follower }
+    requires leader { IsLeaderFor config.now (write_shard write.now) route.leader }
+    ensures writes { WritesAlong K.TELLS config.now route (client_call origin write.now) result (scene fleet.old (K.state keepers.old) (L.shown link.old))
+        (scene fleet.new (K.state keepers.new) (L.shown link.new)) }
+    ensures consistent { IsConsistent K.TELLS config.now (K.state keepers.new).told fleet.new }
+    ensures goes { GoesOn fleet.old fleet.new }
+    ensures grows { MastersGrow K.TELLS config.now (K.state keepers.old).told (K.state keepers.new).told }
+    ensures later { IsLater (K.state keepers.old) (K.state keepers.new) }
+{
+    let carries = link.carries();
+    if let Err(LinkFailed) = carry(link, route.follower, route.leader) {
+        return link_fault(link.faults(), When::Before);
+    }
+    match fleet.commit(alloc, config, keepers, route.leader, origin, write) {
+        Ok(wrote) => {
+            let Wrote {
+                entry,
+                retry,
+                note,
+                ..
+            } = wrote;
+            match apply_along(fleet, config, link, route, write.shard(), &entry, note) {
+                Ok(()) => {
+                    let hops = link.carries().saturating_sub(carries);
+                    Reply::Called(CallReply::Write(write_reply(write, retry, &entry, hops)))
+                }
+                Err(LinkFailed) => link_fault(link.faults(), when_of(&entry)),
+            }
+        }
+        Err(refusal) => refused_as(refusal, keepers.faults()),
+    }
+}

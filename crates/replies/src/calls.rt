@@ -18,7 +18,7 @@ pub enum CallReply {
 pub struct WriteReply {
     pub kind: WriteKind,
     pub written: Written,
-    /// How many carries over links the write took. Lines don't tell it yet.
+    /// How many carries over links the write took.
     pub hops: u64,
 }
 

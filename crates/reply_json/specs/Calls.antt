@@ -14,7 +14,8 @@ use Rattle.replies.specs.declared.calls.WriteKind.TheVariants.{ObjAdd, ObjUpdate
 use Rattle.replies.specs.declared.calls.WriteReply.{WriteReply}
 use Rattle.reply_json.specs.Json.{fields, given, text, whole}
 use Rattle.reply_json.specs.Texts.{inverse_text, scheduled_text}
-use Rattle.reply_json.specs.Values.{answer_name, answer_data}
+use Rattle.reply_json.specs.Nodes.{had, is_kept, needs, not_kept_why}
+use Rattle.reply_json.specs.Values.{count_told, edges_told, object_told}
 use Rattle.topology.specs.Config.{Settings}
 
 -- the id of an object that was added
@@ -36,20 +37,23 @@ scheduled_why (Scheduled why) = Some (text (scheduled_text why))
 abbrev pub plan_number : Option ℕ → Option Data
 plan_number plan = option_map whole plan
 
--- a write is told by whether it changed anything, an added object's id, its inverse, its word, a plan's number, its entry's position,
--- whether it stood there before, and why an inverse is not yet written
+-- a write is told by whether it changed anything, its hops, an added object's id, its inverse, its word, a plan's number, its entry's
+-- position, whether it stood there before, and why an inverse is not yet written
 abbrev pub write_data : Option ℕ → WriteReply → Data
 write_data plan w =
-    fields (given ((codes "changed", Some (boolean w.written.changed)) ∷ (codes "id", added_id w.kind)
+    fields (given ((codes "changed", Some (boolean w.written.changed)) ∷ (codes "hops", Some (whole w.hops)) ∷ (codes "id", added_id w.kind)
     ∷ (codes "inverse", Some (text (inverse_text w.written.inverse))) ∷ (codes "ok", Some (text (word_text (word.Write (kind_word w.kind)))))
     ∷ (codes "plan", plan_number plan) ∷ (codes "position", Some (whole w.written.position)) ∷ (codes "retry", Some (boolean w.written.retry))
     ∷ (codes "why", scheduled_why w.written.inverse) ∷ []))
 
--- a read is told by its answer, its word, a plan's number and its version
+-- a read is told by its answer, its hops, whether a store was called, its word, a plan's number, its version, and whether the answer is kept
+-- or why not
 abbrev pub read_data : Settings → Option ℕ → ReadReply → Data
 read_data s plan r =
-    fields (given ((answer_name r.answer, Some (answer_data s r.answer)) ∷ (codes "ok", Some (text (word_text (word.Read r.word))))
-    ∷ (codes "plan", plan_number plan) ∷ (codes "version", Some (whole r.version)) ∷ []))
+    fields (given ((codes "count", count_told r.answer) ∷ (codes "edges", edges_told r.answer) ∷ (codes "have", had r.kept)
+    ∷ (codes "hops", Some (whole r.hops)) ∷ (codes "kept", Some (boolean (is_kept r.kept))) ∷ (codes "need", needs r.kept)
+    ∷ (codes "object", object_told s r.answer) ∷ (codes "ok", Some (text (word_text (word.Read r.word)))) ∷ (codes "plan", plan_number plan)
+    ∷ (codes "store", Some (boolean r.store)) ∷ (codes "version", Some (whole r.version)) ∷ (codes "why", not_kept_why r.kept) ∷ []))
 
 -- a call is told with the number of its plan, where it was carried out by one
 abbrev pub call_data : Settings → Option ℕ → CallReply → Data

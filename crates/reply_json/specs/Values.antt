@@ -45,6 +45,22 @@ answer_data s (ObjectIs o) = object_data s o
 answer_data s (EdgesAre edges) = edges_data edges
 answer_data s (Count n) = whole n
 
+-- what is told of an answer under each of the three names: it stands under its own alone
+abbrev pub count_told : Answer → Option Data
+count_told (Count n) = Some (whole n)
+count_told (EdgesAre edges) = None
+count_told (ObjectIs o) = None
+
+abbrev pub edges_told : Answer → Option Data
+edges_told (Count n) = None
+edges_told (EdgesAre edges) = Some (edges_data edges)
+edges_told (ObjectIs o) = None
+
+abbrev pub object_told : Settings → Answer → Option Data
+object_told s (Count n) = None
+object_told s (EdgesAre edges) = None
+object_told s (ObjectIs o) = Some (object_data s o)
+
 -- lengths, in their order
 abbrev pub lengths_data : List ℕ → Data
 lengths_data lengths = array (items_of (map whole lengths))

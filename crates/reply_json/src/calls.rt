@@ -4,7 +4,8 @@ ghost use Rattle.reply_json.specs.Calls.{added_id, call_data, plan_number, read_
 ghost use Rattle.reply_json.specs.Said.{said_value};
 ghost use Rattle.reply_json.specs.Writing.{Puts};
 
-use crate::said::{Said, answer_name, said_answer};
+use crate::nodes::{had, is_kept, needs, not_kept_why};
+use crate::said::{Said, count_told, edges_told, object_told};
 use crate::spelled::put_given;
 use crate::texts::{inverse_text, scheduled_text};
 use json::Writer;
@@ -63,6 +64,7 @@ fn put_write(out: &mut Writer, plan: Option<u32>, reply: &WriteReply) -> Result<
         out,
         &[
             ("changed", Some(Said::Flag(written.changed))),
+            ("hops", Some(Said::Whole(reply.hops))),
             ("id", added_id(reply.kind)),
             ("inverse", Some(Said::Text(inverse_text(written.inverse)))),
             (
@@ -77,24 +79,29 @@ fn put_write(out: &mut Writer, plan: Option<u32>, reply: &WriteReply) -> Result<
     )
 }
 
-fn put_read(
+fn put_read<'r>(
     out: &mut Writer,
-    config: &Config,
+    config: &'r Config,
     plan: Option<u32>,
-    reply: &ReadReply,
+    reply: &'r ReadReply,
 ) -> Result<(), AllocError>
     ensures { Puts result out.old out.new (read_data config.now plan reply.now) }
 {
     put_given(
         out,
         &[
-            (
-                answer_name(&reply.answer),
-                Some(said_answer(config, &reply.answer)),
-            ),
+            ("count", count_told(&reply.answer)),
+            ("edges", edges_told(&reply.answer)),
+            ("have", had(reply.kept)),
+            ("hops", Some(Said::Whole(reply.hops))),
+            ("kept", Some(Said::Flag(is_kept(reply.kept)))),
+            ("need", needs(reply.kept)),
+            ("object", object_told(config, &reply.answer)),
             ("ok", Some(Said::Text(Word::Read(reply.word).text()))),
             ("plan", plan_number(plan)),
+            ("store", Some(Said::Flag(reply.store))),
             ("version", Some(Said::Whole(reply.version))),
+            ("why", not_kept_why(reply.kept)),
         ],
     )
 }

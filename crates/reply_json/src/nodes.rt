@@ -183,14 +183,14 @@ fn put_item<'r>(
 
 // ---- whether a fill was kept, and else why not
 
-fn is_kept(kept: KeptOrNot) -> bool
+pub(crate) fn is_kept(kept: KeptOrNot) -> bool
     ensures { result ≡ is_kept kept }
 {
     matches!(kept, KeptOrNot::Kept)
 }
 
 /// What a fill had that was not kept.
-fn had(kept: KeptOrNot) -> Option<Said<'static>>
+pub(crate) fn had(kept: KeptOrNot) -> Option<Said<'static>>
     ensures { option_map said_value result ≡ had kept }
 {
     match kept {
@@ -200,7 +200,7 @@ fn had(kept: KeptOrNot) -> Option<Said<'static>>
 }
 
 /// What it needed.
-fn needs(kept: KeptOrNot) -> Option<Said<'static>>
+pub(crate) fn needs(kept: KeptOrNot) -> Option<Said<'static>>
     ensures { option_map said_value result ≡ needs kept }
 {
     match kept {
@@ -210,7 +210,7 @@ fn needs(kept: KeptOrNot) -> Option<Said<'static>>
 }
 
 /// Why it was not kept.
-fn not_kept_why(kept: KeptOrNot) -> Option<Said<'static>>
+pub(crate) fn not_kept_why(kept: KeptOrNot) -> Option<Said<'static>>
     ensures { option_map said_value result ≡ not_kept_why kept }
 {
     match kept {

@@ -1,7 +1,7 @@
 //! What the members of a reply's line say.
-ghost use Rattle.std.specs.Prelude.{◌≡◌};
+ghost use Rattle.std.specs.Prelude.{◌≡◌, option_map};
 ghost use Rattle.reply_json.specs.Said.{object_value, said_value};
-ghost use Rattle.reply_json.specs.Values.{answer_data, answer_name, object_data};
+ghost use Rattle.reply_json.specs.Values.{answer_data, answer_name, count_told, edges_told, object_data, object_told};
 ghost use Rattle.reply_json.specs.Writing.{Puts};
 
 use crate::spelled::{Spelled, put_items, put_members};
@@ -84,6 +84,36 @@ pub(crate) fn said_answer<'r>(config: &'r Config, answer: &'r Answer) -> Said<'r
         Answer::Object(object) => said_object(config, object),
         Answer::Edges(edges) => Said::Edges(edges.as_slice()),
         Answer::Count(count) => Said::Whole(*count),
+    }
+}
+
+/// What is said of an answer that is a number.
+pub(crate) fn count_told<'r>(answer: &'r Answer) -> Option<Said<'r>>
+    ensures { option_map said_value result ≡ count_told answer.now }
+{
+    match answer {
+        Answer::Count(count) => Some(Said::Whole(*count)),
+        _ => None,
+    }
+}
+
+/// What is said of an answer of edges.
+pub(crate) fn edges_told<'r>(answer: &'r Answer) -> Option<Said<'r>>
+    ensures { option_map said_value result ≡ edges_told answer.now }
+{
+    match answer {
+        Answer::Edges(edges) => Some(Said::Edges(edges.as_slice())),
+        _ => None,
+    }
+}
+
+/// What is said of an answer that is an object, or none.
+pub(crate) fn object_told<'r>(config: &'r Config, answer: &'r Answer) -> Option<Said<'r>>
+    ensures { option_map said_value result ≡ object_told config.now answer.now }
+{
+    match answer {
+        Answer::Object(object) => Some(said_object(config, object)),
+        _ => None,
     }
 }
 

@@ -1,58 +1,105 @@
 -- What is asked can be done.
-use Rattle.std.proofs.Common.{◌≡◌, ℕ, false, List, Result, Ok, Err, IfOk, subst, refl, inl, inr}
-use Rattle.std.specs.Prelude.{⊤}
+use Rattle.std.proofs.Common.{◌≡◌, ℕ, ◌<◌, true, false, List, length, Result, Ok, Err, IfOk, Option, subst, inl, inr}
 use Rattle.std.proofs.lemmas.Bool.{cases_Bool}
 use Rattle.outcomes.specs.Results.{◌>>=◌, Gives}
+use Rattle.core_model.proofs.Turns.{cache_named}
+use Rattle.core_model.specs.Evictions.{IsCacheOf}
+use Rattle.node_name.specs.declared.NodeName.{NodeName}
+use Rattle.node_name.specs.declared.NodeName.TheVariants as name
+use Rattle.tao_base.specs.declared.id.Key.{Key}
+use Rattle.tao_base.specs.declared.query.Query.{Query}
+use Rattle.tao_base.specs.declared.write.Write.{Write}
+use Rattle.topology.proofs.Found.{follower_known, leader_known}
 use Rattle.topology.specs.Config.{Settings}
 use Rattle.replies.specs.declared.refusals.NameRefused.{NameRefused}
-use Rattle.replies.specs.declared.refusals.Refusal.{Refusal}
 use Rattle.requests.specs.declared.request.Call.TheVariants as call
+use Rattle.requests.specs.declared.request.ReadCall.{ReadCall}
 use Rattle.requests.specs.declared.request.Request.{Request}
 use Rattle.requests.specs.declared.request.Request.TheVariants as request
-use Rattle.request_check.proofs.Placing.{placed, whatever}
+use Rattle.requests.specs.declared.request.WriteCall.{WriteCall}
+use Rattle.request_check.proofs.Placing.{whatever}
+use Rattle.request_check.specs.Calls.{checked_query, checked_write}
 use Rattle.request_check.specs.Names.{tier_named}
 use Rattle.request_check.specs.Placed.{IsPlaced}
 use Rattle.request_check.specs.Refusal.{named, replied, reply_unless_memory}
-use Rattle.request_check.specs.Requests.{checked_call, checked_of, checked_read_call}
+use Rattle.request_check.specs.Requests.{checked_of, checked_read_call, maybe_key_named}
 use Rattle.request_check.specs.declared.checked.Checked.{Checked}
+use Rattle.request_check.specs.declared.checked.Checked.TheVariants as checked
+use Rattle.request_check.specs.declared.checked.CheckedCall.TheVariants as checked_call
 use Rattle.request_check.specs.declared.refusal.CheckRefusal.{CheckRefusal}
-use Rattle.tao_core.specs.Asked.{CanBeDone, admitted, asked_of, new_session}
+use Rattle.tao_core.specs.Asked.{CanBeDone, admitted, new_session, open_session}
 use Rattle.tao_core.specs.Sessions.{is_open}
 use Rattle.tao_core.specs.declared.sessions.OpenSession.{OpenSession}
 
-pub replied_ok : {A : Type 0} (found : Result A Refusal) (a : A) → replied found ≡ Ok a → found ≡ Ok a
-replied_ok (Ok x) a h = cc
-replied_ok (Err refused) a h = absurd (cc)
-
+-- a session that may be opened isn't open
 not_open : (sessions : List OpenSession) (session : ℕ) → new_session sessions session ≡ Ok tt → is_open sessions session ≡ false
 not_open sessions session h = elim (cases_Bool (is_open sessions session)) [
   | inl is_so ↦ (let e = rw is_so at h in absurd (cc))
   | inr not_so ↦ not_so
 ]
 
--- what is placed, of a request that was admitted
-by_word : (s : Settings) (sessions : List OpenSession) (asked : Request) → admitted sessions asked ≡ Ok tt
-    → IfOk (checked_of s asked) (λ c. IsPlaced s c → CanBeDone s sessions c)
-by_word s sessions (request.Open opening) h = whatever _ (tier_named s opening.region opening.tier) _ (λ found here. not_open sessions opening.session h)
-by_word s sessions (request.Call (call.Write text)) h = whatever _ (checked_call s (call.Write text)) _ (λ c here. here)
-by_word s sessions (request.Call (call.Read text)) h = whatever _ (checked_call s (call.Read text)) _ (λ c here. here)
-by_word s sessions (request.Audit text) h = whatever _ (checked_read_call s text) _ (λ r here. here)
-by_word s sessions asked h = absurd (cc)
+-- a session that a call may name is open
+is_so_open : (sessions : List OpenSession) (session : ℕ) → open_session sessions session ≡ Ok tt → is_open sessions session ≡ true
+is_so_open sessions session h = elim (cases_Bool (is_open sessions session)) [
+  | inl is_so ↦ is_so
+  | inr not_so ↦ (let e = rw not_so at h in absurd (cc))
+]
 
-both : {A : Type 0} (P Q : A → Type 0) (found : Result A NameRefused) → IfOk found P → IfOk found (λ a. P a → Q a) → IfOk (named found) Q
-both P Q (Ok a) p q = q p
-both P Q (Err refused) p q = tt
+-- a read that is built isn't critical, and its session is open
+read_open : (sessions : List OpenSession) (text : ReadCall) → admitted sessions (request.Call (call.Read text)) ≡ Ok tt
+    → (is_open sessions text.session ≡ true) × (text.critical ≡ false)
+read_open sessions text h = elim (cases_Bool text.critical) [
+  | inl is_so ↦ (let e = rw is_so at h in absurd (cc))
+  | inr not_so ↦ (is_so_open sessions text.session (rw not_so at h), not_so)
+]
 
--- what a request asks can be done
-pub can_be_done : (s : Settings) (sessions : List OpenSession) (asked : Request) → IfOk (asked_of s sessions asked) (CanBeDone s sessions)
-can_be_done s sessions asked = by_admission (admitted sessions asked) refl
-  where
-    by_admission : (there : Result ⊤ Refusal) → admitted sessions asked ≡ there → IfOk (there >>= (λ u. named (checked_of s asked))) (CanBeDone s sessions)
-    by_admission (Ok u) is = both (IsPlaced s) (CanBeDone s sessions) (checked_of s asked) (placed s asked) (by_word s sessions asked is)
-    by_admission (Err refused) is = tt
+module _ (s : Settings) (sessions : List OpenSession) where
+  write_can : (text : WriteCall) (found : Result Write NameRefused) → is_open sessions text.session ≡ true
+      → IfOk (found >>= (λ w. Ok (record { session = text.session; seq = text.seq; write = w })) >>= (λ c. Ok (checked_call.Write c))
+      >>= (λ c. Ok (checked.Call c)))
+      (λ c. IsPlaced s c → CanBeDone s sessions c)
+  write_can text (Ok w) there = λ here. (here, there)
+  write_can text (Err refused) there = tt
 
--- so can what it was resolved to
-pub resolved_can : (s : Settings) (sessions : List OpenSession) (asked : Request) (r : Result Checked CheckRefusal)
-    → Gives reply_unless_memory r (replied (asked_of s sessions asked)) → IfOk r (CanBeDone s sessions)
-resolved_can s sessions asked (Ok c) h = subst (λ x. IfOk x (CanBeDone s sessions)) (replied_ok (asked_of s sessions asked) c h) (can_be_done s sessions asked)
-resolved_can s sessions asked (Err e) h = tt
+  read_can : (text : ReadCall) (found : Result Query NameRefused) → is_open sessions text.session ≡ true → text.critical ≡ false
+      → IfOk (found >>= (λ q. Ok (record { session = text.session; query = q; critical = text.critical })) >>= (λ c. Ok (checked_call.Read c))
+      >>= (λ c. Ok (checked.Call c)))
+      (λ c. IsPlaced s c → CanBeDone s sessions c)
+  read_can text (Ok q) there mild = λ here. (here, there, mild)
+  read_can text (Err refused) there mild = tt
+
+  region_is : (session region tier : ℕ) → IsPlaced s (checked.Open session region tier) → region < length s.regions
+  region_is session region tier here = here.configured
+
+  evictable : (node : NodeName) (key : Option Key) → IsPlaced s (checked.Evict node key) → IsCacheOf s node
+  evictable (name.Store store) key here = absurd here.0
+  evictable (name.Leader region index) key here = cache_named s (name.Leader region index) (leader_known s.regions region index here.0)
+  evictable (name.Follower region tier index) key here = cache_named s (name.Follower region tier index) (follower_known s.regions region tier index here.0)
+
+  evict_can : (found : Result NodeName NameRefused) (key : Result (Option Key) NameRefused)
+      → IfOk (found >>= (λ node. key >>= (λ k. Ok (checked.Evict node k)))) (λ c. IsPlaced s c → CanBeDone s sessions c)
+  evict_can (Ok node) (Ok key) = λ here. evictable node key here
+  evict_can (Ok node) (Err refused) = tt
+  evict_can (Err refused) key = tt
+
+  -- what is placed, of a request that was admitted
+  by_word : (asked : Request) → admitted sessions asked ≡ Ok tt → IfOk (checked_of s asked) (λ c. IsPlaced s c → CanBeDone s sessions c)
+  by_word (request.Open opening) h =
+      whatever _ (tier_named s opening.region opening.tier) _
+      (λ found here. (not_open sessions opening.session h, region_is opening.session found.region found.tier here))
+  by_word (request.Call (call.Write text)) h = write_can text (checked_write s text.write) (is_so_open sessions text.session h)
+  by_word (request.Call (call.Read text)) h = (let allowed = read_open sessions text h in read_can text (checked_query s text.query) allowed.0 allowed.1)
+  by_word (request.Evict name key) h = evict_can _ (maybe_key_named s key)
+  by_word (request.Audit text) h = whatever _ (checked_read_call s text) _ (λ r here. here)
+  by_word asked h = absurd (cc)
+
+named_ok : (found : Result Checked NameRefused) (c : Checked) → replied (named found) ≡ Ok c → found ≡ Ok c
+named_ok (Ok x) c h = cc
+named_ok (Err refused) c h = absurd (cc)
+
+-- what a request that was admitted is checked to can be done
+pub checked_can : (s : Settings) (sessions : List OpenSession) (asked : Request) (r : Result Checked CheckRefusal) → admitted sessions asked ≡ Ok tt
+    → Gives reply_unless_memory r (replied (named (checked_of s asked))) → IfOk r (IsPlaced s) → IfOk r (CanBeDone s sessions)
+checked_can s sessions asked (Ok c) there h here =
+    (subst (λ r. IfOk r (λ x. IsPlaced s x → CanBeDone s sessions x)) (named_ok (checked_of s asked) c h) (by_word s sessions asked there)) here
+checked_can s sessions asked (Err e) there h here = tt

@@ -1,8 +1,6 @@
 pub mod AskedLemmas
 pub mod CallLemmas
-pub mod GrowingLemmas
+pub mod Going
 pub mod InOrder
-pub mod ReadLemmas
-pub mod StepLemmas
-pub mod StoreLemmas
-pub mod WriteLemmas
+pub mod Keeping
+pub mod Ways

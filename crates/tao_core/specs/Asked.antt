@@ -1,5 +1,5 @@
 -- What a request asks of the core, or why it is refused before any table is looked at.
-use Rattle.std.specs.Prelude.{ℕ, ◌≡◌, Bool, true, false, List, length, Result, Ok, ⊤, nat_lt, not}
+use Rattle.std.specs.Prelude.{ℕ, ◌≡◌, ◌<◌, Bool, true, false, List, length, Result, Ok, ⊤, nat_lt, not}
 use Rattle.outcomes.specs.Results.{◌>>=◌, refused_unless}
 use Rattle.tao_base.specs.Queries.{query_key}
 use Rattle.topology.specs.Config.{Settings}
@@ -14,11 +14,14 @@ use Rattle.replies.specs.declared.refusals.Refusal.TheVariants.{Line, Session, M
 use Rattle.replies.specs.declared.refusals.SessionRefused.TheVariants.{NoSession, SessionThere, SessionFull}
 use Rattle.replies.specs.declared.reply.Reply.{Reply}
 use Rattle.replies.specs.declared.reply.Reply.TheVariants.{Refused}
-use Rattle.request_check.specs.Placed.{IsPlacedCall, IsPlacedKey}
+use Rattle.core_model.specs.Evictions.{IsCacheOf}
+use Rattle.request_check.specs.Placed.{IsPlacedKey, IsPlacedWrite}
 use Rattle.request_check.specs.Refusal.{named}
 use Rattle.request_check.specs.Requests.{checked_of}
 use Rattle.request_check.specs.declared.checked.Checked.{Checked}
 use Rattle.request_check.specs.declared.checked.Checked.TheVariants as checked
+use Rattle.request_check.specs.declared.checked.CheckedCall.{CheckedCall}
+use Rattle.request_check.specs.declared.checked.CheckedCall.TheVariants as checked_call
 use Rattle.request_check.specs.declared.refusal.CheckRefusal.{CheckRefusal}
 use Rattle.request_check.specs.declared.refusal.CheckRefusal.TheVariants as check
 use Rattle.tao_core.specs.Sessions.{is_open, most_sessions}
@@ -26,11 +29,12 @@ use Rattle.tao_core.specs.declared.sessions.OpenSession.{OpenSession}
 
 -- ---- what is built
 
--- the calls of objects and associations are built, but for critical reads, and so are `open` and `audit`
+-- the calls of objects and associations are built, but for critical reads, and so are `open`, `evict` and `audit`
 abbrev pub is_built : Request → Bool
 is_built (request.Open opening) = true
 is_built (request.Call (call.Write write)) = true
 is_built (request.Call (call.Read read)) = not read.critical
+is_built (request.Evict name key) = true
 is_built (request.Audit read) = true
 is_built other = false
 
@@ -74,10 +78,16 @@ asked_of s sessions asked = do
   there ← admitted sessions asked
   named (checked_of s asked)
 
--- what is asked is one of what is built, each shard and key is configured, and a session that is to be opened isn't open
+-- a call is of a configured shard and an open session; a read is none that is critical
+abbrev pub CallCanBeDone : Settings → List OpenSession → CheckedCall → Type 0
+CallCanBeDone s sessions (checked_call.Write call) = IsPlacedWrite s call.write × (is_open sessions call.session ≡ true)
+CallCanBeDone s sessions (checked_call.Read call) = IsPlacedKey s (query_key call.query) × (is_open sessions call.session ≡ true) × (call.critical ≡ false)
+
+-- what is asked is one of what is built, each shard, key and node is configured, and a session that is to be opened isn't open, and is of a region
 abbrev pub CanBeDone : Settings → List OpenSession → Checked → Type 0
-CanBeDone s sessions (checked.Open session region tier) = is_open sessions session ≡ false
-CanBeDone s sessions (checked.Call asked) = IsPlacedCall s asked
+CanBeDone s sessions (checked.Open session region tier) = (is_open sessions session ≡ false) × (region < length s.regions)
+CanBeDone s sessions (checked.Call asked) = CallCanBeDone s sessions asked
+CanBeDone s sessions (checked.Evict node key) = IsCacheOf s node
 CanBeDone s sessions (checked.Audit asked) = IsPlacedKey s (query_key asked.query)
 CanBeDone s sessions other = ⊥
 

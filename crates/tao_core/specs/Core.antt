@@ -1,32 +1,43 @@
 -- What contracts see of a core.
-use Rattle.std.specs.Prelude.{List, Bool}
+use Rattle.std.specs.Prelude.{◌≡◌, ◌<◌, List, Bool, All, length}
 use Rattle.config_json.specs.Stage.{IsWithoutInverses}
-use Rattle.shard_tables.specs.StoreView.{Store}
+use Rattle.core_model.specs.Consistent.{IsConsistent}
+use Rattle.core_model.specs.Fleet.{Fleet}
 use Rattle.tao_keeper.specs.KeeperState.{KeeperState}
 use Rattle.tao_keeper.specs.Table.{Tables}
+use Rattle.tao_link.specs.Shown.{LinkShown}
 use Rattle.topology.specs.Config.{Settings}
-use Rattle.tao_core.specs.Stores.{AreStoresOf}
+use Rattle.topology.specs.States.{NodeStates, all_up}
 use Rattle.tao_core.specs.declared.serving.Core.TheInside.{Inside}
 use Rattle.tao_core.specs.declared.sessions.OpenSession.{OpenSession}
 
--- its configuration, the sessions that are open, and the stores of the shards
+-- its configuration, the sessions that are open, which nodes are up, and the nodes
 pub record CoreState : Type 0 where
   pub settings : Settings
   pub sessions : List OpenSession
-  pub stores : List Store
+  pub states : NodeStates
+  pub fleet : Fleet
 
 abbrev pub core_state : Inside → CoreState
-core_state core = record { settings = core.config.now; sessions = core.sessions; stores = core.stores.items }
+core_state core = record { settings = core.config.now; sessions = core.sessions; states = core.topology; fleet = core.fleet }
 
--- the core may be used with keepers that tell these tables: the log of each shard is sound. No type of its configuration has an inverse
+-- the session is of a region of the configuration
+abbrev pub IsPlacedIn : Settings → OpenSession → Type 0
+IsPlacedIn s session = session.region < length s.regions
+
+-- the core may be used with keepers that tell these tables: its nodes are consistent with them. Each node is up, and no type of its configuration
+-- has an inverse
 pub record IsCoreOf (tells : Bool) (tables : Tables) (core : CoreState) : Type 0 where
-  pub stores : AreStoresOf tells core.settings tables core.stores
+  pub consistent : IsConsistent tells core.settings tables core.fleet
+  pub up : core.states ≡ all_up core.settings
+  pub sessions : All (IsPlacedIn core.settings) core.sessions
   pub no_inverse : IsWithoutInverses core.settings
 
--- a core, and what its keepers show, at a moment
+-- a core, and what its keepers and its link show, at a moment
 pub record Moment : Type 0 where
   pub core : CoreState
   pub keepers : KeeperState
+  pub link : LinkShown
 
-abbrev pub moment : CoreState → KeeperState → Moment
-moment core keepers = record { core = core; keepers = keepers }
+abbrev pub moment : CoreState → KeeperState → LinkShown → Moment
+moment core keepers link = record { core = core; keepers = keepers; link = link }

@@ -1,7 +1,5 @@
 pub mod Asked
+pub mod Calls
 pub mod Core
-pub mod Growing
-pub mod Opening
 pub mod Replies
 pub mod Sessions
-pub mod Stores

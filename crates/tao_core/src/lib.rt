@@ -1,13 +1,11 @@
-//! The core: what each request does to the sessions and to the shards' logs, and its reply.
+//! The core: what each request does to the sessions, the nodes and the shards' logs, and its reply.
 #![tactic(auto)]
 
-mod opening;
-mod reads;
+mod audits;
 mod refusals;
 mod resolving;
 mod serving;
 mod sessions;
-mod writes;
 
 pub use serving::Core;
 pub use sessions::OpenSession;

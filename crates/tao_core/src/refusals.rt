@@ -1,32 +1,10 @@
-//! The replies where a store or a keeper gives no answer.
+//! The replies where a keeper gives no answer, or no node can be chosen.
 ghost use Rattle.std.specs.Prelude.{◌≡◌};
-ghost use Rattle.tao_core.specs.Replies.{refused_as, failed_as};
+ghost use Rattle.tao_core.specs.Replies.{failed_as};
 
-use replies::{Refusal, Reply, StoreRefused};
-use shard_tables::StoreRefusal;
+use core_steps::out_of_memory;
+use replies::{NodeRefused, Refusal, Reply, StoreRefused};
 use tao_keeper::KeepFail;
-
-/// Want of memory, before anything is committed.
-pub(crate) fn out_of_memory() -> Reply
-    ensures { result ≡ Reply.Refused (Refusal.Memory 0) }
-{
-    Reply::Refused(Refusal::Memory { position: 0 })
-}
-
-/// A store's refusal, where the keepers have counted so many faults.
-pub(crate) fn refused_as(refusal: StoreRefusal, faults: u64) -> Reply
-    ensures { result ≡ refused_as faults refusal }
-{
-    let refused = match refusal {
-        StoreRefusal::SeqReused { position } => StoreRefused::SeqReused { position },
-        StoreRefusal::ShardFull { serial } => StoreRefused::ShardFull { serial },
-        StoreRefusal::StampFull { number } => StoreRefused::StampFull { number },
-        StoreRefusal::LogFull { length } => StoreRefused::LogFull { length },
-        StoreRefusal::KeeperFault => StoreRefused::KeeperFault { count: faults },
-        StoreRefusal::OutOfMemory => return out_of_memory(),
-    };
-    Reply::Refused(Refusal::Store(refused))
-}
 
 /// A keeper's failure, where the keepers have counted so many faults.
 pub(crate) fn failed_as(fail: KeepFail, faults: u64) -> Reply
@@ -38,4 +16,11 @@ pub(crate) fn failed_as(fail: KeepFail, faults: u64) -> Reply
         }
         KeepFail::OutOfMemory => out_of_memory(),
     }
+}
+
+/// No follower of the region can be chosen.
+pub(crate) fn no_server(region: u16) -> Reply
+    ensures { result ≡ Reply.Refused (Refusal.Node (NodeRefused.NoServer region)) }
+{
+    Reply::Refused(Refusal::Node(NodeRefused::NoServer { region }))
 }

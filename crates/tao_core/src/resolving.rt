@@ -49,7 +49,10 @@ fn is_built(request: &Request) -> bool
     ensures { result ≡ is_built request.now }
 {
     match request {
-        Request::Open(_) | Request::Audit(_) | Request::Call(Call::Write(_)) => true,
+        Request::Open(_)
+        | Request::Audit(_)
+        | Request::Evict { .. }
+        | Request::Call(Call::Write(_)) => true,
         Request::Call(Call::Read(read)) => !read.critical,
         _ => false,
     }

@@ -1,38 +1,49 @@
 //! The core.
-ghost use Rattle.std.specs.Prelude.{◌≡◌, [], false, Ok, IfOk, IfErr};
+ghost use Rattle.std.specs.Prelude.{◌≡◌, [], Ok, IfOk, IfErr, false, true};
 ghost use Rattle.config_json.specs.Stage.{IsWithoutInverses};
+ghost use Rattle.core_nodes.specs.Beginning.{IsEmptyFleet};
+ghost use Rattle.core_nodes.specs.Opening.{IsOpened, MayOpen, RefusesOpening};
 ghost use Rattle.graph_model.specs.Told.{WhereTold};
-ghost use Rattle.tao_core.specs.Asked.{CanBeDone, reply_as};
+ghost use Rattle.request_check.specs.Placed.{IsPlacedKey, IsPlacedWrite};
+ghost use Rattle.tao_base.specs.Queries.{query_key};
+ghost use Rattle.tao_core.specs.Asked.{CanBeDone, CallCanBeDone, reply_as};
 ghost use Rattle.tao_core.specs.Core.{IsCoreOf, moment};
-ghost use Rattle.tao_core.specs.Growing.{MastersGrow};
-ghost use Rattle.tao_core.specs.Opening.{IsOpened, MayOpen, RefusesOpening};
-ghost use Rattle.tao_core.specs.Replies.{AnswersAsked, AnswersOpen, AnswersRequest};
+ghost use Rattle.core_model.specs.Growing.{MastersGrow};
+ghost use Rattle.tao_core.specs.Calls.{AnswersRead, AnswersWrite};
+ghost use Rattle.core_model.specs.Consistent.{GoesOn, IsFleetOf};
+ghost use Rattle.core_model.specs.Evictions.{IsCacheOf};
+ghost use Rattle.tao_core.specs.Replies.{AnswersAsked, AnswersEvict, AnswersOpen, AnswersRequest};
+ghost use Rattle.tao_keeper.specs.KeeperState.{KeeperState};
+ghost use Rattle.tao_link.specs.Shown.{LinkShown};
 ghost use Rattle.tao_core.specs.Sessions.{is_open};
 ghost use Rattle.tao_keeper.specs.Growing.{LogsGrow};
-ghost use Rattle.tao_keeper.specs.KeeperState.{IsLater};
+ghost use Rattle.tao_keeper.specs.KeeperState.{IsLater, KeepsTables};
 
-use crate::opening::open_stores;
-use crate::reads::{audit, read};
-use crate::refusals::out_of_memory;
+use crate::audits::audit;
+use crate::refusals::no_server;
 use crate::resolving::{not_built, resolve};
 use crate::sessions::{OpenSession, Sessions};
-use crate::writes::write;
-use replies::{OpenRefusal, Reply};
-use request_check::{CheckRefusal, Checked, CheckedCall};
+use core_nodes::Fleet;
+use core_steps::{Route, out_of_memory, read_along, write_along};
+use node_name::NodeName;
+use replies::{CacheReply, NodeReply, OpenRefusal, Reply};
+use request_check::{CheckRefusal, Checked, CheckedCall, CheckedRead, CheckedWrite};
 use requests::Request;
-use shard_tables::StoreNode;
 use std::alloc::Global;
 use std::marker::Model;
+use tao_base::{Key, Origin};
 use tao_keeper::Keeper;
-use topology::Config;
+use tao_link::Link;
+use topology::{Config, Topology};
 
-/// The core of a run: its configuration, the sessions that are open, and the stores of the shards. What
-/// the stores hold lies with the keepers that each call is given.
+/// The core of a run: its configuration, the sessions that are open, which nodes are up, and the nodes: followers, leaders, and
+/// the stores of the shards. What the stores hold lies with the keepers that each call is given.
 #[derive(Drop)]
 pub struct Core<'c> {
     config: &'c Config,
     sessions: Sessions,
-    stores: Vec<StoreNode>,
+    topology: Topology,
+    fleet: Fleet,
 }
 
 impl<'c> Model for Core<'c> {
@@ -44,13 +55,15 @@ impl<'c> Model for Core<'c> {
 }
 
 impl<'c> Core<'c> {
-    /// Opens the store of each shard with the configuration's line, the shards in order. No session is
-    /// open then. Makes one call of the keeper for each shard. The configuration is one without inverses, as each
-    /// that `read_config` takes: the far ends of edges aren't written yet. Logs only grow.
+    /// Opens the store of each shard with the configuration's line, the shards in order, and makes the nodes before them, which
+    /// hold nothing yet. No session is open then. The configuration is one without inverses, as each that `read_config` takes:
+    /// the far ends of edges aren't written yet. Logs only grow.
     ///
     /// `OtherLine` comes exactly where a store was first opened with another line: the stores before it
     /// are open then. `KeeperFault` comes only where the keepers' count of faults rose, and
     /// `OutOfMemory` where there was no memory; some of the first stores are open then.
+    ///
+    /// Costs two calls of the keeper for each shard and one for each entry that a log has.
     pub fn open<K: Keeper>(
         alloc: Global,
         config: &'c Config,
@@ -61,56 +74,70 @@ impl<'c> Core<'c> {
         requires no_inverse { IsWithoutInverses config.now }
         ensures settings { IfOk result (λ core. core.settings ≡ config.now) }
         ensures sessions { IfOk result (λ core. core.sessions ≡ []) }
+        ensures empty { IfOk result (λ core. IsEmptyFleet core.fleet) }
         ensures opened { IfOk result (λ core. WhereTold K.TELLS (IsOpened config.now line.now (K.state keepers.old).told (K.state keepers.new).told)) }
         ensures keepers { IfOk result (λ core. IsCoreOf K.TELLS (K.state keepers.new).told core) }
         ensures refused { IfErr result (RefusesOpening K.TELLS config.now line.now (K.state keepers.old) (K.state keepers.new)) }
         ensures grows { LogsGrow K.TELLS (K.state keepers.old).told (K.state keepers.new).told }
         ensures later { IsLater (K.state keepers.old) (K.state keepers.new) }
     {
-        let stores = open_stores(alloc, config, line, keepers)?;
-        Ok(Core {
-            config,
-            sessions: Sessions::new(alloc),
-            stores,
-        })
+        let fleet = Fleet::open(alloc, config, line, keepers)?;
+        match Topology::make(alloc, config) {
+            Ok(topology) => Ok(Core {
+                config,
+                sessions: Sessions::new(alloc),
+                topology,
+                fleet,
+            }),
+            Err(_) => Err(OpenRefusal::OutOfMemory),
+        }
     }
 
-    /// Answers a request: opens a session, makes a write, or answers a read or an audit, or refuses it.
-    /// A write's one entry is committed before it is answered; a refusal changes nothing. Logs only grow.
+    /// Answers a request: opens a session, makes a write, answers a read or an audit, or drops an item of a node; or refuses it. A
+    /// write's one entry is committed before it is answered. After a refusal no log has changed, but where the way back of a write
+    /// failed. Logs only grow.
     ///
-    /// Costs what `request_check::check` does, a binary search among the open sessions, and what the
-    /// store's write or read does. An audit takes the whole log of its shard.
-    pub fn call<K: Keeper>(&mut self, alloc: Global, keepers: &mut K, request: &Request) -> Reply
+    /// Costs what `request_check::check` does, a binary search among the open sessions, a look-up at the follower, and where that
+    /// holds nothing that answers, what its leader takes. An audit takes the whole log of its shard.
+    pub fn call<K: Keeper, L: Link>(
+        &mut self,
+        alloc: Global,
+        keepers: &mut K,
+        link: &mut L,
+        request: &Request,
+    ) -> Reply
         requires keepers { IsCoreOf K.TELLS (K.state keepers.old).told self.old }
-        ensures does { AnswersRequest K.TELLS (moment self.old (K.state keepers.old)) request.now result (moment self.new (K.state keepers.new)) }
+        ensures does { AnswersRequest K.TELLS (moment self.old (K.state keepers.old) (L.shown link.old)) request.now result
+            (moment self.new (K.state keepers.new) (L.shown link.new)) }
         ensures settings { self.new.settings ≡ self.old.settings }
         ensures keepers { IsCoreOf K.TELLS (K.state keepers.new).told self.new }
         ensures grows { MastersGrow K.TELLS self.old.settings (K.state keepers.old).told (K.state keepers.new).told }
         ensures later { IsLater (K.state keepers.old) (K.state keepers.new) }
     {
         match resolve(alloc, self.config, &self.sessions, request) {
-            Ok(asked) => self.perform(alloc, keepers, request, &asked),
+            Ok(asked) => self.perform(alloc, keepers, link, request, &asked),
             Err(refusal) => unasked(refusal),
         }
     }
 
     /// Does what the request asks, which can be done.
-    fn perform<K: Keeper>(
+    fn perform<K: Keeper, L: Link>(
         &mut self,
         alloc: Global,
         keepers: &mut K,
+        link: &mut L,
         request: &Request,
         asked: &Checked,
     ) -> Reply
         requires keepers { IsCoreOf K.TELLS (K.state keepers.old).told self.old }
         requires can { CanBeDone self.old.settings self.old.sessions asked.now }
-        ensures does { AnswersAsked K.TELLS (moment self.old (K.state keepers.old)) (Ok asked.now) result (moment self.new (K.state keepers.new)) }
+        ensures does { AnswersAsked K.TELLS (moment self.old (K.state keepers.old) (L.shown link.old)) (Ok asked.now) result
+            (moment self.new (K.state keepers.new) (L.shown link.new)) }
         ensures settings { self.new.settings ≡ self.old.settings }
         ensures keepers { IsCoreOf K.TELLS (K.state keepers.new).told self.new }
         ensures grows { MastersGrow K.TELLS self.old.settings (K.state keepers.old).told (K.state keepers.new).told }
         ensures later { IsLater (K.state keepers.old) (K.state keepers.new) }
     {
-        let config = self.config;
         match asked {
             Checked::Open {
                 session,
@@ -124,15 +151,105 @@ impl<'c> Core<'c> {
                 };
                 open_session(&mut self.sessions, opened)
             }
-            Checked::Call(CheckedCall::Write(call)) => {
-                write(alloc, config, &mut self.stores, keepers, call)
-            }
-            Checked::Call(CheckedCall::Read(call)) => {
-                read(alloc, config, &mut self.stores, keepers, call)
-            }
-            Checked::Audit(call) => audit(alloc, config, keepers, call),
+            Checked::Call(CheckedCall::Write(call)) => self.write(alloc, keepers, link, call),
+            Checked::Call(CheckedCall::Read(call)) => self.read(alloc, keepers, link, call),
+            Checked::Evict { node, key } => self.evict(*node, *key),
+            Checked::Audit(call) => audit(alloc, self.config, keepers, call),
             _ => Reply::Refused(not_built(request)),
         }
+    }
+
+    /// Answers a session's read, at the follower that is chosen for it and the leader that its region prefers for the shard.
+    fn read<K: Keeper, L: Link>(
+        &mut self,
+        alloc: Global,
+        keepers: &mut K,
+        link: &mut L,
+        call: &CheckedRead,
+    ) -> Reply
+        requires keepers { IsCoreOf K.TELLS (K.state keepers.old).told self.old }
+        requires placed { IsPlacedKey self.old.settings (query_key call.now.query) }
+        requires open { is_open self.old.sessions call.now.session ≡ true }
+        ensures does { AnswersRead K.TELLS (moment self.old (K.state keepers.old) (L.shown link.old)) call.now result
+            (moment self.new (K.state keepers.new) (L.shown link.new)) }
+        ensures keepers { IsCoreOf K.TELLS (K.state keepers.new).told self.new }
+        ensures later { IsLater (K.state keepers.old) (K.state keepers.new) }
+    {
+        let session = self.sessions.at(call.session);
+        let shard = call.query.shard();
+        let Some(follower) = self.topology.follower(session.region, session.tier, shard) else {
+            return no_server(session.region);
+        };
+        let route = Route {
+            follower,
+            leader: self.topology.preferred(session.region, shard),
+        };
+        read_along(
+            alloc,
+            &mut self.fleet,
+            self.config,
+            keepers,
+            link,
+            route,
+            &call.query,
+        )
+    }
+
+    /// Makes a session's write, at the leader that the shard's master region prefers, and then at the follower that is chosen for the
+    /// session.
+    fn write<K: Keeper, L: Link>(
+        &mut self,
+        alloc: Global,
+        keepers: &mut K,
+        link: &mut L,
+        call: &CheckedWrite,
+    ) -> Reply
+        requires keepers { IsCoreOf K.TELLS (K.state keepers.old).told self.old }
+        requires placed { IsPlacedWrite self.old.settings call.now.write }
+        requires open { is_open self.old.sessions call.now.session ≡ true }
+        ensures does { AnswersWrite K.TELLS (moment self.old (K.state keepers.old) (L.shown link.old)) call.now result
+            (moment self.new (K.state keepers.new) (L.shown link.new)) }
+        ensures keepers { IsCoreOf K.TELLS (K.state keepers.new).told self.new }
+        ensures grows { MastersGrow K.TELLS self.old.settings (K.state keepers.old).told (K.state keepers.new).told }
+        ensures later { IsLater (K.state keepers.old) (K.state keepers.new) }
+    {
+        let session = self.sessions.at(call.session);
+        let shard = call.write.shard();
+        let Some(follower) = self.topology.follower(session.region, session.tier, shard) else {
+            return no_server(session.region);
+        };
+        let master = self.topology.master(shard);
+        let route = Route {
+            follower,
+            leader: self.topology.preferred(master, shard),
+        };
+        let origin = Origin::Client {
+            session: call.session,
+            seq: call.seq,
+        };
+        write_along(
+            alloc,
+            &mut self.fleet,
+            self.config,
+            keepers,
+            link,
+            route,
+            origin,
+            &call.write,
+        )
+    }
+
+    /// Drops an item of a cache node.
+    fn evict(&mut self, node: NodeName, key: Option<Key>) -> Reply
+        requires fleet { IsFleetOf self.old.settings self.old.fleet }
+        requires node { IsCacheOf self.old.settings node }
+        ensures does { (keepers : KeeperState) (link : LinkShown) → AnswersEvict node key (moment self.old keepers link) result (moment self.new keepers link) }
+        ensures fleet { IsFleetOf self.old.settings self.new.fleet }
+        ensures goes { GoesOn self.old.fleet self.new.fleet }
+        ensures rest { self.new ≡ record self.old { fleet = self.new.fleet } }
+    {
+        let evicted = self.fleet.evict(self.config, node, key);
+        Reply::Node(NodeReply::Cache(CacheReply::Evicted { evicted }))
     }
 }
 

@@ -33,8 +33,8 @@ impl Model for Sessions {
 }
 
 impl Sessions {
-    ghost use Rattle.std.specs.Prelude.{◌≡◌, [], length, false, OnOk, OnErr};
-    ghost use Rattle.tao_core.specs.Sessions.{is_open, with_session};
+    ghost use Rattle.std.specs.Prelude.{◌≡◌, [], length, true, false, OnOk, OnErr, Some};
+    ghost use Rattle.tao_core.specs.Sessions.{is_open, session_at, with_session};
 
     /// No open session. Takes no memory.
     pub(crate) fn new(alloc: Global) -> Sessions
@@ -61,6 +61,15 @@ impl Sessions {
             Some(found) => found.session == session,
             None => false,
         }
+    }
+
+    /// The session of that number, which is open, by a binary search.
+    pub(crate) fn at(&self, session: u32) -> OpenSession
+        requires { is_open self.now session ≡ true }
+        ensures { session_at self.now session ≡ Some result }
+    {
+        let place = place_of(&self.sessions, session);
+        self.sessions[place]
     }
 
     /// Opens a session. Moves those of greater numbers by one place; an error leaves all as they were.

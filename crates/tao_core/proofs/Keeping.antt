@@ -1,0 +1,85 @@
+-- What leaves a core one that may be used.
+use Rattle.std.proofs.Common.{◌≡◌, Bool, List, ap, sym, subst}
+use Rattle.std.specs.Prelude.{All, Option}
+use Rattle.cache_items.specs.Node.{Node}
+use Rattle.core_model.specs.Consistent.{IsFleetOf}
+use Rattle.core_model.specs.Evictions.{ChangesCache, Evicts}
+use Rattle.core_model.specs.Fleet.{Fleet}
+use Rattle.core_model.specs.Stores.{AreStoresOf}
+use Rattle.core_nodes.proofs.StoreLemmas.{seen_stay, sound_same}
+use Rattle.graph_model.specs.Told.{WhereTold}
+use Rattle.node_name.specs.declared.NodeName.{NodeName}
+use Rattle.node_name.specs.declared.NodeName.TheVariants.{Store as StoreName_, Leader, Follower}
+use Rattle.replies.specs.declared.nodes.CacheReply.TheVariants.{Evicted}
+use Rattle.replies.specs.declared.nodes.NodeReply.TheVariants.{Cache}
+use Rattle.replies.specs.declared.refusals.Refusal.TheVariants.{Memory}
+use Rattle.replies.specs.declared.reply.Reply.{Reply}
+use Rattle.replies.specs.declared.reply.Reply.TheVariants.{Opened, Refused, Node as AtNode}
+use Rattle.tao_base.specs.declared.id.Key.{Key}
+use Rattle.tao_keeper.specs.Table.{Tables, Stays}
+use Rattle.topology.specs.Config.{Settings}
+use Rattle.tao_core.specs.Core.{CoreState, IsCoreOf, IsPlacedIn, Moment}
+use Rattle.tao_core.specs.Replies.{AnswersEvict, AnswersOpen}
+use Rattle.tao_core.specs.declared.sessions.OpenSession.{OpenSession}
+use Rattle.tao_core.proofs.Ways.{opened_placed}
+
+-- ---- a session is opened
+
+sessions_after : (s : Settings) (new : OpenSession) (sessions next : List OpenSession) (reply : Reply) → All (IsPlacedIn s) sessions → IsPlacedIn s new
+    → AnswersOpen new sessions reply next → All (IsPlacedIn s) next
+sessions_after s new sessions next (Opened session) all placed answers = subst (All (IsPlacedIn s)) (sym answers.1) (opened_placed s sessions new all placed)
+sessions_after s new sessions next (Refused (Memory position)) all placed answers = subst (All (IsPlacedIn s)) (sym answers.1) all
+sessions_after s new sessions next reply all placed answers = absurd answers
+
+pub opened_core : (tells : Bool) (tables : Tables) (core : CoreState) (new : OpenSession) (next : List OpenSession) (reply : Reply) → IsCoreOf tells tables core
+    → IsPlacedIn core.settings new → AnswersOpen new core.sessions reply next → IsCoreOf tells tables (record core { sessions = next })
+opened_core tells tables core new next reply of placed answers = record {
+  consistent = of.consistent;
+  up = of.up;
+  sessions = sessions_after core.settings new core.sessions next reply of.sessions placed answers;
+  no_inverse = of.no_inverse;
+}
+
+-- ---- an item is dropped
+
+cache_masters : (node : NodeName) (By : Node → Node → Type 0) (old new : Fleet) → ChangesCache node By old new → new.masters ≡ old.masters
+cache_masters (StoreName_ store) By old new h = absurd h
+cache_masters (Leader region index) By old new h = ap (λ (f : Fleet). f.masters) h.1
+cache_masters (Follower region tier index) By old new h = ap (λ (f : Fleet). f.masters) h.1
+
+evicted_masters : (node : NodeName) (key : Option Key) (old new : Moment) (reply : Reply) → AnswersEvict node key old reply new
+    → new.core.fleet.masters ≡ old.core.fleet.masters
+evicted_masters node key old new (AtNode (Cache (Evicted held))) answers = cache_masters node (Evicts key held) old.core.fleet new.core.fleet answers
+evicted_masters node key old new reply answers = absurd answers
+
+pub evicted_core : (tells : Bool) (tables : Tables) (node : NodeName) (key : Option Key) (old new : Moment) (reply : Reply) → IsCoreOf tells tables old.core
+    → AnswersEvict node key old reply new → IsFleetOf old.core.settings new.core.fleet → new.core ≡ record old.core { fleet = new.core.fleet }
+    → IsCoreOf tells tables new.core
+evicted_core tells tables node key old new reply of answers fleet rest =
+    let masters = evicted_masters node key old new reply answers in
+    subst (IsCoreOf tells tables) (sym rest) (record {
+      consistent = record {
+        stores = subst (AreStoresOf tells old.core.settings tables) (sym masters) of.consistent.stores;
+        fleet = fleet;
+      };
+      up = of.up;
+      sessions = of.sessions;
+      no_inverse = of.no_inverse;
+    })
+
+-- ---- no table changes
+
+pub core_stays : (tells : Bool) (old new : Tables) (core : CoreState) → IsCoreOf tells old core → WhereTold tells (Stays old new) → IsCoreOf tells new core
+core_stays tells old new core of stays = record {
+  consistent = record {
+    stores = record {
+      masters = of.consistent.stores.masters;
+      sound = λ told. sound_same core.settings old new (of.consistent.stores.sound told) (stays told);
+      seen = seen_stay tells old new core.fleet.masters of.consistent.stores.seen stays;
+    };
+    fleet = of.consistent.fleet;
+  };
+  up = of.up;
+  sessions = of.sessions;
+  no_inverse = of.no_inverse;
+}

@@ -1,0 +1,38 @@
+use Rattle.std.proofs.Common.{subst, sym}
+use Rattle.request_check.specs.Placed.{IsPlacedKey}
+use Rattle.tao_base.specs.Queries.{query_key, query_shard}
+use Rattle.tao_core.specs.Calls.{AnswersRead}
+use Rattle.tao_core.specs.Core.{CoreState, IsCoreOf, core_state, moment}
+use Rattle.tao_core.proofs.Going.{answers_read}
+use Rattle.tao_core.proofs.Ways.{follower_for, leader_for, region_there}
+use Rattle.tao_core.proofs.serving.Core.read.Goals as goal
+
+pub read_along-requires-clause-follower : goal.read_along-requires-clause-follower
+read_along-requires-clause-follower g c =
+    let of = subst (IsCoreOf g.K.Keeper.TELLS (g.K.Keeper.state c.args.keepers.now).told) (sym c.self.view_is) c.requires.keepers in
+    let here = subst (λ (x : CoreState). IsPlacedKey x.settings (query_key c.args.call.now.query)) (sym c.self.view_is) c.requires.placed in
+    follower_for g.K.Keeper.TELLS (g.K.Keeper.state c.args.keepers.now).told (core_state c.self.inside) of c.at-session.result.region c.at-session.result.tier
+    c.shard-shard.result (query_shard c.args.call.now.query) c.in-Some.follower c.shard-shard.ensures here c.in-Some.ensures.chosen
+
+pub read_along-requires-clause-leader : goal.read_along-requires-clause-leader
+read_along-requires-clause-leader g c =
+    let of = subst (IsCoreOf g.K.Keeper.TELLS (g.K.Keeper.state c.args.keepers.now).told) (sym c.self.view_is) c.requires.keepers in
+    let here = subst (λ (x : CoreState). IsPlacedKey x.settings (query_key c.args.call.now.query)) (sym c.self.view_is) c.requires.placed in
+    leader_for g.K.Keeper.TELLS (g.K.Keeper.state c.args.keepers.now).told (core_state c.self.inside) of c.at-session.result.region
+    c.shard-shard.result (query_shard c.args.call.now.query) c.preferred.result c.shard-shard.ensures here
+    (region_there g.K.Keeper.TELLS (g.K.Keeper.state c.args.keepers.now).told (core_state c.self.inside) of c.args.call.now.session c.at-session.result
+    c.at-session.ensures)
+    c.preferred.ensures.preferred c.preferred.ensures.configured
+
+pub returns-clause-does : goal.returns-clause-does
+returns-clause-does g c =
+    let state = g.K.Keeper.state in
+    let shown = g.L.Link.shown in
+    let after : CoreState = record (core_state c.self.inside) { fleet = c.read_along.new.fleet } in
+    subst (λ x. AnswersRead g.K.Keeper.TELLS (moment x (state c.args.keepers.now) (shown c.args.link.now)) c.args.call.now c.read_along.result
+    (moment after (state c.read_along.new.keepers) (shown c.read_along.new.link))) c.self.view_is
+    (answers_read g.K.Keeper.TELLS (core_state c.self.inside) c.read_along.new.fleet c.at-session.result
+    (record { follower = c.in-Some.follower; leader = c.preferred.result })
+    (state c.args.keepers.now) (state c.read_along.new.keepers) (shown c.args.link.now) (shown c.read_along.new.link)
+    c.read_along.result c.args.call.now c.shard-shard.result
+    c.at-session.ensures c.shard-shard.ensures c.in-Some.ensures.chosen c.preferred.ensures.preferred c.read_along.ensures.reads c.read_along.ensures.tables)

@@ -1,0 +1,82 @@
+-- What the reply to a session's call says.
+use Rattle.std.specs.Prelude.{ℕ, ◌≡◌, Bool, Some, None}
+use Rattle.core_steps.specs.Reads.{ReadsAlong}
+use Rattle.core_steps.specs.Routes.{Scene, scene}
+use Rattle.core_steps.specs.Writes.{ClientWrite, WritesAlong, client_call}
+use Rattle.core_steps.specs.declared.routes.Route.{Route}
+use Rattle.replies.specs.declared.refusals.NodeRefused.TheVariants.{NoServer}
+use Rattle.replies.specs.declared.refusals.Refusal.TheVariants.{Node}
+use Rattle.replies.specs.declared.reply.Reply.{Reply}
+use Rattle.replies.specs.declared.reply.Reply.TheVariants.{Refused}
+use Rattle.request_check.specs.declared.checked.CheckedRead.{CheckedRead}
+use Rattle.request_check.specs.declared.checked.CheckedWrite.{CheckedWrite}
+use Rattle.tao_base.specs.Queries.{query_shard}
+use Rattle.tao_base.specs.Writes.{write_shard}
+use Rattle.tao_base.specs.declared.entry.Origin.TheVariants.{Client}
+use Rattle.tao_keeper.specs.KeeperState.{KeepsTables}
+use Rattle.topology.specs.Choices.{chosen_follower, master_region, preferred_leader}
+use Rattle.tao_core.specs.Core.{CoreState, Moment}
+use Rattle.tao_core.specs.Sessions.{session_at}
+use Rattle.tao_core.specs.declared.sessions.OpenSession.{OpenSession}
+
+-- the nodes of a core, with what is shown to them
+abbrev pub scene_of : Moment → Scene
+scene_of m = scene m.core.fleet m.keepers m.link
+
+-- ---- the way of a call
+
+-- a session's follower of a shard is the one that is chosen for it, and its leader the one that a region prefers
+pub record IsRoute (core : CoreState) (session : OpenSession) (region shard : ℕ) (route : Route) : Type 0 where
+  pub follower : chosen_follower core.states session.region session.tier shard ≡ Some route.follower
+  pub leader : route.leader ≡ preferred_leader core.states region shard
+
+-- the session of that number is open, and no follower of its region can be chosen for the shard
+pub record FindsNoServer (old : Moment) (number shard region : ℕ) (new : Moment) : Type 0 where
+  pub session : OpenSession
+  pub found : session_at old.core.sessions number ≡ Some session
+  pub region_is : region ≡ session.region
+  pub none : chosen_follower old.core.states session.region session.tier shard ≡ None
+  pub same : new ≡ old
+
+-- ---- reads
+
+-- the session is open, and its read goes to its follower, and from there to the leader of its region
+pub record ReadGoes (tells : Bool) (old : Moment) (call : CheckedRead) (reply : Reply) (new : Moment) : Type 0 where
+  pub session : OpenSession
+  pub route : Route
+  pub found : session_at old.core.sessions call.session ≡ Some session
+  pub way : IsRoute old.core session session.region (query_shard call.query) route
+  pub reads : ReadsAlong tells old.core.settings route call.query reply (scene_of old) (scene_of new)
+
+abbrev pub RepliesToRead : Bool → Moment → CheckedRead → Reply → Moment → Type 0
+RepliesToRead tells old call (Refused (Node (NoServer region))) new = FindsNoServer old call.session (query_shard call.query) region new
+RepliesToRead tells old call reply new = ReadGoes tells old call reply new
+
+-- what the reply to a read says. Neither a table nor anything of the core but its nodes changes
+pub record AnswersRead (tells : Bool) (old : Moment) (call : CheckedRead) (reply : Reply) (new : Moment) : Type 0 where
+  pub replies : RepliesToRead tells old call reply new
+  pub tables : KeepsTables tells old.keepers new.keepers
+  pub rest : new.core ≡ record old.core { fleet = new.core.fleet }
+
+-- ---- writes
+
+-- the write of a call, under its session and number
+abbrev pub client_write_of : CheckedWrite → ClientWrite
+client_write_of call = client_call (Client call.session call.seq) call.write
+
+-- the session is open, and its write goes to its follower, and from there to the leader of the shard's master region
+pub record WriteGoes (tells : Bool) (old : Moment) (call : CheckedWrite) (reply : Reply) (new : Moment) : Type 0 where
+  pub session : OpenSession
+  pub route : Route
+  pub found : session_at old.core.sessions call.session ≡ Some session
+  pub way : IsRoute old.core session (master_region old.core.states (write_shard call.write)) (write_shard call.write) route
+  pub writes : WritesAlong tells old.core.settings route (client_write_of call) reply (scene_of old) (scene_of new)
+
+abbrev pub RepliesToWrite : Bool → Moment → CheckedWrite → Reply → Moment → Type 0
+RepliesToWrite tells old call (Refused (Node (NoServer region))) new = FindsNoServer old call.session (write_shard call.write) region new
+RepliesToWrite tells old call reply new = WriteGoes tells old call reply new
+
+-- what the reply to a write says. Nothing of the core but its nodes changes
+pub record AnswersWrite (tells : Bool) (old : Moment) (call : CheckedWrite) (reply : Reply) (new : Moment) : Type 0 where
+  pub replies : RepliesToWrite tells old call reply new
+  pub rest : new.core ≡ record old.core { fleet = new.core.fleet }

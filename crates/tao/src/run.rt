@@ -7,6 +7,7 @@ use keeper_sql::SqlKeeper;
 use sqlite::Alter;
 use tao_io::{StdSink, StdSource};
 use tao_keeper::{KeepFail, Keeper};
+use tao_link::SteadyLink;
 
 /// The status where the file can't be opened.
 const NO_FILE: u8 = 6;
@@ -20,7 +21,16 @@ fn over<K: Keeper>(rt: &HostRuntime, words: &[String], keepers: &mut K) -> u8
 {
     let mut input = StdSource::of(rt.stdin());
     let mut output = StdSink::of(rt.stdout());
-    tao_top::run(rt.alloc(), words, &mut input, &mut output, keepers).code
+    let mut link = SteadyLink::make();
+    tao_top::run(
+        rt.alloc(),
+        words,
+        &mut input,
+        &mut output,
+        keepers,
+        &mut link,
+    )
+    .code
 }
 
 /// Serves over stores in memory, which nothing was written to.

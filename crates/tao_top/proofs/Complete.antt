@@ -1,8 +1,8 @@
 -- A good run where nothing fails ends well, or for want of memory.
 use Rattle.std.proofs.Common.{◌≡◌, ◌⊎◌, ◌≤◌, ◌^◌, ℕ, Bool, List, [], ◌∷◌, ◌++◌, length, Option, IfSome, inl, inr, refl, sym, subst, ◌∙◌, lit<, arith}
-use Rattle.tao_keeper.specs.KeeperState.{KeeperState}
 use Rattle.tao_io.specs.Lines.{lines_of}
-use Rattle.tao_core.specs.Opening.{AreReady}
+use Rattle.core_nodes.specs.Opening.{AreReady}
+use Rattle.tao_top.specs.Outside.{Outside}
 use Rattle.tao_top.specs.Served.{AreLines, LinesBegin, RefusesConfiguration, IsConfigurationRefused}
 use Rattle.tao_top.specs.Status.{IsGood, IsStatus, NoFault}
 use Rattle.tao_top.specs.Step.{Configures, ended}
@@ -20,7 +20,7 @@ known_status (Interrupted Sink) = (4, lit< tt, refl)
 known_status (Interrupted Memory) = (6, lit< tt, refl)
 known_status (Interrupted InputTooLong) = (7, lit< tt, refl)
 
-module _ (tells : Bool) (words : List (List ℕ)) (old now : KeeperState) (left before after : Option (List ℕ)) (good : IsGood tells words old left) where
+module _ (tells : Bool) (words : List (List ℕ)) (old now : Outside) (left before after : Option (List ℕ)) (good : IsGood tells words old.keepers left) where
   not_refused_line : (field : List ℕ) → Configures tells old good.first (BadConfiguration field) ended now → ⊥
   not_refused_line field (inl is) = let none = is.refused in let some = good.accepted in cc (none, some)
   not_refused_line field (inr is) =
@@ -28,7 +28,7 @@ module _ (tells : Bool) (words : List (List ℕ)) (old now : KeeperState) (left 
       let accepted = good.accepted in
       let same : is.settings ≡ good.settings = cc (one, accepted) in
       let other = is.other good.told in
-      other.other (subst (λ s. AreReady s good.first s.shards old.told) (sym same) good.ready other.shard other.configured)
+      other.other (subst (λ s. AreReady s good.first s.shards old.keepers.told) (sym same) good.ready other.shard other.configured)
 
   not_refused : (field : List ℕ) → IsConfigurationRefused tells old now left field → ⊥
   not_refused field (inl missing) =

@@ -8,13 +8,15 @@ use Rattle.config_json.specs.declared.refusal.ConfigRefusal.TheVariants.{BadConf
 use Rattle.graph_model.specs.Told.{WhereTold}
 use Rattle.replies.specs.declared.reply.Reply.TheVariants.{BadConfiguration, Configured}
 use Rattle.tao_core.specs.Core.{CoreState}
-use Rattle.tao_core.specs.Opening.{IsOpened, IsOpenedInPart, IsOtherLine}
+use Rattle.core_nodes.specs.Opening.{IsOpened, IsOpenedInPart, IsOtherLine}
+use Rattle.tao_link.specs.Shown.{LinkShown}
 use Rattle.tao_io.specs.Lines.{GivesLines, IsTooLong, NextLineIs}
 use Rattle.tao_io.specs.declared.lines.NextLine.{NextLine}
 use Rattle.tao_io.specs.declared.lines.NextLine.TheVariants.{End}
 use Rattle.tao_top.proofs.GoingOn.{GivesLines-all, GivesLines-begin, part_none, part_one, served_one, still_refl}
 use Rattle.tao_top.proofs.OneLine.{no_configuration}
 use Rattle.tao_top.specs.Begun.{BegunInPart, EndsAtFirst, GivesOne, RefusesFirst, RefusesFor, RefusesInPart, RefusesLine}
+use Rattle.tao_top.specs.Outside.{Outside, outside}
 use Rattle.tao_top.specs.Served.{AppendsPart, AreLines, EndsInPart, OpensInPart, RefusesConfiguration, Served, StopsOpening, refusal_line, serves, start, streams, traces}
 use Rattle.tao_top.specs.Step.{State, ended, Configures, Replies, Step, line_of, serving}
 use Rattle.topology.specs.Config.{Settings}
@@ -24,15 +26,15 @@ pub whole_part : (before after : Option (List ℕ)) (bytes : List ℕ) → Appen
 whole_part before after bytes written = (length bytes, subst (Appends before after) (sym (take_all (length bytes) bytes (omega arith))) written)
 
 -- the run has refused its configuration
-abbrev pub refusing : KeeperState → State
-refusing now = record { stage = ended; keepers = now }
+abbrev pub refusing : Outside → State
+refusing now = record { stage = ended; outside = now }
 
 is_later : (keepers : KeeperState) → IsLater keepers keepers
 is_later keepers = record { calls = omega arith; faults = omega arith }
 
 -- a line that is no configuration is refused
-no_step : (tells : Bool) (keepers : KeeperState) (line field : List ℕ) → config_in line ≡ Err (BadConfig field) → Step tells (start keepers) line (BadConfiguration field) (refusing keepers)
-no_step tells keepers line field is = record { does = inl (record { refused = is; same = refl }); later = is_later keepers }
+no_step : (tells : Bool) (around : Outside) (line field : List ℕ) → config_in line ≡ Err (BadConfig field) → Step tells (start around) line (BadConfiguration field) (refusing around)
+no_step tells around line field is = record { does = inl (record { refused = is; same = refl }); later = is_later around.keepers }
 
 -- ---- the reading of the first line
 
@@ -48,20 +50,20 @@ module _ (left rest : Option (List ℕ)) where
 
 module _ (left rest before after : Option (List ℕ)) where
   pub ends_unread : Appends before after [] → EndsAtFirst left before after
-  ends_unread written = λ tells keepers. inr (part_none tells (start keepers) keepers left before after written (still_refl tells keepers (start keepers) refl))
+  ends_unread written = λ tells around. inr (part_none tells (start around) around left before after written (still_refl tells around (start around) refl))
 
   pub ends_at_first : (line : List ℕ) → GivesLines left rest (line ∷ []) → RefusesInPart line before after → EndsAtFirst left before after
   ends_at_first line read (inl nothing) = ends_unread nothing
-  ends_at_first line read (inr refused) = λ tells keepers.
-      inr (part_one tells (start keepers) (refusing keepers) keepers left rest before after line read
-      (BadConfiguration refused.0, no_step tells keepers line refused.0 refused.1, refused.2) (still_refl tells keepers (refusing keepers) refl))
+  ends_at_first line read (inr refused) = λ tells around.
+      inr (part_one tells (start around) (refusing around) around left rest before after line read
+      (BadConfiguration refused.0, no_step tells around line refused.0 refused.1, refused.2) (still_refl tells around (refusing around) refl))
 
   pub ends_at_first_of : {T E : Type 0} (result : Result T E) (line : List ℕ) → GivesLines left rest (line ∷ []) → OnErr result (RefusesInPart line before after) → OnErr result (EndsAtFirst left before after)
   ends_at_first_of (Ok x) line read part = tt
   ends_at_first_of (Err e) line read part = ends_at_first line read part
 
   pub refuses_first : (line : List ℕ) → GivesLines left rest (line ∷ []) → RefusesFor line (Appends before after) → RefusesFirst left before after
-  refuses_first line read refused = λ tells keepers. record {
+  refuses_first line read refused = λ tells around. record {
     field = refused.0;
     refused = inr (line, GivesLines-begin left rest (line ∷ []) read, inl (record { refused = refused.1; same = refl }));
     written = refused.2;
@@ -78,48 +80,56 @@ module _ (left rest before after : Option (List ℕ)) where
   none_left next line is end = let h = subst (λ n. NextLineIs n left rest line) end is in GivesLines-all left rest [] h.1 h.0
 
   pub ends_lacking : (next : NextLine) (line : List ℕ) → NextLineIs next left rest line → next ≡ End → AppendsPart before after (refusal_line []) → EndsAtFirst left before after
-  ends_lacking next line is end written = λ tells keepers. inl (record { read = none_left next line is end; written = written; same = refl })
+  ends_lacking next line is end written = λ tells around. inl (record { read = none_left next line is end; written = written; same = refl })
 
   pub refuses_lacking : (next : NextLine) (line : List ℕ) → NextLineIs next left rest line → next ≡ End → Appends before after (refusal_line []) → RefusesFirst left before after
-  refuses_lacking next line is end written = λ tells keepers. record { field = []; refused = inl (none_left next line is end, refl, refl); written = written }
+  refuses_lacking next line is end written = λ tells around. record { field = []; refused = inl (none_left next line is end, refl, refl); written = written }
 
 -- ---- the opening of the stores
 
-module _ (tells : Bool) (old now : KeeperState) (line : List ℕ) (s : Settings) (configured : config_in line ≡ Ok s) (later : IsLater old now) where
-  pub takes : (core : CoreState) → core.settings ≡ s → core.sessions ≡ [] → WhereTold tells (IsOpened s line old.told now.told) → Step tells (start old) line Configured (serves core now)
+module _ (tells : Bool) (old now : Outside) (line : List ℕ) (s : Settings) (configured : config_in line ≡ Ok s) (later : IsLater old.keepers now.keepers) (stays : now.link ≡ old.link) where
+  pub takes : (core : CoreState) → core.settings ≡ s → core.sessions ≡ [] → WhereTold tells (IsOpened s line old.keepers.told now.keepers.told) → Step tells (start old) line Configured (serves core now)
   takes core is sessions opened = record {
     does = record {
       configured = subst (λ t. config_in line ≡ Ok t) (sym is) configured;
       sessions = sessions;
-      opened = λ told. subst (λ t. IsOpened t line old.told now.told) (sym is) (opened told);
+      opened = λ told. subst (λ t. IsOpened t line old.keepers.told now.keepers.told) (sym is) (opened told);
+      link = stays;
     };
     later = later;
   }
 
-  pub other_line : WhereTold tells (IsOtherLine s line old.told now.told) → Configures tells old line (BadConfiguration (codes "file")) ended now
-  other_line other = inr (record { settings = s; configured = configured; field_is = refl; other = other })
+  pub other_line : WhereTold tells (IsOtherLine s line old.keepers.told now.keepers.told) → Configures tells old line (BadConfiguration (codes "file")) ended now
+  other_line other = inr (record { settings = s; configured = configured; field_is = refl; other = other; link = stays })
 
   module _ (before after : Option (List ℕ)) where
-    pub begins : (core : CoreState) → core.settings ≡ s → core.sessions ≡ [] → WhereTold tells (IsOpened s line old.told now.told) → Appends before after (line_of (serving core) Configured)
+    pub begins : (core : CoreState) → core.settings ≡ s → core.sessions ≡ [] → WhereTold tells (IsOpened s line old.keepers.told now.keepers.told) → Appends before after (line_of (serving core) Configured)
         → Replies tells (start old) line (serves core now) (Appends before after)
     begins core is sessions opened written = (Configured, takes core is sessions opened, written)
 
-    pub begun_silent : (core : CoreState) → core.settings ≡ s → core.sessions ≡ [] → WhereTold tells (IsOpened s line old.told now.told) → AppendsPart before after (line_of (serving core) Configured)
+    pub begun_silent : (core : CoreState) → core.settings ≡ s → core.sessions ≡ [] → WhereTold tells (IsOpened s line old.keepers.told now.keepers.told) → AppendsPart before after (line_of (serving core) Configured)
         → (code : ℕ) → BegunInPart code tells (traces old before) (traces now after) line
     begun_silent core is sessions opened written code = inr (serves core now, (Configured, takes core is sessions opened, written), still_refl tells now (serves core now) refl)
 
-    pub begun_other : WhereTold tells (IsOtherLine s line old.told now.told) → AppendsPart before after (refusal_line (codes "file")) → (code : ℕ) → BegunInPart code tells (traces old before) (traces now after) line
+    pub begun_other : WhereTold tells (IsOtherLine s line old.keepers.told now.keepers.told) → AppendsPart before after (refusal_line (codes "file")) → (code : ℕ) → BegunInPart code tells (traces old before) (traces now after) line
     begun_other other written code = inr (refusing now, (BadConfiguration (codes "file"), record { does = other_line other; later = later }, written), still_refl tells now (refusing now) refl)
 
-    pub refuses_other : WhereTold tells (IsOtherLine s line old.told now.told) → Appends before after (refusal_line (codes "file")) → RefusesLine tells old now line before after
+    pub refuses_other : WhereTold tells (IsOtherLine s line old.keepers.told now.keepers.told) → Appends before after (refusal_line (codes "file")) → RefusesLine tells old now line before after
     refuses_other other written = record { field = codes "file"; refused = other_line other; written = written }
 
-    pub opens_in_part : WhereTold tells (IsOpenedInPart s line old.told now.told) → Appends before after [] → OpensInPart tells old now line before after
-    opens_in_part opened written = record { settings = s; configured = configured; opened = opened; later = later; written = written }
+    pub opens_in_part : WhereTold tells (IsOpenedInPart s line old.keepers.told now.keepers.told) → Appends before after [] → OpensInPart tells old now line before after
+    opens_in_part opened written = record { settings = s; configured = configured; opened = opened; later = later; link = stays; written = written }
+
+-- so its reply was begun, whatever a link shows
+pub begun_whatever : (tells : Bool) (old now : KeeperState) (line : List ℕ) (s : Settings) (configured : config_in line ≡ Ok s) (later : IsLater old now) (before after : Option (List ℕ)) (core : CoreState)
+    → core.settings ≡ s → core.sessions ≡ [] → WhereTold tells (IsOpened s line old.told now.told) → AppendsPart before after (line_of (serving core) Configured)
+    → (code : ℕ) (link : LinkShown) → BegunInPart code tells (traces (outside old link) before) (traces (outside now link) after) line
+begun_whatever tells old now line s configured later before after core is sessions opened written code link =
+    begun_silent tells (outside old link) (outside now link) line s configured later refl before after core is sessions opened written code
 
 -- ---- both
 
-module _ (tells : Bool) (old now : KeeperState) (left rest before after : Option (List ℕ)) (line : List ℕ) (read : GivesLines left rest (line ∷ [])) where
+module _ (tells : Bool) (old now : Outside) (left rest before after : Option (List ℕ)) (line : List ℕ) (read : GivesLines left rest (line ∷ [])) where
   pub stops_opening : OpensInPart tells old now line before after → StopsOpening tells old now left before after
   stops_opening opens = (line, GivesLines-begin left rest (line ∷ []) read, opens)
 

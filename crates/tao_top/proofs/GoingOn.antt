@@ -1,6 +1,5 @@
 -- A run goes on, from line to line and from part to part.
 use Rattle.std.proofs.Common.{◌≡◌, ℕ, ◌+◌, Bool, List, [], ◌∷◌, ◌++◌, Option, Some, None, refl, sym, ap, ◌∙◌, subst, take, length, append_assoc, arith}
-use Rattle.tao_keeper.specs.KeeperState.{KeeperState}
 use Rattle.std.proofs.lemmas.List.{append-nil, take_all}
 use Rattle.std.proofs.lemmas.Grind.{flat_map-append}
 use Rattle.std.proofs.Math.Seq.{take-append-add}
@@ -8,6 +7,7 @@ use Rattle.std.specs.Io.KnownBytes.{Appends, IsAtEnd}
 use Rattle.std.proofs.KnownBytes.{Appends-trans, Appends-nil}
 use Rattle.tao_io.proofs.GivenLines.{GivesLines-nil, GivesLines-trans}
 use Rattle.tao_io.specs.Lines.{lines_of, GivesLines}
+use Rattle.tao_top.specs.Outside.{Outside}
 use Rattle.tao_top.specs.Served.{AreLines, LinesBegin, AppendsPart, IsStill, Served, ServedAll, ServedInPart, joined, streams}
 use Rattle.tao_top.specs.Step.{State, Replies, Run, line_of}
 
@@ -96,11 +96,11 @@ module _ (tells : Bool) where
     written = subst (Appends before after) (sym (joined-append p.texts q.texts)) (Appends-trans before mid after _ _ p.written q.written);
   }
 
-  pub still_refl : (keepers : KeeperState) → (s : State) → s.keepers ≡ keepers → IsStill tells s keepers
-  still_refl keepers s is = subst (IsStill tells s) is (record { tables = λ told at. refl; later = record { calls = omega arith; faults = omega arith } })
+  pub still_refl : (now : Outside) → (s : State) → s.outside ≡ now → IsStill tells s now
+  still_refl now s is = subst (IsStill tells s) is (record { tables = λ told at. refl; later = record { calls = omega arith; faults = omega arith }; link = refl })
 
   -- no line more was read
-  pub part_none : (s : State) (now : KeeperState) (left before after : Option (List ℕ)) → Appends before after [] → IsStill tells s now → ServedInPart tells s now left before after
+  pub part_none : (s : State) (now : Outside) (left before after : Option (List ℕ)) → Appends before after [] → IsStill tells s now → ServedInPart tells s now left before after
   part_none s now left before after written still = record {
     last = s;
     lines = [];
@@ -116,7 +116,7 @@ module _ (tells : Bool) where
       none_begin (Some bytes) = (lines_of bytes, refl)
 
   -- a line came, and of its reply a front was written
-  pub part_one : (s last : State) (now : KeeperState) (left rest before after : Option (List ℕ)) (line : List ℕ) → GivesLines left rest (line ∷ []) → Replies tells s line last (AppendsPart before after) → IsStill tells last now
+  pub part_one : (s last : State) (now : Outside) (left rest before after : Option (List ℕ)) (line : List ℕ) → GivesLines left rest (line ∷ []) → Replies tells s line last (AppendsPart before after) → IsStill tells last now
       → ServedInPart tells s now left before after
   part_one s last now left rest before after line read replied still = record {
     last = last;
@@ -128,7 +128,7 @@ module _ (tells : Bool) where
     still = still;
   }
 
-  pub served_then_part : (a b : State) (now : KeeperState) (left rest before mid after : Option (List ℕ)) → Served tells a b (streams left before) (streams rest mid) → ServedInPart tells b now rest mid after → ServedInPart tells a now left before after
+  pub served_then_part : (a b : State) (now : Outside) (left rest before mid after : Option (List ℕ)) → Served tells a b (streams left before) (streams rest mid) → ServedInPart tells b now rest mid after → ServedInPart tells a now left before after
   served_then_part a b now left rest before mid after p q = record {
     last = q.last;
     lines = p.lines ++ q.lines;
@@ -145,7 +145,7 @@ module _ (tells : Bool) where
   }
 
   -- what was served whole is a front of itself
-  pub served_all_part : (a b : State) (left before after : Option (List ℕ)) → ServedAll tells a b left before after → ServedInPart tells a b.keepers left before after
+  pub served_all_part : (a b : State) (left before after : Option (List ℕ)) → ServedAll tells a b left before after → ServedInPart tells a b.outside left before after
   served_all_part a b left before after p = record {
     last = b;
     lines = p.lines;
@@ -153,7 +153,7 @@ module _ (tells : Bool) where
     read = begin left p.read;
     run = p.run;
     written = (length (joined p.texts), subst (Appends before after) (sym (take_all (length (joined p.texts)) (joined p.texts) (omega arith))) p.written);
-    still = still_refl b.keepers b refl;
+    still = still_refl b.outside b refl;
   }
     where
       begin : (known : Option (List ℕ)) → AreLines known p.lines → LinesBegin known p.lines

@@ -5,16 +5,16 @@ use Rattle.graph_model.specs.Soundness.{IsSoundOf}
 use Rattle.replies.specs.declared.reply.Reply.{Reply}
 use Rattle.requests.specs.declared.request.Request.{Request}
 use Rattle.tao_base.specs.declared.id.StoreName.{StoreName}
-use Rattle.tao_core.proofs.StoreLemmas.{first_or_other}
-use Rattle.tao_core.specs.Core.{CoreState, IsCoreOf, moment}
-use Rattle.tao_core.specs.Growing.{MastersGrow}
+use Rattle.core_nodes.proofs.StoreLemmas.{first_or_other}
+use Rattle.tao_core.specs.Core.{CoreState, IsCoreOf}
+use Rattle.core_model.specs.Growing.{MastersGrow}
 use Rattle.tao_core.specs.Replies.{AnswersRequest}
-use Rattle.tao_core.specs.Stores.{HasSoundLogs, master_store}
-use Rattle.tao_keeper.specs.KeeperState.{KeeperState}
+use Rattle.core_model.specs.Stores.{HasSoundLogs, master_store}
 use Rattle.tao_keeper.specs.Table.{Tables, OpensAs}
 use Rattle.tao_keeper.specs.declared.keeper.Opened.TheVariants.{Ready}
 use Rattle.tao_schema.specs.Schema.{types_of}
 use Rattle.tao_top.specs.Kept.{AreOpenedWith, LeavesTables, MayServe, StillBegin}
+use Rattle.tao_top.specs.Outside.{Outside, moment_of}
 use Rattle.tao_top.specs.Step.{AnswersLine}
 use Rattle.topology.specs.Config.{Settings}
 
@@ -44,25 +44,25 @@ still_grown tells s old new only told opened sound line may t configured shard w
 
 -- ---- a request that is answered, where the core stands within a value
 
-module _ (tells : Bool) (core within next : CoreState) (old new : KeeperState) (is : within ≡ core) (settings : next.settings ≡ within.settings) where
-  pub call_answers : (request : Request) (reply : Reply) → AnswersRequest tells (moment within old) request reply (moment next new)
-      → AnswersLine tells (moment core old) (Ok request) reply (moment next new)
+module _ (tells : Bool) (core within next : CoreState) (old new : Outside) (is : within ≡ core) (settings : next.settings ≡ within.settings) where
+  pub call_answers : (request : Request) (reply : Reply) → AnswersRequest tells (moment_of within old) request reply (moment_of next new)
+      → AnswersLine tells (moment_of core old) (Ok request) reply (moment_of next new)
   call_answers request reply answers =
-      subst (λ c. AnswersRequest tells (moment c old) request reply (moment next new) × (next.settings ≡ c.settings)) is (answers, settings)
+      subst (λ c. AnswersRequest tells (moment_of c old) request reply (moment_of next new) × (next.settings ≡ c.settings)) is (answers, settings)
 
-  module _ (serving : MayServe tells core old.told) (grows : MastersGrow tells within.settings old.told new.told) (of_core : IsCoreOf tells new.told next) where
-    opened : tells ≡ true → AreOpenedWith within.settings old.told
-    opened told = subst (λ c. AreOpenedWith c.settings old.told) (sym is) (serving.opened told)
+  module _ (serving : MayServe tells core old.keepers.told) (grows : MastersGrow tells within.settings old.keepers.told new.keepers.told) (of_core : IsCoreOf tells new.keepers.told next) where
+    opened : tells ≡ true → AreOpenedWith within.settings old.keepers.told
+    opened told = subst (λ c. AreOpenedWith c.settings old.keepers.told) (sym is) (serving.opened told)
 
-    pub call_serves_on : MayServe tells next new.told
+    pub call_serves_on : MayServe tells next new.keepers.told
     call_serves_on = record {
       of_core = of_core;
-      opened = λ told. subst (λ s. AreOpenedWith s new.told) (sym settings) (opened_grown tells within.settings old.told new.told grows told (opened told));
+      opened = λ told. subst (λ s. AreOpenedWith s new.keepers.told) (sym settings) (opened_grown tells within.settings old.keepers.told new.keepers.told grows told (opened told));
     }
 
-    pub call_leaves : LeavesTables tells old new
+    pub call_leaves : LeavesTables tells old.keepers new.keepers
     call_leaves = record {
       histories = grows.logs;
       still = λ told.
-          still_grown tells within.settings old.told new.told grows told (opened told) (subst (λ s. HasSoundLogs s new.told) settings (of_core.stores.sound told));
+          still_grown tells within.settings old.keepers.told new.keepers.told grows told (opened told) (subst (λ s. HasSoundLogs s new.keepers.told) settings (of_core.consistent.stores.sound told));
     }

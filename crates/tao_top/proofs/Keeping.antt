@@ -9,9 +9,9 @@ use Rattle.tao_base.specs.EdgeTypes.{EdgeTypes}
 use Rattle.tao_base.specs.declared.entry.Entry.{Entry}
 use Rattle.tao_base.specs.declared.id.StoreName.{StoreName}
 use Rattle.tao_core.specs.Core.{CoreState, IsCoreOf}
-use Rattle.tao_core.specs.Opening.{AreOpened, IsOpened, RefusesOpening}
-use Rattle.tao_core.proofs.StoreLemmas.{first_or_other}
-use Rattle.tao_core.specs.Stores.{master_store}
+use Rattle.core_nodes.specs.Opening.{AreOpened, IsOpened, RefusesOpening}
+use Rattle.core_nodes.proofs.StoreLemmas.{first_or_other}
+use Rattle.core_model.specs.Stores.{master_store}
 use Rattle.tao_keeper.proofs.Growing.{grow_in_turn, stays_grow}
 use Rattle.tao_keeper.specs.Table.{Table, Tables, OpensAs, after_open, empty_table}
 use Rattle.tao_keeper.specs.declared.keeper.Opened.TheVariants.{Ready}

@@ -1,6 +1,5 @@
 -- One line that is served: as it was read, answered, and its reply written.
 use Rattle.std.proofs.Common.{◌≡◌, ℕ, nat_le, Bool, false, List, [], ◌∷◌, length, Option, None, Result, Ok, Err, IfErr, OnErr, OnOk, inl, inr, refl, sym, ap, subst, arith}
-use Rattle.tao_keeper.specs.KeeperState.{KeeperState}
 use Rattle.std.proofs.lemmas.Bool.Decides.{nat_tests}
 use Rattle.std.specs.Io.KnownBytes.{Appends}
 use Rattle.std.proofs.KnownBytes.{Appends-nil}
@@ -13,12 +12,13 @@ use Rattle.replies.specs.declared.reply.Reply.{Reply}
 use Rattle.replies.specs.declared.reply.Reply.TheVariants.{Refused}
 use Rattle.request_json.specs.Requests.{request_in}
 use Rattle.request_json.specs.declared.refusal.LineRefusal.TheVariants.{BadLine}
-use Rattle.tao_core.specs.Core.{CoreState, moment}
+use Rattle.tao_core.specs.Core.{CoreState}
 use Rattle.tao_io.specs.Lines.{GivesLines, IsTooLong, NextLineIs}
 use Rattle.tao_io.specs.declared.lines.NextLine.{NextLine}
 use Rattle.tao_io.specs.declared.lines.NextLine.TheVariants.{Line, TooLong, End}
 use Rattle.tao_top.proofs.GoingOn.{part_none, part_one, served_one, still_refl}
 use Rattle.tao_top.specs.Begun.{RepliesInPart}
+use Rattle.tao_top.specs.Outside.{Outside, moment_of}
 use Rattle.tao_top.specs.Served.{AppendsPart, Served, ServedInPart, serves, streams}
 use Rattle.tao_top.specs.Step.{AnswersLine, State, Replies, Step, line_of, serving}
 
@@ -46,10 +46,10 @@ no_configuration line long = rw (no_json line long) refl
 abbrev pub refused_whole : Reply
 refused_whole = Refused (OfLine (line.BadLine []))
 
-module _ (tells : Bool) (core : CoreState) (keepers : KeeperState) where
-  long_line : (line : List ℕ) → IsTooLong line → Step tells (serves core keepers) line refused_whole (serves core keepers)
+module _ (tells : Bool) (core : CoreState) (around : Outside) where
+  long_line : (line : List ℕ) → IsTooLong line → Step tells (serves core around) line refused_whole (serves core around)
   long_line line long = record {
-    does = subst (λ asked. AnswersLine tells (moment core keepers) asked refused_whole (moment core keepers)) (sym (no_request line long)) (refl, refl);
+    does = subst (λ asked. AnswersLine tells (moment_of core around) asked refused_whole (moment_of core around)) (sym (no_request line long)) (refl, refl);
     later = record { calls = omega arith; faults = omega arith };
   }
 
@@ -66,8 +66,8 @@ module _ (next : NextLine) (left rest : Option (List ℕ)) (line : List ℕ) (is
   end_of_End h = (subst (λ n. NextLineIs n left rest line) h is).1
 
 -- the next line didn't come
-pub part_unread : (tells : Bool) (s : State) (left before : Option (List ℕ)) → ServedInPart tells s s.keepers left before before
-part_unread tells s left before = part_none tells s s.keepers left before before (Appends-nil before) (still_refl tells s.keepers s refl)
+pub part_unread : (tells : Bool) (s : State) (left before : Option (List ℕ)) → ServedInPart tells s s.outside left before before
+part_unread tells s left before = part_none tells s s.outside left before before (Appends-nil before) (still_refl tells s.outside s refl)
 
 -- ---- what was answered
 
@@ -81,27 +81,27 @@ pub replies_err : {T E : Type 0} (result : Result T E) (tells : Bool) (old new :
 replies_err (Ok x) tells old new line reply before after step written = tt
 replies_err (Err e) tells old new line reply before after step written = inr (reply, step, written)
 
-module _ (tells : Bool) (core : CoreState) (keepers : KeeperState) (left rest before after : Option (List ℕ)) where
+module _ (tells : Bool) (core : CoreState) (around : Outside) (left rest before after : Option (List ℕ)) where
   -- a line was answered, and perhaps of its reply a front was written
-  pub part_answered : (line said : List ℕ) (next : CoreState) (now : KeeperState) → GivesLines left rest (line ∷ []) → said ≡ line
-      → RepliesInPart tells (serves core keepers) said (serves next now) before after → ServedInPart tells (serves core keepers) now left before after
+  pub part_answered : (line said : List ℕ) (next : CoreState) (now : Outside) → GivesLines left rest (line ∷ []) → said ≡ line
+      → RepliesInPart tells (serves core around) said (serves next now) before after → ServedInPart tells (serves core around) now left before after
   part_answered line said next now read same (inl nothing) =
-      part_none tells (serves core keepers) now left before after nothing.1 (still_refl tells now (serves core keepers) (ap (λ s. s.keepers) (sym nothing.0)))
+      part_none tells (serves core around) now left before after nothing.1 (still_refl tells now (serves core around) (ap (λ s. s.outside) (sym nothing.0)))
   part_answered line said next now read same (inr replied) =
-      part_one tells (serves core keepers) (serves next now) now left rest before after line read
-      (subst (λ l. Replies tells (serves core keepers) l (serves next now) (AppendsPart before after)) same replied)
+      part_one tells (serves core around) (serves next now) now left rest before after line read
+      (subst (λ l. Replies tells (serves core around) l (serves next now) (AppendsPart before after)) same replied)
       (still_refl tells now (serves next now) refl)
 
-  pub served_answered : (line said : List ℕ) (next : CoreState) (now : KeeperState) → GivesLines left rest (line ∷ []) → said ≡ line
-      → Replies tells (serves core keepers) said (serves next now) (Appends before after) → Served tells (serves core keepers) (serves next now) (streams left before) (streams rest after)
+  pub served_answered : (line said : List ℕ) (next : CoreState) (now : Outside) → GivesLines left rest (line ∷ []) → said ≡ line
+      → Replies tells (serves core around) said (serves next now) (Appends before after) → Served tells (serves core around) (serves next now) (streams left before) (streams rest after)
   served_answered line said next now read same replied =
-      served_one tells (serves core keepers) (serves next now) left rest before after line read
-      (subst (λ l. Replies tells (serves core keepers) l (serves next now) (Appends before after)) same replied)
+      served_one tells (serves core around) (serves next now) left rest before after line read
+      (subst (λ l. Replies tells (serves core around) l (serves next now) (Appends before after)) same replied)
 
   -- a line was too long
-  pub part_refused : ((whole : List ℕ) × IsTooLong whole × GivesLines left rest (whole ∷ [])) → AppendsPart before after (line_of (serving core) refused_whole) → ServedInPart tells (serves core keepers) keepers left before after
-  part_refused long written = part_answered long.0 long.0 core keepers long.2 refl (inr (refused_whole, long_line tells core keepers long.0 long.1, written))
+  pub part_refused : ((whole : List ℕ) × IsTooLong whole × GivesLines left rest (whole ∷ [])) → AppendsPart before after (line_of (serving core) refused_whole) → ServedInPart tells (serves core around) around left before after
+  part_refused long written = part_answered long.0 long.0 core around long.2 refl (inr (refused_whole, long_line tells core around long.0 long.1, written))
 
   pub served_refused : ((whole : List ℕ) × IsTooLong whole × GivesLines left rest (whole ∷ [])) → Appends before after (line_of (serving core) refused_whole)
-      → Served tells (serves core keepers) (serves core keepers) (streams left before) (streams rest after)
-  served_refused long written = served_answered long.0 long.0 core keepers long.2 refl (refused_whole, long_line tells core keepers long.0 long.1, written)
+      → Served tells (serves core around) (serves core around) (streams left before) (streams rest after)
+  served_refused long written = served_answered long.0 long.0 core around long.2 refl (refused_whole, long_line tells core around long.0 long.1, written)

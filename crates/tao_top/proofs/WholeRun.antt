@@ -1,13 +1,13 @@
 -- A whole run: its first line, and then all others.
 use Rattle.std.proofs.Common.{◌≡◌, ℕ, ◌+◌, ◌<◌, ◌≤◌, ◌^◌, Bool, List, [], ◌∷◌, length, length-append, Option, Some, None, Ok, IfSome, inr, refl, sym, ap, subst, ◌∙◌, arith}
-use Rattle.tao_keeper.specs.KeeperState.{KeeperState}
 use Rattle.std.proofs.KnownBytes.{Consumes-nil, prepend_known-nil}
 use Rattle.std.proofs.lemmas.List.{nil_from_length}
 use Rattle.std.specs.Io.KnownBytes.{Appends, IsAtEnd, prepend_known}
+use Rattle.counts.proofs.Rises.{Rose-earlier}
 use Rattle.config_json.specs.Config.{config_in}
 use Rattle.graph_model.specs.Told.{WhereTold}
 use Rattle.tao_core.specs.Core.{CoreState}
-use Rattle.tao_core.specs.Opening.{MayOpen}
+use Rattle.core_nodes.specs.Opening.{MayOpen}
 use Rattle.tao_io.specs.LineReader.{LineReading, most_ahead, to_come}
 use Rattle.tao_io.specs.Lines.{CountsTaken, GivesLines}
 use Rattle.tao_keeper.specs.Table.{Tables}
@@ -15,10 +15,12 @@ use Rattle.tao_top.proofs.FirstLine.{begun, begun_part, refuses_line, stops_open
 use Rattle.tao_top.proofs.GoingOn.{GivesLines-begin, served_then_all, served_then_part, served_all_part}
 use Rattle.tao_top.specs.Begun.{BegunInPart, EndsAtFirst, GivesOne, RefusesFirst, RefusesLine}
 use Rattle.tao_top.specs.Kept.{MayRun}
+use Rattle.tao_top.specs.Outside.{Outside}
 use Rattle.tao_top.specs.Served.{Done, DoneInPart, EndsInPart, FailsOpening, LinesBegin, OpensInPart, RefusesConfiguration, Served, ServedAll, ServedInPart, StopsOpening, serves, start, streams, traces}
 use Rattle.tao_top.specs.Step.{Replies}
-use Rattle.tao_top.specs.Stop.{Faults, StopHasCause, stop_code}
+use Rattle.tao_top.specs.Stop.{Faults, FaultsGrow, InterruptHasCause, StopHasCause, stop_code}
 use Rattle.tao_top.specs.Taken.{Takes, TakesFirst}
+use Rattle.tao_top.specs.declared.stop.Interrupt.{Interrupt}
 use Rattle.tao_top.specs.declared.stop.Interrupt.TheVariants.{Source, Sink, Memory, InputTooLong}
 use Rattle.tao_top.specs.declared.stop.Stop.{Stop}
 use Rattle.tao_top.specs.declared.stop.Stop.TheVariants.{Configuration, Keepers, Interrupted}
@@ -30,15 +32,15 @@ fresh reader left none = ap (λ ahead. prepend_known ahead left) none ∙ prepen
 
 -- ---- the first line
 
-module _ (tells : Bool) (keepers : KeeperState) (known left before after : Option (List ℕ)) (is : known ≡ left) where
-  pub first_in_part : EndsAtFirst known before after → DoneInPart tells keepers keepers left before after
-  first_in_part ends = subst (λ l. DoneInPart tells keepers keepers l before after) is (ends tells keepers)
+module _ (tells : Bool) (around : Outside) (known left before after : Option (List ℕ)) (is : known ≡ left) where
+  pub first_in_part : EndsAtFirst known before after → DoneInPart tells around around left before after
+  first_in_part ends = subst (λ l. DoneInPart tells around around l before after) is (ends tells around)
 
-  pub first_refused : RefusesFirst known before after → RefusesConfiguration tells keepers keepers left before after
-  first_refused refuses = subst (λ l. RefusesConfiguration tells keepers keepers l before after) is (refuses tells keepers)
+  pub first_refused : RefusesFirst known before after → RefusesConfiguration tells around around left before after
+  first_refused refuses = subst (λ l. RefusesConfiguration tells around around l before after) is (refuses tells around)
 
 -- it was read, and nothing was written until its reply
-module _ (tells : Bool) (old mid : KeeperState) (known left rest before silent after : Option (List ℕ)) (line : List ℕ) (is : known ≡ left) (same : silent ≡ before) (read : GivesLines known rest (line ∷ [])) where
+module _ (tells : Bool) (old mid : Outside) (known left rest before silent after : Option (List ℕ)) (line : List ℕ) (is : known ≡ left) (same : silent ≡ before) (read : GivesLines known rest (line ∷ [])) where
   pub begun_in_part : (code : ℕ) → BegunInPart code tells (traces old silent) (traces mid after) line → EndsInPart code tells (traces old before) (traces mid after) left
   begun_in_part code part =
       subst (λ l. EndsInPart code tells (traces old before) (traces mid after) l) is (subst (λ w. EndsInPart code tells (traces old w) (traces mid after) known) same (begun_part tells old mid known rest silent after line read code part))
@@ -57,7 +59,7 @@ module _ (tells : Bool) (old mid : KeeperState) (known left rest before silent a
 
 -- ---- all others
 
-module _ (tells : Bool) (old mid now : KeeperState) (core : CoreState) (left rest before middle after : Option (List ℕ)) (first : Served tells (start old) (serves core mid) (streams left before) (streams rest middle)) where
+module _ (tells : Bool) (old mid now : Outside) (core : CoreState) (left rest before middle after : Option (List ℕ)) (first : Served tells (start old) (serves core mid) (streams left before) (streams rest middle)) where
   pub done : (next : CoreState) → ServedAll tells (serves core mid) (serves next now) rest middle after → Done tells old now left before after
   done next all = record { core = next; served = served_then_all tells (start old) (serves core mid) (serves next now) left rest before middle after first all }
 
@@ -65,8 +67,17 @@ module _ (tells : Bool) (old mid now : KeeperState) (core : CoreState) (left res
   done_part part = inr (served_then_part tells (start old) (serves core mid) now left rest before middle after first part)
 
 -- what is done whole is done in part
-pub done_whole : (tells : Bool) (old now : KeeperState) (left before after : Option (List ℕ)) → Done tells old now left before after → DoneInPart tells old now left before after
+pub done_whole : (tells : Bool) (old now : Outside) (left before after : Option (List ℕ)) → Done tells old now left before after → DoneInPart tells old now left before after
 done_whole tells old now left before after d = inr (served_all_part tells (start old) (serves d.core now) left before after d.served)
+
+-- ---- the cause of a stop
+
+-- what interrupts a later part of a run interrupts the run
+pub interrupt_later : (old mid new : Faults) (i : Interrupt) → FaultsGrow old mid → InterruptHasCause mid new i → InterruptHasCause old new i
+interrupt_later old mid new Source grew cause = Rose-earlier old.source mid.source new.source grew.source cause
+interrupt_later old mid new Sink grew cause = Rose-earlier old.sink mid.sink new.sink grew.sink cause
+interrupt_later old mid new Memory grew cause = tt
+interrupt_later old mid new InputTooLong grew cause = tt
 
 -- ---- how long the input is, by what was taken of it
 
@@ -122,7 +133,7 @@ only_keepers (Interrupted Sink) is = absurd (omega arith)
 only_keepers (Interrupted Memory) is = absurd (omega arith)
 only_keepers (Interrupted InputTooLong) is = absurd (omega arith)
 
-pub fails_opening : (tells : Bool) (old now : KeeperState) (left before after : Option (List ℕ)) (old_faults new_faults : Faults) (stop : Stop) → stop_code stop ≡ 6
-    → (stop ≡ Keepers → StopsOpening tells old now left before after) → StopHasCause old_faults new_faults old.faults now.faults stop → FailsOpening tells old now left before after
+pub fails_opening : (tells : Bool) (old now : Outside) (left before after : Option (List ℕ)) (old_faults new_faults : Faults) (stop : Stop) → stop_code stop ≡ 6
+    → (stop ≡ Keepers → StopsOpening tells old now left before after) → StopHasCause old_faults new_faults old.keepers.faults now.keepers.faults stop → FailsOpening tells old now left before after
 fails_opening tells old now left before after old_faults new_faults stop is opening cause =
-    let same = only_keepers stop is in record { opening = opening same; rose = subst (StopHasCause old_faults new_faults old.faults now.faults) same cause }
+    let same = only_keepers stop is in record { opening = opening same; rose = subst (StopHasCause old_faults new_faults old.keepers.faults now.keepers.faults) same cause }

@@ -1,12 +1,12 @@
 -- The parts of a run: its first line, as it was read and taken, and each later one.
 use Rattle.std.specs.Prelude.{◌≡◌, ◌⊎◌, ◌≤◌, ℕ, Bool, List, [], length, Option, Err}
-use Rattle.tao_keeper.specs.KeeperState.{KeeperState}
 use Rattle.std.specs.Io.KnownBytes.{Appends}
 use Rattle.config_json.specs.Config.{config_in}
 use Rattle.config_json.specs.declared.refusal.ConfigRefusal.TheVariants.{BadConfig}
 use Rattle.counts.specs.Count.{Rose}
 use Rattle.replies.specs.declared.reply.Reply.TheVariants.{BadConfiguration}
 use Rattle.tao_io.specs.Lines.{GivesLines}
+use Rattle.tao_top.specs.Outside.{Outside}
 use Rattle.tao_top.specs.Served.{AppendsPart, DoneInPart, IsOpeningStatus, IsStill, OpensInPart, RefusesConfiguration, Traces, refusal_line, start}
 use Rattle.tao_top.specs.Step.{State, ended, Configures, Replies}
 use Rattle.tao_top.specs.Stop.{InterruptsWriting}
@@ -21,13 +21,13 @@ RefusesFor line Writes = (field : List ℕ) × (config_in line ≡ Err (BadConfi
 abbrev pub RefusesInPart : List ℕ → Option (List ℕ) → Option (List ℕ) → Type 0
 RefusesInPart line before after = Appends before after [] ⊎ RefusesFor line (AppendsPart before after)
 
--- whatever keepers show, they are left alone, and the run is done in part
+-- whatever keepers and a link show, they are left alone, and the run is done in part
 abbrev pub EndsAtFirst : Option (List ℕ) → Option (List ℕ) → Option (List ℕ) → Type 0
-EndsAtFirst left before after = (tells : Bool) (keepers : KeeperState) → DoneInPart tells keepers keepers left before after
+EndsAtFirst left before after = (tells : Bool) (around : Outside) → DoneInPart tells around around left before after
 
 -- and there is no configuration
 abbrev pub RefusesFirst : Option (List ℕ) → Option (List ℕ) → Option (List ℕ) → Type 0
-RefusesFirst left before after = (tells : Bool) (keepers : KeeperState) → RefusesConfiguration tells keepers keepers left before after
+RefusesFirst left before after = (tells : Bool) (around : Outside) → RefusesConfiguration tells around around left before after
 
 -- at most one line came out of the known bytes
 abbrev pub GivesOne : Option (List ℕ) → Option (List ℕ) → Type 0
@@ -35,11 +35,11 @@ GivesOne left rest = (lines : List (List ℕ)) × (length lines ≤ 1) × GivesL
 
 -- the configuration got a reply of which a front was written, and since then no table changed; or its stores were opened in part, which ends with 6 and 7 alone
 abbrev pub BegunInPart : ℕ → Bool → Traces → Traces → List ℕ → Type 0
-BegunInPart code tells old now line = (IsOpeningStatus code × OpensInPart tells old.keepers now.keepers line old.written now.written)
-    ⊎ ((last : State) × Replies tells (start old.keepers) line last (AppendsPart old.written now.written) × IsStill tells last now.keepers)
+BegunInPart code tells old now line = (IsOpeningStatus code × OpensInPart tells old.outside now.outside line old.written now.written)
+    ⊎ ((last : State) × Replies tells (start old.outside) line last (AppendsPart old.written now.written) × IsStill tells last now.outside)
 
 -- the line was refused as the configuration, and the line that says so was written
-pub record RefusesLine (tells : Bool) (old now : KeeperState) (line : List ℕ) (before after : Option (List ℕ)) : Type 0 where
+pub record RefusesLine (tells : Bool) (old now : Outside) (line : List ℕ) (before after : Option (List ℕ)) : Type 0 where
   pub field : List ℕ
   pub refused : Configures tells old line (BadConfiguration field) ended now
   pub written : Appends before after (refusal_line field)

@@ -3,8 +3,8 @@ use Rattle.std.specs.Prelude.{ℕ, ◌≡◌, ◌<◌, Bool, List, [], ◌∷◌
 use Rattle.config_json.specs.Config.{config_in}
 use Rattle.graph_model.specs.Told.{WhereTold}
 use Rattle.tao_core.specs.Core.{CoreState, IsCoreOf}
-use Rattle.tao_core.specs.Opening.{MayOpen}
-use Rattle.tao_core.specs.Stores.{master_store}
+use Rattle.core_nodes.specs.Opening.{MayOpen}
+use Rattle.core_model.specs.Stores.{master_store}
 use Rattle.tao_keeper.specs.Growing.{LogsGrow}
 use Rattle.tao_keeper.specs.KeeperState.{KeeperState}
 use Rattle.tao_keeper.specs.Table.{Table, Tables}

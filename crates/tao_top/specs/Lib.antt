@@ -1,4 +1,5 @@
 pub mod Kept
+pub mod Outside
 pub mod Step
 pub mod Stop
 pub mod Served

@@ -1,6 +1,6 @@
 -- What a run has read and written by its end.
 use Rattle.std.specs.Prelude.{◌≡◌, ◌⊎◌, ℕ, Bool, ⊤, List, [], ◌∷◌, ◌++◌, Option, Some, None, take, Ok}
-use Rattle.tao_keeper.specs.KeeperState.{KeeperState, KeepsTables, IsLater}
+use Rattle.tao_keeper.specs.KeeperState.{KeepsTables, IsLater}
 use Rattle.std.specs.List.{flat_map}
 use Rattle.std.specs.Io.KnownBytes.{Appends}
 use Rattle.config_json.specs.Config.{config_in}
@@ -8,8 +8,9 @@ use Rattle.counts.specs.Count.{Rose}
 use Rattle.graph_model.specs.Told.{WhereTold}
 use Rattle.replies.specs.declared.reply.Reply.TheVariants.{BadConfiguration}
 use Rattle.tao_core.specs.Core.{CoreState}
-use Rattle.tao_core.specs.Opening.{IsOpenedInPart}
+use Rattle.core_nodes.specs.Opening.{IsOpenedInPart}
 use Rattle.tao_io.specs.Lines.{lines_of, GivesLines}
+use Rattle.tao_top.specs.Outside.{Outside}
 use Rattle.tao_top.specs.Step.{State, waiting, serving, ended, Configures, Run, line_of}
 use Rattle.topology.specs.Config.{Settings}
 
@@ -32,17 +33,18 @@ abbrev pub AppendsPart : Option (List ℕ) → Option (List ℕ) → List ℕ �
 AppendsPart before after bytes = (size : ℕ) × Appends before after (take size bytes)
 
 -- a run waits for its configuration
-abbrev pub start : KeeperState → State
-start keepers = record { stage = waiting; keepers = keepers }
+abbrev pub start : Outside → State
+start around = record { stage = waiting; outside = around }
 
 -- a run serves by its configuration
-abbrev pub serves : CoreState → KeeperState → State
-serves core keepers = record { stage = serving core; keepers = keepers }
+abbrev pub serves : CoreState → Outside → State
+serves core around = record { stage = serving core; outside = around }
 
--- since a state no table changed, and no count fell
-pub record IsStill (tells : Bool) (state : State) (now : KeeperState) : Type 0 where
-  pub tables : KeepsTables tells state.keepers now
-  pub later : IsLater state.keepers now
+-- since a state no table changed, no count of the keepers fell, and the link stayed
+pub record IsStill (tells : Bool) (state : State) (now : Outside) : Type 0 where
+  pub tables : KeepsTables tells state.outside.keepers now.keepers
+  pub later : IsLater state.outside.keepers now.keepers
+  pub link : now.link ≡ state.outside.link
 
 -- what a source has left, and what a sink took, where they are known
 pub record Streams : Type 0 where
@@ -69,7 +71,7 @@ pub record ServedAll (tells : Bool) (old new : State) (left before after : Optio
   pub written : Appends before after (joined texts)
 
 -- some first lines of the known bytes have their replies, of whose texts a front was written; since the last reply no table changed
-pub record ServedInPart (tells : Bool) (old : State) (now : KeeperState) (left before after : Option (List ℕ)) : Type 0 where
+pub record ServedInPart (tells : Bool) (old : State) (now : Outside) (left before after : Option (List ℕ)) : Type 0 where
   pub last : State
   pub lines : List (List ℕ)
   pub texts : List (List ℕ)
@@ -78,12 +80,13 @@ pub record ServedInPart (tells : Bool) (old : State) (now : KeeperState) (left b
   pub written : AppendsPart before after (joined texts)
   pub still : IsStill tells last now
 
--- the line is a configuration, of whose stores some are open, and nothing was written
-pub record OpensInPart (tells : Bool) (old now : KeeperState) (line : List ℕ) (before after : Option (List ℕ)) : Type 0 where
+-- the line is a configuration, of whose stores some are open, the link stays, and nothing was written
+pub record OpensInPart (tells : Bool) (old now : Outside) (line : List ℕ) (before after : Option (List ℕ)) : Type 0 where
   pub settings : Settings
   pub configured : config_in line ≡ Ok settings
-  pub opened : WhereTold tells (IsOpenedInPart settings line old.told now.told)
-  pub later : IsLater old now
+  pub opened : WhereTold tells (IsOpenedInPart settings line old.keepers.told now.keepers.told)
+  pub later : IsLater old.keepers now.keepers
+  pub link : now.link ≡ old.link
   pub written : Appends before after []
 
 -- the line that refuses the configuration for this field
@@ -91,55 +94,55 @@ abbrev pub refusal_line : List ℕ → List ℕ
 refusal_line field = line_of ended (BadConfiguration field)
 
 -- the input has no line, and of the refusal of its configuration a front was written
-pub record LacksConfiguration (old now : KeeperState) (left before after : Option (List ℕ)) : Type 0 where
+pub record LacksConfiguration (old now : Outside) (left before after : Option (List ℕ)) : Type 0 where
   pub read : AreLines left []
   pub written : AppendsPart before after (refusal_line [])
   pub same : now ≡ old
 
 -- the run was configured, and each line of the input has its reply, written whole
-pub record Done (tells : Bool) (old new : KeeperState) (left before after : Option (List ℕ)) : Type 0 where
+pub record Done (tells : Bool) (old new : Outside) (left before after : Option (List ℕ)) : Type 0 where
   pub core : CoreState
   pub served : ServedAll tells (start old) (serves core new) left before after
 
 -- what was written is a front of the texts of the replies to the first lines
-abbrev pub DoneInPart : Bool → KeeperState → KeeperState → Option (List ℕ) → Option (List ℕ) → Option (List ℕ) → Type 0
+abbrev pub DoneInPart : Bool → Outside → Outside → Option (List ℕ) → Option (List ℕ) → Option (List ℕ) → Type 0
 DoneInPart tells old now left before after = LacksConfiguration old now left before after ⊎ ServedInPart tells (start old) now left before after
 
 -- the first line is a configuration, at the opening of whose stores the run stopped, and nothing was written
-abbrev pub StopsOpening : Bool → KeeperState → KeeperState → Option (List ℕ) → Option (List ℕ) → Option (List ℕ) → Type 0
+abbrev pub StopsOpening : Bool → Outside → Outside → Option (List ℕ) → Option (List ℕ) → Option (List ℕ) → Type 0
 StopsOpening tells old now left before after = (line : List ℕ) × LinesBegin left (line ∷ []) × OpensInPart tells old now line before after
 
 -- so it stopped because the keepers failed there
-pub record FailsOpening (tells : Bool) (old now : KeeperState) (left before after : Option (List ℕ)) : Type 0 where
+pub record FailsOpening (tells : Bool) (old now : Outside) (left before after : Option (List ℕ)) : Type 0 where
   pub opening : StopsOpening tells old now left before after
-  pub rose : Rose old.faults now.faults
+  pub rose : Rose old.keepers.faults now.keepers.faults
 
 -- the statuses of a run that stopped at the opening of its stores: the keepers failed there, or memory was wanting
 abbrev pub IsOpeningStatus : ℕ → Type 0
 IsOpeningStatus code = (code ≡ 6) ⊎ (code ≡ 7)
 
--- what a run leaves: what the keepers show, and what the sink took where it is known
+-- what a run leaves: what the keepers and the link show, and what the sink took where it is known
 pub record Traces : Type 0 where
-  pub keepers : KeeperState
+  pub outside : Outside
   pub written : Option (List ℕ)
 
-abbrev pub traces : KeeperState → Option (List ℕ) → Traces
-traces keepers written = record { keepers = keepers; written = written }
+abbrev pub traces : Outside → Option (List ℕ) → Traces
+traces around written = record { outside = around; written = written }
 
 -- what a run has done that ends with this status: a part of its lines, or of the opening of its stores with 6 and 7 alone
 abbrev pub EndsInPart : ℕ → Bool → Traces → Traces → Option (List ℕ) → Type 0
 EndsInPart code tells old now left =
-    (IsOpeningStatus code × StopsOpening tells old.keepers now.keepers left old.written now.written)
-    ⊎ DoneInPart tells old.keepers now.keepers left old.written now.written
+    (IsOpeningStatus code × StopsOpening tells old.outside now.outside left old.written now.written)
+    ⊎ DoneInPart tells old.outside now.outside left old.written now.written
 
 -- the first line is refused as the configuration, or the input has none
-abbrev pub IsConfigurationRefused : Bool → KeeperState → KeeperState → Option (List ℕ) → List ℕ → Type 0
+abbrev pub IsConfigurationRefused : Bool → Outside → Outside → Option (List ℕ) → List ℕ → Type 0
 IsConfigurationRefused tells old now left field =
     (AreLines left [] × (field ≡ []) × (now ≡ old))
     ⊎ ((line : List ℕ) × LinesBegin left (line ∷ []) × Configures tells old line (BadConfiguration field) ended now)
 
 -- the configuration was refused, and the line that says so was written, and nothing else
-pub record RefusesConfiguration (tells : Bool) (old now : KeeperState) (left before after : Option (List ℕ)) : Type 0 where
+pub record RefusesConfiguration (tells : Bool) (old now : Outside) (left before after : Option (List ℕ)) : Type 0 where
   pub field : List ℕ
   pub refused : IsConfigurationRefused tells old now left field
   pub written : Appends before after (refusal_line field)

@@ -4,7 +4,7 @@ use Rattle.tao_keeper.specs.KeeperState.{KeeperState}
 use Rattle.command_words.specs.Read.{words_in}
 use Rattle.counts.specs.Count.{Rose}
 use Rattle.config_json.specs.Config.{config_in}
-use Rattle.tao_core.specs.Opening.{AreReady}
+use Rattle.core_nodes.specs.Opening.{AreReady}
 use Rattle.tao_io.specs.Lines.{lines_of}
 use Rattle.tao_top.specs.Stop.{Faults}
 use Rattle.topology.specs.Config.{Settings}

@@ -1,6 +1,6 @@
 -- A line and its reply: from one state of a run to the next.
 use Rattle.std.specs.Prelude.{◌≡◌, ◌⊎◌, ℕ, Bool, List, [], ◌∷◌, ◌++◌, Result, Ok, Err, codes}
-use Rattle.tao_keeper.specs.KeeperState.{KeeperState, IsLater}
+use Rattle.tao_keeper.specs.KeeperState.{IsLater}
 use Rattle.config_json.specs.Config.{config_in}
 use Rattle.config_json.specs.declared.refusal.ConfigRefusal.TheVariants.{BadConfig}
 use Rattle.graph_model.specs.Told.{WhereTold}
@@ -13,9 +13,10 @@ use Rattle.request_json.specs.Requests.{request_in}
 use Rattle.request_json.specs.declared.refusal.LineRefusal.{LineRefusal}
 use Rattle.request_json.specs.declared.refusal.LineRefusal.TheVariants.{BadLine, TooLarge, OutOfMemory}
 use Rattle.requests.specs.declared.request.Request.{Request}
-use Rattle.tao_core.specs.Core.{CoreState, Moment, moment}
-use Rattle.tao_core.specs.Opening.{IsOpened, IsOtherLine}
+use Rattle.tao_core.specs.Core.{CoreState, Moment}
+use Rattle.core_nodes.specs.Opening.{IsOpened, IsOtherLine}
 use Rattle.tao_core.specs.Replies.{AnswersRequest}
+use Rattle.tao_top.specs.Outside.{Outside, moment_of}
 use Rattle.topology.specs.Config.{Settings}
 
 -- ---- states
@@ -26,10 +27,10 @@ pub data Stage : Type 0 where
   serving : CoreState → Stage
   ended : Stage
 
--- between two lines: the stage, and what the keepers show
+-- between two lines: the stage, and what the keepers and the link show
 pub record State : Type 0 where
   pub stage : Stage
-  pub keepers : KeeperState
+  pub outside : Outside
 
 -- ---- the text of a reply
 
@@ -49,26 +50,28 @@ line_of stage reply = reply_text (spelled_by stage) reply ++ 10 ∷ []
 
 -- ---- the first line
 
--- the line is a configuration, each store takes it, and no session is open yet
-pub record TakesLine (tells : Bool) (old : KeeperState) (line : List ℕ) (core : CoreState) (new : KeeperState) : Type 0 where
+-- the line is a configuration, each store takes it, no session is open yet, and the link stays
+pub record TakesLine (tells : Bool) (old : Outside) (line : List ℕ) (core : CoreState) (new : Outside) : Type 0 where
   pub configured : config_in line ≡ Ok core.settings
   pub sessions : core.sessions ≡ []
-  pub opened : WhereTold tells (IsOpened core.settings line old.told new.told)
+  pub opened : WhereTold tells (IsOpened core.settings line old.keepers.told new.keepers.told)
+  pub link : new.link ≡ old.link
 
 -- the line is no configuration: this field breaks a rule
-pub record IsNoConfiguration (old : KeeperState) (line field : List ℕ) (new : KeeperState) : Type 0 where
+pub record IsNoConfiguration (old : Outside) (line field : List ℕ) (new : Outside) : Type 0 where
   pub refused : config_in line ≡ Err (BadConfig field)
   pub same : new ≡ old
 
--- the line is a configuration, but not the line that a store was first opened with
-pub record IsAnotherLine (tells : Bool) (old : KeeperState) (line field : List ℕ) (new : KeeperState) : Type 0 where
+-- the line is a configuration, but not the line that a store was first opened with; the link stays
+pub record IsAnotherLine (tells : Bool) (old : Outside) (line field : List ℕ) (new : Outside) : Type 0 where
   pub settings : Settings
   pub configured : config_in line ≡ Ok settings
   pub field_is : field ≡ codes "file"
-  pub other : WhereTold tells (IsOtherLine settings line old.told new.told)
+  pub other : WhereTold tells (IsOtherLine settings line old.keepers.told new.keepers.told)
+  pub link : new.link ≡ old.link
 
 -- what the reply to the first line says
-abbrev pub Configures : Bool → KeeperState → List ℕ → Reply → Stage → KeeperState → Type 0
+abbrev pub Configures : Bool → Outside → List ℕ → Reply → Stage → Outside → Type 0
 Configures tells old line Configured (serving core) new = TakesLine tells old line core new
 Configures tells old line (BadConfiguration field) ended new = IsNoConfiguration old line field new ⊎ IsAnotherLine tells old line field new
 Configures tells old line reply stage new = ⊥
@@ -93,16 +96,16 @@ abbrev pub StepIn : Bool → State → List ℕ → Reply → State → Type 0
 StepIn tells old line reply new = by_stage old.stage new.stage
   where
     by_stage : Stage → Stage → Type 0
-    by_stage waiting next = Configures tells old.keepers line reply next new.keepers
-    by_stage (serving core) (serving next) = AnswersLine tells (moment core old.keepers) (request_in line) reply (moment next new.keepers)
+    by_stage waiting next = Configures tells old.outside line reply next new.outside
+    by_stage (serving core) (serving next) = AnswersLine tells (moment_of core old.outside) (request_in line) reply (moment_of next new.outside)
     by_stage (serving core) waiting = ⊥
     by_stage (serving core) ended = ⊥
     by_stage ended next = ⊥
 
--- one line and its reply
+-- one line and its reply. No count of the keepers fell
 pub record Step (tells : Bool) (old : State) (line : List ℕ) (reply : Reply) (new : State) : Type 0 where
   pub does : StepIn tells old line reply new
-  pub later : IsLater old.keepers new.keepers
+  pub later : IsLater old.outside.keepers new.outside.keepers
 
 -- the line has a reply, whose text is written so
 abbrev pub Replies : Bool → State → List ℕ → State → (List ℕ → Type 0) → Type 0

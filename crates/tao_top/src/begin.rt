@@ -3,11 +3,13 @@ ghost use Rattle.std.specs.Prelude.{◌≡◌, ◌≢◌, ◌≤◌, ◌^◌, Ok
 ghost use Rattle.std.specs.Io.KnownBytes.{Appends};
 ghost use Rattle.config_json.specs.Config.{config_in};
 ghost use Rattle.graph_model.specs.Told.{WhereTold};
-ghost use Rattle.tao_core.specs.Opening.{MayOpen};
+ghost use Rattle.core_nodes.specs.Opening.{MayOpen};
 ghost use Rattle.tao_io.specs.LineReader.{most_ahead, to_come};
 ghost use Rattle.tao_io.specs.Lines.{CountsTaken, GivesLines};
 ghost use Rattle.tao_top.specs.Begun.{BegunInPart, EndsAtFirst, GivesOne, RefusesFirst, RefusesFor, RefusesInPart, RefusesLine, StopsBeginning};
+ghost use Rattle.tao_link.specs.Shown.{LinkShown};
 ghost use Rattle.tao_top.specs.Kept.{LeavesTables, MayServe};
+ghost use Rattle.tao_top.specs.Outside.{outside};
 ghost use Rattle.tao_top.specs.Served.{OpensInPart, serves, start, traces};
 ghost use Rattle.tao_top.specs.Step.{Replies};
 ghost use Rattle.tao_top.specs.Stop.{FaultsGrow, StopHasCause, faults, stop_code};
@@ -78,7 +80,7 @@ pub(crate) fn read_first<R: Source, S: Sink>(
     }
 }
 
-/// Opens the stores with the configuration, and writes the reply to its line.
+/// Opens the stores with the configuration, and writes the reply to its line. Whatever a link shows, it is left alone.
 #[tactic(auto, using(crate::proofs::Keeping::leaves_same))]
 pub(crate) fn begin<'c, S: Sink, K: Keeper>(
     alloc: Global,
@@ -88,17 +90,17 @@ pub(crate) fn begin<'c, S: Sink, K: Keeper>(
 ) -> Result<Serving<'c>, Stop>
     requires configured { config_in first.now.line.items ≡ Ok first.now.config }
     requires sound { WhereTold K.TELLS (MayOpen first.now.config first.now.line.items (K.state keepers.old).told) }
-    ensures ok { IfOk result (λ serving. Replies K.TELLS (start (K.state keepers.old))
-        first.now.line.items (serves serving (K.state keepers.new)) (Appends
-        (S.taken output.old) (S.taken output.new))) }
+    ensures ok { IfOk result (λ serving. (link : LinkShown) → Replies K.TELLS (start (outside (K.state keepers.old) link)) first.now.line.items
+        (serves serving (outside (K.state keepers.new) link)) (Appends (S.taken output.old) (S.taken output.new))) }
     ensures serving { IfOk result (λ serving. MayServe K.TELLS serving (K.state keepers.new).told) }
-    ensures err { IfErr result (λ stop. BegunInPart (stop_code stop) K.TELLS
-        (traces (K.state keepers.old) (S.taken output.old)) (traces (K.state keepers.new) (S.taken output.new)) first.now.line.items) }
-    ensures keepers { result ≡ Err Stop.Keepers → OpensInPart K.TELLS
-        (K.state keepers.old) (K.state keepers.new) first.now.line.items
+    ensures err { IfErr result (λ stop. (link : LinkShown) → BegunInPart (stop_code stop) K.TELLS
+        (traces (outside (K.state keepers.old) link) (S.taken output.old))
+        (traces (outside (K.state keepers.new) link) (S.taken output.new)) first.now.line.items) }
+    ensures keepers { result ≡ Err Stop.Keepers → (link : LinkShown) → OpensInPart K.TELLS
+        (outside (K.state keepers.old) link) (outside (K.state keepers.new) link) first.now.line.items
         (S.taken output.old) (S.taken output.new) }
-    ensures refused { result ≡ Err Stop.Configuration → RefusesLine K.TELLS
-        (K.state keepers.old) (K.state keepers.new) first.now.line.items
+    ensures refused { result ≡ Err Stop.Configuration → (link : LinkShown) → RefusesLine K.TELLS
+        (outside (K.state keepers.old) link) (outside (K.state keepers.new) link) first.now.line.items
         (S.taken output.old) (S.taken output.new) }
     ensures tables { LeavesTables K.TELLS (K.state keepers.old) (K.state keepers.new) }
     ensures cause { IfErr result (StopsBeginning (S.faults output.old) (S.faults output.new) (K.state keepers.old).faults (K.state keepers.new).faults) }

@@ -5,6 +5,7 @@ ghost use Rattle.graph_model.specs.Told.{WhereTold};
 ghost use Rattle.tao_io.specs.LineReader.{may_give, to_come};
 ghost use Rattle.tao_io.specs.Lines.{CountsTaken};
 ghost use Rattle.tao_top.specs.Kept.{LeavesTables, MayServe};
+ghost use Rattle.tao_top.specs.Outside.{outside};
 ghost use Rattle.tao_top.specs.Served.{Served, ServedAll, ServedInPart, serves, streams};
 ghost use Rattle.tao_top.specs.Stop.{FaultsGrow, InterruptHasCause, faults};
 
@@ -13,19 +14,22 @@ use crate::stop::Interrupt;
 use std::alloc::Global;
 use tao_io::{LineReader, NextLine, Sink, Source};
 use tao_keeper::Keeper;
+use tao_link::Link;
 
 /// Reads a line, answers it, and writes the reply. Says whether there was a line.
 #[tactic(auto, using(crate::proofs::Keeping::leaves_same))]
-fn serve_line<R: Source, S: Sink, K: Keeper>(
+fn serve_line<R: Source, S: Sink, K: Keeper, L: Link>(
     alloc: Global,
     serving: &mut Serving<'_>,
     reader: &mut LineReader,
     input: &mut R,
     output: &mut S,
     keepers: &mut K,
+    link: &mut L,
 ) -> Result<bool, Interrupt>
     requires serving { MayServe K.TELLS serving.old (K.state keepers.old).told }
-    ensures ok { OnOk result (Served K.TELLS (serves serving.old (K.state keepers.old)) (serves serving.new (K.state keepers.new))
+    ensures ok { OnOk result (Served K.TELLS (serves serving.old (outside (K.state keepers.old) (L.shown link.old)))
+        (serves serving.new (outside (K.state keepers.new) (L.shown link.new)))
         (streams (to_come reader.old (R.left input.old)) (S.taken output.old))
         (streams (to_come reader.new (R.left input.new)) (S.taken output.new))) }
     ensures uses { result ≡ Ok true → may_give reader.new < may_give reader.old }
@@ -34,9 +38,8 @@ fn serve_line<R: Source, S: Sink, K: Keeper>(
     ensures serving { MayServe K.TELLS serving.new (K.state keepers.new).told }
     ensures tables { LeavesTables K.TELLS (K.state keepers.old) (K.state keepers.new) }
 
-    ensures err { OnErr result (ServedInPart K.TELLS (serves serving.old
-        (K.state keepers.old)) (K.state keepers.new) (to_come reader.old
-        (R.left input.old)) (S.taken output.old) (S.taken output.new)) }
+    ensures err { OnErr result (ServedInPart K.TELLS (serves serving.old (outside (K.state keepers.old) (L.shown link.old)))
+        (outside (K.state keepers.new) (L.shown link.new)) (to_come reader.old (R.left input.old)) (S.taken output.old) (S.taken output.new)) }
     ensures cause { IfErr result (InterruptHasCause (faults (R.faults input.old) (S.faults output.old)) (faults (R.faults input.new) (S.faults output.new))) }
     ensures long { IsErrOf result Interrupt.InputTooLong → reader.new.taken ≡ 2 ^ 40 }
 
@@ -52,33 +55,33 @@ fn serve_line<R: Source, S: Sink, K: Keeper>(
             Ok(true)
         }
         NextLine::Line => {
-            serving.answer_line(alloc, keepers, output, &line)?;
+            serving.answer_line(alloc, keepers, link, output, &line)?;
             Ok(true)
         }
     }
 }
 
 /// Serves each line that is left.
-pub(crate) fn serve<R: Source, S: Sink, K: Keeper>(
+pub(crate) fn serve<R: Source, S: Sink, K: Keeper, L: Link>(
     alloc: Global,
     serving: &mut Serving<'_>,
     reader: &mut LineReader,
     input: &mut R,
     output: &mut S,
     keepers: &mut K,
+    link: &mut L,
 ) -> Result<(), Interrupt>
     requires serving { MayServe K.TELLS serving.old (K.state keepers.old).told }
-    ensures ok { OnOk result (ServedAll K.TELLS (serves serving.old (K.state keepers.old))
-        (serves serving.new (K.state keepers.new)) (to_come reader.old (R.left input.old))
+    ensures ok { OnOk result (ServedAll K.TELLS (serves serving.old (outside (K.state keepers.old) (L.shown link.old)))
+        (serves serving.new (outside (K.state keepers.new) (L.shown link.new))) (to_come reader.old (R.left input.old))
         (S.taken output.old) (S.taken output.new)) }
     ensures end { OnOk result (IsAtEnd (to_come reader.new (R.left input.new))) }
     ensures short { OnOk result (reader.new.taken < 2 ^ 40) }
     ensures serving { MayServe K.TELLS serving.new (K.state keepers.new).told }
     ensures tables { LeavesTables K.TELLS (K.state keepers.old) (K.state keepers.new) }
 
-    ensures err { OnErr result (ServedInPart K.TELLS (serves serving.old
-        (K.state keepers.old)) (K.state keepers.new) (to_come reader.old
-        (R.left input.old)) (S.taken output.old) (S.taken output.new)) }
+    ensures err { OnErr result (ServedInPart K.TELLS (serves serving.old (outside (K.state keepers.old) (L.shown link.old)))
+        (outside (K.state keepers.new) (L.shown link.new)) (to_come reader.old (R.left input.old)) (S.taken output.old) (S.taken output.new)) }
     ensures cause { IfErr result (InterruptHasCause (faults (R.faults input.old) (S.faults output.old)) (faults (R.faults input.new) (S.faults output.new))) }
     ensures long { IsErrOf result Interrupt.InputTooLong → reader.new.taken ≡ 2 ^ 40 }
 
@@ -87,7 +90,7 @@ pub(crate) fn serve<R: Source, S: Sink, K: Keeper>(
     ensures later { FaultsGrow (faults (R.faults input.old) (S.faults output.old)) (faults (R.faults input.new) (S.faults output.new)) }
 {
     'lines: loop {
-        if !serve_line(alloc, serving, reader, input, output, keepers)? {
+        if !serve_line(alloc, serving, reader, input, output, keepers, link)? {
             return Ok(());
         }
     }

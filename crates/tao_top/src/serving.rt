@@ -6,9 +6,10 @@ ghost use Rattle.config_json.specs.Config.{config_in};
 ghost use Rattle.graph_model.specs.Told.{WhereTold};
 ghost use Rattle.request_json.specs.Requests.{request_in};
 ghost use Rattle.tao_core.specs.Core.{moment};
-ghost use Rattle.tao_core.specs.Opening.{IsOpened, MayOpen, RefusesOpening};
+ghost use Rattle.core_nodes.specs.Opening.{IsOpened, MayOpen, RefusesOpening};
 ghost use Rattle.tao_top.specs.Begun.{RepliesInPart};
 ghost use Rattle.tao_top.specs.Kept.{LeavesTables, MayServe};
+ghost use Rattle.tao_top.specs.Outside.{outside};
 ghost use Rattle.tao_top.specs.Served.{AppendsPart, serves};
 ghost use Rattle.tao_top.specs.Step.{AnswersLine, Replies, line_of, serving};
 ghost use Rattle.tao_top.specs.Stop.{InterruptsWriting};
@@ -21,6 +22,7 @@ use tao_base::Text;
 use tao_core::Core;
 use tao_io::Sink;
 use tao_keeper::Keeper;
+use tao_link::Link;
 use tao_wire::{LineRefusal, LineRefused, OpenRefusal, Refusal, Reply, Request, read_request};
 use topology::Config;
 
@@ -89,34 +91,42 @@ impl<'c> Serving<'c> {
     }
 
     /// The core's reply to a request.
-    fn call<K: Keeper>(&mut self, alloc: Global, keepers: &mut K, request: &Request) -> Reply
+    fn call<K: Keeper, L: Link>(
+        &mut self,
+        alloc: Global,
+        keepers: &mut K,
+        link: &mut L,
+        request: &Request,
+    ) -> Reply
         requires serving { MayServe K.TELLS self.old (K.state keepers.old).told }
-        ensures does { AnswersLine K.TELLS (moment self.old (K.state keepers.old)) (Ok request.now) result (moment self.new (K.state keepers.new)) }
+        ensures does { AnswersLine K.TELLS (moment self.old (K.state keepers.old) (L.shown link.old)) (Ok request.now) result
+            (moment self.new (K.state keepers.new) (L.shown link.new)) }
         ensures serving { MayServe K.TELLS self.new (K.state keepers.new).told }
         ensures tables { LeavesTables K.TELLS (K.state keepers.old) (K.state keepers.new) }
         ensures later { IsLater (K.state keepers.old) (K.state keepers.new) }
     {
-        self.core.call(alloc, keepers, request)
+        self.core.call(alloc, keepers, link, request)
     }
 
     /// The reply to a line.
     #[tactic(auto, using(crate::proofs::Keeping::leaves_same))]
-    fn answer<K: Keeper>(
+    fn answer<K: Keeper, L: Link>(
         &mut self,
         alloc: Global,
         keepers: &mut K,
+        link: &mut L,
         line: &[u8],
     ) -> Result<Reply, AllocError>
         requires serving { MayServe K.TELLS self.old (K.state keepers.old).told }
-        ensures does { IfOk result (λ reply. AnswersLine K.TELLS (moment self.old (K.state keepers.old)) (request_in line.now) reply
-            (moment self.new (K.state keepers.new))) }
-        ensures same { OnErr result ((self.new ≡ self.old) × (keepers.new ≡ keepers.old)) }
+        ensures does { IfOk result (λ reply. AnswersLine K.TELLS (moment self.old (K.state keepers.old) (L.shown link.old)) (request_in line.now) reply
+            (moment self.new (K.state keepers.new) (L.shown link.new))) }
+        ensures same { OnErr result ((self.new ≡ self.old) × (keepers.new ≡ keepers.old) × (link.new ≡ link.old)) }
         ensures serving { MayServe K.TELLS self.new (K.state keepers.new).told }
         ensures tables { LeavesTables K.TELLS (K.state keepers.old) (K.state keepers.new) }
         ensures later { IsLater (K.state keepers.old) (K.state keepers.new) }
     {
         match read_request(alloc, line) {
-            Ok(request) => Ok(self.call(alloc, keepers, &request)),
+            Ok(request) => Ok(self.call(alloc, keepers, link, &request)),
             Err(LineRefusal::BadLine { field }) => {
                 Ok(Reply::Refused(Refusal::Line(LineRefused::BadLine { field })))
             }
@@ -128,26 +138,25 @@ impl<'c> Serving<'c> {
     }
 
     /// Answers a line, and writes the reply.
-    pub(crate) fn answer_line<S: Sink, K: Keeper>(
+    pub(crate) fn answer_line<S: Sink, K: Keeper, L: Link>(
         &mut self,
         alloc: Global,
         keepers: &mut K,
+        link: &mut L,
         output: &mut S,
         line: &[u8],
     ) -> Result<(), Interrupt>
         requires serving { MayServe K.TELLS self.old (K.state keepers.old).told }
-        ensures ok { OnOk result (Replies K.TELLS (serves self.old (K.state keepers.old)) line.now
-            (serves self.new (K.state keepers.new)) (Appends
-            (S.taken output.old) (S.taken output.new))) }
-        ensures err { OnErr result (RepliesInPart K.TELLS (serves self.old
-            (K.state keepers.old)) line.now
-            (serves self.new (K.state keepers.new)) (S.taken output.old) (S.taken output.new)) }
+        ensures ok { OnOk result (Replies K.TELLS (serves self.old (outside (K.state keepers.old) (L.shown link.old))) line.now
+            (serves self.new (outside (K.state keepers.new) (L.shown link.new))) (Appends (S.taken output.old) (S.taken output.new))) }
+        ensures err { OnErr result (RepliesInPart K.TELLS (serves self.old (outside (K.state keepers.old) (L.shown link.old))) line.now
+            (serves self.new (outside (K.state keepers.new) (L.shown link.new))) (S.taken output.old) (S.taken output.new)) }
         ensures serving { MayServe K.TELLS self.new (K.state keepers.new).told }
         ensures tables { LeavesTables K.TELLS (K.state keepers.old) (K.state keepers.new) }
         ensures cause { IfErr result (InterruptsWriting (S.faults output.old) (S.faults output.new)) }
         ensures later { S.faults output.old ≤ S.faults output.new }
     {
-        let reply = self.answer(alloc, keepers, line)?;
+        let reply = self.answer(alloc, keepers, link, line)?;
         self.say(alloc, output, &reply)
     }
 

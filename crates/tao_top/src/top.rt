@@ -7,6 +7,7 @@ ghost use Rattle.counts.specs.Count.{Rose};
 ghost use Rattle.graph_model.specs.Told.{WhereTold};
 ghost use Rattle.tao_keeper.specs.Growing.{LogsGrow};
 ghost use Rattle.tao_top.specs.Kept.{LeavesTables, MayRun, StillBegin};
+ghost use Rattle.tao_top.specs.Outside.{outside};
 ghost use Rattle.tao_top.specs.Served.{Done, EndsInPart, FailsOpening, RefusesConfiguration, StopsOpening, traces};
 ghost use Rattle.tao_top.specs.Stop.{StopHasCause, faults, stop_code};
 ghost use Rattle.tao_top.specs.declared.stop.Interrupt.TheVariants.{InputTooLong};
@@ -20,28 +21,31 @@ use command_words::{Words, WordsRefusal, read_words};
 use std::alloc::Global;
 use tao_io::{LineReader, Sink, Source, Status};
 use tao_keeper::Keeper;
+use tao_link::Link;
 
 /// Reads the lines of the input, and writes the reply to each.
 #[tactic(auto, using(crate::proofs::Keeping::leaves_same))]
-fn go<R: Source, S: Sink, K: Keeper>(
+fn go<R: Source, S: Sink, K: Keeper, L: Link>(
     alloc: Global,
     input: &mut R,
     output: &mut S,
     keepers: &mut K,
+    link: &mut L,
 ) -> Result<(), Stop>
     requires sound { WhereTold K.TELLS (MayRun (R.left input.old) (K.state keepers.old).told) }
     ensures tables { LeavesTables K.TELLS (K.state keepers.old) (K.state keepers.new) }
     ensures ok { OnOk result (Done K.TELLS
-        (K.state keepers.old) (K.state keepers.new) (R.left input.old)
+        (outside (K.state keepers.old) (L.shown link.old)) (outside (K.state keepers.new) (L.shown link.new)) (R.left input.old)
         (S.taken output.old) (S.taken output.new)) }
     ensures short { OnOk result (IfSome (R.left input.old) (λ bytes. length bytes < 2 ^ 40)) }
     ensures err { IfErr result (λ stop. EndsInPart (stop_code stop) K.TELLS
-        (traces (K.state keepers.old) (S.taken output.old)) (traces (K.state keepers.new) (S.taken output.new)) (R.left input.old)) }
+        (traces (outside (K.state keepers.old) (L.shown link.old)) (S.taken output.old))
+        (traces (outside (K.state keepers.new) (L.shown link.new)) (S.taken output.new)) (R.left input.old)) }
     ensures keepers { result ≡ Err Stop.Keepers → StopsOpening K.TELLS
-        (K.state keepers.old) (K.state keepers.new) (R.left input.old)
+        (outside (K.state keepers.old) (L.shown link.old)) (outside (K.state keepers.new) (L.shown link.new)) (R.left input.old)
         (S.taken output.old) (S.taken output.new) }
     ensures refused { result ≡ Err Stop.Configuration → RefusesConfiguration K.TELLS
-        (K.state keepers.old) (K.state keepers.new) (R.left input.old)
+        (outside (K.state keepers.old) (L.shown link.old)) (outside (K.state keepers.new) (L.shown link.new)) (R.left input.old)
         (S.taken output.old) (S.taken output.new) }
     ensures cause { IfErr result (StopHasCause
         (faults (R.faults input.old) (S.faults output.old)) (faults (R.faults input.new) (S.faults output.new))
@@ -55,7 +59,15 @@ fn go<R: Source, S: Sink, K: Keeper>(
     let mut reader = LineReader::new(alloc)?;
     let first = read_first(alloc, &mut reader, input, output)?;
     let mut serving = begin(alloc, &first, output, keepers)?;
-    serve(alloc, &mut serving, &mut reader, input, output, keepers)?;
+    serve(
+        alloc,
+        &mut serving,
+        &mut reader,
+        input,
+        output,
+        keepers,
+        link,
+    )?;
     Ok(())
 }
 
@@ -73,7 +85,7 @@ fn refusal(alloc: Global, words: &[String]) -> Option<u8>
 }
 
 /// Reads lines, the first of them the configuration and each later one a request, and writes one
-/// reply line to each. Returns for every input. Memory grows with the store, and not with the
+/// reply line to each. The nodes reach one another over the link. Returns for every input. Memory grows with the store, and not with the
 /// input. The status is
 ///
 /// - 0 where the input was read to its end, and each reply written whole;
@@ -87,12 +99,13 @@ fn refusal(alloc: Global, words: &[String]) -> Option<u8>
 /// What was written before any status is a front of the replies' lines. With 6 nothing was: a keeper that
 /// fails later is told of in a reply. Of the source at most 2^40 bytes are taken, with 0 all of them, and with
 /// 3 none past those in which the first line's end came, 65,536 at a time.
-pub fn run<R: Source, S: Sink, K: Keeper>(
+pub fn run<R: Source, S: Sink, K: Keeper, L: Link>(
     alloc: Global,
     words: &[String],
     input: &mut R,
     output: &mut S,
     keepers: &mut K,
+    link: &mut L,
 ) -> Status
     // What the first line opens is sound with it. A later run may begin with each line with which this one might.
     requires sound { WhereTold K.TELLS (MayRun (R.left input.old) (K.state keepers.old).told) }
@@ -100,21 +113,23 @@ pub fn run<R: Source, S: Sink, K: Keeper>(
     ensures histories { LogsGrow K.TELLS (K.state keepers.old).told (K.state keepers.new).told }
 
     ensures done { result.code ≡ 0 → Done K.TELLS
-        (K.state keepers.old) (K.state keepers.new) (R.left input.old)
+        (outside (K.state keepers.old) (L.shown link.old)) (outside (K.state keepers.new) (L.shown link.new)) (R.left input.old)
         (S.taken output.old) (S.taken output.new) }
     ensures in_part { EndsInPart result.code K.TELLS
-        (traces (K.state keepers.old) (S.taken output.old)) (traces (K.state keepers.new) (S.taken output.new)) (R.left input.old) }
+        (traces (outside (K.state keepers.old) (L.shown link.old)) (S.taken output.old))
+        (traces (outside (K.state keepers.new) (L.shown link.new)) (S.taken output.new)) (R.left input.old) }
 
     ensures words { result.code ≡ 2 → words_in (map string_bytes words.now) ≡ Err Usage }
     ensures usage { words_in (map string_bytes words.now) ≡ Err Usage → (result.code ≡ 2) ⊎ (result.code ≡ 7) }
-    ensures idle { words_in (map string_bytes words.now) ≡ Err Usage → (input.new ≡ input.old) × (output.new ≡ output.old) × (keepers.new ≡ keepers.old) }
+    ensures idle { words_in (map string_bytes words.now) ≡ Err Usage → (input.new ≡ input.old) × (output.new ≡ output.old) × (keepers.new ≡ keepers.old)
+        × (link.new ≡ link.old) }
     ensures configuration { result.code ≡ 3 → RefusesConfiguration K.TELLS
-        (K.state keepers.old) (K.state keepers.new) (R.left input.old)
+        (outside (K.state keepers.old) (L.shown link.old)) (outside (K.state keepers.new) (L.shown link.new)) (R.left input.old)
         (S.taken output.old) (S.taken output.new) }
     ensures source { result.code ≡ 4 → Rose (R.faults input.old) (R.faults input.new) }
     ensures sink { result.code ≡ 5 → Rose (S.faults output.old) (S.faults output.new) }
     ensures keepers { result.code ≡ 6 → FailsOpening K.TELLS
-        (K.state keepers.old) (K.state keepers.new) (R.left input.old)
+        (outside (K.state keepers.old) (L.shown link.old)) (outside (K.state keepers.new) (L.shown link.new)) (R.left input.old)
         (S.taken output.old) (S.taken output.new) }
     ensures long { result.code ≡ 9 → IfSome (R.left input.old) (λ bytes. 2 ^ 40 ≤ length bytes) }
     ensures short { result.code ≡ 0 → IfSome (R.left input.old) (λ bytes. length bytes < 2 ^ 40) }
@@ -132,7 +147,7 @@ pub fn run<R: Source, S: Sink, K: Keeper>(
 {
     let code = match refusal(alloc, words) {
         Some(code) => code,
-        None => match go(alloc, input, output, keepers) {
+        None => match go(alloc, input, output, keepers, link) {
             Ok(()) => 0,
             Err(stop) => stop.code(),
         },

@@ -1,8 +1,9 @@
-use Rattle.std.proofs.Common.{◌≡◌, subst, sym}
+use Rattle.std.proofs.Common.{◌≡◌, refl, subst, sym}
 use Rattle.graph_model.specs.Told.{WhereTold}
-use Rattle.tao_core.specs.Opening.{IsOpened, IsOtherLine, MayOpen, RefusesOpening}
-use Rattle.tao_top.proofs.FirstLine.{begins, begun_other, begun_silent, refuses_other}
+use Rattle.core_nodes.specs.Opening.{IsOpened, IsOtherLine, MayOpen, RefusesOpening}
+use Rattle.tao_top.proofs.FirstLine.{begins, begun_other, begun_whatever, refuses_other}
 use Rattle.tao_top.proofs.OneLine.{IfErr-any}
+use Rattle.tao_top.specs.Outside.{outside}
 use Rattle.tao_top.specs.Stop.{stop_code}
 use Rattle.tao_top.specs.declared.stop.Stop.TheVariants.{Configuration}
 use Rattle.tao_top.proofs.begin.begin.Goals as goal
@@ -11,14 +12,14 @@ pub returns-in_err-say-in-Ok-clause-err : goal.returns-in_err-say-in-Ok-clause-e
 returns-in_err-say-in-Ok-clause-err g c =
     let keepers = g.K.Keeper.state in
     let opened = subst (λ l. WhereTold g.K.Keeper.TELLS (IsOpened c.args.first.now.config l (g.K.Keeper.state c.args.keepers.now).told (g.K.Keeper.state c.open.new.keepers).told)) c.deref.ensures.value c.in-Ok.ensures.opened in
-    IfErr-any _ _ (λ stop. begun_silent g.K.Keeper.TELLS (keepers c.args.keepers.now) (keepers c.open.new.keepers) c.args.first.now.line.items c.args.first.now.config c.requires.configured c.in-Ok.ensures.later _ _
+    IfErr-any _ _ (λ stop. begun_whatever g.K.Keeper.TELLS (keepers c.args.keepers.now) (keepers c.open.new.keepers) c.args.first.now.line.items c.args.first.now.config c.requires.configured c.in-Ok.ensures.later _ _
     c.in-Ok.serving c.in-Ok.ensures.settings c.in-Ok.ensures.sessions opened c.in_err-say-in-Ok.ensures.err (stop_code stop))
 
 pub returns-in_ok-say-in-Ok-clause-ok : goal.returns-in_ok-say-in-Ok-clause-ok
 returns-in_ok-say-in-Ok-clause-ok g c =
     let keepers = g.K.Keeper.state in
     let opened = subst (λ l. WhereTold g.K.Keeper.TELLS (IsOpened c.args.first.now.config l (g.K.Keeper.state c.args.keepers.now).told (g.K.Keeper.state c.open.new.keepers).told)) c.deref.ensures.value c.in-Ok.ensures.opened in
-    begins g.K.Keeper.TELLS (keepers c.args.keepers.now) (keepers c.open.new.keepers) c.args.first.now.line.items c.args.first.now.config c.requires.configured c.in-Ok.ensures.later _ _
+    λ link. begins g.K.Keeper.TELLS (outside (keepers c.args.keepers.now) link) (outside (keepers c.open.new.keepers) link) c.args.first.now.line.items c.args.first.now.config c.requires.configured c.in-Ok.ensures.later refl _ _
     c.in-Ok.serving c.in-Ok.ensures.settings c.in-Ok.ensures.sessions opened c.in_ok-say-in-Ok.ensures.ok
 
 pub returns-in-Err-OtherLine-clause-err : goal.returns-in-Err-OtherLine-clause-err
@@ -26,7 +27,7 @@ returns-in-Err-OtherLine-clause-err g c =
     let keepers = g.K.Keeper.state in
     let refused = subst (λ r. RefusesOpening g.K.Keeper.TELLS c.args.first.now.config c.deref.result.now (keepers c.args.keepers.now) (keepers c.open.new.keepers) r) c.in-Err-OtherLine.field-0-is c.in-Err-OtherLine.ensures.refused in
     let other = subst (λ l. WhereTold g.K.Keeper.TELLS (IsOtherLine c.args.first.now.config l (g.K.Keeper.state c.args.keepers.now).told (g.K.Keeper.state c.open.new.keepers).told)) c.deref.ensures.value refused in
-    begun_other g.K.Keeper.TELLS (keepers c.args.keepers.now) (keepers c.open.new.keepers) c.args.first.now.line.items c.args.first.now.config c.requires.configured c.in-Err-OtherLine.ensures.later _ _ other c.refuse.ensures.part (stop_code c.refuse.result)
+    λ link. begun_other g.K.Keeper.TELLS (outside (keepers c.args.keepers.now) link) (outside (keepers c.open.new.keepers) link) c.args.first.now.line.items c.args.first.now.config c.requires.configured c.in-Err-OtherLine.ensures.later refl _ _ other c.refuse.ensures.part (stop_code c.refuse.result)
 
 pub returns-in-Err-OtherLine-clause-refused : goal.returns-in-Err-OtherLine-clause-refused
 returns-in-Err-OtherLine-clause-refused g c = λ e.
@@ -34,7 +35,7 @@ returns-in-Err-OtherLine-clause-refused g c = λ e.
     let refused = subst (λ r. RefusesOpening g.K.Keeper.TELLS c.args.first.now.config c.deref.result.now (keepers c.args.keepers.now) (keepers c.open.new.keepers) r) c.in-Err-OtherLine.field-0-is c.in-Err-OtherLine.ensures.refused in
     let other = subst (λ l. WhereTold g.K.Keeper.TELLS (IsOtherLine c.args.first.now.config l (g.K.Keeper.state c.args.keepers.now).told (g.K.Keeper.state c.open.new.keepers).told)) c.deref.ensures.value refused in
     let whole : c.refuse.result ≡ Configuration = cc e in
-    refuses_other g.K.Keeper.TELLS (keepers c.args.keepers.now) (keepers c.open.new.keepers) c.args.first.now.line.items c.args.first.now.config c.requires.configured c.in-Err-OtherLine.ensures.later _ _ other (c.refuse.ensures.whole whole)
+    λ link. refuses_other g.K.Keeper.TELLS (outside (keepers c.args.keepers.now) link) (outside (keepers c.open.new.keepers) link) c.args.first.now.line.items c.args.first.now.config c.requires.configured c.in-Err-OtherLine.ensures.later refl _ _ other (c.refuse.ensures.whole whole)
 
 pub open-requires-clause-sound : goal.open-requires-clause-sound
 open-requires-clause-sound g c = subst (λ l. WhereTold g.K.Keeper.TELLS (MayOpen c.args.first.now.config l (g.K.Keeper.state c.args.keepers.now).told)) (sym c.deref.ensures.value) c.requires.sound

@@ -1,9 +1,10 @@
 use Rattle.tao_top.proofs.OneLine.{OnErr-any, line_of_Line, line_of_TooLong, part_answered, part_refused, part_unread, served_answered, served_refused}
+use Rattle.tao_top.specs.Outside.{outside}
 use Rattle.tao_top.specs.Served.{serves}
 use Rattle.tao_top.proofs.serve.serve_line.Goals as goal
 
 pub returns-in_err-next-clause-err : goal.returns-in_err-next-clause-err
-returns-in_err-next-clause-err g c = OnErr-any _ _ (part_unread _ (serves c.args.serving.now (g.K.Keeper.state c.args.keepers.now)) _ _)
+returns-in_err-next-clause-err g c = OnErr-any _ _ (part_unread _ (serves c.args.serving.now (outside (g.K.Keeper.state c.args.keepers.now) (g.L.Link.shown c.args.link.now))) _ _)
 
 pub returns-in_err-refuse_line-in-TooLong-clause-err : goal.returns-in_err-refuse_line-in-TooLong-clause-err
 returns-in_err-refuse_line-in-TooLong-clause-err g c = OnErr-any _ _ (part_refused _ _ _ _ _ _ _ (line_of_TooLong _ _ _ _ c.in_ok-next.ensures.next c.in-TooLong.is) c.in_err-refuse_line-in-TooLong.ensures.err)

@@ -1,55 +1,61 @@
-use Rattle.std.proofs.Common.{◌≡◌, Err, ap, inr, subst, sym}
+use Rattle.std.proofs.Common.{◌≡◌, Err, ap, arith, inr, subst, sym}
 use Rattle.std.proofs.lemmas.Result.{err_from_is_err_and}
 use Rattle.tao_io.proofs.GivenLines.{CountsTaken-trans}
 use Rattle.tao_top.proofs.FirstLine.{gives_one}
 use Rattle.tao_top.proofs.Keeping.{leaves_then}
 use Rattle.tao_top.proofs.OneLine.{IfErr-any, part_unread}
-use Rattle.tao_top.proofs.WholeRun.{begun_in_part, begun_opening, begun_refused, begun_well, done, done_part, end_of_source, first_in_part, first_refused, fresh, long_input, may_open, short_input, takes_counted, takes_first, takes_none}
+use Rattle.tao_top.proofs.WholeRun.{begun_in_part, begun_opening, begun_refused, begun_well, done, done_part, end_of_source, first_in_part, first_refused, fresh, interrupt_later, long_input, may_open, short_input, takes_counted, takes_first, takes_none}
+use Rattle.tao_top.specs.Outside.{outside}
 use Rattle.tao_top.specs.Served.{EndsInPart, start, traces}
-use Rattle.tao_top.specs.Stop.{stop_code}
+use Rattle.tao_top.specs.Stop.{FaultsGrow, InterruptHasCause, StopHasCause, faults, stop_code}
 use Rattle.tao_top.specs.declared.stop.Interrupt.TheVariants.{InputTooLong}
 use Rattle.tao_top.specs.declared.stop.Stop.TheVariants.{Configuration, Keepers}
 use Rattle.tao_top.proofs.top.go.Goals as goal
 
 pub returns-in_err-reader-clause-err : goal.returns-in_err-reader-clause-err
-returns-in_err-reader-clause-err g c = IfErr-any _ _ (λ stop. inr (inr (part_unread g.K.Keeper.TELLS (start (g.K.Keeper.state c.args.keepers.now)) _ _)))
+returns-in_err-reader-clause-err g c = IfErr-any _ _ (λ stop. inr (inr (part_unread g.K.Keeper.TELLS (start (outside (g.K.Keeper.state c.args.keepers.now) (g.L.Link.shown c.args.link.now))) _ _)))
 
 pub returns-in_err-first-clause-err : goal.returns-in_err-first-clause-err
 returns-in_err-first-clause-err g c =
-    IfErr-any _ _ (λ stop. inr (first_in_part g.K.Keeper.TELLS (g.K.Keeper.state c.args.keepers.now) _ _ _ _ (fresh c.in_ok-reader.reader _ c.in_ok-reader.ensures.ahead) c.in_err-first.ensures.err))
+    IfErr-any _ _ (λ stop. inr (first_in_part g.K.Keeper.TELLS (outside (g.K.Keeper.state c.args.keepers.now) (g.L.Link.shown c.args.link.now)) _ _ _ _ (fresh c.in_ok-reader.reader _ c.in_ok-reader.ensures.ahead) c.in_err-first.ensures.err))
 
 pub returns-in_err-first-clause-refused : goal.returns-in_err-first-clause-refused
 returns-in_err-first-clause-refused g c = λ e.
     let p = err_from_is_err_and c.from_residual-in_err-first.result c.from_residual-in_err-first.ensures.1 in
     let same : c.in_err-first.field-0.0 ≡ Configuration = cc (e, p.1, p.2) in
-    first_refused g.K.Keeper.TELLS (g.K.Keeper.state c.args.keepers.now) _ _ _ _ (fresh c.in_ok-reader.reader _ c.in_ok-reader.ensures.ahead)
+    first_refused g.K.Keeper.TELLS (outside (g.K.Keeper.state c.args.keepers.now) (g.L.Link.shown c.args.link.now)) _ _ _ _ (fresh c.in_ok-reader.reader _ c.in_ok-reader.ensures.ahead)
     (c.in_err-first.ensures.refused (ap (λ s. Err s) same))
 
 pub returns-in_err-serving-clause-err : goal.returns-in_err-serving-clause-err
 returns-in_err-serving-clause-err g c =
-    let keepers = g.K.Keeper.state in
+    let before = outside (g.K.Keeper.state c.args.keepers.now) (g.L.Link.shown c.args.link.now) in
+    let begun = outside (g.K.Keeper.state c.begin.new.keepers) (g.L.Link.shown c.args.link.now) in
     let p = err_from_is_err_and c.from_residual-in_err-serving.result c.from_residual-in_err-serving.ensures.1 in
     let part =
-    begun_in_part g.K.Keeper.TELLS (keepers c.args.keepers.now) (keepers c.begin.new.keepers) _ _ _ _ _ _ c.in_ok-first.first.line.items
-    (fresh c.in_ok-reader.reader _ c.in_ok-reader.ensures.ahead) (ap g.S.Sink.taken c.in_ok-first.ensures.silent) c.in_ok-first.ensures.line (stop_code c.in_err-serving.field-0.0) c.in_err-serving.ensures.err in
+    begun_in_part g.K.Keeper.TELLS before begun _ _ _ _ _ _ c.in_ok-first.first.line.items
+    (fresh c.in_ok-reader.reader _ c.in_ok-reader.ensures.ahead) (ap g.S.Sink.taken c.in_ok-first.ensures.silent) c.in_ok-first.ensures.line (stop_code c.in_err-serving.field-0.0)
+    (c.in_err-serving.ensures.err (g.L.Link.shown c.args.link.now)) in
     rw p.1 (subst
-    (λ stop. EndsInPart (stop_code stop) g.K.Keeper.TELLS (traces (keepers c.args.keepers.now) (g.S.Sink.taken c.args.output.now)) (traces (keepers c.begin.new.keepers) (g.S.Sink.taken c.begin.new.output)) (g.R.Source.left c.args.input.now))
+    (λ stop. EndsInPart (stop_code stop) g.K.Keeper.TELLS (traces before (g.S.Sink.taken c.args.output.now)) (traces begun (g.S.Sink.taken c.begin.new.output)) (g.R.Source.left c.args.input.now))
     (sym p.2) part)
 
 pub returns-in_err-serving-clause-refused : goal.returns-in_err-serving-clause-refused
 returns-in_err-serving-clause-refused g c = λ e.
-    let keepers = g.K.Keeper.state in
+    let before = outside (g.K.Keeper.state c.args.keepers.now) (g.L.Link.shown c.args.link.now) in
+    let begun = outside (g.K.Keeper.state c.begin.new.keepers) (g.L.Link.shown c.args.link.now) in
     let p = err_from_is_err_and c.from_residual-in_err-serving.result c.from_residual-in_err-serving.ensures.1 in
     let same : c.in_err-serving.field-0.0 ≡ Configuration = cc (e, p.1, p.2) in
-    begun_refused g.K.Keeper.TELLS (keepers c.args.keepers.now) (keepers c.begin.new.keepers) _ _ _ _ _ _ c.in_ok-first.first.line.items
-    (fresh c.in_ok-reader.reader _ c.in_ok-reader.ensures.ahead) (ap g.S.Sink.taken c.in_ok-first.ensures.silent) c.in_ok-first.ensures.line (c.in_err-serving.ensures.refused (ap (λ s. Err s) same))
+    begun_refused g.K.Keeper.TELLS before begun _ _ _ _ _ _ c.in_ok-first.first.line.items
+    (fresh c.in_ok-reader.reader _ c.in_ok-reader.ensures.ahead) (ap g.S.Sink.taken c.in_ok-first.ensures.silent) c.in_ok-first.ensures.line (c.in_err-serving.ensures.refused (ap (λ s. Err s) same) (g.L.Link.shown c.args.link.now))
 
 pub returns-in_err-serve-clause-err : goal.returns-in_err-serve-clause-err
 returns-in_err-serve-clause-err g c =
-    let keepers = g.K.Keeper.state in
-    IfErr-any _ _ (λ stop. inr (done_part g.K.Keeper.TELLS (keepers c.args.keepers.now) (keepers c.begin.new.keepers) (keepers c.serve.new.keepers) c.in_ok-serving.serving _ _ _ _ _
-    (begun_well g.K.Keeper.TELLS (keepers c.args.keepers.now) (keepers c.begin.new.keepers) _ _ _ _ _ _ c.in_ok-first.first.line.items
-    (fresh c.in_ok-reader.reader _ c.in_ok-reader.ensures.ahead) (ap g.S.Sink.taken c.in_ok-first.ensures.silent) c.in_ok-first.ensures.line c.in_ok-serving.serving c.in_ok-serving.ensures.ok)
+    let before = outside (g.K.Keeper.state c.args.keepers.now) (g.L.Link.shown c.args.link.now) in
+    let begun = outside (g.K.Keeper.state c.begin.new.keepers) (g.L.Link.shown c.args.link.now) in
+    let served = outside (g.K.Keeper.state c.serve.new.keepers) (g.L.Link.shown c.serve.new.link) in
+    IfErr-any _ _ (λ stop. inr (done_part g.K.Keeper.TELLS before begun served c.in_ok-serving.serving _ _ _ _ _
+    (begun_well g.K.Keeper.TELLS before begun _ _ _ _ _ _ c.in_ok-first.first.line.items
+    (fresh c.in_ok-reader.reader _ c.in_ok-reader.ensures.ahead) (ap g.S.Sink.taken c.in_ok-first.ensures.silent) c.in_ok-first.ensures.line c.in_ok-serving.serving (c.in_ok-serving.ensures.ok (g.L.Link.shown c.args.link.now)))
     c.in_err-serve.ensures.err))
 
 pub returns-in_err-serve-clause-long : goal.returns-in_err-serve-clause-long
@@ -58,12 +64,27 @@ returns-in_err-serve-clause-long g c = λ e.
     let same : c.in_err-serve.field-0.0 ≡ InputTooLong = cc (e, p.1, p.2) in
     long_input _ _ _ _ c.in_ok-reader.ensures.taken (CountsTaken-trans _ _ _ _ _ _ c.read_first.ensures.counted c.serve.ensures.counted) (c.in_err-serve.ensures.long (ap (λ i. Err i) same))
 
+pub returns-in_err-serve-clause-cause : goal.returns-in_err-serve-clause-cause
+returns-in_err-serve-clause-cause g c =
+    let source = g.R.Source.faults in
+    let sink = g.S.Sink.faults in
+    let p = err_from_is_err_and c.from_residual-in_err-serve.result c.from_residual-in_err-serve.ensures.1 in
+    let before = faults (source c.args.input.now) (sink c.args.output.now) in
+    let begun = faults (source c.read_first.new.input) (sink c.begin.new.output) in
+    let after = faults (source c.serve.new.input) (sink c.serve.new.output) in
+    let first = c.read_first.ensures.later in
+    let grew : FaultsGrow before begun = record { source = first.source; sink = omega (arith, first.sink, c.begin.ensures.later) } in
+    let cause : InterruptHasCause before after c.in_err-serve.field-0.0 = interrupt_later before begun after c.in_err-serve.field-0.0 grew c.in_err-serve.ensures.cause in
+    rw p.1 (subst (StopHasCause before after (g.K.Keeper.state c.args.keepers.now).faults (g.K.Keeper.state c.serve.new.keepers).faults) (sym p.2) cause)
+
 pub returns-clause-ok : goal.returns-clause-ok
 returns-clause-ok g c =
-    let keepers = g.K.Keeper.state in
-    done g.K.Keeper.TELLS (keepers c.args.keepers.now) (keepers c.begin.new.keepers) (keepers c.serve.new.keepers) c.in_ok-serving.serving _ _ _ _ _
-    (begun_well g.K.Keeper.TELLS (keepers c.args.keepers.now) (keepers c.begin.new.keepers) _ _ _ _ _ _ c.in_ok-first.first.line.items
-    (fresh c.in_ok-reader.reader _ c.in_ok-reader.ensures.ahead) (ap g.S.Sink.taken c.in_ok-first.ensures.silent) c.in_ok-first.ensures.line c.in_ok-serving.serving c.in_ok-serving.ensures.ok)
+    let before = outside (g.K.Keeper.state c.args.keepers.now) (g.L.Link.shown c.args.link.now) in
+    let begun = outside (g.K.Keeper.state c.begin.new.keepers) (g.L.Link.shown c.args.link.now) in
+    let served = outside (g.K.Keeper.state c.serve.new.keepers) (g.L.Link.shown c.serve.new.link) in
+    done g.K.Keeper.TELLS before begun served c.in_ok-serving.serving _ _ _ _ _
+    (begun_well g.K.Keeper.TELLS before begun _ _ _ _ _ _ c.in_ok-first.first.line.items
+    (fresh c.in_ok-reader.reader _ c.in_ok-reader.ensures.ahead) (ap g.S.Sink.taken c.in_ok-first.ensures.silent) c.in_ok-first.ensures.line c.in_ok-serving.serving (c.in_ok-serving.ensures.ok (g.L.Link.shown c.args.link.now)))
     c.serve.new.serving c.in_ok-serve.ensures.ok
 
 pub returns-clause-short : goal.returns-clause-short
@@ -78,11 +99,12 @@ begin-requires-clause-sound g c =
 
 pub returns-in_err-serving-clause-keepers : goal.returns-in_err-serving-clause-keepers
 returns-in_err-serving-clause-keepers g c = λ e.
-    let keepers = g.K.Keeper.state in
+    let before = outside (g.K.Keeper.state c.args.keepers.now) (g.L.Link.shown c.args.link.now) in
+    let begun = outside (g.K.Keeper.state c.begin.new.keepers) (g.L.Link.shown c.args.link.now) in
     let p = err_from_is_err_and c.from_residual-in_err-serving.result c.from_residual-in_err-serving.ensures.1 in
     let same : c.in_err-serving.field-0.0 ≡ Keepers = cc (e, p.1, p.2) in
-    begun_opening g.K.Keeper.TELLS (keepers c.args.keepers.now) (keepers c.begin.new.keepers) _ _ _ _ _ _ c.in_ok-first.first.line.items
-    (fresh c.in_ok-reader.reader _ c.in_ok-reader.ensures.ahead) (ap g.S.Sink.taken c.in_ok-first.ensures.silent) c.in_ok-first.ensures.line (c.in_err-serving.ensures.keepers (ap (λ s. Err s) same))
+    begun_opening g.K.Keeper.TELLS before begun _ _ _ _ _ _ c.in_ok-first.first.line.items
+    (fresh c.in_ok-reader.reader _ c.in_ok-reader.ensures.ahead) (ap g.S.Sink.taken c.in_ok-first.ensures.silent) c.in_ok-first.ensures.line (c.in_err-serving.ensures.keepers (ap (λ s. Err s) same) (g.L.Link.shown c.args.link.now))
 
 -- ---- what was taken
 

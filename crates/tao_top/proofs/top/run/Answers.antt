@@ -2,28 +2,32 @@ use Rattle.std.proofs.Common.{◌≡◌, ◌⊎◌, ℕ, Err, ap, inl, inr, lit<
 use Rattle.tao_top.proofs.Complete.{known_status}
 use Rattle.tao_top.proofs.OneLine.{part_unread}
 use Rattle.tao_top.proofs.WholeRun.{done_whole, fails_opening, takes_none}
+use Rattle.tao_top.specs.Outside.{outside}
 use Rattle.tao_top.specs.Served.{EndsInPart, start, traces}
 use Rattle.tao_top.specs.Status.{IsStatus}
 use Rattle.tao_top.proofs.top.run.Goals as goal
 
 pub returns-in-Some-clause-in_part : goal.returns-in-Some-clause-in_part
-returns-in-Some-clause-in_part g c = inr (inr (part_unread g.K.Keeper.TELLS (start (g.K.Keeper.state c.args.keepers.now)) _ _))
+returns-in-Some-clause-in_part g c = inr (inr (part_unread g.K.Keeper.TELLS (start (outside (g.K.Keeper.state c.args.keepers.now) (g.L.Link.shown c.args.link.now))) _ _))
 
 pub returns-in-Ok-clause-in_part : goal.returns-in-Ok-clause-in_part
 returns-in-Ok-clause-in_part g c =
-    let keepers = g.K.Keeper.state in
-    inr (done_whole g.K.Keeper.TELLS (keepers c.args.keepers.now) (keepers c.go.new.keepers) _ _ _ c.in-Ok.ensures.ok)
+    let before = outside (g.K.Keeper.state c.args.keepers.now) (g.L.Link.shown c.args.link.now) in
+    let after = outside (g.K.Keeper.state c.go.new.keepers) (g.L.Link.shown c.go.new.link) in
+    inr (done_whole g.K.Keeper.TELLS before after _ _ _ c.in-Ok.ensures.ok)
 
 pub returns-in-Err-clause-in_part : goal.returns-in-Err-clause-in_part
 returns-in-Err-clause-in_part g c =
-    let keepers = g.K.Keeper.state in
-    subst (λ code. EndsInPart code g.K.Keeper.TELLS (traces (keepers c.args.keepers.now) (g.S.Sink.taken c.args.output.now)) (traces (keepers c.go.new.keepers) (g.S.Sink.taken c.go.new.output)) (g.R.Source.left c.args.input.now))
+    let before = outside (g.K.Keeper.state c.args.keepers.now) (g.L.Link.shown c.args.link.now) in
+    let after = outside (g.K.Keeper.state c.go.new.keepers) (g.L.Link.shown c.go.new.link) in
+    subst (λ code. EndsInPart code g.K.Keeper.TELLS (traces before (g.S.Sink.taken c.args.output.now)) (traces after (g.S.Sink.taken c.go.new.output)) (g.R.Source.left c.args.input.now))
     (sym c.code.ensures) c.in-Err.ensures.err
 
 pub returns-in-Err-clause-keepers : goal.returns-in-Err-clause-keepers
 returns-in-Err-clause-keepers g c = λ is.
-    let keepers = g.K.Keeper.state in
-    fails_opening g.K.Keeper.TELLS (keepers c.args.keepers.now) (keepers c.go.new.keepers) _ _ _ _ _ c.in-Err.stop (sym c.code.ensures ∙ is) (λ same. c.in-Err.ensures.keepers (ap (λ s. Err s) same)) c.in-Err.ensures.cause
+    let before = outside (g.K.Keeper.state c.args.keepers.now) (g.L.Link.shown c.args.link.now) in
+    let after = outside (g.K.Keeper.state c.go.new.keepers) (g.L.Link.shown c.go.new.link) in
+    fails_opening g.K.Keeper.TELLS before after _ _ _ _ _ c.in-Err.stop (sym c.code.ensures ∙ is) (λ same. c.in-Err.ensures.keepers (ap (λ s. Err s) same)) c.in-Err.ensures.cause
 
 pub returns-in-Some-clause-taken : goal.returns-in-Some-clause-taken
 returns-in-Some-clause-taken g c = takes_none (g.R.Source.left c.args.input.now)

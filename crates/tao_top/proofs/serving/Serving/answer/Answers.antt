@@ -6,5 +6,7 @@ use Rattle.tao_top.proofs.serving.Serving.answer.Goals as goal
 pub returns-in-Ok-clause-does : goal.returns-in-Ok-clause-does
 returns-in-Ok-clause-does g c =
     let state = g.K.Keeper.state in
-    subst (λ asked. AnswersLine g.K.Keeper.TELLS (moment c.args.self.now (state c.args.keepers.now)) asked c.call.result (moment c.call.new.self (state c.call.new.keepers)))
+    let shown = g.L.Link.shown in
+    subst (λ asked. AnswersLine g.K.Keeper.TELLS (moment c.args.self.now (state c.args.keepers.now) (shown c.args.link.now)) asked c.call.result
+    (moment c.call.new.self (state c.call.new.keepers) (shown c.call.new.link)))
     (sym c.in-Ok.ensures) c.call.ensures.does

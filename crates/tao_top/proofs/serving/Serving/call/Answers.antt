@@ -1,20 +1,27 @@
 use Rattle.tao_top.proofs.Growing.{call_answers, call_leaves, call_serves_on}
+use Rattle.tao_top.specs.Outside.{outside}
 use Rattle.tao_top.proofs.serving.Serving.call.Goals as goal
 
 pub returns-clause-does : goal.returns-clause-does
 returns-clause-does g c =
     let state = g.K.Keeper.state in
-    call_answers g.K.Keeper.TELLS c.args.self.now c.self.inside.core c.call.new.self (state c.args.keepers.now) (state c.call.new.keepers) c.self.view_is c.call.ensures.settings
+    let shown = g.L.Link.shown in
+    call_answers g.K.Keeper.TELLS c.args.self.now c.self.inside.core c.call.new.self
+    (outside (state c.args.keepers.now) (shown c.args.link.now)) (outside (state c.call.new.keepers) (shown c.call.new.link)) c.self.view_is c.call.ensures.settings
     c.args.request.now c.call.result c.call.ensures.does
 
 pub returns-clause-serving : goal.returns-clause-serving
 returns-clause-serving g c =
     let state = g.K.Keeper.state in
-    call_serves_on g.K.Keeper.TELLS c.args.self.now c.self.inside.core c.call.new.self (state c.args.keepers.now) (state c.call.new.keepers) c.self.view_is c.call.ensures.settings
+    let shown = g.L.Link.shown in
+    call_serves_on g.K.Keeper.TELLS c.args.self.now c.self.inside.core c.call.new.self
+    (outside (state c.args.keepers.now) (shown c.args.link.now)) (outside (state c.call.new.keepers) (shown c.call.new.link)) c.self.view_is c.call.ensures.settings
     c.requires.serving c.call.ensures.grows c.call.ensures.keepers
 
 pub returns-clause-tables : goal.returns-clause-tables
 returns-clause-tables g c =
     let state = g.K.Keeper.state in
-    call_leaves g.K.Keeper.TELLS c.args.self.now c.self.inside.core c.call.new.self (state c.args.keepers.now) (state c.call.new.keepers) c.self.view_is c.call.ensures.settings
+    let shown = g.L.Link.shown in
+    call_leaves g.K.Keeper.TELLS c.args.self.now c.self.inside.core c.call.new.self
+    (outside (state c.args.keepers.now) (shown c.args.link.now)) (outside (state c.call.new.keepers) (shown c.call.new.link)) c.self.view_is c.call.ensures.settings
     c.requires.serving c.call.ensures.grows c.call.ensures.keepers

@@ -8,6 +8,7 @@ use keeper_map::{Fails, MapKeeper};
 use script_text::{Run, Script, Unread, describe, fault_of, read};
 use std::alloc::{AllocError, Global};
 use tao_io::{MemorySink, MemorySource, Sink, Source, Status};
+use tao_link::SteadyLink;
 
 /// The status of a run over the keeper, after which another may follow.
 fn run_kept<R: Source, S: Sink>(
@@ -20,7 +21,8 @@ fn run_kept<R: Source, S: Sink>(
     requires { MayBeginAny (told_by keeper.old) }
     ensures { MayBeginAny (told_by keeper.new) }
 {
-    tao_top::run(alloc, words, input, output, keeper)
+    let mut link = SteadyLink::make();
+    tao_top::run(alloc, words, input, output, keeper, &mut link)
 }
 
 /// The status of a run of a script, which writes to this sink.

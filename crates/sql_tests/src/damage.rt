@@ -1,6 +1,6 @@
 //! Rows that were damaged by hand are counted faults, and no wrong answers.
-use crate::files::remove;
-use crate::playing::{CONFIGURATION, FIRST, faults_of};
+use crate::files::{faults_over, remove};
+use crate::playing::FIRST;
 use keeper_sql::SqlKeeper;
 use sqlite::{Alter, Connection};
 use std::fs;
@@ -23,38 +23,60 @@ enum Call {
     FirstJob,
 }
 
-/// What is done to the tables, and what then is a fault.
-const ROWS: [(&str, Call); 14] = [
-    ("UPDATE log SET entry = x'00'", Call::Entry),
+/// What is done to the tables, what is asked then, and whether that is a fault.
+const ROWS: [(&str, Call, bool); 24] = [
+    ("UPDATE log SET entry = x'00'", Call::Entry, true),
     (
         "UPDATE log SET position = 70000 WHERE position = 1",
         Call::Origin,
+        true,
     ),
     (
         "UPDATE log SET position = 70000 WHERE position = 3",
         Call::Length,
+        true,
     ),
-    ("UPDATE edge SET live = 2", Call::Edge),
-    ("UPDATE edge SET number = 4611686018427387904", Call::Edge),
-    ("UPDATE edge SET data = x'01'", Call::Edge),
-    ("UPDATE edge SET time = 4294967296", Call::Edges),
-    ("UPDATE edge SET time = 0 - 1", Call::Edges),
+    ("UPDATE edge SET live = 2", Call::Edge, true),
+    (
+        "UPDATE edge SET number = 4611686018427387904",
+        Call::Edge,
+        true,
+    ),
+    ("UPDATE edge SET data = x'01'", Call::Edge, true),
+    ("UPDATE edge SET time = 4294967296", Call::Edges, true),
+    ("UPDATE edge SET time = 0 - 1", Call::Edges, true),
     (
         "UPDATE edge SET idkey = x'0000000000000001' WHERE id2 = 3",
         Call::Edges,
+        true,
     ),
-    ("UPDATE object SET otype = 65536", Call::Object),
-    ("UPDATE size SET n = 65537", Call::Count),
-    ("UPDATE version SET n = 0 - 1", Call::Version),
+    ("UPDATE object SET otype = 65536", Call::Object, true),
+    ("UPDATE size SET n = 65537", Call::Count, true),
+    ("UPDATE version SET n = 0 - 1", Call::Version, true),
     (
         "UPDATE store SET serial = 281474976710656",
         Call::LastSerial,
+        true,
     ),
     (
         "INSERT INTO job (region, shard, position, edges) VALUES (0, 0, 1, x'')",
         Call::FirstJob,
+        true,
     ),
+    (HARMLESS, Call::Entry, false),
+    (HARMLESS, Call::Edge, false),
+    (HARMLESS, Call::Edges, false),
+    (HARMLESS, Call::Object, false),
+    (HARMLESS, Call::Count, false),
+    (HARMLESS, Call::Version, false),
+    (HARMLESS, Call::Length, false),
+    (HARMLESS, Call::LastSerial, false),
+    (HARMLESS, Call::Origin, false),
+    (HARMLESS, Call::FirstJob, false),
 ];
+
+/// Of a run without an inverse no job is open.
+const HARMLESS: &str = "DELETE FROM job";
 
 const AT: StoreName = StoreName {
     region: 0,
@@ -92,13 +114,13 @@ fn call_fails<S: Alter + Drop>(keepers: &mut SqlKeeper<S>, call: Call, id: Id, t
     }
 }
 
-/// Whether the call fails over the file, and that is counted as one fault.
-fn is_fault(rt: &HostRuntime, path: &str, call: Call) -> Result<bool, Fail> {
+/// Whether the call fails over the file, and that is counted as the one fault; or it answers, and none is counted.
+fn is_as_told(rt: &HostRuntime, path: &str, call: Call, fault: bool) -> Result<bool, Fail> {
     let id = Id::read(1).ok_or("an id")?;
     let to = Id::read(2).ok_or("an id")?;
     let mut keepers = SqlKeeper::open_file(rt, path)?;
     let fails = call_fails(&mut keepers, call, id, to);
-    Ok(fails && keepers.faults() == 1)
+    Ok(fails == fault && keepers.faults() == u64::from(fault))
 }
 
 fn spoil(rt: &HostRuntime, path: &str, damage: &str) -> Result<(), Fail> {
@@ -108,37 +130,34 @@ fn spoil(rt: &HostRuntime, path: &str, damage: &str) -> Result<(), Fail> {
     Ok(())
 }
 
-/// Whether the call fails over a copy of the file that is damaged so.
-fn is_found(rt: &HostRuntime, from: &str, damage: &str, call: Call) -> Result<bool, Fail> {
+/// Whether what is told of the call holds over a copy of the file on which this was done.
+fn is_found(
+    rt: &HostRuntime,
+    from: &str,
+    damage: &str,
+    call: Call,
+    fault: bool,
+) -> Result<bool, Fail> {
     let path = "spoilt.test.db";
     let _ = fs::copy(rt, from, path)?;
     spoil(rt, path, damage)?;
-    let found = is_fault(rt, path, call)?;
+    let found = is_as_told(rt, path, call, fault)?;
     remove(rt, path)?;
     Ok(found)
 }
 
-/// Whether a file that a run was written to gives an answer to each call of the rows.
-fn answers_all(rt: &HostRuntime, path: &str) -> Result<bool, Fail> {
-    let id = Id::read(1).ok_or("an id")?;
-    let to = Id::read(2).ok_or("an id")?;
-    let mut keepers = SqlKeeper::open_file(rt, path)?;
-    let faults = faults_of(rt.alloc(), &mut keepers, CONFIGURATION, &FIRST)?;
-    let mut fails = faults.as_str() != "";
-    for (_, call) in ROWS {
-        fails |= call_fails(&mut keepers, call, id, to);
-    }
-    Ok(!fails)
+/// Whether a file was made by a run that went well.
+fn is_made(rt: &HostRuntime, path: &str) -> Result<bool, Fail> {
+    remove(rt, path)?;
+    Ok(faults_over(rt, path, &FIRST, 0)?.is_empty())
 }
 
 #[test]
 fn damaged_rows_are_counted_faults(rt: HostRuntime) -> Result<(), Fail> {
     let path = "damaged.test.db";
-    remove(&rt, path)?;
-    assert!(rt; answers_all(&rt, path)?);
-    spoil(&rt, path, "DELETE FROM job")?;
-    for (damage, call) in ROWS {
-        assert!(rt; is_found(&rt, path, damage, call)?, "{damage}");
+    assert!(rt; is_made(&rt, path)?);
+    for (damage, call, fault) in ROWS {
+        assert!(rt; is_found(&rt, path, damage, call, fault)?, "{damage}");
     }
     remove(&rt, path)
 }

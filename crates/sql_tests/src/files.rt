@@ -1,12 +1,17 @@
 //! Tables in a file are found again.
-use crate::playing::{AGAIN, CONFIGURATION, FIRST, faults_of, play};
+use crate::playing::{AGAIN, FIRST, faults_of};
 use keeper_sql::SqlKeeper;
 use std::fs;
 use std::test::Fail;
 
-/// A first line with another type.
-const OTHER: &str =
-    r#"{"assocs":[{"name":"loves"}],"objects":["user"],"regions":[{"name":"east","tiers":[{"name":"t1"}]}],"shards":1}"#;
+/// A first line with another type, which a store that was opened before refuses.
+const OTHER: [(&str, &str); 1] = [(
+    r#"{"assocs":[{"name":"loves"}],"objects":["user"],"regions":[{"name":"east","tiers":[{"name":"t1"}]}],"shards":1}"#,
+    r#"{"bad":"configuration","field":"file"}"#,
+)];
+
+/// Runs over one file in turn: their lines with the replies, and their status.
+const RUNS: [(&[(&str, &str)], u8); 3] = [(&FIRST, 0), (&AGAIN, 0), (&OTHER, 3)];
 
 /// Takes a file away, with what stands beside it. That there is none is no fault.
 pub fn remove(rt: &HostRuntime, path: &str) -> Result<(), Fail> {
@@ -17,25 +22,22 @@ pub fn remove(rt: &HostRuntime, path: &str) -> Result<(), Fail> {
 }
 
 /// What went wrong in a run over the file.
-pub fn faults_over(rt: &HostRuntime, path: &str, rows: &[(&str, &str)]) -> Result<String, Fail> {
+pub fn faults_over(
+    rt: &HostRuntime,
+    path: &str,
+    rows: &[(&str, &str)],
+    code: u8,
+) -> Result<String, Fail> {
     let mut keepers = SqlKeeper::open_file(rt, path)?;
-    faults_of(rt.alloc(), &mut keepers, CONFIGURATION, rows)
-}
-
-/// Whether a run with this first line refuses it, since the store was opened with another.
-fn is_other(rt: &HostRuntime, path: &str, first: &str) -> Result<bool, Fail> {
-    let mut keepers = SqlKeeper::open_file(rt, path)?;
-    let (status, output) = play(rt.alloc(), &mut keepers, first)?;
-    let refusal = b"{\"bad\":\"configuration\",\"field\":\"file\"}\n";
-    Ok(output.bytes() == refusal.as_slice() && status.code == 3)
+    faults_of(rt.alloc(), &mut keepers, rows, code)
 }
 
 #[test]
 fn a_file_keeps_what_was_written(rt: HostRuntime) -> Result<(), Fail> {
     let path = "kept.test.db";
     remove(&rt, path)?;
-    assert_eq!(rt; faults_over(&rt, path, &FIRST)?.as_str(), "");
-    assert_eq!(rt; faults_over(&rt, path, &AGAIN)?.as_str(), "");
-    assert!(rt; is_other(&rt, path, OTHER)?);
+    for (rows, code) in RUNS {
+        assert_eq!(rt; faults_over(&rt, path, rows, code)?.as_str(), "");
+    }
     remove(&rt, path)
 }

@@ -12,21 +12,17 @@ fn is_refused(rt: &HostRuntime, path: &str) -> bool {
     }
 }
 
+/// What is no database, and what can't be written.
 #[test]
-fn what_is_no_database_is_refused(rt: HostRuntime) -> Result<(), Fail> {
-    let path = "text.test.db";
+fn what_cannot_be_opened_is_refused(rt: HostRuntime) -> Result<(), Fail> {
+    let text = "text.test.db";
     fs::write(
         &rt,
-        path,
+        text,
         "SQLite is what this file isn't, however long it may be.\n",
     )?;
-    assert!(rt; is_refused(&rt, path));
-    remove(&rt, path)
-}
-
-#[test]
-fn what_cannot_be_written_is_refused(rt: HostRuntime) {
-    for path in ["no/such/folder.db", ".", "/proc/version", ""] {
+    for path in [text, "no/such/folder.db", ".", "/proc/version", ""] {
         assert!(rt; is_refused(&rt, path), "{path}");
     }
+    remove(&rt, text)
 }

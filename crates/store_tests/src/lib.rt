@@ -1,5 +1,5 @@
-//! Tests of stores over the keeper in memory, and of that keeper, by public calls alone: writes, reads, merges, and calls
-//! that fail. They stand above the crates that they test, so that none of these is proved twice.
+//! Tests of what a store does that no line can ask for yet: writes to edges whose types have an inverse, and the jobs that
+//! they owe; merges of such jobs; and a slave. The rest of a store is shown by the scripts of whole runs.
 #![tactic(auto)]
 
 #[cfg(test)]
@@ -7,12 +7,8 @@ mod due;
 #[cfg(test)]
 mod fixtures;
 #[cfg(test)]
-mod keepers;
+mod inverses;
 #[cfg(test)]
 mod merges;
 #[cfg(test)]
-mod outs;
-#[cfg(test)]
-mod reads;
-#[cfg(test)]
-mod writes;
+mod slaves;

@@ -5,22 +5,21 @@ ghost use Rattle.shard_tables.specs.Stores.{IsStoreOf};
 ghost use Rattle.shard_tables.specs.declared.store.Role.TheVariants.{Master};
 
 use crate::due::{THERE, check_due, is_of_there, job_of};
-use crate::fixtures::{FAR, LIKED_BY, id, named};
+use crate::fixtures::{FAR, LIKED_BY, id};
 use keeper_map::{Fails, MapKeeper};
 use shard_tables::StoreNode;
 use std::alloc::Global;
 use std::process::Abort;
 use std::test::Fail;
-use tao_base::{EdgeState, Stamp, Time};
+use tao_base::{Data, EdgeState, Stamp, Time};
 use tao_keeper::{JobEdge, KeepFail, Keeper};
 
-/// The job of one write to an edge: its entry's position, the number of its stamp, and the time and the name where it
-/// sets the edge.
+/// The job of one write to an edge: its entry's position, the number of its stamp, and the time where it sets the edge.
 #[derive(Clone, Copy)]
 struct Due {
     position: u64,
     number: u64,
-    set: Option<(Time, &'static str)>,
+    set: Option<Time>,
 }
 
 /// The record that the job has of the edge.
@@ -30,9 +29,9 @@ fn due_end(alloc: Global, due: Due) -> Result<JobEdge, Fail> {
         shard: 0,
     };
     let state = match due.set {
-        Some((time, name)) => EdgeState::Live {
+        Some(time) => EdgeState::Live {
             time,
-            payload: named(alloc, name)?,
+            payload: Data::empty(alloc),
             stamp,
         },
         None => EdgeState::Cut { stamp },
@@ -104,13 +103,13 @@ fn assert_merges(
 const SET: Due = Due {
     position: 3,
     number: 1,
-    set: Some((5, "x")),
+    set: Some(5),
 };
 
 const SET_AGAIN: Due = Due {
     position: 4,
     number: 2,
-    set: Some((7, "y")),
+    set: Some(7),
 };
 
 /// And cut.
@@ -120,28 +119,30 @@ const CUT: Due = Due {
     set: None,
 };
 
-#[test]
-fn the_later_of_two_records_is_left_in_either_order(rt: HostRuntime) -> Result<(), Fail> {
-    let in_order = [(SET, Some(1)), (SET_AGAIN, Some(2))];
-    assert_merges(&rt, rt.alloc(), &in_order, SET_AGAIN)?;
-    let late_first = [(SET_AGAIN, Some(1)), (SET, None)];
-    assert_merges(&rt, rt.alloc(), &late_first, SET_AGAIN)
-}
+/// Jobs in the order in which they come, each with the position of the entry that comes of it, and the job whose record is
+/// left: the later record is, in either order, and a job that is merged again adds no entry.
+const CASES: [(&[(Due, Option<u64>)], Due); 6] = [
+    (
+        &[(SET, Some(1)), (SET_AGAIN, Some(2)), (SET, None)],
+        SET_AGAIN,
+    ),
+    (&[(SET_AGAIN, Some(1)), (SET, None)], SET_AGAIN),
+    (&[(SET, Some(1)), (CUT, Some(2))], CUT),
+    (&[(CUT, Some(1)), (SET, None)], CUT),
+    (
+        &[(SET, Some(1)), (SET, None), (CUT, Some(2)), (CUT, None)],
+        CUT,
+    ),
+    (
+        &[(SET_AGAIN, Some(1)), (SET, None), (SET_AGAIN, None)],
+        SET_AGAIN,
+    ),
+];
 
 #[test]
-fn a_cut_is_left_in_either_order(rt: HostRuntime) -> Result<(), Fail> {
-    let in_order = [(SET, Some(1)), (CUT, Some(2))];
-    assert_merges(&rt, rt.alloc(), &in_order, CUT)?;
-    let late_first = [(CUT, Some(1)), (SET, None)];
-    assert_merges(&rt, rt.alloc(), &late_first, CUT)
-}
-
-#[test]
-fn a_job_that_is_merged_again_adds_no_entry(rt: HostRuntime) -> Result<(), Fail> {
-    let at_once = [(SET, Some(1)), (SET, None), (CUT, Some(2)), (CUT, None)];
-    assert_merges(&rt, rt.alloc(), &at_once, CUT)?;
-    let first_again = [(SET, Some(1)), (SET_AGAIN, Some(2)), (SET, None)];
-    assert_merges(&rt, rt.alloc(), &first_again, SET_AGAIN)?;
-    let last_again = [(SET_AGAIN, Some(1)), (SET, None), (SET_AGAIN, None)];
-    assert_merges(&rt, rt.alloc(), &last_again, SET_AGAIN)
+fn the_latest_record_is_left(rt: HostRuntime) -> Result<(), Fail> {
+    for (jobs, left) in CASES {
+        assert_merges(&rt, rt.alloc(), jobs, left)?;
+    }
+    Ok(())
 }

@@ -1,5 +1,0 @@
-use Rattle.keeper_map.proofs.Stamps.{record_small}
-use Rattle.silent_keeper.proofs.silent.SilentKeeperKeeper.edge.Goals as goal
-
-pub returns-clause-small : goal.returns-clause-small
-returns-clause-small c = rw c.in_ok-record_of.ensures (record_small c.entries.result.now c.args.id1 c.args.atype c.args.id2 c.entries.ensures.small)

@@ -92,6 +92,18 @@ def ranges(count):
     yield from [line(do="assoc_range", session=1, id1=1, atype="likes", pos=0, limit=10)] * count
 
 
+def evicts(count):
+    """Lines that leave nothing of the list in the caches; from the second pair on there is nothing to be dropped."""
+    pair = [line(do="evict", node=node, id1=1, atype="likes") for node in ("east/t1/0", "east/leader/0")]
+    yield from pair * count
+
+
+def missed_ranges(count):
+    """Ranges that neither the follower nor its leader answers, since both dropped the list before each."""
+    pair = list(evicts(1))
+    yield from (pair + list(ranges(1))) * count
+
+
 def script(*parts):
     return "".join(one + "\n" for part in parts for one in part).encode()
 
@@ -157,8 +169,8 @@ def over_file(tao, length, asked):
         start = time.perf_counter()
         subprocess.run(over, input=script(front(1), adds(length)), stdout=subprocess.DEVNULL, check=True)
         add = (time.perf_counter() - start) / length
-        opened = best(over, script(front(1)))
-        found = (best(over, script(front(1), ranges(asked))) - opened) / asked
+        evicted = best(over, script(front(1), evicts(asked)))
+        found = (best(over, script(front(1), missed_ranges(asked))) - evicted) / asked
         row_added, row_found = in_sqlite(length, asked, os.path.join(folder, "rows"))
     print(
         f"over a file: {1 / add:,.0f} adds a second, {add / row_added:.2f} of sqlite's time;"
@@ -175,18 +187,21 @@ def main():
     for length in (1_000, 8_000, 65_536):
         grown = best(tao, script(front(1), adds(length)))
         asked = best(tao, script(front(1), adds(length), ranges(asks)))
-        add, found = grown / length, (asked - grown) / asks
+        evicted = best(tao, script(front(1), adds(length), evicts(asks)))
+        missed = best(tao, script(front(1), adds(length), missed_ranges(asks)))
+        add, found, read = grown / length, (asked - grown) / asks, (missed - evicted) / asks
         row_added, row_found = in_sqlite(length, asks)
         print(
             f"a log of {length:,} entries: an add {add * 1e6:,.1f} microseconds on the way there, {add / row_added:.2f} of"
-            f" sqlite's; a range of ten edges {found * 1e6:,.1f} at its end, {found / row_found:.2f} of sqlite's"
+            f" sqlite's; a range of ten edges {read * 1e6:,.1f} at its end, {read / row_found:.2f} of sqlite's,"
+            f" and {found * 1e6:,.1f} where its follower holds it"
         )
     over_file(tao, 4_000, 20_000)
     if len(sys.argv) > 2:
         lines = 100_000
         data = script(front(1), adds(10), ranges(lines))
         ours, theirs = best(tao, data), best([sys.argv[2]], data)
-        print(f"{lines:,} ranges of ten edges: {ours / theirs:.2f} of the yardstick's time")
+        print(f"{lines:,} ranges of ten edges that the follower holds: {ours / theirs:.2f} of the yardstick's time")
 
 
 if __name__ == "__main__":

@@ -156,6 +156,8 @@ fn is_made(rt: &HostRuntime, path: &str) -> Result<bool, Fail> {
 fn damaged_rows_are_counted_faults(rt: HostRuntime) -> Result<(), Fail> {
     let path = "damaged.test.db";
     assert!(rt; is_made(&rt, path)?);
+    // What was written stands in a log beside the file, which isn't copied, until the file is closed.
+    spoil(&rt, path, HARMLESS)?;
     for (damage, call, fault) in ROWS {
         assert!(rt; is_found(&rt, path, damage, call, fault)?, "{damage}");
     }

@@ -61,6 +61,22 @@ fn an_inbox_keeps_its_order(rt: HostRuntime) -> Result<(), Fail> {
 }
 
 #[test]
+fn a_copy_leaves_its_message_in_the_inbox(rt: HostRuntime) -> Result<(), Fail> {
+    let alloc = rt.alloc();
+    let (one, two) = (id(7)?, id(9)?);
+    let mut inbox = Inbox::make(alloc);
+    inbox.send(message_of(alloc, &moved_edge(alloc, 4, one, two)?, 0)?);
+    assert_eq!(rt; put(alloc, &mut inbox, 5)?, None);
+    let copy = inbox.copy_at(0)?.ok_or("a message")?;
+    assert_eq!(rt; (copy.position(), copy.keys().as_slice().len()), (4, 2));
+    assert!(rt; inbox.copy_at(2)?.is_none());
+    assert!(rt;
+        matches!(inbox.as_slice(), [first, second] if first.position() == 4 && second.position() == 5)
+    );
+    Ok(())
+}
+
+#[test]
 fn a_full_inbox_hands_the_message_back(rt: HostRuntime) -> Result<(), Fail> {
     let alloc = rt.alloc();
     let mut inbox = Inbox::make(alloc);
@@ -68,6 +84,7 @@ fn a_full_inbox_hands_the_message_back(rt: HostRuntime) -> Result<(), Fail> {
         assert_eq!(rt; put(alloc, &mut inbox, position)?, None);
     }
     assert_eq!(rt; put(alloc, &mut inbox, 4096)?, Some(4096));
+    inbox.send(message_of(alloc, &entry(Kind::ObjDelete, 4096, Vec::new(alloc)), 0)?);
     assert_eq!(rt; inbox.len(), 4096);
     assert!(rt; matches!(inbox.take(4095), Some(last) if last.position() == 4095));
     assert_eq!(rt; put(alloc, &mut inbox, 4097)?, None);

@@ -5,6 +5,7 @@ ghost use Rattle.std.specs.List.{remove};
 use crate::maint::Maint;
 use std::alloc::Global;
 use std::marker::Model;
+use tao_base::OutOfMemory;
 
 /// How many messages an inbox holds at most.
 pub const MOST_MESSAGES: usize = 4096;
@@ -38,7 +39,7 @@ impl Model for Inbox {
 }
 
 impl Inbox {
-    ghost use Rattle.maint_msg.specs.Inbox.{Refuses};
+    ghost use Rattle.maint_msg.specs.Inbox.{IsSent, Refuses};
 
     /// No message waits. Takes no memory.
     pub fn make(alloc: Global) -> Inbox
@@ -66,6 +67,14 @@ impl Inbox {
         }
     }
 
+    /// Puts a message behind the others, or loses it: where 4,096 messages wait, and where no memory is
+    /// found for its place. The others stay as they are.
+    pub fn send(&mut self, message: Maint)
+        ensures { IsSent message self.old self.new }
+    {
+        let _ = self.put(message);
+    }
+
     /// Takes out the message at a place, and those behind it move up. None, and nothing changed, exactly
     /// where the place isn't below the length. Moves the messages behind it; takes no memory.
     pub fn take(&mut self, place: usize) -> Option<Maint>
@@ -84,6 +93,25 @@ impl Inbox {
         ensures { option_copied result ≡ slice_get self.now place }
     {
         self.messages.get(place)
+    }
+
+    /// A copy of the message at a place, which stays where it is: the inbox is as it was, whatever is
+    /// answered. None exactly where the place isn't below the length. The one error is want of memory.
+    pub fn copy_at(&mut self, place: usize) -> Result<Option<Maint>, OutOfMemory>
+        ensures same { self.new ≡ self.old }
+        ensures copy { IfOk result (λ copy. copy ≡ slice_get self.old place) }
+    {
+        match self.messages.get_mut(place) {
+            Some(message) => Ok(Some(message.copy()?)),
+            None => Ok(None),
+        }
+    }
+
+    /// The messages, in the order in which they were put.
+    pub fn as_slice(&self) -> &[Maint]
+        ensures { result.now ≡ self.now }
+    {
+        self.messages.as_slice()
     }
 
     /// How many messages wait.

@@ -91,6 +91,19 @@ impl Maint {
         self.note.look()
     }
 
+    /// The same message once more, with a note of its own. The one error is want of memory for the copy.
+    pub fn copy(&mut self) -> Result<Maint, OutOfMemory>
+        ensures same { self.new ≡ self.old }
+        ensures copy { IfOk result (λ copy. copy ≡ self.old) }
+    {
+        Ok(Maint {
+            shard: self.shard,
+            position: self.position,
+            keys: self.keys.clone()?,
+            note: self.note.split()?,
+        })
+    }
+
     /// The message taken apart: its shard, position, keys and note. Takes no memory.
     pub fn into_parts(self) -> (u16, u64, KeyVersions, Note)
         ensures shard { result.0 ≡ self.shard }

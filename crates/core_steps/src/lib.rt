@@ -14,4 +14,4 @@ pub use asking::{ask_over, read_over};
 pub use reads::read_along;
 pub use refusals::{out_of_memory, refused_as};
 pub use routes::Route;
-pub use writes::write_along;
+pub use writes::{apply_over, commit_over, write_along};

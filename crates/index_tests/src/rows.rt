@@ -21,10 +21,24 @@ enum Step {
 
 /// A step, and where the edges of the list then go, in their order.
 #[derive(Clone, Copy)]
-struct Row {
-    step: Step,
-    list: &'static [u64],
-}
+struct Row(Step, &'static [u64]);
+
+const ROWS: [Row; 14] = [
+    Row(Step::Put(2), &[]),
+    Row(Step::Set(2, 10), &[2]),
+    Row(Step::Set(3, 10), &[3, 2]),
+    Row(Step::Set(4, 9), &[3, 2, 4]),
+    Row(Step::Set(5, 11), &[5, 3, 2, 4]),
+    Row(Step::Cut(3), &[5, 2, 4]),
+    Row(Step::Cut(3), &[5, 2, 4]),
+    Row(Step::Set(4, 12), &[4, 5, 2]),
+    Row(Step::Set(5, 0), &[4, 2, 5]),
+    Row(Step::Set(3, 10), &[4, 3, 2, 5]),
+    Row(Step::Cut(7), &[4, 3, 2, 5]),
+    Row(Step::Drop(2), &[4, 3, 2, 5]),
+    Row(Step::Put(6), &[4, 3, 2, 5]),
+    Row(Step::Set(2, 10), &[4, 3, 2, 5]),
+];
 
 fn id(number: u64) -> Result<Id, &'static str> {
     Id::read(number).ok_or("an id")
@@ -144,9 +158,10 @@ fn assert_found(rt: &impl Abort, alloc: Global, log: &IndexedLog, number: u64) -
 }
 
 fn assert_row(rt: &impl Abort, alloc: Global, log: &mut IndexedLog, row: &Row) -> Result<(), Fail> {
+    let Row(step, list) = *row;
     let position = log.as_slice().len() as u64 + 1;
-    log.push(entry_of(alloc, position, row.step)?)?;
-    assert_parts(rt, alloc, log, row.list)?;
+    log.push(entry_of(alloc, position, step)?)?;
+    assert_parts(rt, alloc, log, list)?;
     for number in 1..8 {
         assert_found(rt, alloc, log, number)?;
     }
@@ -159,65 +174,7 @@ fn assert_row(rt: &impl Abort, alloc: Global, log: &mut IndexedLog, row: &Row) -
 fn a_log_answers_as_its_entries(rt: HostRuntime) -> Result<(), Fail> {
     let alloc = rt.alloc();
     let mut log = IndexedLog::new(alloc);
-    let rows = [
-        Row {
-            step: Step::Put(2),
-            list: &[],
-        },
-        Row {
-            step: Step::Set(2, 10),
-            list: &[2],
-        },
-        Row {
-            step: Step::Set(3, 10),
-            list: &[3, 2],
-        },
-        Row {
-            step: Step::Set(4, 9),
-            list: &[3, 2, 4],
-        },
-        Row {
-            step: Step::Set(5, 11),
-            list: &[5, 3, 2, 4],
-        },
-        Row {
-            step: Step::Cut(3),
-            list: &[5, 2, 4],
-        },
-        Row {
-            step: Step::Cut(3),
-            list: &[5, 2, 4],
-        },
-        Row {
-            step: Step::Set(4, 12),
-            list: &[4, 5, 2],
-        },
-        Row {
-            step: Step::Set(5, 0),
-            list: &[4, 2, 5],
-        },
-        Row {
-            step: Step::Set(3, 10),
-            list: &[4, 3, 2, 5],
-        },
-        Row {
-            step: Step::Cut(7),
-            list: &[4, 3, 2, 5],
-        },
-        Row {
-            step: Step::Drop(2),
-            list: &[4, 3, 2, 5],
-        },
-        Row {
-            step: Step::Put(6),
-            list: &[4, 3, 2, 5],
-        },
-        Row {
-            step: Step::Set(2, 10),
-            list: &[4, 3, 2, 5],
-        },
-    ];
-    for row in &rows {
+    for row in &ROWS {
         assert_row(&rt, alloc, &mut log, row)?;
     }
     assert_eq!(rt; log.added(), 2);

@@ -5,8 +5,8 @@ usage: bench.py TAO [YARDSTICK]
 
 TAO is the built program (crates/tao/out/tao once ./tao was run), YARDSTICK that of bench/yardstick.
 Prints the lines that a second takes of 20,000 mixed calls, what a call costs as the log of its shard
-grows, beside what the same tables take in sqlite3 in memory, what adds and ranges take over a file
-beside sqlite3's own, and, with a yardstick, the ratio of the
+grows, beside what the same tables take in sqlite3 in memory, what an edge costs that a range goes past,
+what adds and ranges take over a file beside sqlite3's own, and, with a yardstick, the ratio of the
 times on one script of ranges (below 1 TAO is faster).
 """
 import json
@@ -18,6 +18,7 @@ import tempfile
 import time
 
 SHARDS = 8
+BOUND = 6_000
 REGION = {"name": "east", "tiers": [{"name": "t1"}]}
 EMPTY = {}
 
@@ -88,8 +89,8 @@ def adds(count):
         yield line(do="assoc_add", session=1, seq=i + 1, id1=1, atype="likes", id2=i + 2, time=i, data=EMPTY)
 
 
-def ranges(count):
-    yield from [line(do="assoc_range", session=1, id1=1, atype="likes", pos=0, limit=10)] * count
+def ranges(count, place=0):
+    yield from [line(do="assoc_range", session=1, id1=1, atype="likes", pos=place, limit=10)] * count
 
 
 def evicts(count):
@@ -98,10 +99,10 @@ def evicts(count):
     yield from pair * count
 
 
-def missed_ranges(count):
+def missed_ranges(count, place=0):
     """Ranges that neither the follower nor its leader answers, since both dropped the list before each."""
     pair = list(evicts(1))
-    yield from (pair + list(ranges(1))) * count
+    yield from (pair + list(ranges(1, place))) * count
 
 
 def script(*parts):
@@ -150,6 +151,16 @@ def rows_ranged(tables, count):
         ask("select id2, time, stamp, data from edges where key = ? order by time desc, id2 desc limit 10", (KEY,)).fetchall()
 
 
+def rows_far_down(tables, count, place):
+    """Seconds that ranges of ten edges take from that place on."""
+    start = time.perf_counter()
+    for _ in range(count):
+        tables.execute(
+            "select id2, time, stamp, data from edges where key = ? order by time desc, id2 desc limit 10 offset ?", (KEY, place)
+        ).fetchall()
+    return time.perf_counter() - start
+
+
 def in_sqlite(length, asked, path=":memory:"):
     """Seconds that an add and a range take, with a list of that length. A file has a log that is written ahead, as ours."""
     tables = sqlite3.connect(path, isolation_level=None)
@@ -160,6 +171,21 @@ def in_sqlite(length, asked, path=":memory:"):
     added = time.perf_counter()
     rows_ranged(tables, asked)
     return (added - start) / length, (time.perf_counter() - added) / asked
+
+
+def far_down(tao, length, asked):
+    """Prints what a range costs for each edge that it goes past, beside sqlite's own: past the bound all else stays the same."""
+    near, far = BOUND, length - 10
+    took = [best(tao, script(front(1), adds(length), missed_ranges(asked, place))) for place in (near, far)]
+    tables = sqlite3.connect(":memory:", isolation_level=None)
+    tables.executescript(TABLES)
+    rows_added(tables, length)
+    rows = [rows_far_down(tables, asked, place) for place in (near, far)]
+    past = asked * (far - near)
+    print(
+        f"an edge that a range goes past: {(took[1] - took[0]) / past * 1e9:,.1f} nanoseconds,"
+        f" in sqlite {(rows[1] - rows[0]) / past * 1e9:,.1f}"
+    )
 
 
 def over_file(tao, length, asked):
@@ -196,6 +222,7 @@ def main():
             f" sqlite's; a range of ten edges {read * 1e6:,.1f} at its end, {read / row_found:.2f} of sqlite's,"
             f" and {found * 1e6:,.1f} where its follower holds it"
         )
+    far_down(tao, 65_536, 500)
     over_file(tao, 4_000, 20_000)
     if len(sys.argv) > 2:
         lines = 100_000

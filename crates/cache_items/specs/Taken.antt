@@ -3,22 +3,17 @@ use Rattle.std.specs.Prelude.{◌≡◌, ℕ, ◌<◌, ◌≤◌, ◌⊎◌, Opt
 use Rattle.std.specs.Map.{set_value}
 use Rattle.tao_base.specs.declared.entry.Change.{Change}
 use Rattle.tao_base.specs.declared.id.Key.{Key}
-use Rattle.tao_base.specs.declared.id.Key.TheVariants.{Obj, List as Assocs}
 use Rattle.tao_base.specs.EdgeTypes.{EdgeTypes}
 use Rattle.tao_base.specs.Keys.{key_shard, same_key}
 use Rattle.graph_model.specs.Log.{object_after}
 use Rattle.ask_table.specs.Asks.{with_floor}
 use Rattle.list_prefix.specs.Changes.{prefix_after}
+use Rattle.tao_schema.specs.Schema.{key_bound}
 use Rattle.sealed_item.specs.declared.content.Content.{Content}
 use Rattle.sealed_item.specs.declared.content.Content.TheVariants.{Object as ObjectIs, List as ListIs}
 use Rattle.changeset.specs.Changes.{SeenChange}
 use Rattle.cache_items.specs.declared.item.Item.{Item}
 use Rattle.cache_items.specs.Node.{Items, Node, item_at, met, without}
-
--- how many edges the list of a key may have here
-abbrev pub key_bound : EdgeTypes → Key → ℕ
-key_bound types (Obj id) = 0
-key_bound types (Assocs id1 atype) = types.bound atype
 
 abbrev pub changed_content : Content → Change → ℕ → Content
 changed_content (ObjectIs found) change bound = ObjectIs (object_after change found)

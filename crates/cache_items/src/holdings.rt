@@ -24,7 +24,7 @@ ghost use Rattle.changeset.specs.Changes.{change_by, seen_change};
 ghost use Rattle.shard_log.specs.View.{View};
 
 use crate::delivered::{Delivered, DroppedLists};
-use crate::item::{Item, answer_of, bound_at, is_longer};
+use crate::item::Item;
 use crate::look::{Kept, Look};
 use crate::unsealed::Unsealed;
 use ask_table::{AskNo, AskTable};
@@ -229,7 +229,7 @@ impl Holdings {
         ensures err { OnErr result (self.new ≡ with_ended_ask ask self.old) }
     {
         let admitted = self.admit(ask, fill.version(), fill.as_of());
-        let answer = answer_of(fill.content(), schema, query)?;
+        let answer = fill.content().answer(schema, query)?;
         let kept = self.keep(admitted, fill);
         Ok((answer, kept))
     }
@@ -251,7 +251,7 @@ impl Holdings {
         ensures err { OnErr result (self.new ≡ self.old) }
     {
         let admitted = admits_own(self.top(fill.key().shard()), fill.as_of());
-        let answer = answer_of(fill.content(), schema, query)?;
+        let answer = fill.content().answer(schema, query)?;
         let kept = self.keep(admitted, fill);
         Ok((answer, kept))
     }
@@ -411,7 +411,7 @@ impl Holdings {
         ensures { result ≡ stays (item_at self.now.items key.now) item.now }
     {
         match self.item(key) {
-            Some(old) => old.version == item.version && is_longer(&old.content, &item.content),
+            Some(old) => old.version == item.version && old.content.is_longer(&item.content),
             None => false,
         }
     }
@@ -435,7 +435,7 @@ impl Holdings {
         ensures bits { change.after < 2 ^ 64 }
     {
         let (key, before, after, done, note) = change.into_parts();
-        self.change_item(&key, before, after, &done, bound_at(schema, &key));
+        self.change_item(&key, before, after, &done, schema.bound_of(&key));
         self.asks.raise(key, after);
         self.meet(key.shard(), note);
     }
@@ -503,7 +503,7 @@ impl Holdings {
             } }
     {
         let before = touch.version.saturating_sub(1);
-        let bound = bound_at(schema, &touch.key);
+        let bound = schema.bound_of(&touch.key);
         self.change_item(&touch.key, before, before + 1, &touch.change, bound);
         self.raise(&touch.key, touch.version);
     }

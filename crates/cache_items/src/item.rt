@@ -6,12 +6,11 @@ ghost use Rattle.tao_schema.specs.Schema.{types_of};
 ghost use Rattle.sealed_item.specs.Decided.{is_longer_content as longer, IsContentFront, query_bound, content_answer, content_decides, content_read};
 ghost use Rattle.cache_items.specs.HandedOn.{IsFrontItem};
 ghost use Rattle.cache_items.specs.Look.{item_look};
-ghost use Rattle.cache_items.specs.Taken.{StaysBy, changed_content, key_bound};
+ghost use Rattle.cache_items.specs.Taken.{StaysBy, changed_content};
 
 use crate::look::Look;
-use list_prefix::{Prefix, Verdict};
 use sealed_item::Content;
-use tao_base::{Answer, Change, Key, Object, OutOfMemory, Query};
+use tao_base::{Change, Object, OutOfMemory, Query};
 use tao_schema::Schema;
 
 /// What was found at a key, which is exact at the version.
@@ -34,7 +33,7 @@ impl Item {
         if self.version < floor {
             return Ok(Look::Miss);
         }
-        match read(&self.content, schema, query)? {
+        match self.content.read(schema, query)? {
             Some(answer) => Ok(Look::Hit {
                 answer,
                 version: self.version,
@@ -56,7 +55,7 @@ impl Item {
         if self.version < floor {
             return Ok(None);
         }
-        match front_of(&self.content, schema, query)? {
+        match self.content.front(schema, query)? {
             Some(content) => Ok(Some(Item {
                 version: self.version,
                 content,
@@ -78,99 +77,6 @@ impl Item {
         }
         self.version = after;
         true
-    }
-}
-
-/// How many edges the list of a key may have in a cache; 0 for an object.
-pub fn bound_at(schema: &Schema, key: &Key) -> u64
-    ensures { result ≡ key_bound (types_of schema.now) key.now }
-{
-    match key {
-        Key::Obj(_) => 0,
-        Key::List(_, atype) => schema.bound(*atype),
-    }
-}
-
-/// How many edges an answer to the query gives at most.
-fn bound_of(schema: &Schema, query: &Query) -> u64
-    ensures { result ≡ query_bound (types_of schema.now) query.now }
-{
-    match query {
-        Query::ObjGet { .. } => 0,
-        Query::AssocGet { atype, .. } => schema.bound(*atype),
-        Query::AssocCount { atype, .. } => schema.bound(*atype),
-        Query::AssocRange { atype, .. } => schema.bound(*atype),
-        Query::AssocTimeRange { atype, .. } => schema.bound(*atype),
-    }
-}
-
-/// The answer, where the content decides the query.
-fn read(content: &Content, schema: &Schema, query: &Query) -> Result<Option<Answer>, OutOfMemory>
-    ensures { IfOk result (λ found. found ≡ content_read (types_of schema.now) content.now query.now) }
-{
-    let bound = bound_of(schema, query);
-    match (content, query) {
-        (Content::Object(object), Query::ObjGet { .. }) => {
-            Ok(Some(Answer::Object(copy_of(object)?)))
-        }
-        (Content::Object(_), _) => Ok(None),
-        (Content::List(_), Query::ObjGet { .. }) => Ok(None),
-        (Content::List(prefix), _) => match prefix.read(query, bound)? {
-            Verdict::Decided(answer) => Ok(Some(answer)),
-            Verdict::Undecided => Ok(None),
-        },
-    }
-}
-
-/// The answer of a content that decides the query.
-pub fn answer_of(content: &Content, schema: &Schema, query: &Query) -> Result<Answer, OutOfMemory>
-    requires { content_decides (types_of schema.now) content.now query.now ≡ true }
-    ensures { IfOk result (λ answer. answer ≡ content_answer (types_of schema.now) content.now query.now) }
-{
-    match read(content, schema, query)? {
-        Some(answer) => Ok(answer),
-        None => unreachable!(),
-    }
-}
-
-/// The shortest front of the content that decides the query, no longer than the bound of its type.
-fn front_of(
-    content: &Content,
-    schema: &Schema,
-    query: &Query,
-) -> Result<Option<Content>, OutOfMemory>
-    ensures { IfOk result (IsContentFront (types_of schema.now) content.now query.now) }
-{
-    match content {
-        Content::Object(object) => match query {
-            Query::ObjGet { .. } => Ok(Some(Content::Object(copy_of(object)?))),
-            _ => Ok(None),
-        },
-        Content::List(prefix) => match prefix.front(query, bound_of(schema, query))? {
-            Some(front) => Ok(Some(Content::List(front))),
-            None => Ok(None),
-        },
-    }
-}
-
-/// Whether the first content is a list with more edges than the other.
-pub fn is_longer(content: &Content, other: &Content) -> bool
-    ensures { result ≡ longer content.now other.now }
-{
-    match (content, other) {
-        (Content::List(prefix), Content::List(other)) => {
-            other.edges().len() < prefix.edges().len()
-        }
-        _ => false,
-    }
-}
-
-fn copy_of(object: &Option<Object>) -> Result<Option<Object>, OutOfMemory>
-    ensures { IfOk result (λ copy. copy ≡ object.now) }
-{
-    match object {
-        Some(object) => Ok(Some(object.clone()?)),
-        None => Ok(None),
     }
 }
 

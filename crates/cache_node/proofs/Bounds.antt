@@ -19,7 +19,8 @@ use Rattle.cache_items.specs.declared.item.Item.{Item}
 use Rattle.cache_items.specs.Kept.{kept_items}
 use Rattle.cache_node.specs.Laws.{ItemsAreFewer, ItemsStayWithin}
 use Rattle.cache_items.specs.Node.{Items, Node, caught_up, item_at, processed}
-use Rattle.cache_items.specs.Taken.{TakesChange, changed_content, changed_item, key_bound}
+use Rattle.tao_schema.specs.Schema.{key_bound}
+use Rattle.cache_items.specs.Taken.{TakesChange, changed_content, changed_item}
 use Rattle.cache_node.specs.Within.{AreFewer, AreWithin}
 use Rattle.sealed_item.specs.Decided.{IsWithinBound}
 

@@ -26,7 +26,8 @@ use Rattle.served_shards.specs.Meetings.{MeetsAt}
 use Rattle.served_shards.specs.Served.{ServedShard, log_at, seeing, served_at}
 use Rattle.cache_items.specs.declared.item.Item.{Item}
 use Rattle.cache_items.specs.Node.{Items, Node, item_at, met, without}
-use Rattle.cache_items.specs.Taken.{TakesChange, changed_item, key_bound}
+use Rattle.tao_schema.specs.Schema.{key_bound}
+use Rattle.cache_items.specs.Taken.{TakesChange, changed_item}
 use Rattle.cache_items.specs.TakenEntry.{TakesTouches, with_applied, with_entry}
 use Rattle.cache_node.proofs.Changing.{touch_is_true, touch_reached}
 use Rattle.cache_node.proofs.Keys.{distinct_without, held_fewer, held_gone, key_laws}

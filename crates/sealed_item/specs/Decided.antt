@@ -11,17 +11,14 @@ use Rattle.tao_base.specs.declared.query.Query.{Query}
 use Rattle.tao_base.specs.declared.query.Query.TheVariants.{ObjGet, AssocGet, AssocCount, AssocRange, AssocTimeRange}
 use Rattle.graph_model.specs.Answers.{answer as log_answer, list_answer}
 use Rattle.graph_model.specs.Prefixes.{IsExact, decides}
+use Rattle.tao_schema.specs.Schema.{key_bound}
 use Rattle.list_prefix.specs.Fronts.{IsLeftOpen, IsShortestFront}
 use Rattle.sealed_item.specs.declared.content.Content.{Content}
 use Rattle.sealed_item.specs.declared.content.Content.TheVariants.{Object as ObjectIs, List as ListIs}
 
--- how many edges an answer to the query gives at most: the bound of the type of the list that it reads
+-- how many edges an answer to the query gives at most: as many as the list that it reads is kept with
 abbrev pub query_bound : EdgeTypes → Query → ℕ
-query_bound types (ObjGet id) = 0
-query_bound types (AssocGet id1 atype ids high low) = types.bound atype
-query_bound types (AssocCount id1 atype) = types.bound atype
-query_bound types (AssocRange id1 atype pos limit) = types.bound atype
-query_bound types (AssocTimeRange id1 atype high low limit) = types.bound atype
+query_bound types query = key_bound types (query_key query)
 
 -- whether the query is one of an object
 abbrev pub is_of_object : Query → Bool

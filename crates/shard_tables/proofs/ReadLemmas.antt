@@ -26,6 +26,7 @@ use Rattle.shard_log.proofs.Beginnings.{begins-length}
 use Rattle.shard_log.specs.View.{View, Begins}
 use Rattle.sealed_item.proofs.Deciding.{contents_answer, fronts_decide}
 use Rattle.sealed_item.proofs.FillLemmas.{beginning_is_sealed}
+use Rattle.tao_schema.specs.Schema.{key_bound}
 use Rattle.sealed_item.specs.Decided.{IsContentFront, content_answer, query_bound}
 use Rattle.sealed_item.specs.FillLaws.{front_of}
 use Rattle.sealed_item.specs.Fills.{SealedItem, IsExactContent, IsFill, sealed_item}
@@ -117,17 +118,13 @@ of_list (AssocCount other a) id1 atype key = tt
 of_list (AssocRange other a pos limit) id1 atype key = tt
 of_list (AssocTimeRange other a high low limit) id1 atype key = tt
 
--- the list that a key names, and its bound
+-- the list that a key names
 abbrev list_at : List Entry → Key → List Edge
 list_at log (Assocs id1 atype) = edge_list log id1 atype
 list_at log (Obj id) = []
 
-abbrev bound_at : EdgeTypes → Key → ℕ
-bound_at types (Assocs id1 atype) = types.bound atype
-bound_at types (Obj id) = 0
-
 answer_at : (types : EdgeTypes) (log : List Entry) (query : Query) → IsOfList query
-    → log_answer types log query ≡ list_answer (bound_at types (query_key query)) (list_at log (query_key query)) (length (list_at log (query_key query))) query
+    → log_answer types log query ≡ list_answer (key_bound types (query_key query)) (list_at log (query_key query)) (length (list_at log (query_key query))) query
 answer_at types log (ObjGet id) h = absurd h
 answer_at types log (AssocGet id1 atype ids high low) h = refl
 answer_at types log (AssocCount id1 atype) h = refl
@@ -136,20 +133,13 @@ answer_at types log (AssocTimeRange id1 atype high low limit) h = refl
 
 -- how many edges an answer to a query of a list gives at most
 bound_is : (types : EdgeTypes) (query : Query) (id1 : Id) (atype : AType) → query_key query ≡ Assocs id1 atype → query_bound types query ≡ types.bound atype
-bound_is types query id1 atype key = by query ∙ ap (bound_at types) key
-  where
-    by : (q : Query) → query_bound types q ≡ bound_at types (query_key q)
-    by (ObjGet id) = refl
-    by (AssocGet other a ids high low) = refl
-    by (AssocCount other a) = refl
-    by (AssocRange other a pos limit) = refl
-    by (AssocTimeRange other a high low limit) = refl
+bound_is types query id1 atype key = ap (key_bound types) key
 
 -- what a log answers to a query of a list is what the list answers
 answer_is : (types : EdgeTypes) (log : List Entry) (query : Query) (id1 : Id) (atype : AType) → query_key query ≡ Assocs id1 atype
     → log_answer types log query ≡ list_answer (types.bound atype) (edge_list log id1 atype) (length (edge_list log id1 atype)) query
 answer_is types log query id1 atype key =
-    answer_at types log query (of_list query id1 atype key) ∙ ap (λ k. list_answer (bound_at types k) (list_at log k) (length (list_at log k)) query) key
+    answer_at types log query (of_list query id1 atype key) ∙ ap (λ k. list_answer (key_bound types k) (list_at log k) (length (list_at log k)) query) key
 
 -- what a log that begins the view has of an object is true of the view
 object_sealed : (note : View) (log : List Entry) (id : Id) → Begins log note.entries

@@ -83,56 +83,7 @@ pub fn answer_of_fill(fill: &Fill, schema: &Schema, query: &Query) -> Result<Ans
     ensures { IfOk result (λ answer. (log : List Entry) → IsFilled (types_of schema.now) log query.now fill.now
         → answer ≡ log_answer (types_of schema.now) log query.now) }
 {
-    let answer = answer_of_content(fill.content(), schema, query)?;
-    Ok(answer)
-}
-
-fn answer_of_content(
-    content: &Content,
-    schema: &Schema,
-    query: &Query,
-) -> Result<Answer, OutOfMemory>
-    requires { content_decides (types_of schema.now) content.now query.now ≡ true }
-    ensures { IfOk result (λ answer. answer ≡ content_answer (types_of schema.now) content.now query.now) }
-{
-    match content {
-        Content::Object(found) => {
-            let object = copy_of_object(found)?;
-            Ok(Answer::Object(object))
-        }
-        Content::List(front) => answer_of_front(front, schema, query),
-    }
-}
-
-fn copy_of_object(found: &Option<Object>) -> Result<Option<Object>, OutOfMemory>
-    ensures { IfOk result (λ copy. copy ≡ found.now) }
-{
-    match found {
-        Some(object) => Ok(Some(object.clone()?)),
-        None => Ok(None),
-    }
-}
-
-fn answer_of_front(front: &Prefix, schema: &Schema, query: &Query) -> Result<Answer, OutOfMemory>
-    requires { content_decides (types_of schema.now) (Content.List front.now) query.now ≡ true }
-    ensures { IfOk result (λ answer. answer ≡ content_answer (types_of schema.now) (Content.List front.now) query.now) }
-{
-    let bound = bound_of(schema, query);
-    let verdict = front.read(query, bound)?;
-    match verdict {
-        Verdict::Decided(answer) => Ok(answer),
-        Verdict::Undecided => unreachable!(),
-    }
-}
-
-/// How many edges an answer to the query gives at most.
-fn bound_of(schema: &Schema, query: &Query) -> u64
-    ensures { result ≡ query_bound (types_of schema.now) query.now }
-{
-    match query.key() {
-        Key::Obj(_) => 0,
-        Key::List(_, atype) => schema.bound(atype),
-    }
+    fill.content().answer(schema, query)
 }
 
 /// How far a log has come.

@@ -4,7 +4,7 @@ use super::lines::{AssocLine, MAX_BOUND};
 use super::objects::ObjectTypes;
 use super::refusal::SchemaRefusal;
 use std::alloc::Global;
-use tao_base::{AType, OType, Text};
+use tao_base::{AType, Key, OType, Text};
 
 /// The types of the objects and of the associations.
 #[derive(Drop)]
@@ -19,7 +19,7 @@ impl Schema {
     ghost use Rattle.tao_schema.specs.AssocTypes.{names_of, atype_at};
     ghost use Rattle.tao_schema.specs.Names.{AreFound, place_of};
     ghost use Rattle.tao_schema.specs.ObjectTypes.{otype_at};
-    ghost use Rattle.tao_schema.specs.Schema.{schema_of, types_of};
+    ghost use Rattle.tao_schema.specs.Schema.{key_bound, schema_of, types_of};
 
     /// The schema of these object types and association types, which are copied. A type is its place in its
     /// list.
@@ -53,6 +53,16 @@ impl Schema {
         ensures at_most { result ≤ MAX_BOUND }
     {
         self.assocs.bound(atype)
+    }
+
+    /// How many edges the list of a key is kept with; 0 for an object.
+    pub fn bound_of(&self, key: &Key) -> u64
+        ensures { result ≡ key_bound (types_of self.now) key.now }
+    {
+        match key {
+            Key::Obj(_) => 0,
+            Key::List(_, atype) => self.bound(*atype),
+        }
     }
 
     /// The association type of a name. Looks the name up, without a scan.

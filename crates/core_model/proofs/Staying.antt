@@ -13,7 +13,6 @@ use Rattle.tao_base.specs.declared.id.Key.{Key}
 use Rattle.changeset.specs.Changes.{change_by}
 use Rattle.cache_items.specs.Kept.{is_yes, item_of, took, with_item}
 use Rattle.cache_items.specs.Node.{Items, Node, with_ended_ask, without, without_last}
-use Rattle.cache_items.specs.Taken.{key_bound}
 use Rattle.cache_items.specs.TakenEntry.{AppliesEntry, TakesEntry, TakesTouches}
 use Rattle.cache_items.specs.declared.look.Kept.{Kept}
 use Rattle.cache_items.specs.declared.look.Look.{Look}
@@ -37,7 +36,7 @@ use Rattle.shard_tables.specs.declared.leader_answer.LeaderAnswer.{LeaderAnswer}
 use Rattle.shard_tables.specs.declared.leader_answer.LeaderAnswer.TheVariants as leader
 use Rattle.shard_tables.specs.StoreView.{Store}
 use Rattle.tao_keeper.specs.KeeperState.{KeeperState}
-use Rattle.tao_schema.specs.Schema.{types_of}
+use Rattle.tao_schema.specs.Schema.{key_bound, types_of}
 use Rattle.topology.specs.Config.{Settings}
 use Rattle.core_model.specs.Consistent.{AreSeen, IsNodeOf}
 use Rattle.core_model.specs.Laws.{NodesStay}

@@ -3,7 +3,6 @@ use Rattle.std.proofs.Common.{◌≡◌, ℕ, ◌≤◌, ◌<◌, true, false, B
 use Rattle.std.specs.Prelude.{◌⊎◌, ◌-◌, nat_lt}
 use Rattle.std.proofs.lemmas.Bool.Decides.{nat_tests}
 use Rattle.counts.proofs.Rises.{Rose-earlier}
-use Rattle.cache_items.specs.Taken.{key_bound}
 use Rattle.cache_items.specs.declared.look.Kept.{Kept as KeptWhy}
 use Rattle.cache_items.specs.declared.look.Look.{Look}
 use Rattle.cache_items.specs.declared.look.Look.TheVariants.{Hit, Miss}
@@ -41,7 +40,7 @@ use Rattle.tao_base.specs.declared.query.Query.{Query}
 use Rattle.tao_keeper.specs.KeeperState.{IsLater, KeeperState, KeepsTables}
 use Rattle.tao_keeper.specs.Table.{Table}
 use Rattle.tao_link.specs.Shown.{LinkShown, after_carry}
-use Rattle.tao_schema.specs.Schema.{types_of}
+use Rattle.tao_schema.specs.Schema.{key_bound, types_of}
 use Rattle.topology.specs.Config.{Settings}
 use Rattle.core_steps.specs.Reads.{AnswersAgain, Ends, MayAnswer, ReadFails, ReadsAlong, WasGiven}
 use Rattle.core_steps.specs.ReadSteps.{AsksAlong, AsksOfKey, EndsRead, IsGivenAlong, IsGivenOver, IsNotGiven, IsNotRead, IsReached, IsReadOver, ReadOverFails, ReadsOn, TellsCost, is_behind, missed_read}

@@ -3,7 +3,6 @@ use Rattle.std.specs.Prelude.{ℕ, ◌≡◌, ◌⊎◌, ◌≤◌, Bool, List, 
 use Rattle.counts.specs.Count.{Rose}
 use Rattle.cache_items.specs.Look.{look_of}
 use Rattle.cache_items.specs.Node.{item_at}
-use Rattle.cache_items.specs.Taken.{key_bound}
 use Rattle.cache_items.specs.declared.look.Kept.{Kept as KeptWhy}
 use Rattle.cache_items.specs.declared.look.Look.TheVariants.{Hit, Miss}
 use Rattle.core_model.specs.Fleet.{ChangesNode, IsFirstAt, named}
@@ -31,7 +30,7 @@ use Rattle.tao_base.specs.EdgeTypes.{EdgeTypes}
 use Rattle.tao_base.specs.Queries.{query_key, query_shard}
 use Rattle.tao_base.specs.declared.query.Query.{Query}
 use Rattle.tao_keeper.specs.KeeperState.{KeeperState}
-use Rattle.tao_schema.specs.Schema.{types_of}
+use Rattle.tao_schema.specs.Schema.{key_bound, types_of}
 use Rattle.topology.specs.Config.{Settings}
 use Rattle.core_steps.specs.Routes.{FailsOnTheWay, Scene, hops_between, there_and_back, was_called}
 use Rattle.core_steps.specs.declared.routes.Route.{Route}

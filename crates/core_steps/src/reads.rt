@@ -1,6 +1,5 @@
 //! The reads of sessions.
 ghost use Rattle.std.specs.Prelude.{◌≡◌, ◌-◌, false, nat_lt, IfErr, IfOk};
-ghost use Rattle.cache_items.specs.Taken.{key_bound};
 ghost use Rattle.core_model.specs.Consistent.{GoesOn, IsConsistent, IsFleetOf};
 ghost use Rattle.core_model.specs.Pens.{pens_of};
 ghost use Rattle.core_model.specs.Reads.{IsGivenAnswer, IsGivenFill, wanted};
@@ -8,7 +7,7 @@ ghost use Rattle.core_model.specs.Serving.{IsFollowerFor, IsLeaderFor};
 ghost use Rattle.replies.specs.Kinds.{query_word};
 ghost use Rattle.tao_base.specs.Queries.{query_key, query_shard};
 ghost use Rattle.tao_keeper.specs.KeeperState.{IsLater, KeepsTables};
-ghost use Rattle.tao_schema.specs.Schema.{types_of};
+ghost use Rattle.tao_schema.specs.Schema.{key_bound, types_of};
 ghost use Rattle.core_steps.specs.Reads.{ReadsAlong};
 ghost use Rattle.core_steps.specs.ReadSteps.{AsksAlong, AsksOfKey, EndsRead, IsGivenAlong, IsNotGiven, IsReached, ReadsOn, TellsCost, is_behind, missed_read};
 ghost use Rattle.core_steps.specs.Routes.{scene};
@@ -25,7 +24,7 @@ use sealed_item::Fill;
 use sealed_item::laws::fills_are_sealed;
 use shard_tables::LeaderAnswer;
 use std::alloc::Global;
-use tao_base::{Answer, Key, OutOfMemory, Query};
+use tao_base::{Answer, OutOfMemory, Query};
 use tao_keeper::Keeper;
 use tao_link::Link;
 use tao_schema::Schema;
@@ -42,10 +41,7 @@ struct Cost {
 fn bound_of(schema: &Schema, query: &Query) -> u64
     ensures { result ≡ key_bound (types_of schema.now) (query_key query.now) }
 {
-    match query.key() {
-        Key::Obj(_) => 0,
-        Key::List(_, atype) => schema.bound(atype),
-    }
+    schema.bound_of(&query.key())
 }
 
 fn read_reply(query: &Query, answer: Answer, version: u64, cost: Cost, kept: KeptOrNot) -> Reply

@@ -1,11 +1,10 @@
 use Rattle.std.proofs.Common.{sym, subst, ◌∙◌, ap}
-use Rattle.cache_items.specs.Taken.{key_bound}
 use Rattle.core_model.specs.Reads.{wanted}
 use Rattle.read_plan.specs.Keeping.{past_bound}
 use Rattle.replies.specs.declared.calls.CallReply.TheVariants as called
 use Rattle.replies.specs.declared.reply.Reply.TheVariants.{Called}
 use Rattle.tao_base.specs.Queries.{query_key}
-use Rattle.tao_schema.specs.Schema.{types_of}
+use Rattle.tao_schema.specs.Schema.{key_bound, types_of}
 use Rattle.core_steps.specs.ReadSteps.{EndsRead, missed_read}
 use Rattle.core_steps.proofs.AlongLemmas.{past_ends, replied}
 use Rattle.core_steps.proofs.reads.end_read.Goals as goal

@@ -5,3 +5,4 @@ pub mod AskingOn
 pub mod Legal
 pub mod Turns
 pub mod Names
+pub mod NamesInTurn

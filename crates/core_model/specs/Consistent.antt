@@ -12,6 +12,7 @@ use Rattle.tao_schema.specs.Schema.{types_of}
 use Rattle.topology.specs.Config.{Settings}
 use Rattle.core_model.specs.Asks.{AsksGoOn}
 use Rattle.core_model.specs.Fleet.{Fleet, follower_names, leader_names, names_of, served_by}
+use Rattle.core_model.specs.Messages.{AreRefillsFor}
 use Rattle.core_model.specs.Pens.{IsSeen, Pens, Rise, pens_of}
 use Rattle.core_model.specs.Stores.{AreStoresOf}
 use Rattle.core_model.specs.declared.named.Named.{Named}
@@ -27,13 +28,18 @@ pub record IsNodeOf (s : Settings) (pens : Pens) (name : NodeName) (node : Node)
   pub truth : IsTrueNode node
   pub within : AreWithin (types_of s.schema) node.items
 
+-- the follower's node is such, and each of its refills can be asked for
+pub record IsFollowerOf (s : Settings) (pens : Pens) (name : NodeName) (f : FollowerState) : Type 0 where
+  pub node : IsNodeOf s pens name f.node
+  pub refills : AreRefillsFor s pens name f.refills
+
 abbrev pub AreLeadersOf : Settings → Pens → List (Named Node) → Type 0
 AreLeadersOf s pens leaders =
     (place : ℕ) (name : NodeName) (node : Node) → slice_get leaders place ≡ Some (record { name = name; node = node }) → IsNodeOf s pens name node
 
 abbrev pub AreFollowersOf : Settings → Pens → List (Named FollowerState) → Type 0
 AreFollowersOf s pens followers =
-    (place : ℕ) (name : NodeName) (f : FollowerState) → slice_get followers place ≡ Some (record { name = name; node = f }) → IsNodeOf s pens name f.node
+    (place : ℕ) (name : NodeName) (f : FollowerState) → slice_get followers place ≡ Some (record { name = name; node = f }) → IsFollowerOf s pens name f
 
 -- the nodes are those of the configuration, and each is one that it should be
 pub record IsFleetOf (s : Settings) (f : Fleet) : Type 0 where

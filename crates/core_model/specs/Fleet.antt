@@ -1,6 +1,7 @@
 -- The nodes of a core, by their names.
-use Rattle.std.specs.Prelude.{ℕ, ◌≡◌, ◌<◌, ◌%◌, ◌+◌, ◌==◌, Bool, Contains, IsSomeAnd, List, [], ◌∷◌, ◌++◌, Some, filter, map, slice_get, slice_set}
+use Rattle.std.specs.Prelude.{ℕ, ◌≡◌, ◌<◌, ◌%◌, ◌+◌, ◌==◌, Bool, Contains, IsSomeAnd, List, [], ◌∷◌, ◌++◌, Option, Some, None, filter, map, slice_get, slice_set, unwrap_or}
 use Rattle.std.specs.List.{range_with_len}
+use Rattle.std.specs.Option.{option_map}
 use Rattle.cache_items.specs.Node.{Node}
 use Rattle.follower_cache.specs.Seen.{FollowerState}
 use Rattle.node_name.specs.declared.NodeName.{NodeName}
@@ -37,6 +38,11 @@ pub record IsFirstAt {N : Type 0} (name : NodeName) (nodes : List (Named N)) (pl
   pub here : IsNodeAt name nodes place
   pub before : (other : ℕ) → other < place → IsNodeAt name nodes other → ⊥
 
+-- the first node of that name, where there is one
+abbrev pub IsNodeOfName : {N : Type 0} → NodeName → List (Named N) → Option N → Type 0
+IsNodeOfName name nodes None = HasNode name nodes → ⊥
+IsNodeOfName name nodes (Some node) = (place : ℕ) × IsFirstAt name nodes place × (slice_get nodes place ≡ Some (named name node))
+
 -- the node of that name changes so, and no other
 pub record ChangesNode {N : Type 0} (name : NodeName) (By : N → N → Type 0) (old new : List (Named N)) : Type 0 where
   pub place : ℕ
@@ -56,6 +62,10 @@ HasAsk name number key followers = (place : ℕ) (f : FollowerState) → IsFirst
 
 abbrev pub regions_of : Settings → List NodeCounts
 regions_of s = map counts_of s.regions
+
+-- how many followers each tier of a region has
+abbrev pub tiers_of : Settings → ℕ → List ℕ
+tiers_of s region = unwrap_or (option_map (λ r. r.followers) (slice_get (regions_of s) region)) []
 
 -- the leaders of the regions, the first of which stands at a place
 abbrev pub leaders_from : ℕ → List NodeCounts → List NodeName

@@ -1,5 +1,5 @@
 -- What stays so of the nodes of a core, whatever its stages do.
-use Rattle.std.specs.Prelude.{ℕ, ◌≡◌, ◌≤◌, ◌<◌, IsSome, IsTrue, List, Option, Some}
+use Rattle.std.specs.Prelude.{ℕ, ◌≡◌, ◌≤◌, ◌<◌, IfSome, IsSome, IsTrue, List, Option, Some}
 use Rattle.std.specs.List.{IsDistinct}
 use Rattle.std.specs.Map.{keys_of as keys_held}
 use Rattle.cache_items.specs.Node.{Node, without, without_last}
@@ -9,8 +9,10 @@ use Rattle.cache_items.specs.declared.look.Look.TheVariants.{Hit}
 use Rattle.cache_node.specs.Answered.{LookAnswers, ViewAnswers}
 use Rattle.cache_node.specs.True.{AreTold, IsTrueNode}
 use Rattle.follower_cache.specs.Seen.{FollowerState}
+use Rattle.follower_cache.specs.declared.queue.Refill.{Refill}
 use Rattle.graph_model.specs.Told.{WhereTold}
 use Rattle.leader_tier.specs.TakenWrites.{TakesWritten}
+use Rattle.maint_msg.specs.Maints.{SeenMaint}
 use Rattle.node_name.specs.declared.NodeName.{NodeName}
 use Rattle.sealed_item.specs.Fills.{SealedItem}
 use Rattle.served_shards.specs.Served.{ServedShard, changed_at, forgetting, marking, seeing, served_at}
@@ -30,8 +32,9 @@ use Rattle.topology.specs.Choices.{chosen_follower, preferred_leader}
 use Rattle.topology.specs.Config.{Settings}
 use Rattle.topology.specs.States.{NodeStates, is_cache}
 use Rattle.core_model.specs.Asks.{AsksGoOn}
-use Rattle.core_model.specs.Consistent.{AreSeen, IsNodeOf}
+use Rattle.core_model.specs.Consistent.{AreSeen, IsFollowerOf, IsNodeOf}
 use Rattle.core_model.specs.Fleet.{regions_of, serves_in_turn}
+use Rattle.core_model.specs.Messages.{Delivers, DeliversThere, IsMessageFor, IsRefillFor, TakesRefill}
 use Rattle.core_model.specs.Pens.{IsSeen, Pens, Rise}
 use Rattle.core_model.specs.Reads.{EndsAsk, IsGivenAnswer, IsGivenFill, IsLegalLook, KeepsFill, LeaderAnswers, LooksFirst, Wanted}
 use Rattle.core_model.specs.Serving.{IsFollowerFor, IsLeaderFor}
@@ -84,6 +87,31 @@ pub record NodesStay (s : Settings) (pens : Pens) (name : NodeName) : Type 0 whe
   -- and the last one
   pub evicts_last : (old new : Node) → new ≡ record old { items = without_last old.items } → IsTrueNode new → IsNodeOf s pens name old
       → IsNodeOf s pens name new
+  -- a message
+  pub delivers : (m : SeenMaint) (dropped : ℕ) (old new : Node) → Delivers m dropped old new → IsMessageFor s pens name m
+      → IsDistinct same_key (keys_held old.items) → IsTrueNode new → IsNodeOf s pens name old → IsNodeOf s pens name new
+
+-- ---- a follower stays one, with its refills
+
+pub record FollowersStay (s : Settings) (pens : Pens) (name : NodeName) : Type 0 where
+  -- the logs grow
+  pub rises : (later : Pens) (f : FollowerState) → Rise pens later → IsFollowerOf s pens name f → IsFollowerOf s later name f
+  -- its refills stay
+  pub same : (old new : FollowerState) → IsNodeOf s pens name new.node → new.refills ≡ old.refills → IsFollowerOf s pens name old
+      → IsFollowerOf s pens name new
+  -- a message queues refills
+  pub delivers : (m : SeenMaint) (dropped : ℕ) (old new : FollowerState) → DeliversThere (types_of s.schema) m dropped old new
+      → IsMessageFor s pens name m → IsDistinct same_key (keys_held old.node.items) → IsTrueNode new.node → IsFollowerOf s pens name old
+      → IsFollowerOf s pens name new
+  -- a refill is taken out, and is one that can be asked for
+  pub takes : (refill : Option Refill) (old new : FollowerState) → TakesRefill refill old new → IsFollowerOf s pens name old
+      → IsFollowerOf s pens name new × IfSome refill (IsRefillFor s pens name)
+
+-- ---- a message stays one
+
+-- what was seen of the log of its shard stays seen
+abbrev pub MessagesStay : Type 0
+MessagesStay = (s : Settings) (pens later : Pens) (name : NodeName) (m : SeenMaint) → Rise pens later → IsMessageFor s pens name m → IsMessageFor s later name m
 
 -- ---- asks go on
 
@@ -95,6 +123,7 @@ pub record NodesAskOn : Type 0 where
   pub ends : (ask : Option ℕ) (old new : FollowerState) → EndsAsk ask old new → AsksGoOn old.node.asks new.node.asks
   pub applies : (types : EdgeTypes) (shard : ℕ) (entry : Entry) (note : View) (old new : FollowerState) → AppliesTo types shard entry note old new
       → AsksGoOn old.node.asks new.node.asks
+  pub delivers : (m : SeenMaint) (dropped : ℕ) (old new : Node) → Delivers m dropped old new → AsksGoOn old.asks new.asks
 
 -- ---- reads are legal
 
@@ -104,7 +133,8 @@ pub record ReadsAreLegal (types : EdgeTypes) (pens : Pens) (read : Wanted) : Typ
       → LookAnswers types served read.query look → ((answer : Answer) (version : ℕ) → look ≡ Hit answer version → read.floor ≤ version)
       → IsLegalLook types pens read look
   -- what a note answers, at the floor
-  pub given : (note : View) (answer : Answer) (version : ℕ) → ViewAnswers types note read.query answer version → read.floor ≤ version
+  pub given : (note : View) (answer : Answer) (version : ℕ) → ViewAnswers types note read.query answer version
+      → WhereTold note.log.told (read.floor ≤ version)
       → IsSeen pens (query_shard read.query) note → IsLegalIn types (pens (query_shard read.query)) read.query read.floor answer version
   -- what was legal stays so
   pub stays : (later : Pens) (answer : Answer) (version : ℕ) → Rise pens later

@@ -4,6 +4,7 @@ pub mod Evictions
 pub mod Fleet
 pub mod Growing
 pub mod Laws
+pub mod Messages
 pub mod Pens
 pub mod Reads
 pub mod Serving

@@ -1,6 +1,8 @@
 -- What each stage of a read does to the node that acts.
 use Rattle.std.specs.Prelude.{ℕ, ◌≡◌, ◌≤◌, ◌<◌, ◌+◌, ⊤, true, false, List, Option, Some, None, slice_get}
 use Rattle.ask_table.specs.Asks.{is_full}
+use Rattle.counts.specs.Count.{Rose}
+use Rattle.graph_model.specs.Told.{WhereTold}
 use Rattle.cache_items.specs.Kept.{GivesKept, kept_of, took}
 use Rattle.cache_items.specs.Look.{look_of, looked_at}
 use Rattle.cache_items.specs.Node.{Node, item_at, with_ended_ask, with_opened_ask}
@@ -12,9 +14,13 @@ use Rattle.leader_tier.specs.LeaderReads.{AnswersRead, asked_read}
 use Rattle.sealed_item.specs.Decided.{IsWithinBound, content_answer, content_decides}
 use Rattle.sealed_item.specs.Fills.{SealedItem}
 use Rattle.shard_log.specs.GrowthLaws.{IsLegalIn}
+use Rattle.shard_tables.specs.ReadOuts.{IsReadOutOf, read_note}
 use Rattle.shard_tables.specs.StoreView.{Store}
+use Rattle.shard_tables.specs.Stores.{note_of}
 use Rattle.shard_tables.specs.declared.leader_answer.LeaderAnswer.{LeaderAnswer}
 use Rattle.shard_tables.specs.declared.leader_answer.LeaderAnswer.TheVariants as leader
+use Rattle.shard_tables.specs.declared.read_out.ReadOut.{ReadOut}
+use Rattle.shard_tables.specs.declared.read_out.ReadOut.TheVariants as out
 use Rattle.tao_base.specs.EdgeTypes.{EdgeTypes}
 use Rattle.tao_base.specs.Queries.{query_key, query_shard}
 use Rattle.tao_base.specs.declared.id.Key.{Key}
@@ -68,7 +74,7 @@ pub record IsGivenFill (types : EdgeTypes) (pens : Pens) (read : Wanted) (fill :
   pub key_is : fill.key ≡ query_key read.query
   pub decides : content_decides types fill.content read.query ≡ true
   pub within : IsWithinBound types (query_key read.query) fill.content
-  pub reaches : read.floor ≤ fill.version
+  pub reaches : WhereTold fill.note.log.told (read.floor ≤ fill.version)
   pub seen : IsSeen pens (query_shard read.query) fill.note
 
 abbrev pub IsGivenAnswer : EdgeTypes → Pens → Wanted → LeaderAnswer → Type 0
@@ -76,6 +82,21 @@ IsGivenAnswer types pens read (leader.Filled fill) = IsGivenFill types pens read
 IsGivenAnswer types pens read (leader.Past answer version total note) =
     IsLegalIn types note read.query read.floor answer version × IsSeen pens (query_shard read.query) note
 IsGivenAnswer types pens read (leader.Behind version) = version < read.floor
+
+-- ---- master
+
+-- what a store read, as it is given to the follower
+abbrev pub given_of : ReadOut → LeaderAnswer
+given_of (out.Filled fill) = leader.Filled fill
+given_of (out.Past answer version total note) = leader.Past answer version total note
+
+-- the shard's store reads all that it has, with calls of the keeper
+pub record StoreReads (types : EdgeTypes) (query : Query) (read : ReadOut) (masters : List Store) (before after : KeeperState) : Type 0 where
+  pub store : Store
+  pub stands : slice_get masters (query_shard query) ≡ Some store
+  pub reads : WhereTold store.view.log.told (IsReadOutOf types (before.told store.name).log query read)
+  pub note_is : read_note read ≡ note_of store
+  pub called : Rose before.calls after.calls
 
 -- ---- keep
 

@@ -2,7 +2,7 @@
 ghost use Rattle.std.specs.Prelude.{ℕ};
 ghost use Rattle.cache_items.specs.Node.{Node};
 ghost use Rattle.core_model.specs.Asks.{AsksStayOn};
-ghost use Rattle.core_model.specs.Laws.{ChoicesServe, NodesAskOn, NodesStay, NodesStaySeen, ReadsAreLegal, ServesItsTurn};
+ghost use Rattle.core_model.specs.Laws.{ChoicesServe, FollowersStay, MessagesStay, NodesAskOn, NodesStay, NodesStaySeen, ReadsAreLegal, ServesItsTurn};
 ghost use Rattle.core_model.specs.Pens.{Pens};
 ghost use Rattle.core_model.specs.Reads.{Wanted};
 ghost use Rattle.node_name.specs.declared.NodeName.{NodeName as AnyNode};
@@ -26,6 +26,18 @@ pub fn nodes_stay_seen()
 #[tactic(auto, using(crate::proofs::Staying::nodes_stay))]
 pub fn nodes_stay()
     ensures { (s : Settings) (pens : Pens) (name : AnyNode) → NodesStay s pens name }
+{}
+
+/// A follower stays one of its core, with its refills.
+#[tactic(auto, using(crate::proofs::Staying::followers_stay))]
+pub fn followers_stay()
+    ensures { (s : Settings) (pens : Pens) (name : AnyNode) → FollowersStay s pens name }
+{}
+
+/// A message stays one for its node, whatever the logs grow by.
+#[tactic(auto, using(crate::proofs::Staying::messages_stay))]
+pub fn messages_stay()
+    ensures { MessagesStay }
 {}
 
 /// A follower's asks go on, whatever stage it does.

@@ -6,5 +6,7 @@
 
 pub mod laws;
 mod named;
+mod names;
 
-pub use named::{Named, place_of};
+pub use named::{Named, find_node, place_of};
+pub use names::{follower_names, leader_names, served_by};

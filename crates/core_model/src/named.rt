@@ -1,7 +1,7 @@
 //! Nodes by their names.
-ghost use Rattle.std.specs.Prelude.{◌≡◌, ◌≢◌, ◌<◌, All, HoldsAt, MatchOption, length};
+ghost use Rattle.std.specs.Prelude.{◌≡◌, ◌≢◌, ◌<◌, All, HoldsAt, MatchOption, length, option_copied};
 ghost use Rattle.std.specs.List.{AllWithin};
-ghost use Rattle.core_model.specs.Fleet.{HasNode, IsFirstAt};
+ghost use Rattle.core_model.specs.Fleet.{HasNode, IsFirstAt, IsNodeOfName};
 
 use node_name::NodeName;
 
@@ -28,5 +28,15 @@ pub fn place_of<N>(nodes: &[Named<N>], name: NodeName) -> usize
     match first_named(nodes, name) {
         Some(place) => place,
         None => unreachable!(),
+    }
+}
+
+/// The node of that name, the first of them. None exactly where no node has the name. Looks through the names.
+pub fn find_node<N>(nodes: &[Named<N>], name: NodeName) -> Option<&N>
+    ensures { IsNodeOfName name nodes.now (option_copied result) }
+{
+    match first_named(nodes, name) {
+        Some(place) => Some(&nodes[place].node),
+        None => None,
     }
 }

@@ -20,10 +20,6 @@ use Rattle.core_model.specs.Stores.{AreStores, master_log}
 use Rattle.core_model.specs.declared.named.Named.{Named}
 use Rattle.core_nodes.specs.declared.beginning.Turn.{Turn}
 
--- how many followers each tier of a region has
-abbrev pub tiers_of : Settings → ℕ → List ℕ
-tiers_of s region = unwrap_or (option_map (λ r. r.followers) (slice_get (regions_of s) region)) []
-
 -- ---- what a node begins with
 
 -- the length of a shard's log, of the lengths of all

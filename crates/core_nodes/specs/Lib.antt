@@ -1,4 +1,5 @@
 pub mod Beginning
 pub mod FleetView
 pub mod Opening
+pub mod Shown
 pub mod Stages

@@ -10,8 +10,7 @@ ghost use Rattle.shard_tables.specs.Stores.{IsStoreOf};
 ghost use Rattle.shard_tables.specs.declared.store.Role.TheVariants.{Master};
 ghost use Rattle.tao_keeper.specs.KeeperState.{IsLater, KeepsTables};
 
-use crate::names::{follower_names, leader_names, served_by};
-use core_model::Named;
+use core_model::{Named, follower_names, leader_names, served_by};
 use follower_cache::{Follower, followers_are_true};
 use leader_tier::{Leader, leaders_are_true};
 use node_name::NodeName;

@@ -5,11 +5,13 @@
 #![tactic(auto)]
 
 mod beginning;
+mod deliveries;
 mod evictions;
 mod fleet;
-mod names;
 mod opening;
+mod masters;
 mod reads;
+mod shown;
 mod writes;
 
 pub use fleet::Fleet;

@@ -1,10 +1,9 @@
 //! The names of a configuration's nodes, and who serves a shard.
 ghost use Rattle.std.specs.Prelude.{◌≡◌, ◌%◌, ◌<◌, All, IfOk, length, map};
 ghost use Rattle.std.specs.List.{range_with_len};
-ghost use Rattle.core_model.specs.Fleet.{follower_names, leader_names, regions_of, served_by, serves_in_turn, tiers_from};
+ghost use Rattle.core_model.specs.Fleet.{follower_names, leader_names, regions_of, served_by, serves_in_turn, tiers_from, tiers_of};
 ghost use Rattle.node_name.specs.declared.NodeName.TheVariants.{Follower as FollowerName, Leader as LeaderName};
 ghost use Rattle.topology.specs.Counts.{follower_count, leader_count, tier_count};
-ghost use Rattle.core_nodes.specs.Beginning.{tiers_of};
 
 use node_name::NodeName;
 use std::alloc::Global;
@@ -83,7 +82,7 @@ fn tier_followers(
 }
 
 /// The leaders of a configuration, region by region.
-pub(crate) fn leader_names(alloc: Global, config: &Config) -> Result<Vec<NodeName>, OutOfMemory>
+pub fn leader_names(alloc: Global, config: &Config) -> Result<Vec<NodeName>, OutOfMemory>
     ensures { IfOk result (λ names. names.items ≡ leader_names config.now) }
 {
     let mut names = Vec::new(alloc);
@@ -111,7 +110,7 @@ fn region_followers(
 }
 
 /// The followers of a configuration, region by region and tier by tier.
-pub(crate) fn follower_names(alloc: Global, config: &Config) -> Result<Vec<NodeName>, OutOfMemory>
+pub fn follower_names(alloc: Global, config: &Config) -> Result<Vec<NodeName>, OutOfMemory>
     ensures { IfOk result (λ names. names.items ≡ follower_names config.now) }
 {
     let mut names = Vec::new(alloc);
@@ -147,7 +146,7 @@ fn serves_in_turn(config: &Config, name: NodeName, shard: u16) -> bool
 }
 
 /// The shards that a node serves, in order.
-pub(crate) fn served_by(
+pub fn served_by(
     alloc: Global,
     config: &Config,
     name: NodeName,

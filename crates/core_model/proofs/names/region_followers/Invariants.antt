@@ -1,7 +1,7 @@
 use Rattle.std.proofs.Common.{◌≡◌, take}
 use Rattle.core_model.specs.Fleet.{tiers_from}
-use Rattle.core_nodes.specs.Beginning.{tiers_of}
-use Rattle.core_nodes.proofs.names.region_followers.Given as goal
+use Rattle.core_model.specs.Fleet.{tiers_of}
+use Rattle.core_model.proofs.names.region_followers.Given as goal
 
 abbrev pub invariant-loop-tier : goal.invariant-loop-tier
 invariant-loop-tier l = l.names.items ≡ tiers_from l.region 0 (take l.tier (tiers_of l.config l.region))

@@ -4,8 +4,8 @@ use Rattle.std.proofs.lemmas.List.{length-map}
 use Rattle.node_name.specs.declared.NodeName.TheVariants.{Leader}
 use Rattle.topology.specs.Counts.{counts_of}
 use Rattle.core_model.specs.Fleet.{leaders_from, regions_of}
-use Rattle.core_nodes.proofs.NameLemmas.{leaders_more, more_names}
-use Rattle.core_nodes.proofs.names.leader_names.Goals as goal
+use Rattle.core_model.proofs.NamesInTurn.{leaders_more, more_names}
+use Rattle.core_model.proofs.names.leader_names.Goals as goal
 
 pub loop-region-preserved : goal.loop-region-preserved
 loop-region-preserved c =

@@ -2,8 +2,8 @@ use Rattle.std.proofs.Common.{◌≡◌, ◌+◌, ◌<◌, length, take, ◌∙�
 use Rattle.std.proofs.lemmas.List.{length-map}
 use Rattle.topology.specs.Counts.{counts_of}
 use Rattle.core_model.specs.Fleet.{followers_from, regions_of}
-use Rattle.core_nodes.proofs.NameLemmas.{followers_more, more_names}
-use Rattle.core_nodes.proofs.names.follower_names.Goals as goal
+use Rattle.core_model.proofs.NamesInTurn.{followers_more, more_names}
+use Rattle.core_model.proofs.names.follower_names.Goals as goal
 
 pub loop-region-preserved : goal.loop-region-preserved
 loop-region-preserved c =

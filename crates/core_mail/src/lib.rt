@@ -1,0 +1,6 @@
+//! The inboxes of a core: of each leader and follower the messages that wait for it.
+#![tactic(auto)]
+
+mod mail;
+
+pub use mail::Mail;

@@ -1,0 +1,81 @@
+-- Messages of maintenance among the nodes of a core, and the refills that they queue.
+use Rattle.std.specs.Prelude.{ℕ, ◌≡◌, ◌≤◌, ◌<◌, ◌⊎◌, IsTrue, List, [], ◌∷◌, ◌++◌, Option, Some, None, filter, length}
+use Rattle.std.specs.List.{AllByRecursion}
+use Rattle.cache_items.specs.Delivered.{dropped_lists}
+use Rattle.cache_items.specs.Node.{Node, delivered, drop_count}
+use Rattle.follower_cache.specs.Refills.{Queues}
+use Rattle.follower_cache.specs.Seen.{FollowerState}
+use Rattle.follower_cache.specs.declared.queue.Refill.{Refill}
+use Rattle.graph_model.specs.Log.{version}
+use Rattle.graph_model.specs.Told.{WhereTold}
+use Rattle.maint_msg.specs.KeyVersions.{keys_of}
+use Rattle.maint_msg.specs.Maints.{IsMaint, SeenMaint}
+use Rattle.node_name.specs.declared.NodeName.{NodeName}
+use Rattle.node_name.specs.declared.NodeName.TheVariants.{Store as StoreName_, Leader, Follower}
+use Rattle.tao_base.specs.EdgeTypes.{EdgeTypes}
+use Rattle.tao_base.specs.Queries.{query_key, query_shard}
+use Rattle.tao_base.specs.declared.entry.Entry.{Entry}
+use Rattle.topology.specs.Choices.{followers_in_turn}
+use Rattle.topology.specs.Config.{Settings}
+use Rattle.topology.specs.States.{NodeStates, is_up}
+use Rattle.core_model.specs.Fleet.{ChangesNode, Fleet, regions_of, serves_in_turn}
+use Rattle.core_model.specs.Pens.{IsSeen, Pens}
+
+-- ---- messages
+
+-- the node serves the message's shard, which is configured; what it names was seen of that shard's log
+pub record IsMessageFor (s : Settings) (pens : Pens) (name : NodeName) (m : SeenMaint) : Type 0 where
+  pub here : m.shard < s.shards
+  pub serves : IsTrue (serves_in_turn (regions_of s) name m.shard)
+  pub seen : IsSeen pens m.shard m.note
+  pub names : IsMaint m
+
+-- the message tells of the entry of a shard's log
+pub record TellsOf (shard : ℕ) (entry : Entry) (m : SeenMaint) : Type 0 where
+  pub shard_is : m.shard ≡ shard
+  pub position_is : m.position ≡ entry.position
+  pub keys_are : m.keys ≡ keys_of entry
+
+-- an inbox gets a message of the entry behind the others, or it is lost: there is no room for it, or no memory
+abbrev pub Receives : ℕ → Entry → List SeenMaint → List SeenMaint → Type 0
+Receives shard entry old new = (new ≡ old) ⊎ ((m : SeenMaint) × TellsOf shard entry m × (length old < 4096) × (new ≡ old ++ m ∷ []))
+
+-- who is told of an entry that the region's store took: of each tier the follower that serves the shard, where it is up
+abbrev pub told_of : NodeStates → ℕ → ℕ → List NodeName
+told_of states region shard = filter (is_up states) (followers_in_turn states.regions region 0 shard)
+
+-- ---- deliveries
+
+-- a node processes a message: it drops so many items, those below the versions that the message names, raises its asks and marks the position
+pub record Delivers (m : SeenMaint) (dropped : ℕ) (old new : Node) : Type 0 where
+  pub dropped_is : dropped ≡ drop_count old.items m.keys
+  pub node_is : new ≡ delivered m old
+
+-- a follower also queues a refill for each list that it drops
+pub record DeliversThere (types : EdgeTypes) (m : SeenMaint) (dropped : ℕ) (old new : FollowerState) : Type 0 where
+  pub node : Delivers m dropped old.node new.node
+  pub refills : Queues types (dropped_lists old.node.items m.keys) old.refills new.refills
+
+-- the leader or follower of that name does so, and nothing else of the core's nodes changes
+abbrev pub DeliversAt : EdgeTypes → SeenMaint → ℕ → NodeName → Fleet → Fleet → Type 0
+DeliversAt types m dropped (StoreName_ store) old new = ⊥
+DeliversAt types m dropped (Leader region index) old new =
+    ChangesNode (Leader region index) (Delivers m dropped) old.leaders new.leaders × (new ≡ record old { leaders = new.leaders })
+DeliversAt types m dropped (Follower region tier index) old new =
+    ChangesNode (Follower region tier index) (DeliversThere types m dropped) old.followers new.followers × (new ≡ record old { followers = new.followers })
+
+-- ---- refills
+
+-- the follower serves the shard of the refill, which is configured; where its log is told, it has come to the refill's floor
+pub record IsRefillFor (s : Settings) (pens : Pens) (name : NodeName) (refill : Refill) : Type 0 where
+  pub here : query_shard refill.query < s.shards
+  pub serves : IsTrue (serves_in_turn (regions_of s) name (query_shard refill.query))
+  pub reached : WhereTold (pens (query_shard refill.query)).log.told (refill.floor ≤ version (pens (query_shard refill.query)).entries (query_key refill.query))
+
+abbrev pub AreRefillsFor : Settings → Pens → NodeName → List Refill → Type 0
+AreRefillsFor s pens name refills = AllByRecursion (IsRefillFor s pens name) refills
+
+-- the oldest refill is taken out, where one waits
+abbrev pub TakesRefill : Option Refill → FollowerState → FollowerState → Type 0
+TakesRefill None old new = (old.refills ≡ []) × (new ≡ old)
+TakesRefill (Some refill) old new = (old.refills ≡ refill ∷ new.refills) × (new ≡ record old { refills = new.refills })

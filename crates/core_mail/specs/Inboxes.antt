@@ -1,12 +1,16 @@
 -- The messages that wait for the nodes of a core.
-use Rattle.std.specs.Prelude.{ℕ, ◌≡◌, List, [], ◌∷◌, ◌++◌, Option, Some, remove, slice_get}
-use Rattle.std.specs.List.{AllByRecursion}
-use Rattle.maint_msg.specs.Maints.{SeenMaint}
+use Rattle.std.specs.Prelude.{ℕ, ◌≡◌, List, [], ◌∷◌, ◌++◌, Option, Some, map, slice_get}
+use Rattle.std.specs.List.{AllByRecursion, remove}
+use Rattle.maint_msg.specs.Inbox.{IsSent}
+use Rattle.maint_msg.specs.KeyVersions.{keys_of}
+use Rattle.maint_msg.specs.Maints.{SeenMaint, seen_maint}
 use Rattle.node_name.specs.declared.NodeName.{NodeName}
+use Rattle.replies.specs.declared.lists.Message.{Message}
+use Rattle.shard_log.specs.View.{View}
 use Rattle.tao_base.specs.declared.entry.Entry.{Entry}
 use Rattle.topology.specs.Config.{Settings}
-use Rattle.core_model.specs.Fleet.{ChangesNode, follower_names, leader_names, named, names_of}
-use Rattle.core_model.specs.Messages.{IsMessageFor, Receives}
+use Rattle.core_model.specs.Fleet.{ChangesNode, IsNodeOfName, follower_names, leader_names, named, names_of}
+use Rattle.core_model.specs.Messages.{IsMessageFor}
 use Rattle.core_model.specs.Pens.{Pens}
 use Rattle.core_model.specs.declared.named.Named.{Named}
 
@@ -28,12 +32,40 @@ pub record AreInboxesOf (s : Settings) (pens : Pens) (inboxes : Inboxes) : Type 
 abbrev pub AreEmpty : Inboxes → Type 0
 AreEmpty inboxes = AllByRecursion (λ inbox. inbox.node ≡ []) inboxes
 
--- one after another the nodes get a message of the entry, or it is lost
-abbrev pub Sends : List NodeName → ℕ → Entry → Inboxes → Inboxes → Type 0
-Sends [] shard entry old new = new ≡ old
-Sends (name ∷ names) shard entry old new = (between : Inboxes) × ChangesNode name (Receives shard entry) old between × Sends names shard entry between new
+-- the inbox of a node that no message waits for
+abbrev pub no_messages : NodeName → Named (List SeenMaint)
+no_messages name = named name []
+
+-- ---- messages that are sent
+
+-- the message of the entry of a shard's log, by what the note has seen of it
+abbrev pub message_of : ℕ → Entry → View → SeenMaint
+message_of shard entry note = seen_maint shard entry.position (keys_of entry) note
+
+-- one after another the nodes are sent the message
+abbrev pub Sends : List NodeName → SeenMaint → Inboxes → Inboxes → Type 0
+Sends [] message old new = new ≡ old
+Sends (name ∷ names) message old new = (between : Inboxes) × ChangesNode name (IsSent message) old between × Sends names message between new
+
+-- ---- messages that wait
 
 -- the message at a place is taken out of an inbox, where there is one; those behind it move up
 pub record TakesOut (place : ℕ) (message : Option SeenMaint) (old new : List SeenMaint) : Type 0 where
   pub message_is : message ≡ slice_get old place
   pub rest : new ≡ remove old place
+
+-- the message waits for the node at the place, or none does
+pub record WaitsAt (name : NodeName) (place : ℕ) (message : Option SeenMaint) (inboxes : Inboxes) : Type 0 where
+  pub waiting : List SeenMaint
+  pub inbox : IsNodeOfName name inboxes (Some waiting)
+  pub message_is : message ≡ slice_get waiting place
+
+-- a message as it is shown
+abbrev pub shown_message : SeenMaint → Message
+shown_message m = record { shard = m.shard; position = m.position }
+
+-- the messages that wait for the node are shown, in order
+pub record ShowsInbox (name : NodeName) (shown : List Message) (inboxes : Inboxes) : Type 0 where
+  pub waiting : List SeenMaint
+  pub inbox : IsNodeOfName name inboxes (Some waiting)
+  pub shown_is : shown ≡ map shown_message waiting

@@ -1,15 +1,14 @@
 //! `Mail`.
-ghost use Rattle.std.specs.Prelude.{ℕ, ◌≡◌, ◌<◌, IfOk, IfSome, OnErr, Some, length, map, slice_get};
-ghost use Rattle.core_mail.specs.Inboxes.{AreEmpty, AreInboxesOf, Sends, TakesOut};
-ghost use Rattle.core_model.specs.Fleet.{ChangesNode, HasNode, IsFirstAt, named};
+ghost use Rattle.std.specs.Prelude.{◌≡◌, ◌<◌, IfOk, IfSome};
+ghost use Rattle.core_mail.specs.Inboxes.{AreEmpty, AreInboxesOf, Sends, ShowsInbox, TakesOut, WaitsAt, cache_names, message_of};
+ghost use Rattle.core_model.specs.Fleet.{ChangesNode, HasNode, names_of, regions_of};
 ghost use Rattle.core_model.specs.Messages.{IsMessageFor, told_of};
 ghost use Rattle.core_model.specs.Pens.{IsSeen, Pens};
-ghost use Rattle.graph_model.specs.Told.{WhereTold};
-ghost use Rattle.maint_msg.specs.Maints.{SeenMaint};
 ghost use Rattle.shard_tables.specs.Written.{LiesOn, StandsIn};
-ghost use Rattle.topology.specs.States.{all_up};
+ghost use Rattle.topology.specs.Config.{Settings};
 
-use core_model::{Named, find_node, follower_names, leader_names, place_of};
+use crate::inboxes::{copy_at, empty_inboxes, send_at, shown, take_at};
+use core_model::{Named, find_node, follower_names, leader_names, serving_follower, tier_count};
 use maint_msg::{Inbox, Maint};
 use node_name::NodeName;
 use replies::Messages;
@@ -19,9 +18,10 @@ use std::marker::Model;
 use tao_base::{Entry, OutOfMemory};
 use topology::{Config, Topology};
 
-/// Of each leader and follower of a configuration the messages that wait for it.
+/// Of each leader and follower of a configuration the messages that wait for it, in the order in which they were sent: at most 4,096.
+/// Contracts see these lists by the nodes' names.
 ///
-/// An inbox is found by its node's name among at most 80.
+/// A node's inbox is found among at most 80.
 #[derive(Drop)]
 pub struct Mail {
     inboxes: Vec<Named<Inbox>>,
@@ -35,14 +35,50 @@ impl Model for Mail {
     ghost view = { λ m. m.inboxes.items };
 }
 
+/// Sends the followers of a region that serve a shard, and are up, the message of an entry.
+fn send_each(
+    inboxes: &mut [Named<Inbox>],
+    alloc: Global,
+    config: &Config,
+    topology: &Topology,
+    region: u16,
+    shard: u16,
+    entry: &Entry,
+    note: &mut Note,
+)
+    requires own { topology.now.regions ≡ regions_of config.now }
+    requires names { names_of inboxes.old ≡ cache_names config.now }
+    requires stands { StandsIn note.old entry.now }
+    requires lies { LiesOn note.old shard entry.now }
+    ensures sends { Sends (told_of topology.now region shard) (message_of shard entry.now note.old) inboxes.old inboxes.new }
+    ensures note { note.new ≡ note.old }
+{
+    for tier in 0..tier_count(config, region) {
+        let follower = serving_follower(config, region, tier, shard);
+        if topology.is_up(follower) {
+            send_at(inboxes, follower, alloc, shard, entry, note);
+        }
+    }
+}
+
 impl Mail {
     /// An empty inbox for each leader and follower of the configuration.
     pub fn open(alloc: Global, config: &Config) -> Result<Mail, OutOfMemory>
         ensures of { IfOk result (λ mail. (pens : Pens) → AreInboxesOf config.now pens mail) }
-        ensures empty { IfOk result AreEmpty };
+        ensures empty { IfOk result AreEmpty }
+    {
+        let mut names = leader_names(alloc, config)?;
+        names.extend_from_slice(&follower_names(alloc, config)?)?;
+        Ok(Mail {
+            inboxes: empty_inboxes(alloc, &names)?,
+        })
+    }
 
-    /// Tells of an entry that the region's store took: of each tier the follower that serves the shard, where it is up, gets a message
-    /// behind the others. One that finds no room, or no memory, is lost.
+    /// Tells of an entry of a shard's log that the region's store took: of each tier, in order, the follower that serves the shard,
+    /// where it is up, is sent a message with a note of its own, which comes behind the others.
+    ///
+    /// With 4,096 messages waiting the message is lost, and so it is without memory for its note, its keys or its place; the others
+    /// are sent all the same. Takes no other memory.
     pub fn send(
         &mut self,
         alloc: Global,
@@ -53,27 +89,62 @@ impl Mail {
         entry: &Entry,
         note: &mut Note,
     )
+        requires own { topology.now.regions ≡ regions_of config.now }
+        requires names { names_of self.old ≡ cache_names config.now }
         requires here { shard < config.now.shards }
-        requires region { region < length config.now.regions }
-        requires up { topology.now ≡ all_up config.now }
         requires stands { StandsIn note.old entry.now }
         requires lies { LiesOn note.old shard entry.now }
-        requires inboxes { (pens : Pens) → .. }
-        ensures sends { Sends (told_of topology.now region shard) shard entry.now self.old self.new }
+        ensures sends { Sends (told_of topology.now region shard) (message_of shard entry.now note.old) self.old self.new }
         ensures note { note.new ≡ note.old }
-        ensures of { (pens : Pens) → IsSeen pens shard note.old → AreInboxesOf config.now pens self.old → AreInboxesOf config.now pens self.new };
+        ensures of { (pens : Pens) → IsSeen pens shard note.old → AreInboxesOf config.now pens self.old → AreInboxesOf config.now pens self.new }
+    {
+        send_each(
+            &mut self.inboxes,
+            alloc,
+            config,
+            topology,
+            region,
+            shard,
+            entry,
+            note,
+        );
+    }
 
-    /// Takes the message at a place, the oldest at 0, out of a node's inbox. None, and nothing changed, exactly where the place isn't
-    /// below the length.
+    /// Takes the message at a place, the oldest at 0, out of a node's inbox; those behind it move up. None, and nothing changed,
+    /// exactly where the place isn't below the length. Takes no memory.
     pub fn take(&mut self, node: NodeName, place: usize) -> Option<Maint>
         requires { HasNode node self.old }
-        ensures takes { ChangesNode node (TakesOut place result) self.old self.new };
+        ensures takes { ChangesNode node (TakesOut place result) self.old self.new }
+        ensures of { (s : Settings) (pens : Pens) → AreInboxesOf s pens self.old → AreInboxesOf s pens self.new }
+        ensures message { (s : Settings) (pens : Pens) → AreInboxesOf s pens self.old → IfSome result (IsMessageFor s pens node) }
+    {
+        take_at(&mut self.inboxes, node, place)
+    }
 
-    /// A copy of the message at a place; the inbox stays as it is.
-    pub fn copy(&mut self, alloc: Global, node: NodeName, place: usize) -> Result<Option<Maint>, OutOfMemory>
+    /// A copy of the message at a place, the oldest at 0, with a note of its own; the message stays where it is, and so do all others.
+    /// None exactly where the place isn't below the length. The one error is want of memory for the copy.
+    pub fn copy(
+        &mut self,
+        alloc: Global,
+        node: NodeName,
+        place: usize,
+    ) -> Result<Option<Maint>, OutOfMemory>
         requires { HasNode node self.old }
-        ensures same { self.new ≡ self.old };
+        ensures copy { IfOk result (λ copy. WaitsAt node place copy self.old) }
+        ensures same { self.new ≡ self.old }
+        ensures message { IfOk result (λ copy. (s : Settings) (pens : Pens) → AreInboxesOf s pens self.old → IfSome copy (IsMessageFor s pens node)) }
+    {
+        copy_at(&mut self.inboxes, node, place)
+    }
 
-    /// The messages that wait for a node.
-    pub fn messages(&self, alloc: Global, node: NodeName) -> Result<Messages, OutOfMemory>;
+    /// The shard and the position of each message that waits for a node, the oldest first. The one error is want of memory for them.
+    pub fn messages(&self, alloc: Global, node: NodeName) -> Result<Messages, OutOfMemory>
+        requires { HasNode node self.now }
+        ensures { IfOk result (λ messages. ShowsInbox node messages self.now) }
+    {
+        match find_node(&self.inboxes, node) {
+            Some(inbox) => Ok(Messages::of(shown(alloc, inbox.as_slice())?)),
+            None => unreachable!(),
+        }
+    }
 }

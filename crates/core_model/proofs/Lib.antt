@@ -6,3 +6,5 @@ pub mod Legal
 pub mod Turns
 pub mod Names
 pub mod NamesInTurn
+pub mod Places
+pub mod NamedNodes

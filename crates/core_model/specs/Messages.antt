@@ -1,5 +1,5 @@
 -- Messages of maintenance among the nodes of a core, and the refills that they queue.
-use Rattle.std.specs.Prelude.{ℕ, ◌≡◌, ◌≤◌, ◌<◌, ◌⊎◌, IsTrue, List, [], ◌∷◌, ◌++◌, Option, Some, None, filter, length}
+use Rattle.std.specs.Prelude.{ℕ, ◌≡◌, ◌≤◌, ◌<◌, IsTrue, List, [], ◌∷◌, Option, Some, None, filter}
 use Rattle.std.specs.List.{AllByRecursion}
 use Rattle.cache_items.specs.Delivered.{dropped_lists}
 use Rattle.cache_items.specs.Node.{Node, delivered, drop_count}
@@ -8,13 +8,11 @@ use Rattle.follower_cache.specs.Seen.{FollowerState}
 use Rattle.follower_cache.specs.declared.queue.Refill.{Refill}
 use Rattle.graph_model.specs.Log.{version}
 use Rattle.graph_model.specs.Told.{WhereTold}
-use Rattle.maint_msg.specs.KeyVersions.{keys_of}
 use Rattle.maint_msg.specs.Maints.{IsMaint, SeenMaint}
 use Rattle.node_name.specs.declared.NodeName.{NodeName}
 use Rattle.node_name.specs.declared.NodeName.TheVariants.{Store as StoreName_, Leader, Follower}
 use Rattle.tao_base.specs.EdgeTypes.{EdgeTypes}
 use Rattle.tao_base.specs.Queries.{query_key, query_shard}
-use Rattle.tao_base.specs.declared.entry.Entry.{Entry}
 use Rattle.topology.specs.Choices.{followers_in_turn}
 use Rattle.topology.specs.Config.{Settings}
 use Rattle.topology.specs.States.{NodeStates, is_up}
@@ -29,16 +27,6 @@ pub record IsMessageFor (s : Settings) (pens : Pens) (name : NodeName) (m : Seen
   pub serves : IsTrue (serves_in_turn (regions_of s) name m.shard)
   pub seen : IsSeen pens m.shard m.note
   pub names : IsMaint m
-
--- the message tells of the entry of a shard's log
-pub record TellsOf (shard : ℕ) (entry : Entry) (m : SeenMaint) : Type 0 where
-  pub shard_is : m.shard ≡ shard
-  pub position_is : m.position ≡ entry.position
-  pub keys_are : m.keys ≡ keys_of entry
-
--- an inbox gets a message of the entry behind the others, or it is lost: there is no room for it, or no memory
-abbrev pub Receives : ℕ → Entry → List SeenMaint → List SeenMaint → Type 0
-Receives shard entry old new = (new ≡ old) ⊎ ((m : SeenMaint) × TellsOf shard entry m × (length old < 4096) × (new ≡ old ++ m ∷ []))
 
 -- who is told of an entry that the region's store took: of each tier the follower that serves the shard, where it is up
 abbrev pub told_of : NodeStates → ℕ → ℕ → List NodeName

@@ -9,4 +9,4 @@ mod named;
 mod names;
 
 pub use named::{Named, find_node, place_of};
-pub use names::{follower_names, leader_names, served_by};
+pub use names::{follower_names, leader_names, served_by, serving_follower, tier_count};

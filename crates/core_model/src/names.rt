@@ -3,6 +3,7 @@ ghost use Rattle.std.specs.Prelude.{◌≡◌, ◌%◌, ◌<◌, All, IfOk, leng
 ghost use Rattle.std.specs.List.{range_with_len};
 ghost use Rattle.core_model.specs.Fleet.{follower_names, leader_names, regions_of, served_by, serves_in_turn, tiers_from, tiers_of};
 ghost use Rattle.node_name.specs.declared.NodeName.TheVariants.{Follower as FollowerName, Leader as LeaderName};
+ghost use Rattle.topology.specs.Choices.{serving_follower};
 ghost use Rattle.topology.specs.Counts.{follower_count, leader_count, tier_count};
 
 use node_name::NodeName;
@@ -21,7 +22,7 @@ fn leader_count(config: &Config, region: u16) -> u16
 }
 
 /// How many tiers the region at a place has; none where there is no such region.
-fn tier_count(config: &Config, region: u16) -> u16
+pub fn tier_count(config: &Config, region: u16) -> u16
     ensures { result ≡ tier_count (regions_of config.now) region }
 {
     match config.regions.as_slice().get(usize::from(region)) {
@@ -126,6 +127,17 @@ fn remainder(shard: u16, count: u16) -> u16
     ensures { result ≡ shard % count }
 {
     if count == 0 { shard } else { shard % count }
+}
+
+/// The follower of a tier of a region that serves a shard.
+pub fn serving_follower(config: &Config, region: u16, tier: u16, shard: u16) -> NodeName
+    ensures { result ≡ serving_follower (regions_of config.now) region tier shard }
+{
+    NodeName::Follower {
+        region,
+        tier,
+        index: remainder(shard, follower_count(config, region, tier)),
+    }
 }
 
 /// Whether the node serves the shard: the nodes of a tier, and the leaders of a region, take turns.

@@ -103,7 +103,7 @@ named_within log position keys names =
     omega arith
 
 -- each version that is named is one that the key has reached
-named_versions : (log : List Entry) (position : ℕ) (keys : List KeyVersion) → IsSound log → option_map keys_of (entry_at log position) ≡ Some keys
+pub named_versions : (log : List Entry) (position : ℕ) (keys : List KeyVersion) → IsSound log → option_map keys_of (entry_at log position) ≡ Some keys
     → AllByRecursion (λ k. k.version ≤ version log k.key) keys
 named_versions log position keys sound names =
     let at = named_at log position keys names in

@@ -8,13 +8,14 @@ use Rattle.tao_base.specs.declared.entry.Entry.{Entry}
 use Rattle.tao_base.specs.declared.id.Key.{Key}
 use Rattle.ask_table.specs.Asks.{Asks}
 use Rattle.cache_items.specs.Kept.{is_yes, item_of, took, with_item}
-use Rattle.cache_items.specs.Node.{Node, with_ended_ask, with_opened_ask}
+use Rattle.cache_items.specs.Node.{Node, delivered, with_ended_ask, with_opened_ask}
 use Rattle.cache_items.specs.TakenEntry.{AppliesEntry}
 use Rattle.cache_items.specs.declared.look.Kept.{Kept}
 use Rattle.cache_items.specs.declared.look.Look.{Look}
 use Rattle.cache_items.specs.declared.look.Look.TheVariants.{Hit, Miss}
 use Rattle.follower_cache.specs.Seen.{FollowerState}
 use Rattle.maint_msg.specs.KeyVersions.{keys_of}
+use Rattle.maint_msg.specs.Maints.{SeenMaint}
 use Rattle.sealed_item.specs.Fills.{SealedItem}
 use Rattle.served_shards.specs.Served.{low_at}
 use Rattle.shard_log.specs.View.{View}
@@ -53,6 +54,9 @@ pub applies_on : (types : EdgeTypes) (shard : ℕ) (entry : Entry) (note : View)
 applies_on types shard entry note from to applies =
     subst (λ (t : Asks). AsksGoOn from.asks t) (sym (ap (λ (n : Node). n.asks) applies.node_is)) (raises_all (keys_of entry) from.asks)
 
+pub delivers_on : (m : SeenMaint) (from to : Node) → to ≡ delivered m from → AsksGoOn from.asks to.asks
+delivers_on m from to same = go_on_to from to (delivered m from) same (raises_all m.keys from.asks)
+
 pub nodes_ask_on : NodesAskOn
 nodes_ask_on = record {
   looks = λ types read look ask old new looks. looks_on (query_key read.query) look ask old.node new.node looks.node;
@@ -60,4 +64,5 @@ nodes_ask_on = record {
       keeps_on ask fill kept old.node new.node (ap (λ (f : FollowerState). f.node) keeps.node_is);
   ends = λ ask old new ends. ends_on ask old.node new.node (ap (λ (f : FollowerState). f.node) ends);
   applies = λ types shard entry note old new applies. applies_on types shard entry note old.node new.node applies.node;
+  delivers = λ m dropped old new delivers. delivers_on m old new delivers.node_is;
 }

@@ -19,19 +19,16 @@ use Rattle.core_model.specs.Consistent.{AreSeen}
 use Rattle.core_model.specs.Laws.{ReadsAreLegal}
 use Rattle.core_model.specs.Pens.{IsSeen, Pens}
 use Rattle.core_model.specs.Reads.{IsLegalLook, Wanted}
-use Rattle.core_model.proofs.NodesSeen.{served-at}
-
--- what was seen of a told log is told
-told_seen : (pens : Pens) (shard : ℕ) (view : View) → IsSeen pens shard view → (pens shard).log.told ≡ true → view.log.told ≡ true
-told_seen pens shard view seen told = ap (λ l. l.told) (sym seen.log_is) ∙ told
+use Rattle.core_model.proofs.NodesSeen.{seen-told, served-at}
 
 module _ (types : EdgeTypes) (pens : Pens) (read : Wanted) where
   -- what a note answers
-  pub note_legal : (note : View) (answer : Answer) (version : ℕ) → ViewAnswers types note read.query answer version → read.floor ≤ version
-      → IsSeen pens (query_shard read.query) note → IsLegalIn types (pens (query_shard read.query)) read.query read.floor answer version
-  note_legal note answer version answers le seen told =
-      answers_are_legal.legal types note.entries (pens (query_shard read.query)).entries read.query answer version read.floor seen.begins
-      (answers (told_seen pens (query_shard read.query) note seen told)) le
+  pub note_legal : (note : View) (answer : Answer) (version : ℕ) → ViewAnswers types note read.query answer version
+      → WhereTold note.log.told (read.floor ≤ version) → IsSeen pens (query_shard read.query) note
+      → IsLegalIn types (pens (query_shard read.query)) read.query read.floor answer version
+  note_legal note answer version answers reaches seen told =
+      let own : note.log.told ≡ true = seen-told pens (query_shard read.query) note seen told in
+      answers_are_legal.legal types note.entries (pens (query_shard read.query)).entries read.query answer version read.floor seen.begins (answers own) (reaches own)
 
   hit_at : (served : List ServedShard) (answer : Answer) (version : ℕ) (found : Option ServedShard) → served_at (query_shard read.query) served ≡ found → AreSeen pens served
       → WhereTold (pens (query_shard read.query)).log.told (AreTold served)
@@ -39,7 +36,7 @@ module _ (types : EdgeTypes) (pens : Pens) (read : Wanted) where
       → IsLegalIn types (pens (query_shard read.query)) read.query read.floor answer version
   hit_at served answer version None at seen alike answers le = absurd answers
   hit_at served answer version (Some s) at seen alike answers le = λ told.
-      note_legal s.view answer version (λ own. answers (alike told)) le (served-at pens (query_shard read.query) served s seen at) told
+      note_legal s.view answer version (λ own. answers (alike told)) (λ own. le) (served-at pens (query_shard read.query) served s seen at) told
 
   pub hit_legal : (served : List ServedShard) (look : Look) → AreSeen pens served → WhereTold (pens (query_shard read.query)).log.told (AreTold served)
       → LookAnswers types served read.query look → ((answer : Answer) (version : ℕ) → look ≡ Hit answer version → read.floor ≤ version)

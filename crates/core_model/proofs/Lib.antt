@@ -4,7 +4,8 @@ pub mod Staying
 pub mod AskingOn
 pub mod Legal
 pub mod Turns
-pub mod Names
+pub mod FirstNamed
+pub mod Refilling
 pub mod NamesInTurn
 pub mod Places
 pub mod NamedNodes

@@ -1,5 +1,5 @@
 -- What nodes have seen stays seen.
-use Rattle.std.proofs.Common.{◌≡◌, ℕ, true, List, [], ◌∷◌, Some, None, sym, subst, inl, inr, arith}
+use Rattle.std.proofs.Common.{◌≡◌, ℕ, true, List, [], ◌∷◌, Some, None, ap, sym, subst, ◌∙◌, inl, inr, arith}
 use Rattle.std.specs.Prelude.{◌==◌}
 use Rattle.std.proofs.lemmas.Bool.{cases_Bool}
 use Rattle.served_shards.specs.Served.{ServedShard, changed_at, forgetting, marking, seeing, served_at}
@@ -11,6 +11,10 @@ use Rattle.core_model.specs.Pens.{IsSeen, Pens, Rise}
 
 pub seen-rises : (old new : Pens) (shard : ℕ) (v : View) → Rise old new → IsSeen old shard v → IsSeen new shard v
 seen-rises old new shard v rise seen = grows-trans v (old shard) (new shard) seen (rise shard)
+
+-- what was seen of a told log is told
+pub seen-told : (pens : Pens) (shard : ℕ) (view : View) → IsSeen pens shard view → (pens shard).log.told ≡ true → view.log.told ≡ true
+seen-told pens shard view seen told = ap (λ l. l.told) (sym seen.log_is) ∙ told
 
 pub served-rises : (old new : Pens) (served : List ServedShard) → Rise old new → AreSeen old served → AreSeen new served
 served-rises old new [] rise seen = tt

@@ -12,7 +12,7 @@ use Rattle.tao_base.specs.declared.entry.Touch.{Touch}
 use Rattle.tao_base.specs.declared.id.Key.{Key}
 use Rattle.changeset.specs.Changes.{change_by}
 use Rattle.cache_items.specs.Kept.{is_yes, item_of, took, with_item}
-use Rattle.cache_items.specs.Node.{Items, Node, with_ended_ask, without, without_last}
+use Rattle.cache_items.specs.Node.{Items, Node, delivered, dropped, with_ended_ask, without, without_last}
 use Rattle.cache_items.specs.TakenEntry.{AppliesEntry, TakesEntry, TakesTouches}
 use Rattle.cache_items.specs.declared.look.Kept.{Kept}
 use Rattle.cache_items.specs.declared.look.Look.{Look}
@@ -27,6 +27,7 @@ use Rattle.follower_cache.specs.Seen.{FollowerState}
 use Rattle.leader_tier.specs.LeaderReads.{KeepsGiven}
 use Rattle.leader_tier.specs.TakenWrites.{TakesWritten}
 use Rattle.lru.specs.LruCache.{promoted}
+use Rattle.maint_msg.specs.Maints.{SeenMaint}
 use Rattle.node_name.specs.declared.NodeName.{NodeName}
 use Rattle.sealed_item.specs.Decided.{IsWithinBound}
 use Rattle.sealed_item.specs.Fills.{SealedItem}
@@ -39,10 +40,10 @@ use Rattle.tao_keeper.specs.KeeperState.{KeeperState}
 use Rattle.tao_schema.specs.Schema.{key_bound, types_of}
 use Rattle.topology.specs.Config.{Settings}
 use Rattle.core_model.specs.Consistent.{AreSeen, IsNodeOf}
-use Rattle.core_model.specs.Laws.{NodesStay}
+use Rattle.core_model.specs.Laws.{MessagesStay, NodesStay}
 use Rattle.core_model.specs.Pens.{IsSeen, Pens, Rise}
 use Rattle.core_model.specs.Reads.{AfterLook, IsGivenAnswer, IsGivenFill, LeaderAnswers, Wanted}
-use Rattle.core_model.proofs.NodesSeen.{served-forgets, served-marks, served-meets, served-rises}
+use Rattle.core_model.proofs.NodesSeen.{seen-rises, served-forgets, served-marks, served-meets, served-rises}
 
 -- ---- the shards that are served
 
@@ -174,16 +175,29 @@ module _ (s : Settings) (pens : Pens) (name : NodeName) where
       takes_node fill kept ask from to same (given_seen (query_key read.query) fill is_given.key_is is_given.seen)
       (given_within (query_key read.query) fill is_given.key_is is_given.within) distinct truth is
 
+  -- it met a note of a shard's log, and marked a position
+  marked_node : (shard position : ℕ) (note : View) (from to : Node) → to.served ≡ changed_at shard (marking position) (changed_at shard (seeing note) from.served) → IsSeen pens shard note
+      → AreWithin (types_of s.schema) to.items → IsTrueNode to → IsNodeOf s pens name from → IsNodeOf s pens name to
+  marked_node shard position note from to served seen within truth is =
+      let mid : List ServedShard = changed_at shard (seeing note) from.served in
+      node_after from to is truth
+      (ap numbers_of served ∙ numbers_stay shard (marking position) mid (λ t. refl) ∙ numbers_stay shard (seeing note) from.served (λ t. refl))
+      (subst (AreSeen pens) (sym served) (served-marks pens shard position mid (served-meets pens shard note from.served seen is.seen))) within
+
   -- the entry was taken, and its position marked
   pub entry_node : (shard : ℕ) (entry : Entry) (note : View) (from to : Node) → TakesEntry (types_of s.schema) shard entry note from to → IsSeen pens shard note
       → IsDistinct same_key (keys_held from.items) → IsTrueNode to → IsNodeOf s pens name from → IsNodeOf s pens name to
   entry_node shard entry note from to takes seen distinct truth is =
-      let mid : List ServedShard = changed_at shard (seeing note) from.served in
-      let served : to.served ≡ changed_at shard (marking entry.position) mid = ap (λ (n : Node). n.served) takes.node_is in
-      node_after from to is truth
-      (ap numbers_of served ∙ numbers_stay shard (marking entry.position) mid (λ t. refl) ∙ numbers_stay shard (seeing note) from.served (λ t. refl))
-      (subst (AreSeen pens) (sym served) (served-marks pens shard entry.position mid (served-meets pens shard note from.served seen is.seen)))
-      (touches_within (types_of s.schema) note entry.touches from.items to.items distinct takes.items is.within)
+      marked_node shard entry.position note from to (ap (λ (n : Node). n.served) takes.node_is) seen
+      (touches_within (types_of s.schema) note entry.touches from.items to.items distinct takes.items is.within) truth is
+
+  -- a message
+  pub delivers_node : (m : SeenMaint) (from to : Node) → to ≡ delivered m from → IsSeen pens m.shard m.note → IsDistinct same_key (keys_held from.items) → IsTrueNode to
+      → IsNodeOf s pens name from → IsNodeOf s pens name to
+  delivers_node m from to same seen distinct truth is =
+      marked_node m.shard m.position m.note from to (ap (λ (n : Node). n.served) same) seen
+      (subst (λ (n : Node). AreWithin (types_of s.schema) n.items) (sym same)
+      ((items_stay_within (types_of s.schema) from.items).fewer (dropped from.items m.keys) ((items_are_fewer from.items distinct).left m.keys) is.within)) truth is
 
   pub writes_node : (shard : ℕ) (entry : Option Entry) (note : View) (from to : Node) → TakesWritten (types_of s.schema) shard entry note from to → IsSeen pens shard note
       → IsDistinct same_key (keys_held from.items) → IsTrueNode to → IsNodeOf s pens name from → IsNodeOf s pens name to
@@ -218,4 +232,11 @@ module _ (s : Settings) (pens : Pens) (name : NodeName) where
     applies = λ shard entry note old new applies seen distinct truth is. applies_node shard entry note old.node new.node applies.node seen distinct truth is;
     evicts = λ key old new same distinct truth is. fewer_node (without key old.items) old new same ((items_are_fewer old.items distinct).without_one key) truth is;
     evicts_last = λ old new same truth is. fewer_node (without_last old.items) old new same (λ key item h. held_take (length old.items - 1) old.items key item h) truth is;
+    delivers = λ m dropped old new delivers message distinct truth is. delivers_node m old new delivers.node_is message.seen distinct truth is;
   }
+
+-- what a message names was seen of a log that goes on
+pub messages_stay : MessagesStay
+messages_stay = record {
+  rises = λ s pens later name m rise is. record { here = is.here; serves = is.serves; seen = seen-rises pens later m.shard m.note rise is.seen; names = is.names };
+}

@@ -2,9 +2,10 @@
 use Rattle.std.proofs.Common.{◌≡◌, ℕ, zero, suc, ◌+◌, ◌<◌, ◌≤◌, ◌%◌, Bool, true, List, [], ◌∷◌, map, Some, refl, ap, sym, subst, inl, inr, arith}
 use Rattle.std.specs.Prelude.{Contains, IsSome, IsTrue, ◌==◌, find, slice_get, unwrap_or}
 use Rattle.std.specs.List.{range_with_len}
-use Rattle.std.proofs.lemmas.Bool.{and_parts, cases_Bool, cases_order, eq-eqb, eqb-false, ltb-true}
-use Rattle.graph_model.proofs.Members.{IsIn, contains_from_in, in_append_left, in_append_right, in_filter, in_map_parts}
+use Rattle.std.proofs.lemmas.Bool.{and_parts, cases_Bool, cases_order, eq-eqb, eqb-false, eqb-true, ltb-true}
+use Rattle.graph_model.proofs.Members.{IsIn, contains_from_in, in_append_left, in_append_right, in_filter, in_filter_parts, in_map_parts}
 use Rattle.cache_items.specs.Node.{Node}
+use Rattle.cache_node.specs.True.{IsServed}
 use Rattle.node_name.specs.declared.NodeName.{NodeName}
 use Rattle.node_name.specs.declared.NodeName.TheVariants.{Store, Leader, Follower}
 use Rattle.served_shards.specs.Served.{ServedShard, served_at}
@@ -12,6 +13,7 @@ use Rattle.topology.specs.Choices.{followers_in_turn, round_from, serving_follow
 use Rattle.topology.specs.Config.{Settings}
 use Rattle.topology.specs.Counts.{NodeCounts, follower_count, leader_count, tier_count}
 use Rattle.topology.specs.States.{NodeStates, is_cache, is_up}
+use Rattle.core_model.specs.Consistent.{IsNodeOf}
 use Rattle.core_model.specs.Evictions.{IsCacheOf}
 use Rattle.core_model.specs.Fleet.{follower_names, followers_from, leader_names, leaders_from, regions_of, served_by, serves_in_turn, tiers_from}
 use Rattle.core_model.specs.Laws.{ChoicesServe, ServesItsTurn}
@@ -28,6 +30,12 @@ in_numbers low (suc count) n least lt = elim (cases_order low n) [
   | inr (inl below) ↦ inr (in_numbers (low + 1) count n (omega arith) (omega arith))
   | inr (inr above) ↦ absurd (omega arith)
 ]
+
+-- and none is past it
+below_end : (low count n : ℕ) → IsIn n (range_with_len low count) → n < low + count
+below_end low zero n h = absurd h
+below_end low (suc count) n (inl same) = omega arith
+below_end low (suc count) n (inr later) = let lt = below_end (low + 1) count n later in omega arith
 
 -- what the function gives of an element
 in_image : {X Y : Type 0} (f : X → Y) (xs : List X) (x : X) → IsIn x xs → IsIn (f x) (map f xs)
@@ -58,12 +66,26 @@ served_number shard (s ∷ ss) h = elim (cases_Bool (s.shard == shard)) [
   ])
 ]
 
+number_served : (shard : ℕ) (served : List ServedShard) → IsServed served shard → IsIn shard (map (λ t. t.shard) served)
+number_served shard [] h = absurd (cc)
+number_served shard (s ∷ ss) h = elim (cases_Bool (s.shard == shard)) [
+  | inl here ↦ inl (eqb-true s.shard shard here)
+  | inr there ↦ inr (number_served shard ss (rw there at h))
+]
+
 pub serves_its_turn : (s : Settings) (pens : Pens) (name : NodeName) (node : Node) (shard : ℕ) → ServesItsTurn s pens name node shard
 serves_its_turn s pens name node shard = record {
   serves = λ is here turn.
       let one : IsIn shard (served_by s name) = in_filter (serves_in_turn (regions_of s) name) (range_with_len 0 s.shards) shard (in_numbers 0 s.shards shard (omega arith) (omega arith)) turn in
       served_number shard node.served (subst (IsIn shard) (sym is.shards) one);
 }
+
+-- a node has the turn of each shard that it serves, which is configured
+pub turn_of : (s : Settings) (pens : Pens) (name : NodeName) (node : Node) (shard : ℕ) → IsNodeOf s pens name node → IsServed node.served shard
+    → (shard < s.shards) × IsTrue (serves_in_turn (regions_of s) name shard)
+turn_of s pens name node shard is served =
+    let one = in_filter_parts (serves_in_turn (regions_of s) name) (range_with_len 0 s.shards) shard (subst (IsIn shard) is.shards (number_served shard node.served served)) in
+    ((let lt = below_end 0 s.shards shard one.0 in omega arith), one.1)
 
 -- ---- the names of a configuration
 

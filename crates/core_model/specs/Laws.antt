@@ -110,8 +110,9 @@ pub record FollowersStay (s : Settings) (pens : Pens) (name : NodeName) : Type 0
 -- ---- a message stays one
 
 -- what was seen of the log of its shard stays seen
-abbrev pub MessagesStay : Type 0
-MessagesStay = (s : Settings) (pens later : Pens) (name : NodeName) (m : SeenMaint) → Rise pens later → IsMessageFor s pens name m → IsMessageFor s later name m
+pub record MessagesStay : Type 0 where
+  pub rises : (s : Settings) (pens later : Pens) (name : NodeName) (m : SeenMaint) → Rise pens later → IsMessageFor s pens name m
+      → IsMessageFor s later name m
 
 -- ---- asks go on
 

@@ -29,7 +29,7 @@ pub fn nodes_stay()
 {}
 
 /// A follower stays one of its core, with its refills.
-#[tactic(auto, using(crate::proofs::Staying::followers_stay))]
+#[tactic(auto, using(crate::proofs::Refilling::followers_stay))]
 pub fn followers_stay()
     ensures { (s : Settings) (pens : Pens) (name : AnyNode) → FollowersStay s pens name }
 {}

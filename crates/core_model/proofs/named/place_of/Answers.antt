@@ -1,4 +1,4 @@
-use Rattle.core_model.proofs.Names.{first_at, none_named}
+use Rattle.core_model.proofs.FirstNamed.{first_at, none_named}
 use Rattle.core_model.proofs.named.place_of.Goals as goal
 
 pub unreachable-requires : goal.unreachable-requires

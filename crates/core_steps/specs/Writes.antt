@@ -2,7 +2,7 @@
 use Rattle.std.specs.Prelude.{ℕ, ◌≡◌, ◌⊎◌, Bool, true, false, List, Option, Some, None, IfSome, if◌then◌else◌}
 use Rattle.counts.specs.Count.{Rose}
 use Rattle.core_model.specs.Fleet.{ChangesNode, Fleet}
-use Rattle.core_mail.specs.Inboxes.{Inboxes, Sends}
+use Rattle.core_mail.specs.Inboxes.{Inboxes, Sends, message_of}
 use Rattle.core_model.specs.Messages.{told_of}
 use Rattle.core_model.specs.Pens.{pens_of}
 use Rattle.core_model.specs.Stores.{master_log, master_store, masters_of}
@@ -108,7 +108,8 @@ FollowerTakes types route shard (Some e) old new = (note : View) × ChangesNode 
 -- of an entry that the log gained the followers of the master's region are told, and of no other
 abbrev pub TellsOfNew : NodeStates → ℕ → Option Entry → Inboxes → Inboxes → Type 0
 TellsOfNew states shard None old new = new ≡ old
-TellsOfNew states shard (Some e) old new = Sends (told_of states (master_region states shard) shard) shard e old new
+TellsOfNew states shard (Some e) old new =
+    (note : View) × Sends (told_of states (master_region states shard) shard) (message_of shard e note) old new
 
 -- ---- a write that was committed
 

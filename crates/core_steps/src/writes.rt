@@ -1,12 +1,13 @@
 //! The writes of sessions.
 ghost use Rattle.std.specs.Prelude.{◌≡◌, ◌<◌, IfErr, IfOk, IfSome, IsTrue, OnErr, OnOk, Some};
 ghost use Rattle.core_model.specs.Consistent.{GoesOn, IsConsistent, IsFleetOf};
+ghost use Rattle.core_model.specs.Fleet.{names_of, regions_of};
 ghost use Rattle.core_model.specs.Growing.{MastersGrow};
 ghost use Rattle.core_model.specs.Pens.{IsSeen, Pens, pens_of};
 ghost use Rattle.core_model.specs.Serving.{IsFollowerFor, IsLeaderFor};
 ghost use Rattle.core_model.specs.Writes.{IsSeenEntry};
 ghost use Rattle.core_steps.specs.Routes.{FailsCarry, scene};
-ghost use Rattle.core_mail.specs.Inboxes.{AreInboxesOf};
+ghost use Rattle.core_mail.specs.Inboxes.{AreInboxesOf, cache_names};
 ghost use Rattle.core_steps.specs.Writes.{CanBeApplied, FollowerTakes, IsCommitted, RefusesCommit, TellsOfNew, WritesAlong, client_call, new_entry, posting};
 ghost use Rattle.graph_model.specs.Soundness.{is_client};
 ghost use Rattle.shard_tables.specs.Written.{HasEntry, LiesOn, StandsIn};
@@ -138,7 +139,8 @@ fn tell_of_new(
     wrote: &mut Wrote,
 )
     requires here { shard < config.now.shards }
-    requires states { topology.now ≡ all_up config.now }
+    requires own { topology.now.regions ≡ regions_of config.now }
+    requires names { names_of mail.old ≡ cache_names config.now }
     requires stands { IfSome wrote.old.entry (StandsIn wrote.old.note) }
     requires lies { IfSome wrote.old.entry (LiesOn wrote.old.note shard) }
     ensures told { TellsOfNew topology.now shard (new_entry wrote.old.retry wrote.old.entry) mail.old mail.new }

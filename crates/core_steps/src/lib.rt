@@ -12,6 +12,6 @@ mod writes;
 
 pub use asking::{ask_over, read_over};
 pub use reads::read_along;
-pub use refusals::{out_of_memory, refused_as};
+pub use refusals::{out_of_memory, refilled_as, refused_as};
 pub use routes::Route;
 pub use writes::{apply_over, commit_over, write_along};

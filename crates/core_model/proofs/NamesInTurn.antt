@@ -1,17 +1,14 @@
 -- The names of a configuration's nodes, one region or tier after another.
-use Rattle.std.proofs.Common.{◌≡◌, ℕ, zero, suc, ◌+◌, ◌<◌, List, [], ◌∷◌, ◌++◌, length, get_or, take, Option, Some, None, refl, ap, sym, ◌∙◌, append_assoc, subst, arith}
-use Rattle.std.specs.Prelude.{All, map, option_and_then, slice_get, unwrap_or}
+use Rattle.std.proofs.Common.{◌≡◌, ℕ, zero, suc, ◌+◌, ◌<◌, List, [], ◌∷◌, ◌++◌, length, take, Option, Some, None, refl, ap, sym, ◌∙◌, append_assoc, arith}
+use Rattle.std.specs.Prelude.{map, option_and_then, slice_get, unwrap_or}
 use Rattle.std.specs.Option.{option_map}
 use Rattle.std.specs.List.{range_with_len}
-use Rattle.std.proofs.lemmas.List.Elements.{All-push, All-same}
-use Rattle.std.proofs.lemmas.List.{append-nil, map-append, take_more}
+use Rattle.std.proofs.lemmas.List.{append-nil}
 use Rattle.node_name.specs.declared.NodeName.{NodeName}
 use Rattle.node_name.specs.declared.NodeName.TheVariants.{Follower, Leader}
-use Rattle.shard_tables.specs.StoreView.{Store}
 use Rattle.topology.specs.Counts.{NodeCounts, follower_count, leader_count, tier_count}
 use Rattle.topology.specs.Config.{Settings}
-use Rattle.core_model.specs.Fleet.{followers_from, leaders_from, named, names_of, regions_of, tiers_from, tiers_of}
-use Rattle.core_model.specs.declared.named.Named.{Named}
+use Rattle.core_model.specs.Fleet.{followers_from, leaders_from, regions_of, tiers_from, tiers_of}
 
 -- one more region's leaders
 pub leaders_more : (regions : List NodeCounts) (first place at : ℕ) → place < length regions → first + place ≡ at

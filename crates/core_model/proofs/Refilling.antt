@@ -34,14 +34,14 @@ use Rattle.sealed_item.specs.declared.content.Content.TheVariants.{Object as Obj
 use Rattle.served_shards.specs.Served.{ServedShard, changed_at, marking, seeing, served_at}
 use Rattle.shard_log.proofs.Beginnings.{longer_begins}
 use Rattle.shard_log.proofs.GrowthLemmas.{beginnings_are_sound, versions_stay}
-use Rattle.shard_log.specs.View.{Grows, View, longer_view}
+use Rattle.shard_log.specs.View.{Grows, longer_view}
 use Rattle.tao_schema.specs.Schema.{types_of}
 use Rattle.topology.specs.Config.{Settings}
 use Rattle.core_model.specs.Consistent.{IsFollowerOf, IsNodeOf}
 use Rattle.core_model.specs.Fleet.{regions_of, serves_in_turn}
 use Rattle.core_model.specs.Laws.{FollowersStay}
 use Rattle.core_model.specs.Messages.{AreRefillsFor, DeliversThere, IsMessageFor, IsRefillFor, TakesRefill}
-use Rattle.core_model.specs.Pens.{IsSeen, Pens, Rise}
+use Rattle.core_model.specs.Pens.{Pens, Rise}
 use Rattle.core_model.proofs.NodesSeen.{seen-told, served-at}
 use Rattle.core_model.proofs.Staying.{delivers_node, node_rises}
 use Rattle.core_model.proofs.Turns.{serves_its_turn, turn_of}

@@ -1,5 +1,5 @@
 //! The names of a configuration's nodes, and who serves a shard.
-ghost use Rattle.std.specs.Prelude.{◌≡◌, ◌%◌, ◌<◌, All, IfOk, length, map};
+ghost use Rattle.std.specs.Prelude.{◌≡◌, ◌%◌, IfOk, length, map};
 ghost use Rattle.std.specs.List.{range_with_len};
 ghost use Rattle.core_model.specs.Fleet.{follower_names, leader_names, regions_of, served_by, serves_in_turn, tiers_from, tiers_of};
 ghost use Rattle.node_name.specs.declared.NodeName.TheVariants.{Follower as FollowerName, Leader as LeaderName};

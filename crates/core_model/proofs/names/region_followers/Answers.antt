@@ -1,8 +1,7 @@
 use Rattle.std.proofs.Common.{◌≡◌, ◌+◌, ◌<◌, length, take, map, ap, ◌∙◌, arith}
 use Rattle.std.specs.List.{range_with_len}
 use Rattle.node_name.specs.declared.NodeName.TheVariants.{Follower}
-use Rattle.core_model.specs.Fleet.{tiers_from}
-use Rattle.core_model.specs.Fleet.{tiers_of}
+use Rattle.core_model.specs.Fleet.{tiers_from, tiers_of}
 use Rattle.core_model.proofs.NamesInTurn.{more_names, tier_is, tiers_are, tiers_more}
 use Rattle.core_model.proofs.names.region_followers.Goals as goal
 

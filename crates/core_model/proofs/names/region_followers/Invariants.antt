@@ -1,6 +1,5 @@
 use Rattle.std.proofs.Common.{◌≡◌, take}
-use Rattle.core_model.specs.Fleet.{tiers_from}
-use Rattle.core_model.specs.Fleet.{tiers_of}
+use Rattle.core_model.specs.Fleet.{tiers_from, tiers_of}
 use Rattle.core_model.proofs.names.region_followers.Given as goal
 
 abbrev pub invariant-loop-tier : goal.invariant-loop-tier

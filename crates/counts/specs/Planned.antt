@@ -1,5 +1,5 @@
 -- Calls that are counted from 1 on, of which those with listed numbers fail.
-use Rattle.std.specs.Prelude.{ℕ, List, Contains}
+use Rattle.std.specs.Prelude.{ℕ, ◌≤◌, All, List, Contains}
 use Rattle.counts.specs.Count.{after_one}
 
 -- the numbers of the calls that fail, and how many calls there were
@@ -18,3 +18,7 @@ FailsNext calls = Contains calls.fails (after_one calls.count)
 -- there was one more call
 abbrev pub after_next : Planned → Planned
 after_next calls = record calls { count = after_one calls.count }
+
+-- none of the numbers lies from low on and below high
+abbrev pub NoneBetween : ℕ → ℕ → List ℕ → Type 0
+NoneBetween low high numbers = All (λ n. low ≤ n → high ≤ n) numbers

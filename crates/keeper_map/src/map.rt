@@ -19,9 +19,9 @@ use tao_keeper::{Commit, Job, KeepFail, Keeper, MOST_ENTRIES, Opened, SERIAL_LIM
 
 /// A keeper that holds its tables in memory. It fails exactly where its plan says so, and tells everything.
 ///
-/// No call copies a log. Each goes through the plan's numbers, finds its store by one look-up, and what it asks of the
-/// graph by a look-up or two in the log's index; what more it takes is said at the call. Where there was no memory for the
-/// index each call reads the log itself, until the next commit makes the index anew.
+/// No call copies a log. Each finds its store by one look-up, and what it asks of the graph by a look-up or two in the
+/// log's index; what more it takes is said at the call. Only a call that the plan fails goes through the plan's numbers.
+/// Where there was no memory for the index each call reads the log itself, until the next commit makes the index anew.
 #[derive(Drop)]
 pub struct MapKeeper {
     stores: Stores,

@@ -14,7 +14,7 @@ use tao_base::OutOfMemory;
 /// A link that fails exactly at the carries whose numbers are listed, whatever it was asked to cut. The first
 /// carry has the number 1.
 ///
-/// A carry looks through the list of numbers. Every other call takes constant time, and none takes memory.
+/// A carry that fails looks through the list of numbers. Every other call takes constant time, and none takes memory.
 #[derive(Debug, Drop)]
 pub struct PlannedLink {
     carries: PlannedCalls,

@@ -21,10 +21,12 @@ remove_set test (e ∷ items) item = elim (cases_Bool (test e.0)) [
 
 module _ (items : Items) (key : Key) (before after : ℕ) (change : Change) (bound : ℕ) (item new : Item) (note : View) (is : item_at items key ≡ Some item) where
   -- an item that stayed, or took the change
-  pub taken : StaysBy bound item new before after change → TakesChange bound (Some item) (seen_change key before after change note) items (set_value (same_key key) items new)
+  pub taken : StaysBy bound item new before after change
+      → TakesChange bound (Some item) (seen_change key before after change note) items (set_value (same_key key) items new)
   taken (inl old) = inl (old.0, ap (set_value (same_key key) items) old.1 ∙ set_value_same (same_key key) items item is)
   taken (inr next) = inr (inl (next.0, ap (set_value (same_key key) items) next.1))
 
   -- an item that was dropped
-  pub gone : item.version < after → TakesChange bound (Some item) (seen_change key before after change note) items (remove_entry (same_key key) (set_value (same_key key) items new))
+  pub gone : item.version < after → TakesChange bound (Some item) (seen_change key before after change note) items
+      (remove_entry (same_key key) (set_value (same_key key) items new))
   gone older = inr (inr (older, remove_set (same_key key) items new))

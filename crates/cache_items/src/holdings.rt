@@ -1,5 +1,6 @@
 //! `Holdings`, what a node holds.
-ghost use Rattle.std.specs.Prelude.{◌≡◌, ◌↔◌, ◌+◌, ◌-◌, ◌^◌, ◌<◌, ◌≤◌, ℕ, [], Some, if◌then◌else◌, is_some, length, map, option_copied, take, true, IfNone, IfOk, IfSome, IsNone, IsSome, IsTrue, OnErr, OnOk, OnSome};
+ghost use Rattle.std.specs.Prelude.{◌≡◌, ◌↔◌, ◌+◌, ◌-◌, ◌^◌, ◌<◌, ◌≤◌, ℕ, [], Some, if◌then◌else◌, is_some, length, map, option_copied, take, true, IfNone};
+ghost use Rattle.std.specs.Prelude.{IfOk, IfSome, IsNone, IsSome, IsTrue, OnErr, OnOk, OnSome};
 ghost use Rattle.std.specs.Bool.{OnTrue};
 ghost use Rattle.std.specs.List.{IsDistinct};
 ghost use Rattle.std.specs.Map.{keys_of as keys_held};
@@ -10,7 +11,8 @@ ghost use Rattle.tao_base.specs.Keys.{key_shard, same_key};
 ghost use Rattle.tao_schema.specs.Schema.{types_of};
 ghost use Rattle.cache_items.specs.Delivered.{AddsRow, AreSome, dropped_lists, row_of, stale_row};
 ghost use Rattle.served_shards.specs.Begun.{AreNotesOf, AreReached, begun_at};
-ghost use Rattle.cache_items.specs.Node.{empty_node, emptied, caught_up, delivered, drop_count, dropped, with_ended_ask, item_at, is_stale as is_stale_word, met, processed, raised_all, with_opened_ask, without, without_last, without_stale};
+ghost use Rattle.cache_items.specs.Node.{empty_node, emptied, caught_up, delivered, drop_count, dropped, with_ended_ask, item_at, is_stale as is_stale_word};
+ghost use Rattle.cache_items.specs.Node.{met, processed, raised_all, with_opened_ask, without, without_last, without_stale};
 ghost use Rattle.cache_items.specs.HandedOn.{HandsOn, IsFrontHeld, IsOfNode, handed_on, with_copy};
 ghost use Rattle.cache_items.specs.Kept.{GivesKept, admits as admits_word, is_yes, item_of, kept_items, kept_of, own_kept_of, stays, took, with_item};
 ghost use Rattle.sealed_item.specs.Decided.{content_answer, content_decides};

@@ -18,7 +18,8 @@ use Rattle.served_shards.specs.Served.{ServedShard, served_at}
 use Rattle.cache_node.specs.True.{AreTold, IsTrueNode}
 
 -- a hit answers as what was seen of the log
-pub look_answers : (types : EdgeTypes) (n : Node) (query : Query) (floor : ℕ) (look : Look) → IsTrueNode n → look ≡ look_of types (item_at n.items (query_key query)) query floor
+pub look_answers : (types : EdgeTypes) (n : Node) (query : Query) (floor : ℕ) (look : Look) → IsTrueNode n
+    → look ≡ look_of types (item_at n.items (query_key query)) query floor
     → LookAnswers types n.served query look
 look_answers types n query floor look is same = subst (LookAnswers types n.served query) (sym same) (by_item (item_at n.items (query_key query)) refl)
   where
@@ -33,10 +34,13 @@ look_answers types n query floor look is same = subst (LookAnswers types n.serve
         by_served : (o : Option ServedShard) → served_at (key_shard (query_key query)) n.served ≡ o → IsSome o → content_decides types item.content query ≡ true
             → IsSomeAnd o (λ s. AreTold n.served → IsExactAnswer types s.view.entries query (content_answer types item.content query) item.version)
         by_served None at none decided = absurd (cc)
-        by_served (Some s) at found decided = λ told. content_answers types s.view.entries query item.version item.content ((is.told told).items (query_key query) item s some at).exact decided
+        by_served (Some s) at found decided =
+            λ told. content_answers types s.view.entries query item.version item.content ((is.told told).items (query_key query) item s some at).exact decided
 
 -- a fill answers as what its note has seen
-pub fill_answers : (types : EdgeTypes) (query : Query) (fill : SealedItem) → fill.key ≡ query_key query → content_decides types fill.content query ≡ true → IsSealed fill
+pub fill_answers : (types : EdgeTypes) (query : Query) (fill : SealedItem) → fill.key ≡ query_key query → content_decides types fill.content query ≡ true
+    → IsSealed fill
     → ViewAnswers types fill.note query (content_answer types fill.content query) fill.version
 fill_answers types query fill key decided sealed told =
-    content_answers types fill.note.entries query fill.version fill.content (subst (λ k. IsExactContent fill.note.entries k fill.version fill.content) key (sealed told).exact) decided
+    content_answers types fill.note.entries query fill.version fill.content
+        (subst (λ k. IsExactContent fill.note.entries k fill.version fill.content) key (sealed told).exact) decided

@@ -14,7 +14,8 @@ use Rattle.served_shards.specs.Served.{ServedShard, restarting, served_at}
 use Rattle.cache_node.specs.True.{AreAlike, IsTrueNode, IsTrueServed}
 
 -- a node without items and asks is true where its shards are
-empty_is_true : (n : Node) → n.items ≡ [] → n.asks.asks ≡ [] → AreAlike n.served → ((shard : ℕ) (s : ServedShard) → served_at shard n.served ≡ Some s → s.view.log.told ≡ true → IsTrueServed s) → IsTrueNode n
+empty_is_true : (n : Node) → n.items ≡ [] → n.asks.asks ≡ [] → AreAlike n.served
+    → ((shard : ℕ) (s : ServedShard) → served_at shard n.served ≡ Some s → s.view.log.told ≡ true → IsTrueServed s) → IsTrueNode n
 empty_is_true n no_items no_asks alike shards = record {
   items_here = λ key item h. absurd (let none : None ≡ Some item = rw no_items at h in cc);
   asks_here = rw no_asks tt;
@@ -63,9 +64,11 @@ begun_told (shard ∷ shards) (low ∷ lows) (note ∷ notes) is each k s at = e
 ]
 
 begun_alike : (shards lows : List ℕ) (notes : List View) → AreToldAlike notes → AreAlike (begun_at shards lows notes)
-begun_alike shards lows notes alike i j s t at_s at_t = begun_told shards lows notes alike.told alike.each i s at_s ∙ sym (begun_told shards lows notes alike.told alike.each j t at_t)
+begun_alike shards lows notes alike i j s t at_s at_t =
+    begun_told shards lows notes alike.told alike.each i s at_s ∙ sym (begun_told shards lows notes alike.told alike.each j t at_t)
 
-pub made_is_true : (most : ℕ) (shards lows : List ℕ) (notes : List View) → AreReached lows notes → AreToldAlike notes → AreSeenSound (begun_at shards lows notes)
+pub made_is_true : (most : ℕ) (shards lows : List ℕ) (notes : List View) → AreReached lows notes → AreToldAlike notes
+    → AreSeenSound (begun_at shards lows notes)
     → IsTrueNode (empty_node most (begun_at shards lows notes))
 made_is_true most shards lows notes reached alike sound =
     empty_is_true (empty_node most (begun_at shards lows notes)) refl refl (begun_alike shards lows notes alike) (begun_true shards lows notes reached sound)
@@ -85,7 +88,8 @@ restarted_true (s ∷ ss) (low ∷ lows) (note ∷ notes) reached meets k after 
       let note_told : note.log.told ≡ true = ap (λ l. l.told) (sym meets.0.from_note.log_is) ∙ first_told in
       let longer = begins-length note.entries (longer_view s.view note).entries meets.0.from_note.begins in
       let le = reached.0 note_told in
-      subst IsTrueServed same (record { sound = meets.0.sound first_told; within = λ p mark. low_within low p (length (longer_view s.view note).entries) (omega arith) mark }))
+      subst IsTrueServed same (record { sound = meets.0.sound first_told;
+          within = λ p mark. low_within low p (length (longer_view s.view note).entries) (omega arith) mark }))
   | inr off ↦ restarted_true ss lows notes reached.1 meets.1 k after (rw off at at) told
 ]
 
@@ -104,6 +108,8 @@ restarted_back (s ∷ ss) (low ∷ lows) (note ∷ notes) k after at = elim (cas
   | inr off ↦ (let r = restarted_back ss lows notes k after (rw off at at) in (r.0, rw off r.1, r.2))
 ]
 
-pub emptied_is_true : (n : Node) (lows : List ℕ) (notes : List View) → AreAlike n.served → AreReached lows notes → MeetEach n.served notes → IsTrueNode (emptied lows notes n)
+pub emptied_is_true : (n : Node) (lows : List ℕ) (notes : List View) → AreAlike n.served → AreReached lows notes → MeetEach n.served notes
+    → IsTrueNode (emptied lows notes n)
 emptied_is_true n lows notes alike reached meets =
-    empty_is_true (emptied lows notes n) refl refl (alike_stays n.served (restarted n.served lows notes) (restarted_back n.served lows notes) alike) (restarted_true n.served lows notes reached meets)
+    empty_is_true (emptied lows notes n) refl refl (alike_stays n.served (restarted n.served lows notes) (restarted_back n.served lows notes) alike)
+        (restarted_true n.served lows notes reached meets)

@@ -32,9 +32,11 @@ use Rattle.cache_items.specs.Taken.{TakesChange, changed_content, changed_item, 
 use Rattle.cache_node.specs.True.{AreTold, IsTrueNode}
 
 -- a content that is exact below a touch's version is exact at it after the touch's change
-content_follows : (log : List Entry) (t : Touch) (key : Key) (v : ℕ) (content : Content) (bound : ℕ) → IsSound log → IsTouchOf log t → t.key ≡ key → t.version ≡ v + 1 → t.version < 2 ^ 64
+content_follows : (log : List Entry) (t : Touch) (key : Key) (v : ℕ) (content : Content) (bound : ℕ) → IsSound log → IsTouchOf log t → t.key ≡ key
+    → t.version ≡ v + 1 → t.version < 2 ^ 64
     → IsExactContent log key v content → IsExactContent log key (v + 1) (changed_content content t.change bound)
-content_follows log t (Obj id) v (ObjectIs found) bound sound touch key next bits exact = (exact_follows log t).object_follows sound touch id v found key next exact
+content_follows log t (Obj id) v (ObjectIs found) bound sound touch key next bits exact =
+    (exact_follows log t).object_follows sound touch id v found key next exact
 content_follows log t (Obj id) v (ListIs prefix) bound sound touch key next bits exact = absurd exact
 content_follows log t (Assocs id1 atype) v (ObjectIs found) bound sound touch key next bits exact = absurd exact
 content_follows log t (Assocs id1 atype) v (ListIs prefix) bound sound touch key next bits exact =
@@ -43,7 +45,9 @@ content_follows log t (Assocs id1 atype) v (ListIs prefix) bound sound touch key
 -- the version of a touch is one that its key has reached
 pub touch_reached : (log : List Entry) (t : Touch) → IsSound log → IsTouchOf log t → t.version ≤ version log t.key
 touch_reached log t sound touch =
-    let tells = All-contains (λ t. t.version ≡ version (take (touch.place + 1) log) t.key) touch.entry.touches t (touches_tell log sound touch.place touch.entry touch.stands).versions touch.touches in
+    let tells =
+        All-contains (λ t. t.version ≡ version (take (touch.place + 1) log) t.key) touch.entry.touches t
+            (touches_tell log sound touch.place touch.entry touch.stands).versions touch.touches in
     let le = version_take (touch.place + 1) log t.key in
     omega arith
 
@@ -68,19 +72,24 @@ touch_is_true n c bound items distinct is next seen takes = by_item (item_at n.i
         let version : c.after ≡ item.version + 1 = let same = takes.0 in omega arith in
         record {
           exact = subst (λ v. IsExactContent s.view.entries c.key v (changed_content item.content c.change bound)) (sym version)
-              (content_follows s.view.entries (own_touch c) c.key item.version item.content bound (was.served (key_shard c.key) s at).sound there.0 refl version there.1 before.exact);
+              (content_follows s.view.entries (own_touch c) c.key item.version item.content bound
+                  (was.served (key_shard c.key) s at).sound there.0 refl version there.1 before.exact);
           reaches = λ p v on there. let le = before.reaches p v on there in omega arith;
         })
 
 -- a changeset was taken
-pub changed_is_true : (n : Node) (c : SeenChange) (bound : ℕ) (items : Items) → IsDistinct same_key (keys_held n.items) → IsTrueNode n → MeetsAt (key_shard c.key) c.note n.served
+pub changed_is_true : (n : Node) (c : SeenChange) (bound : ℕ) (items : Items) → IsDistinct same_key (keys_held n.items) → IsTrueNode n
+    → MeetsAt (key_shard c.key) c.note n.served
     → IsOneTouch c → c.after < 2 ^ 64 → TakesChange bound (item_at n.items c.key) c n.items items → IsTrueNode (with_change c items n)
 changed_is_true n c bound items distinct is meets touch bits takes =
     let m : Node = met (key_shard c.key) c.note n in
-    let taken = touch_is_true m c bound items distinct (met_is_true n (key_shard c.key) c.note is meets) touch.next (λ s told at. (in_view s told at, bits)) takes in
-    raised_is_true (record m { items = items }) c.key c.after taken (λ s told was at. touch_reached s.view.entries (own_touch c) (was.served (key_shard c.key) s at).sound (in_view s told at))
+    let taken =
+        touch_is_true m c bound items distinct (met_is_true n (key_shard c.key) c.note is meets) touch.next (λ s told at. (in_view s told at, bits)) takes in
+    raised_is_true (record m { items = items }) c.key c.after taken
+        (λ s told was at. touch_reached s.view.entries (own_touch c) (was.served (key_shard c.key) s at).sound (in_view s told at))
   where
-    in_view : (s : ServedShard) → AreTold (changed_at (key_shard c.key) (seeing c.note) n.served) → served_at (key_shard c.key) (changed_at (key_shard c.key) (seeing c.note) n.served) ≡ Some s
+    in_view : (s : ServedShard) → AreTold (changed_at (key_shard c.key) (seeing c.note) n.served)
+        → served_at (key_shard c.key) (changed_at (key_shard c.key) (seeing c.note) n.served) ≡ Some s
         → IsTouchOf s.view.entries (own_touch c)
     in_view s told at =
         let here = changed_here (key_shard c.key) (seeing c.note) n.served s (seeing_keeps c.note) at in

@@ -50,7 +50,8 @@ pub record CanKeep (fill : SealedItem) (s : ServedShard) : Type 0 where
 
 -- a fill was kept
 pub kept_is_true : (fill : SealedItem) (n : Node) → IsDistinct same_key (keys_held n.items) → IsTrueNode n → IsServed n.served (key_shard fill.key)
-    → ((s : ServedShard) → AreTold n.served → IsTrueOfLogs n → served_at (key_shard fill.key) n.served ≡ Some s → CanKeep fill s) → IsTrueNode (with_item fill.key (item_of fill) n)
+    → ((s : ServedShard) → AreTold n.served → IsTrueOfLogs n → served_at (key_shard fill.key) n.served ≡ Some s → CanKeep fill s)
+    → IsTrueNode (with_item fill.key (item_of fill) n)
 kept_is_true fill n distinct is served can =
     let items = kept_items n.items n.most fill.key (item_of fill) in
     let added = added_is_true n items fill.key (item_of fill) is (λ q item h. held_kept n.items n.most fill.key (item_of fill) q item distinct h) served
@@ -66,25 +67,30 @@ ended_is_true (Some ask) n is = asks_are_true n (without_ask ask n.asks) is
     (λ told was. all_filter (IsTrueAskOf n.served) (λ a. not (is_numbered ask a)) n.asks.asks was.asks)
 
 -- the fill was taken, kept or not
-pub took_is_true : (fill : SealedItem) (kept : Kept) (n : Node) → IsDistinct same_key (keys_held n.items) → IsTrueNode n → IsServed n.served (key_shard fill.key)
+pub took_is_true : (fill : SealedItem) (kept : Kept) (n : Node) → IsDistinct same_key (keys_held n.items) → IsTrueNode n
+    → IsServed n.served (key_shard fill.key)
     → MeetsAt (key_shard fill.key) fill.note n.served
-    → (is_yes kept ≡ true → (s : ServedShard) → AreTold n.served → served_at (key_shard fill.key) n.served ≡ Some s → CanKeep fill (seeing fill.note s)) → IsTrueNode (took fill kept n)
+    → (is_yes kept ≡ true → (s : ServedShard) → AreTold n.served → served_at (key_shard fill.key) n.served ≡ Some s → CanKeep fill (seeing fill.note s))
+    → IsTrueNode (took fill kept n)
 took_is_true fill kept n distinct is served meets can =
     let m : Node = met (key_shard fill.key) fill.note n in
     let met_true = met_is_true n (key_shard fill.key) fill.note is meets in
     elim (cases_Bool (is_yes kept)) [
       | inr no_keep ↦ rw no_keep met_true
-      | inl keep ↦ rw keep (kept_is_true fill m distinct met_true (changed_served (key_shard fill.key) (key_shard fill.key) (seeing fill.note) n.served (seeing_keeps fill.note) served)
+      | inl keep ↦ rw keep (kept_is_true fill m distinct met_true
+          (changed_served (key_shard fill.key) (key_shard fill.key) (seeing fill.note) n.served (seeing_keeps fill.note) served)
           (λ after told was at.
           let c = changed_here (key_shard fill.key) (seeing fill.note) n.served after (seeing_keeps fill.note) at in
-          subst (CanKeep fill) (sym c.is) (can keep c.before (told_before (key_shard fill.key) (seeing fill.note) n.served (seeing_keeps fill.note) told) c.was)))
+          subst (CanKeep fill) (sym c.is) (can keep c.before
+              (told_before (key_shard fill.key) (seeing fill.note) n.served (seeing_keeps fill.note) told) c.was)))
     ]
 
 versions_rise : (p q : ℕ) (log : List Entry) (key : Key) → p ≤ q → version (take p log) key ≤ version (take q log) key
 versions_rise p q log key le = let same = ap (λ l. version l key) (take-take p q log le) in let cut = version_take p (take q log) key in omega arith
 
 -- a fill that an ask admits has at least the version of each touch at a marked position
-pub ask_reaches : (fill : SealedItem) (s : ServedShard) (a : Ask) → Meets s fill.note → s.view.log.told ≡ true → IsTrueServed s → IsTrueAsk s a → a.key ≡ fill.key
+pub ask_reaches : (fill : SealedItem) (s : ServedShard) (a : Ask) → Meets s fill.note → s.view.log.told ≡ true → IsTrueServed s → IsTrueAsk s a
+    → a.key ≡ fill.key
     → a.mark ≤ fill.as_of → a.floor ≤ fill.version → IsSealed fill → CanKeep fill (seeing fill.note s)
 ask_reaches fill s a meets told served true_ask key mark floor sealed =
     let w : View = longer_view s.view fill.note in
@@ -105,7 +111,8 @@ ask_reaches fill s a meets told served true_ask key mark floor sealed =
     }
 
 -- a fill as of each marked position has at least the version of each touch there
-pub top_reaches : (fill : SealedItem) (s : ServedShard) → Meets s fill.note → s.view.log.told ≡ true → top_of s.marks ≤ fill.as_of → IsSealed fill → CanKeep fill (seeing fill.note s)
+pub top_reaches : (fill : SealedItem) (s : ServedShard) → Meets s fill.note → s.view.log.told ≡ true → top_of s.marks ≤ fill.as_of → IsSealed fill
+    → CanKeep fill (seeing fill.note s)
 top_reaches fill s meets told top sealed =
     let w : View = longer_view s.view fill.note in
     let is : IsFill w.entries fill.key fill.version fill.as_of fill.content = fill_stays fill w meets.from_note sealed told in
@@ -171,7 +178,8 @@ own_yes top as_of is = elim (cases_Bool (nat_lt as_of top)) [
 ]
 
 -- a fill that was taken for an ask
-pub took_fill_is_true : (fill : SealedItem) (kept : Kept) (ask : Option ℕ) (n : Node) → IsDistinct same_key (keys_held n.items) → IsTrueNode n → IsServed n.served (key_shard fill.key)
+pub took_fill_is_true : (fill : SealedItem) (kept : Kept) (ask : Option ℕ) (n : Node) → IsDistinct same_key (keys_held n.items) → IsTrueNode n
+    → IsServed n.served (key_shard fill.key)
     → MeetsAt (key_shard fill.key) fill.note n.served → IsSealed fill → IfSome ask (λ number. IfSome (ask_at number n.asks) (λ a. a.key ≡ fill.key))
     → GivesKept (kept_of ask n.asks fill.version fill.as_of) kept → IsTrueNode (took fill kept (with_ended_ask ask n))
 took_fill_is_true fill kept ask n distinct is served meets sealed on_key due =
@@ -181,9 +189,11 @@ took_fill_is_true fill kept ask n distinct is served meets sealed on_key due =
     let logs = is.told (same_told ask told) in
     let there : served_at (key_shard fill.key) n.served ≡ Some s = same_at ask s at in
     let key : admitted.found.key ≡ fill.key = key_of_found admitted.number admitted.found admitted.given admitted.is in
-    let true_ask = all_in (IsTrueAskOf n.served) n.asks.asks admitted.found logs.asks (find_in (is_numbered admitted.number) n.asks.asks admitted.found admitted.is) s
+    let true_ask =
+        all_in (IsTrueAskOf n.served) n.asks.asks admitted.found logs.asks (find_in (is_numbered admitted.number) n.asks.asks admitted.found admitted.is) s
     (subst (λ k. served_at (key_shard k) n.served ≡ Some s) (sym key) there) in
-    ask_reaches fill s admitted.found (meets.meets s there) (same_told ask told (key_shard fill.key) s there) (logs.served (key_shard fill.key) s there) true_ask key admitted.mark admitted.floor sealed)
+    ask_reaches fill s admitted.found (meets.meets s there) (same_told ask told (key_shard fill.key) s there)
+        (logs.served (key_shard fill.key) s there) true_ask key admitted.mark admitted.floor sealed)
   where
     same_items : (ask : Option ℕ) → IsDistinct same_key (keys_held (with_ended_ask ask n).items)
     same_items None = distinct
@@ -201,7 +211,8 @@ took_fill_is_true fill kept ask n distinct is served meets sealed on_key due =
     same_told None told = told
     same_told (Some number) told = told
 
-    same_at : (ask : Option ℕ) (s : ServedShard) → served_at (key_shard fill.key) (with_ended_ask ask n).served ≡ Some s → served_at (key_shard fill.key) n.served ≡ Some s
+    same_at : (ask : Option ℕ) (s : ServedShard) → served_at (key_shard fill.key) (with_ended_ask ask n).served ≡ Some s
+        → served_at (key_shard fill.key) n.served ≡ Some s
     same_at None s at = at
     same_at (Some number) s at = at
 
@@ -209,11 +220,14 @@ took_fill_is_true fill kept ask n distinct is served meets sealed on_key due =
     key_of_found number a given found = rw found at (rw given at on_key)
 
 -- a fill that a leader took for itself
-pub took_own_is_true : (fill : SealedItem) (kept : Kept) (n : Node) → IsDistinct same_key (keys_held n.items) → IsTrueNode n → IsServed n.served (key_shard fill.key)
-    → MeetsAt (key_shard fill.key) fill.note n.served → IsSealed fill → GivesKept (own_kept_of (top_at (key_shard fill.key) n.served) fill.as_of) kept → IsTrueNode (took fill kept n)
+pub took_own_is_true : (fill : SealedItem) (kept : Kept) (n : Node) → IsDistinct same_key (keys_held n.items) → IsTrueNode n
+    → IsServed n.served (key_shard fill.key)
+    → MeetsAt (key_shard fill.key) fill.note n.served → IsSealed fill → GivesKept (own_kept_of (top_at (key_shard fill.key) n.served) fill.as_of) kept
+    → IsTrueNode (took fill kept n)
 took_own_is_true fill kept n distinct is served meets sealed due =
     took_is_true fill kept n distinct is served meets
     (λ keep s told at.
     let top : top_at (key_shard fill.key) n.served ≡ top_of s.marks = rw at refl in
-    let le = own_yes (top_at (key_shard fill.key) n.served) fill.as_of (kept_yes (own_kept_of (top_at (key_shard fill.key) n.served) fill.as_of) kept due keep) in
+    let le =
+        own_yes (top_at (key_shard fill.key) n.served) fill.as_of (kept_yes (own_kept_of (top_at (key_shard fill.key) n.served) fill.as_of) kept due keep) in
     top_reaches fill s (meets.meets s at) (told (key_shard fill.key) s at) (omega arith) sealed)

@@ -29,7 +29,8 @@ use Rattle.cache_node.proofs.Truth.{fewer_is_true}
 use Rattle.cache_node.specs.True.{AreTold, IsTrueNode}
 
 -- what is had of a shard of whose log that was seen
-served_of_view : (served : List ServedShard) (shard : ℕ) (view : View) → view_at shard served ≡ Some view → (s : ServedShard) × (served_at shard served ≡ Some s) × (s.view ≡ view)
+served_of_view : (served : List ServedShard) (shard : ℕ) (view : View) → view_at shard served ≡ Some view
+    → (s : ServedShard) × (served_at shard served ≡ Some s) × (s.view ≡ view)
 served_of_view served shard view is = by_option (served_at shard served) refl
   where
     by_option : (o : Option ServedShard) → served_at shard served ≡ o → (s : ServedShard) × (served_at shard served ≡ Some s) × (s.view ≡ view)
@@ -58,7 +59,8 @@ front_is_fill types n query floor fill s is told at front = by_item (item_at n.i
         })
 
 -- what a node hands on is a fill
-pub handed_is_sealed : (types : EdgeTypes) (n : Node) (query : Query) (floor : ℕ) (fill : SealedItem) → IsTrueNode n → HandsOn types n query floor (Some fill) → IsSealed fill
+pub handed_is_sealed : (types : EdgeTypes) (n : Node) (query : Query) (floor : ℕ) (fill : SealedItem) → IsTrueNode n → HandsOn types n query floor (Some fill)
+    → IsSealed fill
 handed_is_sealed types n query floor fill is hands told =
     let of = hands.1 in
     let at = served_of_view n.served (key_shard (query_key query)) fill.note of.note_is in

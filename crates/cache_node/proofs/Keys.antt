@@ -29,16 +29,19 @@ pub key_laws : IsEquivalence same_key
 key_laws = record { refl = same_key-self; symm = same_key-symm; congr = λ x y z h. ap (λ k. same_key k z) (same_key-same x y h) }
 
 -- what is held without a key
-pub held_without : (key q : Key) (items : Items) → IsDistinct same_key (keys_of items) → item_at (without key items) q ≡ cond (same_key key q) None (item_at items q)
+pub held_without : (key q : Key) (items : Items) → IsDistinct same_key (keys_of items)
+    → item_at (without key items) q ≡ cond (same_key key q) None (item_at items q)
 held_without key q items distinct = lookup-remove_entry key_laws (same_key key) (λ x y h. ap (λ k. same_key k y) (same_key-same key x h)) q items distinct
 
-pub held_fewer : (key q : Key) (items : Items) (item : Item) → IsDistinct same_key (keys_of items) → item_at (without key items) q ≡ Some item → item_at items q ≡ Some item
+pub held_fewer : (key q : Key) (items : Items) (item : Item) → IsDistinct same_key (keys_of items) → item_at (without key items) q ≡ Some item
+    → item_at items q ≡ Some item
 held_fewer key q items item distinct is = elim (cases_Bool (same_key key q)) [
   | inl t ↦ (let gone : None ≡ Some item = rw t at (sym (held_without key q items distinct) ∙ is) in absurd (cc))
   | inr f ↦ rw f at (sym (held_without key q items distinct) ∙ is)
 ]
 
-pub held_gone : (key q : Key) (items : Items) (item : Item) → IsDistinct same_key (keys_of items) → same_key q key ≡ true → item_at (without key items) q ≡ Some item → ⊥
+pub held_gone : (key q : Key) (items : Items) (item : Item) → IsDistinct same_key (keys_of items) → same_key q key ≡ true
+    → item_at (without key items) q ≡ Some item → ⊥
 held_gone key q items item distinct same is =
     let on : same_key key q ≡ true = same_key-symm key q ∙ same in
     let gone : None ≡ Some item = rw on at (sym (held_without key q items distinct) ∙ is) in
@@ -74,7 +77,8 @@ pub held_put : (items : Items) (most : ℕ) (key : Key) (new : Item) (q : Key) (
 held_put items most key new q item distinct is = put_case (lookup_entry (same_key key) items) refl is
   where
     put_case : (o : Option (Key × Item)) → lookup_entry (same_key key) items ≡ o
-        → item_at (option_map_or (λ e. (e.0, new) ∷ remove_entry (same_key key) items) o ((key, new) ∷ take (most - 1) items)) q ≡ Some item → ((q ≡ key) × (item ≡ new)) ⊎ (item_at items q ≡ Some item)
+        → item_at (option_map_or (λ e. (e.0, new) ∷ remove_entry (same_key key) items) o ((key, new) ∷ take (most - 1) items)) q ≡ Some item
+        → ((q ≡ key) × (item ≡ new)) ⊎ (item_at items q ≡ Some item)
     put_case None none is = elim (cases_Bool (same_key q key)) [
       | inl t ↦ (let e : Some new ≡ Some item = rw t at is in let i : item ≡ new = cc in inl (same_key-same q key t, i))
       | inr f ↦ inr (held_take (most - 1) items q item (rw f at is))
@@ -87,10 +91,12 @@ held_put items most key new q item distinct is = put_case (lookup_entry (same_ke
         ]
 
 -- what is held after a use was held
-pub held_promoted : (items : Items) (key q : Key) (item : Item) → IsDistinct same_key (keys_of items) → item_at (promoted (same_key key) items) q ≡ Some item → item_at items q ≡ Some item
+pub held_promoted : (items : Items) (key q : Key) (item : Item) → IsDistinct same_key (keys_of items) → item_at (promoted (same_key key) items) q ≡ Some item
+    → item_at items q ≡ Some item
 held_promoted items key q item distinct is = promoted_case (lookup_entry (same_key key) items) refl is
   where
-    promoted_case : (o : Option (Key × Item)) → lookup_entry (same_key key) items ≡ o → item_at (option_map_or (λ e. e ∷ remove_entry (same_key key) items) o items) q ≡ Some item → item_at items q ≡ Some item
+    promoted_case : (o : Option (Key × Item)) → lookup_entry (same_key key) items ≡ o
+        → item_at (option_map_or (λ e. e ∷ remove_entry (same_key key) items) o items) q ≡ Some item → item_at items q ≡ Some item
     promoted_case None none is = is
     promoted_case (Some e) some is =
         let on = same_key-same key e.0 (Contains-lookup_entry (same_key key) items e some).1 in
@@ -112,7 +118,8 @@ held_kept items most key new q item distinct is = elim (cases_Bool (stays (item_
 ]
 
 -- what is held after a value was set is the new item or was held
-pub held_set : (items : Items) (key : Key) (new : Item) (q : Key) (item : Item) → item_at (set_value (same_key key) items new) q ≡ Some item → ((q ≡ key) × (item ≡ new)) ⊎ (item_at items q ≡ Some item)
+pub held_set : (items : Items) (key : Key) (new : Item) (q : Key) (item : Item) → item_at (set_value (same_key key) items new) q ≡ Some item
+    → ((q ≡ key) × (item ≡ new)) ⊎ (item_at items q ≡ Some item)
 held_set [] key new q item is = inr is
 held_set (e ∷ es) key new q item is = elim (cases_Bool (same_key key e.0)) [
   | inl on ↦ elim (cases_Bool (same_key q e.0)) [

@@ -1,5 +1,6 @@
 -- What each call leaves is true of its logs.
-use Rattle.std.proofs.Common.{◌≡◌, ℕ, ◌-◌, ◌<◌, ◌^◌, Bool, true, false, List, [], ◌∷◌, length, take, Option, Some, None, Result, Ok, Err, IfOk, OnErr, refl, sym, ◌∙◌, ap, subst, arith}
+use Rattle.std.proofs.Common.{◌≡◌, ℕ, ◌-◌, ◌<◌, ◌^◌, Bool, true, false, List, [], ◌∷◌, length, take, Option, Some, None, Result, Ok, Err, IfOk, OnErr, refl}
+use Rattle.std.proofs.Common.{sym, ◌∙◌, ap, subst, arith}
 use Rattle.std.specs.List.{IsDistinct}
 use Rattle.std.specs.Map.{keys_of as keys_held}
 use Rattle.std.specs.Option.{option_map}
@@ -42,7 +43,8 @@ use Rattle.cache_items.specs.Taken.{TakesChange, with_change}
 use Rattle.cache_node.specs.True.{IsServed, IsTrueAskOf, IsTrueNode}
 
 -- what is had of a shard whose log is known
-pub served_of_log : (served : List ServedShard) (shard : ℕ) (log : LogName) → log_at shard served ≡ Some log → (s : ServedShard) × (served_at shard served ≡ Some s) × (s.view.log ≡ log)
+pub served_of_log : (served : List ServedShard) (shard : ℕ) (log : LogName) → log_at shard served ≡ Some log
+    → (s : ServedShard) × (served_at shard served ≡ Some s) × (s.view.log ≡ log)
 served_of_log served shard log is = by_option (served_at shard served) refl
   where
     by_option : (o : Option ServedShard) → served_at shard served ≡ o → (s : ServedShard) × (served_at shard served ≡ Some s) × (s.view.log ≡ log)
@@ -55,11 +57,14 @@ is_served served shard log is = let at = served_of_log served shard log is in rw
 pub same_log : (o : Option LogName) (log : LogName) → o ≡ Some log → IfSome o (λ other. other ≡ log)
 same_log o log is = rw is refl
 
-pub evicted : (old new : Node) (key : Key) → IsDistinct same_key (keys_held old.items) → IsTrueNode old → new ≡ record old { items = without key old.items } → IsTrueNode new
-evicted old new key distinct is same = subst IsTrueNode (sym same) (fewer_is_true old (without key old.items) is (λ q item h. held_fewer key q old.items item distinct h))
+pub evicted : (old new : Node) (key : Key) → IsDistinct same_key (keys_held old.items) → IsTrueNode old → new ≡ record old { items = without key old.items }
+    → IsTrueNode new
+evicted old new key distinct is same =
+    subst IsTrueNode (sym same) (fewer_is_true old (without key old.items) is (λ q item h. held_fewer key q old.items item distinct h))
 
 pub last_evicted : (old new : Node) → IsTrueNode old → new ≡ record old { items = without_last old.items } → IsTrueNode new
-last_evicted old new is same = subst IsTrueNode (sym same) (fewer_is_true old (without_last old.items) is (λ q item h. held_take (length old.items - 1) old.items q item h))
+last_evicted old new is same =
+    subst IsTrueNode (sym same) (fewer_is_true old (without_last old.items) is (λ q item h. held_take (length old.items - 1) old.items q item h))
 
 pub looked : {E : Type 0} (old new : Node) (key : Key) (r : Result Look E) → IsDistinct same_key (keys_held old.items) → IsTrueNode old
     → IfOk r (λ look. new ≡ record old { items = if is_hit look then promoted (same_key key) old.items else old.items }) → OnErr r (new ≡ old) → IsTrueNode new
@@ -95,34 +100,42 @@ opened_is_true n key is served =
       tt,
     ))
 
-pub opened : {X : Type 0} (old new : Node) (key : Key) (r : Option X) → IsTrueNode old → IsServed old.served (key_shard key) → OnSome r (new ≡ with_opened_ask key old) → IfNone r (new ≡ old) → IsTrueNode new
+pub opened : {X : Type 0} (old new : Node) (key : Key) (r : Option X) → IsTrueNode old → IsServed old.served (key_shard key)
+    → OnSome r (new ≡ with_opened_ask key old) → IfNone r (new ≡ old) → IsTrueNode new
 opened old new key (Some x) is served same same_none = subst IsTrueNode (sym same) (opened_is_true old key is served)
 opened old new key None is served same same_none = subst IsTrueNode (sym same_none) is
 
 pub ask_ended : (old new : Node) (ask : ℕ) → IsTrueNode old → new ≡ with_ended_ask (Some ask) old → IsTrueNode new
 ask_ended old new ask is same = subst IsTrueNode (sym same) (ended_is_true (Some ask) old is)
 
-pub filled : {E : Type 0} (old new : Node) (fill : SealedItem) (ask : Option ℕ) (r : Result (Answer × Kept) E) → IsDistinct same_key (keys_held old.items) → IsTrueNode old
-    → log_at (key_shard fill.key) old.served ≡ Some fill.note.log → IsSealed fill → IfSome ask (λ number. IfSome (ask_at number old.asks) (λ a. a.key ≡ fill.key))
+pub filled : {E : Type 0} (old new : Node) (fill : SealedItem) (ask : Option ℕ) (r : Result (Answer × Kept) E) → IsDistinct same_key (keys_held old.items)
+    → IsTrueNode old
+    → log_at (key_shard fill.key) old.served ≡ Some fill.note.log → IsSealed fill
+    → IfSome ask (λ number. IfSome (ask_at number old.asks) (λ a. a.key ≡ fill.key))
     → IfOk r (λ x. MeetsAt (key_shard fill.key) fill.note old.served) → IfOk r (λ x. GivesKept (kept_of ask old.asks fill.version fill.as_of) x.1)
     → IfOk r (λ x. new ≡ took fill x.1 (with_ended_ask ask old)) → OnErr r (new ≡ with_ended_ask ask old) → IsTrueNode new
 filled old new fill ask (Ok x) distinct is log sealed on_key meets due same same_err =
-    subst IsTrueNode (sym same) (took_fill_is_true fill x.1 ask old distinct is (is_served old.served (key_shard fill.key) fill.note.log log) meets sealed on_key due)
+    subst IsTrueNode (sym same) (took_fill_is_true fill x.1 ask old distinct is
+        (is_served old.served (key_shard fill.key) fill.note.log log) meets sealed on_key due)
 filled old new fill ask (Err e) distinct is log sealed on_key meets due same same_err = subst IsTrueNode (sym same_err) (ended_is_true ask old is)
 
 pub filled_own : {E : Type 0} (old new : Node) (fill : SealedItem) (r : Result (Answer × Kept) E) → IsDistinct same_key (keys_held old.items) → IsTrueNode old
     → log_at (key_shard fill.key) old.served ≡ Some fill.note.log → IsSealed fill
-    → IfOk r (λ x. MeetsAt (key_shard fill.key) fill.note old.served) → IfOk r (λ x. GivesKept (own_kept_of (top_at (key_shard fill.key) old.served) fill.as_of) x.1)
+    → IfOk r (λ x. MeetsAt (key_shard fill.key) fill.note old.served)
+    → IfOk r (λ x. GivesKept (own_kept_of (top_at (key_shard fill.key) old.served) fill.as_of) x.1)
     → IfOk r (λ x. new ≡ took fill x.1 old) → OnErr r (new ≡ old) → IsTrueNode new
 filled_own old new fill (Ok x) distinct is log sealed meets due same same_err =
     subst IsTrueNode (sym same) (took_own_is_true fill x.1 old distinct is (is_served old.served (key_shard fill.key) fill.note.log log) meets sealed due)
 filled_own old new fill (Err e) distinct is log sealed meets due same same_err = subst IsTrueNode (sym same_err) is
 
-pub changed : (old new : Node) (c : SeenChange) (bound : ℕ) → IsDistinct same_key (keys_held old.items) → IsTrueNode old → MeetsAt (key_shard c.key) c.note old.served
+pub changed : (old new : Node) (c : SeenChange) (bound : ℕ) → IsDistinct same_key (keys_held old.items) → IsTrueNode old
+    → MeetsAt (key_shard c.key) c.note old.served
     → IsOneTouch c → c.after < 2 ^ 64 → TakesChange bound (item_at old.items c.key) c old.items new.items → new ≡ with_change c new.items old → IsTrueNode new
-changed old new c bound distinct is meets touch bits takes same = subst IsTrueNode (sym same) (changed_is_true old c bound new.items distinct is meets touch bits takes)
+changed old new c bound distinct is meets touch bits takes same =
+    subst IsTrueNode (sym same) (changed_is_true old c bound new.items distinct is meets touch bits takes)
 
-pub message_came : (old new : Node) (m : SeenMaint) → IsDistinct same_key (keys_held old.items) → IsTrueNode old → log_at m.shard old.served ≡ Some m.note.log → IsMaint m
+pub message_came : (old new : Node) (m : SeenMaint) → IsDistinct same_key (keys_held old.items) → IsTrueNode old → log_at m.shard old.served ≡ Some m.note.log
+    → IsMaint m
     → MeetsAt m.shard m.note old.served → new ≡ delivered m old → IsTrueNode new
 message_came old new m distinct is log message meets same =
     let at = served_of_log old.served m.shard m.note.log log in
@@ -132,9 +145,11 @@ message_came old new m distinct is log message meets same =
     (processed_is_true m.shard m.position m.keys (met m.shard m.note old) distinct (met_is_true old m.shard m.note is meets) (seeing m.note at.0) there
     (λ told. maint_stays m (longer_view at.0.view m.note) (meets.meets at.0 at.1).from_note message told))
 
-pub entries_came : (old new : Node) (shard : ℕ) (entries : List Entry) (note : View) → IsDistinct same_key (keys_held old.items) → IsTrueNode old → log_at shard old.served ≡ Some note.log
+pub entries_came : (old new : Node) (shard : ℕ) (entries : List Entry) (note : View) → IsDistinct same_key (keys_held old.items) → IsTrueNode old
+    → log_at shard old.served ≡ Some note.log
     → WhereTold note.log.told (IsSound note.entries) → WhereTold note.log.told (entries ≡ take (length entries) (drop (low_at shard old.served) note.entries))
-    → WhereTold note.log.told (All (λ e. All (λ t. key_shard t.key ≡ shard) e.touches) entries) → MeetsAt shard note old.served → new ≡ caught_up shard entries (met shard note old) → IsTrueNode new
+    → WhereTold note.log.told (All (λ e. All (λ t. key_shard t.key ≡ shard) e.touches) entries) → MeetsAt shard note old.served
+    → new ≡ caught_up shard entries (met shard note old) → IsTrueNode new
 entries_came old new shard entries note distinct is log sound next here meets same =
     let at = served_of_log old.served shard note.log log in
     let there : served_at shard (met shard note old).served ≡ Some (seeing note at.0) =
@@ -150,7 +165,9 @@ pub look_legal : {E : Type 0} (types : EdgeTypes) (n : Node) (query : Query) (fl
 look_legal types n query floor (Ok look) is same = look_answers types n query floor look is same
 look_legal types n query floor (Err e) is same = tt
 
-pub fill_legal : {E : Type 0} (types : EdgeTypes) (query : Query) (fill : SealedItem) (r : Result (Answer × Kept) E) → fill.key ≡ query_key query → content_decides types fill.content query ≡ true → IsSealed fill
+pub fill_legal : {E : Type 0} (types : EdgeTypes) (query : Query) (fill : SealedItem) (r : Result (Answer × Kept) E) → fill.key ≡ query_key query
+    → content_decides types fill.content query ≡ true → IsSealed fill
     → IfOk r (λ x. x.0 ≡ content_answer types fill.content query) → IfOk r (λ x. ViewAnswers types fill.note query x.0 fill.version)
-fill_legal types query fill (Ok x) key decided sealed same = subst (λ a. ViewAnswers types fill.note query a fill.version) (sym same) (fill_answers types query fill key decided sealed)
+fill_legal types query fill (Ok x) key decided sealed same =
+    subst (λ a. ViewAnswers types fill.note query a fill.version) (sym same) (fill_answers types query fill key decided sealed)
 fill_legal types query fill (Err e) key decided sealed same = tt

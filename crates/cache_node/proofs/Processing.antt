@@ -1,5 +1,6 @@
 -- A node that processes a position stays true of its logs.
-use Rattle.std.proofs.Common.{◌≡◌, ℕ, zero, suc, ◌+◌, ◌≤◌, true, false, List, [], ◌∷◌, length, take, drop, Option, Some, None, refl, sym, ◌∙◌, ap, subst, inl, inr, arith}
+use Rattle.std.proofs.Common.{◌≡◌, ℕ, zero, suc, ◌+◌, ◌≤◌, true, false, List, [], ◌∷◌, length, take, drop, Option, Some, None, refl, sym, ◌∙◌, ap, subst, inl}
+use Rattle.std.proofs.Common.{inr, arith}
 use Rattle.std.proofs.lemmas.Bool.{cases_Bool, ltb-false}
 use Rattle.std.proofs.lemmas.List.{length-take}
 use Rattle.std.proofs.lemmas.List.Elements.{All-map, recursion_from_All}
@@ -35,7 +36,8 @@ use Rattle.cache_node.specs.True.{AreTold, IsTrueNode, IsTrueOfLogs, touched, ve
 use Rattle.cache_items.specs.declared.item.Item.{Item}
 
 -- what is left was held, and has at least the version that is named for it
-pub held_dropped : (ks : List KeyVersion) (items : Items) (key : Key) (item : Item) → IsDistinct same_key (keys_held items) → item_at (dropped items ks) key ≡ Some item
+pub held_dropped : (ks : List KeyVersion) (items : Items) (key : Key) (item : Item) → IsDistinct same_key (keys_held items)
+    → item_at (dropped items ks) key ≡ Some item
     → (item_at items key ≡ Some item) × ((v : ℕ) → version_among ks key ≡ Some v → v ≤ item.version)
 held_dropped [] items key item distinct is = (is, λ v none. absurd (cc))
 held_dropped (k ∷ ks) items key item distinct is = elim (cases_Bool (is_stale items k)) [
@@ -47,13 +49,15 @@ held_dropped (k ∷ ks) items key item distinct is = elim (cases_Bool (is_stale 
       (rest.0, λ v at. above fresh rest.0 rest.1 v at))
 ]
   where
-    later : is_stale items k ≡ true → item_at (without k.key items) key ≡ Some item → (v : ℕ) → version_among (k ∷ ks) key ≡ Some v → version_among ks key ≡ Some v
+    later : is_stale items k ≡ true → item_at (without k.key items) key ≡ Some item → (v : ℕ) → version_among (k ∷ ks) key ≡ Some v
+        → version_among ks key ≡ Some v
     later stale left v at = elim (cases_Bool (same_key key k.key)) [
       | inl same ↦ absurd (held_gone k.key key items item distinct same left)
       | inr other ↦ rw other at at
     ]
 
-    above : is_stale items k ≡ false → item_at items key ≡ Some item → ((v : ℕ) → version_among ks key ≡ Some v → v ≤ item.version) → (v : ℕ) → version_among (k ∷ ks) key ≡ Some v → v ≤ item.version
+    above : is_stale items k ≡ false → item_at items key ≡ Some item → ((v : ℕ) → version_among ks key ≡ Some v → v ≤ item.version) → (v : ℕ)
+        → version_among (k ∷ ks) key ≡ Some v → v ≤ item.version
     above fresh at_key rest v at = elim (cases_Bool (same_key key k.key)) [
       | inl same ↦ (
           let there : item_at items k.key ≡ Some item = subst (λ q. item_at items q ≡ Some item) (same_key-same key k.key same) at_key in
@@ -73,7 +77,8 @@ distinct_dropped (k ∷ ks) items distinct = elim (cases_Bool (is_stale items k)
 ]
 
 -- what an entry that is named gives a key is what is named for it
-touched_named : (log : List Entry) (position : ℕ) (keys : List KeyVersion) (key : Key) (v : ℕ) → option_map keys_of (entry_at log position) ≡ Some keys → touched log position key ≡ Some v
+touched_named : (log : List Entry) (position : ℕ) (keys : List KeyVersion) (key : Key) (v : ℕ) → option_map keys_of (entry_at log position) ≡ Some keys
+    → touched log position key ≡ Some v
     → version_among keys key ≡ Some v
 touched_named log position keys key v names at = by_entry (entry_at log position) refl
   where
@@ -117,7 +122,8 @@ named_versions log position keys sound names =
 abbrev AreReachedBy : List ServedShard → List KeyVersion → Type 0
 AreReachedBy served keys = AllByRecursion (λ k. (s : ServedShard) → served_at (key_shard k.key) served ≡ Some s → k.version ≤ version s.view.entries k.key) keys
 
-raise_all_is_true : (ks : List KeyVersion) (n : Node) → IsTrueNode n → (AreTold n.served → IsTrueOfLogs n → AreReachedBy n.served ks) → IsTrueNode (record n { asks = raised_all ks n.asks })
+raise_all_is_true : (ks : List KeyVersion) (n : Node) → IsTrueNode n → (AreTold n.served → IsTrueOfLogs n → AreReachedBy n.served ks)
+    → IsTrueNode (record n { asks = raised_all ks n.asks })
 raise_all_is_true [] n is high = is
 raise_all_is_true (k ∷ ks) n is high =
     let one = raised_is_true n k.key k.version is (λ s told was at. (high told was).0 s at) in
@@ -139,7 +145,8 @@ raised_with shard position keys n is s at names = raise_all_is_true keys n is re
         let versions = named_versions s.view.entries position keys (was.served shard s at).sound named.names in
         both keys here versions
       where
-        both : (ks : List KeyVersion) → AllByRecursion (λ k. key_shard k.key ≡ shard) ks → AllByRecursion (λ k. k.version ≤ version s.view.entries k.key) ks → AreReachedBy n.served ks
+        both : (ks : List KeyVersion) → AllByRecursion (λ k. key_shard k.key ≡ shard) ks → AllByRecursion (λ k. k.version ≤ version s.view.entries k.key) ks
+            → AreReachedBy n.served ks
         both [] here versions = tt
         both (k ∷ ks) here versions = (
           λ other there. (
@@ -156,10 +163,14 @@ pub processed_with : (shard position : ℕ) (keys : List KeyVersion) (items : It
 processed_with shard position keys items n left held s at names =
     let n1 : Node = record n { items = items } in
     let raised = raised_with shard position keys n1 left s at names in
-    marked_is_true (record n1 { asks = raised_all keys n.asks }) shard position raised (λ other there told. can_mark other (one_served n.served shard s other at there) told)
+    marked_is_true (record n1 { asks = raised_all keys n.asks }) shard position raised
+        (λ other there told. can_mark other (one_served n.served shard s other at there) told)
   where
-    can_mark : (other : ServedShard) → other ≡ s → other.view.log.told ≡ true → CanMark (record n { items = items; asks = raised_all keys n.asks }) shard position other
-    can_mark other same told = subst (CanMark (record n { items = items; asks = raised_all keys n.asks }) shard position) (sym same) (can (names (subst (λ o. o.view.log.told ≡ true) same told)))
+    can_mark : (other : ServedShard) → other ≡ s → other.view.log.told ≡ true
+        → CanMark (record n { items = items; asks = raised_all keys n.asks }) shard position other
+    can_mark other same told =
+        subst (CanMark (record n { items = items; asks = raised_all keys n.asks }) shard position) (sym same)
+            (can (names (subst (λ o. o.view.log.told ≡ true) same told)))
       where
         can : NamesEntry s.view.entries shard position keys → CanMark (record n { items = items; asks = raised_all keys n.asks }) shard position s
         can named = record {
@@ -171,31 +182,37 @@ processed_with shard position keys items n left held s at names =
         }
 
 -- a position that is named was processed as a message of it
-pub processed_is_true : (shard position : ℕ) (keys : List KeyVersion) (n : Node) → IsDistinct same_key (keys_held n.items) → IsTrueNode n → (s : ServedShard) → served_at shard n.served ≡ Some s
+pub processed_is_true : (shard position : ℕ) (keys : List KeyVersion) (n : Node) → IsDistinct same_key (keys_held n.items) → IsTrueNode n → (s : ServedShard)
+    → served_at shard n.served ≡ Some s
     → (s.view.log.told ≡ true → NamesEntry s.view.entries shard position keys) → IsTrueNode (processed shard position keys n)
 processed_is_true shard position keys n distinct is s at names =
-    processed_with shard position keys (dropped n.items keys) n (fewer_is_true n (dropped n.items keys) is (λ key item h. (held_dropped keys n.items key item distinct h).0))
+    processed_with shard position keys (dropped n.items keys) n
+        (fewer_is_true n (dropped n.items keys) is (λ key item h. (held_dropped keys n.items key item distinct h).0))
     (λ key item h. (held_dropped keys n.items key item distinct h).1) s at names
 
 -- entries that are named in what was seen were processed
-pub caught_up_is_true : (shard : ℕ) (entries : List Entry) (n : Node) → IsDistinct same_key (keys_held n.items) → IsTrueNode n → (s : ServedShard) → served_at shard n.served ≡ Some s
+pub caught_up_is_true : (shard : ℕ) (entries : List Entry) (n : Node) → IsDistinct same_key (keys_held n.items) → IsTrueNode n → (s : ServedShard)
+    → served_at shard n.served ≡ Some s
     → (s.view.log.told ≡ true → AllByRecursion (λ e. NamesEntry s.view.entries shard e.position (keys_of e)) entries) → IsTrueNode (caught_up shard entries n)
 caught_up_is_true shard [] n distinct is s at names = is
 caught_up_is_true shard (e ∷ es) n distinct is s at names =
     let one = processed_is_true shard e.position (keys_of e) n distinct is s at (λ told. (names told).0) in
     let there : served_at shard (changed_at shard (marking e.position) n.served) ≡ Some (marking e.position s) =
     changed_there shard (marking e.position) (marking_keeps e.position).shard n.served ∙ ap (option_map (marking e.position)) at in
-    caught_up_is_true shard es (processed shard e.position (keys_of e) n) (distinct_dropped (keys_of e) n.items distinct) one (marking e.position s) there (λ told. (names told).1)
+    caught_up_is_true shard es (processed shard e.position (keys_of e) n) (distinct_dropped (keys_of e) n.items distinct) one (marking e.position s) there
+        (λ told. (names told).1)
 
 -- the first of the entries from a place on, and the place after it
-first_from : (log : List Entry) (low n : ℕ) (e : Entry) (es : List Entry) → e ∷ es ≡ take (suc n) (drop low log) → (slice_get log low ≡ Some e) × (es ≡ take n (drop (suc low) log))
+first_from : (log : List Entry) (low n : ℕ) (e : Entry) (es : List Entry) → e ∷ es ≡ take (suc n) (drop low log)
+    → (slice_get log low ≡ Some e) × (es ≡ take n (drop (suc low) log))
 first_from [] zero n e es is = absurd (cc)
 first_from [] (suc low) n e es is = absurd (cc)
 first_from (x ∷ log) zero n e es is = (cc, cc)
 first_from (x ∷ log) (suc low) n e es is = first_from log low n e es is
 
 -- each of the entries after a position stands at its own
-stand_at : (log : List Entry) (low : ℕ) (entries : List Entry) → IsSound log → entries ≡ take (length entries) (drop low log) → AllByRecursion (λ e. entry_at log e.position ≡ Some e) entries
+stand_at : (log : List Entry) (low : ℕ) (entries : List Entry) → IsSound log → entries ≡ take (length entries) (drop low log)
+    → AllByRecursion (λ e. entry_at log e.position ≡ Some e) entries
 stand_at log low [] sound is = tt
 stand_at log low (e ∷ es) sound is =
     let first = first_from log low (length es) e es is in
@@ -218,7 +235,8 @@ pub follow_named : (v w : View) (shard low : ℕ) (entries : List Entry) → Gro
 follow_named v w shard low entries grows sound is here =
     both entries (stand_at v.entries low entries sound is) (recursion_from_All (λ e. All (λ t. key_shard t.key ≡ shard) e.touches) entries here)
   where
-    both : (es : List Entry) → AllByRecursion (λ e. entry_at v.entries e.position ≡ Some e) es → AllByRecursion (λ e. All (λ t. key_shard t.key ≡ shard) e.touches) es
+    both : (es : List Entry) → AllByRecursion (λ e. entry_at v.entries e.position ≡ Some e) es
+        → AllByRecursion (λ e. All (λ t. key_shard t.key ≡ shard) e.touches) es
         → AllByRecursion (λ e. NamesEntry w.entries shard e.position (keys_of e)) es
     both [] stand on = tt
     both (e ∷ es) stand on = (entry_named v w shard e grows stand.0 on.0, both es stand.1 on.1)

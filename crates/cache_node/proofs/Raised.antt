@@ -28,11 +28,14 @@ pub record Raise (key : Key) (v : ℕ) (a after : Ask) : Type 0 where
 
 pub raise_is : (key : Key) (v : ℕ) (a : Ask) → Raise key v a (raised_ask key v a)
 raise_is key v a = elim (same_key a.key key) as (λ b. same_key a.key key ≡ b → Raise key v a (cond b (record a { floor = max a.floor v }) a)) [
-  | true ↦ λ on. record { key_is = refl; mark_is = refl; rises = omega arith; reaches = λ same. omega arith; least = λ bound le up. let high = up on in omega arith }
-  | false ↦ λ off. record { key_is = refl; mark_is = refl; rises = omega arith; reaches = λ same. absurd (both_ways (same_key a.key key) off same); least = λ bound le up. le }
+  | true ↦ λ on. record { key_is = refl; mark_is = refl; rises = omega arith; reaches = λ same. omega arith;
+      least = λ bound le up. let high = up on in omega arith }
+  | false ↦ λ off. record { key_is = refl; mark_is = refl; rises = omega arith; reaches = λ same. absurd (both_ways (same_key a.key key) off same);
+      least = λ bound le up. le }
 ] refl
 
-raise_true : (s : ServedShard) (key : Key) (v : ℕ) (a after : Ask) → Raise key v a after → (same_key a.key key ≡ true → v ≤ version s.view.entries a.key) → IsTrueAsk s a → IsTrueAsk s after
+raise_true : (s : ServedShard) (key : Key) (v : ℕ) (a after : Ask) → Raise key v a after → (same_key a.key key ≡ true → v ≤ version s.view.entries a.key)
+    → IsTrueAsk s a → IsTrueAsk s after
 raise_true s key v a after raise high is = record {
   begun = let begun = is.begun in let same = raise.mark_is in omega arith;
   known = subst (λ k. after.floor ≤ version s.view.entries k) (sym raise.key_is) (raise.least (version s.view.entries a.key) is.known high);
@@ -45,7 +48,8 @@ raise_true s key v a after raise high is = record {
 
 -- the asks on a key were raised to a version that the key has reached
 pub raised_is_true : (n : Node) (key : Key) (v : ℕ) → IsTrueNode n
-    → ((s : ServedShard) → AreTold n.served → IsTrueOfLogs n → served_at (key_shard key) n.served ≡ Some s → v ≤ version s.view.entries key) → IsTrueNode (record n { asks = with_floor key v n.asks })
+    → ((s : ServedShard) → AreTold n.served → IsTrueOfLogs n → served_at (key_shard key) n.served ≡ Some s → v ≤ version s.view.entries key)
+    → IsTrueNode (record n { asks = with_floor key v n.asks })
 raised_is_true n key v is high = asks_are_true n (with_floor key v n.asks) is
     (all_map (raised_ask key v) (λ a. IsServed n.served (key_shard a.key)) n.asks.asks
     (all_weaker (λ a. IsServed n.served (key_shard a.key)) (λ a. IsServed n.served (key_shard (raised_ask key v a).key))

@@ -47,7 +47,8 @@ record HitBy (types : EdgeTypes) (item : Item) (query : Query) (given : Answer) 
   pub answer_is : content_answer types item.content query ≡ given
   pub at_is : item.version ≡ at
 
-hit_by : (types : EdgeTypes) (item : Item) (query : Query) (floor at : ℕ) (given : Answer) → look_of types (Some item) query floor ≡ Hit given at → HitBy types item query given at
+hit_by : (types : EdgeTypes) (item : Item) (query : Query) (floor at : ℕ) (given : Answer) → look_of types (Some item) query floor ≡ Hit given at
+    → HitBy types item query given at
 hit_by types item query floor at given h = elim (cases_Bool (nat_le floor item.version && content_decides types item.content query)) [
   | inl both ↦ (
       let e : Hit (content_answer types item.content query) item.version ≡ Hit given at = rw both at h in
@@ -55,7 +56,8 @@ hit_by types item query floor at given h = elim (cases_Bool (nat_le floor item.v
   | inr off ↦ absurd (let e : Miss ≡ Hit given at = rw off at h in cc)
 ]
 
-hit_again : (types : EdgeTypes) (found : Option Item) (query : Query) (floor again at : ℕ) (given : Answer) → look_of types found query floor ≡ Hit given at → again ≤ at
+hit_again : (types : EdgeTypes) (found : Option Item) (query : Query) (floor again at : ℕ) (given : Answer) → look_of types found query floor ≡ Hit given at
+    → again ≤ at
     → look_of types found query again ≡ Hit given at
 hit_again types None query floor again at given h le = absurd (cc)
 hit_again types (Some item) query floor again at given h le =
@@ -65,34 +67,42 @@ hit_again types (Some item) query floor again at given h le =
     hit ∙ ap (λ a. Hit a item.version) by.answer_is ∙ ap (Hit given) same
 
 -- an item that is put is held at its key
-put_held : (items : Items) (most : ℕ) (key : Key) (item : Item) → stays (item_at items key) item ≡ false → item_at (kept_items items most key item) key ≡ Some item
+put_held : (items : Items) (most : ℕ) (key : Key) (item : Item) → stays (item_at items key) item ≡ false
+    → item_at (kept_items items most key item) key ≡ Some item
 put_held items most key item stays_not =
     let put : kept_items items most key item ≡ put_entries same_key (lru_cache items most) key item = rw stays_not refl in
     ap (λ es. lookup (same_key key) es) put ∙ lookup-put_entries same_key (lru_cache items most) key item key_laws
 
 kept_again : (types : EdgeTypes) (items : Items) (most : ℕ) (query : Query) (again : ℕ) (fill : SealedItem) → content_decides types fill.content query ≡ true
     → stays (item_at items (query_key query)) (item_of fill) ≡ false → again ≤ fill.version
-    → look_of types (item_at (kept_items items most (query_key query) (item_of fill)) (query_key query)) query again ≡ Hit (content_answer types fill.content query) fill.version
+    → look_of types (item_at (kept_items items most (query_key query) (item_of fill)) (query_key query)) query again
+        ≡ Hit (content_answer types fill.content query) fill.version
 kept_again types items most query again fill decides stays_not le =
-    ap (λ found. look_of types found query again) (put_held items most (query_key query) (item_of fill) stays_not) ∙ decided_hit types query again (item_of fill) decides le
+    ap (λ found. look_of types found query again) (put_held items most (query_key query) (item_of fill) stays_not)
+    ∙ decided_hit types query again (item_of fill) decides le
 
 -- the item that stays, since it is a longer list of the version
 longer_stays : (types : EdgeTypes) (log : List Entry) (query : Query) (again : ℕ) (fill : SealedItem) (o : Option Item) → stays o (item_of fill) ≡ true
-    → ((item : Item) → o ≡ Some item → IsExactContent log (query_key query) item.version item.content) → IsExactContent log (query_key query) fill.version fill.content
-    → content_decides types fill.content query ≡ true → again ≤ fill.version → look_of types o query again ≡ Hit (content_answer types fill.content query) fill.version
+    → ((item : Item) → o ≡ Some item → IsExactContent log (query_key query) item.version item.content)
+    → IsExactContent log (query_key query) fill.version fill.content
+    → content_decides types fill.content query ≡ true → again ≤ fill.version
+    → look_of types o query again ≡ Hit (content_answer types fill.content query) fill.version
 longer_stays types log query again fill None on held exact decides le = absurd (cc)
 longer_stays types log query again fill (Some item) on held exact decides le =
     let parts = and_parts (item.version == fill.version) (is_longer_content item.content fill.content) on in
     let same : item.version ≡ fill.version = eqb-true item.version fill.version parts.0 in
-    let there : IsExactContent log (query_key query) fill.version item.content = subst (λ v. IsExactContent log (query_key query) v item.content) same (held item refl) in
+    let there : IsExactContent log (query_key query) fill.version item.content =
+        subst (λ v. IsExactContent log (query_key query) v item.content) same (held item refl) in
     let longer = longer_contents_answer.decides types log query fill.version fill.content item.content exact there parts.1 decides in
     let answer = longer_contents_answer.answers types log query fill.version item.content fill.content there exact longer decides in
     let hit = decided_hit types query again item longer (omega arith) in
     hit ∙ ap (λ a. Hit a item.version) answer ∙ ap (Hit (content_answer types fill.content query)) same
 
-kept_beside : (types : EdgeTypes) (log : List Entry) (items : Items) (most : ℕ) (query : Query) (again : ℕ) (fill : SealedItem) → IsExactAt log items (query_key query)
+kept_beside : (types : EdgeTypes) (log : List Entry) (items : Items) (most : ℕ) (query : Query) (again : ℕ) (fill : SealedItem)
+    → IsExactAt log items (query_key query)
     → IsExactContent log (query_key query) fill.version fill.content → content_decides types fill.content query ≡ true → again ≤ fill.version
-    → look_of types (item_at (kept_items items most (query_key query) (item_of fill)) (query_key query)) query again ≡ Hit (content_answer types fill.content query) fill.version
+    → look_of types (item_at (kept_items items most (query_key query) (item_of fill)) (query_key query)) query again
+        ≡ Hit (content_answer types fill.content query) fill.version
 kept_beside types log items most query again fill held exact decides le = elim (cases_Bool (stays (item_at items (query_key query)) (item_of fill))) [
   | inl on ↦ (
       let same : kept_items items most (query_key query) (item_of fill) ≡ promoted (same_key (query_key query)) items = rw on refl in
@@ -105,7 +115,8 @@ kept_beside types log items most query again fill held exact decides le = elim (
 pub answers_repeat : AnswersRepeat
 answers_repeat = record {
   hit = λ types items query floor again at given h le.
-      ap (λ found. look_of types found query again) (held-first items (query_key query)) ∙ hit_again types (item_at items (query_key query)) query floor again at given h le;
+      ap (λ found. look_of types found query again) (held-first items (query_key query))
+      ∙ hit_again types (item_at items (query_key query)) query floor again at given h le;
   kept = kept_again;
   kept_beside = kept_beside;
 }

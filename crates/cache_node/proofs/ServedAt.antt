@@ -15,14 +15,16 @@ pub record KeepsLog (f : ServedShard → ServedShard) : Type 0 where
 apart_back : (n shard other : ℕ) → n ≡ shard → (other == shard) ≡ false → (n == other) ≡ false
 apart_back n shard other here apart = ne_eqb n other (λ e. eqb-false other shard apart (sym e ∙ here))
 
-pub changed_there : (shard : ℕ) (f : ServedShard → ServedShard) → KeepsShard f → (ss : List ServedShard) → served_at shard (changed_at shard f ss) ≡ option_map f (served_at shard ss)
+pub changed_there : (shard : ℕ) (f : ServedShard → ServedShard) → KeepsShard f → (ss : List ServedShard)
+    → served_at shard (changed_at shard f ss) ≡ option_map f (served_at shard ss)
 changed_there shard f keeps [] = refl
 changed_there shard f keeps (s ∷ ss) = elim (cases_Bool (s.shard == shard)) [
   | inl on ↦ (let same : ((f s).shard == shard) ≡ true = ap (λ n. n == shard) (keeps s) ∙ on in rw on (rw same refl))
   | inr off ↦ rw off (rw off (changed_there shard f keeps ss))
 ]
 
-pub changed_elsewhere : (shard other : ℕ) (f : ServedShard → ServedShard) → KeepsShard f → (other == shard) ≡ false → (ss : List ServedShard) → served_at other (changed_at shard f ss) ≡ served_at other ss
+pub changed_elsewhere : (shard other : ℕ) (f : ServedShard → ServedShard) → KeepsShard f → (other == shard) ≡ false → (ss : List ServedShard)
+    → served_at other (changed_at shard f ss) ≡ served_at other ss
 changed_elsewhere shard other f keeps apart [] = refl
 changed_elsewhere shard other f keeps apart (s ∷ ss) = elim (cases_Bool (s.shard == shard)) [
   | inl on ↦ (
@@ -42,14 +44,16 @@ pub record Changed (f : ServedShard → ServedShard) (k shard : ℕ) (ss : List 
   pub was : served_at shard ss ≡ Some before
   pub is : after ≡ f before
 
-pub changed_here : (shard : ℕ) (f : ServedShard → ServedShard) (ss : List ServedShard) (after : ServedShard) → KeepsLog f → served_at shard (changed_at shard f ss) ≡ Some after → Changed f shard shard ss after
+pub changed_here : (shard : ℕ) (f : ServedShard → ServedShard) (ss : List ServedShard) (after : ServedShard) → KeepsLog f
+    → served_at shard (changed_at shard f ss) ≡ Some after → Changed f shard shard ss after
 changed_here shard f ss after keeps h = by_option (served_at shard ss) refl (sym (changed_there shard f keeps.shard ss) ∙ h)
   where
     by_option : (o : Option ServedShard) → served_at shard ss ≡ o → option_map f (served_at shard ss) ≡ Some after → Changed f shard shard ss after
     by_option None was found = absurd (let none : None ≡ Some after = rw was at found in cc)
     by_option (Some before) was found = record { here = refl; before = before; was = was; is = (let e : Some (f before) ≡ Some after = rw was at found in cc) }
 
-pub changed_cases : (shard k : ℕ) (f : ServedShard → ServedShard) (ss : List ServedShard) (after : ServedShard) → KeepsLog f → served_at k (changed_at shard f ss) ≡ Some after
+pub changed_cases : (shard k : ℕ) (f : ServedShard → ServedShard) (ss : List ServedShard) (after : ServedShard) → KeepsLog f
+    → served_at k (changed_at shard f ss) ≡ Some after
     → Changed f k shard ss after ⊎ (served_at k ss ≡ Some after)
 changed_cases shard k f ss after keeps h = elim (cases_Bool (k == shard)) [
   | inl on ↦ (
@@ -69,7 +73,8 @@ changed_some shard k f ss s keeps h = elim (cases_Bool (k == shard)) [
   | inl on ↦ (
       let here : k ≡ shard = eqb-true k shard on in
       let at : served_at shard ss ≡ Some s = subst (λ n. served_at n ss ≡ Some s) here h in
-      let there : served_at k (changed_at shard f ss) ≡ Some (f s) = subst (λ n. served_at n (changed_at shard f ss) ≡ Some (f s)) (sym here) (changed_there shard f keeps.shard ss ∙ ap (option_map f) at) in
+      let there : served_at k (changed_at shard f ss) ≡ Some (f s) =
+          subst (λ n. served_at n (changed_at shard f ss) ≡ Some (f s)) (sym here) (changed_there shard f keeps.shard ss ∙ ap (option_map f) at) in
       (f s, there, keeps.log s))
   | inr off ↦ (s, changed_elsewhere shard k f keeps.shard off ss ∙ h, refl)
 ]
@@ -82,7 +87,8 @@ changed_served shard k f ss keeps served = by_option (served_at k ss) refl serve
     by_option (Some s) is some = let r = changed_some shard k f ss s keeps is in some_is (served_at k (changed_at shard f ss)) r.0 r.1
 
 -- what is had of a shard afterwards is of a log that was had of it before
-pub changed_back : (shard k : ℕ) (f : ServedShard → ServedShard) (ss : List ServedShard) (after : ServedShard) → KeepsLog f → served_at k (changed_at shard f ss) ≡ Some after
+pub changed_back : (shard k : ℕ) (f : ServedShard → ServedShard) (ss : List ServedShard) (after : ServedShard) → KeepsLog f
+    → served_at k (changed_at shard f ss) ≡ Some after
     → (before : ServedShard) × (served_at k ss ≡ Some before) × (after.view.log ≡ before.view.log)
 changed_back shard k f ss after keeps h = elim (changed_cases shard k f ss after keeps h) [
   | inl c ↦ (c.before, ap (λ n. served_at n ss) c.here ∙ c.was, ap (λ (s : ServedShard). s.view.log) c.is ∙ keeps.log c.before)
@@ -90,7 +96,8 @@ changed_back shard k f ss after keeps h = elim (changed_cases shard k f ss after
 ]
 
 -- logs that are told alike stay so
-pub alike_stays : (ss after : List ServedShard) → ((k : ℕ) (s : ServedShard) → served_at k after ≡ Some s → (before : ServedShard) × (served_at k ss ≡ Some before) × (s.view.log ≡ before.view.log))
+pub alike_stays : (ss after : List ServedShard)
+    → ((k : ℕ) (s : ServedShard) → served_at k after ≡ Some s → (before : ServedShard) × (served_at k ss ≡ Some before) × (s.view.log ≡ before.view.log))
     → AreAlike ss → AreAlike after
 alike_stays ss after back alike i j s t at_s at_t =
     let a = back i s at_s in

@@ -1,5 +1,6 @@
 -- A node that takes all changesets of an entry stays true of its logs, whether it marks the entry's position or not.
-use Rattle.std.proofs.Common.{◌≡◌, ℕ, ◌+◌, ◌-◌, ◌<◌, ◌≤◌, ◌^◌, true, cond, List, [], ◌∷◌, length, map, Option, Some, None, refl, sym, ◌∙◌, ap, subst, inl, inr, arith}
+use Rattle.std.proofs.Common.{◌≡◌, ℕ, ◌+◌, ◌-◌, ◌<◌, ◌≤◌, ◌^◌, true, cond, List, [], ◌∷◌, length, map, Option, Some, None, refl, sym, ◌∙◌, ap, subst, inl, inr}
+use Rattle.std.proofs.Common.{arith}
 use Rattle.std.proofs.lemmas.Bool.{both_ways, cases_Bool}
 use Rattle.std.proofs.lemmas.List.Elements.{All-contains, All-contains_itself, All-weaker, recursion_from_All}
 use Rattle.std.proofs.lemmas.List.Sums.{count_by-le-length}
@@ -45,16 +46,20 @@ record Rises (old : Items) (c : SeenChange) (key : Key) (item : Item) : Type 0 w
   reaches : same_key key c.key ≡ true → c.after ≤ item.version
 
 -- what is held after a value was set at a key that is held
-after_set : (items : Items) (key : Key) (new : Item) (q : Key) → IsSome (item_at items key) → item_at (set_value (same_key key) items new) q ≡ cond (same_key key q) (Some new) (item_at items q)
+after_set : (items : Items) (key : Key) (new : Item) (q : Key) → IsSome (item_at items key)
+    → item_at (set_value (same_key key) items new) q ≡ cond (same_key key q) (Some new) (item_at items q)
 after_set items key new q some = lookup-set_value key_laws (same_key key) (λ x y h. ap (λ k. same_key k y) (same_key-same key x h)) q new items some
 
 -- where nothing changed
-same_rises : (old : Items) (c : SeenChange) (key : Key) (item : Item) → ((other : Item) → item_at old c.key ≡ Some other → c.after ≤ other.version) → item_at old key ≡ Some item → Rises old c key item
+same_rises : (old : Items) (c : SeenChange) (key : Key) (item : Item) → ((other : Item) → item_at old c.key ≡ Some other → c.after ≤ other.version)
+    → item_at old key ≡ Some item → Rises old c key item
 same_rises old c key item high held =
-    record { was = item; held = held; rises = omega arith; reaches = λ on. high item (subst (λ k. item_at old k ≡ Some item) (same_key-same key c.key on) held) }
+    record { was = item; held = held; rises = omega arith;
+        reaches = λ on. high item (subst (λ k. item_at old k ≡ Some item) (same_key-same key c.key on) held) }
 
 -- where the item of the key took the change
-set_rises : (old : Items) (c : SeenChange) (was new : Item) (key : Key) (item : Item) → item_at old c.key ≡ Some was → was.version ≤ c.after → new.version ≡ c.after
+set_rises : (old : Items) (c : SeenChange) (was new : Item) (key : Key) (item : Item) → item_at old c.key ≡ Some was → was.version ≤ c.after
+    → new.version ≡ c.after
     → item_at (set_value (same_key c.key) old new) key ≡ Some item → Rises old c key item
 set_rises old c was new key item some up version h =
     let found : cond (same_key c.key key) (Some new) (item_at old key) ≡ Some item = sym (after_set old c.key new key (rw some refl)) ∙ h in
@@ -63,7 +68,8 @@ set_rises old c was new key item some up version h =
           let e : Some new ≡ Some item = rw on at found in
           let same : new ≡ item = cc in
           let high : item.version ≡ c.after = ap (λ (i : Item). i.version) (sym same) ∙ version in
-          record { was = was; held = subst (λ k. item_at old k ≡ Some was) (same_key-same c.key key on) some; rises = omega arith; reaches = λ same. omega arith })
+          record { was = was; held = subst (λ k. item_at old k ≡ Some was) (same_key-same c.key key on) some; rises = omega arith;
+              reaches = λ same. omega arith })
       | inr off ↦ record {
         was = item;
         held = rw off at found;
@@ -72,14 +78,17 @@ set_rises old c was new key item some up version h =
       }
     ]
 
-change_rises : (bound : ℕ) (old new : Items) (c : SeenChange) (key : Key) (item : Item) → IsDistinct same_key (keys_held old) → c.after ≡ c.before + 1 → TakesChange bound (item_at old c.key) c old new
+change_rises : (bound : ℕ) (old new : Items) (c : SeenChange) (key : Key) (item : Item) → IsDistinct same_key (keys_held old) → c.after ≡ c.before + 1
+    → TakesChange bound (item_at old c.key) c old new
     → item_at new key ≡ Some item → Rises old c key item
 change_rises bound old new c key item distinct next takes h = by_item (item_at old c.key) refl takes
   where
     by_item : (o : Option Item) → item_at old c.key ≡ o → TakesChange bound o c old new → Rises old c key item
-    by_item None none same = same_rises old c key item (λ other is. absurd (let e : None ≡ Some other = sym none ∙ is in cc)) (subst (λ xs. item_at xs key ≡ Some item) same h)
+    by_item None none same =
+        same_rises old c key item (λ other is. absurd (let e : None ≡ Some other = sym none ∙ is in cc)) (subst (λ xs. item_at xs key ≡ Some item) same h)
     by_item (Some was) some (inl stays) =
-        same_rises old c key item (λ other is. (let e : Some was ≡ Some other = sym some ∙ is in let i : was ≡ other = cc in subst (λ x. c.after ≤ x.version) i stays.0))
+        same_rises old c key item (λ other is. (let e : Some was ≡ Some other = sym some ∙ is in let i : was ≡ other = cc in subst (λ x. c.after ≤ x.version) i
+            stays.0))
         (subst (λ xs. item_at xs key ≡ Some item) stays.1 h)
     by_item (Some was) some (inr (inr goes)) =
         let left : item_at (without c.key old) key ≡ Some item = subst (λ xs. item_at xs key ≡ Some item) goes.1 h in
@@ -90,10 +99,12 @@ change_rises bound old new c key item distinct next takes h = by_item (item_at o
           reaches = λ on. absurd (held_gone c.key key old item distinct on left);
         }
     by_item (Some was) some (inr (inl takes)) =
-        set_rises old c was (changed_item was c.change c.after bound) key item some (let same = takes.0 in omega arith) refl (subst (λ xs. item_at xs key ≡ Some item) takes.1 h)
+        set_rises old c was (changed_item was c.change c.after bound) key item some (let same = takes.0 in omega arith) refl
+            (subst (λ xs. item_at xs key ≡ Some item) takes.1 h)
 
 -- no key is held twice after a changeset
-pub distinct_change : (bound : ℕ) (old new : Items) (c : SeenChange) → IsDistinct same_key (keys_held old) → TakesChange bound (item_at old c.key) c old new → IsDistinct same_key (keys_held new)
+pub distinct_change : (bound : ℕ) (old new : Items) (c : SeenChange) → IsDistinct same_key (keys_held old) → TakesChange bound (item_at old c.key) c old new
+    → IsDistinct same_key (keys_held new)
 distinct_change bound old new c distinct takes = by_item (item_at old c.key) takes
   where
     by_item : (o : Option Item) → TakesChange bound o c old new → IsDistinct same_key (keys_held new)
@@ -111,7 +122,8 @@ record RisesBy (old : Items) (ts : List Touch) (key : Key) (item : Item) : Type 
   rises : was.version ≤ item.version
   reaches : (v : ℕ) → version_among (map key_version ts) key ≡ Some v → v ≤ item.version
 
-touches_rise : (types : EdgeTypes) (note : View) (ts : List Touch) (old new : Items) (key : Key) (item : Item) → IsDistinct same_key (keys_held old) → TakesTouches types note ts old new
+touches_rise : (types : EdgeTypes) (note : View) (ts : List Touch) (old new : Items) (key : Key) (item : Item) → IsDistinct same_key (keys_held old)
+    → TakesTouches types note ts old new
     → item_at new key ≡ Some item → RisesBy old ts key item
 touches_rise types note [] old new key item distinct same h =
     record { was = item; held = subst (λ xs. item_at xs key ≡ Some item) same h; rises = omega arith; reaches = λ v none. absurd (cc) }
@@ -136,7 +148,8 @@ touches_rise types note (t ∷ ts) old new key item distinct takes h =
 -- a touch that each served log of its key's shard has, whose version has 64 bits
 abbrev IsSeenBy : View → List ServedShard → Touch → Type 0
 IsSeenBy note served t =
-    (s : ServedShard) → AreTold served → served_at (key_shard t.key) served ≡ Some s → IsTouchOf s.view.entries (own_touch (change_by t note)) × ((change_by t note).after < 2 ^ 64)
+    (s : ServedShard) → AreTold served → served_at (key_shard t.key) served ≡ Some s → IsTouchOf s.view.entries (own_touch (change_by t note))
+    × ((change_by t note).after < 2 ^ 64)
 
 -- the items took the changesets of some touches
 touches_are_true : (types : EdgeTypes) (note : View) (ts : List Touch) (n : Node) (items : Items) → IsDistinct same_key (keys_held n.items) → IsTrueNode n
@@ -149,11 +162,13 @@ touches_are_true types note (t ∷ ts) n items distinct is seen takes =
     touches_are_true types note ts (record n { items = takes.0 }) items (distinct_change bound n.items takes.0 c distinct takes.1) one seen.1 takes.2
 
 -- the touches of an entry that a note has seen
-touches_seen : (shard : ℕ) (e : Entry) (note : View) (m : List ServedShard) (s : ServedShard) → served_at shard m ≡ Some s → Grows note s.view → (AreTold m → note.log.told ≡ true)
+touches_seen : (shard : ℕ) (e : Entry) (note : View) (m : List ServedShard) (s : ServedShard) → served_at shard m ≡ Some s → Grows note s.view
+    → (AreTold m → note.log.told ≡ true)
     → length note.entries ≤ most_entries → WhereTold note.log.told (IsSound note.entries) → WhereTold note.log.told (entry_at note.entries e.position ≡ Some e)
     → WhereTold note.log.told (All (λ t. key_shard t.key ≡ shard) e.touches) → AllByRecursion (IsSeenBy note m) e.touches
 touches_seen shard e note m s at grows on few sound stands here =
-    recursion_from_All (IsSeenBy note m) e.touches (All-weaker (Contains e.touches) (IsSeenBy note m) (λ t in_touches. seen t in_touches) e.touches (All-contains_itself e.touches))
+    recursion_from_All (IsSeenBy note m) e.touches
+        (All-weaker (Contains e.touches) (IsSeenBy note m) (λ t in_touches. seen t in_touches) e.touches (All-contains_itself e.touches))
   where
     seen : (t : Touch) → Contains e.touches t → IsSeenBy note m t
     seen t in_touches other told there =
@@ -173,7 +188,8 @@ touches_seen shard e note m s at grows on few sound stands here =
 -- a node met the note of an entry that its log has, and its items took the changesets of the entry
 module _ (types : EdgeTypes) (old new : Node) (shard : ℕ) (e : Entry) (note : View) (distinct : IsDistinct same_key (keys_held old.items)) (is : IsTrueNode old)
     (log : log_at shard old.served ≡ Some note.log) (few : length note.entries ≤ most_entries) (sound : WhereTold note.log.told (IsSound note.entries))
-    (stands : WhereTold note.log.told (entry_at note.entries e.position ≡ Some e)) (here : WhereTold note.log.told (All (λ t. key_shard t.key ≡ shard) e.touches))
+    (stands : WhereTold note.log.told (entry_at note.entries e.position ≡ Some e))
+        (here : WhereTold note.log.told (All (λ t. key_shard t.key ≡ shard) e.touches))
     (meets : MeetsAt shard note old.served) (takes : TakesTouches types note e.touches old.items new.items) where
   -- what was had of the shard
   was : (s : ServedShard) × (served_at shard old.served ≡ Some s) × (s.view.log ≡ note.log)

@@ -28,11 +28,13 @@ use Rattle.cache_items.specs.declared.item.Item.{Item}
 -- what is had of a shard after a change of it is true where it was
 pub record Step (n : Node) (shard : ℕ) (s after : ServedShard) : Type 0 where
   pub served : IsTrueServed s → IsTrueServed after
-  pub items : (key : Key) (item : Item) → key_shard key ≡ shard → item_at n.items key ≡ Some item → IsTrueServed s → IsTrueItem s key item → IsTrueItem after key item
+  pub items : (key : Key) (item : Item) → key_shard key ≡ shard → item_at n.items key ≡ Some item → IsTrueServed s → IsTrueItem s key item
+      → IsTrueItem after key item
   pub asks : (a : Ask) → key_shard a.key ≡ shard → IsIn a n.asks.asks → IsTrueServed s → IsTrueAsk s a → IsTrueAsk after a
 
 pub change_served : (n : Node) (shard : ℕ) (f : ServedShard → ServedShard) → KeepsLog f → IsTrueNode n
-    → ((s : ServedShard) → served_at shard n.served ≡ Some s → s.view.log.told ≡ true → Step n shard s (f s)) → IsTrueNode (record n { served = changed_at shard f n.served })
+    → ((s : ServedShard) → served_at shard n.served ≡ Some s → s.view.log.told ≡ true → Step n shard s (f s))
+    → IsTrueNode (record n { served = changed_at shard f n.served })
 change_served n shard f keeps is step = record {
   items_here = λ key item h. changed_served shard (key_shard key) f n.served keeps (is.items_here key item h);
   asks_here = all_weaker (λ a. IsServed n.served (key_shard a.key)) (λ a. IsServed (changed_at shard f n.served) (key_shard a.key))
@@ -50,25 +52,30 @@ change_served n shard f keeps is step = record {
           | inl c ↦ (
               let there : served_at (key_shard key) n.served ≡ Some c.before = ap (λ k. served_at k n.served) c.here ∙ c.was in
               subst (λ s. IsTrueItem s key item) (sym c.is)
-              ((step c.before c.was (before shard c.before c.was)).items key item c.here h (was.served shard c.before c.was) (was.items key item c.before h there)))
+              ((step c.before c.was (before shard c.before c.was)).items key item c.here h (was.served shard c.before c.was)
+                  (was.items key item c.before h there)))
           | inr same ↦ was.items key item after h same
         ];
-        asks = all_from_in (IsTrueAskOf (changed_at shard f n.served)) n.asks.asks (λ a here after at. elim (changed_cases shard (key_shard a.key) f n.served after keeps at) [
+        asks = all_from_in (IsTrueAskOf (changed_at shard f n.served)) n.asks.asks
+            (λ a here after at. elim (changed_cases shard (key_shard a.key) f n.served after keeps at) [
           | inl c ↦ (
               let there : served_at (key_shard a.key) n.served ≡ Some c.before = ap (λ k. served_at k n.served) c.here ∙ c.was in
               subst (λ s. IsTrueAsk s a) (sym c.is)
-              ((step c.before c.was (before shard c.before c.was)).asks a c.here here (was.served shard c.before c.was) (all_in (IsTrueAskOf n.served) n.asks.asks a was.asks here c.before there)))
+              ((step c.before c.was (before shard c.before c.was)).asks a c.here here (was.served shard c.before c.was)
+                  (all_in (IsTrueAskOf n.served) n.asks.asks a was.asks here c.before there)))
           | inr same ↦ all_in (IsTrueAskOf n.served) n.asks.asks a was.asks here after same
         ]);
       };
 }
 
 -- a position within a view touches a key in what it grew into as it does in it
-pub touched_back : (v w : View) (p : ℕ) (key : Key) (x : ℕ) → Grows v w → p ≤ length v.entries → touched w.entries p key ≡ Some x → touched v.entries p key ≡ Some x
+pub touched_back : (v w : View) (p : ℕ) (key : Key) (x : ℕ) → Grows v w → p ≤ length v.entries → touched w.entries p key ≡ Some x
+    → touched v.entries p key ≡ Some x
 touched_back v w zero key x grows le h = h
 touched_back v w (suc m) key x grows le h = by_place (slice_get_cases v.entries m).1
   where
-    by_place : ((e : Entry) × (m < length v.entries) × (slice_get v.entries m ≡ Some e) × (get_or v.entries m e ≡ e)) ⊎ ((length v.entries ≤ m) × (slice_get v.entries m ≡ None)) → touched v.entries (suc m) key ≡ Some x
+    by_place : ((e : Entry) × (m < length v.entries) × (slice_get v.entries m ≡ Some e) × (get_or v.entries m e ≡ e))
+        ⊎ ((length v.entries ≤ m) × (slice_get v.entries m ≡ None)) → touched v.entries (suc m) key ≡ Some x
     by_place (inr past) = absurd (let out = past.0 in omega arith)
     by_place (inl here) =
         let there : slice_get w.entries m ≡ Some here.0 = entry_stays v w (suc m) here.0 grows here.2 in
@@ -135,7 +142,8 @@ marked_by m position q on = elim (or_cases (is_marked m q) (q == position && nat
 -- what a position has to say before it is marked: it is within the log, and items and asks have its touches
 pub record CanMark (n : Node) (shard position : ℕ) (s : ServedShard) : Type 0 where
   pub within : position ≤ length s.view.entries
-  pub items : (key : Key) (item : Item) (v : ℕ) → key_shard key ≡ shard → item_at n.items key ≡ Some item → touched s.view.entries position key ≡ Some v → v ≤ item.version
+  pub items : (key : Key) (item : Item) (v : ℕ) → key_shard key ≡ shard → item_at n.items key ≡ Some item → touched s.view.entries position key ≡ Some v
+      → v ≤ item.version
   pub asks : (a : Ask) (v : ℕ) → key_shard a.key ≡ shard → IsIn a n.asks.asks → touched s.view.entries position a.key ≡ Some v → v ≤ a.floor
 
 marking_step : (n : Node) (shard position : ℕ) (s : ServedShard) → CanMark n shard position s → Step n shard s (marking position s)
@@ -166,8 +174,10 @@ marking_step n shard position s can = record {
 
 -- a position was marked
 pub marked_is_true : (n : Node) (shard position : ℕ) → IsTrueNode n
-    → ((s : ServedShard) → served_at shard n.served ≡ Some s → s.view.log.told ≡ true → CanMark n shard position s) → IsTrueNode (record n { served = changed_at shard (marking position) n.served })
-marked_is_true n shard position is can = change_served n shard (marking position) (marking_keeps position) is (λ s at told. marking_step n shard position s (can s at told))
+    → ((s : ServedShard) → served_at shard n.served ≡ Some s → s.view.log.told ≡ true → CanMark n shard position s)
+    → IsTrueNode (record n { served = changed_at shard (marking position) n.served })
+marked_is_true n shard position is can =
+    change_served n shard (marking position) (marking_keeps position) is (λ s at told. marking_step n shard position s (can s at told))
 
 -- items were dropped, or changed their order
 pub fewer_is_true : (n : Node) (items : Items) → IsTrueNode n → AreFewer n.items items → IsTrueNode (record n { items = items })

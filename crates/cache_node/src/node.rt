@@ -1,5 +1,6 @@
 //! `CacheNode`.
-ghost use Rattle.std.specs.Prelude.{◌≡◌, ◌↔◌, ◌+◌, ◌-◌, ◌≤◌, ℕ, [], All, Some, if◌then◌else◌, drop, is_some, length, option_copied, take, true, IfNone, IfOk, IfSome, IsNone, IsSome, IsTrue, OnErr, OnSome};
+ghost use Rattle.std.specs.Prelude.{◌≡◌, ◌↔◌, ◌+◌, ◌-◌, ◌≤◌, ℕ, [], All, Some, if◌then◌else◌, drop, is_some, length, option_copied, take, true, IfNone, IfOk};
+ghost use Rattle.std.specs.Prelude.{IfSome, IsNone, IsSome, IsTrue, OnErr, OnSome};
 ghost use Rattle.std.specs.List.{IsDistinct};
 ghost use Rattle.std.specs.Map.{keys_of as keys_held};
 ghost use Rattle.lru.specs.LruCache.{last_entry, promoted};
@@ -11,7 +12,8 @@ ghost use Rattle.tao_schema.specs.Schema.{types_of};
 ghost use Rattle.cache_node.specs.Answered.{LookAnswers, ViewAnswers};
 ghost use Rattle.cache_items.specs.Delivered.{AreSome, dropped_lists};
 ghost use Rattle.served_shards.specs.Begun.{AreNotesOf, AreReached, AreToldAlike, begun_at};
-ghost use Rattle.cache_items.specs.Node.{empty_node, emptied, caught_up, delivered, drop_count, with_ended_ask, item_at, met, with_opened_ask, without, without_last};
+ghost use Rattle.cache_items.specs.Node.{empty_node, emptied, caught_up, delivered, drop_count, with_ended_ask, item_at, met, with_opened_ask, without};
+ghost use Rattle.cache_items.specs.Node.{without_last};
 ghost use Rattle.cache_items.specs.HandedOn.{HandsOn, handed_on, with_copy};
 ghost use Rattle.cache_items.specs.Kept.{GivesKept, ask_at, kept_of, own_kept_of, took};
 ghost use Rattle.sealed_item.specs.Decided.{content_answer, content_decides};

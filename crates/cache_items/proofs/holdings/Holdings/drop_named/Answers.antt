@@ -16,10 +16,13 @@ loop-touched-preserved c =
     let k = c.touched-item.result in
     record {
       few = (let one = c.drop_stale-count.ensures.one in let few = c.loop-touched.invariant.few in omega arith);
-      counted = counted_step items c.drop_stale-count.new.self.items keys i k c.loop-touched-test.true c.touched-item.is left c.loop-touched.count c.drop_stale-count.result (drop_count c.args.self.now.items keys)
+      counted = counted_step items c.drop_stale-count.new.self.items keys i k c.loop-touched-test.true c.touched-item.is left c.loop-touched.count
+          c.drop_stale-count.result (drop_count c.args.self.now.items keys)
           c.drop_stale-count.ensures.stale c.loop-touched.invariant.counted;
-      rest = rest_step items c.drop_stale-count.new.self.items keys i k c.loop-touched-test.true c.touched-item.is left (dropped c.args.self.now.items keys) c.loop-touched.invariant.rest;
+      rest = rest_step items c.drop_stale-count.new.self.items keys i k c.loop-touched-test.true c.touched-item.is left
+          (dropped c.args.self.now.items keys) c.loop-touched.invariant.rest;
       others = search rules;
-      rows = rows_step items c.drop_stale-count.new.self.items keys i k c.loop-touched-test.true c.touched-item.is left c.loop-touched.rows c.drop_stale-count.new.rows (dropped_lists c.args.self.now.items keys)
+      rows = rows_step items c.drop_stale-count.new.self.items keys i k c.loop-touched-test.true c.touched-item.is left c.loop-touched.rows
+          c.drop_stale-count.new.rows (dropped_lists c.args.self.now.items keys)
           c.drop_stale-count.ensures.rows c.loop-touched.invariant.rows;
     }

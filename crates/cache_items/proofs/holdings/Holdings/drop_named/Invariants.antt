@@ -11,5 +11,6 @@ invariant-loop-touched l = record {
   counted : l.count + drop_count l.self.items (drop l.touched-index l.keys) ≡ drop_count l.initial.self.items l.keys;
   rest : dropped l.self.items (drop l.touched-index l.keys) ≡ dropped l.initial.self.items l.keys;
   others : l.self ≡ record l.initial.self { items = l.self.items };
-  rows : (more : List DroppedList) → AreSome more (dropped_lists l.self.items (drop l.touched-index l.keys)) → AreSome (l.rows ++ more) (dropped_lists l.initial.self.items l.keys);
+  rows : (more : List DroppedList) → AreSome more (dropped_lists l.self.items (drop l.touched-index l.keys))
+  → AreSome (l.rows ++ more) (dropped_lists l.initial.self.items l.keys);
 }

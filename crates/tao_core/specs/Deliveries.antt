@@ -38,6 +38,7 @@ use Rattle.tao_base.specs.declared.id.Key.{Key}
 use Rattle.tao_keeper.specs.KeeperState.{KeeperState}
 use Rattle.tao_schema.specs.Schema.{types_of}
 use Rattle.topology.specs.Choices.{preferred_leader}
+use Rattle.words.specs.declared.DeliveryWord.{DeliveryWord}
 use Rattle.words.specs.declared.DeliveryWord.TheVariants as word
 use Rattle.tao_core.specs.Core.{CoreState, Moment}
 
@@ -49,21 +50,26 @@ pub record Processes (node : NodeName) (message : SeenMaint) (reply : DeliveredR
   pub mark : IsMarkAt new.fleet node message.shard (Some reply.mark)
   pub message_is : reply.message ≡ shown_message message
 
+-- the reply that a message was processed, for the word that asked for it
+abbrev pub IsProcessed : DeliveryWord → NodeName → SeenMaint → CoreState → Reply → CoreState → Type 0
+IsProcessed asked node message old (Node (Cache (Delivered reply))) new = (reply.word ≡ asked) × Processes node message reply old new
+IsProcessed asked node message old reply new = ⊥
+
 -- no message waits at the place, and nothing changed
 abbrev pub FindsNone : NodeName → ℕ → ℕ → CoreState → CoreState → Type 0
 FindsNone node place told old new = (told ≡ place) × WaitsAt node place None old.mail × (new ≡ old)
 
 -- the message at a place of the node's inbox was taken out and processed
 abbrev pub AnswersDeliver : NodeName → ℕ → CoreState → Reply → CoreState → Type 0
-AnswersDeliver node place old (Node (Cache (Delivered reply))) new = (reply.word ≡ word.Deliver)
-    × (message : SeenMaint) × ChangesNode node (TakesOut place (Some message)) old.mail new.mail × Processes node message reply old new
+AnswersDeliver node place old (Node reply) new = (message : SeenMaint) × ChangesNode node (TakesOut place (Some message)) old.mail new.mail
+    × IsProcessed word.Deliver node message old (Node reply) new
 AnswersDeliver node place old (Refused (OfNode (NoMessage told))) new = FindsNone node place told old new
 AnswersDeliver node place old reply new = ⊥
 
 -- it was processed, and still waits where it was
 abbrev pub AnswersSecond : NodeName → ℕ → CoreState → Reply → CoreState → Type 0
-AnswersSecond node place old (Node (Cache (Delivered reply))) new = (reply.word ≡ word.Again)
-    × (message : SeenMaint) × WaitsAt node place (Some message) old.mail × (new.mail ≡ old.mail) × Processes node message reply old new
+AnswersSecond node place old (Node reply) new = (message : SeenMaint) × WaitsAt node place (Some message) old.mail × (new.mail ≡ old.mail)
+    × IsProcessed word.Again node message old (Node reply) new
 AnswersSecond node place old (Refused (OfNode (NoMessage told))) new = FindsNone node place told old new
 AnswersSecond node place old (Refused (Memory position)) new = (position ≡ 0) × (new ≡ old)
 AnswersSecond node place old reply new = ⊥

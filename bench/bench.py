@@ -6,11 +6,16 @@ usage: bench.py TAO [YARDSTICK]
 TAO is the built program (crates/tao/out/tao once ./tao was run), YARDSTICK that of bench/yardstick.
 Prints the lines that a second takes of 20,000 mixed calls, what a call costs as the log of its shard
 grows, beside what the same tables take in sqlite3 in memory, what an edge costs that a range goes past,
-what adds and ranges take over a file beside sqlite3's own, and, with a yardstick, the ratio of the
-times on one script of ranges (below 1 TAO is faster).
+what adds and ranges take over a file beside sqlite3's own, and, with a yardstick, what reads take that
+the follower answers of what it holds, as ratios to the yardstick's time on the same script (below 1 TAO
+is faster), and where it goes.
+
+Those ratios are of processor time, which other work on the machine changes least: the least of some runs,
+ours and the yardstick's in turn.
 """
 import json
 import os
+import resource
 import sqlite3
 import subprocess
 import sys
@@ -105,6 +110,36 @@ def missed_ranges(count, place=0):
     yield from (pair + list(ranges(1, place))) * count
 
 
+ASKED = dict(session=1, id1=1, atype="likes")
+RANGE = dict(do="assoc_range", **ASKED, pos=0, limit=10)
+
+# Reads that the follower answers of what it holds, once the first of them, or a range, was kept there.
+HELD = {
+    "ranges of ten edges": RANGE,
+    "ranges of one edge": dict(RANGE, limit=1),
+    "time ranges of ten edges": dict(do="assoc_time_range", **ASKED, high=100, low=0, limit=10),
+    "gets of five ids": dict(do="assoc_get", **ASKED, ids=[2, 4, 6, 8, 10]),
+    "counts": dict(do="assoc_count", **ASKED),
+    "objects": dict(do="obj_get", session=1, id=1),
+}
+
+# A range's line that is refused ever later, or answers with no edge: what each takes more than the one before it
+# is a step's. Each has a short reply but the last.
+STEPS = {
+    "the line, read as JSON, and its word": dict(RANGE, session="1"),
+    "its fields": dict(RANGE, session=2),
+    "its session and names": dict(RANGE, atype="lakes"),
+    "the node and its item, and the reply's ends": dict(RANGE, pos=10),
+    "ten edges, copied and spelled": RANGE,
+}
+
+
+def repeated(call, count):
+    """The script of one line many times, after an object, ten edges and a range that the follower keeps."""
+    added = line(do="obj_add", session=1, seq=11, shard=0, otype="user", data={"name": "Ann"})
+    return script(front(1), adds(10), [added], ranges(1), [line(**call)] * count)
+
+
 def script(*parts):
     return "".join(one + "\n" for part in parts for one in part).encode()
 
@@ -116,6 +151,24 @@ def best(command, data):
         subprocess.run(command, input=data, stdout=subprocess.DEVNULL, check=True)
         times.append(time.perf_counter() - start)
     return min(times)
+
+
+def processor_time(command, file):
+    """Seconds that a run took of a processor, by itself and in calls of the system."""
+    file.seek(0)
+    before = resource.getrusage(resource.RUSAGE_CHILDREN)
+    subprocess.run(command, stdin=file, stdout=subprocess.DEVNULL, check=True)
+    after = resource.getrusage(resource.RUSAGE_CHILDREN)
+    return after.ru_utime - before.ru_utime, after.ru_stime - before.ru_stime
+
+
+def in_turn(commands, data, rounds=5):
+    """The least times of the commands' own work on the same input, and of their calls of the system's."""
+    with tempfile.TemporaryFile() as file:
+        file.write(data)
+        file.flush()
+        times = [[processor_time(command, file) for command in commands] for _ in range(rounds)]
+    return [tuple(min(one) for one in zip(*run)) for run in zip(*times)]
 
 
 TABLES = """
@@ -204,6 +257,21 @@ def over_file(tao, length, asked):
     )
 
 
+def over_yardstick(tao, yardstick, lines):
+    """Prints what held reads take beside the yardstick, and the steps of a range."""
+    for name, call in HELD.items():
+        (own, system), (their_own, their_system) = in_turn([tao, yardstick], repeated(call, lines))
+        print(
+            f"{lines:,} {name} that the follower holds: {own / their_own:.2f} of the yardstick's own time,"
+            f" {(own + system) / (their_own + their_system):.2f} with the system's; {own / lines * 1e6:.2f} microseconds"
+        )
+    before = 0
+    for name, call in STEPS.items():
+        ((own, _),) = in_turn([tao], repeated(call, lines))
+        print(f"of a range, {name}: {(own - before) / lines * 1e6:.2f} microseconds")
+        before = own
+
+
 def main():
     tao = [sys.argv[1], "run"]
     calls = 20_000
@@ -225,10 +293,7 @@ def main():
     far_down(tao, 65_536, 500)
     over_file(tao, 4_000, 20_000)
     if len(sys.argv) > 2:
-        lines = 100_000
-        data = script(front(1), adds(10), ranges(lines))
-        ours, theirs = best(tao, data), best([sys.argv[2]], data)
-        print(f"{lines:,} ranges of ten edges that the follower holds: {ours / theirs:.2f} of the yardstick's time")
+        over_yardstick(tao, [sys.argv[2]], 200_000)
 
 
 if __name__ == "__main__":

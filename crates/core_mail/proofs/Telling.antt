@@ -1,0 +1,82 @@
+-- One follower of a region after another is told of an entry.
+use Rattle.std.proofs.Common.{◌≡◌, ℕ, suc, ◌+◌, ◌-◌, ◌<◌, ◌≤◌, true, false, List, [], ◌∷◌, ◌++◌, map, refl, ap, sym, ◌∙◌, subst, arith}
+use Rattle.std.proofs.lemmas.Bool.{and_parts}
+use Rattle.std.proofs.lemmas.List.{append-nil}
+use Rattle.std.proofs.lemmas.List.Elements.{Contains-append_right}
+use Rattle.std.specs.List.{range_with_len}
+use Rattle.std.specs.Prelude.{Contains, filter, min}
+use Rattle.maint_msg.specs.Inbox.{IsSent}
+use Rattle.maint_msg.specs.Maints.{SeenMaint}
+use Rattle.node_name.specs.declared.NodeName.{NodeName}
+use Rattle.node_name.specs.declared.NodeName.TheVariants.{Follower}
+use Rattle.topology.specs.Choices.{serving_follower}
+use Rattle.topology.specs.Config.{Settings}
+use Rattle.topology.specs.Counts.{NodeCounts, tier_count}
+use Rattle.topology.specs.States.{NodeStates, is_cache, is_up}
+use Rattle.core_model.specs.Fleet.{ChangesNode, HasNode, follower_names, leader_names, names_of, regions_of}
+use Rattle.core_model.specs.Messages.{told_of}
+use Rattle.core_model.proofs.Turns.{named_follower}
+use Rattle.core_mail.specs.Inboxes.{Inboxes, Sends, cache_names}
+
+-- who is told, from a tier on
+abbrev pub told_from : NodeStates → ℕ → ℕ → ℕ → ℕ → List NodeName
+told_from states region shard tier count =
+    filter (is_up states) (map (λ t. serving_follower states.regions region t shard) (range_with_len tier (count - tier)))
+
+-- what is sent from a tier on, after what was sent before, comes to the whole
+abbrev pub SendsRest : NodeStates → ℕ → ℕ → SeenMaint → ℕ → Inboxes → Inboxes → Type 0
+SendsRest states region shard m tier start now =
+    (new : Inboxes) → Sends (told_from states region shard tier (tier_count states.regions region)) m now new
+    → Sends (told_of states region shard) m start new
+
+module _ (states : NodeStates) (region shard : ℕ) (m : SeenMaint) where
+  abbrev count : ℕ
+  count = tier_count states.regions region
+
+  abbrev turn : ℕ → NodeName
+  turn tier = serving_follower states.regions region tier shard
+
+  abbrev told_at : List ℕ → List NodeName
+  told_at tiers = filter (is_up states) (map (λ t. serving_follower states.regions region t shard) tiers)
+
+  pub none_yet : (start : Inboxes) → SendsRest states region shard m 0 start start
+  none_yet start new sends =
+      let none : min 0 count ≡ 0 = omega arith in
+      let all : range_with_len 0 (count - 0) ++ range_with_len 0 (min 0 count) ≡ range_with_len 0 (count - 0) =
+      ap (λ n. range_with_len 0 (count - 0) ++ range_with_len 0 n) none ∙ append-nil (range_with_len 0 (count - 0)) in
+      subst (λ names. Sends names m start new) (sym (ap told_at all)) sends
+
+  next_tier : (tier : ℕ) → tier < count → range_with_len tier (count - tier) ≡ tier ∷ range_with_len (tier + 1) (count - (tier + 1))
+  next_tier tier lt = (let e : count - tier ≡ suc (count - (tier + 1)) = omega arith in ap (range_with_len tier) e)
+
+  pub one_told : (tier : ℕ) (start now after : Inboxes) → tier < count → is_up states (serving_follower states.regions region tier shard) ≡ true
+      → ChangesNode (serving_follower states.regions region tier shard) (IsSent m) now after → SendsRest states region shard m tier start now
+      → SendsRest states region shard m (tier + 1) start after
+  one_told tier start now after lt up change rest new later =
+      let next : told_at (range_with_len tier (count - tier)) ≡ turn tier ∷ told_at (range_with_len (tier + 1) (count - (tier + 1))) =
+      ap told_at (next_tier tier lt) ∙ rw up refl in
+      rest new (subst (λ names. Sends names m now new) (sym next) (after, change, later))
+
+  pub one_down : (tier : ℕ) (start now : Inboxes) → tier < count → is_up states (serving_follower states.regions region tier shard) ≡ false
+      → SendsRest states region shard m tier start now → SendsRest states region shard m (tier + 1) start now
+  one_down tier start now lt down rest new later =
+      let next : told_at (range_with_len tier (count - tier)) ≡ told_at (range_with_len (tier + 1) (count - (tier + 1))) =
+      ap told_at (next_tier tier lt) ∙ rw down refl in
+      rest new (subst (λ names. Sends names m now new) (sym next) later)
+
+  pub all_told : (tier : ℕ) (start now : Inboxes) → count ≤ tier → SendsRest states region shard m tier start now
+      → Sends (told_of states region shard) m start now
+  all_told tier start now past rest =
+      let none : count - tier ≡ 0 = omega arith in
+      rest now (subst (λ n. Sends (told_at (range_with_len tier n)) m now now) (sym none) refl)
+
+-- a follower that is up has an inbox
+pub told_there : (s : Settings) (states : NodeStates) (region tier shard : ℕ) (inboxes : Inboxes) → states.regions ≡ regions_of s
+    → names_of inboxes ≡ cache_names s → is_up states (serving_follower states.regions region tier shard) ≡ true
+    → HasNode (serving_follower states.regions region tier shard) inboxes
+told_there s states region tier shard inboxes own names up =
+    let name = serving_follower states.regions region tier shard in
+    let known : is_cache states.regions name ≡ true = (and_parts _ _ up).0 in
+    let there : Contains (follower_names s) name =
+    named_follower s region tier _ (subst (λ (rs : List NodeCounts). is_cache rs name ≡ true) own known) in
+    subst (λ ns. Contains ns name) (sym names) (Contains-append_right (leader_names s) (follower_names s) name there)

@@ -1,10 +1,11 @@
 -- What contracts see of a core.
-use Rattle.std.specs.Prelude.{◌≡◌, ◌<◌, List, Bool, All, length}
+use Rattle.std.specs.Prelude.{◌≡◌, ◌<◌, List, [], Bool, All, length}
 use Rattle.config_json.specs.Stage.{IsWithoutInverses}
-use Rattle.core_mail.specs.Inboxes.{AreInboxesOf, Inboxes}
+use Rattle.core_mail.specs.Inboxes.{AreEmpty, AreInboxesOf, Inboxes}
 use Rattle.core_model.specs.Consistent.{IsConsistent}
 use Rattle.core_model.specs.Fleet.{Fleet}
 use Rattle.core_model.specs.Pens.{pens_of}
+use Rattle.core_nodes.specs.Beginning.{IsEmptyFleet}
 use Rattle.tao_keeper.specs.KeeperState.{KeeperState}
 use Rattle.tao_keeper.specs.Table.{Tables}
 use Rattle.tao_link.specs.Shown.{LinkShown}
@@ -24,6 +25,12 @@ pub record CoreState : Type 0 where
 abbrev pub core_state : Inside → CoreState
 core_state core =
     record { settings = core.config.now; sessions = core.sessions; states = core.topology; fleet = core.fleet; mail = core.mail }
+
+-- no session is open, no node holds anything, and no message waits
+pub record IsNewCore (core : CoreState) : Type 0 where
+  pub sessions : core.sessions ≡ []
+  pub fleet : IsEmptyFleet core.fleet
+  pub mail : AreEmpty core.mail
 
 -- the session is of a region of the configuration
 abbrev pub IsPlacedIn : Settings → OpenSession → Type 0

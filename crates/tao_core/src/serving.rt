@@ -1,15 +1,13 @@
 //! The core.
-ghost use Rattle.std.specs.Prelude.{◌≡◌, [], Ok, IfOk, IfErr, None, Some, false, if◌then◌else◌, option_copied, true};
+ghost use Rattle.std.specs.Prelude.{◌≡◌, Ok, IfOk, IfErr, None, Some, false, if◌then◌else◌, option_copied, true};
 ghost use Rattle.config_json.specs.Stage.{IsWithoutInverses};
-ghost use Rattle.core_mail.specs.Inboxes.{AreEmpty};
-ghost use Rattle.core_nodes.specs.Beginning.{IsEmptyFleet};
 ghost use Rattle.core_nodes.specs.Shown.{IsHeldAt, IsMarkAt};
 ghost use Rattle.core_nodes.specs.Opening.{IsOpened, MayOpen, RefusesOpening};
 ghost use Rattle.graph_model.specs.Told.{WhereTold};
 ghost use Rattle.request_check.specs.Placed.{IsPlacedKey, IsPlacedWrite};
 ghost use Rattle.tao_base.specs.Queries.{query_key};
 ghost use Rattle.tao_core.specs.Asked.{CanBeDone, CallCanBeDone, reply_as};
-ghost use Rattle.tao_core.specs.Core.{IsCoreOf, moment};
+ghost use Rattle.tao_core.specs.Core.{IsCoreOf, IsNewCore, moment};
 ghost use Rattle.core_model.specs.Growing.{MastersGrow};
 ghost use Rattle.tao_core.specs.Calls.{AnswersRead, AnswersWrite};
 ghost use Rattle.core_model.specs.Consistent.{GoesOn, IsFleetOf};
@@ -81,9 +79,7 @@ impl<'c> Core<'c> {
         requires sound { WhereTold K.TELLS (MayOpen config.now line.now (K.state keepers.old).told) }
         requires no_inverse { IsWithoutInverses config.now }
         ensures settings { IfOk result (λ core. core.settings ≡ config.now) }
-        ensures sessions { IfOk result (λ core. core.sessions ≡ []) }
-        ensures empty { IfOk result (λ core. IsEmptyFleet core.fleet) }
-        ensures mail { IfOk result (λ core. AreEmpty core.mail) }
+        ensures begun { IfOk result IsNewCore }
         ensures opened { IfOk result (λ core. WhereTold K.TELLS (IsOpened config.now line.now (K.state keepers.old).told (K.state keepers.new).told)) }
         ensures keepers { IfOk result (λ core. IsCoreOf K.TELLS (K.state keepers.new).told core) }
         ensures refused { IfErr result (RefusesOpening K.TELLS config.now line.now (K.state keepers.old) (K.state keepers.new)) }

@@ -134,8 +134,8 @@ module _ (s : Settings) (pens : Pens) (name : NodeName) where
         } in
         let mid : List ServedShard = changed_at m.shard (seeing m.note) old.served in
         let there : served_at m.shard new.served ≡ Some (marking m.position (seeing m.note was.0)) =
-            ap (λ (n : Node). served_at m.shard n.served) same ∙ (changed_there m.shard (marking m.position) (λ t. refl) mid
-            ∙ ap (option_map (marking m.position)) (changed_there m.shard (seeing m.note) (λ t. refl) old.served ∙ ap (option_map (seeing m.note)) was.1)) in
+        ap (λ (n : Node). served_at m.shard n.served) same ∙ (changed_there m.shard (marking m.position) (λ t. refl) mid
+        ∙ ap (option_map (marking m.position)) (changed_there m.shard (seeing m.note) (λ t. refl) old.served ∙ ap (option_map (seeing m.note)) was.1)) in
         let all : AreTold new.served = λ other t at. alike_told new m.shard other t after (serves_it new after) told at in
         beginnings_are_sound.begins m.note (longer_view was.0.view m.note) grows (λ own. ((after.truth.told all).served m.shard (marking m.position (seeing m.note was.0)) there).sound)
         (seen-told pens m.shard m.note message.seen told)
@@ -164,10 +164,10 @@ module _ (s : Settings) (pens : Pens) (name : NodeName) where
       queued (IsRefillFor s pens name) (types_of s.schema) (dropped_lists old.node.items m.keys) old.refills new.refills delivers.refills
       (dropped_hold (λ row. IfSome (refill_of (types_of s.schema) row) (IsRefillFor s pens name)) m.keys old.node.items distinct
       (all_from_in (HoldsHeld (λ row. IfSome (refill_of (types_of s.schema) row) (IsRefillFor s pens name)) old.node.items) m.keys (λ k named item count at.
-          let served = is.node.truth.items_here k.key item at in
-          let turn = turn_of s pens name old.node (key_shard k.key) is.node served in
-          refill_for k.key (record { key = k.key; version = k.version; length = count }) turn.0 turn.1
-          (named_reached m old.node new.node delivers.node.node_is message is.node after k served named)))) is.refills
+      let served = is.node.truth.items_here k.key item at in
+      let turn = turn_of s pens name old.node (key_shard k.key) is.node served in
+      refill_for k.key (record { key = k.key; version = k.version; length = count }) turn.0 turn.1
+      (named_reached m old.node new.node delivers.node.node_is message is.node after k served named)))) is.refills
 
   follower_delivers : (m : SeenMaint) (dropped : ℕ) (old new : FollowerState) → DeliversThere (types_of s.schema) m dropped old new → IsMessageFor s pens name m
       → IsDistinct same_key (keys_held old.node.items) → IsTrueNode new.node → IsFollowerOf s pens name old → IsFollowerOf s pens name new

@@ -158,11 +158,7 @@ fn serves_in_turn(config: &Config, name: NodeName, shard: u16) -> bool
 }
 
 /// The shards that a node serves, in order.
-pub fn served_by(
-    alloc: Global,
-    config: &Config,
-    name: NodeName,
-) -> Result<Vec<u16>, OutOfMemory>
+pub fn served_by(alloc: Global, config: &Config, name: NodeName) -> Result<Vec<u16>, OutOfMemory>
     ensures { IfOk result (λ shards. shards.items ≡ served_by config.now name) }
 {
     Ok(

@@ -53,9 +53,8 @@ fn shown_content(alloc: Global, content: &Content) -> Result<ShownItem, OutOfMem
     match content {
         Content::Object(found) => Ok(ShownItem::Object(found.clone()?)),
         Content::List(prefix) => {
-            let edges = Vec::from_slice(alloc, prefix.edges())?;
             Ok(ShownItem::List {
-                edges: Edges::of(edges),
+                edges: Edges::of(prefix.edges().to_vec(alloc)?),
                 total: prefix.total(),
             })
         }

@@ -136,8 +136,8 @@ waits_there inboxes name place at d (Err e) first is = tt
 pub copied_for : {E : Type 0} (name : NodeName) (place : ℕ) (r : Result (Option SeenMaint) E) (inboxes : Inboxes)
     → IfOk r (λ copy. WaitsAt name place copy inboxes)
     → IfOk r (λ copy. (s : Settings) (pens : Pens) → AreInboxesOf s pens inboxes → IfSome copy (IsMessageFor s pens name))
-copied_for name place (Ok copy) inboxes waits s pens is =
-    waiting_for s pens name place waits.inbox.0 waits.waiting copy inboxes waits.inbox.2 waits.message_is is
+copied_for name place (Ok copy) inboxes waits =
+    λ s pens is. waiting_for s pens name place waits.inbox.0 waits.waiting copy inboxes waits.inbox.2 waits.message_is is
 copied_for name place (Err e) inboxes waits = tt
 
 -- ---- laws

@@ -109,18 +109,16 @@ pub(crate) fn copy_at(
     inboxes[index].node.copy_at(place)
 }
 
-fn as_shown(message: &Maint) -> Message
-    ensures { result ≡ shown_message message.now }
-{
-    Message {
-        shard: message.shard(),
-        position: message.position(),
-    }
-}
-
 /// Messages as they are shown.
 pub(crate) fn shown(alloc: Global, waiting: &[Maint]) -> Result<Vec<Message>, OutOfMemory>
     ensures { IfOk result (λ messages. messages.items ≡ map shown_message waiting.now) }
 {
-    Ok(waiting.iter().map(as_shown).collect(alloc)?)
+    let mut messages = Vec::with_capacity(alloc, waiting.len())?;
+    for message in waiting {
+        messages.push(Message {
+            shard: message.shard(),
+            position: message.position(),
+        })?;
+    }
+    Ok(messages)
 }

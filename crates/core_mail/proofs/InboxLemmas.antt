@@ -1,9 +1,9 @@
 -- The inboxes of a configuration stay such.
-use Rattle.std.proofs.Common.{◌≡◌, ℕ, zero, suc, ◌<◌, ◌%◌, List, [], ◌∷◌, take, drop, map, refl, ap, sym, ◌∙◌, subst, inl, inr}
+use Rattle.std.proofs.Common.{◌≡◌, ℕ, zero, suc, ◌<◌, ◌%◌, true, List, [], ◌∷◌, take, drop, map, refl, ap, sym, ◌∙◌, subst, inl, inr}
 use Rattle.std.proofs.lemmas.Bool.{eq-eqb}
 use Rattle.std.proofs.lemmas.List.Elements.{Contains-append_left, Contains-append_right}
 use Rattle.std.specs.List.{AllByRecursion, remove}
-use Rattle.std.specs.Prelude.{Contains, IfSome, Option, Some, None, filter, slice_get}
+use Rattle.std.specs.Prelude.{Contains, IfOk, IfSome, Option, Some, Result, Ok, Err, slice_get, slice_index_or}
 use Rattle.graph_model.proofs.Later.{all_append, all_filter, all_map}
 use Rattle.maint_msg.proofs.MaintLemmas.{is_maint}
 use Rattle.maint_msg.specs.Inbox.{IsSent}
@@ -18,13 +18,14 @@ use Rattle.topology.specs.Config.{Settings}
 use Rattle.topology.specs.Counts.{NodeCounts, follower_count, tier_count}
 use Rattle.topology.specs.States.{NodeStates, is_up}
 use Rattle.core_model.specs.Evictions.{IsCacheOf}
-use Rattle.core_model.specs.Fleet.{ChangesNode, HasNode, follower_names, leader_names, named, names_of, regions_of, serves_in_turn}
+use Rattle.core_model.specs.Fleet.{ChangesNode, IsFirstAt, follower_names, leader_names, named, names_of, regions_of, serves_in_turn}
 use Rattle.core_model.specs.Messages.{IsMessageFor, told_of}
 use Rattle.core_model.specs.Pens.{IsSeen, Pens, Rise}
-use Rattle.core_model.proofs.NamedNodes.{all_set, names_set}
+use Rattle.core_model.specs.declared.named.Named.{Named}
+use Rattle.core_model.proofs.NamedNodes.{all_set, named_stands, names_set}
 use Rattle.core_model.proofs.Places.{one_some}
 use Rattle.core_model.proofs.Staying.{messages_stay}
-use Rattle.core_mail.specs.Inboxes.{AreEmpty, AreInboxesOf, Inboxes, Sends, TakesOut, cache_names, message_of, no_messages}
+use Rattle.core_mail.specs.Inboxes.{AreEmpty, AreInboxesOf, Inboxes, Sends, TakesOut, WaitsAt, cache_names, message_of, no_messages}
 use Rattle.core_mail.specs.Laws.{InboxesStay}
 
 -- ---- each message of a list
@@ -121,6 +122,24 @@ module _ (s : Settings) (pens : Pens) where
       (told_serve states region shard m own refl
       (λ name serves. record { here = here; serves = serves; seen = seen; names = is_maint entry shard note stands lies })) sends is
 
+-- the message at a place of the inbox that code reads
+pub waits_there : {E : Type 0} (inboxes : Inboxes) (name : NodeName) (place at : ℕ) (d : Named (List SeenMaint)) (r : Result (Option SeenMaint) E)
+    → IsFirstAt name inboxes at
+    → IfOk r (λ copy. copy ≡ slice_get (slice_index_or inboxes at d).node place) → IfOk r (λ copy. WaitsAt name place copy inboxes)
+waits_there inboxes name place at d (Ok copy) first is = record {
+  waiting = (slice_index_or inboxes at d).node;
+  inbox = (at, first, named_stands inboxes name at d first);
+  message_is = is;
+}
+waits_there inboxes name place at d (Err e) first is = tt
+
+pub copied_for : {E : Type 0} (name : NodeName) (place : ℕ) (r : Result (Option SeenMaint) E) (inboxes : Inboxes)
+    → IfOk r (λ copy. WaitsAt name place copy inboxes)
+    → IfOk r (λ copy. (s : Settings) (pens : Pens) → AreInboxesOf s pens inboxes → IfSome copy (IsMessageFor s pens name))
+copied_for name place (Ok copy) inboxes waits =
+    λ s pens is. waiting_for s pens name place waits.inbox.0 waits.waiting copy inboxes waits.inbox.2 waits.message_is is
+copied_for name place (Err e) inboxes waits = tt
+
 -- ---- laws
 
 named_cache : (s : Settings) (name : NodeName) → IsCacheOf s name → Contains (cache_names s) name
@@ -133,7 +152,7 @@ inboxes_stay s pens inboxes = record {
   rises = λ later rise is. record {
     names = is.names;
     messages = λ place name waiting stands.
-        all_map (IsMessageFor s pens name) (IsMessageFor s later name) (λ m for. messages_stay s pens later name m rise for) waiting
+        all_map (IsMessageFor s pens name) (IsMessageFor s later name) (λ m for. messages_stay.rises s pens later name m rise for) waiting
         (is.messages place name waiting stands);
   };
   cache_has = λ name cache is. subst (λ names. Contains names name) (sym is.names) (named_cache s name cache);

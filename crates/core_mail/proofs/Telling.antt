@@ -49,19 +49,22 @@ module _ (states : NodeStates) (region shard : ℕ) (m : SeenMaint) where
   next_tier : (tier : ℕ) → tier < count → range_with_len tier (count - tier) ≡ tier ∷ range_with_len (tier + 1) (count - (tier + 1))
   next_tier tier lt = (let e : count - tier ≡ suc (count - (tier + 1)) = omega arith in ap (range_with_len tier) e)
 
-  pub one_told : (tier : ℕ) (start now after : Inboxes) → tier < count → is_up states (serving_follower states.regions region tier shard) ≡ true
-      → ChangesNode (serving_follower states.regions region tier shard) (IsSent m) now after → SendsRest states region shard m tier start now
+  pub one_told : (tier : ℕ) (start now after : Inboxes) (name : NodeName) → tier < count → name ≡ serving_follower states.regions region tier shard
+      → is_up states name ≡ true → ChangesNode name (IsSent m) now after → SendsRest states region shard m tier start now
       → SendsRest states region shard m (tier + 1) start after
-  one_told tier start now after lt up change rest new later =
+  one_told tier start now after name lt called up change rest new later =
+      let is_told : is_up states (turn tier) ≡ true = subst (λ n. is_up states n ≡ true) called up in
       let next : told_at (range_with_len tier (count - tier)) ≡ turn tier ∷ told_at (range_with_len (tier + 1) (count - (tier + 1))) =
-      ap told_at (next_tier tier lt) ∙ rw up refl in
-      rest new (subst (λ names. Sends names m now new) (sym next) (after, change, later))
+      ap told_at (next_tier tier lt) ∙ rw is_told refl in
+      let changes : ChangesNode (turn tier) (IsSent m) now after = subst (λ n. ChangesNode n (IsSent m) now after) called change in
+      rest new (subst (λ names. Sends names m now new) (sym next) (after, changes, later))
 
-  pub one_down : (tier : ℕ) (start now : Inboxes) → tier < count → is_up states (serving_follower states.regions region tier shard) ≡ false
-      → SendsRest states region shard m tier start now → SendsRest states region shard m (tier + 1) start now
-  one_down tier start now lt down rest new later =
+  pub one_down : (tier : ℕ) (start now : Inboxes) (name : NodeName) → tier < count → name ≡ serving_follower states.regions region tier shard
+      → is_up states name ≡ false → SendsRest states region shard m tier start now → SendsRest states region shard m (tier + 1) start now
+  one_down tier start now name lt called down rest new later =
+      let is_down : is_up states (turn tier) ≡ false = subst (λ n. is_up states n ≡ false) called down in
       let next : told_at (range_with_len tier (count - tier)) ≡ told_at (range_with_len (tier + 1) (count - (tier + 1))) =
-      ap told_at (next_tier tier lt) ∙ rw down refl in
+      ap told_at (next_tier tier lt) ∙ rw is_down refl in
       rest new (subst (λ names. Sends names m now new) (sym next) later)
 
   pub all_told : (tier : ℕ) (start now : Inboxes) → count ≤ tier → SendsRest states region shard m tier start now

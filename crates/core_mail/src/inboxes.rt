@@ -113,13 +113,12 @@ pub(crate) fn copy_at(
 pub(crate) fn shown(alloc: Global, waiting: &[Maint]) -> Result<Vec<Message>, OutOfMemory>
     ensures { IfOk result (λ messages. messages.items ≡ map shown_message waiting.now) }
 {
-    Ok(
-        waiting
-            .iter()
-            .map(|message| Message {
-                shard: message.shard(),
-                position: message.position(),
-            })
-            .collect(alloc)?,
-    )
+    let mut messages = Vec::with_capacity(alloc, waiting.len())?;
+    for message in waiting {
+        messages.push(Message {
+            shard: message.shard(),
+            position: message.position(),
+        })?;
+    }
+    Ok(messages)
 }

@@ -48,12 +48,17 @@ pub changes_err : {N T E : Type 0} (By : N → N → Type 0) (nodes : List (Name
 changes_err By nodes name place d to (Ok t) first by = tt
 changes_err By nodes name place d to (Err e) first by = changes_at By nodes name place d to first by
 
+-- it rests
+pub rests_at : {N : Type 0} (nodes : List (Named N)) (name : NodeName) (place : ℕ) (d : Named N) (to : N) → IsFirstAt name nodes place
+    → to ≡ (slice_index_or nodes place d).node → slice_set nodes place (record (slice_index_or nodes place d) { node = to }) ≡ nodes
+rests_at nodes name place d to first rests =
+    ap (λ x. slice_set nodes place (record (slice_index_or nodes place d) { node = x })) rests
+    ∙ set_same nodes place (slice_index_or nodes place d) (named_at nodes name place d first).stands
+
 pub rests_err : {N T E : Type 0} (nodes : List (Named N)) (name : NodeName) (place : ℕ) (d : Named N) (to : N) (r : Result T E) → IsFirstAt name nodes place
     → OnErr r (to ≡ (slice_index_or nodes place d).node) → OnErr r (slice_set nodes place (record (slice_index_or nodes place d) { node = to }) ≡ nodes)
 rests_err nodes name place d to (Ok t) first rests = tt
-rests_err nodes name place d to (Err e) first rests =
-    ap (λ x. slice_set nodes place (record (slice_index_or nodes place d) { node = x })) rests
-    ∙ set_same nodes place (slice_index_or nodes place d) (named_at nodes name place d first).stands
+rests_err nodes name place d to (Err e) first rests = rests_at nodes name place d to first rests
 
 -- a change is also what follows of it
 pub changes_so : {N : Type 0} (By So : N → N → Type 0) (name : NodeName) (old new : List (Named N)) → ((from to : N) → By from to → So from to)

@@ -53,7 +53,7 @@ sound_here : (s : Settings) (old new : Tables) → HasSoundLogs s old → Stays 
 sound_here s old new sound stays shard here =
     subst (λ (t : Table). IsSoundOf (types_of s.schema) shard t.log) (sym (stays (master_store s shard))) (sound shard here)
 
-stores_here : (tells : Bool) (s : Settings) (old new : Tables) (stores : List Store) → AreStoresOf tells s old stores → WhereTold tells (Stays old new)
+pub stores_here : (tells : Bool) (s : Settings) (old new : Tables) (stores : List Store) → AreStoresOf tells s old stores → WhereTold tells (Stays old new)
     → AreStoresOf tells s new stores
 stores_here tells s old new stores are stays = record {
   masters = are.masters;
@@ -79,7 +79,7 @@ view_found pens shard served note (Some s) at seen is =
     subst (IsSeen pens shard) one (seen s at)
 
 -- a master's note has seen the whole log
-master_seen : (stores : List Store) (shard : ℕ) (store : Store) → slice_get stores shard ≡ Some store → store.role ≡ Master
+pub master_seen : (stores : List Store) (shard : ℕ) (store : Store) → slice_get stores shard ≡ Some store → store.role ≡ Master
     → IsSeen (pens_of stores) shard (note_of store)
 master_seen stores shard store at role =
     let whole : Grows (as_note store.view) store.view = record { log_is = refl; begins = begins-self store.view.entries } in
@@ -122,9 +122,9 @@ is_given : (types : EdgeTypes) (pens : Pens) (read : Wanted) (given : LeaderAnsw
     → IsSeenAnswer pens (query_shard read.query) given
     → IsGivenAnswer types pens read given
 is_given types pens read (Filled fill) legal seen =
-    record { key_is = legal.key_is; decides = legal.decides; within = legal.within; reaches = legal.reaches; seen = seen }
+    record { key_is = legal.key_is; decides = legal.decides; within = legal.within; reaches = λ told. legal.reaches; seen = seen }
 is_given types pens read (Past answer version total note) legal seen =
-    ((reads_are_legal types (λ shard. note) read).given note answer version legal.1 legal.0 (grows-self note), seen)
+    ((reads_are_legal types (λ shard. note) read).given note answer version legal.1 (λ told. legal.0) (grows-self note), seen)
 is_given types pens read (Behind version) legal seen = legal
 
 -- ---- ask

@@ -23,6 +23,7 @@ use Rattle.tao_schema.specs.Schema.{types_of}
 use Rattle.tao_schema.specs.declared.schema.Schema.{Schema}
 use Rattle.topology.specs.Config.{Settings}
 use Rattle.core_model.proofs.AskingOn.{nodes_ask_on}
+use Rattle.core_model.proofs.Refilling.{followers_stay}
 use Rattle.core_model.proofs.Staying.{nodes_stay}
 use Rattle.core_model.specs.Consistent.{GoesOn, IsConsistent, IsFleetOf}
 use Rattle.core_model.specs.Fleet.{ChangesNode, Fleet, named}
@@ -140,7 +141,7 @@ module _ (tells : Bool) (s : Settings) (name : NodeName) (shard : ℕ) (after : 
     leader_names = fleet.leader_names;
     follower_names = fleet.follower_names;
     leaders = λ place called node at. (nodes_stay s (pens_of old.masters) called).rises (pens_of xs) node rise (fleet.leaders place called node at);
-    followers = λ place called f at. (nodes_stay s (pens_of old.masters) called).rises (pens_of xs) f.node rise (fleet.followers place called f at);
+    followers = λ place called f at. (followers_stay s (pens_of old.masters) called).rises (pens_of xs) f rise (fleet.followers place called f at);
   }
 
   pub commit_step : (r : Result Wrote StoreRefusal) → IsFleetOf s old → ChangesNode name (Written s shard xs r) old.leaders ls → OnErr r (xs ≡ old.masters)
@@ -198,6 +199,7 @@ apply_step s name shard entry note old fs fleet seen change = record {
   step =
       follower_step (FollowerDoes (AppliesTo (types_of s.schema) shard entry note)) s old name fs fleet change
       (λ from to by was. (nodes_stay s (pens_of old.masters) name).applies shard entry note from to by.does seen by.apart by.truth was)
+      (λ from to by. by.does.refills)
       (λ from to by. nodes_ask_on.applies (types_of s.schema) shard entry note from to by.does);
 }
 

@@ -28,7 +28,8 @@ pub evicted_stays : (s : Settings) (pens : Pens) (name : NodeName) (key : Option
 evicted_stays s pens name (Some key) held old new does apart truth is = (nodes_stay s pens name).evicts key old new does.1 apart truth is
 evicted_stays s pens name None held old new does apart truth is = (nodes_stay s pens name).evicts_last old new does.1 truth is
 
-asks_same : (old new : Asks) → new ≡ old → AsksGoOn old new
+-- asks that stay go on
+pub asks_same : (old new : Asks) → new ≡ old → AsksGoOn old new
 asks_same old new same number key is = subst (λ t. IsAskOn t number key) (sym same) is
 
 evicted_asks : (key : Option Key) (held : Bool) (old new : Node) → Evicts key held old new → AsksGoOn old.asks new.asks
@@ -52,6 +53,7 @@ pub follower_evicts : (s : Settings) (name : NodeName) (key : Option Key) (held 
 follower_evicts s name key held old fs fleet change = record {
   step = follower_step (FollowerDoes (EvictsThere key held)) s old name fs fleet change
       (λ from to by is. evicted_stays s (pens_of old.masters) name key held from.node to.node by.does.0 by.apart by.truth is)
+      (λ from to by. by.does.1)
       (λ from to by. evicted_asks key held from.node to.node by.does.0);
   evicts = changes_so (FollowerDoes (EvictsThere key held)) (EvictsThere key held) name old.followers fs (λ from to by. by.does) change;
   rest = refl;

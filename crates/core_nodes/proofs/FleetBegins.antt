@@ -12,6 +12,7 @@ use Rattle.tao_keeper.specs.Table.{Tables}
 use Rattle.topology.specs.Config.{Settings}
 use Rattle.core_model.specs.Consistent.{IsConsistent, IsFleetOf, IsNodeOf}
 use Rattle.core_model.specs.Fleet.{Fleet, named, served_by}
+use Rattle.core_model.specs.Messages.{AreRefillsFor}
 use Rattle.core_model.specs.Pens.{pens_of}
 use Rattle.core_model.specs.Stores.{HaveSeen}
 use Rattle.core_nodes.specs.Beginning.{AreAtEnds, HaveBegun, IsAtEnds, IsBegunFollower, IsBegunLeader, IsEmptyFleet, IsEmptyFollower, IsEmptyNode, begun_node}
@@ -47,7 +48,10 @@ begun_fleet s f h =
           node_of s f.masters lengths name node leader.node_is leader.truth;
       followers = λ place name node at.
           let follower = all_at (IsBegunFollower s f.masters lengths) f.followers place (named name node) begun.each_follower at in
-          node_of s f.masters lengths name node.node (ap (λ n. n.node) follower.node_is) follower.truth;
+          record {
+            node = node_of s f.masters lengths name node.node (ap (λ n. n.node) follower.node_is) follower.truth;
+            refills = subst (AreRefillsFor s (pens_of f.masters) name) (sym (ap (λ n. n.refills) follower.node_is)) tt;
+          };
     }
 
 module _ (s : Settings) (masters : List Store) (f : Fleet) (h : HaveBegun s masters f) where

@@ -7,8 +7,9 @@ use Rattle.node_name.specs.declared.NodeName.{NodeName}
 use Rattle.shard_log.proofs.GrowthLemmas.{grows-self}
 use Rattle.shard_tables.specs.StoreView.{Store}
 use Rattle.topology.specs.Config.{Settings}
+use Rattle.core_model.proofs.Refilling.{followers_stay}
 use Rattle.core_model.specs.Asks.{AsksGoOn}
-use Rattle.core_model.specs.Consistent.{GoesOn, IsFleetOf, IsNodeOf}
+use Rattle.core_model.specs.Consistent.{GoesOn, IsFleetOf, IsFollowerOf, IsNodeOf}
 use Rattle.core_model.specs.Fleet.{ChangesNode, Fleet, HasNode, named}
 use Rattle.core_model.specs.Pens.{Rise, pens_of}
 use Rattle.core_model.specs.Serving.{IsFollowerFor, IsLeaderFor}
@@ -51,11 +52,11 @@ follower_goes f name place from to stands asks = record {
   ];
 }
 
-pub follower_step : (By : FollowerState → FollowerState → Type 0) (s : Settings) (old : Fleet) (name : NodeName) (fs : List (Named FollowerState))
-    → IsFleetOf s old
-    → ChangesNode name By old.followers fs → StaysOf (λ called node. IsNodeOf s (pens_of old.masters) called node.node) name By
+-- a follower that changes stays one of its core, with its refills
+pub refills_step : (By : FollowerState → FollowerState → Type 0) (s : Settings) (old : Fleet) (name : NodeName) (fs : List (Named FollowerState))
+    → IsFleetOf s old → ChangesNode name By old.followers fs → StaysOf (IsFollowerOf s (pens_of old.masters)) name By
     → ((from to : FollowerState) → By from to → AsksGoOn from.node.asks to.node.asks) → FleetStep s old (record old { followers = fs })
-follower_step By s old name fs fleet change stays asks =
+refills_step By s old name fs fleet change stays asks =
     let was = fleet.followers change.place name change.from change.stands in
     let is = stays change.from change.to change.by was in
     let there : FleetStep s old (record old { followers = slice_set old.followers change.place (named name change.to) }) = record {
@@ -63,11 +64,21 @@ follower_step By s old name fs fleet change stays asks =
         leader_names = fleet.leader_names;
         follower_names = names_set old.followers change.place name change.from change.to change.stands ∙ fleet.follower_names;
         leaders = fleet.leaders;
-        followers = all_set (λ called node. IsNodeOf s (pens_of old.masters) called node.node) old.followers change.place name change.to fleet.followers is;
+        followers = all_set (IsFollowerOf s (pens_of old.masters)) old.followers change.place name change.to fleet.followers is;
       };
       goes = follower_goes old name change.place change.from change.to change.stands (asks change.from change.to change.by);
     } in
     subst (λ l. FleetStep s old (record old { followers = l })) (sym change.is) there
+
+-- its node changes, and its refills stay
+pub follower_step : (By : FollowerState → FollowerState → Type 0) (s : Settings) (old : Fleet) (name : NodeName) (fs : List (Named FollowerState))
+    → IsFleetOf s old
+    → ChangesNode name By old.followers fs → StaysOf (λ called node. IsNodeOf s (pens_of old.masters) called node.node) name By
+    → ((from to : FollowerState) → By from to → to.refills ≡ from.refills)
+    → ((from to : FollowerState) → By from to → AsksGoOn from.node.asks to.node.asks) → FleetStep s old (record old { followers = fs })
+follower_step By s old name fs fleet change stays same asks =
+    refills_step By s old name fs fleet change
+    (λ from to by is. (followers_stay s (pens_of old.masters) name).same from to (stays from to by is.node) (same from to by) is) asks
 
 pub leader_step : (By : Node → Node → Type 0) (s : Settings) (old : Fleet) (name : NodeName) (ls : List (Named Node)) → IsFleetOf s old
     → ChangesNode name By old.leaders ls → StaysOf (λ called node. IsNodeOf s (pens_of old.masters) called node) name By

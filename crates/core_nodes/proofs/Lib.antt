@@ -2,14 +2,17 @@ pub mod AskLemmas
 pub mod AskedAt
 pub mod BeginLemmas
 pub mod CommitLemmas
+pub mod DeliverLemmas
 pub mod EvictLemmas
 pub mod FleetBegins
 pub mod FleetLemmas
 pub mod LentLemmas
+pub mod MasterLemmas
 pub mod NameLemmas
 pub mod NamedNodes
 pub mod OpenedLogs
 pub mod Places
 pub mod ReadLemmas
+pub mod ShownLemmas
 pub mod StoreLemmas
 pub mod ViewLemmas

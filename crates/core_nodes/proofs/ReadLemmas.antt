@@ -64,13 +64,13 @@ log_of_shard pens shard s name node is serves =
 pub follower_serves : (s : Settings) (f : Fleet) (shard : ℕ) (name : NodeName) → IsFleetOf s f → IsFollowerFor s shard name
     → NodeIs name (λ (g : FollowerState). IsSome (served_at shard g.node.served)) f.followers
 follower_serves s f shard name fleet is place node first at =
-    (serves_its_turn s (pens_of f.masters) name node.node shard).serves (fleet.followers place name node at) is.here is.serves
+    (serves_its_turn s (pens_of f.masters) name node.node shard).serves (fleet.followers place name node at).node is.here is.serves
 
 pub follower_log : (s : Settings) (f : Fleet) (shard : ℕ) (name : NodeName) (note : View) → IsFleetOf s f → IsFollowerFor s shard name
     → IsSeen (pens_of f.masters) shard note
     → NodeIs name (λ (g : FollowerState). log_at shard g.node.served ≡ Some note.log) f.followers
 follower_log s f shard name note fleet is seen place node first at =
-    log_of_shard (pens_of f.masters) shard s name node.node (fleet.followers place name node at) (follower_serves s f shard name fleet is place node first at)
+    log_of_shard (pens_of f.masters) shard s name node.node (fleet.followers place name node at).node (follower_serves s f shard name fleet is place node first at)
     ∙ ap Some seen.log_is
 
 -- its logs are told where that of the shard is
@@ -149,12 +149,13 @@ look_step s name query floor old fs (Ok first) fleet for change err =
     record {
       step = follower_step (FollowerDoes (LooksTrue types read first.look first.ask)) s old name fs fleet change
           (λ from to by is. (nodes_stay s (pens_of old.masters) name).looks read first.look first.ask from to by.does.looks by.apart by.truth is)
+          (λ from to by. by.does.looks.refills)
           (λ from to by. nodes_ask_on.looks types read first.look first.ask from to by.does.looks);
       looks = changes_so (FollowerDoes (LooksTrue types read first.look first.ask)) (LooksFirst types read first.look first.ask) name old.followers fs
           (λ from to by. by.does.looks) change;
       ask = looked_ask types read first.look first.ask name old.followers fs change;
       legal = looked_legal s (pens_of old.masters) read first.look first.ask name change.from change.to change.by.does
-          (fleet.followers change.place name change.from change.stands)
+          (fleet.followers change.place name change.from change.stands).node
           (follower_serves s old (query_shard query) name fleet for change.place change.from change.first change.stands);
     }
 look_step s name query floor old fs (Err e) fleet for change err =
@@ -179,6 +180,7 @@ pub end_step : (s : Settings) (name : NodeName) (ask : Option ℕ) (old : Fleet)
 end_step s name ask old fs fleet change = record {
   step = follower_step (FollowerDoes (EndsAsk ask)) s old name fs fleet change
       (λ from to by is. (nodes_stay s (pens_of old.masters) name).ends ask from to by.does by.truth is)
+      (λ from to by. ap (λ (f : FollowerState). f.refills) by.does)
       (λ from to by. nodes_ask_on.ends ask from to by.does);
   ends = changes_so (FollowerDoes (EndsAsk ask)) (EndsAsk ask) name old.followers fs (λ from to by. by.does) change;
 }
@@ -202,6 +204,7 @@ keep_step s name read ask fill old fs (Ok (answer, kept)) fleet given change err
     record {
       step = follower_step (FollowerDoes (KeepsFill types read.query ask fill answer kept)) s old name fs fleet change
           (λ from to by is. (nodes_stay s (pens_of old.masters) name).keeps read ask fill answer kept from to by.does given by.apart by.truth is)
+          (λ from to by. ap (λ (f : FollowerState). f.refills) by.does.node_is)
           (λ from to by. nodes_ask_on.keeps types read ask fill answer kept from to by.does);
       keeps = changes_so (FollowerDoes (KeepsFill types read.query ask fill answer kept))
           (KeepsFill types read.query ask fill answer kept) name old.followers fs (λ from to by. by.does) change;

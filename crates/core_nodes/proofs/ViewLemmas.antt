@@ -29,11 +29,21 @@ pub record LendsBoth (inside : Inside) (old : Fleet) (lent left : List (Named No
   pub long : length same ≡ inside.masters.len
   pub is : same ≡ stores
 
+-- the stores alone were lent, and were left as they were
+pub record LendsMasters (inside : Inside) (old : Fleet) (lent same : List Store) : Type 0 where
+  pub view : fleet_seen inside ≡ old
+  pub own : lent ≡ old.masters
+  pub long : length same ≡ inside.masters.len
+  pub is : same ≡ lent
+
 abbrev pub after_followers : Inside → List (Named FollowerState) → Fleet
 after_followers inside left = fleet_seen (record inside { followers = with_items inside.followers left })
 
 abbrev pub after_leaders : Inside → List (Named Node) → Fleet
 after_leaders inside left = fleet_seen (record inside { leaders = with_items inside.leaders left })
+
+abbrev pub after_masters : Inside → List Store → Fleet
+after_masters inside same = fleet_seen (record inside { masters = with_items inside.masters same })
 
 abbrev pub after_both : Inside → List (Named Node) → List Store → Fleet
 after_both inside left same = fleet_seen (record inside { leaders = with_items inside.leaders left; masters = with_items inside.masters same })
@@ -57,3 +67,8 @@ both_after inside old lent left stores same lends =
     (with_items_is inside.leaders left lends.leaders.long)
     ∙ ap (λ items. record (fleet_seen inside) { leaders = left; masters = items }) (with_items_is inside.masters same lends.long ∙ lends.is ∙ lends.own)
     ∙ ap (λ (g : Fleet). record g { leaders = left; masters = old.masters }) lends.leaders.view
+
+pub masters_after : (inside : Inside) (old : Fleet) (lent same : List Store) → LendsMasters inside old lent same → after_masters inside same ≡ old
+masters_after inside old lent same lends =
+    ap (λ items. record (fleet_seen inside) { masters = items }) (with_items_is inside.masters same lends.long ∙ lends.is ∙ lends.own)
+    ∙ ap (λ (g : Fleet). record g { masters = old.masters }) lends.view

@@ -1,6 +1,6 @@
 -- What is left where a node processes a message, and where a refill is taken out.
 use Rattle.std.proofs.Common.{◌≡◌, ℕ, List, [], ◌++◌, Option, Some, None, IfSome, refl, ap, sym, ◌∙◌, subst}
-use Rattle.std.specs.Prelude.{option_to_list}
+use Rattle.std.specs.Prelude.{IsNone, option_to_list}
 use Rattle.cache_items.specs.Node.{Node}
 use Rattle.follower_cache.specs.Seen.{FollowerState}
 use Rattle.follower_cache.specs.declared.queue.Refill.{Refill}
@@ -105,7 +105,7 @@ module _ (s : Settings) (m : SeenMaint) (dropped : ℕ) (inside : Inside) (old :
 -- ---- a refill is taken out
 
 pub takes_oldest : (refill : Option Refill) (old new : FollowerState) → old.refills ≡ option_to_list refill ++ new.refills
-    → new ≡ record old { refills = new.refills } → (refill ≡ None → old.refills ≡ []) → TakesRefill refill old new
+    → new ≡ record old { refills = new.refills } → (IsNone refill → old.refills ≡ []) → TakesRefill refill old new
 takes_oldest None old new oldest rest none = (none refl, rest ∙ ap (λ rs. record old { refills = rs }) (sym oldest))
 takes_oldest (Some refill) old new oldest rest none = (oldest, rest)
 

@@ -1,4 +1,4 @@
-use Rattle.std.proofs.Common.{rules, ◌≡◌, Some, None, ap, subst, ◌∙◌}
+use Rattle.std.proofs.Common.{Some, None, ap, subst, ◌∙◌}
 use Rattle.std.specs.Prelude.{option_copied}
 use Rattle.core_model.specs.Fleet.{Fleet, IsNodeOfName}
 use Rattle.core_nodes.proofs.ShownLemmas.{shown_follower, shown_leader}
@@ -11,7 +11,7 @@ returns-in_err-find_node-in-Leader c =
       node = None;
       is = shown_leader c.args.self.now c.args.node c.in-Leader.region c.in-Leader.index c.deref.result.now None c.in-Leader.is own
           (subst (λ o. IsNodeOfName c.args.node c.deref.result.now (option_copied o)) c.in_err-find_node-in-Leader.was c.find_node.ensures);
-      mark_is = let w = c.in_err-find_node-in-Leader in let r = c.from_residual.ensures in ?;
+      mark_is = c.from_residual.ensures;
     }
 
 pub returns-in_err-find_node-in-Follower : goal.returns-in_err-find_node-in-Follower
@@ -23,7 +23,7 @@ returns-in_err-find_node-in-Follower c =
           c.in-Follower.is own
           (subst (λ o. IsNodeOfName c.args.node c.deref-in-Follower.result.now (option_copied o)) c.in_err-find_node-in-Follower.was
           c.find_node-in-Follower.ensures);
-      mark_is = search rules;
+      mark_is = c.from_residual-in_err-find_node-in-Follower.ensures;
     }
 
 pub returns-in_ok-find_node-in-Leader : goal.returns-in_ok-find_node-in-Leader

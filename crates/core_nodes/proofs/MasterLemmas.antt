@@ -69,14 +69,15 @@ module _ (tells : Bool) (s : Settings) (before : KeeperState) (stores : List Sto
         (master_seen stores (query_shard query) store stands (are.masters.each (query_shard query) store stands).role_is);
   }
   read_given (out.Past answer version total own) note for found floor reaches =
-      let read = out.Past answer version total own in
-      ((reads_are_legal (types_of s.schema) (λ shard. own) (wanted query floor)).given own answer version
-      (read_is_seen tells before.told (types_of s.schema) query store read (are.seen (query_shard query) store stands) note found)
-      (λ told.
-      let there = note_told read note told in
-      subst (λ v. floor ≤ v) (sym (found there).0.version_is) (floor_here floor (reaches there))) (grows-self own),
-      subst (IsSeen (pens_of stores) (query_shard query)) (sym note)
-      (master_seen stores (query_shard query) store stands (are.masters.each (query_shard query) store stands).role_is))
+      let read = out.Past answer version total own in (
+        (reads_are_legal (types_of s.schema) (λ shard. own) (wanted query floor)).given own answer version
+            (read_is_seen tells before.told (types_of s.schema) query store read (are.seen (query_shard query) store stands) note found)
+            (λ told.
+            let there = note_told read note told in
+            subst (λ v. floor ≤ v) (sym (found there).0.version_is) (floor_here floor (reaches there))) (grows-self own),
+        subst (IsSeen (pens_of stores) (query_shard query)) (sym note)
+            (master_seen stores (query_shard query) store stands (are.masters.each (query_shard query) store stands).role_is),
+      )
 
   pub gives_at_floors : (after : KeeperState) (r : Result ReadOut StoreRefusal) → WasRead tells (types_of s.schema) query store before after r
       → IfOk r (GivesAtFloors tells s before stores query)

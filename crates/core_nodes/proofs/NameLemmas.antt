@@ -6,7 +6,6 @@ use Rattle.std.specs.List.{range_with_len}
 use Rattle.std.proofs.lemmas.List.Elements.{All-push, All-same}
 use Rattle.std.proofs.lemmas.List.{append-nil, map-append, take_more}
 use Rattle.node_name.specs.declared.NodeName.{NodeName}
-
 use Rattle.shard_tables.specs.StoreView.{Store}
 use Rattle.core_model.specs.Fleet.{followers_from, leaders_from, named, names_of, regions_of, tiers_from}
 use Rattle.core_model.specs.declared.named.Named.{Named}

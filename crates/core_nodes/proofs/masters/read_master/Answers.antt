@@ -1,4 +1,4 @@
-use Rattle.std.proofs.Common.{◌∙◌, ap, subst}
+use Rattle.std.proofs.Common.{◌<◌, length, ◌∙◌, ap, subst, arith}
 use Rattle.std.specs.Prelude.{slice_index_or}
 use Rattle.shard_tables.specs.StoreView.{Store}
 use Rattle.tao_base.specs.Queries.{query_shard}
@@ -12,9 +12,11 @@ use Rattle.core_nodes.proofs.StoreLemmas.{seen_at}
 use Rattle.core_nodes.proofs.masters.read_master.Goals as goal
 
 pub read-requires : goal.read-requires
-read-requires g c =
-    seen_at g.K.Keeper.TELLS c.args.config.now (g.K.Keeper.state c.args.keepers.now).told c.args.masters.now c.from-shard.result
-    (query_shard c.args.query.now) c.index-masters-shard.result c.requires.stores (c.from-shard.ensures ∙ c.shard.ensures) c.requires.here
+read-requires g c = record {
+  keeper =
+      seen_at g.K.Keeper.TELLS c.args.config.now (g.K.Keeper.state c.args.keepers.now).told c.args.masters.now c.from-shard.result
+      (query_shard c.args.query.now) c.index-masters-shard.result c.requires.stores (c.from-shard.ensures ∙ c.shard.ensures) c.requires.here;
+}
 
 pub returns-clause-reads : goal.returns-clause-reads
 returns-clause-reads g c =
@@ -46,5 +48,6 @@ returns-clause-given g c =
 
 pub returns-clause-same : goal.returns-clause-same
 returns-clause-same g c =
+    let within : query_shard c.args.query.now < length c.args.masters.now = omega (arith, c.requires.here, c.requires.stores.masters.long) in
     set_back c.args.masters.now (query_shard c.args.query.now) c.from-shard.result c.index-masters-shard.result c.read.new.self
-    (c.from-shard.ensures ∙ c.shard.ensures) c.requires.here c.read.ensures.same
+    (c.from-shard.ensures ∙ c.shard.ensures) within c.read.ensures.same

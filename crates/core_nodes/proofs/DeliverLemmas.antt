@@ -8,7 +8,6 @@ use Rattle.maint_msg.specs.Maints.{SeenMaint}
 use Rattle.node_name.specs.declared.NodeName.{NodeName}
 use Rattle.node_name.specs.declared.NodeName.TheVariants.{Leader, Follower}
 use Rattle.served_shards.specs.Served.{log_at}
-use Rattle.tao_base.specs.EdgeTypes.{EdgeTypes}
 use Rattle.tao_schema.specs.Schema.{types_of}
 use Rattle.tao_schema.specs.declared.schema.Schema.{Schema}
 use Rattle.topology.specs.Config.{Settings}

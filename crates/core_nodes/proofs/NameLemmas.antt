@@ -1,13 +1,11 @@
 -- The names of a configuration's nodes, one region or tier after another.
-use Rattle.std.proofs.Common.{◌≡◌, ℕ, zero, suc, ◌+◌, ◌<◌, List, [], ◌∷◌, ◌++◌, length, get_or, take, Option, Some, None, refl, ap, sym, ◌∙◌, append_assoc, subst, arith}
-use Rattle.std.specs.Prelude.{All, map, option_and_then, slice_get, unwrap_or}
-use Rattle.std.specs.Option.{option_map}
-use Rattle.std.specs.List.{range_with_len}
+use Rattle.std.proofs.Common.{◌≡◌, ℕ, ◌+◌, ◌<◌, List, [], ◌∷◌, ◌++◌, length, get_or, take, ap, sym, ◌∙◌, subst}
+use Rattle.std.specs.Prelude.{All}
 use Rattle.std.proofs.lemmas.List.Elements.{All-push, All-same}
-use Rattle.std.proofs.lemmas.List.{append-nil, map-append, take_more}
+use Rattle.std.proofs.lemmas.List.{map-append, take_more}
 use Rattle.node_name.specs.declared.NodeName.{NodeName}
 use Rattle.shard_tables.specs.StoreView.{Store}
-use Rattle.core_model.specs.Fleet.{followers_from, leaders_from, named, names_of, regions_of, tiers_from}
+use Rattle.core_model.specs.Fleet.{named, names_of}
 use Rattle.core_model.specs.declared.named.Named.{Named}
 
 -- one more node, of the next name

@@ -1,6 +1,5 @@
 -- The nodes that a core begins with.
 use Rattle.std.specs.Prelude.{ℕ, ◌≡◌, Bool, All, List, [], Option, Some, None, length, map, slice_get, unwrap_or}
-use Rattle.std.specs.Option.{option_map}
 use Rattle.std.specs.List.{AllByRecursion}
 use Rattle.cache_items.specs.Node.{Node, empty_node}
 use Rattle.cache_node.specs.True.{IsTrueNode}
@@ -14,7 +13,7 @@ use Rattle.shard_tables.specs.StoreView.{Store}
 use Rattle.shard_tables.specs.Stores.{note_of}
 use Rattle.tao_keeper.specs.Table.{Tables}
 use Rattle.topology.specs.Config.{Settings}
-use Rattle.core_model.specs.Fleet.{Fleet, follower_names, leader_names, names_of, regions_of, served_by}
+use Rattle.core_model.specs.Fleet.{Fleet, follower_names, leader_names, names_of, served_by}
 use Rattle.core_model.specs.Pens.{no_view}
 use Rattle.core_model.specs.Stores.{AreStores, master_log}
 use Rattle.core_model.specs.declared.named.Named.{Named}

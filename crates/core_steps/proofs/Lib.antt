@@ -1,4 +1,5 @@
 mod AlongLemmas
+mod AskingLemmas
 mod ReadLemmas
 mod Repeats
 pub mod GrowingLemmas

@@ -1,5 +1,5 @@
 -- The inboxes of a configuration stay such.
-use Rattle.std.proofs.Common.{◌≡◌, ℕ, zero, suc, ◌<◌, ◌%◌, true, List, [], ◌∷◌, take, drop, map, refl, ap, sym, ◌∙◌, subst, inl, inr}
+use Rattle.std.proofs.Common.{◌≡◌, ℕ, zero, suc, ◌<◌, ◌%◌, true, List, [], ◌∷◌, map, refl, ap, sym, ◌∙◌, subst, inl, inr}
 use Rattle.std.proofs.lemmas.Bool.{eq-eqb}
 use Rattle.std.proofs.lemmas.List.Elements.{Contains-append_left, Contains-append_right}
 use Rattle.std.specs.List.{AllByRecursion, remove}
@@ -20,7 +20,7 @@ use Rattle.topology.specs.States.{NodeStates, is_up}
 use Rattle.core_model.specs.Evictions.{IsCacheOf}
 use Rattle.core_model.specs.Fleet.{ChangesNode, IsFirstAt, follower_names, leader_names, named, names_of, regions_of, serves_in_turn}
 use Rattle.core_model.specs.Messages.{IsMessageFor, told_of}
-use Rattle.core_model.specs.Pens.{IsSeen, Pens, Rise}
+use Rattle.core_model.specs.Pens.{IsSeen, Pens}
 use Rattle.core_model.specs.declared.named.Named.{Named}
 use Rattle.core_model.proofs.NamedNodes.{all_set, named_stands, names_set}
 use Rattle.core_model.proofs.Places.{one_some}

@@ -1,5 +1,5 @@
 -- One follower of a region after another is told of an entry.
-use Rattle.std.proofs.Common.{◌≡◌, ℕ, suc, ◌+◌, ◌-◌, ◌<◌, ◌≤◌, true, false, List, [], ◌∷◌, ◌++◌, map, refl, ap, sym, ◌∙◌, subst, arith}
+use Rattle.std.proofs.Common.{◌≡◌, ℕ, suc, ◌+◌, ◌-◌, ◌<◌, ◌≤◌, true, false, List, ◌∷◌, ◌++◌, map, refl, ap, sym, ◌∙◌, subst, arith}
 use Rattle.std.proofs.lemmas.Bool.{and_parts}
 use Rattle.std.proofs.lemmas.List.{append-nil}
 use Rattle.std.proofs.lemmas.List.Elements.{Contains-append_right}
@@ -8,7 +8,6 @@ use Rattle.std.specs.Prelude.{Contains, filter, min}
 use Rattle.maint_msg.specs.Inbox.{IsSent}
 use Rattle.maint_msg.specs.Maints.{SeenMaint}
 use Rattle.node_name.specs.declared.NodeName.{NodeName}
-use Rattle.node_name.specs.declared.NodeName.TheVariants.{Follower}
 use Rattle.topology.specs.Choices.{serving_follower}
 use Rattle.topology.specs.Config.{Settings}
 use Rattle.topology.specs.Counts.{NodeCounts, tier_count}

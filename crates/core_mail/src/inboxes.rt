@@ -83,11 +83,7 @@ fn take_from(inbox: &mut Inbox, place: usize) -> Option<Maint>
 }
 
 /// Takes the message at a place out of a node's inbox.
-pub(crate) fn take_at(
-    inboxes: &mut [Named<Inbox>],
-    name: NodeName,
-    place: usize,
-) -> Option<Maint>
+pub(crate) fn take_at(inboxes: &mut [Named<Inbox>], name: NodeName, place: usize) -> Option<Maint>
     requires { HasNode name inboxes.old }
     ensures { ChangesNode name (TakesOut place result) inboxes.old inboxes.new }
 {

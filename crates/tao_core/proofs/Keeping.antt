@@ -1,5 +1,5 @@
 -- What leaves a core one that may be used.
-use Rattle.std.proofs.Common.{◌≡◌, Bool, List, ap, sym, subst}
+use Rattle.std.proofs.Common.{◌≡◌, Bool, List, ap, sym, ◌∙◌, subst}
 use Rattle.std.specs.Prelude.{All, Option}
 use Rattle.cache_items.specs.Node.{Node}
 use Rattle.core_mail.proofs.InboxLemmas.{inboxes_stay}
@@ -81,6 +81,21 @@ module _ (tells : Bool) (tables : Tables) (core : CoreState) (of : IsCoreOf tell
     sessions = of.sessions;
     no_inverse = of.no_inverse;
   }
+
+-- a message was processed, or lost
+pub delivered_core : (tells : Bool) (tables : Tables) (old new : CoreState) → IsCoreOf tells tables old → IsFleetOf old.settings new.fleet
+    → new.fleet.masters ≡ old.fleet.masters → AreInboxesOf old.settings (pens_of old.fleet.masters) new.mail
+    → new ≡ record old { fleet = new.fleet; mail = new.mail } → IsCoreOf tells tables new
+delivered_core tells tables old new of fleet masters inboxes rest =
+    subst (IsCoreOf tells tables) (sym rest) (nodes_core tells tables old of new.fleet new.mail fleet masters inboxes)
+
+-- of what changed only the nodes, the messages are as they were
+pub only_nodes : (old new : CoreState) → new ≡ record old { fleet = new.fleet } → new ≡ record old { fleet = new.fleet; mail = new.mail }
+only_nodes old new rest = rest ∙ ap (λ m. record old { fleet = new.fleet; mail = m }) (sym (ap (λ (x : CoreState). x.mail) rest))
+
+-- and where only messages changed, the nodes
+pub only_mail : (old new : CoreState) → new ≡ record old { mail = new.mail } → new ≡ record old { fleet = new.fleet; mail = new.mail }
+only_mail old new rest = rest ∙ ap (λ f. record old { fleet = f; mail = new.mail }) (sym (ap (λ (x : CoreState). x.fleet) rest))
 
 -- ---- an item is dropped
 

@@ -5,7 +5,8 @@ use Rattle.std.specs.Option.{option_map}
 use Rattle.std.specs.Prelude.{Contains, IsTrue, map, option_and_then, slice_get, slice_set}
 use Rattle.cache_items.specs.Node.{Node, item_at}
 use Rattle.cache_items.specs.declared.item.Item.{Item}
-use Rattle.core_mail.specs.Inboxes.{Inboxes, TakesOut, WaitsAt}
+use Rattle.core_mail.proofs.InboxLemmas.{inboxes_stay}
+use Rattle.core_mail.specs.Inboxes.{AreInboxesOf, Inboxes, TakesOut, WaitsAt}
 use Rattle.core_model.proofs.Places.{set_same}
 use Rattle.core_model.proofs.Turns.{turn_of}
 use Rattle.core_model.specs.Consistent.{IsConsistent, IsFleetOf, IsNodeOf}
@@ -62,6 +63,11 @@ use Rattle.tao_core.specs.Deliveries.{AnswersDeliver, AnswersRefill, AnswersSeco
 use Rattle.tao_core.proofs.Ways.{leader_for}
 
 -- ---- messages
+
+-- each leader and follower of the configuration has an inbox
+pub inbox_has : (core : CoreState) (node : NodeName) → AreInboxesOf core.settings (pens_of core.fleet.masters) core.mail → IsCacheOf core.settings node
+    → HasNode node core.mail
+inbox_has core node inboxes cache = (inboxes_stay core.settings (pens_of core.fleet.masters) core.mail).cache_has node cache inboxes
 
 -- nothing is taken out past the end
 remove_none : {X : Type 0} (xs : List X) (place : ℕ) → None ≡ slice_get xs place → remove xs place ≡ xs

@@ -58,7 +58,7 @@ ended_items None n = refl
 ended_items (Some number) n = refl
 
 -- what a node holds is exact in the log
-held_exact : (s : Settings) (pens : Pens) (name : NodeName) (node : Node) (key : Key) (item : Item) (found : Option ServedShard)
+pub held_exact : (s : Settings) (pens : Pens) (name : NodeName) (node : Node) (key : Key) (item : Item) (found : Option ServedShard)
     → served_at (key_shard key) node.served ≡ found → IsSome found → IsNodeOf s pens name node → (pens (key_shard key)).log.told ≡ true
     → item_at node.items key ≡ Some item → IsExactContent (pens (key_shard key)).entries key item.version item.content
 held_exact s pens name node key item None at here is told held = absurd (cc)

@@ -1,5 +1,5 @@
 -- What leaves a core one that may be used.
-use Rattle.std.proofs.Common.{◌≡◌, Bool, List, ap, sym, subst}
+use Rattle.std.proofs.Common.{◌≡◌, Bool, List, refl, ap, sym, ◌∙◌, subst}
 use Rattle.std.specs.Prelude.{All, Option}
 use Rattle.cache_items.specs.Node.{Node}
 use Rattle.core_mail.proofs.InboxLemmas.{inboxes_stay}
@@ -82,6 +82,33 @@ module _ (tells : Bool) (tables : Tables) (core : CoreState) (of : IsCoreOf tell
     no_inverse = of.no_inverse;
   }
 
+-- a message was processed, or lost
+pub delivered_core : (tells : Bool) (tables : Tables) (old new : CoreState) → IsCoreOf tells tables old → IsFleetOf old.settings new.fleet
+    → new.fleet.masters ≡ old.fleet.masters → AreInboxesOf old.settings (pens_of old.fleet.masters) new.mail
+    → new ≡ record old { fleet = new.fleet; mail = new.mail } → IsCoreOf tells tables new
+delivered_core tells tables old new of fleet masters inboxes rest =
+    subst (IsCoreOf tells tables) (sym rest) (nodes_core tells tables old of new.fleet new.mail fleet masters inboxes)
+
+-- the messages stay
+pub nodes_only : (tells : Bool) (tables : Tables) (old new : CoreState) → IsCoreOf tells tables old → IsFleetOf old.settings new.fleet
+    → new.fleet.masters ≡ old.fleet.masters → new ≡ record old { fleet = new.fleet } → IsCoreOf tells tables new
+nodes_only tells tables old new of fleet masters rest =
+    subst (IsCoreOf tells tables) (sym rest) (nodes_core tells tables old of new.fleet old.mail fleet masters of.mail)
+
+-- the nodes stay
+pub mail_only : (tells : Bool) (tables : Tables) (old new : CoreState) → IsCoreOf tells tables old
+    → AreInboxesOf old.settings (pens_of old.fleet.masters) new.mail → new ≡ record old { mail = new.mail } → IsCoreOf tells tables new
+mail_only tells tables old new of inboxes rest =
+    subst (IsCoreOf tells tables) (sym rest) (nodes_core tells tables old of old.fleet new.mail of.consistent.fleet refl inboxes)
+
+-- of what changed only the nodes, the messages are as they were
+pub only_nodes : (old new : CoreState) → new ≡ record old { fleet = new.fleet } → new ≡ record old { fleet = new.fleet; mail = new.mail }
+only_nodes old new rest = rest ∙ ap (λ m. record old { fleet = new.fleet; mail = m }) (sym (ap (λ (x : CoreState). x.mail) rest))
+
+-- and where only messages changed, the nodes
+pub only_mail : (old new : CoreState) → new ≡ record old { mail = new.mail } → new ≡ record old { fleet = new.fleet; mail = new.mail }
+only_mail old new rest = rest ∙ ap (λ f. record old { fleet = f; mail = new.mail }) (sym (ap (λ (x : CoreState). x.fleet) rest))
+
 -- ---- an item is dropped
 
 cache_masters : (node : NodeName) (By : Node → Node → Type 0) (old new : Fleet) → ChangesCache node By old new → new.masters ≡ old.masters
@@ -98,8 +125,7 @@ pub evicted_core : (tells : Bool) (tables : Tables) (node : NodeName) (key : Opt
     → AnswersEvict node key old reply new → IsFleetOf old.core.settings new.core.fleet → new.core ≡ record old.core { fleet = new.core.fleet }
     → IsCoreOf tells tables new.core
 evicted_core tells tables node key old new reply of answers fleet rest =
-    subst (IsCoreOf tells tables) (sym rest)
-    (nodes_core tells tables old.core of new.core.fleet old.core.mail fleet (evicted_masters node key old new reply answers) of.mail)
+    nodes_only tells tables old.core new.core of fleet (evicted_masters node key old new reply answers) rest
 
 -- ---- no table changes
 

@@ -63,7 +63,7 @@ fn shown_content(alloc: Global, content: &Content) -> Result<ShownItem, OutOfMem
 
 /// What a node holds, copied.
 fn shown_item(alloc: Global, item: Option<&Item>) -> Result<Shown, OutOfMemory>
-    ensures { IfOk result (λ shown. shown ≡ shown_item (option_copied item)) }
+    ensures { IfOk result (λ shown. shown ≡ shown_item (option_copied item.entry)) }
 {
     match item {
         Some(item) => Ok(Shown::Held {

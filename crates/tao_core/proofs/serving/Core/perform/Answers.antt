@@ -2,7 +2,8 @@ use Rattle.std.proofs.Common.{subst, sym}
 use Rattle.tao_core.specs.Asked.{CanBeDone}
 use Rattle.tao_core.specs.Core.{CoreState, IsCoreOf, IsPlacedIn, core_state, moment}
 use Rattle.tao_core.specs.declared.sessions.OpenSession.{OpenSession}
-use Rattle.tao_core.proofs.Keeping.{core_stays, evicted_core, opened_core}
+use Rattle.tao_core.proofs.Delivering.{refill_went}
+use Rattle.tao_core.proofs.Keeping.{core_stays, delivered_core, evicted_core, opened_core}
 use Rattle.tao_core.proofs.serving.Core.perform.Goals as goal
 
 pub returns-in-Open-clause-keepers : goal.returns-in-Open-clause-keepers

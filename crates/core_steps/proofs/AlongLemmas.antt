@@ -11,7 +11,8 @@ use Rattle.core_model.specs.Fleet.{ChangesNode, Fleet}
 use Rattle.core_model.specs.Pens.{pens_of}
 use Rattle.core_model.specs.Reads.{EndsAsk, IsGivenAnswer, IsGivenFill, IsLegalLook, KeepsFill, LeaderAnswers, LooksFirst, StoreReads, Wanted, given_of}
 use Rattle.core_model.specs.Stores.{AreStoresOf, master_store}
-use Rattle.core_nodes.proofs.NamedNodes.{changes_so, is_after}
+use Rattle.core_model.proofs.NamedNodes.{changes_so}
+use Rattle.core_nodes.proofs.NodesOfNames.{is_after}
 use Rattle.follower_cache.specs.Seen.{FollowerState}
 use Rattle.graph_model.specs.Log.{version}
 use Rattle.graph_model.specs.Told.{WhereTold}

@@ -1,5 +1,4 @@
 mod AlongLemmas
-mod AskingLemmas
 mod ReadLemmas
 mod Repeats
 pub mod GrowingLemmas

@@ -1,9 +1,8 @@
 -- What the reply to a session's call says.
 use Rattle.std.specs.Prelude.{ℕ, ◌≡◌, Bool, Some, None}
-use Rattle.core_model.specs.Reads.{wanted}
 use Rattle.core_steps.specs.Reads.{ReadsAlong}
 use Rattle.core_steps.specs.Routes.{Scene, scene}
-use Rattle.core_steps.specs.Writes.{ClientWrite, Posting, WritesAlong, client_call, posting}
+use Rattle.core_steps.specs.Writes.{ClientWrite, WritesAlong, client_call}
 use Rattle.core_steps.specs.declared.routes.Route.{Route}
 use Rattle.replies.specs.declared.refusals.NodeRefused.TheVariants.{NoServer}
 use Rattle.replies.specs.declared.refusals.Refusal.TheVariants.{Node}
@@ -23,10 +22,6 @@ use Rattle.tao_core.specs.declared.sessions.OpenSession.{OpenSession}
 -- the nodes of a core, with what is shown to them
 abbrev pub scene_of : Moment → Scene
 scene_of m = scene m.core.fleet m.keepers m.link
-
--- with the messages that wait
-abbrev pub posting_of : Moment → Posting
-posting_of m = posting (scene_of m) m.core.mail m.core.states
 
 -- ---- the way of a call
 
@@ -51,7 +46,7 @@ pub record ReadGoes (tells : Bool) (old : Moment) (call : CheckedRead) (reply : 
   pub route : Route
   pub found : session_at old.core.sessions call.session ≡ Some session
   pub way : IsRoute old.core session session.region (query_shard call.query) route
-  pub reads : ReadsAlong tells old.core.settings route (wanted call.query 0) reply (scene_of old) (scene_of new)
+  pub reads : ReadsAlong tells old.core.settings route call.query reply (scene_of old) (scene_of new)
 
 abbrev pub RepliesToRead : Bool → Moment → CheckedRead → Reply → Moment → Type 0
 RepliesToRead tells old call (Refused (Node (NoServer region))) new = FindsNoServer old call.session (query_shard call.query) region new
@@ -75,13 +70,13 @@ pub record WriteGoes (tells : Bool) (old : Moment) (call : CheckedWrite) (reply 
   pub route : Route
   pub found : session_at old.core.sessions call.session ≡ Some session
   pub way : IsRoute old.core session (master_region old.core.states (write_shard call.write)) (write_shard call.write) route
-  pub writes : WritesAlong tells old.core.settings route (client_write_of call) reply (posting_of old) (posting_of new)
+  pub writes : WritesAlong tells old.core.settings route (client_write_of call) reply (scene_of old) (scene_of new)
 
 abbrev pub RepliesToWrite : Bool → Moment → CheckedWrite → Reply → Moment → Type 0
 RepliesToWrite tells old call (Refused (Node (NoServer region))) new = FindsNoServer old call.session (write_shard call.write) region new
 RepliesToWrite tells old call reply new = WriteGoes tells old call reply new
 
--- what the reply to a write says. Nothing of the core but its nodes and their messages changes
+-- what the reply to a write says. Nothing of the core but its nodes changes
 pub record AnswersWrite (tells : Bool) (old : Moment) (call : CheckedWrite) (reply : Reply) (new : Moment) : Type 0 where
   pub replies : RepliesToWrite tells old call reply new
-  pub rest : new.core ≡ record old.core { fleet = new.core.fleet; mail = new.core.mail }
+  pub rest : new.core ≡ record old.core { fleet = new.core.fleet }

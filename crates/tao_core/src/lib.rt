@@ -2,7 +2,6 @@
 #![tactic(auto)]
 
 mod audits;
-mod deliveries;
 mod refusals;
 mod resolving;
 mod serving;

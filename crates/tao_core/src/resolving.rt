@@ -50,14 +50,8 @@ fn is_built(request: &Request) -> bool
 {
     match request {
         Request::Open(_)
-        | Request::Deliver(_)
-        | Request::Again(_)
-        | Request::Drop(_)
-        | Request::Refill { .. }
-        | Request::Evict { .. }
-        | Request::Show { .. }
-        | Request::Inbox { .. }
         | Request::Audit(_)
+        | Request::Evict { .. }
         | Request::Call(Call::Write(_)) => true,
         Request::Call(Call::Read(read)) => !read.critical,
         _ => false,

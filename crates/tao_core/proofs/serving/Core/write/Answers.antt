@@ -26,12 +26,12 @@ pub returns-clause-does : goal.returns-clause-does
 returns-clause-does g c =
     let state = g.K.Keeper.state in
     let shown = g.L.Link.shown in
-    let after : CoreState = record (core_state c.self.inside) { fleet = c.write_along.new.fleet; mail = c.write_along.new.mail } in
+    let after : CoreState = record (core_state c.self.inside) { fleet = c.write_along.new.fleet } in
     subst (λ x. AnswersWrite g.K.Keeper.TELLS (moment x (state c.args.keepers.now) (shown c.args.link.now)) c.args.call.now c.write_along.result
     (moment after (state c.write_along.new.keepers) (shown c.write_along.new.link))) c.self.view_is
     (answers_write g.K.Keeper.TELLS (core_state c.self.inside) c.write_along.new.fleet c.at-session.result
     (record { follower = c.in-Some.follower; leader = c.preferred.result })
     (state c.args.keepers.now) (state c.write_along.new.keepers) (shown c.args.link.now) (shown c.write_along.new.link)
     c.write_along.result c.args.call.now c.master-master.result
-    c.shard-shard.result c.write_along.new.mail c.at-session.ensures c.shard-shard.ensures c.master-master.ensures.master c.in-Some.ensures.chosen c.preferred.ensures.preferred
+    c.shard-shard.result c.at-session.ensures c.shard-shard.ensures c.master-master.ensures.master c.in-Some.ensures.chosen c.preferred.ensures.preferred
     c.write_along.ensures.writes)

@@ -7,11 +7,17 @@ use std::test::Fail;
 use tao_base::{Id, OutOfMemory};
 
 const HIT: Came = (Step::Hit, 0, false);
+
 const MISS: Came = (Step::Miss, 0, false);
+
 const FILLED: Came = (Step::Filled, 2, true);
+
 const PAST: Came = (Step::Past, 2, true);
+
 const BEHIND: Came = (Step::Behind, 2, true);
+
 const KEEP: Came = (Step::Keep(Kept::Yes), 0, false);
+
 const LOSE: Came = (Step::Keep(Kept::Lost), 0, false);
 
 const KEPT: KeptOrNot = KeptOrNot::Kept;
@@ -53,12 +59,28 @@ fn reads_end_by_their_stages(rt: HostRuntime) -> Result<(), Fail> {
     let rows: [(bool, &'static [Came], End); 8] = [
         (false, &[HIT], answered(90, 9, 0, false, KEPT)),
         (false, &[MISS, FILLED, KEEP], answered(70, 7, 2, true, KEPT)),
-        (false, &[MISS, (Step::Filled, 2, false), KEEP], answered(70, 7, 2, false, KEPT)),
+        (
+            false,
+            &[MISS, (Step::Filled, 2, false), KEEP],
+            answered(70, 7, 2, false, KEPT),
+        ),
         (false, &[MISS, PAST, KEEP], answered(80, 8, 2, true, bound)),
-        (false, &[MISS, BEHIND, FILLED, KEEP], answered(70, 7, 4, true, KEPT)),
-        (false, &[MISS, BEHIND, PAST, LOSE], answered(80, 8, 4, true, bound)),
+        (
+            false,
+            &[MISS, BEHIND, FILLED, KEEP],
+            answered(70, 7, 4, true, KEPT),
+        ),
+        (
+            false,
+            &[MISS, BEHIND, PAST, LOSE],
+            answered(80, 8, 4, true, bound),
+        ),
         (true, &[MISS, FILLED, KEEP], answered(70, 7, 2, true, KEPT)),
-        (true, &[HIT, PAST, (Step::Keep(Kept::Yes), 1, false)], answered(80, 8, 3, true, bound)),
+        (
+            true,
+            &[HIT, PAST, (Step::Keep(Kept::Yes), 1, false)],
+            answered(80, 8, 3, true, bound),
+        ),
     ];
     for (critical, steps, end) in rows {
         assert!(rt; ends(alloc, id, critical, steps, end)?, "{steps:?}");

@@ -7,10 +7,10 @@ use crate::said::Said;
 use crate::spelled::put_members;
 use crate::texts::{unsettled_text, when_text};
 use json::Writer;
+use node_name::NodeName;
 use replies::{
     LineRefused, NameRefused, NodeRefused, PlanRefused, Refusal, SessionRefused, StoreRefused, When,
 };
-use node_name::NodeName;
 use std::alloc::{AllocError, Global};
 use topology::Config;
 

@@ -23,7 +23,7 @@ pub rows_more : (row rows new whole rest : List DroppedList) → ((more : List D
 rows_more row rows new whole rest h (inl same) more some = subst (λ xs. AreSome (xs ++ more) whole) (sym same) (h more (some_left row more rest some))
 rows_more row rows new whole rest h (inr added) more some =
     subst (λ xs. AreSome (xs ++ more) whole) (sym added)
-        (subst (λ xs. AreSome xs whole) (sym (append_assoc rows row more)) (h (row ++ more) (some_both row more rest some)))
+    (subst (λ xs. AreSome xs whole) (sym (append_assoc rows row more)) (h (row ++ more) (some_both row more rest some)))
 
 pub rows_all : (rows whole : List DroppedList) → AreSome (rows ++ []) whole → AreSome rows whole
 rows_all rows whole h = subst (λ xs. AreSome xs whole) (append-nil rows) h

@@ -2,7 +2,6 @@
 use Rattle.std.specs.Prelude.{◌≡◌, ℕ, ◌<◌, ◌≤◌, ◌⊎◌, Option, Some, None}
 use Rattle.std.specs.Map.{set_value}
 use Rattle.tao_base.specs.declared.entry.Change.{Change}
-use Rattle.tao_base.specs.declared.id.Key.{Key}
 use Rattle.tao_base.specs.EdgeTypes.{EdgeTypes}
 use Rattle.tao_base.specs.Keys.{key_shard, same_key}
 use Rattle.graph_model.specs.Log.{object_after}

@@ -1,9 +1,6 @@
 //! What a node holds at a key.
-ghost use Rattle.std.specs.Prelude.{◌≡◌, ◌<◌, ◌+◌, ◌↔◌, IfOk, IsTrue, MatchBool, OnErr, OnOk, Option, Some, None, true, if◌then◌else◌};
-ghost use Rattle.tao_base.specs.Queries.{query_key};
-ghost use Rattle.tao_base.specs.Keys.{key_shard};
+ghost use Rattle.std.specs.Prelude.{◌≡◌, ◌<◌, ◌+◌, IfOk, MatchBool, OnErr, OnOk};
 ghost use Rattle.tao_schema.specs.Schema.{types_of};
-ghost use Rattle.sealed_item.specs.Decided.{is_longer_content as longer, IsContentFront, query_bound, content_answer, content_decides, content_read};
 ghost use Rattle.cache_items.specs.HandedOn.{IsFrontItem};
 ghost use Rattle.cache_items.specs.Look.{item_look};
 ghost use Rattle.cache_items.specs.Taken.{StaysBy, changed_content};

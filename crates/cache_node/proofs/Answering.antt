@@ -43,4 +43,4 @@ pub fill_answers : (types : EdgeTypes) (query : Query) (fill : SealedItem) → f
     → ViewAnswers types fill.note query (content_answer types fill.content query) fill.version
 fill_answers types query fill key decided sealed told =
     content_answers types fill.note.entries query fill.version fill.content
-        (subst (λ k. IsExactContent fill.note.entries k fill.version fill.content) key (sealed told).exact) decided
+    (subst (λ k. IsExactContent fill.note.entries k fill.version fill.content) key (sealed told).exact) decided

@@ -88,8 +88,10 @@ restarted_true (s ∷ ss) (low ∷ lows) (note ∷ notes) reached meets k after 
       let note_told : note.log.told ≡ true = ap (λ l. l.told) (sym meets.0.from_note.log_is) ∙ first_told in
       let longer = begins-length note.entries (longer_view s.view note).entries meets.0.from_note.begins in
       let le = reached.0 note_told in
-      subst IsTrueServed same (record { sound = meets.0.sound first_told;
-          within = λ p mark. low_within low p (length (longer_view s.view note).entries) (omega arith) mark }))
+      subst IsTrueServed same (record {
+        sound = meets.0.sound first_told;
+        within = λ p mark. low_within low p (length (longer_view s.view note).entries) (omega arith) mark;
+      }))
   | inr off ↦ restarted_true ss lows notes reached.1 meets.1 k after (rw off at at) told
 ]
 
@@ -112,4 +114,4 @@ pub emptied_is_true : (n : Node) (lows : List ℕ) (notes : List View) → AreAl
     → IsTrueNode (emptied lows notes n)
 emptied_is_true n lows notes alike reached meets =
     empty_is_true (emptied lows notes n) refl refl (alike_stays n.served (restarted n.served lows notes) (restarted_back n.served lows notes) alike)
-        (restarted_true n.served lows notes reached meets)
+    (restarted_true n.served lows notes reached meets)

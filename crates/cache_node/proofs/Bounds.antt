@@ -62,7 +62,7 @@ caught_fewer : (shard : ℕ) (entries : List Entry) (n : Node) → IsDistinct sa
 caught_fewer shard [] n distinct q item h = h
 caught_fewer shard (e ∷ es) n distinct q item h =
     (held_dropped (keys_of e) n.items q item distinct
-        (caught_fewer shard es (processed shard e.position (keys_of e) n) (distinct_dropped (keys_of e) n.items distinct) q item h)).0
+    (caught_fewer shard es (processed shard e.position (keys_of e) n) (distinct_dropped (keys_of e) n.items distinct) q item h)).0
 
 pub items_stay_within : (types : EdgeTypes) (items : Items) → ItemsStayWithin types items
 items_stay_within types items = record {
@@ -72,5 +72,5 @@ items_stay_within types items = record {
   changed = λ c new distinct takes within. changed_within types items c new (item_at items c.key) distinct refl takes within;
   caught = λ shard entries n same distinct within q item h.
       within q item (subst (λ xs. item_at xs q ≡ Some item) same
-          (caught_fewer shard entries n (subst (λ xs. IsDistinct same_key (keys_held xs)) (sym same) distinct) q item h));
+      (caught_fewer shard entries n (subst (λ xs. IsDistinct same_key (keys_held xs)) (sym same) distinct) q item h));
 }

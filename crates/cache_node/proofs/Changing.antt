@@ -46,8 +46,8 @@ content_follows log t (Assocs id1 atype) v (ListIs prefix) bound sound touch key
 pub touch_reached : (log : List Entry) (t : Touch) → IsSound log → IsTouchOf log t → t.version ≤ version log t.key
 touch_reached log t sound touch =
     let tells =
-        All-contains (λ t. t.version ≡ version (take (touch.place + 1) log) t.key) touch.entry.touches t
-            (touches_tell log sound touch.place touch.entry touch.stands).versions touch.touches in
+    All-contains (λ t. t.version ≡ version (take (touch.place + 1) log) t.key) touch.entry.touches t
+    (touches_tell log sound touch.place touch.entry touch.stands).versions touch.touches in
     let le = version_take (touch.place + 1) log t.key in
     omega arith
 
@@ -73,7 +73,7 @@ touch_is_true n c bound items distinct is next seen takes = by_item (item_at n.i
         record {
           exact = subst (λ v. IsExactContent s.view.entries c.key v (changed_content item.content c.change bound)) (sym version)
               (content_follows s.view.entries (own_touch c) c.key item.version item.content bound
-                  (was.served (key_shard c.key) s at).sound there.0 refl version there.1 before.exact);
+              (was.served (key_shard c.key) s at).sound there.0 refl version there.1 before.exact);
           reaches = λ p v on there. let le = before.reaches p v on there in omega arith;
         })
 
@@ -84,9 +84,9 @@ pub changed_is_true : (n : Node) (c : SeenChange) (bound : ℕ) (items : Items) 
 changed_is_true n c bound items distinct is meets touch bits takes =
     let m : Node = met (key_shard c.key) c.note n in
     let taken =
-        touch_is_true m c bound items distinct (met_is_true n (key_shard c.key) c.note is meets) touch.next (λ s told at. (in_view s told at, bits)) takes in
+    touch_is_true m c bound items distinct (met_is_true n (key_shard c.key) c.note is meets) touch.next (λ s told at. (in_view s told at, bits)) takes in
     raised_is_true (record m { items = items }) c.key c.after taken
-        (λ s told was at. touch_reached s.view.entries (own_touch c) (was.served (key_shard c.key) s at).sound (in_view s told at))
+    (λ s told was at. touch_reached s.view.entries (own_touch c) (was.served (key_shard c.key) s at).sound (in_view s told at))
   where
     in_view : (s : ServedShard) → AreTold (changed_at (key_shard c.key) (seeing c.note) n.served)
         → served_at (key_shard c.key) (changed_at (key_shard c.key) (seeing c.note) n.served) ≡ Some s

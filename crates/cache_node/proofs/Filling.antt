@@ -82,7 +82,7 @@ took_is_true fill kept n distinct is served meets can =
           (λ after told was at.
           let c = changed_here (key_shard fill.key) (seeing fill.note) n.served after (seeing_keeps fill.note) at in
           subst (CanKeep fill) (sym c.is) (can keep c.before
-              (told_before (key_shard fill.key) (seeing fill.note) n.served (seeing_keeps fill.note) told) c.was)))
+          (told_before (key_shard fill.key) (seeing fill.note) n.served (seeing_keeps fill.note) told) c.was)))
     ]
 
 versions_rise : (p q : ℕ) (log : List Entry) (key : Key) → p ≤ q → version (take p log) key ≤ version (take q log) key
@@ -190,10 +190,10 @@ took_fill_is_true fill kept ask n distinct is served meets sealed on_key due =
     let there : served_at (key_shard fill.key) n.served ≡ Some s = same_at ask s at in
     let key : admitted.found.key ≡ fill.key = key_of_found admitted.number admitted.found admitted.given admitted.is in
     let true_ask =
-        all_in (IsTrueAskOf n.served) n.asks.asks admitted.found logs.asks (find_in (is_numbered admitted.number) n.asks.asks admitted.found admitted.is) s
+    all_in (IsTrueAskOf n.served) n.asks.asks admitted.found logs.asks (find_in (is_numbered admitted.number) n.asks.asks admitted.found admitted.is) s
     (subst (λ k. served_at (key_shard k) n.served ≡ Some s) (sym key) there) in
     ask_reaches fill s admitted.found (meets.meets s there) (same_told ask told (key_shard fill.key) s there)
-        (logs.served (key_shard fill.key) s there) true_ask key admitted.mark admitted.floor sealed)
+    (logs.served (key_shard fill.key) s there) true_ask key admitted.mark admitted.floor sealed)
   where
     same_items : (ask : Option ℕ) → IsDistinct same_key (keys_held (with_ended_ask ask n).items)
     same_items None = distinct
@@ -229,5 +229,5 @@ took_own_is_true fill kept n distinct is served meets sealed due =
     (λ keep s told at.
     let top : top_at (key_shard fill.key) n.served ≡ top_of s.marks = rw at refl in
     let le =
-        own_yes (top_at (key_shard fill.key) n.served) fill.as_of (kept_yes (own_kept_of (top_at (key_shard fill.key) n.served) fill.as_of) kept due keep) in
+    own_yes (top_at (key_shard fill.key) n.served) fill.as_of (kept_yes (own_kept_of (top_at (key_shard fill.key) n.served) fill.as_of) kept due keep) in
     top_reaches fill s (meets.meets s at) (told (key_shard fill.key) s at) (omega arith) sealed)

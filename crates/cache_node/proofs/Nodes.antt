@@ -116,7 +116,7 @@ pub filled : {E : Type 0} (old new : Node) (fill : SealedItem) (ask : Option ℕ
     → IfOk r (λ x. new ≡ took fill x.1 (with_ended_ask ask old)) → OnErr r (new ≡ with_ended_ask ask old) → IsTrueNode new
 filled old new fill ask (Ok x) distinct is log sealed on_key meets due same same_err =
     subst IsTrueNode (sym same) (took_fill_is_true fill x.1 ask old distinct is
-        (is_served old.served (key_shard fill.key) fill.note.log log) meets sealed on_key due)
+    (is_served old.served (key_shard fill.key) fill.note.log log) meets sealed on_key due)
 filled old new fill ask (Err e) distinct is log sealed on_key meets due same same_err = subst IsTrueNode (sym same_err) (ended_is_true ask old is)
 
 pub filled_own : {E : Type 0} (old new : Node) (fill : SealedItem) (r : Result (Answer × Kept) E) → IsDistinct same_key (keys_held old.items) → IsTrueNode old

@@ -164,13 +164,13 @@ processed_with shard position keys items n left held s at names =
     let n1 : Node = record n { items = items } in
     let raised = raised_with shard position keys n1 left s at names in
     marked_is_true (record n1 { asks = raised_all keys n.asks }) shard position raised
-        (λ other there told. can_mark other (one_served n.served shard s other at there) told)
+    (λ other there told. can_mark other (one_served n.served shard s other at there) told)
   where
     can_mark : (other : ServedShard) → other ≡ s → other.view.log.told ≡ true
         → CanMark (record n { items = items; asks = raised_all keys n.asks }) shard position other
     can_mark other same told =
         subst (CanMark (record n { items = items; asks = raised_all keys n.asks }) shard position) (sym same)
-            (can (names (subst (λ o. o.view.log.told ≡ true) same told)))
+        (can (names (subst (λ o. o.view.log.told ≡ true) same told)))
       where
         can : NamesEntry s.view.entries shard position keys → CanMark (record n { items = items; asks = raised_all keys n.asks }) shard position s
         can named = record {
@@ -187,7 +187,7 @@ pub processed_is_true : (shard position : ℕ) (keys : List KeyVersion) (n : Nod
     → (s.view.log.told ≡ true → NamesEntry s.view.entries shard position keys) → IsTrueNode (processed shard position keys n)
 processed_is_true shard position keys n distinct is s at names =
     processed_with shard position keys (dropped n.items keys) n
-        (fewer_is_true n (dropped n.items keys) is (λ key item h. (held_dropped keys n.items key item distinct h).0))
+    (fewer_is_true n (dropped n.items keys) is (λ key item h. (held_dropped keys n.items key item distinct h).0))
     (λ key item h. (held_dropped keys n.items key item distinct h).1) s at names
 
 -- entries that are named in what was seen were processed
@@ -200,7 +200,7 @@ caught_up_is_true shard (e ∷ es) n distinct is s at names =
     let there : served_at shard (changed_at shard (marking e.position) n.served) ≡ Some (marking e.position s) =
     changed_there shard (marking e.position) (marking_keeps e.position).shard n.served ∙ ap (option_map (marking e.position)) at in
     caught_up_is_true shard es (processed shard e.position (keys_of e) n) (distinct_dropped (keys_of e) n.items distinct) one (marking e.position s) there
-        (λ told. (names told).1)
+    (λ told. (names told).1)
 
 -- the first of the entries from a place on, and the place after it
 first_from : (log : List Entry) (low n : ℕ) (e : Entry) (es : List Entry) → e ∷ es ≡ take (suc n) (drop low log)

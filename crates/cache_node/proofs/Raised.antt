@@ -28,10 +28,20 @@ pub record Raise (key : Key) (v : ℕ) (a after : Ask) : Type 0 where
 
 pub raise_is : (key : Key) (v : ℕ) (a : Ask) → Raise key v a (raised_ask key v a)
 raise_is key v a = elim (same_key a.key key) as (λ b. same_key a.key key ≡ b → Raise key v a (cond b (record a { floor = max a.floor v }) a)) [
-  | true ↦ λ on. record { key_is = refl; mark_is = refl; rises = omega arith; reaches = λ same. omega arith;
-      least = λ bound le up. let high = up on in omega arith }
-  | false ↦ λ off. record { key_is = refl; mark_is = refl; rises = omega arith; reaches = λ same. absurd (both_ways (same_key a.key key) off same);
-      least = λ bound le up. le }
+  | true ↦ λ on. record {
+    key_is = refl;
+    mark_is = refl;
+    rises = omega arith;
+    reaches = λ same. omega arith;
+    least = λ bound le up. let high = up on in omega arith;
+  }
+  | false ↦ λ off. record {
+    key_is = refl;
+    mark_is = refl;
+    rises = omega arith;
+    reaches = λ same. absurd (both_ways (same_key a.key key) off same);
+    least = λ bound le up. le;
+  }
 ] refl
 
 raise_true : (s : ServedShard) (key : Key) (v : ℕ) (a after : Ask) → Raise key v a after → (same_key a.key key ≡ true → v ≤ version s.view.entries a.key)

@@ -23,13 +23,13 @@ mark_reaches m low window le = elim (cases_lt low m.low) [
       let next : ((low + 1) == (low + 1)) ≡ true = eq-eqb (low + 1) (low + 1) refl in
       let near : nat_le (low + 1) (m.low + 1024) ≡ true = le-leb (low + 1) (m.low + 1024) (omega arith) in
       let on : is_marked (with_mark (low + 1) m) (low + 1) ≡ true =
-          adds.marked (low + 1) ∙ or_right (is_marked m (low + 1)) ((low + 1) == (low + 1) && nat_le (low + 1) (m.low + 1024))
-              (and_from ((low + 1) == (low + 1)) (nat_le (low + 1) (m.low + 1024)) next near) in
+      adds.marked (low + 1) ∙ or_right (is_marked m (low + 1)) ((low + 1) == (low + 1) && nat_le (low + 1) (m.low + 1024))
+      (and_from ((low + 1) == (low + 1)) (nat_le (low + 1) (m.low + 1024)) next near) in
       elim (cases_lt (with_mark (low + 1) m).low (low + 1)) [
         | inl short ↦ (
             let same : low + 1 ≡ (with_mark (low + 1) m).low + 1 = omega arith in
             absurd (both_ways (is_marked (with_mark (low + 1) m) ((with_mark (low + 1) m).low + 1)) (adds.greatest window)
-                (subst (λ q. is_marked (with_mark (low + 1) m) q ≡ true) same on)))
+            (subst (λ q. is_marked (with_mark (low + 1) m) q ≡ true) same on)))
         | inr enough ↦ enough
       ])
 ]
@@ -43,10 +43,10 @@ reaches shard low (e ∷ es) n s at window le follow =
     let there : served_at shard (changed_at shard (marking e.position) n.served) ≡ Some (marking e.position s) =
     changed_there shard (marking e.position) (marking_keeps e.position).shard n.served ∙ ap (option_map (marking e.position)) at in
     let up : low + 1 ≤ (with_mark e.position s.marks).low =
-        subst (λ p. low + 1 ≤ (with_mark p s.marks).low) (sym follow.0) (mark_reaches s.marks low window le) in
+    subst (λ p. low + 1 ≤ (with_mark p s.marks).low) (sym follow.0) (mark_reaches s.marks low window le) in
     let rest =
-        reaches shard (low + 1) es (processed shard e.position (keys_of e) n) (marking e.position s) there
-            ((mark_adds s.marks e.position).window window) up follow.1 in
+    reaches shard (low + 1) es (processed shard e.position (keys_of e) n) (marking e.position s) there
+    ((mark_adds s.marks e.position).window window) up follow.1 in
     let far = rest.3 in
     (rest.0, rest.1, rest.2, omega arith)
 

@@ -76,7 +76,7 @@ put_held items most key item stays_not =
 kept_again : (types : EdgeTypes) (items : Items) (most : ℕ) (query : Query) (again : ℕ) (fill : SealedItem) → content_decides types fill.content query ≡ true
     → stays (item_at items (query_key query)) (item_of fill) ≡ false → again ≤ fill.version
     → look_of types (item_at (kept_items items most (query_key query) (item_of fill)) (query_key query)) query again
-        ≡ Hit (content_answer types fill.content query) fill.version
+    ≡ Hit (content_answer types fill.content query) fill.version
 kept_again types items most query again fill decides stays_not le =
     ap (λ found. look_of types found query again) (put_held items most (query_key query) (item_of fill) stays_not)
     ∙ decided_hit types query again (item_of fill) decides le
@@ -92,7 +92,7 @@ longer_stays types log query again fill (Some item) on held exact decides le =
     let parts = and_parts (item.version == fill.version) (is_longer_content item.content fill.content) on in
     let same : item.version ≡ fill.version = eqb-true item.version fill.version parts.0 in
     let there : IsExactContent log (query_key query) fill.version item.content =
-        subst (λ v. IsExactContent log (query_key query) v item.content) same (held item refl) in
+    subst (λ v. IsExactContent log (query_key query) v item.content) same (held item refl) in
     let longer = longer_contents_answer.decides types log query fill.version fill.content item.content exact there parts.1 decides in
     let answer = longer_contents_answer.answers types log query fill.version item.content fill.content there exact longer decides in
     let hit = decided_hit types query again item longer (omega arith) in
@@ -102,7 +102,7 @@ kept_beside : (types : EdgeTypes) (log : List Entry) (items : Items) (most : ℕ
     → IsExactAt log items (query_key query)
     → IsExactContent log (query_key query) fill.version fill.content → content_decides types fill.content query ≡ true → again ≤ fill.version
     → look_of types (item_at (kept_items items most (query_key query) (item_of fill)) (query_key query)) query again
-        ≡ Hit (content_answer types fill.content query) fill.version
+    ≡ Hit (content_answer types fill.content query) fill.version
 kept_beside types log items most query again fill held exact decides le = elim (cases_Bool (stays (item_at items (query_key query)) (item_of fill))) [
   | inl on ↦ (
       let same : kept_items items most (query_key query) (item_of fill) ≡ promoted (same_key (query_key query)) items = rw on refl in

@@ -74,7 +74,7 @@ changed_some shard k f ss s keeps h = elim (cases_Bool (k == shard)) [
       let here : k ≡ shard = eqb-true k shard on in
       let at : served_at shard ss ≡ Some s = subst (λ n. served_at n ss ≡ Some s) here h in
       let there : served_at k (changed_at shard f ss) ≡ Some (f s) =
-          subst (λ n. served_at n (changed_at shard f ss) ≡ Some (f s)) (sym here) (changed_there shard f keeps.shard ss ∙ ap (option_map f) at) in
+      subst (λ n. served_at n (changed_at shard f ss) ≡ Some (f s)) (sym here) (changed_there shard f keeps.shard ss ∙ ap (option_map f) at) in
       (f s, there, keeps.log s))
   | inr off ↦ (s, changed_elsewhere shard k f keeps.shard off ss ∙ h, refl)
 ]

@@ -54,8 +54,12 @@ after_set items key new q some = lookup-set_value key_laws (same_key key) (λ x 
 same_rises : (old : Items) (c : SeenChange) (key : Key) (item : Item) → ((other : Item) → item_at old c.key ≡ Some other → c.after ≤ other.version)
     → item_at old key ≡ Some item → Rises old c key item
 same_rises old c key item high held =
-    record { was = item; held = held; rises = omega arith;
-        reaches = λ on. high item (subst (λ k. item_at old k ≡ Some item) (same_key-same key c.key on) held) }
+    record {
+      was = item;
+      held = held;
+      rises = omega arith;
+      reaches = λ on. high item (subst (λ k. item_at old k ≡ Some item) (same_key-same key c.key on) held);
+    }
 
 -- where the item of the key took the change
 set_rises : (old : Items) (c : SeenChange) (was new : Item) (key : Key) (item : Item) → item_at old c.key ≡ Some was → was.version ≤ c.after
@@ -68,8 +72,12 @@ set_rises old c was new key item some up version h =
           let e : Some new ≡ Some item = rw on at found in
           let same : new ≡ item = cc in
           let high : item.version ≡ c.after = ap (λ (i : Item). i.version) (sym same) ∙ version in
-          record { was = was; held = subst (λ k. item_at old k ≡ Some was) (same_key-same c.key key on) some; rises = omega arith;
-              reaches = λ same. omega arith })
+          record {
+            was = was;
+            held = subst (λ k. item_at old k ≡ Some was) (same_key-same c.key key on) some;
+            rises = omega arith;
+            reaches = λ same. omega arith;
+          })
       | inr off ↦ record {
         was = item;
         held = rw off at found;
@@ -88,7 +96,7 @@ change_rises bound old new c key item distinct next takes h = by_item (item_at o
         same_rises old c key item (λ other is. absurd (let e : None ≡ Some other = sym none ∙ is in cc)) (subst (λ xs. item_at xs key ≡ Some item) same h)
     by_item (Some was) some (inl stays) =
         same_rises old c key item (λ other is. (let e : Some was ≡ Some other = sym some ∙ is in let i : was ≡ other = cc in subst (λ x. c.after ≤ x.version) i
-            stays.0))
+        stays.0))
         (subst (λ xs. item_at xs key ≡ Some item) stays.1 h)
     by_item (Some was) some (inr (inr goes)) =
         let left : item_at (without c.key old) key ≡ Some item = subst (λ xs. item_at xs key ≡ Some item) goes.1 h in
@@ -100,7 +108,7 @@ change_rises bound old new c key item distinct next takes h = by_item (item_at o
         }
     by_item (Some was) some (inr (inl takes)) =
         set_rises old c was (changed_item was c.change c.after bound) key item some (let same = takes.0 in omega arith) refl
-            (subst (λ xs. item_at xs key ≡ Some item) takes.1 h)
+        (subst (λ xs. item_at xs key ≡ Some item) takes.1 h)
 
 -- no key is held twice after a changeset
 pub distinct_change : (bound : ℕ) (old new : Items) (c : SeenChange) → IsDistinct same_key (keys_held old) → TakesChange bound (item_at old c.key) c old new
@@ -168,7 +176,7 @@ touches_seen : (shard : ℕ) (e : Entry) (note : View) (m : List ServedShard) (s
     → WhereTold note.log.told (All (λ t. key_shard t.key ≡ shard) e.touches) → AllByRecursion (IsSeenBy note m) e.touches
 touches_seen shard e note m s at grows on few sound stands here =
     recursion_from_All (IsSeenBy note m) e.touches
-        (All-weaker (Contains e.touches) (IsSeenBy note m) (λ t in_touches. seen t in_touches) e.touches (All-contains_itself e.touches))
+    (All-weaker (Contains e.touches) (IsSeenBy note m) (λ t in_touches. seen t in_touches) e.touches (All-contains_itself e.touches))
   where
     seen : (t : Touch) → Contains e.touches t → IsSeenBy note m t
     seen t in_touches other told there =
@@ -189,7 +197,7 @@ touches_seen shard e note m s at grows on few sound stands here =
 module _ (types : EdgeTypes) (old new : Node) (shard : ℕ) (e : Entry) (note : View) (distinct : IsDistinct same_key (keys_held old.items)) (is : IsTrueNode old)
     (log : log_at shard old.served ≡ Some note.log) (few : length note.entries ≤ most_entries) (sound : WhereTold note.log.told (IsSound note.entries))
     (stands : WhereTold note.log.told (entry_at note.entries e.position ≡ Some e))
-        (here : WhereTold note.log.told (All (λ t. key_shard t.key ≡ shard) e.touches))
+    (here : WhereTold note.log.told (All (λ t. key_shard t.key ≡ shard) e.touches))
     (meets : MeetsAt shard note old.served) (takes : TakesTouches types note e.touches old.items new.items) where
   -- what was had of the shard
   was : (s : ServedShard) × (served_at shard old.served ≡ Some s) × (s.view.log ≡ note.log)

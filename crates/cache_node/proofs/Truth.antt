@@ -53,18 +53,18 @@ change_served n shard f keeps is step = record {
               let there : served_at (key_shard key) n.served ≡ Some c.before = ap (λ k. served_at k n.served) c.here ∙ c.was in
               subst (λ s. IsTrueItem s key item) (sym c.is)
               ((step c.before c.was (before shard c.before c.was)).items key item c.here h (was.served shard c.before c.was)
-                  (was.items key item c.before h there)))
+              (was.items key item c.before h there)))
           | inr same ↦ was.items key item after h same
         ];
         asks = all_from_in (IsTrueAskOf (changed_at shard f n.served)) n.asks.asks
             (λ a here after at. elim (changed_cases shard (key_shard a.key) f n.served after keeps at) [
-          | inl c ↦ (
-              let there : served_at (key_shard a.key) n.served ≡ Some c.before = ap (λ k. served_at k n.served) c.here ∙ c.was in
-              subst (λ s. IsTrueAsk s a) (sym c.is)
-              ((step c.before c.was (before shard c.before c.was)).asks a c.here here (was.served shard c.before c.was)
+              | inl c ↦ (
+                  let there : served_at (key_shard a.key) n.served ≡ Some c.before = ap (λ k. served_at k n.served) c.here ∙ c.was in
+                  subst (λ s. IsTrueAsk s a) (sym c.is)
+                  ((step c.before c.was (before shard c.before c.was)).asks a c.here here (was.served shard c.before c.was)
                   (all_in (IsTrueAskOf n.served) n.asks.asks a was.asks here c.before there)))
-          | inr same ↦ all_in (IsTrueAskOf n.served) n.asks.asks a was.asks here after same
-        ]);
+              | inr same ↦ all_in (IsTrueAskOf n.served) n.asks.asks a was.asks here after same
+            ]);
       };
 }
 

@@ -10,7 +10,6 @@ use json::Writer;
 use replies::{
     LineRefused, NameRefused, NodeRefused, PlanRefused, Refusal, SessionRefused, StoreRefused, When,
 };
-use node_name::NodeName;
 use std::alloc::{AllocError, Global};
 use topology::Config;
 
@@ -180,7 +179,16 @@ fn put_node_refused(
             *message as u64,
             "no_message",
         ),
-        NodeRefused::NoRefill { node } => put_no_refill(alloc, out, config, *node),
+        NodeRefused::NoRefill { node } => {
+            let node = config.node_text(alloc, *node)?;
+            put_members(
+                out,
+                &[
+                    ("no", Said::Text("no_refill")),
+                    ("node", Said::Text(node.as_str())),
+                ],
+            )
+        }
         NodeRefused::IsMaster { store } => {
             let region = config.region_name(store.region);
             put_members(
@@ -210,24 +218,6 @@ fn put_node_refused(
             put_node_down(out, name.as_str(), *when)
         }
     }
-}
-
-fn put_no_refill(
-    alloc: Global,
-    out: &mut Writer,
-    config: &Config,
-    node: NodeName,
-) -> Result<(), AllocError>
-    ensures { Puts result out.old out.new (node_refused config.now (NodeRefused.NoRefill node)) }
-{
-    let text = config.node_text(alloc, node)?;
-    put_members(
-        out,
-        &[
-            ("no", Said::Text("no_refill")),
-            ("node", Said::Text(text.as_str())),
-        ],
-    )
 }
 
 fn put_node_down(out: &mut Writer, name: &str, when: When) -> Result<(), AllocError>

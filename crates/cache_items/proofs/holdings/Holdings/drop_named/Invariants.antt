@@ -12,5 +12,5 @@ invariant-loop-touched l = record {
   rest : dropped l.self.items (drop l.touched-index l.keys) ≡ dropped l.initial.self.items l.keys;
   others : l.self ≡ record l.initial.self { items = l.self.items };
   rows : (more : List DroppedList) → AreSome more (dropped_lists l.self.items (drop l.touched-index l.keys))
-  → AreSome (l.rows ++ more) (dropped_lists l.initial.self.items l.keys);
+      → AreSome (l.rows ++ more) (dropped_lists l.initial.self.items l.keys);
 }

@@ -10,4 +10,4 @@ invariant_of-result c =
     let made = c.in_ok-holdings.ensures.node in
     subst IsTrueNode (sym made)
     (made_is_true c.args.items c.args.served.now c.args.lows.now c.args.notes.items c.requires.reached c.requires.alike
-        (subst (λ (n : Node). AreSeenSound n.served) made c.in_ok-holdings.ensures.sound))
+    (subst (λ (n : Node). AreSeenSound n.served) made c.in_ok-holdings.ensures.sound))

@@ -1,5 +1,5 @@
 -- What is refused only until it is built.
-use Rattle.std.specs.Prelude.{◌≡◌, Bool, List, length, nat_le, is_none, None, ◌&&◌}
+use Rattle.std.specs.Prelude.{◌≡◌, Bool, List, length, nat_le, is_none, None}
 use Rattle.std.specs.List.{list_all}
 use Rattle.tao_base.specs.declared.id.AType.{AType}
 use Rattle.tao_schema.specs.Schema.{types_of}
@@ -7,13 +7,9 @@ use Rattle.tao_schema.specs.declared.lines.AssocLine.{AssocLine}
 use Rattle.topology.specs.Config.{Settings}
 use Rattle.topology.specs.declared.regions.Region.{Region}
 
--- a region has one tier at most
-abbrev pub has_built_tiers : Region → Bool
-has_built_tiers region = nat_le (length region.tiers) 1
-
--- there is one region at most, with one tier at most
+-- there is one region at most
 abbrev pub are_built : List Region → Bool
-are_built regions = nat_le (length regions) 1 && list_all has_built_tiers regions
+are_built regions = nat_le (length regions) 1
 
 abbrev pub has_no_inverse : AssocLine → Bool
 has_no_inverse assoc = is_none assoc.inverse

@@ -7,9 +7,9 @@ use tao_base::Bytes;
 use tao_wire::{read_config, read_request, reply_text};
 use topology::Config;
 
-/// Two shards, and a region `east` of two leaders and a tier `t1` of two followers.
+/// Two shards, and a region `east` of two leaders, a tier `t1` of two followers and a tier `t2` of one.
 const CONFIGURATION: &str =
-    r#"{"assocs":[{"name":"likes"}],"objects":["user"],"regions":[{"leaders":2,"name":"east","tiers":[{"followers":2,"name":"t1"}]}],"shards":2}"#;
+    r#"{"assocs":[{"name":"likes"}],"objects":["user"],"regions":[{"leaders":2,"name":"east","tiers":[{"followers":2,"name":"t1"},{"name":"t2"}]}],"shards":2}"#;
 
 /// The reply to a request that is refused; else nothing.
 fn refusal(alloc: Global, config: &Config, line: &str) -> Result<Bytes, Fail> {
@@ -38,7 +38,7 @@ fn assert_refusals(
 
 /// Requests, and the replies that refuse them. The id 562949953421313 is on shard 2, 844424930131969
 /// on shard 3.
-const ROWS: [(&str, &str); 10] = [
+const ROWS: [(&str, &str); 19] = [
     (
         r#"{"do":"suspect","region":"east","tier":"t9","node":"none"}"#,
         r#"{"name":"east/t9","no":"no_tier"}"#,
@@ -60,6 +60,34 @@ const ROWS: [(&str, &str); 10] = [
         r#"{"name":"east/leader/0","no":"no_node"}"#,
     ),
     (
+        r#"{"do":"refill","node":"east/store/0"}"#,
+        r#"{"name":"east/store/0","no":"no_node"}"#,
+    ),
+    (
+        r#"{"do":"deliver","node":"east/t2/1","message":0}"#,
+        r#"{"name":"east/t2/1","no":"no_node"}"#,
+    ),
+    (
+        r#"{"do":"again","node":"east/t3/0","message":0}"#,
+        r#"{"name":"east/t3/0","no":"no_node"}"#,
+    ),
+    (
+        r#"{"do":"drop","node":"east/store/1","message":0}"#,
+        r#"{"name":"east/store/1","no":"no_node"}"#,
+    ),
+    (
+        r#"{"do":"show","node":"east/store/0","id1":562949953421313,"atype":"hates"}"#,
+        r#"{"name":"east/store/0","no":"no_node"}"#,
+    ),
+    (
+        r#"{"do":"show","node":"east/leader/1","id1":562949953421313,"atype":"hates"}"#,
+        r#"{"name":"hates","no":"unknown_type"}"#,
+    ),
+    (
+        r#"{"do":"show","node":"east/t2/0","id":562949953421313}"#,
+        r#"{"no":"no_shard","shard":2}"#,
+    ),
+    (
         r#"{"do":"evict","node":"east/t1/01","id1":1,"atype":"hates"}"#,
         r#"{"name":"east/t1/01","no":"no_node"}"#,
     ),
@@ -72,6 +100,8 @@ const ROWS: [(&str, &str); 10] = [
         "",
     ),
     (r#"{"do":"refill","node":"east/t1/1"}"#, ""),
+    (r#"{"do":"deliver","node":"east/t2/0","message":7}"#, ""),
+    (r#"{"do":"inbox","node":"east/leader/1"}"#, ""),
     (
         r#"{"do":"trust","region":"east","tier":"t1","node":"east/leader/1"}"#,
         "",

@@ -123,12 +123,7 @@ impl Mail {
 
     /// A copy of the message at a place, the oldest at 0, with a note of its own; the message stays where it is, and so do all others.
     /// None exactly where the place isn't below the length. The one error is want of memory for the copy.
-    pub fn copy(
-        &mut self,
-        alloc: Global,
-        node: NodeName,
-        place: usize,
-    ) -> Result<Option<Maint>, OutOfMemory>
+    pub fn copy(&mut self, node: NodeName, place: usize) -> Result<Option<Maint>, OutOfMemory>
         requires { HasNode node self.old }
         ensures copy { IfOk result (λ copy. WaitsAt node place copy self.old) }
         ensures same { self.new ≡ self.old }

@@ -6,7 +6,21 @@ use std::alloc::Global;
 use std::test::Fail;
 use tao_base::{Id, OutOfMemory};
 
+const HIT: Came = (Step::Hit, 0, false);
+
 const MISS: Came = (Step::Miss, 0, false);
+
+const FILLED: Came = (Step::Filled, 2, true);
+
+const PAST: Came = (Step::Past, 2, true);
+
+const BEHIND: Came = (Step::Behind, 2, true);
+
+const KEEP: Came = (Step::Keep(Kept::Yes), 0, false);
+
+const LOSE: Came = (Step::Keep(Kept::Lost), 0, false);
+
+const KEPT: KeptOrNot = KeptOrNot::Kept;
 
 const fn answered(count: u64, version: u64, hops: u64, store: bool, kept: KeptOrNot) -> End {
     End::Answered {
@@ -43,74 +57,28 @@ fn reads_end_by_their_stages(rt: HostRuntime) -> Result<(), Fail> {
     let id = Id::read(1).ok_or("an id")?;
     let bound = not(NotKeptWhy::Bound, 6000, 7000);
     let rows: [(bool, &'static [Came], End); 8] = [
+        (false, &[HIT], answered(90, 9, 0, false, KEPT)),
+        (false, &[MISS, FILLED, KEEP], answered(70, 7, 2, true, KEPT)),
         (
             false,
-            &[(Step::Hit, 0, false)],
-            answered(90, 9, 0, false, KeptOrNot::Kept),
+            &[MISS, (Step::Filled, 2, false), KEEP],
+            answered(70, 7, 2, false, KEPT),
+        ),
+        (false, &[MISS, PAST, KEEP], answered(80, 8, 2, true, bound)),
+        (
+            false,
+            &[MISS, BEHIND, FILLED, KEEP],
+            answered(70, 7, 4, true, KEPT),
         ),
         (
             false,
-            &[
-                MISS,
-                (Step::Filled, 2, true),
-                (Step::Keep(Kept::Yes), 0, false),
-            ],
-            answered(70, 7, 2, true, KeptOrNot::Kept),
-        ),
-        (
-            false,
-            &[
-                MISS,
-                (Step::Filled, 2, false),
-                (Step::Keep(Kept::Yes), 0, false),
-            ],
-            answered(70, 7, 2, false, KeptOrNot::Kept),
-        ),
-        (
-            false,
-            &[
-                MISS,
-                (Step::Past, 2, true),
-                (Step::Keep(Kept::Yes), 0, false),
-            ],
-            answered(80, 8, 2, true, bound),
-        ),
-        (
-            false,
-            &[
-                MISS,
-                (Step::Behind, 2, true),
-                (Step::Filled, 2, true),
-                (Step::Keep(Kept::Yes), 0, false),
-            ],
-            answered(70, 7, 4, true, KeptOrNot::Kept),
-        ),
-        (
-            false,
-            &[
-                MISS,
-                (Step::Behind, 2, true),
-                (Step::Past, 2, true),
-                (Step::Keep(Kept::Lost), 0, false),
-            ],
+            &[MISS, BEHIND, PAST, LOSE],
             answered(80, 8, 4, true, bound),
         ),
+        (true, &[MISS, FILLED, KEEP], answered(70, 7, 2, true, KEPT)),
         (
             true,
-            &[
-                MISS,
-                (Step::Filled, 2, true),
-                (Step::Keep(Kept::Yes), 0, false),
-            ],
-            answered(70, 7, 2, true, KeptOrNot::Kept),
-        ),
-        (
-            true,
-            &[
-                (Step::Hit, 0, false),
-                (Step::Past, 2, true),
-                (Step::Keep(Kept::Yes), 1, false),
-            ],
+            &[HIT, PAST, (Step::Keep(Kept::Yes), 1, false)],
             answered(80, 8, 3, true, bound),
         ),
     ];
@@ -125,7 +93,7 @@ fn replies_say_what_is_kept(rt: HostRuntime) -> Result<(), Fail> {
     let alloc = rt.alloc();
     let id = Id::read(1).ok_or("an id")?;
     let rows = [
-        (Kept::Yes, KeptOrNot::Kept),
+        (Kept::Yes, KEPT),
         (Kept::Asks, not(NotKeptWhy::Asks, 256, 256)),
         (Kept::Lost, not(NotKeptWhy::Lost, 0, 0)),
         (Kept::Mark { have: 3, need: 4 }, not(NotKeptWhy::Mark, 3, 4)),
@@ -136,7 +104,7 @@ fn replies_say_what_is_kept(rt: HostRuntime) -> Result<(), Fail> {
         (Kept::Memory, not(NotKeptWhy::Memory, 0, 0)),
     ];
     for (kept, told) in rows {
-        let steps = [MISS, (Step::Filled, 2, true), (Step::Keep(kept), 0, false)];
+        let steps = [MISS, FILLED, (Step::Keep(kept), 0, false)];
         assert!(rt;
             ends(alloc, id, false, &steps, answered(70, 7, 2, true, told))?,
             "{kept:?}"
@@ -155,9 +123,9 @@ fn a_refused_stage_ends_the_read(rt: HostRuntime) -> Result<(), Fail> {
         (true, &[REFUSE]),
         (false, &[MISS, REFUSE]),
         (true, &[MISS, REFUSE]),
-        (false, &[MISS, (Step::Behind, 2, true), REFUSE]),
-        (false, &[MISS, (Step::Filled, 2, true), REFUSE]),
-        (false, &[MISS, (Step::Past, 2, true), REFUSE]),
+        (false, &[MISS, BEHIND, REFUSE]),
+        (false, &[MISS, FILLED, REFUSE]),
+        (false, &[MISS, PAST, REFUSE]),
     ];
     for (critical, steps) in rows {
         assert!(rt;
@@ -172,14 +140,13 @@ fn a_refused_stage_ends_the_read(rt: HostRuntime) -> Result<(), Fail> {
 fn no_stage_follows_out_of_turn(rt: HostRuntime) -> Result<(), Fail> {
     let alloc = rt.alloc();
     let id = Id::read(1).ok_or("an id")?;
-    const KEEP: Came = (Step::Keep(Kept::Yes), 0, false);
     let rows: [(bool, &'static [Came]); 6] = [
         (false, &[KEEP]),
-        (false, &[(Step::Filled, 2, true), KEEP]),
-        (true, &[MISS, (Step::Behind, 2, true), KEEP]),
+        (false, &[FILLED, KEEP]),
+        (true, &[MISS, BEHIND, KEEP]),
         (false, &[MISS, KEEP]),
-        (false, &[(Step::Hit, 0, false), KEEP]),
-        (false, &[MISS, (Step::Filled, 2, true), KEEP, KEEP]),
+        (false, &[HIT, KEEP]),
+        (false, &[MISS, FILLED, KEEP, KEEP]),
     ];
     for (critical, steps) in rows {
         assert_eq!(rt;

@@ -20,6 +20,9 @@ use tao_base::{Answer, Bytes, OutOfMemory, StoreName};
 use topology::Config;
 use words::Word;
 
+/// The bytes that a reply's text has room for from the start: more than those of most replies.
+const ROOM: usize = 512;
+
 /// The text of a reply: JSON with no space, the members in ascending order of the bytes of their names,
 /// and no line feed at its end. The configuration tells the names of regions, tiers and object types.
 /// Takes time and memory in the length of the text.
@@ -27,7 +30,7 @@ pub fn reply_text(alloc: Global, config: &Config, reply: &Reply) -> Result<Bytes
     ensures text { IfOk result (λ bytes. bytes ≡ reply_text config.now reply.now) }
     ensures one_line { IfOk result IsOneLine }
 {
-    let mut out = Writer::new(Vec::new(alloc));
+    let mut out = Writer::new(Vec::with_capacity(alloc, ROOM)?);
     put_reply(alloc, &mut out, config, reply)?;
     Ok(Bytes::of(out.into_inner()))
 }

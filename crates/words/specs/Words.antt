@@ -45,8 +45,8 @@ word_text Audit = codes "audit"
 
 -- all words
 abbrev pub all_words : List Word
-all_words = Open ∷ Write ObjAdd ∷ Write ObjUpdate ∷ Write ObjDelete ∷ Write AssocAdd ∷ Write AssocDelete ∷ Write AssocChangeType
-    ∷ Read ObjGet ∷ Read AssocGet ∷ Read AssocCount ∷ Read AssocRange ∷ Read AssocTimeRange
+all_words = Read ObjGet ∷ Read AssocGet ∷ Read AssocCount ∷ Read AssocRange ∷ Read AssocTimeRange
+    ∷ Open ∷ Write ObjAdd ∷ Write ObjUpdate ∷ Write ObjDelete ∷ Write AssocAdd ∷ Write AssocDelete ∷ Write AssocChangeType
     ∷ Plan Hold ∷ Plan Advance ∷ Delivery Deliver ∷ Delivery Again ∷ Drop ∷ Refill ∷ Stream ∷ Repair ∷ Evict ∷ Show ∷ Inbox
     ∷ Health Down ∷ Health Up ∷ Health Suspect ∷ Health Trust ∷ Link Cut ∷ Link Mend ∷ Settle ∷ Audit ∷ []
 

@@ -77,8 +77,13 @@ pub enum Word {
 }
 
 impl Word {
-    /// All words.
+    /// All words: the reads first, since they are asked for most.
     pub const ALL: [Word; 31] = [
+        Word::Read(ReadWord::ObjGet),
+        Word::Read(ReadWord::AssocGet),
+        Word::Read(ReadWord::AssocCount),
+        Word::Read(ReadWord::AssocRange),
+        Word::Read(ReadWord::AssocTimeRange),
         Word::Open,
         Word::Write(WriteWord::ObjAdd),
         Word::Write(WriteWord::ObjUpdate),
@@ -86,11 +91,6 @@ impl Word {
         Word::Write(WriteWord::AssocAdd),
         Word::Write(WriteWord::AssocDelete),
         Word::Write(WriteWord::AssocChangeType),
-        Word::Read(ReadWord::ObjGet),
-        Word::Read(ReadWord::AssocGet),
-        Word::Read(ReadWord::AssocCount),
-        Word::Read(ReadWord::AssocRange),
-        Word::Read(ReadWord::AssocTimeRange),
         Word::Plan(PlanWord::Hold),
         Word::Plan(PlanWord::Advance),
         Word::Delivery(DeliveryWord::Deliver),

@@ -14,7 +14,7 @@ use Rattle.core_model.specs.Fleet.{ChangesNode, IsFirstAt}
 use Rattle.core_model.specs.Reads.{LeaderAnswers, Wanted}
 use Rattle.core_model.specs.declared.named.Named.{Named}
 use Rattle.core_nodes.specs.Stages.{LeaderDoes}
-use Rattle.core_nodes.proofs.NamedNodes.{changes_at}
+use Rattle.core_model.proofs.NamedNodes.{changes_at}
 
 pub answers_at : (types : EdgeTypes) (read : Wanted) (masters : List Store) (before after : KeeperState) (leaders : List (Named Node)) (name : NodeName)
     (place : ℕ) (d : Named Node) (to : Node)

@@ -35,8 +35,8 @@ use Rattle.core_nodes.specs.FleetView.{fleet_seen}
 use Rattle.core_nodes.specs.Stages.{FollowerDoes, LeaderDoes}
 use Rattle.core_nodes.specs.declared.fleet.Fleet.TheInside.{Inside}
 use Rattle.core_nodes.proofs.FleetLemmas.{FleetStep, follower_step, leader_step}
-use Rattle.core_nodes.proofs.NamedNodes.{changes_so}
-use Rattle.core_nodes.proofs.Places.{at_index, one_some, set_back, set_get, set_same}
+use Rattle.core_model.proofs.NamedNodes.{changes_so}
+use Rattle.core_model.proofs.Places.{at_index, one_some, set_back, set_get, set_same}
 use Rattle.core_nodes.proofs.ViewLemmas.{LendsFollowers, after_both, after_followers, followers_after}
 
 -- ---- in the words of the configuration

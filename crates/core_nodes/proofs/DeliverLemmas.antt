@@ -25,7 +25,7 @@ use Rattle.core_nodes.specs.Stages.{FollowerDoes, LeaderDoes, NodeIs}
 use Rattle.core_nodes.specs.declared.fleet.Fleet.TheInside.{Inside}
 use Rattle.core_nodes.proofs.EvictLemmas.{asks_same}
 use Rattle.core_nodes.proofs.FleetLemmas.{FleetStep, leader_step, refills_step}
-use Rattle.core_nodes.proofs.NamedNodes.{changes_so}
+use Rattle.core_model.proofs.NamedNodes.{changes_so}
 use Rattle.core_nodes.proofs.ReadLemmas.{log_of_shard}
 use Rattle.core_nodes.proofs.ViewLemmas.{LendsFollowers, LendsLeaders, after_followers, after_leaders, followers_after, leaders_after}
 

@@ -20,7 +20,7 @@ use Rattle.core_model.specs.Pens.{Pens, pens_of}
 use Rattle.core_model.specs.declared.named.Named.{Named}
 use Rattle.core_nodes.specs.Stages.{EvictsThere, FollowerDoes, LeaderDoes}
 use Rattle.core_nodes.proofs.FleetLemmas.{FleetStep, follower_step, leader_step}
-use Rattle.core_nodes.proofs.NamedNodes.{changes_so}
+use Rattle.core_model.proofs.NamedNodes.{changes_so}
 
 pub evicted_stays : (s : Settings) (pens : Pens) (name : NodeName) (key : Option Key) (held : Bool) (old new : Node) → Evicts key held old new
     → IsDistinct same_key (keys_held old.items)

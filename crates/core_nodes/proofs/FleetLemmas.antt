@@ -14,8 +14,8 @@ use Rattle.core_model.specs.Fleet.{ChangesNode, Fleet, HasNode, named}
 use Rattle.core_model.specs.Pens.{Rise, pens_of}
 use Rattle.core_model.specs.Serving.{IsFollowerFor, IsLeaderFor}
 use Rattle.core_model.specs.declared.named.Named.{Named}
-use Rattle.core_nodes.proofs.NamedNodes.{all_set, names_set}
-use Rattle.core_nodes.proofs.Places.{get_set}
+use Rattle.core_model.proofs.NamedNodes.{all_set, names_set}
+use Rattle.core_model.proofs.Places.{get_set}
 
 pub rise_self : (xs : List Store) → Rise (pens_of xs) (pens_of xs)
 rise_self xs shard = grows-self (pens_of xs shard)

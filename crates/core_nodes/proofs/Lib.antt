@@ -9,9 +9,8 @@ pub mod FleetLemmas
 pub mod LentLemmas
 pub mod MasterLemmas
 pub mod NameLemmas
-pub mod NamedNodes
+pub mod NodesOfNames
 pub mod OpenedLogs
-pub mod Places
 pub mod ReadLemmas
 pub mod ShownLemmas
 pub mod StoreLemmas

@@ -46,7 +46,8 @@ use Rattle.core_model.specs.declared.named.Named.{Named}
 use Rattle.core_nodes.specs.Stages.{FollowerDoes, LooksTrue, NodeIs}
 use Rattle.core_nodes.specs.declared.reads.FirstLook.{FirstLook}
 use Rattle.core_nodes.proofs.FleetLemmas.{FleetStep, fleet_rests, follower_step}
-use Rattle.core_nodes.proofs.NamedNodes.{changes_so, is_after}
+use Rattle.core_model.proofs.NamedNodes.{changes_so}
+use Rattle.core_nodes.proofs.NodesOfNames.{is_after}
 
 -- ---- what a node that may be asked has
 

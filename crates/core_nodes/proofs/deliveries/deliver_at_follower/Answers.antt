@@ -4,7 +4,8 @@ use Rattle.served_shards.specs.Served.{log_at}
 use Rattle.tao_schema.specs.Schema.{types_of}
 use Rattle.core_model.specs.Messages.{DeliversThere}
 use Rattle.core_nodes.specs.Stages.{FollowerDoes}
-use Rattle.core_nodes.proofs.NamedNodes.{changes_at, holds_at}
+use Rattle.core_model.proofs.NamedNodes.{changes_at}
+use Rattle.core_nodes.proofs.NodesOfNames.{holds_at}
 use Rattle.core_nodes.proofs.deliveries.deliver_at_follower.Goals as goal
 
 pub deliver_to_follower-requires : goal.deliver_to_follower-requires

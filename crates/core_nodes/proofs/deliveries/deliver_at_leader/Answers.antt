@@ -3,7 +3,8 @@ use Rattle.cache_items.specs.Node.{Node}
 use Rattle.served_shards.specs.Served.{log_at}
 use Rattle.core_model.specs.Messages.{Delivers}
 use Rattle.core_nodes.specs.Stages.{LeaderDoes}
-use Rattle.core_nodes.proofs.NamedNodes.{changes_at, holds_at}
+use Rattle.core_model.proofs.NamedNodes.{changes_at}
+use Rattle.core_nodes.proofs.NodesOfNames.{holds_at}
 use Rattle.core_nodes.proofs.deliveries.deliver_at_leader.Goals as goal
 
 pub deliver_to_leader-requires : goal.deliver_to_leader-requires

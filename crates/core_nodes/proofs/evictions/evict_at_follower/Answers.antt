@@ -1,5 +1,5 @@
 use Rattle.core_nodes.specs.Stages.{EvictsThere, FollowerDoes}
-use Rattle.core_nodes.proofs.NamedNodes.{changes_at}
+use Rattle.core_model.proofs.NamedNodes.{changes_at}
 use Rattle.core_nodes.proofs.evictions.evict_at_follower.Goals as goal
 
 pub returns : goal.returns

@@ -1,6 +1,6 @@
 use Rattle.core_model.specs.Evictions.{Evicts}
 use Rattle.core_nodes.specs.Stages.{LeaderDoes}
-use Rattle.core_nodes.proofs.NamedNodes.{changes_at}
+use Rattle.core_model.proofs.NamedNodes.{changes_at}
 use Rattle.core_nodes.proofs.evictions.evict_at_leader.Goals as goal
 
 pub returns : goal.returns

@@ -7,7 +7,7 @@ use Rattle.tao_schema.specs.declared.schema.Schema.{Schema}
 use Rattle.topology.specs.Config.{Settings}
 use Rattle.core_nodes.proofs.CommitLemmas.{place_is}
 use Rattle.core_nodes.proofs.MasterLemmas.{WasRead, gives_at_floors, store_reads}
-use Rattle.core_nodes.proofs.Places.{set_back}
+use Rattle.core_model.proofs.Places.{set_back}
 use Rattle.core_nodes.proofs.StoreLemmas.{seen_at}
 use Rattle.core_nodes.proofs.masters.read_master.Goals as goal
 

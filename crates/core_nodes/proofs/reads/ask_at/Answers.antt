@@ -6,8 +6,9 @@ use Rattle.tao_base.specs.Queries.{query_shard}
 use Rattle.tao_schema.specs.Schema.{types_of}
 use Rattle.core_model.specs.Reads.{wanted}
 use Rattle.core_nodes.proofs.AskedAt.{answers_at}
-use Rattle.core_nodes.proofs.NamedNodes.{holds_at, rests_err}
-use Rattle.core_nodes.proofs.Places.{at_index, set_back}
+use Rattle.core_model.proofs.NamedNodes.{rests_err}
+use Rattle.core_nodes.proofs.NodesOfNames.{holds_at}
+use Rattle.core_model.proofs.Places.{at_index, set_back}
 use Rattle.core_nodes.proofs.reads.ask_at.Goals as goal
 
 pub ask_leader-requires-clause-log : goal.ask_leader-requires-clause-log

@@ -1,6 +1,6 @@
 use Rattle.core_model.specs.Reads.{EndsAsk}
 use Rattle.core_nodes.specs.Stages.{FollowerDoes}
-use Rattle.core_nodes.proofs.NamedNodes.{changes_at}
+use Rattle.core_model.proofs.NamedNodes.{changes_at}
 use Rattle.core_nodes.proofs.reads.end_at.Goals as goal
 
 pub returns : goal.returns

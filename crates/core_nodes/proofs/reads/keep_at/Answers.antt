@@ -8,7 +8,8 @@ use Rattle.tao_base.specs.declared.query.Answer.{Answer}
 use Rattle.tao_schema.specs.Schema.{types_of}
 use Rattle.core_model.specs.Reads.{EndsAsk, KeepsFill}
 use Rattle.core_nodes.specs.Stages.{FollowerDoes}
-use Rattle.core_nodes.proofs.NamedNodes.{changes_err, changes_ok, holds_at}
+use Rattle.core_model.proofs.NamedNodes.{changes_err, changes_ok}
+use Rattle.core_nodes.proofs.NodesOfNames.{holds_at}
 use Rattle.core_nodes.proofs.reads.keep_at.Goals as goal
 
 pub keep_fill-requires-clause-log : goal.keep_fill-requires-clause-log

@@ -6,7 +6,8 @@ use Rattle.tao_schema.specs.Schema.{types_of}
 use Rattle.core_model.specs.Reads.{wanted}
 use Rattle.core_nodes.specs.Stages.{FollowerDoes, LooksTrue}
 use Rattle.core_nodes.specs.declared.reads.FirstLook.{FirstLook}
-use Rattle.core_nodes.proofs.NamedNodes.{changes_ok, holds_at, rests_err}
+use Rattle.core_model.proofs.NamedNodes.{changes_ok, rests_err}
+use Rattle.core_nodes.proofs.NodesOfNames.{holds_at}
 use Rattle.core_nodes.proofs.reads.look_at.Goals as goal
 
 pub look_first-requires : goal.look_first-requires

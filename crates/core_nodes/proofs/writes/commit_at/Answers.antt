@@ -12,7 +12,8 @@ use Rattle.tao_base.specs.Writes.{ChangesType, write_shard}
 use Rattle.tao_schema.specs.Schema.{types_of}
 use Rattle.core_nodes.specs.Stages.{LeaderDoes}
 use Rattle.core_nodes.proofs.CommitLemmas.{Written, err_rests, of_master, pen_set, place_is, rise_here}
-use Rattle.core_nodes.proofs.NamedNodes.{changes_at, holds_at}
+use Rattle.core_model.proofs.NamedNodes.{changes_at}
+use Rattle.core_nodes.proofs.NodesOfNames.{holds_at}
 use Rattle.core_nodes.proofs.StoreLemmas.{master_at, seen_at, sound_at, stores_after}
 use Rattle.core_nodes.proofs.writes.commit_at.Goals as goal
 

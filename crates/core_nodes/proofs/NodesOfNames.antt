@@ -1,0 +1,39 @@
+-- The node of a name is such, and is so after it changed.
+use Rattle.std.proofs.Common.{◌≡◌, ◌≢◌, ℕ, List, Some, refl, ap, subst, ◌∙◌, inl, inr}
+use Rattle.std.proofs.lemmas.Bool.{cases_order}
+use Rattle.std.specs.Prelude.{slice_get, slice_index_or, slice_set}
+use Rattle.node_name.specs.declared.NodeName.{NodeName}
+use Rattle.core_model.specs.Fleet.{ChangesNode, IsFirstAt, named}
+use Rattle.core_model.specs.declared.named.Named.{Named}
+use Rattle.core_model.proofs.NamedNodes.{named_stands}
+use Rattle.core_model.proofs.Places.{get_set, set_get, some_and}
+use Rattle.core_nodes.specs.Stages.{NodeIs}
+
+-- the node of the name is what it is said to be
+pub holds_at : {N : Type 0} (Such : N → Type 0) (nodes : List (Named N)) (name : NodeName) (place : ℕ) (d : Named N) → IsFirstAt name nodes place
+    → NodeIs name Such nodes
+    → Such (slice_index_or nodes place d).node
+holds_at Such nodes name place d first holds = holds place (slice_index_or nodes place d).node first (named_stands nodes name place d first)
+
+-- the node that changed is the one of its name afterwards
+same_place : {N : Type 0} (By : N → N → Type 0) (name : NodeName) (old new : List (Named N)) (place : ℕ) (node : N) (change : ChangesNode name By old new)
+    → IsFirstAt name new place
+    → place ≢ change.place → slice_get old place ≡ Some (named name node) → ⊥
+same_place By name old new place node change first differ at = elim (cases_order place change.place) [
+  | inl same ↦ differ same
+  | inr (inl before) ↦ change.first.before place before (some_and (slice_get old place) (named name node) (λ n. n.name ≡ name) at refl)
+  | inr (inr after) ↦
+      let there = ap (λ xs. slice_get xs change.place) change.is ∙ set_get old change.place (named name change.from) (named name change.to) change.stands in
+      first.before change.place after (some_and (slice_get new change.place) (named name change.to) (λ n. n.name ≡ name) there refl)
+]
+
+pub is_after : {N : Type 0} (Such : N → Type 0) (By : N → N → Type 0) (name : NodeName) (old new : List (Named N)) (change : ChangesNode name By old new)
+    → Such change.to
+    → NodeIs name Such new
+is_after Such By name old new change is place node first h =
+    let at : slice_get (slice_set old change.place (named name change.to)) place ≡ Some (named name node) =
+    subst (λ xs. slice_get xs place ≡ Some (named name node)) change.is h in
+    elim (get_set old change.place (named name change.to) place (named name node) at) [
+      | inl e ↦ absurd (same_place By name old new place node change first e.0 e.1)
+      | inr e ↦ subst (λ n. Such n.node) e.1 is
+    ]

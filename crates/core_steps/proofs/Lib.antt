@@ -1,6 +1,6 @@
-mod AlongLemmas
-mod ReadLemmas
-mod Repeats
+pub mod AlongLemmas
+pub mod ReadLemmas
+pub mod Repeats
 pub mod GrowingLemmas
 pub mod StepLemmas
 pub mod WriteLemmas

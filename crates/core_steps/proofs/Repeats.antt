@@ -13,7 +13,7 @@ use Rattle.core_model.proofs.NodesSeen.{nodes_stay_seen}
 use Rattle.core_model.specs.Consistent.{IsFleetOf, IsNodeOf}
 use Rattle.core_model.specs.Fleet.{ChangesNode, Fleet}
 use Rattle.core_model.specs.Pens.{Pens, pens_of}
-use Rattle.core_model.specs.Reads.{IsGivenFill, KeepsFill, LooksFirst, wanted}
+use Rattle.core_model.specs.Reads.{IsGivenFill, KeepsFill, LooksFirst, Wanted}
 use Rattle.core_model.specs.declared.named.Named.{Named}
 use Rattle.follower_cache.specs.Seen.{FollowerState}
 use Rattle.graph_model.specs.Told.{WhereTold}
@@ -37,11 +37,11 @@ abbrev pub Repeats : EdgeTypes → Query → Answer → ℕ → FollowerState �
 Repeats types query answer version f = (floor : ℕ) → floor ≤ version → look_of types (item_at f.node.items (query_key query)) query floor ≡ Hit answer version
 
 -- after a hit
-pub hit_repeats : (types : EdgeTypes) (query : Query) (answer : Answer) (version : ℕ) (from to : FollowerState)
-    → LooksFirst types (wanted query 0) (Hit answer version) None from to → Repeats types query answer version to
-hit_repeats types query answer version from to looks floor le =
-    subst (λ (n : Node). look_of types (item_at n.items (query_key query)) query floor ≡ Hit answer version) (sym looks.node.1)
-    (answers_repeat.hit types from.node.items query 0 floor version answer (sym looks.look_is) le)
+pub hit_repeats : (types : EdgeTypes) (read : Wanted) (answer : Answer) (version : ℕ) (from to : FollowerState)
+    → LooksFirst types read (Hit answer version) None from to → Repeats types read.query answer version to
+hit_repeats types read answer version from to looks floor le =
+    subst (λ (n : Node). look_of types (item_at n.items (query_key read.query)) read.query floor ≡ Hit answer version) (sym looks.node.1)
+    (answers_repeat.hit types from.node.items read.query read.floor floor version answer (sym looks.look_is) le)
 
 -- ---- after a fill
 
@@ -58,7 +58,7 @@ ended_items None n = refl
 ended_items (Some number) n = refl
 
 -- what a node holds is exact in the log
-held_exact : (s : Settings) (pens : Pens) (name : NodeName) (node : Node) (key : Key) (item : Item) (found : Option ServedShard)
+pub held_exact : (s : Settings) (pens : Pens) (name : NodeName) (node : Node) (key : Key) (item : Item) (found : Option ServedShard)
     → served_at (key_shard key) node.served ≡ found → IsSome found → IsNodeOf s pens name node → (pens (key_shard key)).log.told ≡ true
     → item_at node.items key ≡ Some item → IsExactContent (pens (key_shard key)).entries key item.version item.content
 held_exact s pens name node key item None at here is told held = absurd (cc)
@@ -69,25 +69,28 @@ held_exact s pens name node key item (Some t) at here is told held =
     contents_stay.stays t.view (pens (key_shard key)) key item.version item.content seen (λ h. (all.items key item t held at).exact) told
 
 -- and so is what was given
-given_exact : (types : EdgeTypes) (pens : Pens) (query : Query) (fill : SealedItem) → IsGivenFill types pens (wanted query 0) fill → IsSealed fill
-    → (pens (query_shard query)).log.told ≡ true → IsExactContent (pens (query_shard query)).entries (query_key query) fill.version fill.content
-given_exact types pens query fill given sealed told =
+given_exact : (types : EdgeTypes) (pens : Pens) (read : Wanted) (fill : SealedItem) → IsGivenFill types pens read fill → IsSealed fill
+    → (pens (query_shard read.query)).log.told ≡ true
+    → IsExactContent (pens (query_shard read.query)).entries (query_key read.query) fill.version fill.content
+given_exact types pens read fill given sealed told =
+    let query = read.query in
     let own : fill.note.log.told ≡ true = ap (λ l. l.told) (sym given.seen.log_is) ∙ told in
     let exact = subst (λ k. IsExactContent fill.note.entries k fill.version fill.content) given.key_is (sealed own).exact in
     contents_stay.stays fill.note (pens (query_shard query)) (query_key query) fill.version fill.content given.seen (λ h. exact) told
 
-kept_repeats : (s : Settings) (pens : Pens) (name : NodeName) (query : Query) (ask : Option ℕ) (fill : SealedItem) (answer : Answer) (from to : FollowerState)
-    → KeepsFill (types_of s.schema) query ask fill answer was.Yes from to → IsNodeOf s pens name from.node
-    → IsGivenFill (types_of s.schema) pens (wanted query 0) fill → IsSealed fill → (pens (query_shard query)).log.told ≡ true
-    → Repeats (types_of s.schema) query answer fill.version to
-kept_repeats s pens name query ask fill answer from to keeps is given sealed told floor le =
+kept_repeats : (s : Settings) (pens : Pens) (name : NodeName) (read : Wanted) (ask : Option ℕ) (fill : SealedItem) (answer : Answer) (from to : FollowerState)
+    → KeepsFill (types_of s.schema) read.query ask fill answer was.Yes from to → IsNodeOf s pens name from.node
+    → IsGivenFill (types_of s.schema) pens read fill → IsSealed fill → (pens (query_shard read.query)).log.told ≡ true
+    → Repeats (types_of s.schema) read.query answer fill.version to
+kept_repeats s pens name read ask fill answer from to keeps is given sealed told floor le =
     let types = types_of s.schema in
+    let query = read.query in
     let key = query_key query in
     let most = (with_ended_ask ask from.node).most in
     let held : (item : Item) → item_at from.node.items key ≡ Some item → IsExactContent (pens (query_shard query)).entries key item.version item.content =
     λ item at. held_exact s pens name from.node key item (served_at (key_shard key) from.node.served) refl (is.truth.items_here key item at) is told at in
     let again = answers_repeat.kept_beside types (pens (query_shard query)).entries from.node.items most query floor fill held
-    (given_exact types pens query fill given sealed told) given.decides le in
+    (given_exact types pens read fill given sealed told) given.decides le in
     let items : to.node.items ≡ kept_items from.node.items most key (item_of fill) =
     ap (λ (f : FollowerState). f.node.items) keeps.node_is
     ∙ ap (λ k. kept_items (with_ended_ask ask from.node).items most k (item_of fill)) given.key_is
@@ -95,13 +98,14 @@ kept_repeats s pens name query ask fill answer from to keeps is given sealed tol
     ap (λ (xs : Items). look_of types (item_at xs key) query floor) items ∙ again ∙ ap (λ a. Hit a fill.version) (sym keeps.answer_is)
 
 -- the follower of the name does, where the log is told
-pub filled_repeats : (s : Settings) (old : Fleet) (fs : List (Named FollowerState)) (name : NodeName) (query : Query) (ask : Option ℕ) (fill : SealedItem)
+pub filled_repeats : (s : Settings) (old : Fleet) (fs : List (Named FollowerState)) (name : NodeName) (read : Wanted) (ask : Option ℕ) (fill : SealedItem)
     (answer : Answer) (kept : KeptWhy)
-    → IsFleetOf s old → (change : ChangesNode name (KeepsFill (types_of s.schema) query ask fill answer kept) old.followers fs)
-    → IsGivenFill (types_of s.schema) (pens_of old.masters) (wanted query 0) fill → IsSealed fill
-    → WhereTold (pens_of old.masters (query_shard query)).log.told (kept_or_not kept ≡ Kept → Repeats (types_of s.schema) query answer fill.version change.to)
-filled_repeats s old fs name query ask fill answer kept fleet change given sealed told held =
-    let by : KeepsFill (types_of s.schema) query ask fill answer was.Yes change.from change.to =
-    subst (λ k. KeepsFill (types_of s.schema) query ask fill answer k change.from change.to) (kept_yes kept held) change.by in
-    kept_repeats s (pens_of old.masters) name query ask fill answer change.from change.to by (fleet.followers change.place name change.from change.stands).node
-    given sealed told
+    → IsFleetOf s old → (change : ChangesNode name (KeepsFill (types_of s.schema) read.query ask fill answer kept) old.followers fs)
+    → IsGivenFill (types_of s.schema) (pens_of old.masters) read fill → IsSealed fill
+    → WhereTold (pens_of old.masters (query_shard read.query)).log.told
+    (kept_or_not kept ≡ Kept → Repeats (types_of s.schema) read.query answer fill.version change.to)
+filled_repeats s old fs name read ask fill answer kept fleet change given sealed told held =
+    let by : KeepsFill (types_of s.schema) read.query ask fill answer was.Yes change.from change.to =
+    subst (λ k. KeepsFill (types_of s.schema) read.query ask fill answer k change.from change.to) (kept_yes kept held) change.by in
+    kept_repeats s (pens_of old.masters) name read ask fill answer change.from change.to by
+    (fleet.followers change.place name change.from change.stands).node given sealed told

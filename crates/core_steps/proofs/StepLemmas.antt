@@ -37,7 +37,8 @@ module _ (s : Settings) (old new : KeeperState) (call : ClientWrite) (within : w
       → WhereTold tells (IsSoundOf (types_of s.schema) (write_shard call.write) (master_log s old.told (write_shard call.write)))
       → WhereTold tells (AreOfEntries (old.told (master_store s (write_shard call.write))))
       → WhereTold tells (AnswersAs (asked_of_log s old call) retry entry)
-      → WhereTold tells (TableGains old.told new.told (master_store s (write_shard call.write)) (new_entry retry entry) (job_with (types_of s.schema) (new_entry retry entry)))
+      → WhereTold tells (TableGains old.told new.told (master_store s (write_shard call.write)) (new_entry retry entry)
+      (job_with (types_of s.schema) (new_entry retry entry)))
       → Commits tells s call retry entry old new
   commits tells retry entry sound jobs answer gains = record {
     step = λ told. write_steps (sound told) (jobs told) retry entry (answer told) (gains told);

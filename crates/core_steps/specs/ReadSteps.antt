@@ -1,31 +1,35 @@
 -- The steps of a read that its follower could not answer.
-use Rattle.std.specs.Prelude.{ℕ, ◌≡◌, ◌⊎◌, ⊤, Bool, Option, IfSome}
+use Rattle.std.specs.Prelude.{ℕ, ◌≡◌, ◌≤◌, ◌⊎◌, ⊤, Bool, true, false, Option, IfSome}
 use Rattle.counts.specs.Count.{Rose}
 use Rattle.core_model.specs.Consistent.{GoesOn, IsConsistent}
 use Rattle.core_model.specs.Fleet.{ChangesNode, Fleet, HasAsk}
 use Rattle.core_model.specs.Pens.{pens_of}
-use Rattle.core_model.specs.Reads.{EndsAsk, IsGivenAnswer, LeaderAnswers, Wanted, wanted}
+use Rattle.core_model.specs.Reads.{EndsAsk, IsGivenAnswer, StoreReads, Wanted, given_of, wanted}
 use Rattle.core_model.specs.Stores.{master_log}
-use Rattle.graph_model.specs.Legal.{IsLegal}
+use Rattle.graph_model.specs.Log.{version}
 use Rattle.graph_model.specs.Told.{WhereTold}
+use Rattle.node_name.specs.declared.NodeName.{NodeName}
 use Rattle.replies.specs.Kinds.{query_word}
 use Rattle.replies.specs.declared.calls.CallReply.TheVariants as called
 use Rattle.replies.specs.declared.calls.ReadReply.{ReadReply}
 use Rattle.replies.specs.declared.nodes.KeptOrNot.TheVariants.{Kept}
 use Rattle.replies.specs.declared.refusals.Refusal.TheVariants.{Store, Memory}
-use Rattle.replies.specs.declared.refusals.StoreRefused.TheVariants.{KeeperFault}
+use Rattle.replies.specs.declared.refusals.StoreRefused.TheVariants.{KeeperFault, LinkFault}
+use Rattle.replies.specs.declared.refusals.When.TheVariants.{Before}
 use Rattle.replies.specs.declared.reply.Reply.{Reply}
 use Rattle.replies.specs.declared.reply.Reply.TheVariants.{Called, Refused}
 use Rattle.shard_log.specs.GrowthLaws.{IsLegalIn}
 use Rattle.shard_tables.specs.declared.leader_answer.LeaderAnswer.{LeaderAnswer}
-use Rattle.tao_base.specs.EdgeTypes.{EdgeTypes}
+use Rattle.shard_tables.specs.declared.leader_answer.LeaderAnswer.TheVariants as leader
+use Rattle.shard_tables.specs.declared.read_out.ReadOut.{ReadOut}
 use Rattle.tao_base.specs.Queries.{query_key, query_shard}
 use Rattle.tao_base.specs.declared.query.Query.{Query}
 use Rattle.tao_keeper.specs.KeeperState.{IsLater, KeeperState, KeepsTables}
+use Rattle.tao_link.specs.Shown.{after_carry}
 use Rattle.tao_schema.specs.Schema.{types_of}
 use Rattle.topology.specs.Config.{Settings}
-use Rattle.core_steps.specs.Reads.{AnswersAgain, Ends, ReadFails}
-use Rattle.core_steps.specs.Routes.{Scene, hops_between, there_and_back, was_called}
+use Rattle.core_steps.specs.Reads.{AnswersAgain, Ends, IsLegalNow, LeaderGives, MayAnswer, ReadFails, WasGiven}
+use Rattle.core_steps.specs.Routes.{FailsCarry, Scene, hops_between, master_node, there_and_back, was_called}
 use Rattle.core_steps.specs.declared.reads.Cost.{Cost}
 use Rattle.core_steps.specs.declared.routes.Route.{Route}
 
@@ -36,46 +40,84 @@ pub record ReadsOn (tells : Bool) (s : Settings) (old new : Scene) : Type 0 wher
   pub tables : KeepsTables tells old.keepers new.keepers
   pub later : IsLater old.keepers new.keepers
 
--- a read that its follower could not answer: its way, what it asks, and the ask that it opened
+-- a read that its follower could not answer: its way, what it asks at which floor, and the ask that it opened
 pub record MissedRead : Type 0 where
   pub route : Route
-  pub query : Query
+  pub read : Wanted
   pub ask : Option ℕ
 
-abbrev pub missed_read : Route → Query → Option ℕ → MissedRead
-missed_read route query ask = record { route = route; query = query; ask = ask }
+abbrev pub missed_read : Route → Wanted → Option ℕ → MissedRead
+missed_read route read ask = record { route = route; read = read; ask = ask }
 
 -- the ask is on the query's key
 abbrev pub AsksOfKey : MissedRead → Fleet → Type 0
-AsksOfKey missed f = IfSome missed.ask (λ number. HasAsk missed.route.follower number (query_key missed.query) f.followers)
+AsksOfKey missed f = IfSome missed.ask (λ number. HasAsk missed.route.follower number (query_key missed.read.query) f.followers)
+
+-- where the tables are told, the log of the read's shard has come to its floor
+abbrev pub IsReached : Bool → Settings → Wanted → KeeperState → Type 0
+IsReached tells s read keepers = WhereTold tells (read.floor ≤ version (master_log s keepers.told (query_shard read.query)) (query_key read.query))
 
 -- ---- the leader
 
--- why the leader gave nothing: its store's keeper failed, or memory was wanting
+-- why a leader, or a store, gave nothing: the store's keeper failed, or memory was wanting
 abbrev pub AskFails : Reply → KeeperState → KeeperState → Type 0
 AskFails (Refused (Store (KeeperFault count))) old new = (count ≡ new.faults) × Rose old.faults new.faults
 AskFails (Refused (Memory position)) old new = position ≡ 0
 AskFails reply old new = ⊥
 
+-- only a leader may have changed
+abbrev pub ChangesLeaders : Scene → Scene → Type 0
+ChangesLeaders old new = new.fleet ≡ record old.fleet { leaders = new.fleet.leaders }
+
 -- the leader answered, and that was carried back. Nothing else changed
 pub record IsGivenOver (s : Settings) (route : Route) (read : Wanted) (given : LeaderAnswer) (old new : Scene) : Type 0 where
-  pub asks : ChangesNode route.leader (LeaderAnswers (types_of s.schema) read given old.fleet.masters old.keepers new.keepers)
-      old.fleet.leaders new.fleet.leaders
-  pub rest : new.fleet ≡ record old.fleet { leaders = new.fleet.leaders }
-  pub link : new.link ≡ there_and_back old.link
+  pub gives : LeaderGives (types_of s.schema) route read given old new
+  pub rest : ChangesLeaders old new
   pub given_is : IsGivenAnswer (types_of s.schema) (pens_of new.fleet.masters) read given
-
--- the leaders rest, or one answered
-abbrev pub MayAnswer : EdgeTypes → Route → Wanted → Scene → Scene → Type 0
-MayAnswer types route read old new = (new.fleet.leaders ≡ old.fleet.leaders)
-    ⊎ ((given : LeaderAnswer) × ChangesNode route.leader (LeaderAnswers types read given old.fleet.masters old.keepers new.keepers)
-    old.fleet.leaders new.fleet.leaders)
 
 -- nothing was carried back. No other node changed
 pub record IsNotGiven (s : Settings) (route : Route) (read : Wanted) (reply : Reply) (old new : Scene) : Type 0 where
-  pub fails : ReadFails route reply old new
+  pub fails : ReadFails s route read.query reply old new
   pub leaders : MayAnswer (types_of s.schema) route read old new
-  pub rest : new.fleet ≡ record old.fleet { leaders = new.fleet.leaders }
+  pub rest : ChangesLeaders old new
+
+-- ---- the master's store
+
+-- the store read, and that was carried back: it has each floor that the log has come to. No node changed
+pub record IsReadOver (tells : Bool) (s : Settings) (query : Query) (out : ReadOut) (old new : Scene) : Type 0 where
+  pub reads : StoreReads (types_of s.schema) query out old.fleet.masters old.keepers new.keepers
+  pub link : new.link ≡ there_and_back old.link
+  pub same : new.fleet ≡ old.fleet
+  pub given : (floor : ℕ) → IsReached tells s (wanted query floor) old.keepers
+      → IsGivenAnswer (types_of s.schema) (pens_of new.fleet.masters) (wanted query floor) (given_of out)
+
+-- why nothing was carried back: the way there failed, or the store's keeper, or the way back; or memory was wanting
+abbrev pub ReadOverFails : NodeName → NodeName → Reply → Scene → Scene → Type 0
+ReadOverFails follower store (Refused (Store (LinkFault count Before))) old new = (count ≡ new.link.faults)
+    × (FailsCarry follower store old.link new.link ⊎ FailsCarry store follower (after_carry old.link) new.link)
+ReadOverFails follower store (Refused (Store (KeeperFault count))) old new = (count ≡ new.keepers.faults) × Rose old.keepers.faults new.keepers.faults
+ReadOverFails follower store (Refused (Memory position)) old new = position ≡ 0
+ReadOverFails follower store reply old new = ⊥
+
+-- nothing was carried back. No node changed
+pub record IsNotRead (s : Settings) (follower : NodeName) (query : Query) (reply : Reply) (old new : Scene) : Type 0 where
+  pub fails : ReadOverFails follower (master_node s (query_shard query)) reply old new
+  pub same : new.fleet ≡ old.fleet
+
+-- ---- both
+
+-- a leader's answer that is behind the floor
+abbrev pub is_behind : LeaderAnswer → Bool
+is_behind (leader.Filled fill) = false
+is_behind (leader.Past answer version total note) = false
+is_behind (leader.Behind version) = true
+
+-- the follower was given what it can answer from. No other node changed
+pub record IsGivenAlong (s : Settings) (route : Route) (read : Wanted) (given : LeaderAnswer) (old new : Scene) : Type 0 where
+  pub gives : WasGiven (types_of s.schema) route read given old new
+  pub reaches : is_behind given ≡ false
+  pub rest : ChangesLeaders old new
+  pub given_is : IsGivenAnswer (types_of s.schema) (pens_of new.fleet.masters) read given
 
 -- ---- the end at the follower
 
@@ -86,10 +128,11 @@ TellsCost query cost reply = ⊤
 
 -- a read that ended with what was given: its answer is legal in what the shard's pen has seen
 pub record IsEnded (s : Settings) (missed : MissedRead) (given : LeaderAnswer) (reply : ReadReply) (old new : Fleet) : Type 0 where
-  pub ends : Ends (types_of s.schema) missed.route.follower (wanted missed.query 0) missed.ask given reply old.followers new.followers
-  pub legal : IsLegalIn (types_of s.schema) (pens_of old.masters (query_shard missed.query)) missed.query 0 reply.answer reply.version
-  pub again : WhereTold (pens_of old.masters (query_shard missed.query)).log.told
-      (reply.kept ≡ Kept → AnswersAgain (types_of s.schema) missed.route.follower missed.query reply new.followers)
+  pub ends : Ends (types_of s.schema) missed.route.follower missed.read missed.ask given reply old.followers new.followers
+  pub legal : IsLegalIn (types_of s.schema) (pens_of old.masters (query_shard missed.read.query)) missed.read.query missed.read.floor
+      reply.answer reply.version
+  pub again : WhereTold (pens_of old.masters (query_shard missed.read.query)).log.told
+      (reply.kept ≡ Kept → AnswersAgain (types_of s.schema) missed.route.follower missed.read.query reply new.followers)
 
 -- how a read ends with what was given: it is answered, or memory was wanting for the answer, and its ask has ended
 abbrev pub EndsRead : Settings → MissedRead → LeaderAnswer → Reply → Fleet → Fleet → Type 0
@@ -98,28 +141,25 @@ EndsRead s missed given (Refused (Memory position)) old new = (position ≡ 0)
     × ChangesNode missed.route.follower (EndsAsk missed.ask) old.followers new.followers
 EndsRead s missed given reply old new = ⊥
 
--- ---- both
+-- ---- from the ask to the end
 
--- the read was answered by the leader's answer
+-- the read was answered by what was given
 pub record IsAnsweredThere (tells : Bool) (s : Settings) (missed : MissedRead) (reply : ReadReply) (old new : Scene) : Type 0 where
   pub given : LeaderAnswer
-  pub word_is : reply.word ≡ query_word missed.query
-  pub asks : ChangesNode missed.route.leader (LeaderAnswers (types_of s.schema) (wanted missed.query 0) given old.fleet.masters old.keepers new.keepers)
-      old.fleet.leaders new.fleet.leaders
-  pub ends : Ends (types_of s.schema) missed.route.follower (wanted missed.query 0) missed.ask given reply old.fleet.followers new.fleet.followers
+  pub word_is : reply.word ≡ query_word missed.read.query
+  pub gives : WasGiven (types_of s.schema) missed.route missed.read given old new
+  pub ends : Ends (types_of s.schema) missed.route.follower missed.read missed.ask given reply old.fleet.followers new.fleet.followers
   pub masters : new.fleet.masters ≡ old.fleet.masters
-  pub link : new.link ≡ there_and_back old.link
   pub hops_is : reply.hops ≡ hops_between old.link new.link
   pub store_is : reply.store ≡ was_called old.keepers new.keepers
-  pub legal : WhereTold tells
-      (IsLegal (types_of s.schema) (master_log s old.keepers.told (query_shard missed.query)) missed.query 0 reply.answer reply.version)
+  pub legal : IsLegalNow tells s missed.read reply old.keepers
   pub again : WhereTold tells
-      (reply.kept ≡ Kept → AnswersAgain (types_of s.schema) missed.route.follower missed.query reply new.fleet.followers)
+      (reply.kept ≡ Kept → AnswersAgain (types_of s.schema) missed.route.follower missed.read.query reply new.fleet.followers)
 
 -- it was refused, and the ask has ended
 pub record IsAskedInVain (s : Settings) (missed : MissedRead) (reply : Reply) (old new : Scene) : Type 0 where
-  pub fails : ReadFails missed.route reply old new
-  pub leaders : MayAnswer (types_of s.schema) missed.route (wanted missed.query 0) old new
+  pub fails : ReadFails s missed.route missed.read.query reply old new
+  pub leaders : MayAnswer (types_of s.schema) missed.route missed.read old new
   pub ends : ChangesNode missed.route.follower (EndsAsk missed.ask) old.fleet.followers new.fleet.followers
   pub masters : new.fleet.masters ≡ old.fleet.masters
 

@@ -6,7 +6,7 @@ use Rattle.cache_items.specs.Node.{item_at}
 use Rattle.cache_items.specs.declared.look.Kept.{Kept as KeptWhy}
 use Rattle.cache_items.specs.declared.look.Look.TheVariants.{Hit, Miss}
 use Rattle.core_model.specs.Fleet.{ChangesNode, IsFirstAt, named}
-use Rattle.core_model.specs.Reads.{EndsAsk, KeepsFill, LeaderAnswers, LooksFirst, Wanted, wanted}
+use Rattle.core_model.specs.Reads.{EndsAsk, KeepsFill, LeaderAnswers, LooksFirst, StoreReads, Wanted, given_of}
 use Rattle.core_model.specs.Stores.{master_log}
 use Rattle.core_model.specs.declared.named.Named.{Named}
 use Rattle.follower_cache.specs.Seen.{FollowerState}
@@ -25,13 +25,14 @@ use Rattle.replies.specs.declared.reply.Reply.{Reply}
 use Rattle.replies.specs.declared.reply.Reply.TheVariants.{Called, Refused}
 use Rattle.shard_tables.specs.declared.leader_answer.LeaderAnswer.{LeaderAnswer}
 use Rattle.shard_tables.specs.declared.leader_answer.LeaderAnswer.TheVariants as leader
+use Rattle.shard_tables.specs.declared.read_out.ReadOut.{ReadOut}
 use Rattle.tao_base.specs.EdgeTypes.{EdgeTypes}
 use Rattle.tao_base.specs.Queries.{query_key, query_shard}
 use Rattle.tao_base.specs.declared.query.Query.{Query}
-use Rattle.tao_link.specs.Shown.{after_carry}
+use Rattle.tao_keeper.specs.KeeperState.{KeeperState}
 use Rattle.tao_schema.specs.Schema.{key_bound, types_of}
 use Rattle.topology.specs.Config.{Settings}
-use Rattle.core_steps.specs.Routes.{FailsCarry, Scene, hops_between, there_and_back, was_called}
+use Rattle.core_steps.specs.Routes.{FailsOnTheWay, Scene, hops_between, there_and_back, was_called}
 use Rattle.core_steps.specs.declared.routes.Route.{Route}
 
 -- ---- a read that was answered
@@ -50,16 +51,35 @@ Ends types follower read ask (leader.Past answer version total note) reply old n
     × (reply.answer ≡ answer) × (reply.version ≡ version) × (reply.kept ≡ past_bound (key_bound types (query_key read.query)) total)
 Ends types follower read ask (leader.Behind version) reply old new = ⊥
 
--- the follower held none: it opened an ask, unless 256 were open, and the leader answered, of an item of its own or of the shard's store
+-- the leader gave it, of an item of its own or of the shard's store, by one carry there and one back
+pub record LeaderGives (types : EdgeTypes) (route : Route) (read : Wanted) (given : LeaderAnswer) (old new : Scene) : Type 0 where
+  pub asks : ChangesNode route.leader (LeaderAnswers types read given old.fleet.masters old.keepers new.keepers) old.fleet.leaders new.fleet.leaders
+  pub link : new.link ≡ there_and_back old.link
+
+-- the leader was behind the floor, and then the master's store read it, by one more carry there and one back
+pub record MasterGives (types : EdgeTypes) (route : Route) (read : Wanted) (given : LeaderAnswer) (old new : Scene) : Type 0 where
+  pub behind : ℕ
+  pub between : KeeperState
+  pub out : ReadOut
+  pub asks : ChangesNode route.leader (LeaderAnswers types read (leader.Behind behind) old.fleet.masters old.keepers between)
+      old.fleet.leaders new.fleet.leaders
+  pub reads : StoreReads types read.query out old.fleet.masters between new.keepers
+  pub given_is : given ≡ given_of out
+  pub link : new.link ≡ there_and_back (there_and_back old.link)
+
+-- what was given to a follower that could not answer
+abbrev pub WasGiven : EdgeTypes → Route → Wanted → LeaderAnswer → Scene → Scene → Type 0
+WasGiven types route read given old new = LeaderGives types route read given old new ⊎ MasterGives types route read given old new
+
+-- the follower held none: it opened an ask, unless 256 were open, and was given what it answered
 pub record Misses (types : EdgeTypes) (route : Route) (read : Wanted) (reply : ReadReply) (old new : Scene) : Type 0 where
   pub ask : Option ℕ
   pub looked : List (Named FollowerState)
   pub given : LeaderAnswer
   pub looks : ChangesNode route.follower (LooksFirst types read Miss ask) old.fleet.followers looked
-  pub asks : ChangesNode route.leader (LeaderAnswers types read given old.fleet.masters old.keepers new.keepers) old.fleet.leaders new.fleet.leaders
+  pub gives : WasGiven types route read given old new
   pub ends : Ends types route.follower read ask given reply looked new.fleet.followers
   pub masters : new.fleet.masters ≡ old.fleet.masters
-  pub link : new.link ≡ there_and_back old.link
 
 -- the first follower of that name holds an item that answers the query so, with each floor that its version has
 abbrev pub AnswersAgain : EdgeTypes → NodeName → Query → ReadReply → List (Named FollowerState) → Type 0
@@ -67,25 +87,30 @@ AnswersAgain types name query reply followers = (place : ℕ) (f : FollowerState
     → slice_get followers place ≡ Some (named name f) → floor ≤ reply.version
     → look_of types (item_at f.node.items (query_key query)) query floor ≡ Hit reply.answer reply.version
 
+-- where the tables are told, some beginning of the log of the shard answers so, at the floor
+abbrev pub IsLegalNow : Bool → Settings → Wanted → ReadReply → KeeperState → Type 0
+IsLegalNow tells s read reply keepers = WhereTold tells
+    (IsLegal (types_of s.schema) (master_log s keepers.told (query_shard read.query)) read.query read.floor reply.answer reply.version)
+
 -- a read that was answered: legally, by the log of its shard. Its hops are the carries that it took, and its store says whether a keeper was called.
 -- What is kept is held, and answers again
-pub record IsAnswered (tells : Bool) (s : Settings) (route : Route) (query : Query) (reply : ReadReply) (old new : Scene) : Type 0 where
-  pub word_is : reply.word ≡ query_word query
-  pub went : Hits (types_of s.schema) route (wanted query 0) reply old new ⊎ Misses (types_of s.schema) route (wanted query 0) reply old new
+pub record IsAnswered (tells : Bool) (s : Settings) (route : Route) (read : Wanted) (reply : ReadReply) (old new : Scene) : Type 0 where
+  pub word_is : reply.word ≡ query_word read.query
+  pub went : Hits (types_of s.schema) route read reply old new ⊎ Misses (types_of s.schema) route read reply old new
   pub hops_is : reply.hops ≡ hops_between old.link new.link
   pub store_is : reply.store ≡ was_called old.keepers new.keepers
-  pub legal : WhereTold tells (IsLegal (types_of s.schema) (master_log s old.keepers.told (query_shard query)) query 0 reply.answer reply.version)
-  pub again : WhereTold tells (reply.kept ≡ Kept → AnswersAgain (types_of s.schema) route.follower query reply new.fleet.followers)
+  pub legal : IsLegalNow tells s read reply old.keepers
+  pub again : WhereTold tells (reply.kept ≡ Kept → AnswersAgain (types_of s.schema) route.follower read.query reply new.fleet.followers)
 
 -- ---- a read that failed
 
--- why a step failed, and what its reply says: the way there, or the leader's store, or the way back; or memory was wanting
-abbrev pub ReadFails : Route → Reply → Scene → Scene → Type 0
-ReadFails route (Refused (Store (LinkFault count Before))) old new = (count ≡ new.link.faults)
-    × (FailsCarry route.follower route.leader old.link new.link ⊎ FailsCarry route.leader route.follower (after_carry old.link) new.link)
-ReadFails route (Refused (Store (KeeperFault count))) old new = (count ≡ new.keepers.faults) × Rose old.keepers.faults new.keepers.faults
-ReadFails route (Refused (Memory position)) old new = position ≡ 0
-ReadFails route reply old new = ⊥
+-- why a step failed, and what its reply says: a carry, or a store; or memory was wanting
+abbrev pub ReadFails : Settings → Route → Query → Reply → Scene → Scene → Type 0
+ReadFails s route query (Refused (Store (LinkFault count Before))) old new =
+    (count ≡ new.link.faults) × FailsOnTheWay s route (query_shard query) old.link new.link
+ReadFails s route query (Refused (Store (KeeperFault count))) old new = (count ≡ new.keepers.faults) × Rose old.keepers.faults new.keepers.faults
+ReadFails s route query (Refused (Memory position)) old new = position ≡ 0
+ReadFails s route query reply old new = ⊥
 
 -- its follower opened an ask, and ended it
 pub record AskedInVain (types : EdgeTypes) (follower : NodeName) (read : Wanted) (old new : List (Named FollowerState)) : Type 0 where
@@ -94,19 +119,24 @@ pub record AskedInVain (types : EdgeTypes) (follower : NodeName) (read : Wanted)
   pub looks : ChangesNode follower (LooksFirst types read Miss ask) old looked
   pub ends : ChangesNode follower (EndsAsk ask) looked new
 
+-- the leaders rest, or one answered
+abbrev pub MayAnswer : EdgeTypes → Route → Wanted → Scene → Scene → Type 0
+MayAnswer types route read old new = (new.fleet.leaders ≡ old.fleet.leaders)
+    ⊎ ((given : LeaderAnswer) × (after : KeeperState)
+    × ChangesNode route.leader (LeaderAnswers types read given old.fleet.masters old.keepers after) old.fleet.leaders new.fleet.leaders)
+
 -- the nodes after a read that failed: its follower may have asked, and its leader may have answered
 pub record LeavesNodes (types : EdgeTypes) (route : Route) (read : Wanted) (old new : Scene) : Type 0 where
   pub followers : (new.fleet.followers ≡ old.fleet.followers) ⊎ AskedInVain types route.follower read old.fleet.followers new.fleet.followers
-  pub leaders : (new.fleet.leaders ≡ old.fleet.leaders)
-      ⊎ ((given : LeaderAnswer) × ChangesNode route.leader (LeaderAnswers types read given old.fleet.masters old.keepers new.keepers) old.fleet.leaders new.fleet.leaders)
+  pub leaders : MayAnswer types route read old new
   pub masters : new.fleet.masters ≡ old.fleet.masters
 
-pub record IsFailedRead (s : Settings) (route : Route) (query : Query) (reply : Reply) (old new : Scene) : Type 0 where
-  pub fails : ReadFails route reply old new
-  pub nodes : LeavesNodes (types_of s.schema) route (wanted query 0) old new
+pub record IsFailedRead (s : Settings) (route : Route) (read : Wanted) (reply : Reply) (old new : Scene) : Type 0 where
+  pub fails : ReadFails s route read.query reply old new
+  pub nodes : LeavesNodes (types_of s.schema) route read old new
 
 -- what a read along a route is answered
-abbrev pub ReadsAlong : Bool → Settings → Route → Query → Reply → Scene → Scene → Type 0
-ReadsAlong tells s route query (Called (called.Read reply)) old new = IsAnswered tells s route query reply old new
-ReadsAlong tells s route query (Refused refused) old new = IsFailedRead s route query (Refused refused) old new
-ReadsAlong tells s route query reply old new = ⊥
+abbrev pub ReadsAlong : Bool → Settings → Route → Wanted → Reply → Scene → Scene → Type 0
+ReadsAlong tells s route read (Called (called.Read reply)) old new = IsAnswered tells s route read reply old new
+ReadsAlong tells s route read (Refused refused) old new = IsFailedRead s route read (Refused refused) old new
+ReadsAlong tells s route read reply old new = ⊥

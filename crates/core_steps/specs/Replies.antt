@@ -1,9 +1,12 @@
--- How a store's refusal is replied.
+-- How a store's refusal is replied, and the read of a refill.
 use Rattle.std.specs.Prelude.{ℕ}
+use Rattle.replies.specs.declared.calls.CallReply.TheVariants as called
+use Rattle.replies.specs.declared.nodes.CacheReply.TheVariants.{Refilled}
+use Rattle.replies.specs.declared.nodes.NodeReply.TheVariants.{Cache}
 use Rattle.replies.specs.declared.refusals.Refusal.TheVariants.{Store, Memory}
 use Rattle.replies.specs.declared.refusals.StoreRefused.TheVariants.{SeqReused, ShardFull, StampFull, LogFull, KeeperFault}
 use Rattle.replies.specs.declared.reply.Reply.{Reply}
-use Rattle.replies.specs.declared.reply.Reply.TheVariants.{Refused}
+use Rattle.replies.specs.declared.reply.Reply.TheVariants.{Called, Node, Refused}
 use Rattle.shard_tables.specs.declared.refusal.StoreRefusal.{StoreRefusal}
 use Rattle.shard_tables.specs.declared.refusal.StoreRefusal.TheVariants as store
 
@@ -15,3 +18,9 @@ refused_as faults (store.SeqReused position) = Refused (Store (SeqReused positio
 refused_as faults (store.ShardFull serial) = Refused (Store (ShardFull serial))
 refused_as faults (store.StampFull number) = Refused (Store (StampFull number))
 refused_as faults (store.LogFull count) = Refused (Store (LogFull count))
+
+-- the read of a refill is replied without its answer
+abbrev pub refilled_as : Reply → Reply
+refilled_as (Called (called.Read reply)) =
+    Node (Cache (Refilled (record { hops = reply.hops; store = reply.store; version = reply.version; kept = reply.kept })))
+refilled_as reply = reply

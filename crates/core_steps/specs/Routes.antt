@@ -1,11 +1,15 @@
 -- What the steps of a call see, and what its carries over links do.
-use Rattle.std.specs.Prelude.{ℕ, ◌≡◌, ◌-◌, Bool, Some, nat_lt}
+use Rattle.std.specs.Prelude.{ℕ, ◌≡◌, ◌⊎◌, ◌-◌, Bool, Some, nat_lt}
 use Rattle.counts.specs.Count.{Counted, Rose}
 use Rattle.node_name.specs.declared.NodeName.{NodeName}
+use Rattle.node_name.specs.declared.NodeName.TheVariants.{Store as StoreName_}
 use Rattle.tao_keeper.specs.KeeperState.{KeeperState}
 use Rattle.tao_link.specs.Cuts.{between}
 use Rattle.tao_link.specs.Shown.{LinkShown, after_carry}
+use Rattle.topology.specs.Config.{Settings}
 use Rattle.core_model.specs.Fleet.{Fleet}
+use Rattle.core_model.specs.Stores.{master_store}
+use Rattle.core_steps.specs.declared.routes.Route.{Route}
 
 -- ---- what a step sees
 
@@ -30,6 +34,16 @@ pub record FailsCarry (from to : NodeName) (old new : LinkShown) : Type 0 where
   pub faults : Rose old.faults new.faults
   pub failed : new.failed ≡ Some (between from to)
   pub cuts : new.cuts ≡ old.cuts
+
+-- the store of a shard's master, as a node
+abbrev pub master_node : Settings → ℕ → NodeName
+master_node s shard = StoreName_ (master_store s shard)
+
+-- a carry of a read failed: to the leader, or back from it; or, where that was behind, to the master's store, or back from that
+abbrev pub FailsOnTheWay : Settings → Route → ℕ → LinkShown → LinkShown → Type 0
+FailsOnTheWay s route shard old new = FailsCarry route.follower route.leader old new ⊎ (FailsCarry route.leader route.follower (after_carry old) new
+    ⊎ (FailsCarry route.follower (master_node s shard) (there_and_back old) new
+    ⊎ FailsCarry (master_node s shard) route.follower (after_carry (there_and_back old)) new))
 
 -- how many carries there were
 abbrev pub hops_between : LinkShown → LinkShown → ℕ

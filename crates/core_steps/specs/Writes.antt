@@ -1,9 +1,12 @@
 -- What a write along a route is answered, and what it does to the log of its shard and to the nodes.
-use Rattle.std.specs.Prelude.{ℕ, ◌≡◌, ◌⊎◌, Bool, true, false, Option, Some, None, if◌then◌else◌}
+use Rattle.std.specs.Prelude.{ℕ, ◌≡◌, ◌⊎◌, Bool, true, false, List, Option, Some, None, IfSome, if◌then◌else◌}
 use Rattle.counts.specs.Count.{Rose}
 use Rattle.core_model.specs.Fleet.{ChangesNode, Fleet}
+use Rattle.core_mail.specs.Inboxes.{Inboxes, Sends, message_of}
+use Rattle.core_model.specs.Messages.{told_of}
+use Rattle.core_model.specs.Pens.{pens_of}
 use Rattle.core_model.specs.Stores.{master_log, master_store, masters_of}
-use Rattle.core_model.specs.Writes.{AppliesTo}
+use Rattle.core_model.specs.Writes.{AppliesTo, IsSeenEntry}
 use Rattle.graph_model.specs.Told.{WhereTold}
 use Rattle.leader_tier.specs.TakenWrites.{TakesWritten}
 use Rattle.master_tables.specs.Masters.{stores_of}
@@ -19,8 +22,10 @@ use Rattle.replies.specs.declared.reply.Reply.{Reply}
 use Rattle.replies.specs.declared.reply.Reply.TheVariants.{Called, Refused}
 use Rattle.shard_log.specs.View.{View}
 use Rattle.shard_tables.specs.Jobs.{job_with}
+use Rattle.shard_tables.specs.StoreView.{Store as StoreSeen}
 use Rattle.shard_tables.specs.WriteSteps.{client_write}
-use Rattle.shard_tables.specs.Written.{AnswersAs, AskedWrite, IsLogFull, IsReused, IsShardFull, IsStampFull, TableGains, asked_write}
+use Rattle.shard_tables.specs.declared.writes.Wrote.{Wrote}
+use Rattle.shard_tables.specs.Written.{AnswersAs, AskedWrite, HasEntry, LiesOn, IsLogFull, IsReused, IsShardFull, IsStampFull, TableGains, asked_write}
 use Rattle.tao_base.specs.EdgeTypes.{EdgeTypes}
 use Rattle.tao_base.specs.Writes.{write_shard}
 use Rattle.tao_base.specs.declared.entry.Entry.{Entry}
@@ -29,10 +34,13 @@ use Rattle.tao_base.specs.declared.write.Write.{Write}
 use Rattle.tao_keeper.specs.KeeperState.{KeeperState, KeepsTables}
 use Rattle.tao_link.specs.Shown.{after_carry}
 use Rattle.tao_schema.specs.Schema.{types_of}
+use Rattle.topology.specs.Choices.{master_region}
 use Rattle.topology.specs.Config.{Settings}
+use Rattle.topology.specs.States.{NodeStates}
 use Rattle.write_model.specs.Machine.{ChangesNothing, Repeats}
 use Rattle.write_model.specs.Merges.{Stores}
 use Rattle.write_model.specs.Steps.{CommitsWithJob, JobsStay}
+use Rattle.write_model.specs.Writes.{FitsWrite}
 use Rattle.write_plan.specs.Committing.{told_kind}
 use Rattle.write_plan.specs.Plans.{when_of, written_by}
 use Rattle.core_steps.specs.Routes.{FailsCarry, Scene, hops_between, there_and_back}
@@ -49,6 +57,15 @@ client_call origin write = record { origin = origin; write = write }
 -- the write, as it is asked of the log of its shard
 abbrev pub asked_of_log : Settings → KeeperState → ClientWrite → AskedWrite
 asked_of_log s keepers call = asked_write (types_of s.schema) s.log_max (master_log s keepers.told (write_shard call.write)) call.origin call.write
+
+-- what a write sees: its scene, the messages that wait, and which nodes are up
+pub record Posting : Type 0 where
+  pub scene : Scene
+  pub inboxes : Inboxes
+  pub states : NodeStates
+
+abbrev pub posting : Scene → Inboxes → NodeStates → Posting
+posting scene inboxes states = record { scene = scene; inboxes = inboxes; states = states }
 
 -- the logs and open jobs of all shards
 abbrev pub stores_now : Settings → KeeperState → Stores
@@ -88,20 +105,45 @@ abbrev pub FollowerTakes : EdgeTypes → Route → ℕ → Option Entry → Flee
 FollowerTakes types route shard None old new = new.followers ≡ old.followers
 FollowerTakes types route shard (Some e) old new = (note : View) × ChangesNode route.follower (AppliesTo types shard e note) old.followers new.followers
 
+-- of an entry that the log gained the followers of the master's region are told, and of no other
+abbrev pub TellsOfNew : NodeStates → ℕ → Option Entry → Inboxes → Inboxes → Type 0
+TellsOfNew states shard None old new = new ≡ old
+TellsOfNew states shard (Some e) old new =
+    (note : View) × Sends (told_of states (master_region states shard) shard) (message_of shard e note) old new
+
+-- ---- a write that was committed
+
+-- the write was carried to the leader, which committed it; that leader and the inboxes took what was written
+pub record IsCommitted (tells : Bool) (s : Settings) (route : Route) (call : ClientWrite) (wrote : Wrote) (old new : Posting) : Type 0 where
+  pub commits : Commits tells s call wrote.retry wrote.entry old.scene.keepers new.scene.keepers
+  pub leader : LeaderTakes (types_of s.schema) route (write_shard call.write) wrote.entry old.scene.fleet new.scene.fleet
+  pub followers : new.scene.fleet.followers ≡ old.scene.fleet.followers
+  pub told : TellsOfNew old.states (write_shard call.write) (new_entry wrote.retry wrote.entry) old.inboxes new.inboxes
+  pub states : new.states ≡ old.states
+  pub link : new.scene.link ≡ after_carry old.scene.link
+
+-- what its follower may take: the entry is the write's, and stands in what was seen of the shard's log
+pub record CanBeApplied (call : ClientWrite) (wrote : Wrote) (masters : List StoreSeen) : Type 0 where
+  pub fits : IfSome wrote.entry (λ e. FitsWrite e call.write)
+  pub has : HasEntry call.write wrote.entry
+  pub seen : IfSome wrote.entry (IsSeenEntry (pens_of masters) (write_shard call.write) wrote.note)
+  pub here : IfSome wrote.entry (LiesOn wrote.note (write_shard call.write))
+
 -- ---- a write that was carried out
 
 -- a write that was carried out, by one carry there and one back: its reply tells the entry. No type has an inverse, since a core serves
 -- configurations without one
-pub record IsWritten (tells : Bool) (s : Settings) (route : Route) (call : ClientWrite) (reply : WriteReply) (old new : Scene) : Type 0 where
+pub record IsWritten (tells : Bool) (s : Settings) (route : Route) (call : ClientWrite) (reply : WriteReply) (old new : Posting) : Type 0 where
   pub entry : Option Entry
   pub retry : Bool
   pub kind_is : told_kind call.write entry ≡ Some reply.kind
   pub written_is : reply.written ≡ written_by retry inverse.None entry
-  pub commits : Commits tells s call retry entry old.keepers new.keepers
-  pub leader : LeaderTakes (types_of s.schema) route (write_shard call.write) entry old.fleet new.fleet
-  pub follower : FollowerTakes (types_of s.schema) route (write_shard call.write) entry old.fleet new.fleet
-  pub link : new.link ≡ there_and_back old.link
-  pub hops_is : reply.hops ≡ hops_between old.link new.link
+  pub commits : Commits tells s call retry entry old.scene.keepers new.scene.keepers
+  pub leader : LeaderTakes (types_of s.schema) route (write_shard call.write) entry old.scene.fleet new.scene.fleet
+  pub follower : FollowerTakes (types_of s.schema) route (write_shard call.write) entry old.scene.fleet new.scene.fleet
+  pub told : TellsOfNew old.states (write_shard call.write) (new_entry retry entry) old.inboxes new.inboxes
+  pub link : new.scene.link ≡ there_and_back old.scene.link
+  pub hops_is : reply.hops ≡ hops_between old.scene.link new.scene.link
 
 -- ---- a write that was refused
 
@@ -115,37 +157,49 @@ StoreRefuses tells asked (KeeperFault count) old new = (count ≡ new.faults) ×
 StoreRefuses tells asked (LinkFault count when) old new = ⊥
 StoreRefuses tells asked (Unsettled shard why) old new = ⊥
 
--- no node and no table changed
-pub record ChangesNoScene (tells : Bool) (old new : Scene) : Type 0 where
-  pub fleet : new.fleet ≡ old.fleet
-  pub tables : KeepsTables tells old.keepers new.keepers
+-- no node, no inbox and no table changed
+pub record ChangesNoNode (tells : Bool) (old new : Posting) : Type 0 where
+  pub fleet : new.scene.fleet ≡ old.scene.fleet
+  pub inboxes : new.inboxes ≡ old.inboxes
+  pub tables : KeepsTables tells old.scene.keepers new.scene.keepers
 
 -- the way there failed, and nothing changed
-pub record FailsThere (tells : Bool) (route : Route) (when : When) (old new : Scene) : Type 0 where
+pub record FailsThere (tells : Bool) (route : Route) (when : When) (old new : Posting) : Type 0 where
   pub before : when ≡ Before
-  pub carry : FailsCarry route.follower route.leader old.link new.link
-  pub same : ChangesNoScene tells old new
+  pub carry : FailsCarry route.follower route.leader old.scene.link new.scene.link
+  pub same : ChangesNoNode tells old new
 
 -- the way back failed: the write stands, at the position that the reply tells where there is an entry. The follower's items stay
-pub record FailsBack (tells : Bool) (s : Settings) (route : Route) (call : ClientWrite) (when : When) (old new : Scene) : Type 0 where
+pub record FailsBack (tells : Bool) (s : Settings) (route : Route) (call : ClientWrite) (when : When) (old new : Posting) : Type 0 where
   pub entry : Option Entry
   pub retry : Bool
   pub when_is : when ≡ when_of entry
-  pub carry : FailsCarry route.leader route.follower (after_carry old.link) new.link
-  pub commits : Commits tells s call retry entry old.keepers new.keepers
-  pub leader : LeaderTakes (types_of s.schema) route (write_shard call.write) entry old.fleet new.fleet
-  pub followers : new.fleet.followers ≡ old.fleet.followers
+  pub carry : FailsCarry route.leader route.follower (after_carry old.scene.link) new.scene.link
+  pub commits : Commits tells s call retry entry old.scene.keepers new.scene.keepers
+  pub leader : LeaderTakes (types_of s.schema) route (write_shard call.write) entry old.scene.fleet new.scene.fleet
+  pub followers : new.scene.fleet.followers ≡ old.scene.fleet.followers
+  pub told : TellsOfNew old.states (write_shard call.write) (new_entry retry entry) old.inboxes new.inboxes
 
--- why a write along a route was refused
-abbrev pub WriteRefused : Bool → Settings → Route → ClientWrite → StoreRefused → Scene → Scene → Type 0
+-- why a write was not committed: its way there failed, or the store refused it. Nothing changed
+abbrev pub NotCommitted : Bool → Settings → Route → ClientWrite → StoreRefused → Posting → Posting → Type 0
+NotCommitted tells s route call (LinkFault count when) old new = (count ≡ new.scene.link.faults) × FailsThere tells route when old new
+NotCommitted tells s route call refused old new =
+    StoreRefuses tells (asked_of_log s old.scene.keepers call) refused old.scene.keepers new.scene.keepers × ChangesNoNode tells old new
+
+abbrev pub RefusesCommit : Bool → Settings → Route → ClientWrite → Reply → Posting → Posting → Type 0
+RefusesCommit tells s route call (Refused (Store refused)) old new = NotCommitted tells s route call refused old new
+RefusesCommit tells s route call (Refused (Memory position)) old new = (position ≡ 0) × ChangesNoNode tells old new
+RefusesCommit tells s route call reply old new = ⊥
+
+-- why a write along a route was refused: it was not committed, or its way back failed
+abbrev pub WriteRefused : Bool → Settings → Route → ClientWrite → StoreRefused → Posting → Posting → Type 0
 WriteRefused tells s route call (LinkFault count when) old new =
-    (count ≡ new.link.faults) × (FailsThere tells route when old new ⊎ FailsBack tells s route call when old new)
-WriteRefused tells s route call refused old new =
-    StoreRefuses tells (asked_of_log s old.keepers call) refused old.keepers new.keepers × ChangesNoScene tells old new
+    (count ≡ new.scene.link.faults) × (FailsThere tells route when old new ⊎ FailsBack tells s route call when old new)
+WriteRefused tells s route call refused old new = NotCommitted tells s route call refused old new
 
 -- what a write along a route is answered
-abbrev pub WritesAlong : Bool → Settings → Route → ClientWrite → Reply → Scene → Scene → Type 0
+abbrev pub WritesAlong : Bool → Settings → Route → ClientWrite → Reply → Posting → Posting → Type 0
 WritesAlong tells s route call (Called (called.Write reply)) old new = IsWritten tells s route call reply old new
 WritesAlong tells s route call (Refused (Store refused)) old new = WriteRefused tells s route call refused old new
-WritesAlong tells s route call (Refused (Memory position)) old new = (position ≡ 0) × ChangesNoScene tells old new
+WritesAlong tells s route call (Refused (Memory position)) old new = (position ≡ 0) × ChangesNoNode tells old new
 WritesAlong tells s route call reply old new = ⊥

@@ -4,12 +4,14 @@
 //! consistent stays so. Which nodes are on the route is not said here.
 #![tactic(auto)]
 
+mod asking;
 mod reads;
 mod refusals;
 mod routes;
 mod writes;
 
+pub use asking::{ask_over, read_over};
 pub use reads::read_along;
-pub use refusals::{out_of_memory, refused_as};
+pub use refusals::{link_fault, out_of_memory, refilled_as, refused_as};
 pub use routes::Route;
-pub use writes::write_along;
+pub use writes::{apply_over, commit_over, write_along};

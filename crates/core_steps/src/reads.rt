@@ -1,39 +1,34 @@
 //! The reads of sessions.
-ghost use Rattle.std.specs.Prelude.{◌≡◌, ◌≤◌, ◌-◌, nat_lt, IfErr, IfOk, IfSome, OnErr, OnOk};
+ghost use Rattle.std.specs.Prelude.{◌≡◌, ◌-◌, false, nat_lt, IfErr, IfOk};
 ghost use Rattle.core_model.specs.Consistent.{GoesOn, IsConsistent, IsFleetOf};
-ghost use Rattle.core_model.specs.Fleet.{ChangesNode};
 ghost use Rattle.core_model.specs.Pens.{pens_of};
-ghost use Rattle.core_model.specs.Reads.{IsGivenAnswer, IsGivenFill, LeaderAnswers, wanted};
+ghost use Rattle.core_model.specs.Reads.{IsGivenAnswer, IsGivenFill, wanted};
 ghost use Rattle.core_model.specs.Serving.{IsFollowerFor, IsLeaderFor};
 ghost use Rattle.replies.specs.Kinds.{query_word};
 ghost use Rattle.tao_base.specs.Queries.{query_key, query_shard};
 ghost use Rattle.tao_keeper.specs.KeeperState.{IsLater, KeepsTables};
-ghost use Rattle.tao_link.specs.Shown.{after_carry};
 ghost use Rattle.tao_schema.specs.Schema.{key_bound, types_of};
 ghost use Rattle.core_steps.specs.Reads.{ReadsAlong};
-ghost use Rattle.core_steps.specs.ReadSteps.{AskFails, AsksAlong, AsksOfKey, EndsRead, IsGivenOver, IsNotGiven, ReadsOn, TellsCost, missed_read};
-ghost use Rattle.core_steps.specs.Routes.{FailsCarry, scene};
+ghost use Rattle.core_steps.specs.ReadSteps.{AsksAlong, AsksOfKey, EndsRead, IsGivenAlong, IsNotGiven, IsReached, ReadsOn, TellsCost, is_behind, missed_read};
+ghost use Rattle.core_steps.specs.Routes.{scene};
 
-use crate::refusals::{link_fault, out_of_memory, refused_as};
-use crate::routes::{Route, carry};
+use crate::asking::{ask_over, given_of, read_over};
+use crate::refusals::out_of_memory;
+use crate::routes::Route;
 use ask_table::AskNo;
 use cache_items::Look;
 use core_nodes::{FirstLook, Fleet};
-use node_name::NodeName;
 use read_plan::{kept_or_not, past_bound};
-use replies::{CallReply, KeptOrNot, ReadReply, Refusal, Reply, StoreRefused, When, query_word};
+use replies::{CallReply, KeptOrNot, ReadReply, Reply, query_word};
 use sealed_item::Fill;
 use sealed_item::laws::fills_are_sealed;
 use shard_tables::LeaderAnswer;
 use std::alloc::Global;
 use tao_base::{Answer, OutOfMemory, Query};
 use tao_keeper::Keeper;
-use tao_link::{Link, LinkFailed};
+use tao_link::Link;
 use tao_schema::Schema;
 use topology::Config;
-
-/// The version that every answer has at least: sessions don't learn what they wrote yet.
-const NO_FLOOR: u64 = 0;
 
 /// What a read took: carries over links, and whether a keeper was called.
 #[derive(Clone, Copy)]
@@ -69,12 +64,13 @@ fn read_reply(query: &Query, answer: Answer, version: u64, cost: Cost, kept: Kep
     }))
 }
 
-/// Answers a read along its route. The follower answers where it holds an item that decides the query. Else it opens an ask, and the
-/// leader is asked over the link: it answers of an item of its own or of the shard's store, and the follower keeps what it gave, or
-/// not, and answers from it.
+/// Answers a read along its route, at a floor that the log of its shard has come to. The follower answers where it holds an item at
+/// the floor or above that decides the query. Else it opens an ask, and the leader is asked over the link: it answers of an item of
+/// its own or of the shard's store; where that is behind the floor, the master's store answers. The follower keeps what was given,
+/// or not, and answers from it.
 ///
 /// A reply tells a legal answer, the carries, and whether a keeper was called. `LinkFault` comes only where the link's count of faults
-/// rose at a carry of the two nodes, `KeeperFault` only where the keepers' rose, and want of memory where there was none; the ask has
+/// rose at a carry of the read, `KeeperFault` only where the keepers' rose, and want of memory where there was none; the ask has
 /// ended then. No table changes.
 ///
 /// Costs a look-up at the follower, and after a miss what `Leader::answer` does and a copy of the answer.
@@ -86,18 +82,20 @@ pub fn read_along<K: Keeper, L: Link>(
     link: &mut L,
     route: Route,
     query: &Query,
+    floor: u64,
 ) -> Reply
     requires consistent { IsConsistent K.TELLS config.now (K.state keepers.old).told fleet.old }
     requires follower { IsFollowerFor config.now (query_shard query.now) route.follower }
     requires leader { IsLeaderFor config.now (query_shard query.now) route.leader }
-    ensures reads { ReadsAlong K.TELLS config.now route query.now result (scene fleet.old (K.state keepers.old) (L.shown link.old))
-        (scene fleet.new (K.state keepers.new) (L.shown link.new)) }
+    requires reached { IsReached K.TELLS config.now (wanted query.now floor) (K.state keepers.old) }
+    ensures reads { ReadsAlong K.TELLS config.now route (wanted query.now floor) result
+        (scene fleet.old (K.state keepers.old) (L.shown link.old)) (scene fleet.new (K.state keepers.new) (L.shown link.new)) }
     ensures consistent { IsConsistent K.TELLS config.now (K.state keepers.new).told fleet.new }
     ensures goes { GoesOn fleet.old fleet.new }
     ensures tables { KeepsTables K.TELLS (K.state keepers.old) (K.state keepers.new) }
     ensures later { IsLater (K.state keepers.old) (K.state keepers.new) }
 {
-    match fleet.look(config, route.follower, query, NO_FLOOR) {
+    match fleet.look(config, route.follower, query, floor) {
         Ok(FirstLook { look, ask }) => match look {
             Look::Hit { answer, version } => {
                 let cost = Cost {
@@ -106,7 +104,9 @@ pub fn read_along<K: Keeper, L: Link>(
                 };
                 read_reply(query, answer, version, cost, KeptOrNot::Kept)
             }
-            Look::Miss => ask_along(alloc, fleet, config, keepers, link, route, query, ask),
+            Look::Miss => ask_along(
+                alloc, fleet, config, keepers, link, route, query, floor, ask,
+            ),
         },
         Err(OutOfMemory) => out_of_memory(),
     }
@@ -122,7 +122,7 @@ fn cost_since<K: Keeper, L: Link>(keepers: &K, link: &L, calls: u64, carries: u6
     }
 }
 
-/// Asks the leader, and ends the read with what it gave.
+/// Asks for what the follower can't answer, and ends the read with what is given.
 fn ask_along<K: Keeper, L: Link>(
     alloc: Global,
     fleet: &mut Fleet,
@@ -131,22 +131,24 @@ fn ask_along<K: Keeper, L: Link>(
     link: &mut L,
     route: Route,
     query: &Query,
+    floor: u64,
     ask: Option<AskNo>,
 ) -> Reply
     requires consistent { IsConsistent K.TELLS config.now (K.state keepers.old).told fleet.old }
     requires follower { IsFollowerFor config.now (query_shard query.now) route.follower }
     requires leader { IsLeaderFor config.now (query_shard query.now) route.leader }
-    requires ask { AsksOfKey (missed_read route query.now ask) fleet.old }
-    ensures asks { AsksAlong K.TELLS config.now (missed_read route query.now ask) result (scene fleet.old (K.state keepers.old) (L.shown link.old))
-        (scene fleet.new (K.state keepers.new) (L.shown link.new)) }
+    requires reached { IsReached K.TELLS config.now (wanted query.now floor) (K.state keepers.old) }
+    requires ask { AsksOfKey (missed_read route (wanted query.now floor) ask) fleet.old }
+    ensures asks { AsksAlong K.TELLS config.now (missed_read route (wanted query.now floor) ask) result
+        (scene fleet.old (K.state keepers.old) (L.shown link.old)) (scene fleet.new (K.state keepers.new) (L.shown link.new)) }
     ensures on { ReadsOn K.TELLS config.now (scene fleet.old (K.state keepers.old) (L.shown link.old))
         (scene fleet.new (K.state keepers.new) (L.shown link.new)) }
 {
     let (calls, carries) = (keepers.calls(), link.carries());
-    match given_over(alloc, fleet, config, keepers, link, route, query) {
+    match given_along(alloc, fleet, config, keepers, link, route, query, floor) {
         Ok(given) => {
             let cost = cost_since(keepers, link, calls, carries);
-            end_read(fleet, config, route, query, ask, given, cost)
+            end_read(fleet, config, route, query, floor, ask, given, cost)
         }
         Err(reply) => {
             fleet.end_ask(config, route.follower, query.shard(), ask);
@@ -155,49 +157,15 @@ fn ask_along<K: Keeper, L: Link>(
     }
 }
 
-/// A carry, of which a reply says that it failed.
-fn carried<L: Link>(link: &mut L, from: NodeName, to: NodeName) -> Result<(), Reply>
-    ensures ok { OnOk result (L.shown link.new ≡ after_carry (L.shown link.old)) }
-    ensures fails { IfErr result (λ _. FailsCarry from to (L.shown link.old) (L.shown link.new)) }
-    ensures reply { IfErr result (λ reply. reply ≡ Reply.Refused (Refusal.Store (StoreRefused.LinkFault (L.shown link.new).faults When.Before))) }
+/// Whether a leader's answer is behind the floor.
+fn is_behind(given: &LeaderAnswer) -> bool
+    ensures { result ≡ is_behind given.now }
 {
-    match carry(link, from, to) {
-        Ok(()) => Ok(()),
-        Err(LinkFailed) => Err(link_fault(link.faults(), When::Before)),
-    }
+    matches!(given, LeaderAnswer::Behind { .. })
 }
 
-/// What the leader gives.
-fn asked<K: Keeper>(
-    alloc: Global,
-    fleet: &mut Fleet,
-    config: &Config,
-    keepers: &mut K,
-    leader: NodeName,
-    query: &Query,
-) -> Result<LeaderAnswer, Reply>
-    requires consistent { IsConsistent K.TELLS config.now (K.state keepers.old).told fleet.old }
-    requires leader { IsLeaderFor config.now (query_shard query.now) leader }
-    ensures answers { IfOk result (λ given. ChangesNode leader
-        (LeaderAnswers (types_of config.now.schema) (wanted query.now 0) given fleet.old.masters (K.state keepers.old) (K.state keepers.new))
-        fleet.old.leaders fleet.new.leaders) }
-    ensures rest { fleet.new ≡ record fleet.old { leaders = fleet.new.leaders } }
-    ensures given { IfOk result (IsGivenAnswer (types_of config.now.schema) (pens_of fleet.new.masters) (wanted query.now 0)) }
-    ensures err { IfErr result (λ reply. AskFails reply (K.state keepers.old) (K.state keepers.new)) }
-    ensures same { OnErr result (fleet.new ≡ fleet.old) }
-    ensures consistent { IsConsistent K.TELLS config.now (K.state keepers.new).told fleet.new }
-    ensures goes { GoesOn fleet.old fleet.new }
-    ensures tables { KeepsTables K.TELLS (K.state keepers.old) (K.state keepers.new) }
-    ensures later { IsLater (K.state keepers.old) (K.state keepers.new) }
-{
-    match fleet.ask(alloc, config, keepers, leader, query, NO_FLOOR) {
-        Ok(given) => Ok(given),
-        Err(refusal) => Err(refused_as(refusal, keepers.faults())),
-    }
-}
-
-/// What the leader gives, carried there and back.
-fn given_over<K: Keeper, L: Link>(
+/// What the follower is given: what the leader gives, or where that is behind the floor what the master's store reads.
+fn given_along<K: Keeper, L: Link>(
     alloc: Global,
     fleet: &mut Fleet,
     config: &Config,
@@ -205,45 +173,52 @@ fn given_over<K: Keeper, L: Link>(
     link: &mut L,
     route: Route,
     query: &Query,
+    floor: u64,
 ) -> Result<LeaderAnswer, Reply>
     requires consistent { IsConsistent K.TELLS config.now (K.state keepers.old).told fleet.old }
     requires leader { IsLeaderFor config.now (query_shard query.now) route.leader }
-    ensures given { IfOk result (λ given. IsGivenOver config.now route (wanted query.now 0) given
+    requires reached { IsReached K.TELLS config.now (wanted query.now floor) (K.state keepers.old) }
+    ensures given { IfOk result (λ given. IsGivenAlong config.now route (wanted query.now floor) given
         (scene fleet.old (K.state keepers.old) (L.shown link.old)) (scene fleet.new (K.state keepers.new) (L.shown link.new))) }
-    ensures err { IfErr result (λ reply. IsNotGiven config.now route (wanted query.now 0) reply
+    ensures err { IfErr result (λ reply. IsNotGiven config.now route (wanted query.now floor) reply
         (scene fleet.old (K.state keepers.old) (L.shown link.old)) (scene fleet.new (K.state keepers.new) (L.shown link.new))) }
     ensures on { ReadsOn K.TELLS config.now (scene fleet.old (K.state keepers.old) (L.shown link.old))
         (scene fleet.new (K.state keepers.new) (L.shown link.new)) }
 {
-    let Route { follower, leader } = route;
-    carried(link, follower, leader)?;
-    let given = asked(alloc, fleet, config, keepers, leader, query)?;
-    carried(link, leader, follower)?;
+    let given = ask_over(alloc, fleet, config, keepers, link, route, query, floor)?;
+    if is_behind(&given) {
+        let out = read_over(alloc, fleet, config, keepers, link, route.follower, query)?;
+        return Ok(given_of(out));
+    }
     Ok(given)
 }
 
-/// Ends a read with what the leader gave.
+/// Ends a read with what was given.
 fn end_read(
     fleet: &mut Fleet,
     config: &Config,
     route: Route,
     query: &Query,
+    floor: u64,
     ask: Option<AskNo>,
     given: LeaderAnswer,
     cost: Cost,
 ) -> Reply
     requires fleet { IsFleetOf config.now fleet.old }
     requires follower { IsFollowerFor config.now (query_shard query.now) route.follower }
-    requires given { IsGivenAnswer (types_of config.now.schema) (pens_of fleet.old.masters) (wanted query.now 0) given }
-    requires ask { AsksOfKey (missed_read route query.now ask) fleet.old }
-    ensures ends { EndsRead config.now (missed_read route query.now ask) given result fleet.old fleet.new }
+    requires given { IsGivenAnswer (types_of config.now.schema) (pens_of fleet.old.masters) (wanted query.now floor) given }
+    requires reaches { is_behind given ≡ false }
+    requires ask { AsksOfKey (missed_read route (wanted query.now floor) ask) fleet.old }
+    ensures ends { EndsRead config.now (missed_read route (wanted query.now floor) ask) given result fleet.old fleet.new }
     ensures cost { TellsCost query.now cost result }
     ensures rest { fleet.new ≡ record fleet.old { followers = fleet.new.followers } }
     ensures fleet { IsFleetOf config.now fleet.new }
     ensures goes { GoesOn fleet.old fleet.new }
 {
     match given {
-        LeaderAnswer::Filled(fill) => end_filled(fleet, config, route, query, ask, fill, cost),
+        LeaderAnswer::Filled(fill) => {
+            end_filled(fleet, config, route, query, floor, ask, fill, cost)
+        }
         LeaderAnswer::Past {
             answer,
             version,
@@ -264,15 +239,16 @@ fn end_filled(
     config: &Config,
     route: Route,
     query: &Query,
+    floor: u64,
     ask: Option<AskNo>,
     fill: Fill,
     cost: Cost,
 ) -> Reply
     requires fleet { IsFleetOf config.now fleet.old }
     requires follower { IsFollowerFor config.now (query_shard query.now) route.follower }
-    requires given { IsGivenFill (types_of config.now.schema) (pens_of fleet.old.masters) (wanted query.now 0) fill }
-    requires ask { AsksOfKey (missed_read route query.now ask) fleet.old }
-    ensures ends { EndsRead config.now (missed_read route query.now ask) (LeaderAnswer.Filled fill) result fleet.old fleet.new }
+    requires given { IsGivenFill (types_of config.now.schema) (pens_of fleet.old.masters) (wanted query.now floor) fill }
+    requires ask { AsksOfKey (missed_read route (wanted query.now floor) ask) fleet.old }
+    ensures ends { EndsRead config.now (missed_read route (wanted query.now floor) ask) (LeaderAnswer.Filled fill) result fleet.old fleet.new }
     ensures cost { TellsCost query.now cost result }
     ensures rest { fleet.new ≡ record fleet.old { followers = fleet.new.followers } }
     ensures fleet { IsFleetOf config.now fleet.new }
@@ -280,7 +256,7 @@ fn end_filled(
 {
     fills_are_sealed(&fill);
     let version = fill.version();
-    match fleet.keep(config, route.follower, query, NO_FLOOR, ask, fill) {
+    match fleet.keep(config, route.follower, query, floor, ask, fill) {
         Ok((answer, kept)) => read_reply(query, answer, version, cost, kept_or_not(kept)),
         Err(OutOfMemory) => out_of_memory(),
     }

@@ -1,8 +1,8 @@
-//! The replies where a step gives no answer.
+//! The replies where a step gives no answer, and to the read of a refill.
 ghost use Rattle.std.specs.Prelude.{◌≡◌};
-ghost use Rattle.core_steps.specs.Replies.{refused_as};
+ghost use Rattle.core_steps.specs.Replies.{refilled_as, refused_as};
 
-use replies::{Refusal, Reply, StoreRefused, When};
+use replies::{CacheReply, CallReply, NodeReply, Refilled, Refusal, Reply, StoreRefused, When};
 use shard_tables::StoreRefusal;
 
 /// Want of memory, before anything is committed.
@@ -28,11 +28,28 @@ pub fn refused_as(refusal: StoreRefusal, faults: u64) -> Reply
 }
 
 /// A carry failed, where the link has counted so many faults.
-pub(crate) fn link_fault(faults: u64, when: When) -> Reply
+pub fn link_fault(faults: u64, when: When) -> Reply
     ensures { result ≡ Reply.Refused (Refusal.Store (StoreRefused.LinkFault faults when)) }
 {
     Reply::Refused(Refusal::Store(StoreRefused::LinkFault {
         count: faults,
         when,
     }))
+}
+
+/// The reply to a refill, of the reply to its read.
+pub fn refilled_as(reply: Reply) -> Reply
+    ensures { result ≡ refilled_as reply }
+{
+    match reply {
+        Reply::Called(CallReply::Read(read)) => {
+            Reply::Node(NodeReply::Cache(CacheReply::Refilled(Refilled {
+                hops: read.hops,
+                store: read.store,
+                version: read.version,
+                kept: read.kept,
+            })))
+        }
+        other => other,
+    }
 }

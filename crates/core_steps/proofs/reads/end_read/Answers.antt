@@ -1,4 +1,5 @@
 use Rattle.std.proofs.Common.{sym, subst, ◌∙◌, ap}
+use Rattle.core_model.specs.Reads.{wanted}
 use Rattle.read_plan.specs.Keeping.{past_bound}
 use Rattle.replies.specs.declared.calls.CallReply.TheVariants as called
 use Rattle.replies.specs.declared.reply.Reply.TheVariants.{Called}
@@ -16,6 +17,7 @@ returns-in-Past-clause-ends c =
     let said = c.read_reply.ensures
     ∙ ap (λ k. Called (called.Read (replied q c.in-Past.answer c.in-Past.version c.args.cost k))) c.past_bound-kept.ensures
     ∙ ap (λ b. Called (called.Read (replied q c.in-Past.answer c.in-Past.version c.args.cost (past_bound b c.in-Past.total)))) bound in
-    subst (λ r. EndsRead s (missed_read c.args.route q c.args.ask) c.args.given r c.args.fleet.now c.end_ask.new.self) (sym said)
-    (past_ends s c.args.route q c.args.ask c.args.given c.in-Past.answer c.in-Past.version c.in-Past.total c.in-Past.note c.args.cost c.args.fleet.now
+    subst (λ r. EndsRead s (missed_read c.args.route (wanted q c.args.floor) c.args.ask) c.args.given r c.args.fleet.now c.end_ask.new.self) (sym said)
+    (past_ends s c.args.route (wanted q c.args.floor) c.args.ask c.args.given
+    c.in-Past.answer c.in-Past.version c.in-Past.total c.in-Past.note c.args.cost c.args.fleet.now
     c.end_ask.new.self c.in-Past.is c.requires.given c.end_ask.ensures.ends)

@@ -1,4 +1,5 @@
 use Rattle.std.proofs.Common.{sym, subst, refl}
+use Rattle.core_model.specs.Reads.{wanted}
 use Rattle.core_steps.specs.Reads.{ReadsAlong}
 use Rattle.core_steps.specs.Routes.{Scene, scene}
 use Rattle.core_steps.proofs.AlongLemmas.{hit_reads, miss_reads}
@@ -9,16 +10,18 @@ pub returns-in-Hit-clause-reads : goal.returns-in-Hit-clause-reads
 returns-in-Hit-clause-reads g c =
     let state = g.K.Keeper.state c.args.keepers.now in
     let shown = g.L.Link.shown c.args.link.now in
-    subst (λ r. ReadsAlong g.K.Keeper.TELLS c.args.config.now c.args.route c.args.query.now r (scene c.args.fleet.now state shown)
+    subst (λ r. ReadsAlong g.K.Keeper.TELLS c.args.config.now c.args.route (wanted c.args.query.now c.args.floor) r (scene c.args.fleet.now state shown)
     (scene c.look.new.self state shown)) (sym c.read_reply.ensures)
-    (hit_reads g.K.Keeper.TELLS c.args.config.now c.args.route c.args.query.now c.in-Ok.field-0.look c.in-Hit.answer c.in-Hit.version c.in-Ok.field-0.ask _
+    (hit_reads g.K.Keeper.TELLS c.args.config.now c.args.route (wanted c.args.query.now c.args.floor)
+    c.in-Ok.field-0.look c.in-Hit.answer c.in-Hit.version c.in-Ok.field-0.ask _
     c.args.fleet.now c.look.new.self state shown c.in-Hit.is refl refl c.requires.consistent.stores c.requires.follower.here
     c.in-Ok.ensures.looks c.look.ensures.rest c.in-Ok.ensures.legal)
 
 pub returns-in-Miss-clause-reads : goal.returns-in-Miss-clause-reads
 returns-in-Miss-clause-reads g c =
     let new : Scene = scene c.ask_along.new.fleet (g.K.Keeper.state c.ask_along.new.keepers) (g.L.Link.shown c.ask_along.new.link) in
-    miss_reads g.K.Keeper.TELLS c.args.config.now c.args.route c.args.query.now c.in-Ok.field-0.look c.in-Ok.field-0.ask c.ask_along.result
+    miss_reads g.K.Keeper.TELLS c.args.config.now c.args.route (wanted c.args.query.now c.args.floor)
+    c.in-Ok.field-0.look c.in-Ok.field-0.ask c.ask_along.result
     c.args.fleet.now c.look.new.self (g.K.Keeper.state c.args.keepers.now) (g.L.Link.shown c.args.link.now) new c.in-Miss.is
     c.in-Ok.ensures.looks c.look.ensures.rest c.ask_along.ensures.asks
 

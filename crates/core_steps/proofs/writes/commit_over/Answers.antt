@@ -1,0 +1,101 @@
+use Rattle.std.proofs.Common.{◌<◌, Err, IfSome, refl, ap, sym, subst, ◌∙◌}
+use Rattle.shard_tables.specs.Jobs.{job_with}
+use Rattle.shard_tables.specs.Written.{LiesOn, added_entry}
+use Rattle.tao_base.specs.Writes.{write_shard}
+use Rattle.tao_schema.specs.Schema.{types_of}
+use Rattle.core_mail.proofs.InboxLemmas.{inboxes_stay}
+use Rattle.core_model.specs.Pens.{IsSeen, pens_of}
+use Rattle.core_model.specs.Stores.{master_store}
+use Rattle.core_steps.specs.Replies.{refused_as}
+use Rattle.core_steps.specs.Routes.{scene}
+use Rattle.core_steps.specs.Writes.{CanBeApplied, IsCommitted, RefusesCommit, TellsOfNew, client_call, new_entry, posting}
+use Rattle.core_steps.proofs.GrowingLemmas.{gains_masters}
+use Rattle.core_steps.proofs.StepLemmas.{commits}
+use Rattle.core_steps.proofs.WriteLemmas.{refused, stands_there}
+use Rattle.core_steps.proofs.writes.commit_over.Goals as goal
+
+pub tell_of_new-requires-clause-here : goal.tell_of_new-requires-clause-here
+tell_of_new-requires-clause-here g c = subst (λ n. n < c.args.config.now.shards) (sym c.shard.ensures) c.requires.leader.here
+
+pub tell_of_new-requires-clause-own : goal.tell_of_new-requires-clause-own
+tell_of_new-requires-clause-own g c = ap (λ states. states.regions) c.requires.states
+
+pub tell_of_new-requires-clause-names : goal.tell_of_new-requires-clause-names
+tell_of_new-requires-clause-names g c = c.requires.inboxes.names
+
+pub tell_of_new-requires-clause-stands : goal.tell_of_new-requires-clause-stands
+tell_of_new-requires-clause-stands g c =
+    stands_there (pens_of c.commit.new.self.masters) (write_shard c.args.write.now) c.in-Ok.wrote.note c.in-Ok.wrote.entry c.in-Ok.ensures.stands
+
+pub tell_of_new-requires-clause-lies : goal.tell_of_new-requires-clause-lies
+tell_of_new-requires-clause-lies g c =
+    subst (λ n. IfSome c.in-Ok.wrote.entry (LiesOn c.in-Ok.wrote.note n)) (sym c.shard.ensures) c.in-Ok.ensures.here
+
+pub returns-in-Ok-clause-committed : goal.returns-in-Ok-clause-committed
+returns-in-Ok-clause-committed g c =
+    let state = g.K.Keeper.state in
+    let s = c.args.config.now in
+    let shard = write_shard c.args.write.now in
+    let call = client_call c.args.origin c.args.write.now in
+    let wrote = c.in-Ok.wrote in
+    let old = posting (scene c.args.fleet.now (state c.args.keepers.now) (g.L.Link.shown c.args.link.now)) c.args.mail.now c.args.topology.now in
+    let new = posting (scene c.commit.new.self (state c.commit.new.keepers) (g.L.Link.shown c.carry.new.link)) c.tell_of_new.new.mail c.args.topology.now in
+    let is : IsCommitted g.K.Keeper.TELLS s c.args.route call wrote old new = record {
+      commits = commits s (state c.args.keepers.now) (state c.commit.new.keepers) call c.requires.leader.here g.K.Keeper.TELLS wrote.retry wrote.entry
+          (λ told. c.requires.consistent.stores.sound told shard c.requires.leader.here)
+          (λ told. g.met.K.Keeper.of_entries c.args.keepers.now (master_store s shard) told) c.in-Ok.ensures.answer c.in-Ok.ensures.tables;
+      leader = record { note = wrote.note; takes = c.in-Ok.ensures.node };
+      followers = c.in-Ok.ensures.followers;
+      told = subst (λ n. TellsOfNew c.args.topology.now n (new_entry wrote.retry wrote.entry) c.args.mail.now c.tell_of_new.new.mail) c.shard.ensures
+          c.tell_of_new.ensures.told;
+      states = refl;
+      link = c.in_default.ensures.ok;
+    } in
+    subst (λ w. IsCommitted g.K.Keeper.TELLS s c.args.route call w old new) (sym c.tell_of_new.ensures.same) is
+
+pub returns-in-Ok-clause-apply : goal.returns-in-Ok-clause-apply
+returns-in-Ok-clause-apply g c =
+    let call = client_call c.args.origin c.args.write.now in
+    let can : CanBeApplied call c.in-Ok.wrote c.commit.new.self.masters = record {
+      fits = c.in-Ok.ensures.fits;
+      has = c.in-Ok.ensures.entry;
+      seen = c.in-Ok.ensures.stands;
+      here = c.in-Ok.ensures.here;
+    } in
+    subst (λ w. CanBeApplied call w c.commit.new.self.masters) (sym c.tell_of_new.ensures.same) can
+
+pub returns-in-Ok-clause-inboxes : goal.returns-in-Ok-clause-inboxes
+returns-in-Ok-clause-inboxes g c =
+    let pens = pens_of c.commit.new.self.masters in
+    c.tell_of_new.ensures.of pens (subst (λ n. IsSeen pens n c.in-Ok.wrote.note) (sym c.shard.ensures) c.in-Ok.ensures.seen)
+    ((inboxes_stay c.args.config.now (pens_of c.args.fleet.now.masters) c.args.mail.now).rises pens c.commit.ensures.goes.rise c.requires.inboxes)
+
+pub returns-in-Ok-clause-grows : goal.returns-in-Ok-clause-grows
+returns-in-Ok-clause-grows g c =
+    let added = added_entry c.commit.result in
+    gains_masters g.K.Keeper.TELLS c.args.config.now (g.K.Keeper.state c.args.keepers.now) (g.K.Keeper.state c.commit.new.keepers)
+    (write_shard c.args.write.now) added (job_with (types_of c.args.config.now.schema) added) c.requires.leader.here c.commit.ensures.tables
+
+pub returns-in-Err-commit-clause-refused : goal.returns-in-Err-commit-clause-refused
+returns-in-Err-commit-clause-refused g c =
+    let state = g.K.Keeper.state in
+    let call = client_call c.args.origin c.args.write.now in
+    let old = posting (scene c.args.fleet.now (state c.args.keepers.now) (g.L.Link.shown c.args.link.now)) c.args.mail.now c.args.topology.now in
+    let new = posting (scene c.commit.new.self (state c.commit.new.keepers) (g.L.Link.shown c.carry.new.link)) c.args.mail.now c.args.topology.now in
+    let refusal = c.in-Err-commit.refusal in
+    let told = ◌∙◌ {b = refused_as c.faults-in-Err-commit.result refusal} c.refused_as.ensures
+    (ap (λ n. refused_as n refusal) c.faults-in-Err-commit.ensures) in
+    subst (λ reply. RefusesCommit g.K.Keeper.TELLS c.args.config.now c.args.route call reply old new) (sym told)
+    (refused g.K.Keeper.TELLS c.args.config.now c.args.route call old new c.in-Err-commit.ensures.tables c.in-Err-commit.ensures.err refl
+    c.in-Err-commit.refusal c.in-Err-commit.ensures.answer (λ is. c.in-Err-commit.ensures.calls.failed (ap (λ r. Err r) is)))
+
+pub returns-in-Err-commit-clause-inboxes : goal.returns-in-Err-commit-clause-inboxes
+returns-in-Err-commit-clause-inboxes g c =
+    let pens = pens_of c.args.fleet.now.masters in
+    (inboxes_stay c.args.config.now pens c.args.mail.now).rises (pens_of c.commit.new.self.masters) c.commit.ensures.goes.rise c.requires.inboxes
+
+pub returns-in-Err-commit-clause-grows : goal.returns-in-Err-commit-clause-grows
+returns-in-Err-commit-clause-grows g c =
+    let added = added_entry c.commit.result in
+    gains_masters g.K.Keeper.TELLS c.args.config.now (g.K.Keeper.state c.args.keepers.now) (g.K.Keeper.state c.commit.new.keepers)
+    (write_shard c.args.write.now) added (job_with (types_of c.args.config.now.schema) added) c.requires.leader.here c.commit.ensures.tables

@@ -1,9 +1,10 @@
 -- What is asked can be done.
-use Rattle.std.proofs.Common.{◌≡◌, ℕ, ◌<◌, true, false, List, length, Result, Ok, Err, IfOk, Option, subst, inl, inr}
+use Rattle.std.proofs.Common.{◌≡◌, ℕ, ◌<◌, true, false, Contains, List, length, Result, Ok, Err, IfOk, Option, subst, inl, inr}
 use Rattle.std.proofs.lemmas.Bool.{cases_Bool}
 use Rattle.outcomes.specs.Results.{◌>>=◌, Gives}
 use Rattle.core_model.proofs.Turns.{cache_named}
 use Rattle.core_model.specs.Evictions.{IsCacheOf}
+use Rattle.core_model.specs.Fleet.{follower_names}
 use Rattle.node_name.specs.declared.NodeName.{NodeName}
 use Rattle.node_name.specs.declared.NodeName.TheVariants as name
 use Rattle.tao_base.specs.declared.id.Key.{Key}
@@ -20,9 +21,9 @@ use Rattle.requests.specs.declared.request.WriteCall.{WriteCall}
 use Rattle.request_check.proofs.Placing.{whatever}
 use Rattle.request_check.specs.Calls.{checked_query, checked_write}
 use Rattle.request_check.specs.Names.{tier_named}
-use Rattle.request_check.specs.Placed.{IsPlaced}
+use Rattle.request_check.specs.Placed.{IsPlaced, IsPlacedFollower, IsPlacedNode}
 use Rattle.request_check.specs.Refusal.{named, replied, reply_unless_memory}
-use Rattle.request_check.specs.Requests.{checked_of, checked_read_call, maybe_key_named}
+use Rattle.request_check.specs.Requests.{checked_of, checked_read_call, key_named, maybe_key_named, placed_as}
 use Rattle.request_check.specs.declared.checked.Checked.{Checked}
 use Rattle.request_check.specs.declared.checked.Checked.TheVariants as checked
 use Rattle.request_check.specs.declared.checked.CheckedCall.TheVariants as checked_call
@@ -71,16 +72,34 @@ module _ (s : Settings) (sessions : List OpenSession) where
   region_is : (session region tier : ℕ) → IsPlaced s (checked.Open session region tier) → region < length s.regions
   region_is session region tier here = here.configured
 
-  evictable : (node : NodeName) (key : Option Key) → IsPlaced s (checked.Evict node key) → IsCacheOf s node
-  evictable (name.Store store) key here = absurd here.0
-  evictable (name.Leader region index) key here = cache_named s (name.Leader region index) (leader_known s.regions region index here.0)
-  evictable (name.Follower region tier index) key here = cache_named s (name.Follower region tier index) (follower_known s.regions region tier index here.0)
+  cache_there : (node : NodeName) → IsPlacedNode s node → IsCacheOf s node
+  cache_there (name.Store store) here = absurd here
+  cache_there (name.Leader region index) here = cache_named s (name.Leader region index) (leader_known s.regions region index here)
+  cache_there (name.Follower region tier index) here =
+      cache_named s (name.Follower region tier index) (follower_known s.regions region tier index here)
+
+  follower_there : (node : NodeName) → IsPlacedFollower s node → Contains (follower_names s) node
+  follower_there (name.Store store) here = absurd here.configured
+  follower_there (name.Leader region index) here = (let no : false ≡ true = here.follows in absurd (cc))
+  follower_there (name.Follower region tier index) here = cache_there (name.Follower region tier index) here.configured
+
+  node_can : (asks : NodeName → Checked) (found : Result NodeName NameRefused)
+      → ((node : NodeName) → IsPlaced s (asks node) → CanBeDone s sessions (asks node))
+      → IfOk (placed_as asks found) (λ c. IsPlaced s c → CanBeDone s sessions c)
+  node_can asks (Ok node) can = can node
+  node_can asks (Err refused) can = tt
 
   evict_can : (found : Result NodeName NameRefused) (key : Result (Option Key) NameRefused)
       → IfOk (found >>= (λ node. key >>= (λ k. Ok (checked.Evict node k)))) (λ c. IsPlaced s c → CanBeDone s sessions c)
-  evict_can (Ok node) (Ok key) = λ here. evictable node key here
+  evict_can (Ok node) (Ok key) = λ here. cache_there node here.0
   evict_can (Ok node) (Err refused) = tt
   evict_can (Err refused) key = tt
+
+  show_can : (found : Result NodeName NameRefused) (key : Result Key NameRefused)
+      → IfOk (found >>= (λ node. key >>= (λ k. Ok (checked.Show node k)))) (λ c. IsPlaced s c → CanBeDone s sessions c)
+  show_can (Ok node) (Ok key) = λ here. cache_there node here.0
+  show_can (Ok node) (Err refused) = tt
+  show_can (Err refused) key = tt
 
   -- what is placed, of a request that was admitted
   by_word : (asked : Request) → admitted sessions asked ≡ Ok tt → IfOk (checked_of s asked) (λ c. IsPlaced s c → CanBeDone s sessions c)
@@ -89,7 +108,16 @@ module _ (s : Settings) (sessions : List OpenSession) where
       (λ found here. (not_open sessions opening.session h, region_is opening.session found.region found.tier here))
   by_word (request.Call (call.Write text)) h = write_can text (checked_write s text.write) (is_so_open sessions text.session h)
   by_word (request.Call (call.Read text)) h = (let allowed = read_open sessions text h in read_can text (checked_query s text.query) allowed.0 allowed.1)
+  by_word (request.Deliver name) h =
+      node_can (λ node. checked.Deliver node name.message) _ (λ node here. cache_there node here)
+  by_word (request.Again name) h =
+      node_can (λ node. checked.Again node name.message) _ (λ node here. cache_there node here)
+  by_word (request.Drop name) h =
+      node_can (λ node. checked.Drop node name.message) _ (λ node here. cache_there node here)
+  by_word (request.Refill name) h = node_can checked.Refill _ (λ node here. follower_there node here)
   by_word (request.Evict name key) h = evict_can _ (maybe_key_named s key)
+  by_word (request.Show name key) h = show_can _ (key_named s key)
+  by_word (request.Inbox name) h = node_can checked.Inbox _ (λ node here. cache_there node here)
   by_word (request.Audit text) h = whatever _ (checked_read_call s text) _ (λ r here. here)
   by_word asked h = absurd (cc)
 

@@ -1,6 +1,10 @@
 pub mod AskedLemmas
 pub mod CallLemmas
+pub mod Delivered
+pub mod Delivering
+pub mod Exact
 pub mod Going
 pub mod InOrder
 pub mod Keeping
+pub mod Reaching
 pub mod Ways

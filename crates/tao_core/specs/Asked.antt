@@ -1,5 +1,5 @@
 -- What a request asks of the core, or why it is refused before any table is looked at.
-use Rattle.std.specs.Prelude.{ℕ, ◌≡◌, ◌<◌, Bool, true, false, List, length, Result, Ok, ⊤, nat_lt, not}
+use Rattle.std.specs.Prelude.{ℕ, ◌≡◌, ◌<◌, Bool, true, false, Contains, List, length, Result, Ok, ⊤, nat_lt, not}
 use Rattle.outcomes.specs.Results.{◌>>=◌, refused_unless}
 use Rattle.tao_base.specs.Queries.{query_key}
 use Rattle.topology.specs.Config.{Settings}
@@ -15,6 +15,7 @@ use Rattle.replies.specs.declared.refusals.SessionRefused.TheVariants.{NoSession
 use Rattle.replies.specs.declared.reply.Reply.{Reply}
 use Rattle.replies.specs.declared.reply.Reply.TheVariants.{Refused}
 use Rattle.core_model.specs.Evictions.{IsCacheOf}
+use Rattle.core_model.specs.Fleet.{follower_names}
 use Rattle.request_check.specs.Placed.{IsPlacedKey, IsPlacedWrite}
 use Rattle.request_check.specs.Refusal.{named}
 use Rattle.request_check.specs.Requests.{checked_of}
@@ -29,12 +30,18 @@ use Rattle.tao_core.specs.declared.sessions.OpenSession.{OpenSession}
 
 -- ---- what is built
 
--- the calls of objects and associations are built, but for critical reads, and so are `open`, `evict` and `audit`
+-- the calls of objects and associations are built, but for critical reads, and so are `open`, `audit` and the words of single cache nodes
 abbrev pub is_built : Request → Bool
 is_built (request.Open opening) = true
 is_built (request.Call (call.Write write)) = true
 is_built (request.Call (call.Read read)) = not read.critical
+is_built (request.Deliver message) = true
+is_built (request.Again message) = true
+is_built (request.Drop message) = true
+is_built (request.Refill node) = true
 is_built (request.Evict name key) = true
+is_built (request.Show name key) = true
+is_built (request.Inbox node) = true
 is_built (request.Audit read) = true
 is_built other = false
 
@@ -87,7 +94,13 @@ CallCanBeDone s sessions (checked_call.Read call) = IsPlacedKey s (query_key cal
 abbrev pub CanBeDone : Settings → List OpenSession → Checked → Type 0
 CanBeDone s sessions (checked.Open session region tier) = (is_open sessions session ≡ false) × (region < length s.regions)
 CanBeDone s sessions (checked.Call asked) = CallCanBeDone s sessions asked
+CanBeDone s sessions (checked.Deliver node message) = IsCacheOf s node
+CanBeDone s sessions (checked.Again node message) = IsCacheOf s node
+CanBeDone s sessions (checked.Drop node message) = IsCacheOf s node
+CanBeDone s sessions (checked.Refill node) = Contains (follower_names s) node
 CanBeDone s sessions (checked.Evict node key) = IsCacheOf s node
+CanBeDone s sessions (checked.Show node key) = IsCacheOf s node
+CanBeDone s sessions (checked.Inbox node) = IsCacheOf s node
 CanBeDone s sessions (checked.Audit asked) = IsPlacedKey s (query_key asked.query)
 CanBeDone s sessions other = ⊥
 

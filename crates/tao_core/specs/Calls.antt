@@ -1,19 +1,31 @@
 -- What the reply to a session's call says.
-use Rattle.std.specs.Prelude.{ℕ, ◌≡◌, Bool, Some, None}
+use Rattle.std.specs.Prelude.{ℕ, ◌≡◌, ◌≤◌, ⊤, Bool, Some, None, slice_get, take}
+use Rattle.core_model.specs.Fleet.{IsFirstAt, named}
+use Rattle.core_model.specs.Reads.{wanted}
+use Rattle.core_model.specs.Stores.{master_log}
 use Rattle.core_steps.specs.Reads.{ReadsAlong}
 use Rattle.core_steps.specs.Routes.{Scene, scene}
-use Rattle.core_steps.specs.Writes.{ClientWrite, WritesAlong, client_call}
+use Rattle.core_steps.specs.Writes.{ClientWrite, Posting, WritesAlong, client_call, posting}
 use Rattle.core_steps.specs.declared.routes.Route.{Route}
+use Rattle.follower_cache.specs.Seen.{FollowerState}
+use Rattle.graph_model.specs.Log.{version}
+use Rattle.graph_model.specs.Told.{WhereTold}
+use Rattle.node_name.specs.declared.NodeName.{NodeName}
+use Rattle.replies.specs.declared.calls.CallReply.TheVariants as called
+use Rattle.replies.specs.declared.nodes.KeptOrNot.TheVariants.{Kept}
 use Rattle.replies.specs.declared.refusals.NodeRefused.TheVariants.{NoServer}
 use Rattle.replies.specs.declared.refusals.Refusal.TheVariants.{Node}
 use Rattle.replies.specs.declared.reply.Reply.{Reply}
-use Rattle.replies.specs.declared.reply.Reply.TheVariants.{Refused}
+use Rattle.replies.specs.declared.reply.Reply.TheVariants.{Called, Refused}
 use Rattle.request_check.specs.declared.checked.CheckedRead.{CheckedRead}
 use Rattle.request_check.specs.declared.checked.CheckedWrite.{CheckedWrite}
-use Rattle.tao_base.specs.Queries.{query_shard}
+use Rattle.served_shards.specs.Served.{low_at}
+use Rattle.tao_base.specs.Queries.{query_key, query_shard}
 use Rattle.tao_base.specs.Writes.{write_shard}
+use Rattle.tao_base.specs.declared.query.Query.{Query}
 use Rattle.tao_base.specs.declared.entry.Origin.TheVariants.{Client}
 use Rattle.tao_keeper.specs.KeeperState.{KeepsTables}
+use Rattle.topology.specs.Config.{Settings}
 use Rattle.topology.specs.Choices.{chosen_follower, master_region, preferred_leader}
 use Rattle.tao_core.specs.Core.{CoreState, Moment}
 use Rattle.tao_core.specs.Sessions.{session_at}
@@ -22,6 +34,10 @@ use Rattle.tao_core.specs.declared.sessions.OpenSession.{OpenSession}
 -- the nodes of a core, with what is shown to them
 abbrev pub scene_of : Moment → Scene
 scene_of m = scene m.core.fleet m.keepers m.link
+
+-- with the messages that wait
+abbrev pub posting_of : Moment → Posting
+posting_of m = posting (scene_of m) m.core.mail m.core.states
 
 -- ---- the way of a call
 
@@ -40,13 +56,25 @@ pub record FindsNoServer (old : Moment) (number shard region : ℕ) (new : Momen
 
 -- ---- reads
 
+-- the version has come as far as the key's at the mark of the follower of that name
+abbrev pub ReachesMark : Settings → NodeName → Query → ℕ → Scene → Type 0
+ReachesMark s name query reached new = (place : ℕ) (f : FollowerState) → IsFirstAt name new.fleet.followers place
+    → slice_get new.fleet.followers place ≡ Some (named name f)
+    → version (take (low_at (query_shard query) f.node.served) (master_log s new.keepers.told (query_shard query))) (query_key query) ≤ reached
+
+-- what is said to be kept has
+abbrev pub KeptReaches : Bool → Settings → NodeName → Query → Reply → Scene → Type 0
+KeptReaches tells s name query (Called (called.Read reply)) new = WhereTold tells (reply.kept ≡ Kept → ReachesMark s name query reply.version new)
+KeptReaches tells s name query reply new = ⊤
+
 -- the session is open, and its read goes to its follower, and from there to the leader of its region
 pub record ReadGoes (tells : Bool) (old : Moment) (call : CheckedRead) (reply : Reply) (new : Moment) : Type 0 where
   pub session : OpenSession
   pub route : Route
   pub found : session_at old.core.sessions call.session ≡ Some session
   pub way : IsRoute old.core session session.region (query_shard call.query) route
-  pub reads : ReadsAlong tells old.core.settings route call.query reply (scene_of old) (scene_of new)
+  pub reads : ReadsAlong tells old.core.settings route (wanted call.query 0) reply (scene_of old) (scene_of new)
+  pub reaches : KeptReaches tells old.core.settings route.follower call.query reply (scene_of new)
 
 abbrev pub RepliesToRead : Bool → Moment → CheckedRead → Reply → Moment → Type 0
 RepliesToRead tells old call (Refused (Node (NoServer region))) new = FindsNoServer old call.session (query_shard call.query) region new
@@ -70,13 +98,13 @@ pub record WriteGoes (tells : Bool) (old : Moment) (call : CheckedWrite) (reply 
   pub route : Route
   pub found : session_at old.core.sessions call.session ≡ Some session
   pub way : IsRoute old.core session (master_region old.core.states (write_shard call.write)) (write_shard call.write) route
-  pub writes : WritesAlong tells old.core.settings route (client_write_of call) reply (scene_of old) (scene_of new)
+  pub writes : WritesAlong tells old.core.settings route (client_write_of call) reply (posting_of old) (posting_of new)
 
 abbrev pub RepliesToWrite : Bool → Moment → CheckedWrite → Reply → Moment → Type 0
 RepliesToWrite tells old call (Refused (Node (NoServer region))) new = FindsNoServer old call.session (write_shard call.write) region new
 RepliesToWrite tells old call reply new = WriteGoes tells old call reply new
 
--- what the reply to a write says. Nothing of the core but its nodes changes
+-- what the reply to a write says. Nothing of the core but its nodes and their messages changes
 pub record AnswersWrite (tells : Bool) (old : Moment) (call : CheckedWrite) (reply : Reply) (new : Moment) : Type 0 where
   pub replies : RepliesToWrite tells old call reply new
-  pub rest : new.core ≡ record old.core { fleet = new.core.fleet }
+  pub rest : new.core ≡ record old.core { fleet = new.core.fleet; mail = new.core.mail }

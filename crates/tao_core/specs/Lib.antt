@@ -1,5 +1,6 @@
 pub mod Asked
 pub mod Calls
 pub mod Core
+pub mod Deliveries
 pub mod Replies
 pub mod Sessions

@@ -1,5 +1,5 @@
 -- What a reply says of what was asked, of the moment before, and of the moment after.
-use Rattle.std.specs.Prelude.{ℕ, ◌≡◌, ◌⊎◌, Bool, List, Result, Ok, Err, length}
+use Rattle.std.specs.Prelude.{ℕ, ◌≡◌, ◌⊎◌, Bool, List, Option, Result, Ok, Err, length}
 use Rattle.counts.specs.Count.{Rose}
 use Rattle.core_model.specs.Evictions.{ChangesCache, Evicts}
 use Rattle.core_model.specs.Stores.{master_log}
@@ -26,7 +26,6 @@ use Rattle.tao_base.specs.declared.entry.Entry.{Entry}
 use Rattle.tao_base.specs.declared.id.Key.{Key}
 use Rattle.tao_base.specs.declared.query.Answer.{Answer}
 use Rattle.tao_base.specs.declared.query.Query.{Query}
-use Rattle.std.specs.Prelude.{Option}
 use Rattle.tao_keeper.specs.KeeperState.{KeeperState, KeepsTables}
 use Rattle.tao_keeper.specs.declared.keeper.KeepFail.{KeepFail}
 use Rattle.tao_keeper.specs.declared.keeper.KeepFail.TheVariants as keep
@@ -35,6 +34,7 @@ use Rattle.topology.specs.Config.{Settings}
 use Rattle.tao_core.specs.Asked.{asked_of}
 use Rattle.tao_core.specs.Core.{Moment}
 use Rattle.tao_core.specs.Calls.{AnswersRead, AnswersWrite}
+use Rattle.tao_core.specs.Deliveries.{AnswersDeliver, AnswersInbox, AnswersLoss, AnswersRefill, AnswersSecond, AnswersShow}
 use Rattle.tao_core.specs.Sessions.{with_session}
 use Rattle.tao_core.specs.declared.sessions.OpenSession.{OpenSession}
 
@@ -97,6 +97,10 @@ AnswersEvict node key old reply new = ⊥
 abbrev pub KeepsRest : Moment → Moment → Type 0
 KeepsRest old new = new ≡ record old { core = record old.core { sessions = new.core.sessions } }
 
+-- nothing changed but the core's nodes and their messages
+abbrev pub ChangesNodes : Moment → Moment → Type 0
+ChangesNodes old new = new ≡ record old { core = record old.core { fleet = new.core.fleet; mail = new.core.mail } }
+
 -- what the reply to what is asked says
 abbrev pub AnswersAsked : Bool → Moment → Result Checked Refusal → Reply → Moment → Type 0
 AnswersAsked tells old (Err refused) reply new = (reply ≡ Refused refused) × (new ≡ old)
@@ -104,6 +108,13 @@ AnswersAsked tells old (Ok (checked.Open session region tier)) reply new =
     AnswersOpen (record { session = session; region = region; tier = tier }) old.core.sessions reply new.core.sessions × KeepsRest old new
 AnswersAsked tells old (Ok (checked.Call (checked_call.Write call))) reply new = AnswersWrite tells old call reply new
 AnswersAsked tells old (Ok (checked.Call (checked_call.Read call))) reply new = AnswersRead tells old call reply new
+AnswersAsked tells old (Ok (checked.Deliver node message)) reply new = AnswersDeliver node message old.core reply new.core × ChangesNodes old new
+AnswersAsked tells old (Ok (checked.Again node message)) reply new = AnswersSecond node message old.core reply new.core × ChangesNodes old new
+AnswersAsked tells old (Ok (checked.Drop node message)) reply new = AnswersLoss node message old.core reply new.core × ChangesNodes old new
+AnswersAsked tells old (Ok (checked.Refill node)) reply new = AnswersRefill tells node old reply new × KeepsTables tells old.keepers new.keepers
+    × (new.core ≡ record old.core { fleet = new.core.fleet })
+AnswersAsked tells old (Ok (checked.Show node key)) reply new = AnswersShow tells node key old reply × (new ≡ old)
+AnswersAsked tells old (Ok (checked.Inbox node)) reply new = AnswersInbox node old.core reply × (new ≡ old)
 AnswersAsked tells old (Ok (checked.Evict node key)) reply new =
     AnswersEvict node key old reply new × (new ≡ record old { core = record old.core { fleet = new.core.fleet } })
 AnswersAsked tells old (Ok (checked.Audit call)) reply new =

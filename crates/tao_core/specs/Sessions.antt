@@ -1,5 +1,5 @@
 -- Open sessions, in the order of their numbers.
-use Rattle.std.specs.Prelude.{ℕ, Bool, List, ◌∷◌, ◌++◌, ◌==◌, filter, find, map, nat_lt, if◌then◌else◌, Option, Some, None}
+use Rattle.std.specs.Prelude.{ℕ, Bool, List, ◌∷◌, ◌++◌, ◌==◌, filter, find, map, nat_lt, Option}
 use Rattle.std.specs.List.{list_any}
 use Rattle.tao_base.specs.Ids.{IsRising}
 use Rattle.tao_core.specs.declared.sessions.OpenSession.{OpenSession}
@@ -23,7 +23,3 @@ with_session new sessions = filter (λ o. nat_lt o.session new.session) sessions
 -- how many sessions may be open
 abbrev pub most_sessions : ℕ
 most_sessions = 1024
-
--- the version that an open session's reads have at least: none is asked for yet
-abbrev pub floor_of : List OpenSession → ℕ → Option ℕ
-floor_of sessions session = if is_open sessions session then Some 0 else None

@@ -2,6 +2,7 @@
 #![tactic(auto)]
 
 mod audits;
+mod deliveries;
 mod refusals;
 mod resolving;
 mod serving;

@@ -3,6 +3,7 @@ ghost use Rattle.std.specs.Prelude.{◌≡◌};
 ghost use Rattle.tao_core.specs.Replies.{failed_as};
 
 use core_steps::out_of_memory;
+use node_name::NodeName;
 use replies::{NodeRefused, Refusal, Reply, StoreRefused};
 use tao_keeper::KeepFail;
 
@@ -23,4 +24,18 @@ pub(crate) fn no_server(region: u16) -> Reply
     ensures { result ≡ Reply.Refused (Refusal.Node (NodeRefused.NoServer region)) }
 {
     Reply::Refused(Refusal::Node(NodeRefused::NoServer { region }))
+}
+
+/// No message waits at the place.
+pub(crate) fn no_message(message: u32) -> Reply
+    ensures { result ≡ Reply.Refused (Refusal.Node (NodeRefused.NoMessage message)) }
+{
+    Reply::Refused(Refusal::Node(NodeRefused::NoMessage { message }))
+}
+
+/// No refill waits at the follower.
+pub(crate) fn no_refill(node: NodeName) -> Reply
+    ensures { result ≡ Reply.Refused (Refusal.Node (NodeRefused.NoRefill node)) }
+{
+    Reply::Refused(Refusal::Node(NodeRefused::NoRefill { node }))
 }

@@ -50,8 +50,14 @@ fn is_built(request: &Request) -> bool
 {
     match request {
         Request::Open(_)
-        | Request::Audit(_)
+        | Request::Deliver(_)
+        | Request::Again(_)
+        | Request::Drop(_)
+        | Request::Refill { .. }
         | Request::Evict { .. }
+        | Request::Show { .. }
+        | Request::Inbox { .. }
+        | Request::Audit(_)
         | Request::Call(Call::Write(_)) => true,
         Request::Call(Call::Read(read)) => !read.critical,
         _ => false,

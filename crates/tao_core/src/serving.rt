@@ -1,14 +1,13 @@
 //! The core.
-ghost use Rattle.std.specs.Prelude.{◌≡◌, [], Ok, IfOk, IfErr, false, option_copied, true};
+ghost use Rattle.std.specs.Prelude.{◌≡◌, Ok, IfOk, IfErr, None, Some, false, if◌then◌else◌, option_copied, true};
 ghost use Rattle.config_json.specs.Stage.{IsWithoutInverses};
-ghost use Rattle.core_nodes.specs.Beginning.{IsEmptyFleet};
 ghost use Rattle.core_nodes.specs.Shown.{IsHeldAt, IsMarkAt};
 ghost use Rattle.core_nodes.specs.Opening.{IsOpened, MayOpen, RefusesOpening};
 ghost use Rattle.graph_model.specs.Told.{WhereTold};
 ghost use Rattle.request_check.specs.Placed.{IsPlacedKey, IsPlacedWrite};
 ghost use Rattle.tao_base.specs.Queries.{query_key};
 ghost use Rattle.tao_core.specs.Asked.{CanBeDone, CallCanBeDone, reply_as};
-ghost use Rattle.tao_core.specs.Core.{IsCoreOf, moment};
+ghost use Rattle.tao_core.specs.Core.{IsCoreOf, IsNewCore, moment};
 ghost use Rattle.core_model.specs.Growing.{MastersGrow};
 ghost use Rattle.tao_core.specs.Calls.{AnswersRead, AnswersWrite};
 ghost use Rattle.core_model.specs.Consistent.{GoesOn, IsFleetOf};
@@ -16,7 +15,7 @@ ghost use Rattle.core_model.specs.Evictions.{IsCacheOf};
 ghost use Rattle.tao_core.specs.Replies.{AnswersAsked, AnswersEvict, AnswersOpen, AnswersRequest};
 ghost use Rattle.tao_keeper.specs.KeeperState.{KeeperState};
 ghost use Rattle.tao_link.specs.Shown.{LinkShown};
-ghost use Rattle.tao_core.specs.Sessions.{floor_of, is_open};
+ghost use Rattle.tao_core.specs.Sessions.{is_open};
 ghost use Rattle.tao_keeper.specs.Growing.{LogsGrow};
 ghost use Rattle.tao_keeper.specs.KeeperState.{IsLater, KeepsTables};
 
@@ -25,6 +24,7 @@ use crate::refusals::no_server;
 use crate::resolving::{not_built, resolve};
 use crate::sessions::{OpenSession, Sessions};
 use cache_items::Item;
+use core_mail::Mail;
 use core_nodes::Fleet;
 use core_steps::{Route, out_of_memory, read_along, write_along};
 use node_name::NodeName;
@@ -33,19 +33,23 @@ use request_check::{CheckRefusal, Checked, CheckedCall, CheckedRead, CheckedWrit
 use requests::Request;
 use std::alloc::Global;
 use std::marker::Model;
-use tao_base::{Key, Origin};
+use tao_base::{Key, Origin, OutOfMemory};
 use tao_keeper::Keeper;
 use tao_link::Link;
 use topology::{Config, Topology};
 
-/// The core of a run: its configuration, the sessions that are open, which nodes are up, and the nodes: followers, leaders, and
-/// the stores of the shards. What the stores hold lies with the keepers that each call is given.
+/// The version that the answer to a session's read has at least: sessions don't learn what they wrote yet.
+const NO_FLOOR: u64 = 0;
+
+/// The core of a run: its configuration, the sessions that are open, which nodes are up, the messages that wait, and the nodes:
+/// followers, leaders, and the stores of the shards. What the stores hold lies with the keepers that each call is given.
 #[derive(Drop)]
 pub struct Core<'c> {
-    config: &'c Config,
-    sessions: Sessions,
-    topology: Topology,
-    fleet: Fleet,
+    pub(crate) config: &'c Config,
+    pub(crate) sessions: Sessions,
+    pub(crate) topology: Topology,
+    pub(crate) fleet: Fleet,
+    pub(crate) mail: Mail,
 }
 
 impl<'c> Model for Core<'c> {
@@ -58,7 +62,7 @@ impl<'c> Model for Core<'c> {
 
 impl<'c> Core<'c> {
     /// Opens the store of each shard with the configuration's line, the shards in order, and makes the nodes before them, which
-    /// hold nothing yet. No session is open then. The configuration is one without inverses, as each that `read_config` takes:
+    /// hold nothing yet, and for which no message waits. No session is open then. The configuration is one without inverses, as each that `read_config` takes:
     /// the far ends of edges aren't written yet. Logs only grow.
     ///
     /// `OtherLine` comes exactly where a store was first opened with another line: the stores before it
@@ -75,8 +79,7 @@ impl<'c> Core<'c> {
         requires sound { WhereTold K.TELLS (MayOpen config.now line.now (K.state keepers.old).told) }
         requires no_inverse { IsWithoutInverses config.now }
         ensures settings { IfOk result (λ core. core.settings ≡ config.now) }
-        ensures sessions { IfOk result (λ core. core.sessions ≡ []) }
-        ensures empty { IfOk result (λ core. IsEmptyFleet core.fleet) }
+        ensures begun { IfOk result IsNewCore }
         ensures opened { IfOk result (λ core. WhereTold K.TELLS (IsOpened config.now line.now (K.state keepers.old).told (K.state keepers.new).told)) }
         ensures keepers { IfOk result (λ core. IsCoreOf K.TELLS (K.state keepers.new).told core) }
         ensures refused { IfErr result (RefusesOpening K.TELLS config.now line.now (K.state keepers.old) (K.state keepers.new)) }
@@ -84,14 +87,18 @@ impl<'c> Core<'c> {
         ensures later { IsLater (K.state keepers.old) (K.state keepers.new) }
     {
         let fleet = Fleet::open(alloc, config, line, keepers)?;
-        match Topology::make(alloc, config) {
-            Ok(topology) => Ok(Core {
+        let Ok(topology) = Topology::make(alloc, config) else {
+            return Err(OpenRefusal::OutOfMemory);
+        };
+        match Mail::open(alloc, config) {
+            Ok(mail) => Ok(Core {
                 config,
                 sessions: Sessions::new(alloc),
                 topology,
                 fleet,
+                mail,
             }),
-            Err(_) => Err(OpenRefusal::OutOfMemory),
+            Err(OutOfMemory) => Err(OpenRefusal::OutOfMemory),
         }
     }
 
@@ -155,7 +162,13 @@ impl<'c> Core<'c> {
             }
             Checked::Call(CheckedCall::Write(call)) => self.write(alloc, keepers, link, call),
             Checked::Call(CheckedCall::Read(call)) => self.read(alloc, keepers, link, call),
+            Checked::Deliver { node, message } => self.deliver(*node, *message),
+            Checked::Again { node, message } => self.deliver_again(*node, *message),
+            Checked::Drop { node, message } => self.lose(*node, *message),
+            Checked::Refill { node } => self.refill(alloc, keepers, link, *node),
             Checked::Evict { node, key } => self.evict(*node, *key),
+            Checked::Show { node, key } => self.show(alloc, *node, *key),
+            Checked::Inbox { node } => self.show_inbox(alloc, *node),
             Checked::Audit(call) => audit(alloc, self.config, keepers, call),
             _ => Reply::Refused(not_built(request)),
         }
@@ -194,6 +207,7 @@ impl<'c> Core<'c> {
             link,
             route,
             &call.query,
+            NO_FLOOR,
         )
     }
 
@@ -232,7 +246,9 @@ impl<'c> Core<'c> {
         write_along(
             alloc,
             &mut self.fleet,
+            &mut self.mail,
             self.config,
+            &self.topology,
             keepers,
             link,
             route,
@@ -257,16 +273,12 @@ impl<'c> Core<'c> {
         self.fleet.mark(node, shard)
     }
 
-    /// The version that a session's reads of a key have at least: none is asked for yet, whatever the key. None exactly where the
-    /// session isn't open.
-    pub fn floor(&self, session: u32, _key: Key) -> Option<u64>
-        ensures { result ≡ floor_of self.now.sessions session }
+    /// The version that a session's reads of the key have at least: none is asked for yet. None exactly where the session isn't open.
+    pub fn floor(&self, session: u32, key: Key) -> Option<u64>
+        ensures { result ≡ (if is_open self.now.sessions session then Some 0 else None) }
     {
-        if self.sessions.is_open(session) {
-            Some(0)
-        } else {
-            None
-        }
+        let _ = key;
+        self.sessions.is_open(session).then_some(NO_FLOOR)
     }
 
     /// Drops an item of a cache node.

@@ -13,7 +13,7 @@ use Rattle.request_json.specs.Requests.{request_in}
 use Rattle.request_json.specs.declared.refusal.LineRefusal.{LineRefusal}
 use Rattle.request_json.specs.declared.refusal.LineRefusal.TheVariants.{BadLine, TooLarge, OutOfMemory}
 use Rattle.requests.specs.declared.request.Request.{Request}
-use Rattle.tao_core.specs.Core.{CoreState, Moment}
+use Rattle.tao_core.specs.Core.{CoreState, IsNewCore, Moment}
 use Rattle.core_nodes.specs.Opening.{IsOpened, IsOtherLine}
 use Rattle.tao_core.specs.Replies.{AnswersRequest}
 use Rattle.tao_top.specs.Outside.{Outside, moment_of}
@@ -50,10 +50,10 @@ line_of stage reply = reply_text (spelled_by stage) reply ++ 10 ∷ []
 
 -- ---- the first line
 
--- the line is a configuration, each store takes it, no session is open yet, and the link stays
+-- the line is a configuration, each store takes it, the core is new, and the link stays
 pub record TakesLine (tells : Bool) (old : Outside) (line : List ℕ) (core : CoreState) (new : Outside) : Type 0 where
   pub configured : config_in line ≡ Ok core.settings
-  pub sessions : core.sessions ≡ []
+  pub begun : IsNewCore core
   pub opened : WhereTold tells (IsOpened core.settings line old.keepers.told new.keepers.told)
   pub link : new.link ≡ old.link
 

@@ -5,7 +5,7 @@ ghost use Rattle.std.specs.Io.KnownBytes.{Appends};
 ghost use Rattle.config_json.specs.Config.{config_in};
 ghost use Rattle.graph_model.specs.Told.{WhereTold};
 ghost use Rattle.request_json.specs.Requests.{request_in};
-ghost use Rattle.tao_core.specs.Core.{moment};
+ghost use Rattle.tao_core.specs.Core.{IsNewCore, moment};
 ghost use Rattle.core_nodes.specs.Opening.{IsOpened, MayOpen, RefusesOpening};
 ghost use Rattle.tao_top.specs.Begun.{RepliesInPart};
 ghost use Rattle.tao_top.specs.Kept.{LeavesTables, MayServe};
@@ -63,7 +63,7 @@ impl<'c> Serving<'c> {
         requires configured { config_in line.now ≡ Ok config.now }
         requires sound { WhereTold K.TELLS (MayOpen config.now line.now (K.state keepers.old).told) }
         ensures settings { IfOk result (λ serving. serving.settings ≡ config.now) }
-        ensures sessions { IfOk result (λ serving. serving.sessions ≡ []) }
+        ensures begun { IfOk result IsNewCore }
         ensures opened { IfOk result (λ serving. WhereTold K.TELLS (IsOpened config.now line.now (K.state keepers.old).told (K.state keepers.new).told)) }
         ensures serving { IfOk result (λ serving. MayServe K.TELLS serving (K.state keepers.new).told) }
         ensures refused { IfErr result (RefusesOpening K.TELLS config.now line.now

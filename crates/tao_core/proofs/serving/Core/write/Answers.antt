@@ -4,6 +4,7 @@ use Rattle.tao_base.specs.Writes.{write_shard}
 use Rattle.tao_core.specs.Calls.{AnswersWrite}
 use Rattle.tao_core.specs.Core.{CoreState, IsCoreOf, core_state, moment}
 use Rattle.tao_core.proofs.Going.{answers_write}
+use Rattle.tao_core.proofs.Keeping.{written_core}
 use Rattle.tao_core.proofs.Ways.{follower_for, leader_for}
 use Rattle.tao_core.proofs.serving.Core.write.Goals as goal
 
@@ -26,12 +27,20 @@ pub returns-clause-does : goal.returns-clause-does
 returns-clause-does g c =
     let state = g.K.Keeper.state in
     let shown = g.L.Link.shown in
-    let after : CoreState = record (core_state c.self.inside) { fleet = c.write_along.new.fleet } in
+    let after : CoreState = record (core_state c.self.inside) { fleet = c.write_along.new.fleet; mail = c.write_along.new.mail } in
     subst (λ x. AnswersWrite g.K.Keeper.TELLS (moment x (state c.args.keepers.now) (shown c.args.link.now)) c.args.call.now c.write_along.result
     (moment after (state c.write_along.new.keepers) (shown c.write_along.new.link))) c.self.view_is
     (answers_write g.K.Keeper.TELLS (core_state c.self.inside) c.write_along.new.fleet c.at-session.result
     (record { follower = c.in-Some.follower; leader = c.preferred.result })
     (state c.args.keepers.now) (state c.write_along.new.keepers) (shown c.args.link.now) (shown c.write_along.new.link)
     c.write_along.result c.args.call.now c.master-master.result
-    c.shard-shard.result c.at-session.ensures c.shard-shard.ensures c.master-master.ensures.master c.in-Some.ensures.chosen c.preferred.ensures.preferred
+    c.shard-shard.result c.write_along.new.mail c.at-session.ensures c.shard-shard.ensures c.master-master.ensures.master c.in-Some.ensures.chosen
+    c.preferred.ensures.preferred
     c.write_along.ensures.writes)
+
+pub returns-clause-keepers : goal.returns-clause-keepers
+returns-clause-keepers g c =
+    let state = g.K.Keeper.state in
+    let of = subst (IsCoreOf g.K.Keeper.TELLS (state c.args.keepers.now).told) (sym c.self.view_is) c.requires.keepers in
+    written_core g.K.Keeper.TELLS (state c.args.keepers.now).told (core_state c.self.inside) of (state c.write_along.new.keepers).told
+    c.write_along.new.fleet c.write_along.new.mail c.write_along.ensures.consistent c.write_along.ensures.inboxes

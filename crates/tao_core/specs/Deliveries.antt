@@ -1,0 +1,157 @@
+-- What the replies to the words of messages, of refills and of held items say.
+use Rattle.std.specs.Prelude.{ℕ, ◌≡◌, ⊤, Bool, List, Option, Some, None}
+use Rattle.core_mail.specs.Inboxes.{ShowsInbox, TakesOut, WaitsAt, shown_message}
+use Rattle.core_model.specs.Fleet.{ChangesNode}
+use Rattle.core_model.specs.Messages.{DeliversAt, TakesRefill}
+use Rattle.core_model.specs.Reads.{wanted}
+use Rattle.core_model.specs.Stores.{master_log}
+use Rattle.core_model.specs.declared.named.Named.{Named}
+use Rattle.core_nodes.specs.Shown.{IsHeldAt, IsMarkAt}
+use Rattle.core_steps.specs.Reads.{ReadsAlong}
+use Rattle.core_steps.specs.Replies.{refilled_as}
+use Rattle.core_steps.specs.Routes.{scene}
+use Rattle.core_steps.specs.declared.routes.Route.{Route}
+use Rattle.cache_items.specs.declared.item.Item.{Item}
+use Rattle.follower_cache.specs.Seen.{FollowerState}
+use Rattle.follower_cache.specs.declared.queue.Refill.{Refill}
+use Rattle.graph_model.specs.Told.{WhereTold}
+use Rattle.maint_msg.specs.Maints.{SeenMaint}
+use Rattle.node_name.specs.declared.NodeName.{NodeName}
+use Rattle.node_name.specs.declared.NodeName.TheVariants as name
+use Rattle.replies.specs.declared.nodes.CacheReply.TheVariants.{Delivered, Inbox, Lost, Refilled, Shown}
+use Rattle.replies.specs.declared.nodes.Delivered.{Delivered as DeliveredReply}
+use Rattle.replies.specs.declared.nodes.NodeReply.TheVariants.{Cache}
+use Rattle.replies.specs.declared.nodes.Shown.{Shown as ShownAs}
+use Rattle.replies.specs.declared.nodes.Shown.TheVariants.{Nothing, Held}
+use Rattle.replies.specs.declared.nodes.ShownItem.{ShownItem}
+use Rattle.replies.specs.declared.nodes.ShownItem.TheVariants as shown
+use Rattle.replies.specs.declared.refusals.NodeRefused.TheVariants.{NoMessage, NoRefill}
+use Rattle.replies.specs.declared.refusals.Refusal.TheVariants.{Memory, Node as OfNode}
+use Rattle.replies.specs.declared.reply.Reply.{Reply}
+use Rattle.replies.specs.declared.reply.Reply.TheVariants.{Node, Refused}
+use Rattle.sealed_item.specs.Fills.{IsExactContent}
+use Rattle.sealed_item.specs.declared.content.Content.{Content}
+use Rattle.sealed_item.specs.declared.content.Content.TheVariants as content
+use Rattle.tao_base.specs.Keys.{key_shard}
+use Rattle.tao_base.specs.Queries.{query_shard}
+use Rattle.tao_base.specs.declared.id.Key.{Key}
+use Rattle.tao_keeper.specs.KeeperState.{KeeperState}
+use Rattle.tao_schema.specs.Schema.{types_of}
+use Rattle.topology.specs.Choices.{preferred_leader}
+use Rattle.words.specs.declared.DeliveryWord.{DeliveryWord}
+use Rattle.words.specs.declared.DeliveryWord.TheVariants as word
+use Rattle.tao_core.specs.Calls.{KeptReaches}
+use Rattle.tao_core.specs.Core.{CoreState, Moment}
+
+-- ---- messages
+
+-- a message was processed: its node dropped so many items, and the reply has the node's mark for the message's shard after it
+pub record Processes (node : NodeName) (message : SeenMaint) (reply : DeliveredReply) (old new : CoreState) : Type 0 where
+  pub delivers : DeliversAt (types_of old.settings.schema) message reply.dropped node old.fleet new.fleet
+  pub mark : IsMarkAt new.fleet node message.shard (Some reply.mark)
+  pub message_is : reply.message ≡ shown_message message
+
+-- the reply that a message was processed, for the word that asked for it
+abbrev pub IsProcessed : DeliveryWord → NodeName → SeenMaint → CoreState → Reply → CoreState → Type 0
+IsProcessed asked node message old (Node (Cache (Delivered reply))) new = (reply.word ≡ asked) × Processes node message reply old new
+IsProcessed asked node message old reply new = ⊥
+
+-- no message waits at the place, and nothing changed
+abbrev pub FindsNone : NodeName → ℕ → ℕ → CoreState → CoreState → Type 0
+FindsNone node place told old new = (told ≡ place) × WaitsAt node place None old.mail × (new ≡ old)
+
+-- the message at a place of the node's inbox was taken out and processed
+abbrev pub AnswersDeliver : NodeName → ℕ → CoreState → Reply → CoreState → Type 0
+AnswersDeliver node place old (Node reply) new = (message : SeenMaint) × ChangesNode node (TakesOut place (Some message)) old.mail new.mail
+    × IsProcessed word.Deliver node message old (Node reply) new
+AnswersDeliver node place old (Refused (OfNode (NoMessage told))) new = FindsNone node place told old new
+AnswersDeliver node place old reply new = ⊥
+
+-- it was processed, and still waits where it was
+abbrev pub AnswersSecond : NodeName → ℕ → CoreState → Reply → CoreState → Type 0
+AnswersSecond node place old (Node reply) new = (message : SeenMaint) × WaitsAt node place (Some message) old.mail × (new.mail ≡ old.mail)
+    × IsProcessed word.Again node message old (Node reply) new
+AnswersSecond node place old (Refused (OfNode (NoMessage told))) new = FindsNone node place told old new
+AnswersSecond node place old (Refused (Memory position)) new = (position ≡ 0) × (new ≡ old)
+AnswersSecond node place old reply new = ⊥
+
+-- how it is replied that the message at a place is lost, or that none waits there
+abbrev pub lost_as : ℕ → Option SeenMaint → Reply
+lost_as place None = Refused (OfNode (NoMessage place))
+lost_as place (Some message) = Node (Cache (Lost (shown_message message)))
+
+-- it was taken out, and is lost
+abbrev pub AnswersLoss : NodeName → ℕ → CoreState → Reply → CoreState → Type 0
+AnswersLoss node place old (Node (Cache (Lost told))) new = (new.fleet ≡ old.fleet)
+    × (message : SeenMaint) × ChangesNode node (TakesOut place (Some message)) old.mail new.mail × (told ≡ shown_message message)
+AnswersLoss node place old (Refused (OfNode (NoMessage told))) new = FindsNone node place told old new
+AnswersLoss node place old reply new = ⊥
+
+-- the messages that wait for the node
+abbrev pub AnswersInbox : NodeName → CoreState → Reply → Type 0
+AnswersInbox node core (Node (Cache (Inbox messages))) = ShowsInbox node messages core.mail
+AnswersInbox node core (Refused (Memory position)) = position ≡ 0
+AnswersInbox node core reply = ⊥
+
+-- ---- items
+
+-- an item as it is shown: the object, or the first edges of the list and its length
+abbrev pub shown_content : Content → ShownItem
+shown_content (content.Object found) = shown.Object found
+shown_content (content.List prefix) = shown.List prefix.edges prefix.total
+
+abbrev pub shown_item : Option Item → ShownAs
+shown_item None = Nothing
+shown_item (Some item) = Held item.version (shown_content item.content)
+
+-- where the tables are told, the item is exact in its shard's log
+abbrev pub IsExactNow : Bool → CoreState → KeeperState → Key → Option Item → Type 0
+IsExactNow tells core keepers key None = ⊤
+IsExactNow tells core keepers key (Some item) =
+    WhereTold tells (IsExactContent (master_log core.settings keepers.told (key_shard key)) key item.version item.content)
+
+-- what the node holds at a key, and its mark for the key's shard
+pub record IsShown (tells : Bool) (node : NodeName) (key : Key) (mark : ℕ) (item : ShownAs) (now : Moment) : Type 0 where
+  pub found : Option Item
+  pub held : IsHeldAt now.core.fleet node key found
+  pub item_is : item ≡ shown_item found
+  pub exact : IsExactNow tells now.core now.keepers key found
+  pub mark_is : IsMarkAt now.core.fleet node (key_shard key) (Some mark)
+
+abbrev pub AnswersShow : Bool → NodeName → Key → Moment → Reply → Type 0
+AnswersShow tells node key now (Node (Cache (Shown mark item))) = IsShown tells node key mark item now
+AnswersShow tells node key now (Refused (Memory position)) = position ≡ 0
+AnswersShow tells node key now reply = ⊥
+
+-- ---- refills
+
+-- the region that a node is of
+abbrev pub home_region : NodeName → ℕ
+home_region (name.Store store) = store.region
+home_region (name.Leader region index) = region
+home_region (name.Follower region tier index) = region
+
+-- a refill goes from its follower to the leader that the follower's region prefers
+abbrev pub refill_route : CoreState → NodeName → ℕ → Route
+refill_route core node shard = record { follower = node; leader = preferred_leader core.states (home_region node) shard }
+
+-- the follower's oldest refill was taken out, and read as a session's read without a floor of its own but the refill's
+pub record RefillGoes (tells : Bool) (node : NodeName) (old : Moment) (reply : Reply) (new : Moment) : Type 0 where
+  pub refill : Refill
+  pub left : List (Named FollowerState)
+  pub takes : ChangesNode node (TakesRefill (Some refill)) old.core.fleet.followers left
+  pub read : Reply
+  pub reads : ReadsAlong tells old.core.settings (refill_route old.core node (query_shard refill.query)) (wanted refill.query refill.floor) read
+      (scene (record old.core.fleet { followers = left }) old.keepers old.link) (scene new.core.fleet new.keepers new.link)
+  pub reaches : KeptReaches tells old.core.settings node refill.query read (scene new.core.fleet new.keepers new.link)
+  pub reply_is : reply ≡ refilled_as read
+
+-- no refill waits, and nothing changed
+pub record HasNoRefill (node : NodeName) (told : NodeName) (old new : Moment) : Type 0 where
+  pub told_is : told ≡ node
+  pub none : ChangesNode node (TakesRefill None) old.core.fleet.followers new.core.fleet.followers
+  pub same : new ≡ old
+
+abbrev pub AnswersRefill : Bool → NodeName → Moment → Reply → Moment → Type 0
+AnswersRefill tells node old (Refused (OfNode (NoRefill told))) new = HasNoRefill node told old new
+AnswersRefill tells node old reply new = RefillGoes tells node old reply new

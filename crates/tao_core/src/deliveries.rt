@@ -1,0 +1,257 @@
+//! Messages that are delivered, repeated or lost, refills, and what a node holds.
+ghost use Rattle.std.specs.Prelude.{◌≡◌, Bool, Contains, IfOk, option_copied};
+ghost use Rattle.core_mail.specs.Inboxes.{AreInboxesOf, shown_message};
+ghost use Rattle.core_model.specs.Consistent.{GoesOn, IsFleetOf};
+ghost use Rattle.core_model.specs.Evictions.{IsCacheOf};
+ghost use Rattle.core_model.specs.Fleet.{follower_names};
+ghost use Rattle.core_model.specs.Messages.{IsMessageFor, IsRefillFor};
+ghost use Rattle.core_model.specs.Pens.{pens_of};
+ghost use Rattle.core_model.specs.Reads.{wanted};
+ghost use Rattle.core_steps.specs.Reads.{ReadsAlong};
+ghost use Rattle.core_steps.specs.Routes.{scene};
+ghost use Rattle.tao_base.specs.Queries.{query_shard};
+ghost use Rattle.tao_core.specs.Core.{IsCoreOf, moment};
+ghost use Rattle.tao_core.specs.Deliveries.{AnswersDeliver, AnswersInbox, AnswersLoss, AnswersRefill, AnswersSecond, AnswersShow, IsProcessed};
+ghost use Rattle.tao_core.specs.Deliveries.{home_region, lost_as, refill_route, shown_content, shown_item};
+ghost use Rattle.tao_keeper.specs.KeeperState.{IsLater, KeeperState, KeepsTables};
+ghost use Rattle.tao_link.specs.Shown.{LinkShown};
+
+use crate::refusals::{no_message, no_refill};
+use crate::serving::Core;
+use cache_items::Item;
+use core_steps::{Route, out_of_memory, read_along, refilled_as};
+use follower_cache::Refill;
+use maint_msg::Maint;
+use node_name::NodeName;
+use replies::{CacheReply, Delivered, Message, NodeReply, Reply, Shown, ShownItem};
+use sealed_item::Content;
+use std::alloc::Global;
+use tao_base::{Edges, Key, OutOfMemory};
+use tao_keeper::Keeper;
+use tao_link::Link;
+use words::DeliveryWord;
+
+/// The region that a node is of.
+fn home_region(node: NodeName) -> u16
+    ensures { result ≡ home_region node }
+{
+    match node {
+        NodeName::Store(store) => store.region,
+        NodeName::Leader { region, .. } => region,
+        NodeName::Follower { region, .. } => region,
+    }
+}
+
+/// A message as a reply tells it.
+fn told(message: &Maint) -> Message
+    ensures { result ≡ shown_message message.now }
+{
+    Message {
+        shard: message.shard(),
+        position: message.position(),
+    }
+}
+
+/// The reply that a message is lost.
+fn lost(message: Maint) -> Reply
+    ensures { result ≡ Reply.Node (NodeReply.Cache (CacheReply.Lost (shown_message message))) }
+{
+    Reply::Node(NodeReply::Cache(CacheReply::Lost(told(&message))))
+}
+
+/// The reply that the message at a place is lost, where one waited there.
+fn lost_as(message: Option<Maint>, place: u32) -> Reply
+    ensures { result ≡ lost_as place message }
+{
+    match message {
+        Some(message) => lost(message),
+        None => no_message(place),
+    }
+}
+
+/// The content of an item, copied.
+fn shown_content(alloc: Global, content: &Content) -> Result<ShownItem, OutOfMemory>
+    ensures { IfOk result (λ shown. shown ≡ shown_content content.now) }
+{
+    match content {
+        Content::Object(found) => Ok(ShownItem::Object(found.clone()?)),
+        Content::List(prefix) => {
+            Ok(ShownItem::List {
+                edges: Edges::of(prefix.edges().to_vec(alloc)?),
+                total: prefix.total(),
+            })
+        }
+    }
+}
+
+/// What a node holds, copied.
+fn shown_item(alloc: Global, item: Option<&Item>) -> Result<Shown, OutOfMemory>
+    ensures { IfOk result (λ shown. shown ≡ shown_item (option_copied item.entry)) }
+{
+    match item {
+        Some(item) => Ok(Shown::Held {
+            version: item.version,
+            item: shown_content(alloc, &item.content)?,
+        }),
+        None => Ok(Shown::Nothing),
+    }
+}
+
+impl<'c> Core<'c> {
+    /// A node processes a message for it.
+    fn process(&mut self, word: DeliveryWord, node: NodeName, message: Maint) -> Reply
+        requires fleet { IsFleetOf self.old.settings self.old.fleet }
+        requires node { IsCacheOf self.old.settings node }
+        requires message { IsMessageFor self.old.settings (pens_of self.old.fleet.masters) node message }
+        ensures does { IsProcessed word node message self.old result self.new }
+        ensures fleet { IsFleetOf self.old.settings self.new.fleet }
+        ensures goes { GoesOn self.old.fleet self.new.fleet }
+        ensures rest { self.new ≡ record self.old { fleet = self.new.fleet } }
+    {
+        let message_told = told(&message);
+        let dropped = self.fleet.deliver(self.config, node, message);
+        match self.fleet.mark(node, message_told.shard) {
+            Some(mark) => Reply::Node(NodeReply::Cache(CacheReply::Delivered(Delivered {
+                word,
+                dropped,
+                mark,
+                message: message_told,
+            }))),
+            None => unreachable!(),
+        }
+    }
+
+    /// Takes the message at a place out of a node's inbox, and the node processes it.
+    pub(crate) fn deliver(&mut self, node: NodeName, place: u32) -> Reply
+        requires fleet { IsFleetOf self.old.settings self.old.fleet }
+        requires inboxes { AreInboxesOf self.old.settings (pens_of self.old.fleet.masters) self.old.mail }
+        requires node { IsCacheOf self.old.settings node }
+        ensures does { AnswersDeliver node place self.old result self.new }
+        ensures fleet { IsFleetOf self.old.settings self.new.fleet }
+        ensures inboxes { AreInboxesOf self.old.settings (pens_of self.old.fleet.masters) self.new.mail }
+        ensures masters { self.new.fleet.masters ≡ self.old.fleet.masters }
+        ensures rest { self.new ≡ record self.old { fleet = self.new.fleet; mail = self.new.mail } }
+    {
+        match self.mail.take(node, place as usize) {
+            Some(message) => self.process(DeliveryWord::Deliver, node, message),
+            None => no_message(place),
+        }
+    }
+
+    /// A node processes the message at a place of its inbox, which stays there.
+    pub(crate) fn deliver_again(&mut self, node: NodeName, place: u32) -> Reply
+        requires fleet { IsFleetOf self.old.settings self.old.fleet }
+        requires inboxes { AreInboxesOf self.old.settings (pens_of self.old.fleet.masters) self.old.mail }
+        requires node { IsCacheOf self.old.settings node }
+        ensures does { AnswersSecond node place self.old result self.new }
+        ensures fleet { IsFleetOf self.old.settings self.new.fleet }
+        ensures masters { self.new.fleet.masters ≡ self.old.fleet.masters }
+        ensures rest { self.new ≡ record self.old { fleet = self.new.fleet } }
+    {
+        match self.mail.copy(node, place as usize) {
+            Ok(copy) => match copy {
+                Some(message) => self.process(DeliveryWord::Again, node, message),
+                None => no_message(place),
+            },
+            Err(OutOfMemory) => out_of_memory(),
+        }
+    }
+
+    /// Takes the message at a place out of a node's inbox, and loses it.
+    pub(crate) fn lose(&mut self, node: NodeName, place: u32) -> Reply
+        requires inboxes { AreInboxesOf self.old.settings (pens_of self.old.fleet.masters) self.old.mail }
+        requires node { IsCacheOf self.old.settings node }
+        ensures does { AnswersLoss node place self.old result self.new }
+        ensures inboxes { AreInboxesOf self.old.settings (pens_of self.old.fleet.masters) self.new.mail }
+        ensures rest { self.new ≡ record self.old { mail = self.new.mail } }
+    {
+        lost_as(self.mail.take(node, place as usize), place)
+    }
+
+    /// The messages that wait for a node.
+    pub(crate) fn show_inbox(&self, alloc: Global, node: NodeName) -> Reply
+        requires inboxes { AreInboxesOf self.now.settings (pens_of self.now.fleet.masters) self.now.mail }
+        requires node { IsCacheOf self.now.settings node }
+        ensures { AnswersInbox node self.now result }
+    {
+        match self.mail.messages(alloc, node) {
+            Ok(messages) => Reply::Node(NodeReply::Cache(CacheReply::Inbox { messages })),
+            Err(OutOfMemory) => out_of_memory(),
+        }
+    }
+
+    /// What a node holds at a key, and its mark for the key's shard.
+    pub(crate) fn show(&self, alloc: Global, node: NodeName, key: Key) -> Reply
+        requires fleet { IsFleetOf self.now.settings self.now.fleet }
+        requires node { IsCacheOf self.now.settings node }
+        ensures { (tells : Bool) (keepers : KeeperState) (link : LinkShown) → IsCoreOf tells keepers.told self.now
+            → AnswersShow tells node key (moment self.now keepers link) result }
+    {
+        let Some(mark) = self.fleet.mark(node, key.shard()) else {
+            unreachable!()
+        };
+        match shown_item(alloc, self.fleet.item(node, key)) {
+            Ok(item) => Reply::Node(NodeReply::Cache(CacheReply::Shown { mark, item })),
+            Err(OutOfMemory) => out_of_memory(),
+        }
+    }
+
+    /// Reads a refill of a follower along the follower's route.
+    fn read_refill<K: Keeper, L: Link>(
+        &mut self,
+        alloc: Global,
+        keepers: &mut K,
+        link: &mut L,
+        node: NodeName,
+        refill: Refill,
+    ) -> Reply
+        requires keepers { IsCoreOf K.TELLS (K.state keepers.old).told self.old }
+        requires node { Contains (follower_names self.old.settings) node }
+        requires refill { IsRefillFor self.old.settings (pens_of self.old.fleet.masters) node refill }
+        ensures reads { ReadsAlong K.TELLS self.old.settings (refill_route self.old node (query_shard refill.query)) (wanted refill.query refill.floor)
+            result (scene self.old.fleet (K.state keepers.old) (L.shown link.old)) (scene self.new.fleet (K.state keepers.new) (L.shown link.new)) }
+        ensures keepers { IsCoreOf K.TELLS (K.state keepers.new).told self.new }
+        ensures tables { KeepsTables K.TELLS (K.state keepers.old) (K.state keepers.new) }
+        ensures later { IsLater (K.state keepers.old) (K.state keepers.new) }
+        ensures rest { self.new ≡ record self.old { fleet = self.new.fleet } }
+    {
+        let shard = refill.query.shard();
+        let route = Route {
+            follower: node,
+            leader: self.topology.preferred(home_region(node), shard),
+        };
+        read_along(
+            alloc,
+            &mut self.fleet,
+            self.config,
+            keepers,
+            link,
+            route,
+            &refill.query,
+            refill.floor,
+        )
+    }
+
+    /// Takes the oldest refill of a follower out, and reads it along the follower's route.
+    pub(crate) fn refill<K: Keeper, L: Link>(
+        &mut self,
+        alloc: Global,
+        keepers: &mut K,
+        link: &mut L,
+        node: NodeName,
+    ) -> Reply
+        requires keepers { IsCoreOf K.TELLS (K.state keepers.old).told self.old }
+        requires node { Contains (follower_names self.old.settings) node }
+        ensures does { AnswersRefill K.TELLS node (moment self.old (K.state keepers.old) (L.shown link.old)) result
+            (moment self.new (K.state keepers.new) (L.shown link.new)) }
+        ensures keepers { IsCoreOf K.TELLS (K.state keepers.new).told self.new }
+        ensures tables { KeepsTables K.TELLS (K.state keepers.old) (K.state keepers.new) }
+        ensures later { IsLater (K.state keepers.old) (K.state keepers.new) }
+        ensures rest { self.new ≡ record self.old { fleet = self.new.fleet } }
+    {
+        match self.fleet.next_refill(self.config, node) {
+            Some(refill) => refilled_as(self.read_refill(alloc, keepers, link, node, refill)),
+            None => no_refill(node),
+        }
+    }
+}

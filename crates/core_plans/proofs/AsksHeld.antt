@@ -1,0 +1,398 @@
+-- Open asks, and which stages open none.
+use Rattle.std.proofs.Common.{◌≡◌, ◌⊎◌, ℕ, zero, suc, ◌+◌, Bool, true, false, ◌||◌, not, List, [], ◌∷◌, Option, Some, None}
+use Rattle.std.proofs.Common.{refl, ap, sym, subst, ◌∙◌, inl, inr, arith}
+use Rattle.std.specs.List.{list_any}
+use Rattle.std.specs.Prelude.{◌==◌, filter, if◌then◌else◌, map, slice_get, slice_set}
+use Rattle.std.proofs.lemmas.Bool.{cases_Bool, cases_order}
+use Rattle.std.proofs.lemmas.List.Folds.{list_any-append}
+use Rattle.std.proofs.lemmas.Map.Views.{any-filter_same}
+use Rattle.ask_table.specs.Asks.{Asks, with_floor}
+use Rattle.ask_table.specs.Open.{raised_ask}
+use Rattle.ask_table.specs.declared.ask.Ask.{Ask}
+use Rattle.cache_items.specs.Kept.{is_yes, item_of, took, with_item}
+use Rattle.cache_items.specs.Node.{Node, raised_all, with_ended_ask}
+use Rattle.cache_items.specs.declared.look.Kept.{Kept}
+use Rattle.cache_items.specs.declared.look.Look.TheVariants.{Hit, Miss}
+use Rattle.core_model.specs.Evictions.{Evicts}
+use Rattle.core_model.specs.Fleet.{ChangesNode, Fleet, named}
+use Rattle.core_model.specs.Messages.{DeliversThere, TakesRefill}
+use Rattle.core_model.specs.Reads.{AfterLook, EndsAsk, KeepsFill, LooksFirst, Wanted}
+use Rattle.core_model.specs.Writes.{AppliesTo}
+use Rattle.core_model.specs.declared.named.Named.{Named}
+use Rattle.core_model.proofs.Places.{get_set, one_some, set_get, some_and}
+use Rattle.core_plans.specs.HeldLaws.{AsksStayHeld}
+use Rattle.core_plans.specs.Held.{AsksAreHeld, OpensNone, Plans, is_open_ask}
+use Rattle.core_steps.specs.Reads.{Ends, IsAnswered, IsFailedRead, ReadsAlong}
+use Rattle.core_steps.specs.Routes.{Scene}
+use Rattle.core_steps.specs.Writes.{ChangesNoNode, ClientWrite, FollowerTakes, Posting, WriteRefused, WritesAlong}
+use Rattle.core_steps.specs.declared.routes.Route.{Route}
+use Rattle.follower_cache.specs.Seen.{FollowerState}
+use Rattle.follower_cache.specs.declared.queue.Refill.{Refill}
+use Rattle.maint_msg.specs.KeyVersions.{keys_of}
+use Rattle.maint_msg.specs.Maints.{SeenMaint}
+use Rattle.maint_msg.specs.declared.key_versions.KeyVersion.{KeyVersion}
+use Rattle.node_name.specs.declared.NodeName.{NodeName}
+use Rattle.replies.specs.declared.calls.CallReply.TheVariants as called
+use Rattle.replies.specs.declared.calls.ReadReply.{ReadReply}
+use Rattle.replies.specs.declared.refusals.Refusal.TheVariants.{Store, Memory}
+use Rattle.replies.specs.declared.refusals.StoreRefused.{StoreRefused}
+use Rattle.replies.specs.declared.refusals.StoreRefused.TheVariants.{SeqReused, ShardFull, StampFull, LogFull, KeeperFault, LinkFault, Unsettled}
+use Rattle.replies.specs.declared.reply.Reply.{Reply}
+use Rattle.replies.specs.declared.reply.Reply.TheVariants.{Called, Refused}
+use Rattle.sealed_item.specs.Fills.{SealedItem}
+use Rattle.shard_log.specs.View.{View}
+use Rattle.shard_tables.specs.declared.leader_answer.LeaderAnswer.{LeaderAnswer}
+use Rattle.shard_tables.specs.declared.leader_answer.LeaderAnswer.TheVariants as leader
+use Rattle.tao_base.specs.EdgeTypes.{EdgeTypes}
+use Rattle.tao_base.specs.Keys.{same_key}
+use Rattle.tao_base.specs.Queries.{query_key}
+use Rattle.tao_base.specs.Writes.{write_shard}
+use Rattle.tao_base.specs.declared.entry.Entry.{Entry}
+use Rattle.tao_base.specs.declared.id.Key.{Key}
+use Rattle.tao_base.specs.declared.query.Answer.{Answer}
+use Rattle.tao_base.specs.declared.query.Query.{Query}
+use Rattle.tao_schema.specs.Schema.{types_of}
+use Rattle.topology.specs.Config.{Settings}
+
+-- ---- the asks of one node
+
+-- none is open that wasn't before
+abbrev pub AddsNone : Asks → Asks → Type 0
+AddsNone old new = (number : ℕ) → is_open_ask number new ≡ true → is_open_ask number old ≡ true
+
+abbrev has_number : ℕ → List Ask → Bool
+has_number number asks = list_any (λ a. a.number == number) asks
+
+or_mono : (b x y : Bool) → (x ≡ true → y ≡ true) → (b || x) ≡ true → (b || y) ≡ true
+or_mono true x y f h = refl
+or_mono false x y f h = f h
+
+or_later : (b y : Bool) → y ≡ true → (b || y) ≡ true
+or_later true y h = refl
+or_later false y h = h
+
+filtered : (number : ℕ) (q : Ask → Bool) (xs : List Ask) → has_number number (filter q xs) ≡ true → has_number number xs ≡ true
+filtered number q [] = λ h. h
+filtered number q (x ∷ xs) = elim (cases_Bool (q x)) [
+  | inl k ↦ rw k (or_mono (x.number == number) (has_number number (filter q xs)) (has_number number xs) (filtered number q xs))
+  | inr k ↦ rw k (λ h. or_later (x.number == number) (has_number number xs) (filtered number q xs h))
+]
+
+-- one that ended isn't open
+none_ended : (number : ℕ) (xs : List Ask) → has_number number (filter (λ a. not (a.number == number)) xs) ≡ false
+none_ended number xs = any-filter_same (λ a. a.number == number) (λ a. not (a.number == number)) false (λ a h. ap not h) xs
+
+raised_number : (key : Key) (version : ℕ) (a : Ask) → (raised_ask key version a).number ≡ a.number
+raised_number key version a = elim (cases_Bool (same_key a.key key)) [ inl h ↦ rw h refl | inr h ↦ rw h refl ]
+
+raised : (number : ℕ) (key : Key) (version : ℕ) (xs : List Ask) → has_number number (map (raised_ask key version) xs) ≡ has_number number xs
+raised number key version [] = refl
+raised number key version (x ∷ xs) =
+    ap (λ n. (n == number) || has_number number (map (raised_ask key version) xs)) (raised_number key version x)
+    ∙ ap (λ b. (x.number == number) || b) (raised number key version xs)
+
+same_none : (old new : Asks) → new ≡ old → AddsNone old new
+same_none old new same = subst (AddsNone old) (sym same) (λ number h. h)
+
+raises_none : (t : Asks) (key : Key) (version : ℕ) → AddsNone t (with_floor key version t)
+raises_none t key version number h = sym (raised number key version t.asks) ∙ h
+
+raises_all_none : (keys : List KeyVersion) (t : Asks) → AddsNone t (raised_all keys t)
+raises_all_none [] t number h = h
+raises_all_none (k ∷ ks) t number h = raises_none t k.key k.version number (raises_all_none ks (with_floor k.key k.version t) number h)
+
+-- none is open but those of before, and not the one that ended
+abbrev pub EndsOpen : Option ℕ → Asks → Asks → Type 0
+EndsOpen ask old new = (number : ℕ) → is_open_ask number new ≡ true → (is_open_ask number old ≡ true) × (ask ≡ Some number → ⊥)
+
+not_ended : (ask number : ℕ) (xs : List Ask) → has_number number (filter (λ a. not (a.number == ask)) xs) ≡ true → Some ask ≡ Some number → ⊥
+not_ended ask number xs h same =
+    let here : ask ≡ number = one_some ask number same in
+    let none = none_ended number xs in
+    let open_still : has_number number (filter (λ a. not (a.number == number)) xs) ≡ true =
+    subst (λ n. has_number number (filter (λ a. not (a.number == n)) xs) ≡ true) here h in
+    absurd (cc)
+
+ended_open : (ask : Option ℕ) (n : Node) → EndsOpen ask n.asks (with_ended_ask ask n).asks
+ended_open None n number h = (h, λ same. absurd (cc))
+ended_open (Some ask) n number h = (filtered number (λ a. not (a.number == ask)) n.asks.asks h, not_ended ask number n.asks.asks h)
+
+took_none_so : (fill : SealedItem) (kept : Bool) (n : Node) → AddsNone n.asks (if kept then with_item fill.key (item_of fill) n else n).asks
+took_none_so fill true n = raises_none n.asks fill.key fill.version
+took_none_so fill false n = λ number h. h
+
+took_none : (fill : SealedItem) (kept : Kept) (n : Node) → AddsNone n.asks (took fill kept n).asks
+took_none fill kept n = took_none_so fill (is_yes kept) n
+
+-- ---- the stages of one follower
+
+abbrev OpensNo : FollowerState → FollowerState → Type 0
+OpensNo from to = AddsNone from.node.asks to.node.asks
+
+hit_none : (types : EdgeTypes) (read : Wanted) (answer : Answer) (version : ℕ) (ask : Option ℕ) (from to : FollowerState)
+    → LooksFirst types read (Hit answer version) ask from to → OpensNo from to
+hit_none types read answer version ask from to looks = same_none from.node.asks to.node.asks (ap (λ (n : Node). n.asks) looks.node.1)
+
+pub ends_open : (ask : Option ℕ) (from to : FollowerState) → EndsAsk ask from to → EndsOpen ask from.node.asks to.node.asks
+ends_open ask from to ends =
+    subst (λ (f : FollowerState). EndsOpen ask from.node.asks f.node.asks) (sym ends) (ended_open ask from.node)
+
+pub keeps_open : (types : EdgeTypes) (query : Query) (ask : Option ℕ) (fill : SealedItem) (answer : Answer) (kept : Kept) (from to : FollowerState)
+    → KeepsFill types query ask fill answer kept from to → EndsOpen ask from.node.asks to.node.asks
+keeps_open types query ask fill answer kept from to keeps =
+    let mid : Node = with_ended_ask ask from.node in
+    subst (λ (f : FollowerState). EndsOpen ask from.node.asks f.node.asks) (sym keeps.node_is)
+    (λ number h. ended_open ask from.node number (took_none fill kept mid number h))
+
+ends_none : (ask : Option ℕ) (from to : FollowerState) → EndsOpen ask from.node.asks to.node.asks → OpensNo from to
+ends_none ask from to ends number h = (ends number h).0
+
+applies_none : (types : EdgeTypes) (shard : ℕ) (entry : Entry) (note : View) (from to : FollowerState)
+    → AppliesTo types shard entry note from to → OpensNo from to
+applies_none types shard entry note from to applies =
+    subst (λ (n : Node). AddsNone from.node.asks n.asks) (sym applies.node.node_is) (raises_all_none (keys_of entry) from.node.asks)
+
+delivers_none : (types : EdgeTypes) (m : SeenMaint) (dropped : ℕ) (from to : FollowerState) → DeliversThere types m dropped from to → OpensNo from to
+delivers_none types m dropped from to delivers =
+    subst (λ (n : Node). AddsNone from.node.asks n.asks) (sym delivers.node.node_is) (raises_all_none m.keys from.node.asks)
+
+takes_none : (refill : Option Refill) (from to : FollowerState) → TakesRefill refill from to → OpensNo from to
+takes_none None from to takes = same_none from.node.asks to.node.asks (ap (λ (f : FollowerState). f.node.asks) takes.1)
+takes_none (Some refill) from to takes = same_none from.node.asks to.node.asks (ap (λ (f : FollowerState). f.node.asks) takes.1)
+
+evicts_none : (key : Option Key) (held : Bool) (from to : FollowerState) → Evicts key held from.node to.node → OpensNo from to
+evicts_none (Some key) held from to evicts = same_none from.node.asks to.node.asks (ap (λ (n : Node). n.asks) evicts.1)
+evicts_none None held from to evicts = same_none from.node.asks to.node.asks (ap (λ (n : Node). n.asks) evicts.1)
+
+-- a look that finds nothing opens the ask that it gives, and no other
+pub misses_open : (key : Key) (ask : Option ℕ) (from to : Node) → AfterLook key Miss ask from to → (number : ℕ)
+    → is_open_ask number to.asks ≡ true → (is_open_ask number from.asks ≡ true) ⊎ (ask ≡ Some number)
+misses_open key None from to looks number h = inl (subst (λ (n : Node). is_open_ask number n.asks ≡ true) looks.1 h)
+misses_open key (Some given) from to looks number h =
+    let now = subst (λ (n : Node). is_open_ask number n.asks ≡ true) looks.2 h in
+    let next = from.asks.given + 1 in
+    let all : (has_number number from.asks.asks || ((next == number) || false)) ≡ true =
+    sym (list_any-append (λ (a : Ask). a.number == number) from.asks.asks _) ∙ now in
+    elim (cases_Bool (is_open_ask number from.asks)) [
+      | inl is ↦ inl is
+      | inr closed ↦ inr (ap Some (let given_is = looks.1 in grind (arith)))
+    ]
+
+vain_none : (types : EdgeTypes) (read : Wanted) (ask : Option ℕ) (from mid to : FollowerState) → LooksFirst types read Miss ask from mid
+    → EndsOpen ask mid.node.asks to.node.asks → OpensNo from to
+vain_none types read ask from mid to looks ends number h =
+    let last = ends number h in
+    elim (misses_open (query_key read.query) ask from.node mid.node looks.node number last.0) [
+      | inl was ↦ was
+      | inr given ↦ absurd (last.1 given)
+    ]
+
+-- ---- the followers of a core
+
+-- one follower changes
+pub change_opens_none : (By : FollowerState → FollowerState → Type 0) (name : NodeName) (old new : List (Named FollowerState))
+    → ((from to : FollowerState) → By from to → (number : ℕ) → is_open_ask number to.node.asks ≡ true → is_open_ask number from.node.asks ≡ true)
+    → ChangesNode name By old new → OpensNone old new
+change_opens_none By name old new so change = record {
+  still = λ called number h.
+      let at : slice_get (slice_set old change.place (named name change.to)) h.place ≡ Some (named called h.follower) =
+      subst (λ xs. slice_get xs h.place ≡ Some (named called h.follower)) change.is h.stands in
+      elim (get_set old change.place (named name change.to) h.place (named called h.follower) at) [
+        | inl e ↦ record { place = h.place; follower = h.follower; stands = e.1; is_open = h.is_open }
+        | inr e ↦ record {
+          place = change.place;
+          follower = change.from;
+          stands = subst (λ (n : NodeName). slice_get old change.place ≡ Some (named n change.from)) (ap (λ n. n.name) e.1) change.stands;
+          is_open = so change.from change.to change.by number
+              (subst (λ (f : FollowerState). is_open_ask number f.node.asks ≡ true) (sym (ap (λ n. n.node) e.1)) h.is_open);
+        }
+      ];
+}
+
+-- two changes at a name are at one place
+pub same_place : {N : Type 0} (By So : N → N → Type 0) (name : NodeName) (old mid new : List (Named N)) (one : ChangesNode name By old mid)
+    (two : ChangesNode name So mid new) → two.place ≡ one.place
+same_place By So name old mid new one two = elim (cases_order two.place one.place) [
+  | inl same ↦ same
+  | inr (inl before) ↦
+      let at : slice_get (slice_set old one.place (named name one.to)) two.place ≡ Some (named name two.from) =
+      subst (λ xs. slice_get xs two.place ≡ Some (named name two.from)) one.is two.stands in
+      elim (get_set old one.place (named name one.to) two.place (named name two.from) at) [
+        | inl e ↦ absurd (one.first.before two.place before (some_and (slice_get old two.place) (named name two.from) (λ n. n.name ≡ name) e.1 refl))
+        | inr e ↦ e.0
+      ]
+  | inr (inr after) ↦
+      let there = ap (λ xs. slice_get xs one.place) one.is ∙ set_get old one.place (named name one.from) (named name one.to) one.stands in
+      absurd (two.first.before one.place after (some_and (slice_get mid one.place) (named name one.to) (λ n. n.name ≡ name) there refl))
+]
+
+set_twice : {X : Type 0} (xs : List X) (k : ℕ) (x y : X) → slice_set (slice_set xs k x) k y ≡ slice_set xs k y
+set_twice [] k x y = refl
+set_twice (z ∷ zs) zero x y = refl
+set_twice (z ∷ zs) (suc k) x y = ap (λ l. z ∷ l) (set_twice zs k x y)
+
+-- two changes after each other are one
+pub changes_twice : {N : Type 0} (By So : N → N → Type 0) (name : NodeName) (old mid new : List (Named N)) → ChangesNode name By old mid
+    → ChangesNode name So mid new → ChangesNode name (λ from to. (between : N) × By from between × So between to) old new
+changes_twice By So name old mid new one two =
+    let same = same_place By So name old mid new one two in
+    let there = ap (λ xs. slice_get xs one.place) one.is ∙ set_get old one.place (named name one.from) (named name one.to) one.stands in
+    let here = subst (λ k. slice_get mid k ≡ Some (named name two.from)) same two.stands in
+    let met : two.from ≡ one.to = ap (λ n. n.node) (one_some (named name two.from) (named name one.to) (sym here ∙ there)) in
+    record {
+      place = one.place;
+      first = one.first;
+      from = one.from;
+      to = two.to;
+      stands = one.stands;
+      by = (one.to, one.by, subst (λ n. So n two.to) met two.by);
+      is = two.is ∙ ap (λ k. slice_set mid k (named name two.to)) same ∙ ap (λ xs. slice_set xs one.place (named name two.to)) one.is
+          ∙ set_twice old one.place (named name one.to) (named name two.to);
+    }
+
+pub same_opens_none : (old new : List (Named FollowerState)) → new ≡ old → OpensNone old new
+same_opens_none old new same = subst (OpensNone old) (sym same) (record { still = λ name number h. h })
+
+pub opens_none_on : (old mid new : List (Named FollowerState)) → OpensNone old mid → OpensNone mid new → OpensNone old new
+opens_none_on old mid new one two = record { still = λ name number h. one.still name number (two.still name number h) }
+
+module _ (name : NodeName) (old new : List (Named FollowerState)) where
+  pub hit_opens_none : (types : EdgeTypes) (read : Wanted) (answer : Answer) (version : ℕ) (ask : Option ℕ)
+      → ChangesNode name (LooksFirst types read (Hit answer version) ask) old new → OpensNone old new
+  hit_opens_none types read answer version ask =
+      change_opens_none (LooksFirst types read (Hit answer version) ask) name old new (hit_none types read answer version ask)
+
+  pub end_opens_none : (ask : Option ℕ) → ChangesNode name (EndsAsk ask) old new → OpensNone old new
+  end_opens_none ask =
+      change_opens_none (EndsAsk ask) name old new (λ from to ends. ends_none ask from to (ends_open ask from to ends))
+
+  pub keep_opens_none : (types : EdgeTypes) (query : Query) (ask : Option ℕ) (fill : SealedItem) (answer : Answer) (kept : Kept)
+      → ChangesNode name (KeepsFill types query ask fill answer kept) old new → OpensNone old new
+  keep_opens_none types query ask fill answer kept =
+      change_opens_none (KeepsFill types query ask fill answer kept) name old new
+      (λ from to keeps. ends_none ask from to (keeps_open types query ask fill answer kept from to keeps))
+
+  pub apply_opens_none : (types : EdgeTypes) (shard : ℕ) (entry : Entry) (note : View) → ChangesNode name (AppliesTo types shard entry note) old new
+      → OpensNone old new
+  apply_opens_none types shard entry note =
+      change_opens_none (AppliesTo types shard entry note) name old new (applies_none types shard entry note)
+
+  pub deliver_opens_none : (types : EdgeTypes) (m : SeenMaint) (dropped : ℕ) → ChangesNode name (DeliversThere types m dropped) old new → OpensNone old new
+  deliver_opens_none types m dropped = change_opens_none (DeliversThere types m dropped) name old new (delivers_none types m dropped)
+
+  pub refill_opens_none : (refill : Option Refill) → ChangesNode name (TakesRefill refill) old new → OpensNone old new
+  refill_opens_none refill = change_opens_none (TakesRefill refill) name old new (takes_none refill)
+
+  pub evict_opens_none : (key : Option Key) (held : Bool)
+      → ChangesNode name (λ from to. Evicts key held from.node to.node × (to.refills ≡ from.refills)) old new → OpensNone old new
+  evict_opens_none key held =
+      change_opens_none (λ from to. Evicts key held from.node to.node × (to.refills ≡ from.refills)) name old new
+      (λ from to evicts. evicts_none key held from to evicts.0)
+
+  -- a look that finds nothing, and then the end of its ask
+  pub vain_opens_none : (types : EdgeTypes) (read : Wanted) (ask : Option ℕ) (looked : List (Named FollowerState))
+      → ChangesNode name (LooksFirst types read Miss ask) old looked → ChangesNode name (EndsAsk ask) looked new → OpensNone old new
+  vain_opens_none types read ask looked looks ends =
+      change_opens_none _ name old new
+      (λ from to both. vain_none types read ask from both.0 to both.1 (ends_open ask both.0 to both.2))
+      (changes_twice (LooksFirst types read Miss ask) (EndsAsk ask) name old looked new looks ends)
+
+  -- or what was given in answer to it
+  pub filled_opens_none : (types : EdgeTypes) (read : Wanted) (ask : Option ℕ) (fill : SealedItem) (answer : Answer) (kept : Kept)
+      (looked : List (Named FollowerState)) → ChangesNode name (LooksFirst types read Miss ask) old looked
+      → ChangesNode name (KeepsFill types read.query ask fill answer kept) looked new → OpensNone old new
+  filled_opens_none types read ask fill answer kept looked looks keeps =
+      change_opens_none _ name old new
+      (λ from to both. vain_none types read ask from both.0 to both.1 (keeps_open types read.query ask fill answer kept both.0 to both.2))
+      (changes_twice (LooksFirst types read Miss ask) (KeepsFill types read.query ask fill answer kept) name old looked new looks keeps)
+
+  answered_opens_none : (types : EdgeTypes) (read : Wanted) (ask : Option ℕ) (given : LeaderAnswer) (reply : ReadReply) (looked : List (Named FollowerState))
+      → ChangesNode name (LooksFirst types read Miss ask) old looked → Ends types name read ask given reply looked new → OpensNone old new
+  answered_opens_none types read ask (leader.Filled fill) reply looked looks ends =
+      filled_opens_none types read ask fill reply.answer ends.0 looked looks ends.1
+  answered_opens_none types read ask (leader.Past answer version total note) reply looked looks ends =
+      vain_opens_none types read ask looked looks ends.0
+  answered_opens_none types read ask (leader.Behind version) reply looked looks ends = absurd ends
+
+-- ---- whole reads and writes
+
+answer_opens_none : (tells : Bool) (s : Settings) (route : Route) (read : Wanted) (reply : ReadReply) (old new : Scene)
+    → IsAnswered tells s route read reply old new → OpensNone old.fleet.followers new.fleet.followers
+answer_opens_none tells s route read reply old new is = elim is.went [
+  | inl hits ↦ hit_opens_none route.follower old.fleet.followers new.fleet.followers (types_of s.schema) read reply.answer reply.version None hits.looks
+  | inr misses ↦ answered_opens_none route.follower old.fleet.followers new.fleet.followers (types_of s.schema) read misses.ask misses.given reply misses.looked
+      misses.looks misses.ends
+]
+
+failed_opens_none : (s : Settings) (route : Route) (read : Wanted) (reply : Reply) (old new : Scene) → IsFailedRead s route read reply old new
+    → OpensNone old.fleet.followers new.fleet.followers
+failed_opens_none s route read reply old new is = elim is.nodes.followers [
+  | inl same ↦ same_opens_none old.fleet.followers new.fleet.followers same
+  | inr asked ↦ vain_opens_none route.follower old.fleet.followers new.fleet.followers (types_of s.schema) read asked.ask asked.looked asked.looks asked.ends
+]
+
+pub read_opens_none : (tells : Bool) (s : Settings) (route : Route) (read : Wanted) (reply : Reply) (old new : Scene)
+    → ReadsAlong tells s route read reply old new → OpensNone old.fleet.followers new.fleet.followers
+read_opens_none tells s route read (Called (called.Read reply)) old new is = answer_opens_none tells s route read reply old new is
+read_opens_none tells s route read (Refused refused) old new is = failed_opens_none s route read (Refused refused) old new is
+read_opens_none tells s route read reply old new is = absurd is
+
+follower_takes_none : (types : EdgeTypes) (route : Route) (shard : ℕ) (entry : Option Entry) (old new : Fleet)
+    → FollowerTakes types route shard entry old new → OpensNone old.followers new.followers
+follower_takes_none types route shard None old new same = same_opens_none old.followers new.followers same
+follower_takes_none types route shard (Some e) old new takes =
+    apply_opens_none route.follower old.followers new.followers types shard e takes.0 takes.1
+
+module _ (tells : Bool) (s : Settings) (route : Route) (call : ClientWrite) (old new : Posting) where
+  rests_none : ChangesNoNode tells old new → OpensNone old.scene.fleet.followers new.scene.fleet.followers
+  rests_none rests = same_opens_none old.scene.fleet.followers new.scene.fleet.followers (ap (λ (f : Fleet). f.followers) rests.fleet)
+
+  refused_none : (refused : StoreRefused) → WriteRefused tells s route call refused old new
+      → OpensNone old.scene.fleet.followers new.scene.fleet.followers
+  refused_none (LinkFault count when) is = elim is.1 [
+    | inl there ↦ rests_none there.same
+    | inr back ↦ same_opens_none old.scene.fleet.followers new.scene.fleet.followers back.followers
+  ]
+  refused_none (SeqReused position) is = rests_none is.1
+  refused_none (ShardFull serial) is = rests_none is.1
+  refused_none (StampFull number) is = rests_none is.1
+  refused_none (LogFull count) is = rests_none is.1
+  refused_none (KeeperFault count) is = rests_none is.1
+  refused_none (Unsettled at why) is = rests_none is.1
+
+  pub write_opens_none : (reply : Reply) → WritesAlong tells s route call reply old new
+      → OpensNone old.scene.fleet.followers new.scene.fleet.followers
+  write_opens_none (Called (called.Write reply)) is =
+      follower_takes_none (types_of s.schema) route (write_shard call.write) is.entry old.scene.fleet new.scene.fleet is.follower
+  write_opens_none (Refused (Store refused)) is = refused_none refused is
+  write_opens_none (Refused (Memory position)) is = rests_none is.1
+  write_opens_none reply is = absurd is
+
+-- ---- what is held
+
+-- where none opens, each that is open is still held
+pub asks_still_held : (plans : Plans) (old new : List (Named FollowerState)) → OpensNone old new → AsksAreHeld plans old → AsksAreHeld plans new
+asks_still_held plans old new none are = record {
+  held = λ name number h. are.held name number (none.still name number h);
+  one = are.one;
+}
+
+pub asks_stay_held : AsksStayHeld
+asks_stay_held = record {
+  held = asks_still_held;
+  same = same_opens_none;
+  on = opens_none_on;
+  changes = λ name old new. record {
+    hit = hit_opens_none name old new;
+    ends = end_opens_none name old new;
+    keeps = keep_opens_none name old new;
+    applies = apply_opens_none name old new;
+    delivers = deliver_opens_none name old new;
+    refills = refill_opens_none name old new;
+    evicts = evict_opens_none name old new;
+    in_vain = vain_opens_none name old new;
+    filled = filled_opens_none name old new;
+  };
+  reads = read_opens_none;
+  writes = λ tells s route call reply old new. write_opens_none tells s route call old new reply;
+}

@@ -1,0 +1,5 @@
+pub mod AsksHeld
+pub mod HeldReadLemmas
+pub mod HeldReadStages
+mod PlanMaps
+pub mod Standing

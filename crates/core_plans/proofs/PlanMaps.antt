@@ -1,0 +1,34 @@
+-- Plans by their numbers, of which one changes.
+use Rattle.std.proofs.Common.{◌≡◌, ◌∙◌, ℕ, Bool, cond, refl, sym, ap, subst, arith}
+use Rattle.std.proofs.lemmas.Bool.Decides.{nat_tests}
+use Rattle.std.specs.BTreeMap.{BTreeMap, WritesThrough, get}
+use Rattle.std.specs.Ordering.{is_eq, nat_cmp}
+use Rattle.std.specs.Prelude.{◌==◌, IsSome, Some}
+use Rattle.core_plans.specs.Held.{ChangesPlan, Plans, StepsHeld, StepsPlan, plan_at}
+use Rattle.core_plans.specs.declared.held.HeldPlan.{HeldPlan}
+use Rattle.core_steps.specs.Writes.{Posting}
+use Rattle.node_name.specs.declared.NodeName.{NodeName}
+use Rattle.topology.specs.Config.{Settings}
+
+same_order : (x y : ℕ) → is_eq (nat_cmp x y) ≡ (y == x)
+same_order x y = grind (arith, nat_tests)
+
+changes_plan : (number : ℕ) (after : HeldPlan) (old new : BTreeMap ℕ HeldPlan) → IsSome (get nat_cmp old number)
+    → WritesThrough nat_cmp (nat_cmp number) old after new → ChangesPlan number after old.entries new.entries
+changes_plan number after old new there writes = record {
+  sets = λ other. (writes.3 there).0 other ∙ ap (λ b. cond b (Some after) (plan_at old.entries other)) (same_order number other);
+  count = writes.2;
+}
+
+-- the plan that was found did a stage, and was written back
+pub steps_plan : (tells : Bool) (s : Settings) (leader : NodeName) (number : ℕ) (plans : Plans) (map later : BTreeMap ℕ HeldPlan) (before after : HeldPlan)
+    (old new : Posting) → map.entries ≡ plans → Some before ≡ get nat_cmp map number → StepsHeld tells s leader before old after new
+    → WritesThrough nat_cmp (nat_cmp number) map after later → StepsPlan tells s leader number plans old later.entries new
+steps_plan tells s leader number plans map later before after old new is found steps writes =
+    subst (λ seen. StepsPlan tells s leader number seen old later.entries new) is (record {
+      before = before;
+      after = after;
+      stands = sym found;
+      steps = steps;
+      changes = changes_plan number after map later (subst IsSome found refl) writes;
+    })

@@ -1,0 +1,170 @@
+-- The plans that are held, by their numbers.
+use Rattle.std.specs.Prelude.{ℕ, ◌≡◌, ◌+◌, ◌==◌, ⊤, Bool, true, IsSome, List, Option, Some, None, length, slice_get, if◌then◌else◌}
+use Rattle.std.specs.BTreeMap.{is_at}
+use Rattle.std.specs.Map.{lookup}
+use Rattle.std.specs.Ordering.{nat_cmp}
+use Rattle.ask_table.specs.Asks.{Asks}
+use Rattle.std.specs.List.{list_any}
+use Rattle.core_model.specs.Fleet.{Fleet, named}
+use Rattle.core_model.specs.Serving.{IsLeaderFor}
+use Rattle.core_model.specs.declared.named.Named.{Named}
+use Rattle.core_steps.specs.Writes.{Posting}
+use Rattle.follower_cache.specs.Seen.{FollowerState}
+use Rattle.node_name.specs.declared.NodeName.{NodeName}
+use Rattle.read_plan.specs.Ends.{EndsWith}
+use Rattle.read_plan.specs.Readings.{Reading}
+use Rattle.read_plan.specs.Standings.{stage_named, stage_of}
+use Rattle.read_plan.specs.declared.standing.Standing.{Standing}
+use Rattle.read_plan.specs.declared.standing.Standing.TheVariants.{Looking, Asking, Mastering, Keeping, Ended}
+use Rattle.replies.specs.declared.plans.Stage.{Stage}
+use Rattle.replies.specs.declared.reply.Reply.{Reply}
+use Rattle.tao_base.specs.Queries.{query_shard}
+use Rattle.tao_base.specs.Writes.{write_shard}
+use Rattle.tao_keeper.specs.KeeperState.{KeepsTables}
+use Rattle.tao_keeper.specs.Table.{Tables}
+use Rattle.topology.specs.Config.{Settings}
+use Rattle.write_plan.specs.Plans.{next_of, reply_of}
+use Rattle.write_plan.specs.Stages.{told_stage}
+use Rattle.core_plans.specs.HeldReads.{IsReadUnderWay, StepsRead}
+use Rattle.core_plans.specs.HeldWrites.{DoesWriteStage, IsWriteUnderWay}
+use Rattle.core_plans.specs.declared.held.HeldPlan.{HeldPlan}
+use Rattle.core_plans.specs.declared.held.HeldPlan.TheVariants.{Read, Write}
+use Rattle.core_plans.specs.declared.plans.HeldPlans.TheInside.{Inside}
+
+-- ---- one plan
+
+-- the stage that follows; none where it is over
+abbrev pub next_stage : HeldPlan → Option Stage
+next_stage (Read p) = stage_named (stage_of p.at)
+next_stage (Write p) = told_stage (next_of p)
+
+-- it is over, with this reply
+abbrev pub IsOver : HeldPlan → Reply → Type 0
+IsOver (Read p) reply = EndsWith p reply
+IsOver (Write p) reply = reply_of p ≡ Some reply
+
+abbrev pub IsUnderWay : Bool → Settings → Tables → Fleet → HeldPlan → Type 0
+IsUnderWay tells s tables f (Read p) = IsReadUnderWay tells s tables f p
+IsUnderWay tells s tables f (Write p) = IsWriteUnderWay s f p
+
+-- ---- all plans
+
+-- the plans with their numbers, in the order of these
+abbrev pub Plans : Type 0
+Plans = List (ℕ × HeldPlan)
+
+abbrev pub plans_seen : Inside → Plans
+plans_seen p = p.plans.entries
+
+abbrev pub plan_at : Plans → ℕ → Option HeldPlan
+plan_at plans number = lookup (is_at (nat_cmp number)) plans
+
+-- how many they are
+abbrev pub plan_count : Plans → ℕ
+plan_count plans = length plans
+
+-- the plan of the number becomes this, or goes, and no other changes
+abbrev pub SetsPlan : ℕ → Option HeldPlan → Plans → Plans → Type 0
+SetsPlan number plan old new = (other : ℕ) → plan_at new other ≡ (if other == number then plan else plan_at old other)
+
+-- a plan more
+pub record AddsPlan (number : ℕ) (plan : HeldPlan) (old new : Plans) : Type 0 where
+  pub sets : SetsPlan number (Some plan) old new
+  pub count : plan_count new ≡ plan_count old + 1
+
+-- a plan less
+pub record TakesPlan (number : ℕ) (old new : Plans) : Type 0 where
+  pub sets : SetsPlan number None old new
+  pub count : plan_count new + 1 ≡ plan_count old
+
+-- a plan in the place of another
+pub record ChangesPlan (number : ℕ) (plan : HeldPlan) (old new : Plans) : Type 0 where
+  pub sets : SetsPlan number (Some plan) old new
+  pub count : plan_count new ≡ plan_count old
+
+-- ---- one step
+
+-- the leader is one for the plan's shard
+abbrev pub IsLeaderOf : Settings → NodeName → HeldPlan → Type 0
+IsLeaderOf s leader (Read p) = IsLeaderFor s (query_shard p.query) leader
+IsLeaderOf s leader (Write p) = IsLeaderFor s (write_shard p.write) leader
+
+-- a plan is there that can go on, and the leader is one for its shard
+pub record IsThere (tells : Bool) (s : Settings) (tables : Tables) (f : Fleet) (leader : NodeName) (plan : HeldPlan) : Type 0 where
+  pub under_way : IsUnderWay tells s tables f plan
+  pub goes_on : IsSome (next_stage plan)
+  pub leader_is : IsLeaderOf s leader plan
+
+abbrev pub CanStep : Bool → Settings → Tables → Fleet → NodeName → Option HeldPlan → Type 0
+CanStep tells s tables f leader None = ⊥
+CanStep tells s tables f leader (Some plan) = IsThere tells s tables f leader plan
+
+-- a read's stage changes no table and no message
+pub record StepsReadAlone (tells : Bool) (s : Settings) (leader : NodeName) (p : Reading) (old : Posting) (q : Reading) (new : Posting) : Type 0 where
+  pub steps : StepsRead tells s leader p old.scene q new.scene
+  pub tables : KeepsTables tells old.scene.keepers new.scene.keepers
+  pub inboxes : new.inboxes ≡ old.inboxes
+
+-- one stage of a plan, the one that follows
+abbrev pub StepsHeld : Bool → Settings → NodeName → HeldPlan → Posting → HeldPlan → Posting → Type 0
+StepsHeld tells s leader (Read p) old (Read q) new = StepsReadAlone tells s leader p old q new
+StepsHeld tells s leader (Write p) old (Write q) new = DoesWriteStage tells s leader (next_of p) p old q new
+StepsHeld tells s leader (Read p) old (Write q) new = ⊥
+StepsHeld tells s leader (Write p) old (Read q) new = ⊥
+
+-- the plan of that number does one stage, and no other
+pub record StepsPlan (tells : Bool) (s : Settings) (leader : NodeName) (number : ℕ)
+    (plans : Plans) (old : Posting) (later : Plans) (new : Posting) : Type 0 where
+  pub before : HeldPlan
+  pub after : HeldPlan
+  pub stands : plan_at plans number ≡ Some before
+  pub steps : StepsHeld tells s leader before old after new
+  pub changes : ChangesPlan number after plans later
+
+-- ---- asks
+
+abbrev pub is_open_ask : ℕ → Asks → Bool
+is_open_ask number t = list_any (λ a. a.number == number) t.asks
+
+-- the ask is open at a follower of that name
+pub record IsOpenAt (name : NodeName) (number : ℕ) (followers : List (Named FollowerState)) : Type 0 where
+  pub place : ℕ
+  pub follower : FollowerState
+  pub stands : slice_get followers place ≡ Some (named name follower)
+  pub is_open : is_open_ask number follower.node.asks ≡ true
+
+-- no ask is open at a follower that wasn't before
+pub record OpensNone (old new : List (Named FollowerState)) : Type 0 where
+  pub still : (name : NodeName) (number : ℕ) → IsOpenAt name number new → IsOpenAt name number old
+
+-- the plan holds a read that opened the ask there
+abbrev pub HoldsAsk : NodeName → ℕ → Option HeldPlan → Type 0
+HoldsAsk name number None = ⊥
+HoldsAsk name number (Some (Write p)) = ⊥
+HoldsAsk name number (Some (Read p)) = (p.follower ≡ name) × (p.ask ≡ Some number)
+
+-- each open ask is that of one held read, and no two are of the same
+pub record AsksAreHeld (plans : Plans) (followers : List (Named FollowerState)) : Type 0 where
+  pub held : (name : NodeName) (number : ℕ) → IsOpenAt name number followers → (plan : ℕ) × HoldsAsk name number (plan_at plans plan)
+  pub one : (name : NodeName) (number m n : ℕ) → HoldsAsk name number (plan_at plans m) → HoldsAsk name number (plan_at plans n) → m ≡ n
+
+-- a read that hasn't looked yet has opened no ask
+abbrev pub HasNoneAt : Standing → Option ℕ → Type 0
+HasNoneAt Looking ask = ask ≡ None
+HasNoneAt Asking ask = ⊤
+HasNoneAt Mastering ask = ⊤
+HasNoneAt (Keeping given) ask = ⊤
+HasNoneAt (Ended end) ask = ⊤
+
+abbrev pub OpensFirst : HeldPlan → Type 0
+OpensFirst (Read p) = HasNoneAt p.at p.ask
+OpensFirst (Write p) = ⊤
+
+-- ---- what is held
+
+-- each plan that is held can go on, and each open ask is that of one of them
+pub record ArePlansOf (tells : Bool) (s : Settings) (tables : Tables) (f : Fleet) (plans : Plans) : Type 0 where
+  pub under_way : (number : ℕ) (plan : HeldPlan) → plan_at plans number ≡ Some plan → IsUnderWay tells s tables f plan
+  pub goes_on : (number : ℕ) (plan : HeldPlan) → plan_at plans number ≡ Some plan → IsSome (next_stage plan)
+  pub begun : (number : ℕ) (plan : HeldPlan) → plan_at plans number ≡ Some plan → OpensFirst plan
+  pub asks : AsksAreHeld plans f.followers

@@ -1,0 +1,62 @@
+-- What stays so of the asks of held reads.
+use Rattle.std.specs.Prelude.{ℕ, ◌≡◌, Bool, List, Option}
+use Rattle.cache_items.specs.declared.look.Kept.{Kept}
+use Rattle.cache_items.specs.declared.look.Look.TheVariants.{Hit, Miss}
+use Rattle.core_model.specs.Evictions.{Evicts}
+use Rattle.core_model.specs.Fleet.{ChangesNode}
+use Rattle.core_model.specs.Messages.{DeliversThere, TakesRefill}
+use Rattle.core_model.specs.Reads.{EndsAsk, KeepsFill, LooksFirst, Wanted}
+use Rattle.core_model.specs.Writes.{AppliesTo}
+use Rattle.core_model.specs.declared.named.Named.{Named}
+use Rattle.core_plans.specs.Held.{AsksAreHeld, OpensNone, Plans}
+use Rattle.core_steps.specs.Reads.{ReadsAlong}
+use Rattle.core_steps.specs.Routes.{Scene}
+use Rattle.core_steps.specs.Writes.{ClientWrite, Posting, WritesAlong}
+use Rattle.core_steps.specs.declared.routes.Route.{Route}
+use Rattle.follower_cache.specs.Seen.{FollowerState}
+use Rattle.follower_cache.specs.declared.queue.Refill.{Refill}
+use Rattle.maint_msg.specs.Maints.{SeenMaint}
+use Rattle.node_name.specs.declared.NodeName.{NodeName}
+use Rattle.replies.specs.declared.reply.Reply.{Reply}
+use Rattle.sealed_item.specs.Fills.{SealedItem}
+use Rattle.shard_log.specs.View.{View}
+use Rattle.tao_base.specs.EdgeTypes.{EdgeTypes}
+use Rattle.tao_base.specs.declared.entry.Entry.{Entry}
+use Rattle.tao_base.specs.declared.id.Key.{Key}
+use Rattle.tao_base.specs.declared.query.Answer.{Answer}
+use Rattle.tao_base.specs.declared.query.Query.{Query}
+use Rattle.topology.specs.Config.{Settings}
+
+abbrev pub Followers : Type 0
+Followers = List (Named FollowerState)
+
+-- which changes of one follower open no ask
+pub record ChangesOpenNone (name : NodeName) (old new : Followers) : Type 0 where
+  pub hit : (types : EdgeTypes) (read : Wanted) (answer : Answer) (version : ℕ) (ask : Option ℕ)
+      → ChangesNode name (LooksFirst types read (Hit answer version) ask) old new → OpensNone old new
+  pub ends : (ask : Option ℕ) → ChangesNode name (EndsAsk ask) old new → OpensNone old new
+  pub keeps : (types : EdgeTypes) (query : Query) (ask : Option ℕ) (fill : SealedItem) (answer : Answer) (kept : Kept)
+      → ChangesNode name (KeepsFill types query ask fill answer kept) old new → OpensNone old new
+  pub applies : (types : EdgeTypes) (shard : ℕ) (entry : Entry) (note : View) → ChangesNode name (AppliesTo types shard entry note) old new
+      → OpensNone old new
+  pub delivers : (types : EdgeTypes) (m : SeenMaint) (dropped : ℕ) → ChangesNode name (DeliversThere types m dropped) old new → OpensNone old new
+  pub refills : (refill : Option Refill) → ChangesNode name (TakesRefill refill) old new → OpensNone old new
+  pub evicts : (key : Option Key) (held : Bool)
+      → ChangesNode name (λ from to. Evicts key held from.node to.node × (to.refills ≡ from.refills)) old new → OpensNone old new
+  -- a look that finds nothing opens one, which ends with the read
+  pub in_vain : (types : EdgeTypes) (read : Wanted) (ask : Option ℕ) (looked : Followers)
+      → ChangesNode name (LooksFirst types read Miss ask) old looked → ChangesNode name (EndsAsk ask) looked new → OpensNone old new
+  pub filled : (types : EdgeTypes) (read : Wanted) (ask : Option ℕ) (fill : SealedItem) (answer : Answer) (kept : Kept) (looked : Followers)
+      → ChangesNode name (LooksFirst types read Miss ask) old looked
+      → ChangesNode name (KeepsFill types read.query ask fill answer kept) looked new → OpensNone old new
+
+-- where no ask opens, each that is open is still that of a held read; and whole reads and writes open none
+pub record AsksStayHeld : Type 0 where
+  pub held : (plans : Plans) (old new : Followers) → OpensNone old new → AsksAreHeld plans old → AsksAreHeld plans new
+  pub same : (old new : Followers) → new ≡ old → OpensNone old new
+  pub on : (old mid new : Followers) → OpensNone old mid → OpensNone mid new → OpensNone old new
+  pub changes : (name : NodeName) (old new : Followers) → ChangesOpenNone name old new
+  pub reads : (tells : Bool) (s : Settings) (route : Route) (read : Wanted) (reply : Reply) (old new : Scene)
+      → ReadsAlong tells s route read reply old new → OpensNone old.fleet.followers new.fleet.followers
+  pub writes : (tells : Bool) (s : Settings) (route : Route) (call : ClientWrite) (reply : Reply) (old new : Posting)
+      → WritesAlong tells s route call reply old new → OpensNone old.scene.fleet.followers new.scene.fleet.followers

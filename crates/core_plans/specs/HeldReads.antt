@@ -1,0 +1,175 @@
+-- A read that is held between its stages, and what each stage does.
+use Rattle.std.specs.Prelude.{ℕ, ◌≡◌, ◌<◌, ◌≤◌, ◌⊎◌, ⊤, Bool, false, IfSome, Option, Some, None, Ok, Err, length}
+use Rattle.cache_items.specs.declared.look.Kept.{Kept as KeptWhy}
+use Rattle.cache_items.specs.declared.look.Look.{Look}
+use Rattle.core_model.specs.Fleet.{ChangesNode, Fleet, HasAsk}
+use Rattle.core_model.specs.Pens.{Pens, pens_of}
+use Rattle.core_model.specs.Reads.{EndsAsk, IsGivenAnswer, IsGivenFill, KeepsFill, LooksFirst, Wanted, wanted}
+use Rattle.core_model.specs.Serving.{IsFollowerFor}
+use Rattle.core_model.specs.Stores.{master_log}
+use Rattle.core_steps.specs.Reads.{AnswersAgain, IsLegalNow}
+use Rattle.core_steps.specs.ReadSteps.{IsAskedInVain, IsGivenOver, IsReadOver, MissedRead, ReadOverFails, missed_read}
+use Rattle.core_steps.specs.Routes.{Scene, hops_between, master_node, was_called}
+use Rattle.core_steps.specs.declared.routes.Route.{Route}
+use Rattle.graph_model.specs.Log.{version}
+use Rattle.graph_model.specs.Told.{WhereTold}
+use Rattle.node_name.specs.declared.NodeName.{NodeName}
+use Rattle.read_plan.specs.Ends.{EndsWith}
+use Rattle.read_plan.specs.Readings.{Reading, new_reading, taken}
+use Rattle.read_plan.specs.declared.stages.ReadResult.TheVariants as came
+use Rattle.read_plan.specs.declared.standing.Given.{Given}
+use Rattle.read_plan.specs.declared.standing.Given.TheVariants.{Fill, HandedOut, Past}
+use Rattle.read_plan.specs.declared.standing.Standing.{Standing}
+use Rattle.read_plan.specs.declared.standing.Standing.TheVariants.{Looking, Asking, Mastering, Keeping, Ended}
+use Rattle.replies.specs.declared.calls.CallReply.TheVariants as called
+use Rattle.replies.specs.declared.calls.ReadReply.{ReadReply}
+use Rattle.replies.specs.declared.nodes.KeptOrNot.TheVariants.{Kept}
+use Rattle.replies.specs.declared.refusals.Refusal.TheVariants.{Memory}
+use Rattle.replies.specs.declared.reply.Reply.{Reply}
+use Rattle.replies.specs.declared.reply.Reply.TheVariants.{Called, Refused}
+use Rattle.sealed_item.specs.Fills.{SealedItem}
+use Rattle.shard_tables.specs.declared.leader_answer.LeaderAnswer.{LeaderAnswer}
+use Rattle.shard_tables.specs.declared.leader_answer.LeaderAnswer.TheVariants as leader
+use Rattle.shard_tables.specs.declared.read_out.ReadOut.{ReadOut}
+use Rattle.tao_base.specs.EdgeTypes.{EdgeTypes}
+use Rattle.tao_base.specs.Queries.{query_key, query_shard}
+use Rattle.tao_base.specs.declared.query.Answer.{Answer}
+use Rattle.tao_base.specs.declared.query.Query.{Query}
+use Rattle.tao_keeper.specs.Table.{Tables}
+use Rattle.tao_schema.specs.Schema.{key_bound, types_of}
+use Rattle.topology.specs.Config.{Settings}
+
+-- what is asked, at the floor of its beginning
+abbrev pub wanted_by : Reading → Wanted
+wanted_by p = wanted p.query p.floor
+
+-- a read that is begun, at the bound of its type
+abbrev pub begun_read : Settings → Query → ℕ → ℕ → ℕ → NodeName → Reading
+begun_read s query region tier floor follower =
+    record (new_reading query region tier floor false follower) { bound = key_bound (types_of s.schema) (query_key query) }
+
+-- its way, by a leader
+abbrev pub route_by : NodeName → Reading → Route
+route_by leader p = record { follower = p.follower; leader = leader }
+
+abbrev pub missed_by : NodeName → Reading → MissedRead
+missed_by leader p = missed_read (route_by leader p) (wanted_by p) p.ask
+
+-- ---- a read under way
+
+-- what was given to it is for it, was seen of its shard's log, and is still there
+abbrev pub IsGivenTo : EdgeTypes → Pens → Wanted → Given → Type 0
+IsGivenTo types pens read (Fill fill) = IsGivenFill types pens read fill
+IsGivenTo types pens read (Past answer version total (Some note)) = IsGivenAnswer types pens read (leader.Past answer version total note)
+IsGivenTo types pens read (Past answer version total None) = ⊥
+IsGivenTo types pens read (HandedOut version) = ⊥
+
+abbrev pub StandsSo : EdgeTypes → Pens → Wanted → Standing → Type 0
+StandsSo types pens read (Keeping given) = IsGivenTo types pens read given
+StandsSo types pens read Looking = ⊤
+StandsSo types pens read Asking = ⊤
+StandsSo types pens read Mastering = ⊤
+StandsSo types pens read (Ended end) = ⊤
+
+-- a read of a follower that serves its shard, from a region of the configuration. The log has come to its floor; its ask, where it opened one, is on
+-- its key; and what was given to it can be answered from
+pub record IsReadUnderWay (tells : Bool) (s : Settings) (tables : Tables) (f : Fleet) (p : Reading) : Type 0 where
+  pub follower : IsFollowerFor s (query_shard p.query) p.follower
+  pub region : p.region < length s.regions
+  pub plain : p.critical ≡ false
+  pub bound : p.bound ≡ key_bound (types_of s.schema) (query_key p.query)
+  pub reached : WhereTold tells (p.floor ≤ version (master_log s tables (query_shard p.query)) (query_key p.query))
+  pub ask : IfSome p.ask (λ number. HasAsk p.follower number (query_key p.query) f.followers)
+  pub stands : StandsSo (types_of s.schema) (pens_of f.masters) (wanted_by p) p.at
+
+-- ---- what its stages do
+
+-- no node but followers changed, and nothing else
+abbrev pub ChangesFollowers : Scene → Scene → Type 0
+ChangesFollowers old new = new ≡ record old { fleet = record old.fleet { followers = new.fleet.followers } }
+
+-- its ask ended
+abbrev pub EndsItsAsk : Reading → Scene → Scene → Type 0
+EndsItsAsk p old new = ChangesNode p.follower (EndsAsk p.ask) old.fleet.followers new.fleet.followers
+
+-- `look`: the follower answers, or opens an ask
+pub record Looks (s : Settings) (p : Reading) (old : Scene) (q : Reading) (new : Scene) : Type 0 where
+  pub look : Look
+  pub ask : Option ℕ
+  pub looks : ChangesNode p.follower (LooksFirst (types_of s.schema) (wanted_by p) look ask) old.fleet.followers new.fleet.followers
+  pub rest : ChangesFollowers old new
+  pub then : q ≡ taken (came.Look (Ok look)) 0 false (record p { ask = ask })
+
+-- or memory was wanting for its answer
+pub record LooksInVain (p : Reading) (old : Scene) (q : Reading) (new : Scene) : Type 0 where
+  pub same : new ≡ old
+  pub then : q ≡ taken (came.Look (Err (Refused (Memory 0)))) 0 false p
+
+-- `ask`: the leader answers, over the link there and back
+pub record AsksLeader (s : Settings) (leader : NodeName) (p : Reading) (old : Scene) (q : Reading) (new : Scene) : Type 0 where
+  pub given : LeaderAnswer
+  pub over : IsGivenOver s (route_by leader p) (wanted_by p) given old new
+  pub then : q ≡ taken (came.Ask (Ok given)) (hops_between old.link new.link) (was_called old.keepers new.keepers) p
+
+-- or nothing was carried back, and its ask ends
+pub record AsksInVain (s : Settings) (leader : NodeName) (p : Reading) (old : Scene) (q : Reading) (new : Scene) : Type 0 where
+  pub reply : Reply
+  pub vain : IsAskedInVain s (missed_by leader p) reply old new
+  pub then : q ≡ taken (came.Ask (Err reply)) (hops_between old.link new.link) (was_called old.keepers new.keepers) p
+
+-- `master`: the master's store answers, over the link there and back
+pub record AsksMaster (tells : Bool) (s : Settings) (p : Reading) (old : Scene) (q : Reading) (new : Scene) : Type 0 where
+  pub out : ReadOut
+  pub over : IsReadOver tells s p.query out old new
+  pub then : q ≡ taken (came.Master (Ok out)) (hops_between old.link new.link) (was_called old.keepers new.keepers) p
+
+-- or nothing was carried back, and its ask ends
+pub record MastersInVain (s : Settings) (p : Reading) (old : Scene) (q : Reading) (new : Scene) : Type 0 where
+  pub reply : Reply
+  pub fails : ReadOverFails p.follower (master_node s (query_shard p.query)) reply old new
+  pub ends : EndsItsAsk p old new
+  pub rest : new.fleet ≡ record old.fleet { followers = new.fleet.followers }
+  pub then : q ≡ taken (came.Master (Err reply)) (hops_between old.link new.link) (was_called old.keepers new.keepers) p
+
+-- `keep`: the follower answers from the fill, and keeps it or not
+pub record AnswersFrom (s : Settings) (p : Reading) (fill : SealedItem) (old : Scene) (q : Reading) (new : Scene) : Type 0 where
+  pub answer : Answer
+  pub kept : KeptWhy
+  pub keeps : ChangesNode p.follower (KeepsFill (types_of s.schema) p.query p.ask fill answer kept) old.fleet.followers new.fleet.followers
+  pub rest : ChangesFollowers old new
+  pub then : q ≡ taken (came.Keep (Ok (Some (answer, kept)))) 0 false p
+
+-- or memory was wanting for its answer, and its ask ends
+pub record KeepsInVain (p : Reading) (old : Scene) (q : Reading) (new : Scene) : Type 0 where
+  pub ends : EndsItsAsk p old new
+  pub rest : ChangesFollowers old new
+  pub then : q ≡ taken (came.Keep (Err (Refused (Memory 0)))) 0 false p
+
+-- an answer past the bound is handed on, and its ask ends
+pub record HandsOn (p : Reading) (old : Scene) (q : Reading) (new : Scene) : Type 0 where
+  pub ends : EndsItsAsk p old new
+  pub rest : ChangesFollowers old new
+  pub then : q ≡ taken (came.Keep (Ok None)) 0 false p
+
+abbrev pub KeepsGiven : Settings → Reading → Given → Scene → Reading → Scene → Type 0
+KeepsGiven s p (Fill fill) old q new = AnswersFrom s p fill old q new ⊎ KeepsInVain p old q new
+KeepsGiven s p (Past answer version total seen) old q new = HandsOn p old q new
+KeepsGiven s p (HandedOut version) old q new = ⊥
+
+-- what the stage does that follows
+abbrev pub DoesReadStage : Bool → Settings → NodeName → Standing → Reading → Scene → Reading → Scene → Type 0
+DoesReadStage tells s leader Looking p old q new = Looks s p old q new ⊎ LooksInVain p old q new
+DoesReadStage tells s leader Asking p old q new = AsksLeader s leader p old q new ⊎ AsksInVain s leader p old q new
+DoesReadStage tells s leader Mastering p old q new = AsksMaster tells s p old q new ⊎ MastersInVain s p old q new
+DoesReadStage tells s leader (Keeping given) p old q new = KeepsGiven s p given old q new
+DoesReadStage tells s leader (Ended end) p old q new = ⊥
+
+-- where it ends with an answer, that is legal in the log as it is then, and what is kept is held and answers again
+abbrev pub EndsLegally : Bool → Settings → Reading → Scene → Type 0
+EndsLegally tells s q new = (reply : ReadReply) → EndsWith q (Called (called.Read reply)) → IsLegalNow tells s (wanted_by q) reply new.keepers
+    × WhereTold tells (reply.kept ≡ Kept → AnswersAgain (types_of s.schema) q.follower q.query reply new.fleet.followers)
+
+-- one stage of a held read, the one that follows
+pub record StepsRead (tells : Bool) (s : Settings) (leader : NodeName) (p : Reading) (old : Scene) (q : Reading) (new : Scene) : Type 0 where
+  pub does : DoesReadStage tells s leader p.at p old q new
+  pub legal : EndsLegally tells s q new

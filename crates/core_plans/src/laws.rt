@@ -1,0 +1,8 @@
+//! What stays so. The law is the contract of a function that does nothing.
+ghost use Rattle.core_plans.specs.HeldLaws.{AsksStayHeld};
+
+/// Each open ask stays that of one held read, whatever is done to the nodes but for the look of a held read.
+#[tactic(auto, using(crate::proofs::AsksHeld::asks_stay_held))]
+pub fn asks_stay_held()
+    ensures { AsksStayHeld }
+{}

@@ -1,0 +1,177 @@
+//! `HeldPlans`.
+ghost use Rattle.std.specs.Prelude.{◌≡◌, IfSome};
+ghost use Rattle.core_mail.specs.Inboxes.{AreInboxesOf};
+ghost use Rattle.core_model.specs.Consistent.{GoesOn, IsConsistent};
+ghost use Rattle.core_model.specs.Growing.{MastersGrow};
+ghost use Rattle.core_model.specs.Pens.{pens_of};
+ghost use Rattle.core_plans.specs.Held.{CanStep, IsThere, IsUnderWay, StepsHeld, StepsPlan};
+ghost use Rattle.core_steps.specs.Routes.{scene};
+ghost use Rattle.core_steps.specs.Writes.{posting};
+ghost use Rattle.tao_keeper.specs.KeeperState.{IsLater};
+ghost use Rattle.topology.specs.States.{all_up};
+
+use crate::held::HeldPlan;
+use crate::reads::read_stage;
+use crate::writes::write_stage;
+use core_mail::Mail;
+use core_nodes::Fleet;
+use node_name::NodeName;
+use std::alloc::Global;
+use std::collections::BTreeMap;
+use std::marker::Model;
+use tao_base::OutOfMemory;
+use tao_keeper::Keeper;
+use tao_link::Link;
+use topology::{Config, Topology};
+
+/// Drops a value. Whatever its type, it is one step to the one who reads on.
+fn let_go<T: Drop>(value: T) {
+    drop(value);
+}
+
+/// Does the stage of a plan that follows.
+fn held_stage<K: Keeper, L: Link>(
+    alloc: Global,
+    fleet: &mut Fleet,
+    mail: &mut Mail,
+    config: &Config,
+    topology: &Topology,
+    keepers: &mut K,
+    link: &mut L,
+    leader: NodeName,
+    plan: &mut HeldPlan,
+)
+    requires consistent { IsConsistent K.TELLS config.now (K.state keepers.old).told fleet.old }
+    requires inboxes { AreInboxesOf config.now (pens_of fleet.old.masters) mail.old }
+    requires states { topology.now ≡ all_up config.now }
+    requires there { IsThere K.TELLS config.now (K.state keepers.old).told fleet.old leader plan.old }
+    ensures steps { StepsHeld K.TELLS config.now leader
+        plan.old (posting (scene fleet.old (K.state keepers.old) (L.shown link.old)) mail.old topology.now)
+        plan.new (posting (scene fleet.new (K.state keepers.new) (L.shown link.new)) mail.new topology.now) }
+    ensures under_way { IsUnderWay K.TELLS config.now (K.state keepers.new).told fleet.new plan.new }
+    ensures consistent { IsConsistent K.TELLS config.now (K.state keepers.new).told fleet.new }
+    ensures inboxes { AreInboxesOf config.now (pens_of fleet.new.masters) mail.new }
+    ensures goes { GoesOn fleet.old fleet.new }
+    ensures grows { MastersGrow K.TELLS config.now (K.state keepers.old).told (K.state keepers.new).told }
+    ensures later { IsLater (K.state keepers.old) (K.state keepers.new) }
+{
+    match plan {
+        HeldPlan::Read(plan) => read_stage(alloc, fleet, config, keepers, link, leader, plan),
+        HeldPlan::Write(plan) => write_stage(
+            alloc, fleet, mail, config, topology, keepers, link, leader, plan,
+        ),
+    }
+}
+
+/// The plans that are held, by their numbers. A look-up is a search among them.
+#[derive(Drop)]
+pub struct HeldPlans {
+    plans: BTreeMap<u32, HeldPlan>,
+}
+
+impl Model for HeldPlans {
+    ghost use Rattle.core_plans.specs.Held.{Plans, plans_seen};
+
+    ghost Value = { Plans };
+
+    ghost view = { plans_seen };
+}
+
+impl HeldPlans {
+    ghost use Rattle.std.specs.Prelude.{ℕ, ◌≡◌, None, OnErr, OnOk, false, is_some, option_copied, true};
+    ghost use Rattle.core_plans.specs.Held.{AddsPlan, TakesPlan, plan_at, plan_count};
+
+    /// None is held. Takes no memory.
+    pub fn new(alloc: Global) -> HeldPlans
+        ensures none { (number : ℕ) → plan_at result number ≡ None }
+        ensures count { plan_count result ≡ 0 }
+    {
+        HeldPlans {
+            plans: BTreeMap::new(alloc),
+        }
+    }
+
+    /// How many are held.
+    pub fn len(&self) -> usize
+        ensures { result ≡ plan_count self.now }
+    {
+        self.plans.len()
+    }
+
+    /// Whether a plan of that number is held.
+    pub fn has(&self, number: u32) -> bool
+        ensures { result ≡ is_some (plan_at self.now number) }
+    {
+        self.plans.contains_key(&number)
+    }
+
+    /// The plan of that number.
+    pub fn at(&self, number: u32) -> Option<&HeldPlan>
+        ensures { option_copied result ≡ plan_at self.now number }
+    {
+        self.plans.get(&number)
+    }
+
+    /// Holds a plan under a number that is free. The one error is want of memory, and leaves all as it was.
+    pub fn add(&mut self, number: u32, plan: HeldPlan) -> Result<(), OutOfMemory>
+        requires { plan_at self.old number ≡ None }
+        ensures ok { OnOk result (AddsPlan number plan self.old self.new) }
+        ensures err { OnErr result (self.new ≡ self.old) }
+    {
+        match self.plans.insert(number, plan) {
+            Ok(other) => {
+                let_go(other);
+                Ok(())
+            }
+            Err(failed) => {
+                let_go(failed);
+                Err(OutOfMemory)
+            }
+        }
+    }
+
+    /// Takes the plan of that number out. None, and nothing changed, exactly where none is held. Takes no memory.
+    pub fn take(&mut self, number: u32) -> Option<HeldPlan>
+        ensures plan { result ≡ plan_at self.old number }
+        ensures without { is_some result ≡ true → TakesPlan number self.old self.new }
+        ensures same { is_some result ≡ false → self.new ≡ self.old }
+    {
+        self.plans.remove(&number)
+    }
+
+    /// Does the stage of the plan of that number that follows, with a leader that serves its shard: for a read one of its region, for a
+    /// write the master's. The plan stays, also where it is over then. Costs what the stage does in `core_steps`.
+    pub fn step<K: Keeper, L: Link>(
+        &mut self,
+        alloc: Global,
+        fleet: &mut Fleet,
+        mail: &mut Mail,
+        config: &Config,
+        topology: &Topology,
+        keepers: &mut K,
+        link: &mut L,
+        leader: NodeName,
+        number: u32,
+    )
+        requires consistent { IsConsistent K.TELLS config.now (K.state keepers.old).told fleet.old }
+        requires inboxes { AreInboxesOf config.now (pens_of fleet.old.masters) mail.old }
+        requires states { topology.now ≡ all_up config.now }
+        requires can { CanStep K.TELLS config.now (K.state keepers.old).told fleet.old leader (plan_at self.old number) }
+        ensures steps { StepsPlan K.TELLS config.now leader number
+            self.old (posting (scene fleet.old (K.state keepers.old) (L.shown link.old)) mail.old topology.now)
+            self.new (posting (scene fleet.new (K.state keepers.new) (L.shown link.new)) mail.new topology.now) }
+        ensures under_way { IfSome (plan_at self.new number) (IsUnderWay K.TELLS config.now (K.state keepers.new).told fleet.new) }
+        ensures consistent { IsConsistent K.TELLS config.now (K.state keepers.new).told fleet.new }
+        ensures inboxes { AreInboxesOf config.now (pens_of fleet.new.masters) mail.new }
+        ensures goes { GoesOn fleet.old fleet.new }
+        ensures grows { MastersGrow K.TELLS config.now (K.state keepers.old).told (K.state keepers.new).told }
+        ensures later { IsLater (K.state keepers.old) (K.state keepers.new) }
+    {
+        match self.plans.get_mut(&number) {
+            Some(plan) => held_stage(
+                alloc, fleet, mail, config, topology, keepers, link, leader, plan,
+            ),
+            None => unreachable!(),
+        }
+    }
+}

@@ -1,0 +1,235 @@
+//! The stages of held reads.
+ghost use Rattle.std.specs.Prelude.{◌≡◌, ◌-◌, IsSome, nat_lt};
+ghost use Rattle.core_model.specs.Consistent.{GoesOn, IsConsistent, IsFleetOf};
+ghost use Rattle.core_model.specs.Fleet.{ChangesNode};
+ghost use Rattle.core_model.specs.Reads.{EndsAsk};
+ghost use Rattle.core_model.specs.Serving.{IsFollowerFor, IsLeaderFor};
+ghost use Rattle.core_plans.specs.HeldReads.{IsReadUnderWay, StepsRead, begun_read};
+ghost use Rattle.core_steps.specs.ReadSteps.{ReadsOn};
+ghost use Rattle.core_steps.specs.Routes.{scene};
+ghost use Rattle.read_plan.specs.Standings.{stage_named, stage_of};
+ghost use Rattle.read_plan.specs.declared.stages.ReadStage.TheVariants as stage;
+ghost use Rattle.tao_base.specs.Queries.{query_shard};
+
+use core_nodes::{FirstLook, Fleet};
+use core_steps::{Route, ask_over, out_of_memory, read_over};
+use node_name::NodeName;
+use read_plan::{ReadPlan, ReadResult, ReadStage};
+use sealed_item::laws::fills_are_sealed;
+use std::alloc::Global;
+use tao_base::{OutOfMemory, Query};
+use tao_keeper::Keeper;
+use tao_link::Link;
+use topology::Config;
+
+/// A read that is begun, at a floor, by a session of a tier, whose places are given. Takes no memory.
+pub fn begin_read(
+    config: &Config,
+    query: Query,
+    region: u16,
+    tier: u16,
+    floor: u64,
+    follower: NodeName,
+) -> ReadPlan
+    ensures { result ≡ begun_read config.now query region tier floor follower }
+{
+    let bound = config.schema.bound_of(&query.key());
+    let mut plan = ReadPlan::begin(query, region, tier, floor, false, follower);
+    plan.set_bound(bound);
+    plan
+}
+
+/// What a stage took.
+#[derive(Clone, Copy)]
+struct Cost {
+    hops: u64,
+    store: bool,
+}
+
+/// What was taken since there were so many calls and carries.
+fn cost_since<K: Keeper, L: Link>(keepers: &K, link: &L, calls: u64, carries: u64) -> Cost
+    ensures { result ≡ record { hops = (L.shown link.now).carries - carries; store = nat_lt calls (K.state keepers.now).calls } }
+{
+    Cost {
+        hops: link.carries().saturating_sub(carries),
+        store: calls < keepers.calls(),
+    }
+}
+
+/// Ends the ask of a read that is over without a fill.
+fn end_ask_of(fleet: &mut Fleet, config: &Config, plan: &ReadPlan)
+    requires fleet { IsFleetOf config.now fleet.old }
+    requires follower { IsFollowerFor config.now (query_shard plan.now.query) plan.now.follower }
+    ensures ends { ChangesNode plan.now.follower (EndsAsk plan.now.ask) fleet.old.followers fleet.new.followers }
+    ensures rest { fleet.new ≡ record fleet.old { followers = fleet.new.followers } }
+    ensures fleet { IsFleetOf config.now fleet.new }
+    ensures goes { GoesOn fleet.old fleet.new }
+{
+    fleet.end_ask(config, plan.follower(), plan.query().shard(), plan.ask());
+}
+
+/// The stage `look`.
+fn look_stage<K: Keeper, L: Link>(
+    fleet: &mut Fleet,
+    config: &Config,
+    keepers: &K,
+    link: &L,
+    leader: NodeName,
+    plan: &mut ReadPlan,
+)
+    requires consistent { IsConsistent K.TELLS config.now (K.state keepers.now).told fleet.old }
+    requires read { IsReadUnderWay K.TELLS config.now (K.state keepers.now).told fleet.old plan.old }
+    requires stage { stage_of plan.old.at ≡ stage.Look }
+    ensures steps { StepsRead K.TELLS config.now leader plan.old (scene fleet.old (K.state keepers.now) (L.shown link.now))
+        plan.new (scene fleet.new (K.state keepers.now) (L.shown link.now)) }
+    ensures read { IsReadUnderWay K.TELLS config.now (K.state keepers.now).told fleet.new plan.new }
+    ensures consistent { IsConsistent K.TELLS config.now (K.state keepers.now).told fleet.new }
+    ensures goes { GoesOn fleet.old fleet.new }
+{
+    match fleet.look(config, plan.follower(), plan.query(), plan.floor()) {
+        Ok(FirstLook { look, ask }) => {
+            plan.set_ask(ask);
+            plan.take(ReadResult::Look(Ok(look)), 0, false);
+        }
+        Err(OutOfMemory) => plan.take(ReadResult::Look(Err(out_of_memory())), 0, false),
+    }
+}
+
+/// The stage `ask`.
+fn ask_stage<K: Keeper, L: Link>(
+    alloc: Global,
+    fleet: &mut Fleet,
+    config: &Config,
+    keepers: &mut K,
+    link: &mut L,
+    leader: NodeName,
+    plan: &mut ReadPlan,
+)
+    requires consistent { IsConsistent K.TELLS config.now (K.state keepers.old).told fleet.old }
+    requires leader { IsLeaderFor config.now (query_shard plan.old.query) leader }
+    requires read { IsReadUnderWay K.TELLS config.now (K.state keepers.old).told fleet.old plan.old }
+    requires stage { stage_of plan.old.at ≡ stage.Ask }
+    ensures steps { StepsRead K.TELLS config.now leader plan.old (scene fleet.old (K.state keepers.old) (L.shown link.old))
+        plan.new (scene fleet.new (K.state keepers.new) (L.shown link.new)) }
+    ensures read { IsReadUnderWay K.TELLS config.now (K.state keepers.new).told fleet.new plan.new }
+    ensures on { ReadsOn K.TELLS config.now (scene fleet.old (K.state keepers.old) (L.shown link.old))
+        (scene fleet.new (K.state keepers.new) (L.shown link.new)) }
+{
+    let (calls, carries) = (keepers.calls(), link.carries());
+    let route = Route {
+        follower: plan.follower(),
+        leader,
+    };
+    let (query, floor) = (plan.query(), plan.floor());
+    match ask_over(alloc, fleet, config, keepers, link, route, query, floor) {
+        Ok(given) => {
+            let cost = cost_since(keepers, link, calls, carries);
+            plan.take(ReadResult::Ask(Ok(given)), cost.hops, cost.store);
+        }
+        Err(reply) => {
+            end_ask_of(fleet, config, plan);
+            let cost = cost_since(keepers, link, calls, carries);
+            plan.take(ReadResult::Ask(Err(reply)), cost.hops, cost.store);
+        }
+    }
+}
+
+/// The stage `master`.
+fn master_stage<K: Keeper, L: Link>(
+    alloc: Global,
+    fleet: &mut Fleet,
+    config: &Config,
+    keepers: &mut K,
+    link: &mut L,
+    leader: NodeName,
+    plan: &mut ReadPlan,
+)
+    requires consistent { IsConsistent K.TELLS config.now (K.state keepers.old).told fleet.old }
+    requires read { IsReadUnderWay K.TELLS config.now (K.state keepers.old).told fleet.old plan.old }
+    requires stage { stage_of plan.old.at ≡ stage.Master }
+    ensures steps { StepsRead K.TELLS config.now leader plan.old (scene fleet.old (K.state keepers.old) (L.shown link.old))
+        plan.new (scene fleet.new (K.state keepers.new) (L.shown link.new)) }
+    ensures read { IsReadUnderWay K.TELLS config.now (K.state keepers.new).told fleet.new plan.new }
+    ensures on { ReadsOn K.TELLS config.now (scene fleet.old (K.state keepers.old) (L.shown link.old))
+        (scene fleet.new (K.state keepers.new) (L.shown link.new)) }
+{
+    let (calls, carries) = (keepers.calls(), link.carries());
+    let (follower, query) = (plan.follower(), plan.query());
+    match read_over(alloc, fleet, config, keepers, link, follower, query) {
+        Ok(out) => {
+            let cost = cost_since(keepers, link, calls, carries);
+            plan.take(ReadResult::Master(Ok(out)), cost.hops, cost.store);
+        }
+        Err(reply) => {
+            end_ask_of(fleet, config, plan);
+            let cost = cost_since(keepers, link, calls, carries);
+            plan.take(ReadResult::Master(Err(reply)), cost.hops, cost.store);
+        }
+    }
+}
+
+/// The stage `keep`.
+fn keep_stage<K: Keeper, L: Link>(
+    fleet: &mut Fleet,
+    config: &Config,
+    keepers: &K,
+    link: &L,
+    leader: NodeName,
+    plan: &mut ReadPlan,
+)
+    requires consistent { IsConsistent K.TELLS config.now (K.state keepers.now).told fleet.old }
+    requires read { IsReadUnderWay K.TELLS config.now (K.state keepers.now).told fleet.old plan.old }
+    requires stage { stage_of plan.old.at ≡ stage.Keep }
+    ensures steps { StepsRead K.TELLS config.now leader plan.old (scene fleet.old (K.state keepers.now) (L.shown link.now))
+        plan.new (scene fleet.new (K.state keepers.now) (L.shown link.now)) }
+    ensures read { IsReadUnderWay K.TELLS config.now (K.state keepers.now).told fleet.new plan.new }
+    ensures consistent { IsConsistent K.TELLS config.now (K.state keepers.now).told fleet.new }
+    ensures goes { GoesOn fleet.old fleet.new }
+{
+    match plan.fill() {
+        Some(fill) => {
+            fills_are_sealed(&fill);
+            let (follower, query) = (plan.follower(), plan.query());
+            match fleet.keep(config, follower, query, plan.floor(), plan.ask(), fill) {
+                Ok(found) => plan.take(ReadResult::Keep(Ok(Some(found))), 0, false),
+                Err(OutOfMemory) => plan.take(ReadResult::Keep(Err(out_of_memory())), 0, false),
+            }
+        }
+        None => {
+            end_ask_of(fleet, config, plan);
+            plan.take(ReadResult::Keep(Ok(None)), 0, false);
+        }
+    }
+}
+
+/// Does the stage of a held read that follows, with a leader of its region that serves the shard. A stage that fails ends the read,
+/// and its ask. The reply of a read that has ended is legal in the log as it is then.
+///
+/// Costs what the stage does in `core_steps`.
+pub fn read_stage<K: Keeper, L: Link>(
+    alloc: Global,
+    fleet: &mut Fleet,
+    config: &Config,
+    keepers: &mut K,
+    link: &mut L,
+    leader: NodeName,
+    plan: &mut ReadPlan,
+)
+    requires consistent { IsConsistent K.TELLS config.now (K.state keepers.old).told fleet.old }
+    requires leader { IsLeaderFor config.now (query_shard plan.old.query) leader }
+    requires read { IsReadUnderWay K.TELLS config.now (K.state keepers.old).told fleet.old plan.old }
+    requires goes_on { IsSome (stage_named (stage_of plan.old.at)) }
+    ensures steps { StepsRead K.TELLS config.now leader plan.old (scene fleet.old (K.state keepers.old) (L.shown link.old))
+        plan.new (scene fleet.new (K.state keepers.new) (L.shown link.new)) }
+    ensures read { IsReadUnderWay K.TELLS config.now (K.state keepers.new).told fleet.new plan.new }
+    ensures on { ReadsOn K.TELLS config.now (scene fleet.old (K.state keepers.old) (L.shown link.old))
+        (scene fleet.new (K.state keepers.new) (L.shown link.new)) }
+{
+    match plan.next() {
+        ReadStage::Look => look_stage(fleet, config, keepers, link, leader, plan),
+        ReadStage::Ask => ask_stage(alloc, fleet, config, keepers, link, leader, plan),
+        ReadStage::Master => master_stage(alloc, fleet, config, keepers, link, leader, plan),
+        ReadStage::Keep => keep_stage(fleet, config, keepers, link, leader, plan),
+        ReadStage::Done => unreachable!(),
+    }
+}

@@ -1,0 +1,248 @@
+//! The stages of held writes.
+ghost use Rattle.std.specs.Prelude.{◌≡◌, false, true, IfErr, IfOk, IfSome, IsSome, None, OnErr, OnOk, Some};
+ghost use Rattle.core_mail.specs.Inboxes.{AreInboxesOf, Inboxes};
+ghost use Rattle.core_model.specs.Consistent.{GoesOn, IsConsistent, IsFleetOf};
+ghost use Rattle.core_model.specs.Growing.{MastersGrow};
+ghost use Rattle.core_model.specs.Pens.{pens_of};
+ghost use Rattle.core_model.specs.Serving.{IsLeaderFor};
+ghost use Rattle.core_plans.specs.HeldWrites.{DoesWriteStage, IsWriteUnderWay, position_of, without_job};
+ghost use Rattle.core_steps.specs.Routes.{FailsCarry, scene};
+ghost use Rattle.core_steps.specs.Writes.{FollowerTakes, posting};
+ghost use Rattle.shard_tables.specs.Written.{HasEntry};
+ghost use Rattle.tao_base.specs.Writes.{write_shard};
+ghost use Rattle.tao_keeper.specs.KeeperState.{IsLater, KeeperState};
+ghost use Rattle.tao_link.specs.Shown.{after_carry};
+ghost use Rattle.tao_schema.specs.Schema.{types_of};
+ghost use Rattle.topology.specs.States.{NodeStates, all_up};
+ghost use Rattle.write_model.specs.Writes.{FitsWrite};
+ghost use Rattle.write_plan.specs.Committing.{told_kind};
+ghost use Rattle.write_plan.specs.Plans.{answered_entry, next_of, when_of};
+ghost use Rattle.write_plan.specs.Stages.{told_stage};
+ghost use Rattle.write_plan.specs.declared.stage.WriteStage.TheVariants as stage;
+
+use core_mail::Mail;
+use core_nodes::Fleet;
+use core_steps::{Route, apply_over, commit_over, link_fault};
+use node_name::NodeName;
+use replies::{Refusal, Reply, StoreRefused};
+use shard_log::Note;
+use shard_tables::Wrote;
+use std::alloc::Global;
+use tao_base::{OutOfMemory, Write};
+use tao_keeper::Keeper;
+use tao_link::{Link, LinkFailed};
+use topology::{Config, Topology};
+use write_plan::{Committed, WritePlan, WriteResult, WriteStage, told_kind};
+
+/// What was written, without a job: no type has an inverse.
+fn without_job(wrote: Wrote) -> Wrote
+    ensures { result ≡ without_job wrote }
+{
+    Wrote { job: None, ..wrote }
+}
+
+/// What the leader answered to a write, without a job and without another end.
+fn answered(write: &Write, wrote: Wrote, leader: NodeName) -> Committed
+    requires fits { IfSome wrote.entry (λ e. FitsWrite e write.now) }
+    requires entry { HasEntry write.now wrote.entry }
+    ensures wrote { result.wrote ≡ without_job wrote }
+    ensures kind { told_kind write.now wrote.entry ≡ Some result.kind }
+    ensures passed { result.passed ≡ None }
+    ensures paired { result.paired ≡ false }
+{
+    let kind = told_kind(write, &wrote.entry);
+    Committed {
+        wrote: without_job(wrote),
+        leader,
+        passed: None,
+        kind,
+        paired: false,
+    }
+}
+
+/// The stage `commit`.
+fn commit_stage<K: Keeper, L: Link>(
+    alloc: Global,
+    fleet: &mut Fleet,
+    mail: &mut Mail,
+    config: &Config,
+    topology: &Topology,
+    keepers: &mut K,
+    link: &mut L,
+    leader: NodeName,
+    plan: &mut WritePlan,
+)
+    requires consistent { IsConsistent K.TELLS config.now (K.state keepers.old).told fleet.old }
+    requires inboxes { AreInboxesOf config.now (pens_of fleet.old.masters) mail.old }
+    requires states { topology.now ≡ all_up config.now }
+    requires leader { IsLeaderFor config.now (write_shard plan.old.write) leader }
+    requires write { IsWriteUnderWay config.now fleet.old plan.old }
+    requires stage { next_of plan.old ≡ stage.Commit }
+    ensures does { DoesWriteStage K.TELLS config.now leader stage.Commit
+        plan.old (posting (scene fleet.old (K.state keepers.old) (L.shown link.old)) mail.old topology.now)
+        plan.new (posting (scene fleet.new (K.state keepers.new) (L.shown link.new)) mail.new topology.now) }
+    ensures write { IsWriteUnderWay config.now fleet.new plan.new }
+    ensures consistent { IsConsistent K.TELLS config.now (K.state keepers.new).told fleet.new }
+    ensures inboxes { AreInboxesOf config.now (pens_of fleet.new.masters) mail.new }
+    ensures goes { GoesOn fleet.old fleet.new }
+    ensures grows { MastersGrow K.TELLS config.now (K.state keepers.old).told (K.state keepers.new).told }
+    ensures later { IsLater (K.state keepers.old) (K.state keepers.new) }
+{
+    let carries = link.carries();
+    let route = Route {
+        follower: plan.follower(),
+        leader,
+    };
+    let write = plan.write();
+    let outcome = match commit_over(
+        alloc,
+        fleet,
+        mail,
+        config,
+        topology,
+        keepers,
+        link,
+        route,
+        plan.origin(),
+        write,
+    ) {
+        Ok(wrote) => Ok(answered(write, wrote, leader)),
+        Err(reply) => Err(reply),
+    };
+    let hops = link.carries().saturating_sub(carries);
+    plan.take(WriteResult::Commit(outcome), hops);
+}
+
+/// The note in which the answer of a plan's commit stands, a second one; or the reply that memory is wanting for it.
+fn answer_note(plan: &mut WritePlan) -> Result<Note, Reply>
+    requires { IsSome plan.old.committed }
+    ensures same { plan.new ≡ plan.old }
+    ensures note { IfOk result (λ note. IfSome plan.old.committed (λ c. note ≡ c.wrote.note)) }
+    ensures err { IfErr result (λ reply. reply ≡ Reply.Refused (Refusal.Memory (position_of (answered_entry plan.old)))) }
+{
+    match plan.note() {
+        Ok(Some(note)) => Ok(note),
+        Ok(None) => unreachable!(),
+        Err(OutOfMemory) => Err(Reply::Refused(Refusal::Memory {
+            position: match plan.entry() {
+                Some(entry) => entry.position,
+                None => 0,
+            },
+        })),
+    }
+}
+
+/// Carries what was committed back, and lets the follower take it.
+fn carry_back<L: Link>(
+    fleet: &mut Fleet,
+    config: &Config,
+    link: &mut L,
+    route: Route,
+    plan: &WritePlan,
+    note: Note,
+) -> Result<(), Reply>
+    requires fleet { IsFleetOf config.now fleet.old }
+    requires write { IsWriteUnderWay config.now fleet.old plan.now }
+    requires route { route.follower ≡ plan.now.follower }
+    requires committed { IsSome plan.now.committed }
+    requires note { IfSome plan.now.committed (λ c. note ≡ c.wrote.note) }
+    ensures carried { OnOk result (L.shown link.new ≡ after_carry (L.shown link.old)) }
+    ensures takes { OnOk result (IfSome plan.now.committed (λ c.
+        FollowerTakes (types_of config.now.schema) route (write_shard plan.now.write) c.wrote.entry fleet.old fleet.new)) }
+    ensures failed { IfErr result (λ _. FailsCarry route.leader route.follower (L.shown link.old) (L.shown link.new)) }
+    ensures reply { IfErr result (λ reply. reply ≡ Reply.Refused (Refusal.Store
+        (StoreRefused.LinkFault (L.shown link.new).faults (when_of (answered_entry plan.now))))) }
+    ensures stays { OnErr result (fleet.new ≡ fleet.old) }
+    ensures rest { fleet.new ≡ record fleet.old { followers = fleet.new.followers } }
+    ensures fleet { IsFleetOf config.now fleet.new }
+    ensures goes { GoesOn fleet.old fleet.new }
+{
+    let Some(committed) = plan.committed() else {
+        unreachable!()
+    };
+    let shard = plan.write().shard();
+    match apply_over(
+        fleet,
+        config,
+        link,
+        route,
+        shard,
+        &committed.wrote.entry,
+        note,
+    ) {
+        Ok(()) => Ok(()),
+        Err(LinkFailed) => Err(link_fault(link.faults(), plan.when())),
+    }
+}
+
+/// The stage `apply`.
+fn apply_stage<L: Link>(
+    fleet: &mut Fleet,
+    config: &Config,
+    link: &mut L,
+    leader: NodeName,
+    plan: &mut WritePlan,
+)
+    requires fleet { IsFleetOf config.now fleet.old }
+    requires write { IsWriteUnderWay config.now fleet.old plan.old }
+    requires stage { next_of plan.old ≡ stage.Apply }
+    ensures does { (keepers : KeeperState) (inboxes : Inboxes) (states : NodeStates) → DoesWriteStage true config.now leader stage.Apply
+        plan.old (posting (scene fleet.old keepers (L.shown link.old)) inboxes states)
+        plan.new (posting (scene fleet.new keepers (L.shown link.new)) inboxes states) }
+    ensures write { IsWriteUnderWay config.now fleet.new plan.new }
+    ensures rest { fleet.new ≡ record fleet.old { followers = fleet.new.followers } }
+    ensures fleet { IsFleetOf config.now fleet.new }
+    ensures goes { GoesOn fleet.old fleet.new }
+{
+    let carries = link.carries();
+    let route = Route {
+        follower: plan.follower(),
+        leader,
+    };
+    let outcome = match answer_note(plan) {
+        Ok(note) => carry_back(fleet, config, link, route, plan, note),
+        Err(reply) => Err(reply),
+    };
+    let hops = link.carries().saturating_sub(carries);
+    plan.take(WriteResult::Apply(outcome), hops);
+}
+
+/// Does the stage of a held write that follows, with the leader of the master's region that serves the shard. A stage that fails ends
+/// the write.
+///
+/// Costs what the stage does in `core_steps`.
+pub fn write_stage<K: Keeper, L: Link>(
+    alloc: Global,
+    fleet: &mut Fleet,
+    mail: &mut Mail,
+    config: &Config,
+    topology: &Topology,
+    keepers: &mut K,
+    link: &mut L,
+    leader: NodeName,
+    plan: &mut WritePlan,
+)
+    requires consistent { IsConsistent K.TELLS config.now (K.state keepers.old).told fleet.old }
+    requires inboxes { AreInboxesOf config.now (pens_of fleet.old.masters) mail.old }
+    requires states { topology.now ≡ all_up config.now }
+    requires leader { IsLeaderFor config.now (write_shard plan.old.write) leader }
+    requires write { IsWriteUnderWay config.now fleet.old plan.old }
+    requires goes_on { IsSome (told_stage (next_of plan.old)) }
+    ensures does { DoesWriteStage K.TELLS config.now leader (next_of plan.old)
+        plan.old (posting (scene fleet.old (K.state keepers.old) (L.shown link.old)) mail.old topology.now)
+        plan.new (posting (scene fleet.new (K.state keepers.new) (L.shown link.new)) mail.new topology.now) }
+    ensures write { IsWriteUnderWay config.now fleet.new plan.new }
+    ensures consistent { IsConsistent K.TELLS config.now (K.state keepers.new).told fleet.new }
+    ensures inboxes { AreInboxesOf config.now (pens_of fleet.new.masters) mail.new }
+    ensures goes { GoesOn fleet.old fleet.new }
+    ensures grows { MastersGrow K.TELLS config.now (K.state keepers.old).told (K.state keepers.new).told }
+    ensures later { IsLater (K.state keepers.old) (K.state keepers.new) }
+{
+    match plan.next() {
+        WriteStage::Commit => commit_stage(
+            alloc, fleet, mail, config, topology, keepers, link, leader, plan,
+        ),
+        WriteStage::Apply => apply_stage(fleet, config, link, leader, plan),
+        _ => unreachable!(),
+    }
+}

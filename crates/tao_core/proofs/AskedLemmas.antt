@@ -1,10 +1,12 @@
 -- What is asked can be done.
-use Rattle.std.proofs.Common.{◌≡◌, ℕ, ◌<◌, true, false, Contains, List, length, Result, Ok, Err, IfOk, Option, subst, inl, inr}
+use Rattle.std.proofs.Common.{◌≡◌, ℕ, ◌<◌, true, false, Contains, List, length, Result, Ok, Err, IfOk, Option, Some, None, refl, subst, inl, inr}
+use Rattle.std.specs.Prelude.{IsSome, is_some, not, ⊤}
 use Rattle.std.proofs.lemmas.Bool.{cases_Bool}
-use Rattle.outcomes.specs.Results.{◌>>=◌, Gives}
+use Rattle.outcomes.specs.Results.{◌>>=◌, Gives, refused_unless}
 use Rattle.core_model.proofs.Turns.{cache_named}
 use Rattle.core_model.specs.Evictions.{IsCacheOf}
 use Rattle.core_model.specs.Fleet.{follower_names}
+use Rattle.core_plans.specs.Held.{Plans, plan_at}
 use Rattle.node_name.specs.declared.NodeName.{NodeName}
 use Rattle.node_name.specs.declared.NodeName.TheVariants as name
 use Rattle.tao_base.specs.declared.id.Key.{Key}
@@ -13,6 +15,8 @@ use Rattle.tao_base.specs.declared.write.Write.{Write}
 use Rattle.topology.proofs.Found.{follower_known, leader_known}
 use Rattle.topology.specs.Config.{Settings}
 use Rattle.replies.specs.declared.refusals.NameRefused.{NameRefused}
+use Rattle.replies.specs.declared.refusals.Refusal.{Refusal}
+use Rattle.requests.specs.declared.request.Call.{Call}
 use Rattle.requests.specs.declared.request.Call.TheVariants as call
 use Rattle.requests.specs.declared.request.ReadCall.{ReadCall}
 use Rattle.requests.specs.declared.request.Request.{Request}
@@ -21,14 +25,15 @@ use Rattle.requests.specs.declared.request.WriteCall.{WriteCall}
 use Rattle.request_check.proofs.Placing.{whatever}
 use Rattle.request_check.specs.Calls.{checked_query, checked_write}
 use Rattle.request_check.specs.Names.{tier_named}
-use Rattle.request_check.specs.Placed.{IsPlaced, IsPlacedFollower, IsPlacedNode}
+use Rattle.request_check.specs.Placed.{IsPlaced, IsPlacedCall, IsPlacedFollower, IsPlacedNode}
 use Rattle.request_check.specs.Refusal.{named, replied, reply_unless_memory}
-use Rattle.request_check.specs.Requests.{checked_of, checked_read_call, key_named, maybe_key_named, placed_as}
+use Rattle.request_check.specs.Requests.{checked_call, checked_of, checked_read_call, key_named, maybe_key_named, placed_as}
 use Rattle.request_check.specs.declared.checked.Checked.{Checked}
 use Rattle.request_check.specs.declared.checked.Checked.TheVariants as checked
-use Rattle.request_check.specs.declared.checked.CheckedCall.TheVariants as checked_call
+use Rattle.request_check.specs.declared.checked.CheckedCall.{CheckedCall}
+use Rattle.request_check.specs.declared.checked.CheckedCall.TheVariants as of_call
 use Rattle.request_check.specs.declared.refusal.CheckRefusal.{CheckRefusal}
-use Rattle.tao_core.specs.Asked.{CanBeDone, admitted, new_session, open_session}
+use Rattle.tao_core.specs.Asked.{CallCanBeDone, CanBeDone, admitted, held_plan, is_built_call, new_plan, new_session, open_session, session_of}
 use Rattle.tao_core.specs.Sessions.{is_open}
 use Rattle.tao_core.specs.declared.sessions.OpenSession.{OpenSession}
 
@@ -46,28 +51,84 @@ is_so_open sessions session h = elim (cases_Bool (is_open sessions session)) [
   | inr not_so ↦ (let e = rw not_so at h in absurd (cc))
 ]
 
--- a read that is built isn't critical, and its session is open
-read_open : (sessions : List OpenSession) (text : ReadCall) → admitted sessions (request.Call (call.Read text)) ≡ Ok tt
-    → (is_open sessions text.session ≡ true) × (text.critical ≡ false)
-read_open sessions text h = elim (cases_Bool text.critical) [
-  | inl is_so ↦ (let e = rw is_so at h in absurd (cc))
-  | inr not_so ↦ (is_so_open sessions text.session (rw not_so at h), not_so)
+none_found : {A : Type 0} (found : Option A) (there full : Refusal) (room : _)
+    → (refused_unless there (not (is_some found)) >>= (λ x. refused_unless full room)) ≡ Ok tt → found ≡ None
+none_found None there full room h = refl
+none_found (Some x) there full room h = absurd (cc)
+
+-- a plan that may be held isn't held
+not_held : (plans : Plans) (plan : ℕ) → new_plan plans plan ≡ Ok tt → plan_at plans plan ≡ None
+not_held plans plan h = none_found (plan_at plans plan) _ _ _ h
+
+some_found : {A : Type 0} (found : Option A) (refusal : Refusal) → refused_unless refusal (is_some found) ≡ Ok tt → IsSome found
+some_found None refusal h = absurd (cc)
+some_found (Some x) refusal h = refl
+
+-- the second of two steps passes as well as the first
+both_pass : (first second : Result ⊤ Refusal) → (first >>= (λ x. second)) ≡ Ok tt → (first ≡ Ok tt) × (second ≡ Ok tt)
+both_pass (Ok x) second h = (refl, h)
+both_pass (Err refused) second h = absurd (cc)
+
+-- what is built, of an open session
+pub record MayCall (sessions : List OpenSession) (asked : Call) : Type 0 where
+  pub built : is_built_call asked ≡ true
+  pub there : is_open sessions (session_of asked) ≡ true
+
+call_admitted : (sessions : List OpenSession) (plans : Plans) (asked : Call) → admitted sessions plans (request.Call asked) ≡ Ok tt → MayCall sessions asked
+call_admitted sessions plans asked h = elim (cases_Bool (is_built_call asked)) [
+  | inl is_so ↦ record { built = is_so; there = is_so_open sessions (session_of asked) (rw is_so at h) }
+  | inr not_so ↦ (let e = rw not_so at h in absurd (cc))
 ]
 
-module _ (s : Settings) (sessions : List OpenSession) where
+hold_admitted : (sessions : List OpenSession) (plans : Plans) (plan : ℕ) (asked : Call) → admitted sessions plans (request.Hold plan asked) ≡ Ok tt
+    → (plan_at plans plan ≡ None) × MayCall sessions asked
+hold_admitted sessions plans plan asked h = elim (cases_Bool (is_built_call asked)) [
+  | inl is_so ↦ (
+      let both = both_pass (new_plan plans plan) (open_session sessions (session_of asked)) (rw is_so at h) in
+      (not_held plans plan both.0, record { built = is_so; there = is_so_open sessions (session_of asked) both.1 }))
+  | inr not_so ↦ (let e = rw not_so at h in absurd (cc))
+]
+
+advance_admitted : (sessions : List OpenSession) (plans : Plans) (plan : ℕ) → admitted sessions plans (request.Advance plan) ≡ Ok tt
+    → IsSome (plan_at plans plan)
+advance_admitted sessions plans plan h = some_found (plan_at plans plan) _ (both_pass (held_plan plans plan) (Ok tt) h).0
+
+not_critical : (text : ReadCall) → is_built_call (call.Read text) ≡ true → text.critical ≡ false
+not_critical text h = elim (cases_Bool text.critical) [
+  | inl is_so ↦ (let e = rw is_so at h in absurd (cc))
+  | inr not_so ↦ not_so
+]
+
+module _ (s : Settings) (sessions : List OpenSession) (plans : Plans) where
   write_can : (text : WriteCall) (found : Result Write NameRefused) → is_open sessions text.session ≡ true
-      → IfOk (found >>= (λ w. Ok (record { session = text.session; seq = text.seq; write = w })) >>= (λ c. Ok (checked_call.Write c))
-      >>= (λ c. Ok (checked.Call c)))
-      (λ c. IsPlaced s c → CanBeDone s sessions c)
+      → IfOk (found >>= (λ w. Ok (record { session = text.session; seq = text.seq; write = w })) >>= (λ c. Ok (of_call.Write c)))
+      (λ c. IsPlacedCall s c → CallCanBeDone s sessions c)
   write_can text (Ok w) there = λ here. (here, there)
   write_can text (Err refused) there = tt
 
   read_can : (text : ReadCall) (found : Result Query NameRefused) → is_open sessions text.session ≡ true → text.critical ≡ false
-      → IfOk (found >>= (λ q. Ok (record { session = text.session; query = q; critical = text.critical })) >>= (λ c. Ok (checked_call.Read c))
-      >>= (λ c. Ok (checked.Call c)))
-      (λ c. IsPlaced s c → CanBeDone s sessions c)
+      → IfOk (found >>= (λ q. Ok (record { session = text.session; query = q; critical = text.critical })) >>= (λ c. Ok (of_call.Read c)))
+      (λ c. IsPlacedCall s c → CallCanBeDone s sessions c)
   read_can text (Ok q) there mild = λ here. (here, there, mild)
   read_can text (Err refused) there mild = tt
+
+  -- a call that may be made, as it is checked
+  call_can : (asked : Call) → MayCall sessions asked → IfOk (checked_call s asked) (λ c. IsPlacedCall s c → CallCanBeDone s sessions c)
+  call_can (call.Write text) may = write_can text (checked_write s text.write) may.there
+  call_can (call.Read text) may = read_can text (checked_query s text.query) may.there (not_critical text may.built)
+
+  -- what is asked of it then
+  asks_can : (asks : CheckedCall → Checked) (found : Result CheckedCall NameRefused)
+      → IfOk found (λ c. IsPlaced s (asks c) → CanBeDone s sessions plans (asks c))
+      → IfOk (found >>= (λ c. Ok (asks c))) (λ c. IsPlaced s c → CanBeDone s sessions plans c)
+  asks_can asks (Ok c) can = can
+  asks_can asks (Err refused) can = tt
+
+  hold_can : (plan : ℕ) (found : Result CheckedCall NameRefused) → plan_at plans plan ≡ None
+      → IfOk found (λ c. IsPlacedCall s c → CallCanBeDone s sessions c)
+      → IfOk (found >>= (λ c. Ok (checked.Hold plan c))) (λ c. IsPlaced s c → CanBeDone s sessions plans c)
+  hold_can plan (Ok c) none can = λ here. (none, can here)
+  hold_can plan (Err refused) none can = tt
 
   region_is : (session region tier : ℕ) → IsPlaced s (checked.Open session region tier) → region < length s.regions
   region_is session region tier here = here.configured
@@ -84,30 +145,33 @@ module _ (s : Settings) (sessions : List OpenSession) where
   follower_there (name.Follower region tier index) here = cache_there (name.Follower region tier index) here.configured
 
   node_can : (asks : NodeName → Checked) (found : Result NodeName NameRefused)
-      → ((node : NodeName) → IsPlaced s (asks node) → CanBeDone s sessions (asks node))
-      → IfOk (placed_as asks found) (λ c. IsPlaced s c → CanBeDone s sessions c)
+      → ((node : NodeName) → IsPlaced s (asks node) → CanBeDone s sessions plans (asks node))
+      → IfOk (placed_as asks found) (λ c. IsPlaced s c → CanBeDone s sessions plans c)
   node_can asks (Ok node) can = can node
   node_can asks (Err refused) can = tt
 
   evict_can : (found : Result NodeName NameRefused) (key : Result (Option Key) NameRefused)
-      → IfOk (found >>= (λ node. key >>= (λ k. Ok (checked.Evict node k)))) (λ c. IsPlaced s c → CanBeDone s sessions c)
+      → IfOk (found >>= (λ node. key >>= (λ k. Ok (checked.Evict node k)))) (λ c. IsPlaced s c → CanBeDone s sessions plans c)
   evict_can (Ok node) (Ok key) = λ here. cache_there node here.0
   evict_can (Ok node) (Err refused) = tt
   evict_can (Err refused) key = tt
 
   show_can : (found : Result NodeName NameRefused) (key : Result Key NameRefused)
-      → IfOk (found >>= (λ node. key >>= (λ k. Ok (checked.Show node k)))) (λ c. IsPlaced s c → CanBeDone s sessions c)
+      → IfOk (found >>= (λ node. key >>= (λ k. Ok (checked.Show node k)))) (λ c. IsPlaced s c → CanBeDone s sessions plans c)
   show_can (Ok node) (Ok key) = λ here. cache_there node here.0
   show_can (Ok node) (Err refused) = tt
   show_can (Err refused) key = tt
 
   -- what is placed, of a request that was admitted
-  by_word : (asked : Request) → admitted sessions asked ≡ Ok tt → IfOk (checked_of s asked) (λ c. IsPlaced s c → CanBeDone s sessions c)
+  by_word : (asked : Request) → admitted sessions plans asked ≡ Ok tt → IfOk (checked_of s asked) (λ c. IsPlaced s c → CanBeDone s sessions plans c)
   by_word (request.Open opening) h =
       whatever _ (tier_named s opening.region opening.tier) _
       (λ found here. (not_open sessions opening.session h, region_is opening.session found.region found.tier here))
-  by_word (request.Call (call.Write text)) h = write_can text (checked_write s text.write) (is_so_open sessions text.session h)
-  by_word (request.Call (call.Read text)) h = (let allowed = read_open sessions text h in read_can text (checked_query s text.query) allowed.0 allowed.1)
+  by_word (request.Call asked) h = asks_can checked.Call (checked_call s asked) (call_can asked (call_admitted sessions plans asked h))
+  by_word (request.Hold plan asked) h =
+      let may = hold_admitted sessions plans plan asked h in
+      hold_can plan (checked_call s asked) may.0 (call_can asked may.1)
+  by_word (request.Advance plan) h = λ here. advance_admitted sessions plans plan h
   by_word (request.Deliver name) h =
       node_can (λ node. checked.Deliver node name.message) _ (λ node here. cache_there node here)
   by_word (request.Again name) h =
@@ -126,8 +190,9 @@ named_ok (Ok x) c h = cc
 named_ok (Err refused) c h = absurd (cc)
 
 -- what a request that was admitted is checked to can be done
-pub checked_can : (s : Settings) (sessions : List OpenSession) (asked : Request) (r : Result Checked CheckRefusal) → admitted sessions asked ≡ Ok tt
-    → Gives reply_unless_memory r (replied (named (checked_of s asked))) → IfOk r (IsPlaced s) → IfOk r (CanBeDone s sessions)
-checked_can s sessions asked (Ok c) there h here =
-    (subst (λ r. IfOk r (λ x. IsPlaced s x → CanBeDone s sessions x)) (named_ok (checked_of s asked) c h) (by_word s sessions asked there)) here
-checked_can s sessions asked (Err e) there h here = tt
+pub checked_can : (s : Settings) (sessions : List OpenSession) (plans : Plans) (asked : Request) (r : Result Checked CheckRefusal)
+    → admitted sessions plans asked ≡ Ok tt → Gives reply_unless_memory r (replied (named (checked_of s asked))) → IfOk r (IsPlaced s)
+    → IfOk r (CanBeDone s sessions plans)
+checked_can s sessions plans asked (Ok c) there h here =
+    (subst (λ r. IfOk r (λ x. IsPlaced s x → CanBeDone s sessions plans x)) (named_ok (checked_of s asked) c h) (by_word s sessions plans asked there)) here
+checked_can s sessions plans asked (Err e) there h here = tt

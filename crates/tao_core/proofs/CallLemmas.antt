@@ -1,5 +1,6 @@
 -- What the outcome of resolving a request makes of its reply.
-use Rattle.std.proofs.Common.{◌≡◌, Bool, List, Result, Ok, Err, refl, subst, inl, inr}
+use Rattle.std.proofs.Common.{◌≡◌, Bool, List, Result, Ok, Err, refl, sym, subst, inl, inr}
+use Rattle.core_plans.specs.Held.{Plans}
 use Rattle.outcomes.specs.Results.{Gives}
 use Rattle.replies.specs.declared.refusals.Refusal.{Refusal}
 use Rattle.replies.specs.declared.reply.Reply.{Reply}
@@ -18,14 +19,30 @@ refused_so : (tells : Bool) (now : Moment) (r : Result Checked Refusal) (reply :
 refused_so tells now (Ok c) reply h = absurd (cc)
 refused_so tells now (Err refused) reply h = (cc, refl)
 
--- the core whose settings and sessions were lent
-module _ (now : Moment) (s : Settings) (sessions : List OpenSession) (is_s : s ≡ now.core.settings) (is_sessions : sessions ≡ now.core.sessions) where
-  lent : (P : Settings → List OpenSession → Type 0) → P s sessions → P now.core.settings now.core.sessions
-  lent P p = subst (λ x. P now.core.settings x) is_sessions (subst (λ x. P x sessions) is_s p)
+replied_ok : (r : Result Checked Refusal) (c : Checked) → replied r ≡ Ok c → r ≡ Ok c
+replied_ok (Ok x) c h = cc
+replied_ok (Err refused) c h = absurd (cc)
+
+-- the core whose settings, sessions and plans were lent
+module _ (now : Moment) (s : Settings) (sessions : List OpenSession) (plans : Plans) (is_s : s ≡ now.core.settings) (is_sessions : sessions ≡ now.core.sessions)
+    (is_plans : plans ≡ now.core.plans) where
+  lent : (P : Settings → List OpenSession → Plans → Type 0) → P s sessions plans → P now.core.settings now.core.sessions now.core.plans
+  lent P p =
+      subst (λ x. P now.core.settings now.core.sessions x) is_plans
+      (subst (λ x. P now.core.settings x plans) is_sessions (subst (λ x. P x sessions plans) is_s p))
 
   -- a request that asks nothing, or for which there was no memory, is answered so
   pub answers_unasked : (tells : Bool) (asked : Request) (refusal : CheckRefusal)
-      → Gives {A = Checked} reply_unless_memory (Err refusal) (replied (asked_of s sessions asked)) → AnswersRequest tells now asked (reply_as refusal) now
+      → Gives {A = Checked} reply_unless_memory (Err refusal) (replied (asked_of s sessions plans asked)) → AnswersRequest tells now asked (reply_as refusal) now
   answers_unasked tells asked (check.Refused reply) h =
-      inr (refused_so tells now (asked_of now.core.settings now.core.sessions asked) reply (lent (λ x y. replied (asked_of x y asked) ≡ Err reply) h))
+      inr (refused_so tells now (asked_of now.core.settings now.core.sessions now.core.plans asked) reply
+      (lent (λ x y z. replied (asked_of x y z asked) ≡ Err reply) h))
   answers_unasked tells asked check.OutOfMemory h = inl (record { reply_is = refl; same = refl })
+
+  -- what was asked is answered as it is done
+  pub answers_asked : (tells : Bool) (asked : Request) (c : Checked) (reply : Reply) (new : Moment)
+      → replied (asked_of s sessions plans asked) ≡ Ok c → AnswersAsked tells now (Ok c) reply new → AnswersRequest tells now asked reply new
+  answers_asked tells asked c reply new h answers =
+      let is : asked_of now.core.settings now.core.sessions now.core.plans asked ≡ Ok c =
+      lent (λ x y z. asked_of x y z asked ≡ Ok c) (replied_ok (asked_of s sessions plans asked) c h) in
+      inr (subst (λ r. AnswersAsked tells now r reply new) (sym is) answers)

@@ -14,8 +14,9 @@ use Rattle.replies.specs.declared.refusals.Refusal.TheVariants.{Node as OfNode}
 use Rattle.replies.specs.declared.reply.Reply.{Reply}
 use Rattle.replies.specs.declared.reply.Reply.TheVariants.{Refused, Node as AtNode}
 use Rattle.words.specs.declared.DeliveryWord.TheVariants as word
-use Rattle.tao_core.specs.Core.{CoreState}
+use Rattle.tao_core.specs.Core.{CoreState, StaysHeld}
 use Rattle.tao_core.specs.Deliveries.{AnswersDeliver, AnswersLoss, AnswersSecond, FindsNone, IsProcessed, lost_as}
+use Rattle.tao_core.proofs.HeldOn.{same_held}
 use Rattle.tao_core.proofs.Delivering.{copied_answers, none_taken, none_waits, processed_masters, taken_answers}
 
 -- ---- a message is delivered
@@ -26,13 +27,15 @@ pub record IsDelivered (node : NodeName) (place : ℕ) (old : CoreState) (reply 
   pub fleet : IsFleetOf old.settings new.fleet
   pub inboxes : AreInboxesOf old.settings (pens_of old.fleet.masters) new.mail
   pub masters : new.fleet.masters ≡ old.fleet.masters
+  pub on : StaysHeld old.fleet new.fleet
   pub rest : new ≡ record old { fleet = new.fleet; mail = new.mail }
 
 module _ (node : NodeName) (place : ℕ) (old now : CoreState) (mail : Inboxes) (reply : Reply) (own : old ≡ now) where
   pub delivered : (m : SeenMaint) (new : CoreState) → ChangesNode node (TakesOut place (Some m)) old.mail mail
       → AreInboxesOf old.settings (pens_of old.fleet.masters) mail → IsProcessed word.Deliver node m (record old { mail = mail }) reply new
-      → IsFleetOf old.settings new.fleet → new ≡ record old { fleet = new.fleet; mail = mail } → IsDelivered node place now reply new
-  delivered m new change inboxes does fleet rest =
+      → IsFleetOf old.settings new.fleet → StaysHeld old.fleet new.fleet → new ≡ record old { fleet = new.fleet; mail = mail }
+      → IsDelivered node place now reply new
+  delivered m new change inboxes does fleet on rest =
       let between : CoreState = record old { mail = mail } in
       let same : new.mail ≡ mail = ap (λ (x : CoreState). x.mail) rest in
       subst (λ x. IsDelivered node place x reply new) own (record {
@@ -40,6 +43,7 @@ module _ (node : NodeName) (place : ℕ) (old now : CoreState) (mail : Inboxes) 
         fleet = fleet;
         inboxes = subst (AreInboxesOf old.settings (pens_of old.fleet.masters)) (sym same) inboxes;
         masters = processed_masters word.Deliver node m between new reply does;
+        on = on;
         rest = rest ∙ ap (λ xs. record old { fleet = new.fleet; mail = xs }) (sym same);
       })
 
@@ -57,6 +61,7 @@ module _ (node : NodeName) (place : ℕ) (old now : CoreState) (mail : Inboxes) 
         fleet = fleet;
         inboxes = inboxes;
         masters = refl;
+        on = same_held old.fleet;
         rest = refl;
       })
 
@@ -87,6 +92,7 @@ pub record IsRepeated (node : NodeName) (place : ℕ) (old : CoreState) (reply :
   pub does : AnswersSecond node place old reply new
   pub fleet : IsFleetOf old.settings new.fleet
   pub masters : new.fleet.masters ≡ old.fleet.masters
+  pub on : StaysHeld old.fleet new.fleet
   pub rest : new ≡ record old { fleet = new.fleet }
 
 module _ (node : NodeName) (place : ℕ) (old now : CoreState) (mail : Inboxes) (reply : Reply) (own : old ≡ now) (same : mail ≡ old.mail) where
@@ -94,15 +100,16 @@ module _ (node : NodeName) (place : ℕ) (old now : CoreState) (mail : Inboxes) 
   stays = ap (λ xs. record old { mail = xs }) same
 
   pub repeated : (m : SeenMaint) (new : CoreState) → WaitsAt node place (Some m) old.mail
-      → IsProcessed word.Again node m (record old { mail = mail }) reply new → IsFleetOf old.settings new.fleet
+      → IsProcessed word.Again node m (record old { mail = mail }) reply new → IsFleetOf old.settings new.fleet → StaysHeld old.fleet new.fleet
       → new ≡ record old { fleet = new.fleet; mail = mail } → IsRepeated node place now reply new
-  repeated m new waits does fleet rest =
+  repeated m new waits does fleet on rest =
       let there : new ≡ record old { fleet = new.fleet } = rest ∙ ap (λ xs. record old { fleet = new.fleet; mail = xs }) same in
       subst (λ x. IsRepeated node place x reply new) own (record {
         does = copied_answers node place m old new reply waits (ap (λ (x : CoreState). x.mail) there)
             (subst (λ x. IsProcessed word.Again node m x reply new) stays does);
         fleet = fleet;
         masters = processed_masters word.Again node m (record old { mail = mail }) new reply does;
+        on = on;
         rest = there;
       })
 
@@ -113,5 +120,6 @@ module _ (node : NodeName) (place : ℕ) (old now : CoreState) (mail : Inboxes) 
         does = subst (λ r. AnswersSecond node place old r (record old { mail = mail })) (sym is) (refl, none, stays);
         fleet = fleet;
         masters = refl;
+        on = same_held old.fleet;
         rest = stays;
       })

@@ -57,7 +57,7 @@ use Rattle.topology.specs.States.{NodeStates, is_cache}
 use Rattle.shard_tables.specs.StoreView.{Store}
 use Rattle.words.specs.declared.DeliveryWord.{DeliveryWord}
 use Rattle.words.specs.declared.DeliveryWord.TheVariants as word
-use Rattle.tao_core.specs.Core.{CoreState, IsCoreOf, Moment, moment}
+use Rattle.tao_core.specs.Core.{CoreState, IsConsistentCore, Moment, moment}
 use Rattle.tao_core.specs.Deliveries.{AnswersDeliver, AnswersRefill, AnswersSecond, IsExactNow, IsProcessed, IsShown, RefillGoes}
 use Rattle.tao_core.specs.Deliveries.{home_region, refill_route, shown_item}
 use Rattle.tao_core.proofs.Exact.{held_exact, log_is}
@@ -175,7 +175,7 @@ exact_now tells core keepers name key (Some n) (Some item) of is found_is =
     item_exact tells core.settings keepers.told core.fleet name key n item of.stores (node_is core.settings core.fleet name n of.fleet is) (sym found_is)
 
 pub shows : (tells : Bool) (core : CoreState) (keepers : KeeperState) (link : LinkShown) (name : NodeName) (key : Key) (mark : ℕ) (found : Option Item)
-    (item : ShownAs) → IsCoreOf tells keepers.told core → IsHeldAt core.fleet name key found → IsMarkAt core.fleet name (key_shard key) (Some mark)
+    (item : ShownAs) → IsConsistentCore tells keepers.told core → IsHeldAt core.fleet name key found → IsMarkAt core.fleet name (key_shard key) (Some mark)
     → item ≡ shown_item found → IsShown tells name key mark item (moment core keepers link)
 shows tells core keepers link name key mark found item of held at is = record {
   found = found;
@@ -213,7 +213,7 @@ follower_has s f node fleet there = subst (λ names. Contains names node) (sym f
 
 -- its refill goes to a leader that may be asked
 pub refill_leader : (tells : Bool) (tables : Tables) (core : CoreState) (node : NodeName) (region shard asked : ℕ) (leader : NodeName)
-    → IsCoreOf tells tables core → Contains (follower_names core.settings) node → region ≡ home_region node → shard ≡ asked → asked < core.settings.shards
+    → IsConsistentCore tells tables core → Contains (follower_names core.settings) node → region ≡ home_region node → shard ≡ asked → asked < core.settings.shards
     → leader ≡ preferred_leader core.states region shard
     → (region < length core.states.regions → IsTrue (is_cache core.states.regions leader)) → IsLeaderFor core.settings asked leader
 refill_leader tells tables core node region shard asked leader of there home is here preferred known =

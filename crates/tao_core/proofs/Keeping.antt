@@ -21,7 +21,7 @@ use Rattle.replies.specs.declared.reply.Reply.TheVariants.{Opened, Refused, Node
 use Rattle.tao_base.specs.declared.id.Key.{Key}
 use Rattle.tao_keeper.specs.Table.{Tables, Stays}
 use Rattle.topology.specs.Config.{Settings}
-use Rattle.tao_core.specs.Core.{CoreState, IsCoreOf, IsPlacedIn, Moment}
+use Rattle.tao_core.specs.Core.{CoreState, IsConsistentCore, IsPlacedIn, Moment}
 use Rattle.tao_core.specs.Replies.{AnswersEvict, AnswersOpen}
 use Rattle.tao_core.specs.declared.sessions.OpenSession.{OpenSession}
 use Rattle.tao_core.proofs.Ways.{opened_placed}
@@ -34,8 +34,8 @@ sessions_after s new sessions next (Opened session) all placed answers = subst (
 sessions_after s new sessions next (Refused (Memory position)) all placed answers = subst (All (IsPlacedIn s)) (sym answers.1) all
 sessions_after s new sessions next reply all placed answers = absurd answers
 
-pub opened_core : (tells : Bool) (tables : Tables) (core : CoreState) (new : OpenSession) (next : List OpenSession) (reply : Reply) → IsCoreOf tells tables core
-    → IsPlacedIn core.settings new → AnswersOpen new core.sessions reply next → IsCoreOf tells tables (record core { sessions = next })
+pub opened_core : (tells : Bool) (tables : Tables) (core : CoreState) (new : OpenSession) (next : List OpenSession) (reply : Reply) → IsConsistentCore tells tables core
+    → IsPlacedIn core.settings new → AnswersOpen new core.sessions reply next → IsConsistentCore tells tables (record core { sessions = next })
 opened_core tells tables core new next reply of placed answers = record {
   consistent = of.consistent;
   mail = of.mail;
@@ -46,9 +46,9 @@ opened_core tells tables core new next reply of placed answers = record {
 
 -- ---- the nodes and their messages change, and no store
 
-module _ (tells : Bool) (tables : Tables) (core : CoreState) (of : IsCoreOf tells tables core) where
+module _ (tells : Bool) (tables : Tables) (core : CoreState) (of : IsConsistentCore tells tables core) where
   pub nodes_core : (fleet : Fleet) (mail : Inboxes) → IsFleetOf core.settings fleet → fleet.masters ≡ core.fleet.masters
-      → AreInboxesOf core.settings (pens_of core.fleet.masters) mail → IsCoreOf tells tables (record core { fleet = fleet; mail = mail })
+      → AreInboxesOf core.settings (pens_of core.fleet.masters) mail → IsConsistentCore tells tables (record core { fleet = fleet; mail = mail })
   nodes_core fleet mail is masters inboxes = record {
     consistent = record {
       stores = subst (AreStoresOf tells core.settings tables) (sym masters) of.consistent.stores;
@@ -62,7 +62,7 @@ module _ (tells : Bool) (tables : Tables) (core : CoreState) (of : IsCoreOf tell
 
   -- the logs go on, and what waits stays
   pub going_core : (later : Tables) (fleet : Fleet) → IsConsistent tells core.settings later fleet → GoesOn core.fleet fleet
-      → IsCoreOf tells later (record core { fleet = fleet })
+      → IsConsistentCore tells later (record core { fleet = fleet })
   going_core later fleet consistent goes = record {
     consistent = consistent;
     mail = (inboxes_stay core.settings (pens_of core.fleet.masters) core.mail).rises (pens_of fleet.masters) goes.rise of.mail;
@@ -73,7 +73,7 @@ module _ (tells : Bool) (tables : Tables) (core : CoreState) (of : IsCoreOf tell
 
   -- messages were sent
   pub written_core : (later : Tables) (fleet : Fleet) (mail : Inboxes) → IsConsistent tells core.settings later fleet
-      → AreInboxesOf core.settings (pens_of fleet.masters) mail → IsCoreOf tells later (record core { fleet = fleet; mail = mail })
+      → AreInboxesOf core.settings (pens_of fleet.masters) mail → IsConsistentCore tells later (record core { fleet = fleet; mail = mail })
   written_core later fleet mail consistent inboxes = record {
     consistent = consistent;
     mail = inboxes;
@@ -83,23 +83,23 @@ module _ (tells : Bool) (tables : Tables) (core : CoreState) (of : IsCoreOf tell
   }
 
 -- a message was processed, or lost
-pub delivered_core : (tells : Bool) (tables : Tables) (old new : CoreState) → IsCoreOf tells tables old → IsFleetOf old.settings new.fleet
+pub delivered_core : (tells : Bool) (tables : Tables) (old new : CoreState) → IsConsistentCore tells tables old → IsFleetOf old.settings new.fleet
     → new.fleet.masters ≡ old.fleet.masters → AreInboxesOf old.settings (pens_of old.fleet.masters) new.mail
-    → new ≡ record old { fleet = new.fleet; mail = new.mail } → IsCoreOf tells tables new
+    → new ≡ record old { fleet = new.fleet; mail = new.mail } → IsConsistentCore tells tables new
 delivered_core tells tables old new of fleet masters inboxes rest =
-    subst (IsCoreOf tells tables) (sym rest) (nodes_core tells tables old of new.fleet new.mail fleet masters inboxes)
+    subst (IsConsistentCore tells tables) (sym rest) (nodes_core tells tables old of new.fleet new.mail fleet masters inboxes)
 
 -- the messages stay
-pub nodes_only : (tells : Bool) (tables : Tables) (old new : CoreState) → IsCoreOf tells tables old → IsFleetOf old.settings new.fleet
-    → new.fleet.masters ≡ old.fleet.masters → new ≡ record old { fleet = new.fleet } → IsCoreOf tells tables new
+pub nodes_only : (tells : Bool) (tables : Tables) (old new : CoreState) → IsConsistentCore tells tables old → IsFleetOf old.settings new.fleet
+    → new.fleet.masters ≡ old.fleet.masters → new ≡ record old { fleet = new.fleet } → IsConsistentCore tells tables new
 nodes_only tells tables old new of fleet masters rest =
-    subst (IsCoreOf tells tables) (sym rest) (nodes_core tells tables old of new.fleet old.mail fleet masters of.mail)
+    subst (IsConsistentCore tells tables) (sym rest) (nodes_core tells tables old of new.fleet old.mail fleet masters of.mail)
 
 -- the nodes stay
-pub mail_only : (tells : Bool) (tables : Tables) (old new : CoreState) → IsCoreOf tells tables old
-    → AreInboxesOf old.settings (pens_of old.fleet.masters) new.mail → new ≡ record old { mail = new.mail } → IsCoreOf tells tables new
+pub mail_only : (tells : Bool) (tables : Tables) (old new : CoreState) → IsConsistentCore tells tables old
+    → AreInboxesOf old.settings (pens_of old.fleet.masters) new.mail → new ≡ record old { mail = new.mail } → IsConsistentCore tells tables new
 mail_only tells tables old new of inboxes rest =
-    subst (IsCoreOf tells tables) (sym rest) (nodes_core tells tables old of old.fleet new.mail of.consistent.fleet refl inboxes)
+    subst (IsConsistentCore tells tables) (sym rest) (nodes_core tells tables old of old.fleet new.mail of.consistent.fleet refl inboxes)
 
 -- of what changed only the nodes, the messages are as they were
 pub only_nodes : (old new : CoreState) → new ≡ record old { fleet = new.fleet } → new ≡ record old { fleet = new.fleet; mail = new.mail }
@@ -121,15 +121,15 @@ evicted_masters : (node : NodeName) (key : Option Key) (old new : Moment) (reply
 evicted_masters node key old new (AtNode (Cache (Evicted held))) answers = cache_masters node (Evicts key held) old.core.fleet new.core.fleet answers
 evicted_masters node key old new reply answers = absurd answers
 
-pub evicted_core : (tells : Bool) (tables : Tables) (node : NodeName) (key : Option Key) (old new : Moment) (reply : Reply) → IsCoreOf tells tables old.core
+pub evicted_core : (tells : Bool) (tables : Tables) (node : NodeName) (key : Option Key) (old new : Moment) (reply : Reply) → IsConsistentCore tells tables old.core
     → AnswersEvict node key old reply new → IsFleetOf old.core.settings new.core.fleet → new.core ≡ record old.core { fleet = new.core.fleet }
-    → IsCoreOf tells tables new.core
+    → IsConsistentCore tells tables new.core
 evicted_core tells tables node key old new reply of answers fleet rest =
     nodes_only tells tables old.core new.core of fleet (evicted_masters node key old new reply answers) rest
 
 -- ---- no table changes
 
-pub core_stays : (tells : Bool) (old new : Tables) (core : CoreState) → IsCoreOf tells old core → WhereTold tells (Stays old new) → IsCoreOf tells new core
+pub core_stays : (tells : Bool) (old new : Tables) (core : CoreState) → IsConsistentCore tells old core → WhereTold tells (Stays old new) → IsConsistentCore tells new core
 core_stays tells old new core of stays = record {
   consistent = record {
     stores = record {

@@ -4,7 +4,13 @@ pub mod Delivered
 pub mod Delivering
 pub mod Exact
 pub mod Going
+pub mod HeldNone
+pub mod HeldOn
+pub mod HeldBegun
+pub mod HeldKeeping
+pub mod HeldSteps
 pub mod InOrder
 pub mod Keeping
 pub mod Reaching
+pub mod NamesOnce
 pub mod Ways

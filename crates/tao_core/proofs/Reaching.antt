@@ -11,11 +11,15 @@ use Rattle.cache_items.specs.declared.look.Look.TheVariants.{Hit, Miss}
 use Rattle.cache_node.proofs.Marked.{items_reach_the_mark, low_is_marked}
 use Rattle.core_model.proofs.NodesSeen.{nodes_stay_seen}
 use Rattle.core_model.specs.Consistent.{IsConsistent, IsNodeOf}
-use Rattle.core_model.specs.Fleet.{IsFirstAt, named}
+use Rattle.core_model.specs.Fleet.{Fleet, IsFirstAt, named}
 use Rattle.core_model.specs.Pens.{Pens, pens_of}
 use Rattle.core_model.specs.Reads.{Wanted}
 use Rattle.core_model.specs.Stores.{master_log}
+use Rattle.core_plans.specs.Held.{IsUnderWay, StepsHeld}
+use Rattle.core_plans.specs.declared.held.HeldPlan.{HeldPlan}
+use Rattle.core_plans.specs.declared.held.HeldPlan.TheVariants as held
 use Rattle.core_steps.specs.Reads.{ReadsAlong}
+use Rattle.core_steps.specs.Writes.{Posting}
 use Rattle.core_steps.specs.Routes.{Scene}
 use Rattle.core_steps.specs.declared.routes.Route.{Route}
 use Rattle.follower_cache.specs.Seen.{FollowerState}
@@ -33,9 +37,11 @@ use Rattle.tao_base.specs.declared.entry.Entry.{Entry}
 use Rattle.tao_base.specs.declared.id.Key.{Key}
 use Rattle.tao_base.specs.declared.query.Answer.{Answer}
 use Rattle.tao_base.specs.declared.query.Query.{Query}
+use Rattle.tao_keeper.specs.Table.{Tables}
 use Rattle.tao_schema.specs.Schema.{types_of}
 use Rattle.topology.specs.Config.{Settings}
 use Rattle.tao_core.specs.Calls.{KeptReaches, ReachesMark}
+use Rattle.tao_core.specs.HeldCalls.{HeldReaches}
 use Rattle.tao_core.proofs.Exact.{log_is}
 
 take_within : (low n : ℕ) (xs : List Entry) → low ≤ n → take low (take n xs) ≡ take low xs
@@ -102,3 +108,15 @@ kept_reaches tells s route read (Called (called.Read reply)) old new reads consi
     (λ place f first at. reads.again told kept place f 0 first at (omega arith))
 kept_reaches tells s route read (Refused refused) old new reads consistent here = tt
 kept_reaches tells s route read reply old new reads consistent here = absurd reads
+
+-- ---- a read that was held
+
+pub held_reaches : (tells : Bool) (s : Settings) (leader : NodeName) (before after : HeldPlan) (old new : Posting) (tables : Tables) (f : Fleet)
+    → StepsHeld tells s leader before old after new → IsConsistent tells s new.scene.keepers.told new.scene.fleet → IsUnderWay tells s tables f after
+    → HeldReaches tells s after new.scene
+held_reaches tells s leader (held.Read p) (held.Read q) old new tables f steps consistent under = λ reply ends told kept.
+    reaches_mark tells s q.follower q.query reply.answer reply.version new.scene told consistent under.follower.here
+    (λ place node first at. (steps.steps.legal reply ends).1 told kept place node 0 first at (omega arith))
+held_reaches tells s leader (held.Write p) (held.Write q) old new tables f steps consistent under = tt
+held_reaches tells s leader (held.Read p) (held.Write q) old new tables f steps consistent under = tt
+held_reaches tells s leader (held.Write p) (held.Read q) old new tables f steps consistent under = absurd steps

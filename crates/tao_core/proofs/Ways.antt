@@ -14,7 +14,7 @@ use Rattle.topology.specs.Choices.{chosen_follower, preferred_leader}
 use Rattle.topology.specs.Counts.{counts_of}
 use Rattle.topology.specs.Config.{Settings}
 use Rattle.topology.specs.States.{NodeStates, is_cache}
-use Rattle.tao_core.specs.Core.{CoreState, IsCoreOf, IsPlacedIn}
+use Rattle.tao_core.specs.Core.{CoreState, IsConsistentCore, IsPlacedIn}
 use Rattle.tao_core.specs.Sessions.{session_at, with_session}
 use Rattle.tao_core.specs.declared.sessions.OpenSession.{OpenSession}
 
@@ -47,7 +47,7 @@ opened_placed s sessions new all placed =
 
 -- ---- who is asked
 
-module _ (tells : Bool) (tables : Tables) (core : CoreState) (of : IsCoreOf tells tables core) where
+module _ (tells : Bool) (tables : Tables) (core : CoreState) (of : IsConsistentCore tells tables core) where
   regions_are : core.states.regions ≡ regions_of core.settings
   regions_are = ap (λ (n : NodeStates). n.regions) of.up
 
@@ -64,6 +64,15 @@ module _ (tells : Bool) (tables : Tables) (core : CoreState) (of : IsCoreOf tell
       let one : name ≡ preferred_leader core.states region asked = preferred ∙ ap (preferred_leader core.states region) is in
       let there = subst (λ n. IsTrue (is_cache core.states.regions n)) one (known within) in
       subst (IsLeaderFor core.settings asked) (sym one) ((choices_serve core.settings core.states).leader region asked regions_are here there)
+
+  -- the leader that a region prefers leads
+  pub leads_at : (region shard : ℕ) → shard < core.settings.shards → IsTrue (is_cache core.states.regions (preferred_leader core.states region shard))
+      → IsLeaderFor core.settings shard (preferred_leader core.states region shard)
+  leads_at region shard here known = (choices_serve core.settings core.states).leader region shard regions_are here known
+
+  pub region_within : (region : ℕ) → region < length core.settings.regions → region < length core.states.regions
+  region_within region within =
+      subst (λ xs. region < length xs) (sym regions_are) (subst (λ n. region < n) (sym (length-map core.settings.regions counts_of)) within)
 
   -- the region of a session is one of the states
   pub region_there : (number : ℕ) (session : OpenSession) → session_at core.sessions number ≡ Some session → session.region < length core.states.regions

@@ -1,5 +1,5 @@
 -- What a request asks of the core, or why it is refused before any table is looked at.
-use Rattle.std.specs.Prelude.{ℕ, ◌≡◌, ◌<◌, Bool, true, false, Contains, List, length, Result, Ok, ⊤, nat_lt, not}
+use Rattle.std.specs.Prelude.{ℕ, ◌≡◌, ◌<◌, Bool, true, false, Contains, IsSome, List, None, is_some, length, Result, Ok, ⊤, nat_lt, not}
 use Rattle.outcomes.specs.Results.{◌>>=◌, refused_unless}
 use Rattle.tao_base.specs.Queries.{query_key}
 use Rattle.topology.specs.Config.{Settings}
@@ -10,12 +10,14 @@ use Rattle.requests.specs.declared.request.Request.{Request}
 use Rattle.requests.specs.declared.request.Request.TheVariants as request
 use Rattle.replies.specs.declared.refusals.LineRefused.TheVariants.{NotBuilt}
 use Rattle.replies.specs.declared.refusals.Refusal.{Refusal}
-use Rattle.replies.specs.declared.refusals.Refusal.TheVariants.{Line, Session, Memory}
+use Rattle.replies.specs.declared.refusals.Refusal.TheVariants.{Line, Plan, Session, Memory}
+use Rattle.replies.specs.declared.refusals.PlanRefused.TheVariants.{NoPlan, PlanThere, PlanFull}
 use Rattle.replies.specs.declared.refusals.SessionRefused.TheVariants.{NoSession, SessionThere, SessionFull}
 use Rattle.replies.specs.declared.reply.Reply.{Reply}
 use Rattle.replies.specs.declared.reply.Reply.TheVariants.{Refused}
 use Rattle.core_model.specs.Evictions.{IsCacheOf}
 use Rattle.core_model.specs.Fleet.{follower_names}
+use Rattle.core_plans.specs.Held.{Plans, plan_at, plan_count}
 use Rattle.request_check.specs.Placed.{IsPlacedKey, IsPlacedWrite}
 use Rattle.request_check.specs.Refusal.{named}
 use Rattle.request_check.specs.Requests.{checked_of}
@@ -30,11 +32,17 @@ use Rattle.tao_core.specs.declared.sessions.OpenSession.{OpenSession}
 
 -- ---- what is built
 
--- the calls of objects and associations are built, but for critical reads, and so are `open`, `audit` and the words of single cache nodes
+-- the calls of objects and associations are built, but for critical reads
+abbrev pub is_built_call : Call → Bool
+is_built_call (call.Write write) = true
+is_built_call (call.Read read) = not read.critical
+
+-- they are so held or not, and so are `advance`, `open`, `audit` and the words of single cache nodes
 abbrev pub is_built : Request → Bool
 is_built (request.Open opening) = true
-is_built (request.Call (call.Write write)) = true
-is_built (request.Call (call.Read read)) = not read.critical
+is_built (request.Call asked) = is_built_call asked
+is_built (request.Hold plan asked) = is_built_call asked
+is_built (request.Advance plan) = true
 is_built (request.Deliver message) = true
 is_built (request.Again message) = true
 is_built (request.Drop message) = true
@@ -48,6 +56,28 @@ is_built other = false
 -- that a word isn't built yet
 abbrev pub not_built : Request → Refusal
 not_built asked = Line (NotBuilt (request_word asked))
+
+-- ---- plans
+
+-- how many plans may be held
+abbrev pub most_plans : ℕ
+most_plans = 512
+
+-- a plan that is advanced is held
+abbrev pub held_plan : Plans → ℕ → Result ⊤ Refusal
+held_plan plans number = refused_unless (Plan (NoPlan number)) (is_some (plan_at plans number))
+
+-- a plan that is to be held isn't held yet, and there is room for one
+abbrev pub new_plan : Plans → ℕ → Result ⊤ Refusal
+new_plan plans number = do
+  new ← refused_unless (Plan (PlanThere number)) (not (is_some (plan_at plans number)))
+  refused_unless (Plan (PlanFull (plan_count plans))) (nat_lt (plan_count plans) most_plans)
+
+-- nothing but `hold` and `advance` names a plan
+abbrev pub plan_for : Plans → Request → Result ⊤ Refusal
+plan_for plans (request.Hold number asked) = new_plan plans number
+plan_for plans (request.Advance number) = held_plan plans number
+plan_for plans other = Ok tt
 
 -- ---- sessions
 
@@ -65,24 +95,26 @@ new_session sessions session = do
   new ← refused_unless (Session (SessionThere session)) (not (is_open sessions session))
   refused_unless (Session (SessionFull (length sessions))) (nat_lt (length sessions) most_sessions)
 
--- nothing but calls and `open` names a session
+-- nothing but calls, held or not, and `open` names a session
 abbrev pub session_for : List OpenSession → Request → Result ⊤ Refusal
 session_for sessions (request.Call asked) = open_session sessions (session_of asked)
+session_for sessions (request.Hold plan asked) = open_session sessions (session_of asked)
 session_for sessions (request.Open opening) = new_session sessions opening.session
 session_for sessions other = Ok tt
 
 -- ---- requests
 
--- what isn't built is refused first, and then a session
-abbrev pub admitted : List OpenSession → Request → Result ⊤ Refusal
-admitted sessions asked = do
+-- what isn't built is refused first, then a plan, and then a session
+abbrev pub admitted : List OpenSession → Plans → Request → Result ⊤ Refusal
+admitted sessions plans asked = do
   built ← refused_unless (not_built asked) (is_built asked)
+  held ← plan_for plans asked
   session_for sessions asked
 
 -- what the request asks, with places in place of names
-abbrev pub asked_of : Settings → List OpenSession → Request → Result Checked Refusal
-asked_of s sessions asked = do
-  there ← admitted sessions asked
+abbrev pub asked_of : Settings → List OpenSession → Plans → Request → Result Checked Refusal
+asked_of s sessions plans asked = do
+  there ← admitted sessions plans asked
   named (checked_of s asked)
 
 -- a call is of a configured shard and an open session; a read is none that is critical
@@ -91,18 +123,20 @@ CallCanBeDone s sessions (checked_call.Write call) = IsPlacedWrite s call.write 
 CallCanBeDone s sessions (checked_call.Read call) = IsPlacedKey s (query_key call.query) × (is_open sessions call.session ≡ true) × (call.critical ≡ false)
 
 -- what is asked is one of what is built, each shard, key and node is configured, and a session that is to be opened isn't open, and is of a region
-abbrev pub CanBeDone : Settings → List OpenSession → Checked → Type 0
-CanBeDone s sessions (checked.Open session region tier) = (is_open sessions session ≡ false) × (region < length s.regions)
-CanBeDone s sessions (checked.Call asked) = CallCanBeDone s sessions asked
-CanBeDone s sessions (checked.Deliver node message) = IsCacheOf s node
-CanBeDone s sessions (checked.Again node message) = IsCacheOf s node
-CanBeDone s sessions (checked.Drop node message) = IsCacheOf s node
-CanBeDone s sessions (checked.Refill node) = Contains (follower_names s) node
-CanBeDone s sessions (checked.Evict node key) = IsCacheOf s node
-CanBeDone s sessions (checked.Show node key) = IsCacheOf s node
-CanBeDone s sessions (checked.Inbox node) = IsCacheOf s node
-CanBeDone s sessions (checked.Audit asked) = IsPlacedKey s (query_key asked.query)
-CanBeDone s sessions other = ⊥
+abbrev pub CanBeDone : Settings → List OpenSession → Plans → Checked → Type 0
+CanBeDone s sessions plans (checked.Open session region tier) = (is_open sessions session ≡ false) × (region < length s.regions)
+CanBeDone s sessions plans (checked.Call asked) = CallCanBeDone s sessions asked
+CanBeDone s sessions plans (checked.Hold plan asked) = (plan_at plans plan ≡ None) × CallCanBeDone s sessions asked
+CanBeDone s sessions plans (checked.Advance plan) = IsSome (plan_at plans plan)
+CanBeDone s sessions plans (checked.Deliver node message) = IsCacheOf s node
+CanBeDone s sessions plans (checked.Again node message) = IsCacheOf s node
+CanBeDone s sessions plans (checked.Drop node message) = IsCacheOf s node
+CanBeDone s sessions plans (checked.Refill node) = Contains (follower_names s) node
+CanBeDone s sessions plans (checked.Evict node key) = IsCacheOf s node
+CanBeDone s sessions plans (checked.Show node key) = IsCacheOf s node
+CanBeDone s sessions plans (checked.Inbox node) = IsCacheOf s node
+CanBeDone s sessions plans (checked.Audit asked) = IsPlacedKey s (query_key asked.query)
+CanBeDone s sessions plans other = ⊥
 
 -- how it is replied that nothing is asked
 abbrev pub reply_as : CheckRefusal → Reply

@@ -1,6 +1,7 @@
 pub mod Asked
 pub mod Calls
 pub mod Core
+pub mod HeldCalls
 pub mod Deliveries
 pub mod Replies
 pub mod Sessions

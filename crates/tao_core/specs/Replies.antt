@@ -35,6 +35,7 @@ use Rattle.tao_core.specs.Asked.{asked_of}
 use Rattle.tao_core.specs.Core.{Moment}
 use Rattle.tao_core.specs.Calls.{AnswersRead, AnswersWrite}
 use Rattle.tao_core.specs.Deliveries.{AnswersDeliver, AnswersInbox, AnswersLoss, AnswersRefill, AnswersSecond, AnswersShow}
+use Rattle.tao_core.specs.HeldCalls.{AnswersAdvance, AnswersHold}
 use Rattle.tao_core.specs.Sessions.{with_session}
 use Rattle.tao_core.specs.declared.sessions.OpenSession.{OpenSession}
 
@@ -108,6 +109,8 @@ AnswersAsked tells old (Ok (checked.Open session region tier)) reply new =
     AnswersOpen (record { session = session; region = region; tier = tier }) old.core.sessions reply new.core.sessions × KeepsRest old new
 AnswersAsked tells old (Ok (checked.Call (checked_call.Write call))) reply new = AnswersWrite tells old call reply new
 AnswersAsked tells old (Ok (checked.Call (checked_call.Read call))) reply new = AnswersRead tells old call reply new
+AnswersAsked tells old (Ok (checked.Hold plan call)) reply new = AnswersHold tells plan call old reply new
+AnswersAsked tells old (Ok (checked.Advance plan)) reply new = AnswersAdvance tells plan old reply new
 AnswersAsked tells old (Ok (checked.Deliver node message)) reply new = AnswersDeliver node message old.core reply new.core × ChangesNodes old new
 AnswersAsked tells old (Ok (checked.Again node message)) reply new = AnswersSecond node message old.core reply new.core × ChangesNodes old new
 AnswersAsked tells old (Ok (checked.Drop node message)) reply new = AnswersLoss node message old.core reply new.core × ChangesNodes old new
@@ -129,4 +132,4 @@ pub record WantsMemory (old : Moment) (reply : Reply) (new : Moment) : Type 0 wh
 -- the reply to a request is the one that what it asks has
 abbrev pub AnswersRequest : Bool → Moment → Request → Reply → Moment → Type 0
 AnswersRequest tells old asked reply new =
-    WantsMemory old reply new ⊎ AnswersAsked tells old (asked_of old.core.settings old.core.sessions asked) reply new
+    WantsMemory old reply new ⊎ AnswersAsked tells old (asked_of old.core.settings old.core.sessions old.core.plans asked) reply new

@@ -1,7 +1,7 @@
 //! Messages that are delivered, repeated or lost, refills, and what a node holds.
 ghost use Rattle.std.specs.Prelude.{◌≡◌, Bool, Contains, IfOk, option_copied};
 ghost use Rattle.core_mail.specs.Inboxes.{AreInboxesOf, shown_message};
-ghost use Rattle.core_model.specs.Consistent.{GoesOn, IsFleetOf};
+ghost use Rattle.core_model.specs.Consistent.{IsFleetOf};
 ghost use Rattle.core_model.specs.Evictions.{IsCacheOf};
 ghost use Rattle.core_model.specs.Fleet.{follower_names};
 ghost use Rattle.core_model.specs.Messages.{IsMessageFor, IsRefillFor};
@@ -10,7 +10,7 @@ ghost use Rattle.core_model.specs.Reads.{wanted};
 ghost use Rattle.core_steps.specs.Reads.{ReadsAlong};
 ghost use Rattle.core_steps.specs.Routes.{scene};
 ghost use Rattle.tao_base.specs.Queries.{query_shard};
-ghost use Rattle.tao_core.specs.Core.{IsCoreOf, moment};
+ghost use Rattle.tao_core.specs.Core.{IsConsistentCore, StaysHeld, moment};
 ghost use Rattle.tao_core.specs.Deliveries.{AnswersDeliver, AnswersInbox, AnswersLoss, AnswersRefill, AnswersSecond, AnswersShow, IsProcessed};
 ghost use Rattle.tao_core.specs.Deliveries.{home_region, lost_as, refill_route, shown_content, shown_item};
 ghost use Rattle.tao_keeper.specs.KeeperState.{IsLater, KeeperState, KeepsTables};
@@ -105,7 +105,7 @@ impl<'c> Core<'c> {
         requires message { IsMessageFor self.old.settings (pens_of self.old.fleet.masters) node message }
         ensures does { IsProcessed word node message self.old result self.new }
         ensures fleet { IsFleetOf self.old.settings self.new.fleet }
-        ensures goes { GoesOn self.old.fleet self.new.fleet }
+        ensures on { StaysHeld self.old.fleet self.new.fleet }
         ensures rest { self.new ≡ record self.old { fleet = self.new.fleet } }
     {
         let message_told = told(&message);
@@ -130,6 +130,7 @@ impl<'c> Core<'c> {
         ensures fleet { IsFleetOf self.old.settings self.new.fleet }
         ensures inboxes { AreInboxesOf self.old.settings (pens_of self.old.fleet.masters) self.new.mail }
         ensures masters { self.new.fleet.masters ≡ self.old.fleet.masters }
+        ensures on { StaysHeld self.old.fleet self.new.fleet }
         ensures rest { self.new ≡ record self.old { fleet = self.new.fleet; mail = self.new.mail } }
     {
         match self.mail.take(node, place as usize) {
@@ -146,6 +147,7 @@ impl<'c> Core<'c> {
         ensures does { AnswersSecond node place self.old result self.new }
         ensures fleet { IsFleetOf self.old.settings self.new.fleet }
         ensures masters { self.new.fleet.masters ≡ self.old.fleet.masters }
+        ensures on { StaysHeld self.old.fleet self.new.fleet }
         ensures rest { self.new ≡ record self.old { fleet = self.new.fleet } }
     {
         match self.mail.copy(node, place as usize) {
@@ -184,7 +186,7 @@ impl<'c> Core<'c> {
     pub(crate) fn show(&self, alloc: Global, node: NodeName, key: Key) -> Reply
         requires fleet { IsFleetOf self.now.settings self.now.fleet }
         requires node { IsCacheOf self.now.settings node }
-        ensures { (tells : Bool) (keepers : KeeperState) (link : LinkShown) → IsCoreOf tells keepers.told self.now
+        ensures { (tells : Bool) (keepers : KeeperState) (link : LinkShown) → IsConsistentCore tells keepers.told self.now
             → AnswersShow tells node key (moment self.now keepers link) result }
     {
         let Some(mark) = self.fleet.mark(node, key.shard()) else {
@@ -205,12 +207,13 @@ impl<'c> Core<'c> {
         node: NodeName,
         refill: Refill,
     ) -> Reply
-        requires keepers { IsCoreOf K.TELLS (K.state keepers.old).told self.old }
+        requires keepers { IsConsistentCore K.TELLS (K.state keepers.old).told self.old }
         requires node { Contains (follower_names self.old.settings) node }
         requires refill { IsRefillFor self.old.settings (pens_of self.old.fleet.masters) node refill }
         ensures reads { ReadsAlong K.TELLS self.old.settings (refill_route self.old node (query_shard refill.query)) (wanted refill.query refill.floor)
             result (scene self.old.fleet (K.state keepers.old) (L.shown link.old)) (scene self.new.fleet (K.state keepers.new) (L.shown link.new)) }
-        ensures keepers { IsCoreOf K.TELLS (K.state keepers.new).told self.new }
+        ensures keepers { IsConsistentCore K.TELLS (K.state keepers.new).told self.new }
+        ensures on { StaysHeld self.old.fleet self.new.fleet }
         ensures tables { KeepsTables K.TELLS (K.state keepers.old) (K.state keepers.new) }
         ensures later { IsLater (K.state keepers.old) (K.state keepers.new) }
         ensures rest { self.new ≡ record self.old { fleet = self.new.fleet } }
@@ -240,11 +243,12 @@ impl<'c> Core<'c> {
         link: &mut L,
         node: NodeName,
     ) -> Reply
-        requires keepers { IsCoreOf K.TELLS (K.state keepers.old).told self.old }
+        requires keepers { IsConsistentCore K.TELLS (K.state keepers.old).told self.old }
         requires node { Contains (follower_names self.old.settings) node }
         ensures does { AnswersRefill K.TELLS node (moment self.old (K.state keepers.old) (L.shown link.old)) result
             (moment self.new (K.state keepers.new) (L.shown link.new)) }
-        ensures keepers { IsCoreOf K.TELLS (K.state keepers.new).told self.new }
+        ensures keepers { IsConsistentCore K.TELLS (K.state keepers.new).told self.new }
+        ensures on { StaysHeld self.old.fleet self.new.fleet }
         ensures tables { KeepsTables K.TELLS (K.state keepers.old) (K.state keepers.new) }
         ensures later { IsLater (K.state keepers.old) (K.state keepers.new) }
         ensures rest { self.new ≡ record self.old { fleet = self.new.fleet } }

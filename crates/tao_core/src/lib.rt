@@ -3,6 +3,7 @@
 
 mod audits;
 mod deliveries;
+mod holding;
 mod refusals;
 mod resolving;
 mod serving;

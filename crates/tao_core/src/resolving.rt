@@ -2,10 +2,11 @@
 ghost use Rattle.std.specs.Prelude.{◌≡◌, IfOk};
 ghost use Rattle.outcomes.specs.Results.{Gives};
 ghost use Rattle.request_check.specs.Refusal.{replied, reply_unless_memory};
-ghost use Rattle.tao_core.specs.Asked.{CanBeDone, admitted, asked_of, is_built, new_session, not_built, open_session, session_for, session_of};
+ghost use Rattle.tao_core.specs.Asked.{CanBeDone, admitted, asked_of, held_plan, is_built, is_built_call, new_plan, new_session, not_built, open_session, plan_for, session_for, session_of};
 
 use crate::sessions::Sessions;
-use replies::{LineRefused, Refusal, Reply, SessionRefused};
+use core_plans::HeldPlans;
+use replies::{LineRefused, PlanRefused, Refusal, Reply, SessionRefused};
 use request_check::{CheckRefusal, Checked, check};
 use requests::{Call, Request};
 use std::alloc::Global;
@@ -14,6 +15,9 @@ use topology::Config;
 /// The most sessions that may be open.
 const MOST_SESSIONS: usize = 1024;
 
+/// The most plans that may be held.
+const MOST_PLANS: usize = 512;
+
 /// What the request asks, or its first refusal: of a word that isn't built yet, then of its session,
 /// then of a name. What is asked can be done: its shard is configured, and a session is opened that
 /// isn't open yet. Costs what `request_check::check` does, and a binary search for the session.
@@ -21,35 +25,49 @@ pub(crate) fn resolve(
     alloc: Global,
     config: &Config,
     sessions: &Sessions,
+    plans: &HeldPlans,
     request: &Request,
 ) -> Result<Checked, CheckRefusal>
-    ensures asked { Gives reply_unless_memory result (replied (asked_of config.now sessions.now request.now)) }
-    ensures can { IfOk result (CanBeDone config.now sessions.now) }
+    ensures asked { Gives reply_unless_memory result (replied (asked_of config.now sessions.now plans.now request.now)) }
+    ensures can { IfOk result (CanBeDone config.now sessions.now plans.now) }
 {
-    match admit(sessions, request) {
+    match admit(sessions, plans, request) {
         Ok(()) => check(alloc, config, request),
         Err(refusal) => Err(CheckRefusal::Refused(Reply::Refused(refusal))),
     }
 }
 
-/// Refuses a word that isn't built yet, and a session that the request may not name.
-fn admit(sessions: &Sessions, request: &Request) -> Result<(), Refusal>
-    ensures { result ≡ admitted sessions.now request.now }
+/// Refuses a word that isn't built yet, and a plan or a session that the request may not name.
+fn admit(sessions: &Sessions, plans: &HeldPlans, request: &Request) -> Result<(), Refusal>
+    ensures { result ≡ admitted sessions.now plans.now request.now }
 {
-    if is_built(request) {
-        session_for(sessions, request)
-    } else {
-        Err(not_built(request))
+    if !is_built(request) {
+        return Err(not_built(request));
     }
+    plan_for(plans, request)?;
+    session_for(sessions, request)
 }
 
 // ---- what is built
+
+/// A call is built, but for a critical read.
+fn is_built_call(call: &Call) -> bool
+    ensures { result ≡ is_built_call call.now }
+{
+    match call {
+        Call::Write(_) => true,
+        Call::Read(read) => !read.critical,
+    }
+}
 
 fn is_built(request: &Request) -> bool
     ensures { result ≡ is_built request.now }
 {
     match request {
+        Request::Hold { call, .. } => is_built_call(call),
+        Request::Call(call) => is_built_call(call),
         Request::Open(_)
+        | Request::Advance { .. }
         | Request::Deliver(_)
         | Request::Again(_)
         | Request::Drop(_)
@@ -57,9 +75,7 @@ fn is_built(request: &Request) -> bool
         | Request::Evict { .. }
         | Request::Show { .. }
         | Request::Inbox { .. }
-        | Request::Audit(_)
-        | Request::Call(Call::Write(_)) => true,
-        Request::Call(Call::Read(read)) => !read.critical,
+        | Request::Audit(_) => true,
         _ => false,
     }
 }
@@ -71,6 +87,45 @@ pub(crate) fn not_built(request: &Request) -> Refusal
     Refusal::Line(LineRefused::NotBuilt {
         word: request.word(),
     })
+}
+
+// ---- plans
+
+/// Refuses a plan that isn't held.
+fn held_plan(plans: &HeldPlans, plan: u32) -> Result<(), Refusal>
+    ensures { result ≡ held_plan plans.now plan }
+{
+    if plans.has(plan) {
+        Ok(())
+    } else {
+        Err(Refusal::Plan(PlanRefused::NoPlan { plan }))
+    }
+}
+
+/// Refuses a plan that can't be held.
+fn new_plan(plans: &HeldPlans, plan: u32) -> Result<(), Refusal>
+    ensures { result ≡ new_plan plans.now plan }
+{
+    if plans.has(plan) {
+        return Err(Refusal::Plan(PlanRefused::PlanThere { plan }));
+    }
+    if plans.len() < MOST_PLANS {
+        Ok(())
+    } else {
+        let plans = plans.len() as u64;
+        Err(Refusal::Plan(PlanRefused::PlanFull { plans }))
+    }
+}
+
+/// Refuses the plan that the request names, unless it may.
+fn plan_for(plans: &HeldPlans, request: &Request) -> Result<(), Refusal>
+    ensures { result ≡ plan_for plans.now request.now }
+{
+    match request {
+        Request::Hold { plan, .. } => new_plan(plans, *plan),
+        Request::Advance { plan } => held_plan(plans, *plan),
+        _ => Ok(()),
+    }
 }
 
 // ---- sessions
@@ -116,6 +171,7 @@ fn session_for(sessions: &Sessions, request: &Request) -> Result<(), Refusal>
 {
     match request {
         Request::Call(call) => open_session(sessions, session_of(call)),
+        Request::Hold { call, .. } => open_session(sessions, session_of(call)),
         Request::Open(opening) => new_session(sessions, opening.session),
         _ => Ok(()),
     }

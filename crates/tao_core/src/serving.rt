@@ -7,10 +7,10 @@ ghost use Rattle.graph_model.specs.Told.{WhereTold};
 ghost use Rattle.request_check.specs.Placed.{IsPlacedKey, IsPlacedWrite};
 ghost use Rattle.tao_base.specs.Queries.{query_key};
 ghost use Rattle.tao_core.specs.Asked.{CanBeDone, CallCanBeDone, reply_as};
-ghost use Rattle.tao_core.specs.Core.{IsCoreOf, IsNewCore, moment};
+ghost use Rattle.tao_core.specs.Core.{IsConsistentCore, IsCoreOf, IsNewCore, StaysHeld, moment};
 ghost use Rattle.core_model.specs.Growing.{MastersGrow};
 ghost use Rattle.tao_core.specs.Calls.{AnswersRead, AnswersWrite};
-ghost use Rattle.core_model.specs.Consistent.{GoesOn, IsFleetOf};
+ghost use Rattle.core_model.specs.Consistent.{IsFleetOf};
 ghost use Rattle.core_model.specs.Evictions.{IsCacheOf};
 ghost use Rattle.tao_core.specs.Replies.{AnswersAsked, AnswersEvict, AnswersOpen, AnswersRequest};
 ghost use Rattle.tao_keeper.specs.KeeperState.{KeeperState};
@@ -26,6 +26,7 @@ use crate::sessions::{OpenSession, Sessions};
 use cache_items::Item;
 use core_mail::Mail;
 use core_nodes::Fleet;
+use core_plans::HeldPlans;
 use core_steps::{Route, out_of_memory, read_along, write_along};
 use node_name::NodeName;
 use replies::{CacheReply, NodeReply, OpenRefusal, Reply};
@@ -37,11 +38,13 @@ use tao_base::{Key, Origin, OutOfMemory};
 use tao_keeper::Keeper;
 use tao_link::Link;
 use topology::{Config, Topology};
+use words::PlanWord;
 
 /// The version that the answer to a session's read has at least: sessions don't learn what they wrote yet.
-const NO_FLOOR: u64 = 0;
+pub(crate) const NO_FLOOR: u64 = 0;
 
-/// The core of a run: its configuration, the sessions that are open, which nodes are up, the messages that wait, and the nodes:
+/// The core of a run: its configuration, the sessions that are open, which nodes are up, the messages that wait, the calls that are
+/// held, and the nodes:
 /// followers, leaders, and the stores of the shards. What the stores hold lies with the keepers that each call is given.
 #[derive(Drop)]
 pub struct Core<'c> {
@@ -50,6 +53,7 @@ pub struct Core<'c> {
     pub(crate) topology: Topology,
     pub(crate) fleet: Fleet,
     pub(crate) mail: Mail,
+    pub(crate) plans: HeldPlans,
 }
 
 impl<'c> Model for Core<'c> {
@@ -97,6 +101,7 @@ impl<'c> Core<'c> {
                 topology,
                 fleet,
                 mail,
+                plans: HeldPlans::new(alloc),
             }),
             Err(OutOfMemory) => Err(OpenRefusal::OutOfMemory),
         }
@@ -123,7 +128,7 @@ impl<'c> Core<'c> {
         ensures grows { MastersGrow K.TELLS self.old.settings (K.state keepers.old).told (K.state keepers.new).told }
         ensures later { IsLater (K.state keepers.old) (K.state keepers.new) }
     {
-        match resolve(alloc, self.config, &self.sessions, request) {
+        match resolve(alloc, self.config, &self.sessions, &self.plans, request) {
             Ok(asked) => self.perform(alloc, keepers, link, request, &asked),
             Err(refusal) => unasked(refusal),
         }
@@ -139,7 +144,7 @@ impl<'c> Core<'c> {
         asked: &Checked,
     ) -> Reply
         requires keepers { IsCoreOf K.TELLS (K.state keepers.old).told self.old }
-        requires can { CanBeDone self.old.settings self.old.sessions asked.now }
+        requires can { CanBeDone self.old.settings self.old.sessions self.old.plans asked.now }
         ensures does { AnswersAsked K.TELLS (moment self.old (K.state keepers.old) (L.shown link.old)) (Ok asked.now) result
             (moment self.new (K.state keepers.new) (L.shown link.new)) }
         ensures settings { self.new.settings ≡ self.old.settings }
@@ -162,6 +167,10 @@ impl<'c> Core<'c> {
             }
             Checked::Call(CheckedCall::Write(call)) => self.write(alloc, keepers, link, call),
             Checked::Call(CheckedCall::Read(call)) => self.read(alloc, keepers, link, call),
+            Checked::Hold { plan, call } => self.hold(alloc, keepers, link, *plan, call),
+            Checked::Advance { plan } => {
+                self.step_plan(alloc, keepers, link, PlanWord::Advance, *plan)
+            }
             Checked::Deliver { node, message } => self.deliver(*node, *message),
             Checked::Again { node, message } => self.deliver_again(*node, *message),
             Checked::Drop { node, message } => self.lose(*node, *message),
@@ -182,12 +191,13 @@ impl<'c> Core<'c> {
         link: &mut L,
         call: &CheckedRead,
     ) -> Reply
-        requires keepers { IsCoreOf K.TELLS (K.state keepers.old).told self.old }
+        requires keepers { IsConsistentCore K.TELLS (K.state keepers.old).told self.old }
         requires placed { IsPlacedKey self.old.settings (query_key call.now.query) }
         requires open { is_open self.old.sessions call.now.session ≡ true }
         ensures does { AnswersRead K.TELLS (moment self.old (K.state keepers.old) (L.shown link.old)) call.now result
             (moment self.new (K.state keepers.new) (L.shown link.new)) }
-        ensures keepers { IsCoreOf K.TELLS (K.state keepers.new).told self.new }
+        ensures keepers { IsConsistentCore K.TELLS (K.state keepers.new).told self.new }
+        ensures on { StaysHeld self.old.fleet self.new.fleet }
         ensures later { IsLater (K.state keepers.old) (K.state keepers.new) }
     {
         let session = self.sessions.at(call.session);
@@ -220,12 +230,13 @@ impl<'c> Core<'c> {
         link: &mut L,
         call: &CheckedWrite,
     ) -> Reply
-        requires keepers { IsCoreOf K.TELLS (K.state keepers.old).told self.old }
+        requires keepers { IsConsistentCore K.TELLS (K.state keepers.old).told self.old }
         requires placed { IsPlacedWrite self.old.settings call.now.write }
         requires open { is_open self.old.sessions call.now.session ≡ true }
         ensures does { AnswersWrite K.TELLS (moment self.old (K.state keepers.old) (L.shown link.old)) call.now result
             (moment self.new (K.state keepers.new) (L.shown link.new)) }
-        ensures keepers { IsCoreOf K.TELLS (K.state keepers.new).told self.new }
+        ensures keepers { IsConsistentCore K.TELLS (K.state keepers.new).told self.new }
+        ensures on { StaysHeld self.old.fleet self.new.fleet }
         ensures grows { MastersGrow K.TELLS self.old.settings (K.state keepers.old).told (K.state keepers.new).told }
         ensures later { IsLater (K.state keepers.old) (K.state keepers.new) }
     {
@@ -287,7 +298,7 @@ impl<'c> Core<'c> {
         requires node { IsCacheOf self.old.settings node }
         ensures does { (keepers : KeeperState) (link : LinkShown) → AnswersEvict node key (moment self.old keepers link) result (moment self.new keepers link) }
         ensures fleet { IsFleetOf self.old.settings self.new.fleet }
-        ensures goes { GoesOn self.old.fleet self.new.fleet }
+        ensures on { StaysHeld self.old.fleet self.new.fleet }
         ensures rest { self.new ≡ record self.old { fleet = self.new.fleet } }
     {
         let evicted = self.fleet.evict(self.config, node, key);

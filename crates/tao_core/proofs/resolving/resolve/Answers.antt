@@ -4,5 +4,5 @@ use Rattle.tao_core.proofs.resolving.resolve.Goals as goal
 
 pub returns-in-Ok-clause-can : goal.returns-in-Ok-clause-can
 returns-in-Ok-clause-can c =
-    checked_can c.args.config.now c.args.sessions.now c.args.request.now c.check.result (sym c.admit.ensures ∙ c.in-Ok.is)
+    checked_can c.args.config.now c.args.sessions.now c.args.plans.now c.args.request.now c.check.result (sym c.admit.ensures ∙ c.in-Ok.is)
     c.check.ensures.checked c.check.ensures.placed

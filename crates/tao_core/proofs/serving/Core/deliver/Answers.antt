@@ -24,8 +24,8 @@ returns-in-Some c =
     let done =
     delivered c.args.node c.args.place (core_state c.self.inside) c.args.self.now c.take.new.self c.process.result c.self.view_is c.in-Some.message
     c.process.new.self c.in-Some.ensures.takes (c.take.ensures.of c.self.inside.config.now (pens_of c.self.inside.fleet.masters) is)
-    c.process.ensures.does c.process.ensures.fleet c.process.ensures.rest in
-    record { does = done.does; fleet = done.fleet; inboxes = done.inboxes; masters = done.masters; rest = done.rest }
+    c.process.ensures.does c.process.ensures.fleet c.process.ensures.on c.process.ensures.rest in
+    record { does = done.does; fleet = done.fleet; inboxes = done.inboxes; masters = done.masters; on = done.on; rest = done.rest }
 
 pub returns-in-None : goal.returns-in-None
 returns-in-None c =
@@ -34,4 +34,4 @@ returns-in-None c =
     let done =
     none_delivered c.args.node c.args.place (core_state c.self.inside) c.args.self.now c.take.new.self c.no_message.result c.self.view_is
     c.no_message.ensures c.in-None.ensures.takes (c.take.ensures.of c.self.inside.config.now (pens_of c.self.inside.fleet.masters) is) fleet in
-    record { does = done.does; fleet = done.fleet; inboxes = done.inboxes; masters = done.masters; rest = done.rest }
+    record { does = done.does; fleet = done.fleet; inboxes = done.inboxes; masters = done.masters; on = done.on; rest = done.rest }

@@ -28,8 +28,8 @@ returns-in-Some c =
     let waits = subst (λ found. WaitsAt c.args.node c.args.place found c.self.inside.mail) c.in-Some.is c.in-Ok.ensures.copy in
     let done =
     repeated c.args.node c.args.place (core_state c.self.inside) c.args.self.now c.copy.new.self c.process.result c.self.view_is c.copy.ensures.same
-    c.in-Some.message c.process.new.self waits c.process.ensures.does c.process.ensures.fleet c.process.ensures.rest in
-    record { does = done.does; fleet = done.fleet; masters = done.masters; rest = done.rest }
+    c.in-Some.message c.process.new.self waits c.process.ensures.does c.process.ensures.fleet c.process.ensures.on c.process.ensures.rest in
+    record { does = done.does; fleet = done.fleet; masters = done.masters; on = done.on; rest = done.rest }
 
 pub returns-in-None : goal.returns-in-None
 returns-in-None c =
@@ -38,4 +38,4 @@ returns-in-None c =
     let done =
     none_repeated c.args.node c.args.place (core_state c.self.inside) c.args.self.now c.copy.new.self c.no_message.result c.self.view_is
     c.copy.ensures.same c.no_message.ensures none fleet in
-    record { does = done.does; fleet = done.fleet; masters = done.masters; rest = done.rest }
+    record { does = done.does; fleet = done.fleet; masters = done.masters; on = done.on; rest = done.rest }

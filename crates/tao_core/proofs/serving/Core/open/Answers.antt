@@ -3,15 +3,19 @@ use Rattle.std.specs.Prelude.{All}
 use Rattle.std.proofs.lemmas.List.Elements.{All-from_recursion}
 use Rattle.core_model.specs.Pens.{pens_of}
 use Rattle.tao_core.specs.Core.{IsPlacedIn}
+use Rattle.tao_core.proofs.HeldNone.{none_held}
 use Rattle.tao_core.proofs.serving.Core.open.Goals as goal
 
 pub returns-in-Ok-open-clause-keepers : goal.returns-in-Ok-open-clause-keepers
 returns-in-Ok-open-clause-keepers g c =
     let s = c.args.config.now in
     record {
-      consistent = c.in_ok-fleet.ensures.consistent;
-      mail = c.in-Ok-open.ensures.of (pens_of c.in_ok-fleet.fleet.masters);
-      up = c.in-Ok.ensures.made;
-      sessions = subst (All (IsPlacedIn s)) (sym c.new.ensures) (All-from_recursion (IsPlacedIn s) [] tt);
-      no_inverse = c.requires.no_inverse;
+      is_consistent = record {
+        consistent = c.in_ok-fleet.ensures.consistent;
+        mail = c.in-Ok-open.ensures.of (pens_of c.in_ok-fleet.fleet.masters);
+        up = c.in-Ok.ensures.made;
+        sessions = subst (All (IsPlacedIn s)) (sym c.new.ensures) (All-from_recursion (IsPlacedIn s) [] tt);
+        no_inverse = c.requires.no_inverse;
+      };
+      plans = none_held g.K.Keeper.TELLS s _ c.in_ok-fleet.fleet c.new-in-Ok-open.result c.new-in-Ok-open.ensures.none c.in_ok-fleet.ensures.empty;
     }

@@ -3,29 +3,39 @@ use Rattle.tao_core.specs.Asked.{CanBeDone}
 use Rattle.tao_core.specs.Core.{CoreState, IsCoreOf, IsPlacedIn, core_state, moment}
 use Rattle.tao_core.specs.Replies.{AnswersAsked}
 use Rattle.tao_core.specs.declared.sessions.OpenSession.{OpenSession}
+use Rattle.tao_core.proofs.HeldOn.{core_held, core_goes_on, fleet_stays, nodes_alone, same_held}
 use Rattle.tao_core.proofs.Keeping.{core_stays, delivered_core, evicted_core, mail_only, nodes_only, only_mail, only_nodes, opened_core}
 use Rattle.tao_core.proofs.serving.Core.perform.Goals as goal
 
 pub returns-in-Open-clause-keepers : goal.returns-in-Open-clause-keepers
 returns-in-Open-clause-keepers g c =
-    let tables = (g.K.Keeper.state c.args.keepers.now).told in
-    let of = subst (IsCoreOf g.K.Keeper.TELLS tables) (sym c.self.view_is) c.requires.keepers in
-    let can = subst (CanBeDone c.args.self.now.settings c.args.self.now.sessions) c.in-Open.is c.requires.can in
+    let keepers = g.K.Keeper.state c.args.keepers.now in
+    let core = core_state c.self.inside in
+    let of = subst (IsCoreOf g.K.Keeper.TELLS keepers.told) (sym c.self.view_is) c.requires.keepers in
+    let can = subst (CanBeDone c.args.self.now.settings c.args.self.now.sessions c.args.self.now.plans) c.in-Open.is c.requires.can in
     let session : OpenSession = record { session = c.in-Open.session; region = c.in-Open.region; tier = c.in-Open.tier } in
     let placed = subst (λ (x : CoreState). IsPlacedIn x.settings session) (sym c.self.view_is) can.1 in
-    opened_core g.K.Keeper.TELLS tables (core_state c.self.inside) session c.open_session.new.sessions c.open_session.result of placed c.open_session.ensures
+    let after : CoreState = record core { sessions = c.open_session.new.sessions } in
+    core_held g.K.Keeper.TELLS keepers keepers core after of
+    (opened_core g.K.Keeper.TELLS keepers.told core session c.open_session.new.sessions c.open_session.result of.is_consistent placed c.open_session.ensures)
+    (same_held core.fleet) (λ told at. refl) refl
 
 pub returns-in-Evict-clause-keepers : goal.returns-in-Evict-clause-keepers
 returns-in-Evict-clause-keepers g c =
     let keepers = g.K.Keeper.state c.args.keepers.now in
     let link = g.L.Link.shown c.args.link.now in
-    evicted_core g.K.Keeper.TELLS keepers.told c.in-Evict.node c.in-Evict.key (moment c.args.self.now keepers link) (moment c.evict.new.self keepers link)
-    c.evict.result c.requires.keepers (c.evict.ensures.does keepers link) c.evict.ensures.fleet c.evict.ensures.rest
+    core_held g.K.Keeper.TELLS keepers keepers c.args.self.now c.evict.new.self c.requires.keepers
+    (evicted_core g.K.Keeper.TELLS keepers.told c.in-Evict.node c.in-Evict.key (moment c.args.self.now keepers link) (moment c.evict.new.self keepers link)
+    c.evict.result c.requires.keepers.is_consistent (c.evict.ensures.does keepers link) c.evict.ensures.fleet c.evict.ensures.rest)
+    c.evict.ensures.on (λ told at. refl) (nodes_alone c.args.self.now c.evict.new.self (only_nodes c.args.self.now c.evict.new.self c.evict.ensures.rest))
 
 pub returns-in-Audit-clause-keepers : goal.returns-in-Audit-clause-keepers
 returns-in-Audit-clause-keepers g c =
-    core_stays g.K.Keeper.TELLS (g.K.Keeper.state c.args.keepers.now).told (g.K.Keeper.state c.audit.new.keepers).told c.args.self.now c.requires.keepers
-    c.audit.ensures.stays
+    let old = g.K.Keeper.state c.args.keepers.now in
+    let new = g.K.Keeper.state c.audit.new.keepers in
+    core_held g.K.Keeper.TELLS old new c.args.self.now c.args.self.now c.requires.keepers
+    (core_stays g.K.Keeper.TELLS old.told new.told c.args.self.now c.requires.keepers.is_consistent c.audit.ensures.stays) (same_held c.args.self.now.fleet)
+    c.audit.ensures.stays refl
 
 pub returns-in-Deliver-clause-does : goal.returns-in-Deliver-clause-does
 returns-in-Deliver-clause-does g c =
@@ -36,8 +46,11 @@ returns-in-Deliver-clause-does g c =
 
 pub returns-in-Deliver-clause-keepers : goal.returns-in-Deliver-clause-keepers
 returns-in-Deliver-clause-keepers g c =
-    delivered_core g.K.Keeper.TELLS (g.K.Keeper.state c.args.keepers.now).told c.args.self.now c.deliver.new.self c.requires.keepers
-    c.deliver.ensures.fleet c.deliver.ensures.masters c.deliver.ensures.inboxes c.deliver.ensures.rest
+    let keepers = g.K.Keeper.state c.args.keepers.now in
+    core_held g.K.Keeper.TELLS keepers keepers c.args.self.now c.deliver.new.self c.requires.keepers
+    (delivered_core g.K.Keeper.TELLS keepers.told c.args.self.now c.deliver.new.self c.requires.keepers.is_consistent
+    c.deliver.ensures.fleet c.deliver.ensures.masters c.deliver.ensures.inboxes c.deliver.ensures.rest)
+    c.deliver.ensures.on (λ told at. refl) (nodes_alone c.args.self.now c.deliver.new.self c.deliver.ensures.rest)
 
 pub returns-in-Again-clause-does : goal.returns-in-Again-clause-does
 returns-in-Again-clause-does g c =
@@ -50,8 +63,12 @@ returns-in-Again-clause-does g c =
 
 pub returns-in-Again-clause-keepers : goal.returns-in-Again-clause-keepers
 returns-in-Again-clause-keepers g c =
-    nodes_only g.K.Keeper.TELLS (g.K.Keeper.state c.args.keepers.now).told c.args.self.now c.deliver_again.new.self c.requires.keepers
-    c.deliver_again.ensures.fleet c.deliver_again.ensures.masters c.deliver_again.ensures.rest
+    let keepers = g.K.Keeper.state c.args.keepers.now in
+    core_held g.K.Keeper.TELLS keepers keepers c.args.self.now c.deliver_again.new.self c.requires.keepers
+    (nodes_only g.K.Keeper.TELLS keepers.told c.args.self.now c.deliver_again.new.self c.requires.keepers.is_consistent
+    c.deliver_again.ensures.fleet c.deliver_again.ensures.masters c.deliver_again.ensures.rest)
+    c.deliver_again.ensures.on (λ told at. refl)
+    (nodes_alone c.args.self.now c.deliver_again.new.self (only_nodes c.args.self.now c.deliver_again.new.self c.deliver_again.ensures.rest))
 
 pub returns-in-Drop-clause-does : goal.returns-in-Drop-clause-does
 returns-in-Drop-clause-does g c =
@@ -62,14 +79,18 @@ returns-in-Drop-clause-does g c =
 
 pub returns-in-Drop-clause-keepers : goal.returns-in-Drop-clause-keepers
 returns-in-Drop-clause-keepers g c =
-    mail_only g.K.Keeper.TELLS (g.K.Keeper.state c.args.keepers.now).told c.args.self.now c.lose.new.self c.requires.keepers c.lose.ensures.inboxes
-    c.lose.ensures.rest
+    let keepers = g.K.Keeper.state c.args.keepers.now in
+    let rest = only_mail c.args.self.now c.lose.new.self c.lose.ensures.rest in
+    core_held g.K.Keeper.TELLS keepers keepers c.args.self.now c.lose.new.self c.requires.keepers
+    (mail_only g.K.Keeper.TELLS keepers.told c.args.self.now c.lose.new.self c.requires.keepers.is_consistent c.lose.ensures.inboxes c.lose.ensures.rest)
+    (fleet_stays c.args.self.now.fleet c.lose.new.self.fleet (ap (λ (x : CoreState). x.fleet) c.lose.ensures.rest)) (λ told at. refl)
+    (nodes_alone c.args.self.now c.lose.new.self rest)
 
 pub returns-in-Show-clause-does : goal.returns-in-Show-clause-does
 returns-in-Show-clause-does g c =
     let now = moment c.args.self.now (g.K.Keeper.state c.args.keepers.now) (g.L.Link.shown c.args.link.now) in
     subst (λ a. AnswersAsked g.K.Keeper.TELLS now (Ok a) c.show.result now) (sym c.in-Show.is)
-    (c.show.ensures g.K.Keeper.TELLS now.keepers now.link c.requires.keepers, refl)
+    (c.show.ensures g.K.Keeper.TELLS now.keepers now.link c.requires.keepers.is_consistent, refl)
 
 pub returns-in-Inbox-clause-does : goal.returns-in-Inbox-clause-does
 returns-in-Inbox-clause-does g c =
@@ -82,3 +103,26 @@ returns-in-Refill-clause-does g c =
     let new = moment c.refill.new.self (g.K.Keeper.state c.refill.new.keepers) (g.L.Link.shown c.refill.new.link) in
     subst (λ a. AnswersAsked g.K.Keeper.TELLS old (Ok a) c.refill.result new) (sym c.in-Refill.is)
     (c.refill.ensures.does, c.refill.ensures.tables, c.refill.ensures.rest)
+
+pub returns-in-Refill-clause-keepers : goal.returns-in-Refill-clause-keepers
+returns-in-Refill-clause-keepers g c =
+    let old = g.K.Keeper.state c.args.keepers.now in
+    let new = g.K.Keeper.state c.refill.new.keepers in
+    core_held g.K.Keeper.TELLS old new c.args.self.now c.refill.new.self c.requires.keepers c.refill.ensures.keepers c.refill.ensures.on
+    c.refill.ensures.tables
+    (nodes_alone c.args.self.now c.refill.new.self (only_nodes c.args.self.now c.refill.new.self c.refill.ensures.rest))
+
+pub returns-in-Call-Write-clause-keepers : goal.returns-in-Call-Write-clause-keepers
+returns-in-Call-Write-clause-keepers g c =
+    let rest = c.write.ensures.does.rest in
+    core_goes_on g.K.Keeper.TELLS (g.K.Keeper.state c.args.keepers.now).told (g.K.Keeper.state c.write.new.keepers).told c.args.self.now c.write.new.self
+    c.requires.keepers c.write.ensures.keepers c.write.ensures.on c.write.ensures.grows (ap (λ (x : CoreState). x.settings) rest)
+    (ap (λ (x : CoreState). x.plans) rest)
+
+pub returns-in-Call-Read-clause-keepers : goal.returns-in-Call-Read-clause-keepers
+returns-in-Call-Read-clause-keepers g c =
+    let old = g.K.Keeper.state c.args.keepers.now in
+    let new = g.K.Keeper.state c.read.new.keepers in
+    core_held g.K.Keeper.TELLS old new c.args.self.now c.read.new.self c.requires.keepers c.read.ensures.keepers c.read.ensures.on
+    c.read.ensures.does.tables
+    (nodes_alone c.args.self.now c.read.new.self (only_nodes c.args.self.now c.read.new.self c.read.ensures.does.rest))

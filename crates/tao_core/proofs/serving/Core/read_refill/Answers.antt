@@ -7,10 +7,11 @@ use Rattle.core_steps.specs.Reads.{ReadsAlong}
 use Rattle.core_steps.specs.Routes.{scene}
 use Rattle.node_name.specs.declared.NodeName.{NodeName}
 use Rattle.tao_base.specs.Queries.{query_shard}
-use Rattle.tao_core.specs.Core.{CoreState, IsCoreOf, core_state}
+use Rattle.tao_core.specs.Core.{CoreState, IsConsistentCore, StaysHeld, core_state}
 use Rattle.tao_core.specs.Deliveries.{refill_route}
 use Rattle.tao_core.proofs.Delivering.{refill_chosen, refill_leader, refill_reached}
 use Rattle.tao_core.proofs.Keeping.{going_core}
+use Rattle.core_plans.proofs.AsksHeld.{read_opens_none}
 use Rattle.tao_core.proofs.serving.Core.read_refill.Goals as goal
 
 pub read_along-requires-clause-follower : goal.read_along-requires-clause-follower
@@ -22,7 +23,7 @@ read_along-requires-clause-follower g c =
 pub read_along-requires-clause-leader : goal.read_along-requires-clause-leader
 read_along-requires-clause-leader g c =
     let tables = (g.K.Keeper.state c.args.keepers.now).told in
-    let of = subst (IsCoreOf g.K.Keeper.TELLS tables) (sym c.self.view_is) c.requires.keepers in
+    let of = subst (IsConsistentCore g.K.Keeper.TELLS tables) (sym c.self.view_is) c.requires.keepers in
     let there = subst (λ (x : CoreState). Contains (follower_names x.settings) c.args.node) (sym c.self.view_is) c.requires.node in
     let is = subst (λ (x : CoreState). IsRefillFor x.settings (pens_of x.fleet.masters) c.args.node c.args.refill) (sym c.self.view_is) c.requires.refill in
     refill_leader g.K.Keeper.TELLS tables (core_state c.self.inside) c.args.node c.home_region.result c.shard-shard.result
@@ -32,7 +33,7 @@ read_along-requires-clause-leader g c =
 pub read_along-requires-clause-reached : goal.read_along-requires-clause-reached
 read_along-requires-clause-reached g c =
     let keepers = g.K.Keeper.state c.args.keepers.now in
-    let of = subst (IsCoreOf g.K.Keeper.TELLS keepers.told) (sym c.self.view_is) c.requires.keepers in
+    let of = subst (IsConsistentCore g.K.Keeper.TELLS keepers.told) (sym c.self.view_is) c.requires.keepers in
     let is = subst (λ (x : CoreState). IsRefillFor x.settings (pens_of x.fleet.masters) c.args.node c.args.refill) (sym c.self.view_is) c.requires.refill in
     refill_reached g.K.Keeper.TELLS c.self.inside.config.now keepers c.self.inside.fleet.masters c.args.node c.args.refill of.consistent.stores is
 
@@ -51,6 +52,13 @@ returns-clause-reads g c =
 pub returns-clause-keepers : goal.returns-clause-keepers
 returns-clause-keepers g c =
     let state = g.K.Keeper.state in
-    let of = subst (IsCoreOf g.K.Keeper.TELLS (state c.args.keepers.now).told) (sym c.self.view_is) c.requires.keepers in
+    let of = subst (IsConsistentCore g.K.Keeper.TELLS (state c.args.keepers.now).told) (sym c.self.view_is) c.requires.keepers in
     going_core g.K.Keeper.TELLS (state c.args.keepers.now).told (core_state c.self.inside) of (state c.read_along.new.keepers).told
     c.read_along.new.fleet c.read_along.ensures.consistent c.read_along.ensures.goes
+
+pub returns-clause-on : goal.returns-clause-on
+returns-clause-on g c =
+    subst (λ (x : CoreState). StaysHeld x.fleet c.read_along.new.fleet) c.self.view_is (record {
+      goes = c.read_along.ensures.goes;
+      opens = read_opens_none _ _ _ _ _ _ _ c.read_along.ensures.reads;
+    })

@@ -3,10 +3,12 @@ use Rattle.core_model.specs.Consistent.{IsConsistent}
 use Rattle.core_model.specs.Fleet.{Fleet, HasNode}
 use Rattle.core_model.specs.Messages.{IsRefillFor}
 use Rattle.core_model.specs.Pens.{pens_of}
-use Rattle.tao_core.specs.Core.{CoreState, IsCoreOf, core_state, moment}
+use Rattle.tao_core.specs.Core.{CoreState, IsConsistentCore, StaysHeld, core_state, moment}
 use Rattle.tao_core.specs.Deliveries.{AnswersRefill}
 use Rattle.tao_core.proofs.Delivering.{follower_has, refill_answers, refill_consistent, refill_none}
 use Rattle.tao_core.proofs.Keeping.{going_core}
+use Rattle.core_plans.proofs.AsksHeld.{refill_opens_none}
+use Rattle.tao_core.proofs.HeldOn.{held_on}
 use Rattle.tao_core.proofs.serving.Core.refill.Goals as goal
 
 pub next_refill-requires-clause-follower : goal.next_refill-requires-clause-follower
@@ -17,7 +19,7 @@ next_refill-requires-clause-follower g c =
 pub read_refill-requires-clause-keepers : goal.read_refill-requires-clause-keepers
 read_refill-requires-clause-keepers g c =
     let tables = (g.K.Keeper.state c.args.keepers.now).told in
-    let of = subst (IsCoreOf g.K.Keeper.TELLS tables) (sym c.self.view_is) c.requires.keepers in
+    let of = subst (IsConsistentCore g.K.Keeper.TELLS tables) (sym c.self.view_is) c.requires.keepers in
     going_core g.K.Keeper.TELLS tables (core_state c.self.inside) of tables c.next_refill.new.self
     (refill_consistent g.K.Keeper.TELLS c.self.inside.config.now tables c.self.inside.fleet c.next_refill.new.self of.consistent c.next_refill.ensures.rest
     c.next_refill.ensures.fleet)
@@ -57,8 +59,23 @@ returns-in-None-clause-does g c =
 pub returns-in-None-clause-keepers : goal.returns-in-None-clause-keepers
 returns-in-None-clause-keepers g c =
     let tables = (g.K.Keeper.state c.args.keepers.now).told in
-    let of = subst (IsCoreOf g.K.Keeper.TELLS tables) (sym c.self.view_is) c.requires.keepers in
+    let of = subst (IsConsistentCore g.K.Keeper.TELLS tables) (sym c.self.view_is) c.requires.keepers in
     going_core g.K.Keeper.TELLS tables (core_state c.self.inside) of tables c.next_refill.new.self
     (refill_consistent g.K.Keeper.TELLS c.self.inside.config.now tables c.self.inside.fleet c.next_refill.new.self of.consistent c.next_refill.ensures.rest
     c.next_refill.ensures.fleet)
     c.next_refill.ensures.goes
+
+pub returns-in-Some-clause-on : goal.returns-in-Some-clause-on
+returns-in-Some-clause-on g c =
+    subst (λ (x : CoreState). StaysHeld x.fleet c.read_refill.new.self.fleet) c.self.view_is
+    (held_on c.self.inside.fleet c.next_refill.new.self c.read_refill.new.self.fleet (record {
+      goes = c.next_refill.ensures.goes;
+      opens = refill_opens_none c.args.node c.self.inside.fleet.followers c.next_refill.new.self.followers _ c.next_refill.ensures.takes;
+    }) c.read_refill.ensures.on)
+
+pub returns-in-None-clause-on : goal.returns-in-None-clause-on
+returns-in-None-clause-on g c =
+    subst (λ (x : CoreState). StaysHeld x.fleet c.next_refill.new.self) c.self.view_is (record {
+      goes = c.next_refill.ensures.goes;
+      opens = refill_opens_none c.args.node c.self.inside.fleet.followers c.next_refill.new.self.followers _ c.next_refill.ensures.takes;
+    })

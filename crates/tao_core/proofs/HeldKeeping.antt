@@ -1,0 +1,297 @@
+-- A core whose held plan did a stage, or took one more, may be used.
+use Rattle.std.proofs.Common.{◌≡◌, ◌⊎◌, ◌<◌, ◌+◌, ℕ, Bool, true, false, length, Option, Some, None, refl, ap, sym, ◌∙◌, subst, inl, inr, arith}
+use Rattle.std.specs.Prelude.{◌==◌, IfSome, IsSome, IsTrue, if◌then◌else◌, option_and_then}
+use Rattle.std.proofs.lemmas.Bool.{cases_Bool, eq-eqb, eqb-true}
+use Rattle.core_mail.specs.Inboxes.{AreInboxesOf, Inboxes}
+use Rattle.core_model.specs.Consistent.{GoesOn, IsConsistent}
+use Rattle.core_model.specs.Fleet.{Fleet, HasAsk}
+use Rattle.core_model.specs.Growing.{MastersGrow}
+use Rattle.core_model.specs.Pens.{pens_of}
+use Rattle.core_model.proofs.Places.{one_some}
+use Rattle.core_plans.specs.Held.{
+  AddsPlan,
+  ArePlansOf,
+  AsksAreHeld,
+  CanStep,
+  ChangesPlan,
+  HoldsAsk,
+  IsLeaderOf,
+  IsOpenAt,
+  IsUnderWay,
+  OpensFirst,
+  Plans,
+  SetsPlan,
+  StepsHeld,
+  StepsPlan,
+  TakesPlan,
+  next_stage,
+  plan_at,
+  plan_count,
+}
+use Rattle.core_plans.specs.declared.held.HeldPlan.{HeldPlan}
+use Rattle.core_plans.specs.declared.held.HeldPlan.TheVariants.{Read, Write}
+use Rattle.core_steps.specs.Routes.{scene}
+use Rattle.core_steps.specs.Writes.{posting}
+use Rattle.graph_model.proofs.Members.{if_some_at}
+use Rattle.node_name.specs.declared.NodeName.{NodeName}
+use Rattle.replies.specs.declared.plans.Stage.{Stage}
+use Rattle.replies.specs.declared.reply.Reply.{Reply}
+use Rattle.tao_base.specs.Queries.{query_key, query_shard}
+use Rattle.tao_base.specs.Writes.{write_shard}
+use Rattle.tao_base.specs.declared.id.Key.{Key}
+use Rattle.tao_keeper.specs.KeeperState.{KeeperState}
+use Rattle.tao_keeper.specs.Table.{Tables}
+use Rattle.tao_link.specs.Shown.{LinkShown}
+use Rattle.topology.specs.Choices.{master_region}
+use Rattle.topology.specs.Config.{Settings}
+use Rattle.topology.specs.States.{NodeStates, is_cache}
+use Rattle.tao_core.specs.Calls.{posting_of}
+use Rattle.tao_core.specs.Core.{CoreState, IsConsistentCore, IsCoreOf, Moment, moment}
+use Rattle.tao_core.specs.HeldCalls.{DoesStage, EndsPlan, IsOfRegion, next_at, plan_leader}
+use Rattle.tao_core.proofs.HeldOn.{plan_later}
+use Rattle.tao_core.proofs.HeldSteps.{MayHold, StepsAsks, held_after, kept, steps_asks}
+use Rattle.tao_core.proofs.Reaching.{held_reaches}
+use Rattle.tao_core.proofs.NamesOnce.{stand_alone}
+use Rattle.tao_core.proofs.Ways.{leads_at, region_within}
+
+-- ---- one plan is set
+
+set_same : (number other : ℕ) (held : Option HeldPlan) (old new : Plans) → SetsPlan number held old new → (other == number) ≡ true → plan_at new other ≡ held
+set_same number other held old new sets same = sets other ∙ ap (λ b. if b then held else plan_at old other) same
+
+set_other : (number other : ℕ) (held : Option HeldPlan) (old new : Plans) → SetsPlan number held old new → (other == number) ≡ false
+    → plan_at new other ≡ plan_at old other
+set_other number other held old new sets differs = sets other ∙ ap (λ b. if b then held else plan_at old other) differs
+
+pub set_here : (number : ℕ) (held : Option HeldPlan) (old new : Plans) → SetsPlan number held old new → plan_at new number ≡ held
+set_here number held old new sets = set_same number number held old new sets (eq-eqb number number refl)
+
+-- an ask that a plan holds was given
+had : (tells : Bool) (s : Settings) (tables : Tables) (f : Fleet) (plans : Plans) (plan : ℕ) (found : Option HeldPlan) (name : NodeName) (number : ℕ)
+    → ArePlansOf tells s tables f plans → plan_at plans plan ≡ found → HoldsAsk name number found → (key : Key) × HasAsk name number key f.followers
+had tells s tables f plans plan None name number are at holds = absurd holds
+had tells s tables f plans plan (Some (Write p)) name number are at holds = absurd holds
+had tells s tables f plans plan (Some (Read p)) name number are at holds =
+    let under = are.under_way plan (Read p) at in
+    let one = if_some_at (λ n. HasAsk p.follower n (query_key p.query) f.followers) p.ask number under.ask holds.1 in
+    (query_key p.query, subst (λ (n : NodeName). HasAsk n number (query_key p.query) f.followers) holds.0 one)
+
+module _ (tells : Bool) (s : Settings) (before later : Tables) (f g : Fleet) (number : ℕ) (was held : Option HeldPlan) (old new : Plans)
+    (are : ArePlansOf tells s before f old) (at : plan_at old number ≡ was) (sets : SetsPlan number held old new) where
+  -- what holds of the plan that was set, and of those that were there, holds of each
+  each : (P : HeldPlan → Type 0) → ((plan : HeldPlan) → held ≡ Some plan → P plan)
+      → ((other : ℕ) (plan : HeldPlan) → plan_at old other ≡ Some plan → P plan) → (other : ℕ) (plan : HeldPlan) → plan_at new other ≡ Some plan → P plan
+  each P mine others other plan there = elim (cases_Bool (other == number)) [
+    | inl same ↦ mine plan (sym (set_same number other held old new sets same) ∙ there)
+    | inr differs ↦ others other plan (sym (set_other number other held old new sets differs) ∙ there)
+  ]
+
+  module _ (steps : StepsAsks was held f.followers g.followers) where
+    mine : (name : NodeName) (ask : ℕ) → HoldsAsk name ask held → (plan : ℕ) × HoldsAsk name ask (plan_at new plan)
+    mine name ask holds = (number, subst (HoldsAsk name ask) (sym (set_here number held old new sets)) holds)
+
+    still_held : (name : NodeName) (ask : ℕ) → IsOpenAt name ask g.followers → (plan : ℕ) × HoldsAsk name ask (plan_at new plan)
+    still_held name ask h = elim (steps.still name ask h) [
+      | inl now ↦ mine name ask now
+      | inr both ↦
+          let of = are.asks.held name ask both.0 in
+          elim (cases_Bool (of.0 == number)) [
+            | inl same ↦ mine name ask (both.1 (subst (HoldsAsk name ask) (ap (plan_at old) (eqb-true of.0 number same) ∙ at) of.1))
+            | inr differs ↦ (of.0, subst (HoldsAsk name ask) (sym (set_other number of.0 held old new sets differs)) of.1)
+          ]
+    ]
+
+    -- no other plan holds an ask of it
+    alone : (name : NodeName) (ask other : ℕ) → HoldsAsk name ask held → HoldsAsk name ask (plan_at old other) → number ≡ other
+    alone name ask other holds theirs = elim (steps.fresh name ask holds) [
+      | inl so ↦ are.asks.one name ask number other (subst (HoldsAsk name ask) (sym at) so) theirs
+      | inr none ↦ (let given = had tells s before f old other (plan_at old other) name ask are refl theirs in absurd (none given.0 given.1))
+    ]
+
+    one_held : (name : NodeName) (ask m n : ℕ) → HoldsAsk name ask (plan_at new m) → HoldsAsk name ask (plan_at new n) → m ≡ n
+    one_held name ask m n one two = elim (cases_Bool (m == number)) [
+      | inl m_is ↦
+          let held_m = subst (HoldsAsk name ask) (set_same number m held old new sets m_is) one in
+          elim (cases_Bool (n == number)) [
+            | inl n_is ↦ eqb-true m number m_is ∙ sym (eqb-true n number n_is)
+            | inr n_not ↦ eqb-true m number m_is
+                ∙ alone name ask n held_m (subst (HoldsAsk name ask) (set_other number n held old new sets n_not) two)
+          ]
+      | inr m_not ↦
+          let old_m = subst (HoldsAsk name ask) (set_other number m held old new sets m_not) one in
+          elim (cases_Bool (n == number)) [
+            | inl n_is ↦ sym (alone name ask m (subst (HoldsAsk name ask) (set_same number n held old new sets n_is) two) old_m)
+                ∙ sym (eqb-true n number n_is)
+            | inr n_not ↦ are.asks.one name ask m n old_m (subst (HoldsAsk name ask) (set_other number n held old new sets n_not) two)
+          ]
+    ]
+
+    may_first : (plan : HeldPlan) → held ≡ Some plan → OpensFirst plan
+    may_first plan is = subst MayHold is steps.may
+
+    pub plans_set : GoesOn f g → MastersGrow tells s before later
+        → ((plan : HeldPlan) → held ≡ Some plan → IsUnderWay tells s later g plan × IsSome (next_stage plan)) → ArePlansOf tells s later g new
+    plans_set goes grows can = record {
+      under_way = each (IsUnderWay tells s later g) (λ plan is. (can plan is).0)
+          (λ other plan there. plan_later tells s before later f g plan goes grows (are.under_way other plan there));
+      goes_on = each (λ plan. IsSome (next_stage plan)) (λ plan is. (can plan is).1) are.goes_on;
+      begun = each OpensFirst may_first are.begun;
+      asks = record { held = still_held; one = one_held };
+    }
+
+-- ---- a plan can do its stage
+
+module _ (tells : Bool) (tables : Tables) (core : CoreState) (of : IsCoreOf tells tables core) where
+  leads : (plan : HeldPlan) → IsUnderWay tells core.settings tables core.fleet plan
+      → (IsOfRegion core.states plan → IsTrue (is_cache core.states.regions (plan_leader core plan))) → IsLeaderOf core.settings (plan_leader core plan) plan
+  leads (Read p) is known =
+      leads_at tells tables core of.is_consistent p.region (query_shard p.query) is.follower.here
+      (known (region_within tells tables core of.is_consistent p.region is.region))
+  leads (Write p) is known =
+      leads_at tells tables core of.is_consistent (master_region core.states (write_shard p.write)) (write_shard p.write) is.follower.here (known tt)
+
+  pub can_step : (number : ℕ) (plan : HeldPlan) (leader : NodeName) → plan_at core.plans number ≡ Some plan → leader ≡ plan_leader core plan
+      → (IsOfRegion core.states plan → IsTrue (is_cache core.states.regions leader))
+      → CanStep tells core.settings tables core.fleet leader (plan_at core.plans number)
+  can_step number plan leader at is known =
+      let under = of.plans.under_way number plan at in
+      let so = leads plan under (λ within. subst (λ (n : NodeName). IsTrue (is_cache core.states.regions n)) is (known within)) in
+      subst (CanStep tells core.settings tables core.fleet leader) (sym at) (record {
+        under_way = under;
+        goes_on = of.plans.goes_on number plan at;
+        leader_is = subst (λ (n : NodeName). IsLeaderOf core.settings n plan) (sym is) so;
+      })
+
+-- the nodes and their messages are as consistent with other plans
+pub with_plans : (tells : Bool) (tables : Tables) (core : CoreState) (plans : Plans) → IsConsistentCore tells tables core
+    → IsConsistentCore tells tables (record core { plans = plans })
+with_plans tells tables core plans of = record {
+  consistent = of.consistent;
+  mail = of.mail;
+  up = of.up;
+  sessions = of.sessions;
+  no_inverse = of.no_inverse;
+}
+
+-- and after a step of one of them
+pub stepped_core : (tells : Bool) (tables later : Tables) (core : CoreState) (fleet : Fleet) (mail : Inboxes) (plans : Plans)
+    → IsConsistentCore tells tables core → IsConsistent tells core.settings later fleet → AreInboxesOf core.settings (pens_of fleet.masters) mail
+    → IsConsistentCore tells later (record core { fleet = fleet; mail = mail; plans = plans })
+stepped_core tells tables later core fleet mail plans of consistent inboxes = record {
+  consistent = consistent;
+  mail = inboxes;
+  up = of.up;
+  sessions = of.sessions;
+  no_inverse = of.no_inverse;
+}
+
+-- ---- a plan did a stage
+
+module _ (tells : Bool) (number : ℕ) (old mid : Moment) (does : DoesStage tells number old mid) where
+  abbrev After : HeldPlan
+  After = does.steps.after
+
+  at_after : plan_at mid.core.plans number ≡ Some After
+  at_after = set_here number (Some After) old.core.plans mid.core.plans does.steps.changes.sets
+
+  next_is : next_at mid.core.plans number ≡ next_stage After
+  next_is = ap (option_and_then next_stage) at_after
+
+  module _ (of : IsCoreOf tells old.keepers.told old.core) where
+    asks_of : StepsAsks (Some does.steps.before) (held_after After) old.core.fleet.followers mid.core.fleet.followers
+    asks_of =
+        steps_asks tells old.core.settings (plan_leader old.core does.plan) does.steps.before After (posting_of old) (posting_of mid)
+        (stand_alone old.core.settings old.core.fleet.followers of.is_consistent.consistent.fleet.follower_names)
+        (of.plans.begun number does.steps.before does.steps.stands) does.steps.steps
+
+    can_after : (next : Option Stage) (later : Tables) → next_stage After ≡ next
+        → IfSome (plan_at mid.core.plans number) (IsUnderWay tells old.core.settings later mid.core.fleet) → (plan : HeldPlan) → kept next After ≡ Some plan
+        → IsUnderWay tells old.core.settings later mid.core.fleet plan × IsSome (next_stage plan)
+    can_after None later is under plan h = absurd (cc)
+    can_after (Some stage) later is under plan h =
+        let same : After ≡ plan = one_some After plan h in
+        subst (λ x. IsUnderWay tells old.core.settings later mid.core.fleet x × IsSome (next_stage x)) same (
+          if_some_at (IsUnderWay tells old.core.settings later mid.core.fleet) (plan_at mid.core.plans number) After under at_after,
+          subst IsSome (sym is) refl,
+        )
+
+    -- what is held then, where the plan stays or goes
+    pub held_then : (next : Option Stage) (plans : Plans) (later : Tables) → next_stage After ≡ next → SetsPlan number (kept next After) old.core.plans plans
+        → GoesOn old.core.fleet mid.core.fleet → MastersGrow tells old.core.settings old.keepers.told later
+        → IfSome (plan_at mid.core.plans number) (IsUnderWay tells old.core.settings later mid.core.fleet)
+        → ArePlansOf tells old.core.settings later mid.core.fleet plans
+    held_then next plans later is sets goes grows under =
+        plans_set tells old.core.settings old.keepers.told later old.core.fleet mid.core.fleet number (Some does.steps.before) (kept next After)
+        old.core.plans plans of.plans does.steps.stands sets
+        (subst (λ n. StepsAsks (Some does.steps.before) (kept n After) old.core.fleet.followers mid.core.fleet.followers) is asks_of) goes grows
+        (can_after next later is under)
+
+    -- the plan is held before the stage that follows
+    pub next_core : (stage : Stage) → next_at mid.core.plans number ≡ Some stage → IsConsistentCore tells mid.keepers.told mid.core
+        → mid.core.settings ≡ old.core.settings → GoesOn old.core.fleet mid.core.fleet
+        → MastersGrow tells old.core.settings old.keepers.told mid.keepers.told
+        → IfSome (plan_at mid.core.plans number) (IsUnderWay tells old.core.settings mid.keepers.told mid.core.fleet)
+        → IsCoreOf tells mid.keepers.told mid.core
+    next_core stage next is own goes grows under = record {
+      is_consistent = is;
+      plans = subst (λ s. ArePlansOf tells s mid.keepers.told mid.core.fleet mid.core.plans) (sym own)
+          (held_then (Some stage) mid.core.plans mid.keepers.told (sym next_is ∙ next) does.steps.changes.sets goes grows under);
+    }
+
+  -- ---- it is over, and was taken out
+
+  module _ (later : Plans) (reply : Reply) (over : next_at mid.core.plans number ≡ None)
+      (ends : IfSome (plan_at mid.core.plans number) (λ plan. EndsPlan number plan mid.core.plans reply later)) where
+    ends_after : EndsPlan number After mid.core.plans reply later
+    ends_after = if_some_at (λ plan. EndsPlan number plan mid.core.plans reply later) (plan_at mid.core.plans number) After ends at_after
+
+    gone : (other : ℕ) → plan_at later other ≡ (if other == number then None else plan_at old.core.plans other)
+    gone other = elim (cases_Bool (other == number)) [
+      | inl same ↦ set_same number other None mid.core.plans later ends_after.takes.sets same ∙ sym (ap (λ b. if b then None else plan_at old.core.plans other) same)
+      | inr differs ↦ set_other number other None mid.core.plans later ends_after.takes.sets differs
+          ∙ set_other number other (Some After) old.core.plans mid.core.plans does.steps.changes.sets differs
+          ∙ sym (ap (λ b. if b then None else plan_at old.core.plans other) differs)
+    ]
+
+    takes : TakesPlan number old.core.plans later
+    takes = record { sets = gone; count = ends_after.takes.count ∙ does.steps.changes.count }
+
+    is_over : next_stage After ≡ None
+    is_over = sym next_is ∙ over
+
+    pub ends_core : (of : IsCoreOf tells old.keepers.told old.core) → IsConsistentCore tells mid.keepers.told mid.core
+        → mid.core.settings ≡ old.core.settings → GoesOn old.core.fleet mid.core.fleet
+        → MastersGrow tells old.core.settings old.keepers.told mid.keepers.told
+        → IfSome (plan_at mid.core.plans number) (IsUnderWay tells old.core.settings mid.keepers.told mid.core.fleet)
+        → IsCoreOf tells mid.keepers.told (record mid.core { plans = later })
+    ends_core of is own goes grows under = record {
+      is_consistent = with_plans tells mid.keepers.told mid.core later is;
+      plans = subst (λ s. ArePlansOf tells s mid.keepers.told mid.core.fleet later) (sym own)
+          (held_then of None later mid.keepers.told is_over gone goes grows under);
+    }
+
+-- ---- a stage is done
+
+pub does_stage : (tells : Bool) (number : ℕ) (core : CoreState) (fleet : Fleet) (mail : Inboxes) (plans : Plans) (before now : KeeperState)
+    (from to : LinkShown) (plan : HeldPlan) (leader : NodeName) → plan_at core.plans number ≡ Some plan → leader ≡ plan_leader core plan
+    → StepsPlan tells core.settings leader number core.plans (posting (scene core.fleet before from) core.mail core.states) plans
+    (posting (scene fleet now to) mail core.states)
+    → IsConsistent tells core.settings now.told fleet → IfSome (plan_at plans number) (IsUnderWay tells core.settings now.told fleet)
+    → DoesStage tells number (moment core before from) (moment (record core { fleet = fleet; mail = mail; plans = plans }) now to)
+does_stage tells number core fleet mail plans before now from to plan leader stands leads steps consistent under =
+    let old = posting (scene core.fleet before from) core.mail core.states in
+    let new = posting (scene fleet now to) mail core.states in
+    record {
+      plan = plan;
+      stands = stands;
+      steps = record {
+        before = steps.before;
+        after = steps.after;
+        stands = steps.stands;
+        steps = subst (λ l. StepsHeld tells core.settings l steps.before old steps.after new) leads steps.steps;
+        changes = steps.changes;
+      };
+      reaches = held_reaches tells core.settings leader steps.before steps.after old new now.told fleet steps.steps consistent
+          (if_some_at (IsUnderWay tells core.settings now.told fleet) (plan_at plans number) steps.after under
+          (set_here number (Some steps.after) core.plans plans steps.changes.sets));
+    }

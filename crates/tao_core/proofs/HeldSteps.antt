@@ -1,0 +1,326 @@
+-- What the stage of a held plan does to the asks that are open.
+use Rattle.std.proofs.Common.{◌≡◌, ◌⊎◌, ◌≤◌, ◌+◌, ℕ, Bool, true, false, List, Option, Some, None, Ok, Err, refl, ap, sym, ◌∙◌, subst, inl, inr, arith}
+use Rattle.std.specs.Prelude.{⊤, IfSome, IsSome, slice_get, slice_set}
+use Rattle.cache_items.specs.declared.look.Look.{Look}
+use Rattle.cache_items.specs.declared.look.Look.TheVariants.{Hit, Miss}
+use Rattle.cache_items.specs.Node.{Node}
+use Rattle.core_model.specs.Asks.{IsAskOn}
+use Rattle.core_model.specs.Fleet.{ChangesNode, Fleet, HasAsk, named}
+use Rattle.core_model.specs.Reads.{AfterLook, EndsAsk, KeepsFill, LooksFirst, Wanted}
+use Rattle.core_model.specs.declared.named.Named.{Named}
+use Rattle.core_model.proofs.Places.{get_set, one_some}
+use Rattle.core_plans.specs.Held.{HasNoneAt, HoldsAsk, IsOpenAt, OpensFirst, OpensNone, StepsHeld, is_open_ask, next_stage}
+use Rattle.core_plans.specs.HeldReads.{DoesReadStage, KeepsGiven, wanted_by}
+use Rattle.core_plans.specs.HeldWrites.{DoesWriteStage, call_by, way_by}
+use Rattle.core_plans.specs.declared.held.HeldPlan.{HeldPlan}
+use Rattle.core_plans.specs.declared.held.HeldPlan.TheVariants.{Read, Write}
+use Rattle.core_plans.proofs.AsksHeld.{EndsOpen, apply_opens_none, change_opens_none, ends_open, hit_opens_none, keeps_open, misses_open, same_opens_none}
+use Rattle.core_steps.specs.Routes.{Scene}
+use Rattle.core_steps.specs.Writes.{ChangesNoNode, ClientWrite, FollowerTakes, NotCommitted, Posting, RefusesCommit}
+use Rattle.core_steps.specs.declared.routes.Route.{Route}
+use Rattle.follower_cache.specs.Seen.{FollowerState}
+use Rattle.node_name.specs.declared.NodeName.{NodeName}
+use Rattle.read_plan.specs.Readings.{Reading, taken}
+use Rattle.read_plan.specs.Standings.{after_ask, after_keep, after_look, after_master, stage_named, stage_of}
+use Rattle.read_plan.specs.declared.stages.ReadResult.TheVariants as came
+use Rattle.read_plan.specs.declared.standing.Given.{Given}
+use Rattle.read_plan.specs.declared.standing.Given.TheVariants.{Fill, HandedOut, Past}
+use Rattle.read_plan.specs.declared.standing.Standing.{Standing}
+use Rattle.read_plan.specs.declared.standing.Standing.TheVariants.{Looking, Asking, Mastering, Keeping, Ended}
+use Rattle.replies.specs.declared.plans.Stage.{Stage}
+use Rattle.replies.specs.declared.refusals.Refusal.TheVariants.{Store, Memory}
+use Rattle.replies.specs.declared.refusals.StoreRefused.{StoreRefused}
+use Rattle.replies.specs.declared.refusals.StoreRefused.TheVariants.{SeqReused, ShardFull, StampFull, LogFull, KeeperFault, LinkFault, Unsettled}
+use Rattle.replies.specs.declared.reply.Reply.{Reply}
+use Rattle.replies.specs.declared.reply.Reply.TheVariants.{Refused}
+use Rattle.shard_tables.specs.declared.leader_answer.LeaderAnswer.{LeaderAnswer}
+use Rattle.shard_tables.specs.declared.leader_answer.LeaderAnswer.TheVariants as leader
+use Rattle.shard_tables.specs.declared.read_out.ReadOut.{ReadOut}
+use Rattle.shard_tables.specs.declared.read_out.ReadOut.TheVariants as store
+use Rattle.tao_base.specs.EdgeTypes.{EdgeTypes}
+use Rattle.tao_base.specs.Queries.{query_key}
+use Rattle.tao_base.specs.Writes.{write_shard}
+use Rattle.tao_base.specs.declared.entry.Entry.{Entry}
+use Rattle.tao_base.specs.declared.id.Key.{Key}
+use Rattle.tao_schema.specs.Schema.{types_of}
+use Rattle.topology.specs.Config.{Settings}
+use Rattle.write_plan.specs.Plans.{Plan, next_of}
+use Rattle.write_plan.specs.declared.stage.WriteStage.{WriteStage}
+use Rattle.write_plan.specs.declared.stage.WriteStage.TheVariants.{Commit, Inverse, End, Relay, Apply, Done}
+use Rattle.tao_core.proofs.NamesOnce.{StandAlone}
+
+abbrev Followers : Type 0
+Followers = List (Named FollowerState)
+
+-- ---- a plan that did a stage
+
+-- it is held on, unless nothing is left to do
+abbrev pub kept : Option Stage → HeldPlan → Option HeldPlan
+kept (Some stage) plan = Some plan
+kept None plan = None
+
+abbrev pub held_after : HeldPlan → Option HeldPlan
+held_after plan = kept (next_stage plan) plan
+
+abbrev pub MayHold : Option HeldPlan → Type 0
+MayHold None = ⊤
+MayHold (Some plan) = OpensFirst plan
+
+-- the plan of a number, and what became of it: each ask that is open now is its own, or was open before and is not its own if it was; and one that
+-- it has now it had before, or else nobody had
+pub record StepsAsks (was held : Option HeldPlan) (old new : Followers) : Type 0 where
+  pub still : (name : NodeName) (number : ℕ) → IsOpenAt name number new
+      → HoldsAsk name number held ⊎ (IsOpenAt name number old × (HoldsAsk name number was → HoldsAsk name number held))
+  pub fresh : (name : NodeName) (number : ℕ) → HoldsAsk name number held
+      → HoldsAsk name number was ⊎ ((key : Key) → HasAsk name number key old → ⊥)
+  pub may : MayHold held
+
+-- it has none, before and after
+pub holds_none : (was held : Option HeldPlan) (old new : Followers) → OpensNone old new → ((name : NodeName) (number : ℕ) → HoldsAsk name number was → ⊥)
+    → ((name : NodeName) (number : ℕ) → HoldsAsk name number held → ⊥) → MayHold held → StepsAsks was held old new
+holds_none was held old new opens before after may = record {
+  still = λ name number h. inr (opens.still name number h, (λ holds. absurd (before name number holds)));
+  fresh = λ name number holds. absurd (after name number holds);
+  may = may;
+}
+
+kept_holds : (next : Option Stage) (plan : HeldPlan) (name : NodeName) (number : ℕ) → HoldsAsk name number (kept next plan) → HoldsAsk name number (Some plan)
+kept_holds (Some stage) plan name number h = h
+kept_holds None plan name number h = absurd h
+
+kept_may : (next : Option Stage) (plan : HeldPlan) → OpensFirst plan → MayHold (kept next plan)
+kept_may (Some stage) plan first = first
+kept_may None plan first = tt
+
+no_ask : (p : Reading) (name : NodeName) (number : ℕ) → p.ask ≡ None → HoldsAsk name number (Some (Read p)) → ⊥
+no_ask p name number none holds = (let it = holds.1 in absurd (cc))
+
+-- ---- the stages of a read
+
+module _ (p : Reading) (old new : Followers) where
+  -- its ask ended, and it is over
+  ask_ended : (By : FollowerState → FollowerState → Type 0) → StandAlone old → ChangesNode p.follower By old new
+      → ((from to : FollowerState) → By from to → EndsOpen p.ask from.node.asks to.node.asks) → StepsAsks (Some (Read p)) None old new
+  ask_ended By alone change ends = record {
+    still = λ name number h. inr
+        (let at : slice_get (slice_set old change.place (named p.follower change.to)) h.place ≡ Some (named name h.follower) =
+        subst (λ xs. slice_get xs h.place ≡ Some (named name h.follower)) change.is h.stands in
+        elim (get_set old change.place (named p.follower change.to) h.place (named name h.follower) at) [
+          | inl e ↦ (
+            record { place = h.place; follower = h.follower; stands = e.1; is_open = h.is_open },
+            (λ holds.
+                let there = subst (λ (n : NodeName). slice_get old change.place ≡ Some (named n change.from)) holds.0 change.stands in
+                absurd (e.0 (alone h.place change.place name h.follower change.from e.1 there))),
+          )
+          | inr e ↦ (
+              let asked = ends change.from change.to change.by number
+              (subst (λ (f : FollowerState). is_open_ask number f.node.asks ≡ true) (sym (ap (λ n. n.node) e.1)) h.is_open) in (
+                record {
+                  place = change.place;
+                  follower = change.from;
+                  stands = subst (λ (n : NodeName). slice_get old change.place ≡ Some (named n change.from)) (ap (λ n. n.name) e.1) change.stands;
+                  is_open = asked.0;
+                },
+                (λ holds. absurd (asked.1 holds.1)),
+              ))
+        ]);
+    fresh = λ name number holds. absurd holds;
+    may = tt;
+  }
+
+  -- it goes on with the ask that it had, and no follower changed
+  ask_stays : (q : Reading) → new ≡ old → q.follower ≡ p.follower → q.ask ≡ p.ask → HasNoneAt q.at q.ask → StepsAsks (Some (Read p)) (Some (Read q)) old new
+  ask_stays q same follower ask first = record {
+    still = λ name number h. inr (subst (IsOpenAt name number) same h, (λ holds. (follower ∙ holds.0, ask ∙ holds.1)));
+    fresh = λ name number holds. inl (sym follower ∙ holds.0, sym ask ∙ holds.1);
+    may = first;
+  }
+
+  -- it had none, and opened one
+  ask_opened : (q : Reading) (types : EdgeTypes) (given : ℕ) → ChangesNode p.follower (LooksFirst types (wanted_by p) Miss (Some given)) old new
+      → p.ask ≡ None → q.follower ≡ p.follower → q.ask ≡ Some given → HasNoneAt q.at q.ask → StepsAsks (Some (Read p)) (Some (Read q)) old new
+  ask_opened q types given change none follower ask first = record {
+    still = λ name number h.
+        let at : slice_get (slice_set old change.place (named p.follower change.to)) h.place ≡ Some (named name h.follower) =
+        subst (λ xs. slice_get xs h.place ≡ Some (named name h.follower)) change.is h.stands in
+        elim (get_set old change.place (named p.follower change.to) h.place (named name h.follower) at) [
+          | inl e ↦ inr (
+            record { place = h.place; follower = h.follower; stands = e.1; is_open = h.is_open },
+            (λ holds. absurd (no_ask p name number none holds)),
+          )
+          | inr e ↦
+              let same_name : p.follower ≡ name = ap (λ n. n.name) e.1 in
+              let there = subst (λ (f : FollowerState). is_open_ask number f.node.asks ≡ true) (sym (ap (λ n. n.node) e.1)) h.is_open in
+              elim (misses_open (query_key p.query) (Some given) change.from.node change.to.node change.by.node number there) [
+                | inl was ↦ inr (
+                  record {
+                    place = change.place;
+                    follower = change.from;
+                    stands = subst (λ (n : NodeName). slice_get old change.place ≡ Some (named n change.from)) same_name change.stands;
+                    is_open = was;
+                  },
+                  (λ holds. absurd (no_ask p name number none holds)),
+                )
+                | inr now ↦ inl (follower ∙ same_name, ask ∙ now)
+              ]
+        ];
+    fresh = λ name number holds. inr (λ key has.
+        let one = subst (λ (n : NodeName). HasAsk n number key old) (sym (sym follower ∙ holds.0)) has in
+        let le = (one change.place change.from change.first change.stands).given in
+        let next = change.by.node.1 in
+        let same : given ≡ number = one_some given number (sym ask ∙ holds.1) in
+        absurd (omega arith));
+    may = first;
+  }
+
+-- a look that ends a read, or goes on
+miss_goes : (critical : Bool) (plan : HeldPlan) → kept (stage_named (stage_of (after_look critical Miss))) plan ≡ Some plan
+miss_goes true plan = refl
+miss_goes false plan = refl
+
+looked_first : (critical : Bool) (look : Look) (ask : Option ℕ) → HasNoneAt (after_look critical look) ask
+looked_first true look ask = tt
+looked_first false (Hit answer version) ask = tt
+looked_first false Miss ask = tt
+
+looks_asks : (types : EdgeTypes) (p : Reading) (look : Look) (ask : Option ℕ) (old new : Followers) → p.ask ≡ None
+    → ChangesNode p.follower (LooksFirst types (wanted_by p) look ask) old new
+    → StepsAsks (Some (Read p)) (held_after (Read (taken (came.Look (Ok look)) 0 false (record p { ask = ask })))) old new
+looks_asks types p (Hit answer version) ask old new none change =
+    let q : Reading = taken (came.Look (Ok (Hit answer version))) 0 false (record p { ask = ask }) in
+    let gone : ask ≡ None = change.by.node.0 in
+    holds_none (Some (Read p)) (held_after (Read q)) old new
+    (hit_opens_none p.follower old new types (wanted_by p) answer version ask change)
+    (λ name number. no_ask p name number none)
+    (λ name number h. no_ask q name number gone (kept_holds (next_stage (Read q)) (Read q) name number h))
+    (kept_may (next_stage (Read q)) (Read q) (looked_first p.critical (Hit answer version) ask))
+looks_asks types p Miss None old new none change =
+    let q : Reading = taken (came.Look (Ok Miss)) 0 false (record p { ask = None }) in
+    holds_none (Some (Read p)) (held_after (Read q)) old new
+    (change_opens_none (LooksFirst types (wanted_by p) Miss None) p.follower old new
+    (λ from to looks number h. subst (λ (n : Node). is_open_ask number n.asks ≡ true) looks.node.1 h) change)
+    (λ name number. no_ask p name number none)
+    (λ name number h. no_ask q name number refl (kept_holds (next_stage (Read q)) (Read q) name number h))
+    (kept_may (next_stage (Read q)) (Read q) (looked_first p.critical Miss None))
+looks_asks types p Miss (Some given) old new none change =
+    let q : Reading = taken (came.Look (Ok Miss)) 0 false (record p { ask = Some given }) in
+    subst (λ held. StepsAsks (Some (Read p)) held old new) (sym (miss_goes p.critical (Read q)))
+    (ask_opened p old new q types given change none refl refl (looked_first p.critical Miss (Some given)))
+
+asked_goes : (given : LeaderAnswer) (plan : HeldPlan) → kept (stage_named (stage_of (after_ask given))) plan ≡ Some plan
+asked_goes (leader.Filled fill) plan = refl
+asked_goes (leader.Past answer version total note) plan = refl
+asked_goes (leader.Behind version) plan = refl
+
+asked_first : (given : LeaderAnswer) (ask : Option ℕ) → HasNoneAt (after_ask given) ask
+asked_first (leader.Filled fill) ask = tt
+asked_first (leader.Past answer version total note) ask = tt
+asked_first (leader.Behind version) ask = tt
+
+mastered_goes : (out : ReadOut) (plan : HeldPlan) → kept (stage_named (stage_of (after_master out))) plan ≡ Some plan
+mastered_goes (store.Filled fill) plan = refl
+mastered_goes (store.Past answer version total note) plan = refl
+
+mastered_first : (out : ReadOut) (ask : Option ℕ) → HasNoneAt (after_master out) ask
+mastered_first (store.Filled fill) ask = tt
+mastered_first (store.Past answer version total note) ask = tt
+
+module _ (tells : Bool) (s : Settings) (by : NodeName) (p q : Reading) (old new : Scene) (alone : StandAlone old.fleet.followers) where
+  abbrev Asks : Reading → Type 0
+  Asks r = StepsAsks (Some (Read p)) (held_after (Read r)) old.fleet.followers new.fleet.followers
+
+  ended : ChangesNode p.follower (EndsAsk p.ask) old.fleet.followers new.fleet.followers → StepsAsks (Some (Read p)) None old.fleet.followers new.fleet.followers
+  ended change = ask_ended p old.fleet.followers new.fleet.followers (EndsAsk p.ask) alone change (ends_open p.ask)
+
+  over_given : (given : Given) → p.at ≡ Keeping given → KeepsGiven s p given old q new → Asks q
+  over_given (Fill fill) at (inl from) =
+      let r : Reading = taken (came.Keep (Ok (Some (from.answer, from.kept)))) 0 false p in
+      let over : held_after (Read r) ≡ None =
+      ap (λ a. kept (stage_named (stage_of (after_keep p.bound a (Some (from.answer, from.kept))))) (Read r)) at in
+      subst Asks (sym from.then) (subst (λ held. StepsAsks (Some (Read p)) held old.fleet.followers new.fleet.followers) (sym over)
+      (ask_ended p old.fleet.followers new.fleet.followers (KeepsFill (types_of s.schema) p.query p.ask fill from.answer from.kept) alone from.keeps
+      (keeps_open (types_of s.schema) p.query p.ask fill from.answer from.kept)))
+  over_given (Fill fill) at (inr vain) = subst Asks (sym vain.then) (ended vain.ends)
+  over_given (Past answer version total seen) at on =
+      let r : Reading = taken (came.Keep (Ok None)) 0 false p in
+      let over : held_after (Read r) ≡ None = ap (λ a. kept (stage_named (stage_of (after_keep p.bound a None))) (Read r)) at in
+      subst Asks (sym on.then) (subst (λ held. StepsAsks (Some (Read p)) held old.fleet.followers new.fleet.followers) (sym over) (ended on.ends))
+  over_given (HandedOut version) at on = absurd on
+
+  read_asks : (at : Standing) → p.at ≡ at → HasNoneAt at p.ask → DoesReadStage tells s by at p old q new → Asks q
+  read_asks Looking at none (inl looks) =
+      subst Asks (sym looks.then) (looks_asks (types_of s.schema) p looks.look looks.ask old.fleet.followers new.fleet.followers none looks.looks)
+  read_asks Looking at none (inr vain) =
+      subst Asks (sym vain.then)
+      (holds_none (Some (Read p)) None old.fleet.followers new.fleet.followers
+      (same_opens_none old.fleet.followers new.fleet.followers (ap (λ (x : Scene). x.fleet.followers) vain.same))
+      (λ name number. no_ask p name number none) (λ name number h. absurd h) tt)
+  read_asks Asking at none (inl asks) =
+      let r : Reading = taken (came.Ask (Ok asks.given)) _ _ p in
+      let same : new.fleet.followers ≡ old.fleet.followers = ap (λ (f : Fleet). f.followers) asks.over.rest in
+      subst Asks (sym asks.then) (subst (λ held. StepsAsks (Some (Read p)) held old.fleet.followers new.fleet.followers) (sym (asked_goes asks.given (Read r)))
+      (ask_stays p old.fleet.followers new.fleet.followers r same refl refl (asked_first asks.given p.ask)))
+  read_asks Asking at none (inr vain) = subst Asks (sym vain.then) (ended vain.vain.ends)
+  read_asks Mastering at none (inl asks) =
+      let r : Reading = taken (came.Master (Ok asks.out)) _ _ p in
+      let same : new.fleet.followers ≡ old.fleet.followers = ap (λ (f : Fleet). f.followers) asks.over.same in
+      subst Asks (sym asks.then) (subst (λ held. StepsAsks (Some (Read p)) held old.fleet.followers new.fleet.followers) (sym (mastered_goes asks.out (Read r)))
+      (ask_stays p old.fleet.followers new.fleet.followers r same refl refl (mastered_first asks.out p.ask)))
+  read_asks Mastering at none (inr vain) = subst Asks (sym vain.then) (ended vain.ends)
+  read_asks (Keeping given) at none does = over_given given at does
+  read_asks (Ended end) at none does = absurd does
+
+-- ---- the stages of a write
+
+follower_takes : (types : EdgeTypes) (route : Route) (shard : ℕ) (entry : Option Entry) (old new : Fleet)
+    → FollowerTakes types route shard entry old new → OpensNone old.followers new.followers
+follower_takes types route shard None old new same = same_opens_none old.followers new.followers same
+follower_takes types route shard (Some e) old new takes = apply_opens_none route.follower old.followers new.followers types shard e takes.0 takes.1
+
+no_node : (tells : Bool) (old new : Posting) → ChangesNoNode tells old new → OpensNone old.scene.fleet.followers new.scene.fleet.followers
+no_node tells old new rests = same_opens_none old.scene.fleet.followers new.scene.fleet.followers (ap (λ (f : Fleet). f.followers) rests.fleet)
+
+module _ (tells : Bool) (s : Settings) (route : Route) (call : ClientWrite) (old new : Posting) where
+  store_no_node : (refused : StoreRefused) → NotCommitted tells s route call refused old new → ChangesNoNode tells old new
+  store_no_node (LinkFault count when) is = is.1.same
+  store_no_node (SeqReused position) is = is.1
+  store_no_node (ShardFull serial) is = is.1
+  store_no_node (StampFull number) is = is.1
+  store_no_node (LogFull count) is = is.1
+  store_no_node (KeeperFault count) is = is.1
+  store_no_node (Unsettled at why) is = is.1
+
+  refused_no_node : (reply : Reply) → RefusesCommit tells s route call reply old new → ChangesNoNode tells old new
+  refused_no_node (Refused (Store refused)) is = store_no_node refused is
+  refused_no_node (Refused (Memory position)) is = is.1
+  refused_no_node reply is = absurd is
+
+write_opens : (tells : Bool) (s : Settings) (by : NodeName) (at : WriteStage) (p q : Plan) (old new : Posting) → DoesWriteStage tells s by at p old q new
+    → OpensNone old.scene.fleet.followers new.scene.fleet.followers
+write_opens tells s by Commit p q old new (inl commits) =
+    same_opens_none old.scene.fleet.followers new.scene.fleet.followers commits.commits.followers
+write_opens tells s by Commit p q old new (inr refuses) =
+    no_node tells old new (refused_no_node tells s (way_by by p) (call_by p) old new refuses.reply refuses.refuses)
+write_opens tells s by Apply p q old new (inl applies) =
+    follower_takes (types_of s.schema) (way_by by p) (write_shard p.write) applies.committed.wrote.entry old.scene.fleet new.scene.fleet applies.takes
+write_opens tells s by Apply p q old new (inr (inl loses)) =
+    same_opens_none old.scene.fleet.followers new.scene.fleet.followers (ap (λ (f : Fleet). f.followers) loses.fleet)
+write_opens tells s by Apply p q old new (inr (inr vain)) =
+    same_opens_none old.scene.fleet.followers new.scene.fleet.followers (ap (λ (x : Posting). x.scene.fleet.followers) vain.same)
+write_opens tells s by Inverse p q old new does = absurd does
+write_opens tells s by End p q old new does = absurd does
+write_opens tells s by Relay p q old new does = absurd does
+write_opens tells s by Done p q old new does = absurd does
+
+-- ---- the stage of a plan
+
+pub steps_asks : (tells : Bool) (s : Settings) (by : NodeName) (before after : HeldPlan) (old new : Posting) → StandAlone old.scene.fleet.followers
+    → OpensFirst before → StepsHeld tells s by before old after new
+    → StepsAsks (Some before) (held_after after) old.scene.fleet.followers new.scene.fleet.followers
+steps_asks tells s by (Read p) (Read q) old new alone first steps = read_asks tells s by p q old.scene new.scene alone p.at refl first steps.steps.does
+steps_asks tells s by (Write p) (Write q) old new alone first steps =
+    holds_none (Some (Write p)) (held_after (Write q)) old.scene.fleet.followers new.scene.fleet.followers
+    (write_opens tells s by (next_of p) p q old new steps) (λ name number h. h)
+    (λ name number h. kept_holds (next_stage (Write q)) (Write q) name number h) (kept_may (next_stage (Write q)) (Write q) tt)
+steps_asks tells s by (Read p) (Write q) old new alone first steps = absurd steps
+steps_asks tells s by (Write p) (Read q) old new alone first steps = absurd steps

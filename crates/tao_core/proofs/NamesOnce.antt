@@ -1,0 +1,147 @@
+-- No two followers of a configuration have one name.
+use Rattle.std.proofs.Common.{◌≡◌, ◌⊎◌, ℕ, zero, suc, ◌+◌, ◌≤◌, List, [], ◌∷◌, ◌++◌, Option, Some, None, refl, ap, sym, subst, ◌∙◌, inl, inr, arith}
+use Rattle.std.specs.Prelude.{⊤, map, slice_get}
+use Rattle.std.specs.List.{range_with_len}
+use Rattle.core_model.specs.Fleet.{follower_names, followers_from, named, names_of, regions_of, tiers_from}
+use Rattle.core_model.specs.declared.named.Named.{Named}
+use Rattle.core_model.proofs.Places.{one_some}
+use Rattle.graph_model.proofs.Members.{IsIn, in_append_cases}
+use Rattle.follower_cache.specs.Seen.{FollowerState}
+use Rattle.node_name.specs.declared.NodeName.{NodeName}
+use Rattle.node_name.specs.declared.NodeName.TheVariants.{Store, Leader, Follower}
+use Rattle.topology.specs.Config.{Settings}
+use Rattle.topology.specs.Counts.{NodeCounts}
+
+-- ---- names that stand once
+
+abbrev StandOnce : List NodeName → Type 0
+StandOnce [] = ⊤
+StandOnce (x ∷ xs) = (IsIn x xs → ⊥) × StandOnce xs
+
+both_once : (xs ys : List NodeName) → StandOnce xs → StandOnce ys → ((name : NodeName) → IsIn name xs → IsIn name ys → ⊥) → StandOnce (xs ++ ys)
+both_once [] ys one two apart = two
+both_once (x ∷ xs) ys one two apart = (
+  (λ h. elim (in_append_cases xs ys x h) [ inl early ↦ one.0 early | inr late ↦ apart x (inl refl) late ]),
+  both_once xs ys one.1 two (λ name h. apart name (inr h)),
+)
+
+place_among : (xs : List NodeName) (place : ℕ) (name : NodeName) → slice_get xs place ≡ Some name → IsIn name xs
+place_among [] place name h = absurd (cc)
+place_among (x ∷ xs) zero name h = inl (one_some x name h)
+place_among (x ∷ xs) (suc place) name h = inr (place_among xs place name h)
+
+one_place : (xs : List NodeName) (m n : ℕ) (name : NodeName) → StandOnce xs → slice_get xs m ≡ Some name → slice_get xs n ≡ Some name → m ≡ n
+one_place [] m n name once one two = absurd (cc)
+one_place (x ∷ xs) zero zero name once one two = refl
+one_place (x ∷ xs) zero (suc n) name once one two = absurd (once.0 (subst (λ y. IsIn y xs) (sym (one_some x name one)) (place_among xs n name two)))
+one_place (x ∷ xs) (suc m) zero name once one two = absurd (once.0 (subst (λ y. IsIn y xs) (sym (one_some x name two)) (place_among xs m name one)))
+one_place (x ∷ xs) (suc m) (suc n) name once one two = ap suc (one_place xs m n name once.1 one two)
+
+-- ---- the followers of a tier, of a region, and of all
+
+abbrev IsFromIndex : ℕ → ℕ → ℕ → NodeName → Type 0
+IsFromIndex region tier low (Follower r t i) = (r ≡ region) × (t ≡ tier) × (low ≤ i)
+IsFromIndex region tier low (Leader r i) = ⊥
+IsFromIndex region tier low (Store store) = ⊥
+
+abbrev IsFromTier : ℕ → ℕ → NodeName → Type 0
+IsFromTier region low (Follower r t i) = (r ≡ region) × (low ≤ t)
+IsFromTier region low (Leader r i) = ⊥
+IsFromTier region low (Store store) = ⊥
+
+abbrev IsFromRegion : ℕ → NodeName → Type 0
+IsFromRegion low (Follower r t i) = low ≤ r
+IsFromRegion low (Leader r i) = ⊥
+IsFromRegion low (Store store) = ⊥
+
+lower_index : (region tier low : ℕ) (name : NodeName) → IsFromIndex region tier (low + 1) name → IsFromIndex region tier low name
+lower_index region tier low (Follower r t i) h = (let le = h.2 in (h.0, h.1, omega arith))
+lower_index region tier low (Leader r i) h = absurd h
+lower_index region tier low (Store store) h = absurd h
+
+lower_tier : (region low : ℕ) (name : NodeName) → IsFromTier region (low + 1) name → IsFromTier region low name
+lower_tier region low (Follower r t i) h = (let le = h.1 in (h.0, omega arith))
+lower_tier region low (Leader r i) h = absurd h
+lower_tier region low (Store store) h = absurd h
+
+lower_region : (low : ℕ) (name : NodeName) → IsFromRegion (low + 1) name → IsFromRegion low name
+lower_region low (Follower r t i) h = omega arith
+lower_region low (Leader r i) h = absurd h
+lower_region low (Store store) h = absurd h
+
+of_index : (region tier low : ℕ) (name : NodeName) → IsFromIndex region tier low name → IsFromTier region tier name
+of_index region tier low (Follower r t i) h = (let same = h.1 in (h.0, omega arith))
+of_index region tier low (Leader r i) h = absurd h
+of_index region tier low (Store store) h = absurd h
+
+of_tier : (region low : ℕ) (name : NodeName) → IsFromTier region low name → IsFromRegion region name
+of_tier region low (Follower r t i) h = (let same = h.0 in omega arith)
+of_tier region low (Leader r i) h = absurd h
+of_tier region low (Store store) h = absurd h
+
+index_of : (region tier low count : ℕ) (name : NodeName) → IsIn name (map (Follower region tier) (range_with_len low count))
+    → IsFromIndex region tier low name
+index_of region tier low zero name h = absurd h
+index_of region tier low (suc count) name (inl same) = subst (IsFromIndex region tier low) same (refl, refl, omega arith)
+index_of region tier low (suc count) name (inr later) = lower_index region tier low name (index_of region tier (low + 1) count name later)
+
+index_once : (region tier low count : ℕ) → StandOnce (map (Follower region tier) (range_with_len low count))
+index_once region tier low zero = tt
+index_once region tier low (suc count) = (
+  (λ h. let le = (index_of region tier (low + 1) count (Follower region tier low) h).2 in absurd (omega arith)),
+  index_once region tier (low + 1) count,
+)
+
+tier_of : (region low : ℕ) (counts : List ℕ) (name : NodeName) → IsIn name (tiers_from region low counts) → IsFromTier region low name
+tier_of region low [] name h = absurd h
+tier_of region low (count ∷ counts) name h =
+    elim (in_append_cases (map (Follower region low) (range_with_len 0 count)) (tiers_from region (low + 1) counts) name h) [
+      | inl here ↦ of_index region low 0 name (index_of region low 0 count name here)
+      | inr later ↦ lower_tier region low name (tier_of region (low + 1) counts name later)
+    ]
+
+other_tier : (region low : ℕ) (name : NodeName) → IsFromIndex region low 0 name → IsFromTier region (low + 1) name → ⊥
+other_tier region low (Follower r t i) here later = (let same = here.1 in let le = later.1 in absurd (omega arith))
+other_tier region low (Leader r i) here later = here
+other_tier region low (Store store) here later = here
+
+tiers_once : (region low : ℕ) (counts : List ℕ) → StandOnce (tiers_from region low counts)
+tiers_once region low [] = tt
+tiers_once region low (count ∷ counts) =
+    both_once (map (Follower region low) (range_with_len 0 count)) (tiers_from region (low + 1) counts) (index_once region low 0 count)
+    (tiers_once region (low + 1) counts)
+    (λ name here later. other_tier region low name (index_of region low 0 count name here) (tier_of region (low + 1) counts name later))
+
+region_of : (low : ℕ) (regions : List NodeCounts) (name : NodeName) → IsIn name (followers_from low regions) → IsFromRegion low name
+region_of low [] name h = absurd h
+region_of low (r ∷ rs) name h = elim (in_append_cases (tiers_from low 0 r.followers) (followers_from (low + 1) rs) name h) [
+  | inl here ↦ of_tier low 0 name (tier_of low 0 r.followers name here)
+  | inr later ↦ lower_region low name (region_of (low + 1) rs name later)
+]
+
+other_region : (low : ℕ) (name : NodeName) → IsFromTier low 0 name → IsFromRegion (low + 1) name → ⊥
+other_region low (Follower r t i) here later = (let same = here.0 in absurd (omega arith))
+other_region low (Leader r i) here later = here
+other_region low (Store store) here later = here
+
+followers_once : (low : ℕ) (regions : List NodeCounts) → StandOnce (followers_from low regions)
+followers_once low [] = tt
+followers_once low (r ∷ rs) =
+    both_once (tiers_from low 0 r.followers) (followers_from (low + 1) rs) (tiers_once low 0 r.followers) (followers_once (low + 1) rs)
+    (λ name here later. other_region low name (tier_of low 0 r.followers name here) (region_of (low + 1) rs name later))
+
+-- ---- a name stands at one place
+
+name_at : (nodes : List (Named FollowerState)) (place : ℕ) (name : NodeName) (f : FollowerState) → slice_get nodes place ≡ Some (named name f)
+    → slice_get (names_of nodes) place ≡ Some name
+name_at [] place name f h = absurd (cc)
+name_at (n ∷ ns) zero name f h = ap (λ (x : Named FollowerState). Some x.name) (one_some n (named name f) h)
+name_at (n ∷ ns) (suc place) name f h = name_at ns place name f h
+
+-- each name of the followers stands once
+abbrev pub StandAlone : List (Named FollowerState) → Type 0
+StandAlone nodes = (m n : ℕ) (name : NodeName) (f g : FollowerState) → slice_get nodes m ≡ Some (named name f) → slice_get nodes n ≡ Some (named name g) → m ≡ n
+
+pub stand_alone : (s : Settings) (nodes : List (Named FollowerState)) → names_of nodes ≡ follower_names s → StandAlone nodes
+stand_alone s nodes is m n name f g one two =
+    one_place (names_of nodes) m n name (subst StandOnce (sym is) (followers_once 0 (regions_of s))) (name_at nodes m name f one) (name_at nodes n name g two)

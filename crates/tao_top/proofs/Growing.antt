@@ -64,5 +64,5 @@ module _ (tells : Bool) (core within next : CoreState) (old new : Outside) (is :
     call_leaves = record {
       histories = grows.logs;
       still = λ told.
-          still_grown tells within.settings old.keepers.told new.keepers.told grows told (opened told) (subst (λ s. HasSoundLogs s new.keepers.told) settings (of_core.consistent.stores.sound told));
+          still_grown tells within.settings old.keepers.told new.keepers.told grows told (opened told) (subst (λ s. HasSoundLogs s new.keepers.told) settings (of_core.is_consistent.consistent.stores.sound told));
     }

@@ -39,13 +39,13 @@ index_at (v ∷ vs) zero own d at = subst (λ o. IfSome o (λ x. v ≡ x)) at re
 index_at (v ∷ vs) (suc s) own d at = index_at vs s own d at
 
 -- the pass's own view of a shard that is configured
-record Own (shard : ℕ) (note : View) (notes : List View) : Type 0 where
-  own : View
-  at : slice_get notes shard ≡ Some own
-  grows : Grows own (longer_view own note)
-  from_note : Grows note (longer_view own note)
+pub record Own (shard : ℕ) (note : View) (notes : List View) : Type 0 where
+  pub own : View
+  pub at : slice_get notes shard ≡ Some own
+  pub grows : Grows own (longer_view own note)
+  pub from_note : Grows note (longer_view own note)
 
-own_of : (shard : ℕ) (note : View) (notes : List View) → IsNoteOf shard note notes → MeetsNote shard note notes → Own shard note notes
+pub own_of : (shard : ℕ) (note : View) (notes : List View) → IsNoteOf shard note notes → MeetsNote shard note notes → Own shard note notes
 own_of shard note notes = by (slice_get notes shard) refl
   where
     by : (o : Option View) → slice_get notes shard ≡ o → IsSomeAnd o (λ own. own.log ≡ note.log)
@@ -58,17 +58,17 @@ module _ (shard : ℕ) (note : View) (notes : List View) (o : Own shard note not
   met = ap (λ v. slice_set notes shard (longer_view v note)) (index_at notes shard o.own note o.at)
 
   -- what a key had reached it has reached
-  reached_on : (key : Key) (at : ℕ) → HasReached notes key at → HasReached (after_meeting shard note notes) key at
+  pub reached_on : (key : Key) (at : ℕ) → HasReached notes key at → HasReached (after_meeting shard note notes) key at
   reached_on key at = rw met (set_holds (λ v. ReachesIn v key at) (at ≡ 0) notes shard (key_shard key) o.own (longer_view o.own note) o.at
       (λ e. reaches_on key at o.own (longer_view o.own note) o.grows))
 
   -- and what it has reached in the note
-  reached_by_note : (key : Key) (at : ℕ) → key_shard key ≡ shard → ReachesIn note key at → HasReached (after_meeting shard note notes) key at
+  pub reached_by_note : (key : Key) (at : ℕ) → key_shard key ≡ shard → ReachesIn note key at → HasReached (after_meeting shard note notes) key at
   reached_by_note key at here reaches =
       rw met (rw here (rw (set_there notes shard o.own (longer_view o.own note) o.at) (reaches_on key at note (longer_view o.own note) o.from_note reaches)))
 
 -- of two versions that a key has reached it has reached the greater
-both_reached : (notes : List View) (key : Key) (m n : ℕ) → HasReached notes key m → HasReached notes key n → HasReached notes key (max m n)
+pub both_reached : (notes : List View) (key : Key) (m n : ℕ) → HasReached notes key m → HasReached notes key n → HasReached notes key (max m n)
 both_reached notes key m n = by (slice_get notes (key_shard key))
   where
     by : (o : Option View) → MatchOption o (m ≡ 0) (λ v. ReachesIn v key m) → MatchOption o (n ≡ 0) (λ v. ReachesIn v key n) → MatchOption o (max m n ≡ 0) (λ v. ReachesIn v key (max m n))

@@ -1,8 +1,10 @@
 -- The floors of a session: for each key the greatest version that it was told of.
-use Rattle.std.specs.Prelude.{◌≡◌, ◌≢◌, ◌≤◌, ℕ, List, max, nat_lt, unwrap_or, if◌then◌else◌}
+use Rattle.std.specs.Prelude.{◌≡◌, ◌≢◌, ◌≤◌, ℕ, List, [], ◌∷◌, max, nat_lt, take, unwrap_or, if◌then◌else◌}
 use Rattle.std.specs.Map.{lookup}
 use Rattle.indexmap.specs.IndexMap.{insert_entry}
-use Rattle.tao_base.specs.Keys.{same_key}
+use Rattle.tao_base.specs.Keys.{key_shard, same_key}
+use Rattle.tao_base.specs.declared.entry.Entry.{Entry}
+use Rattle.tao_base.specs.declared.entry.Touch.{Touch}
 use Rattle.tao_base.specs.declared.id.Key.{Key}
 
 -- the floors, each under its key, and how many keys may be added without memory
@@ -26,3 +28,19 @@ pub record Learns (key : Key) (version : ℕ) (old new : List (Key × ℕ)) : Ty
 -- no floor fell
 pub record FloorsRise (old new : List (Key × ℕ)) : Type 0 where
   pub rise : (key : Key) → floor_at old key ≤ floor_at new key
+
+-- ---- entries
+
+-- the touches that are learnt of an entry: all of them, as an entry has at most four
+abbrev pub learnt_touches : Entry → List Touch
+learnt_touches entry = take 8 entry.touches
+
+-- the greatest version that the touches tell of the key; 0 where they tell none
+abbrev pub version_told : Key → List Touch → ℕ
+version_told key [] = 0
+version_told key (t ∷ ts) = max (if same_key key t.key then t.version else 0) (version_told key ts)
+
+-- each key of the shard now has the greater of its floor and the version that the touches tell of it, and each other floor stays
+pub record LearnsTouches (shard : ℕ) (touches : List Touch) (old new : List (Key × ℕ)) : Type 0 where
+  pub here : (key : Key) → key_shard key ≡ shard → floor_at new key ≡ max (floor_at old key) (version_told key touches)
+  pub others : (key : Key) → key_shard key ≢ shard → floor_at new key ≡ floor_at old key

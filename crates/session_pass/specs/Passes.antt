@@ -5,7 +5,8 @@ use Rattle.tao_base.specs.declared.id.Key.{Key}
 use Rattle.graph_model.specs.Log.{version}
 use Rattle.graph_model.specs.Told.{WhereTold}
 use Rattle.shard_log.specs.View.{Grows, View, longer_view}
-use Rattle.session_pass.specs.Floors.{floor_at, with_learnt}
+use Rattle.session_pass.specs.Floors.{LearnsTouches, floor_at, learnt_touches, with_learnt}
+use Rattle.tao_base.specs.declared.entry.Entry.{Entry}
 
 -- a session: its number, region and tier, its floors, what it has seen of each shard's log, and how many keys it may learn without memory
 pub record SeenPass : Type 0 where
@@ -48,3 +49,8 @@ new_pass session region tier notes spare = record { session = session; region = 
 abbrev pub learnt : Key → ℕ → View → ℕ → SeenPass → SeenPass
 learnt key version note spare pass =
     record pass { floors = with_learnt key version pass.floors; notes = after_meeting (key_shard key) note pass.notes; spare = spare }
+
+-- the pass after an entry of the shard's log was learnt, with a note
+pub record LearnsEntry (shard : ℕ) (entry : Entry) (note : View) (old new : SeenPass) : Type 0 where
+  pub floors : LearnsTouches shard (learnt_touches entry) old.floors new.floors
+  pub rest : new ≡ record old { floors = new.floors; notes = after_meeting shard note old.notes; spare = new.spare }

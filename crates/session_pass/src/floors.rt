@@ -1,11 +1,11 @@
 //! `Floors`, what a session was told of.
-ghost use Rattle.std.specs.Prelude.{◌≡◌, ◌+◌, ◌<◌, ◌≤◌, [], IfOk, OnOk};
-ghost use Rattle.session_pass.specs.Floors.{floor_at, with_learnt};
+ghost use Rattle.std.specs.Prelude.{◌≡◌, ◌+◌, ◌<◌, ◌≤◌, [], ◌∷◌, IfOk, OnOk, length};
+ghost use Rattle.session_pass.specs.Floors.{LearnsTouches, floor_at, with_learnt};
 
 use indexmap::IndexMap;
 use std::alloc::Global;
 use std::marker::Model;
-use tao_base::{Key, OutOfMemory};
+use tao_base::{Key, OutOfMemory, Touch};
 
 /// The greatest version of each key that a session was told of.
 #[derive(Drop)]
@@ -60,6 +60,27 @@ impl Floors {
     {
         if self.at(key) < version {
             let _ = self.versions.insert(*key, version);
+        }
+    }
+
+    /// Learns what the touches say of the keys of a shard. Takes no memory.
+    pub(crate) fn learn_touches(&mut self, shard: u16, touches: &[Touch])
+        requires { length touches.now ≤ self.old.spare }
+        ensures { LearnsTouches shard touches.now self.old.floors self.new.floors }
+    {
+        for touch in touches {
+            self.learn_touch(shard, touch);
+        }
+    }
+
+    /// Learns what a touch says of its key, if that is of the shard.
+    fn learn_touch(&mut self, shard: u16, touch: &Touch)
+        requires { 0 < self.old.spare }
+        ensures learns { LearnsTouches shard (touch.now ∷ []) self.old.floors self.new.floors }
+        ensures spare { self.old.spare ≤ self.new.spare + 1 }
+    {
+        if touch.key.shard() == shard {
+            self.learn(&touch.key, touch.version);
         }
     }
 }

@@ -4,9 +4,10 @@ ghost use Rattle.std.specs.Prelude.{◌≡◌, ◌≤◌, ◌<◌, ◌+◌, IfOk
 use crate::floors::Floors;
 use crate::notes;
 use shard_log::Note;
+use shard_log::growth::notes_are_sound;
 use std::alloc::Global;
 use std::marker::Model;
-use tao_base::{Key, OutOfMemory};
+use tao_base::{Entry, Key, OutOfMemory};
 
 /// How many keys may be learnt after a `reserve`, before the next: the touches of a write's two entries.
 const SPARE: usize = 8;
@@ -38,9 +39,11 @@ impl Model for Pass {
 }
 
 impl Pass {
+    ghost use Rattle.graph_model.specs.Log.{entry_at};
+    ghost use Rattle.graph_model.specs.Told.{WhereTold};
     ghost use Rattle.tao_base.specs.Keys.{key_shard};
     ghost use Rattle.session_pass.specs.Floors.{FloorsRise, Learns, floor_at, with_learnt};
-    ghost use Rattle.session_pass.specs.Passes.{HasReached, IsNoteOf, MeetsNote, ReachesIn, after_meeting, learnt, new_pass};
+    ghost use Rattle.session_pass.specs.Passes.{HasReached, IsNoteOf, LearnsEntry, MeetsNote, ReachesIn, after_meeting, learnt, new_pass};
 
     /// The pass of a session of a tier, by its place in its region, which was told of nothing yet. It has a note for
     /// each shard, in their order. Takes the memory of eight keys.
@@ -116,6 +119,24 @@ impl Pass {
     {
         notes::meet(&mut self.notes, key.shard(), note);
         self.floors.learn(&key, version);
+    }
+
+    /// The session was told of an entry of a shard's log: its floor at each key that the entry touches there is now the greater of the
+    /// touch's version and what it was. The pass's note of the shard meets the note, in whose view the entry stands. Uses up the room
+    /// of eight keys at most. A look-up for each touch; takes no memory.
+    pub fn learn_entry(&mut self, shard: u16, entry: &Entry, note: Note)
+        requires spare { 8 ≤ self.old.spare }
+        requires shard { IsNoteOf shard note self.old.notes }
+        requires stands { WhereTold note.log.told (entry_at note.entries entry.now.position ≡ Some entry.now) }
+        ensures learns { LearnsEntry shard entry.now note self.old self.new }
+        ensures rise { FloorsRise self.old.floors self.new.floors }
+        ensures meets { MeetsNote shard note self.old.notes }
+    {
+        notes_are_sound(&note);
+        notes::meet(&mut self.notes, shard, note);
+        let touches = entry.touches.as_slice();
+        self.floors
+            .learn_touches(shard, &touches[..touches.len().min(SPARE)]);
     }
 
     /// The pass's note of a shard meets the note. Takes no memory.

@@ -1,0 +1,2 @@
+mod AtPlace
+mod InOrder

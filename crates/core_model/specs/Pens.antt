@@ -1,5 +1,5 @@
 -- The logs of the shards, as their pens see them, and what was seen of them.
-use Rattle.std.specs.Prelude.{ℕ, false, List, [], Option, Some, None, slice_get}
+use Rattle.std.specs.Prelude.{ℕ, ◌≡◌, false, List, [], Option, Some, None, length, slice_get}
 use Rattle.shard_log.specs.View.{View, Grows}
 use Rattle.shard_tables.specs.StoreView.{Store}
 
@@ -31,3 +31,8 @@ view_or_none (Some store) = store.view
 -- each shard's pen is that of its master's store
 abbrev pub pens_of : List Store → Pens
 pens_of masters shard = view_or_none (slice_get masters shard)
+
+-- the notes are of the first shards' logs, so many, in order, and have seen beginnings of these
+pub record AreNotesOf (pens : Pens) (count : ℕ) (notes : List View) : Type 0 where
+  pub long : length notes ≡ count
+  pub seen : (shard : ℕ) (note : View) → slice_get notes shard ≡ Some note → IsSeen pens shard note

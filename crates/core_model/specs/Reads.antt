@@ -55,6 +55,11 @@ pub record LooksFirst (types : EdgeTypes) (read : Wanted) (look : Look) (ask : O
   pub node : AfterLook (query_key read.query) look ask old.node new.node
   pub refills : new.refills ≡ old.refills
 
+-- a follower that isn't to answer opens an ask on the key at once, unless as many are open as may be
+pub record AsksAtOnce (key : Key) (ask : Option ℕ) (old new : FollowerState) : Type 0 where
+  pub node : AfterLook key Miss ask old.node new.node
+  pub refills : new.refills ≡ old.refills
+
 -- an answer of the follower's own item is legal in the shard's log
 abbrev pub IsLegalLook : EdgeTypes → Pens → Wanted → Look → Type 0
 IsLegalLook types pens read (Hit answer version) = IsLegalIn types (pens (query_shard read.query)) read.query read.floor answer version

@@ -23,7 +23,7 @@ use Rattle.tao_keeper.specs.Table.{Tables}
 use Rattle.topology.specs.Config.{Settings}
 use Rattle.core_model.specs.Consistent.{AreSeen}
 use Rattle.core_model.specs.Fleet.{served_by, serves_in_turn, regions_of}
-use Rattle.core_model.specs.Pens.{no_view, pens_of, view_or_none}
+use Rattle.core_model.specs.Pens.{AreNotesOf, IsSeen, no_view, pens_of, view_or_none}
 use Rattle.core_model.specs.Stores.{AreStores, HaveSeen, master_log}
 use Rattle.core_nodes.specs.Beginning.{AreAlikeStores, AreLengths, AreMeasured, IsTurn, length_at, note_at, note_or_none}
 use Rattle.core_nodes.specs.declared.beginning.Turn.{Turn}
@@ -176,9 +176,23 @@ role_grows : (role : Role) (v : View) → Grows (seen_by role v) v
 role_grows Master v = record { log_is = refl; begins = begins-self v.entries }
 role_grows Slave v = grows-self v
 
-note_grows : (o : Option Store) → Grows (note_or_none o) (view_or_none o)
+pub note_grows : (o : Option Store) → Grows (note_or_none o) (view_or_none o)
 note_grows None = grows-self no_view
 note_grows (Some store) = role_grows store.role store.view
+
+-- one more note, of the next shard
+pub notes_more : (masters ys : List Store) (shard : ℕ) (note : View) (notes more : List View) → AreNotesOf (pens_of masters) shard notes → ys ≡ masters
+    → note ≡ note_at ys shard → more ≡ notes ++ note ∷ [] → AreNotesOf (pens_of masters) (shard + 1) more
+notes_more masters ys shard note notes more are same is pushed =
+    let seen : IsSeen (pens_of masters) shard note =
+    subst (IsSeen (pens_of masters) shard) (sym (is ∙ ap (λ ms. note_at ms shard) same)) (note_grows (slice_get masters shard)) in
+    record {
+      long = (let long = are.long in omega (arith, ap length pushed, length-append notes (note ∷ []), long));
+      seen = λ n v h. elim (slice_get-push notes note n v (ap (λ l. slice_get l n) (sym pushed) ∙ h)) [
+        | inl e ↦ are.seen n v e
+        | inr e ↦ subst (IsSeen (pens_of masters) n) e.1 (subst (λ k. IsSeen (pens_of masters) k note) (sym (e.0 ∙ are.long)) seen)
+      ];
+    }
 
 pub seen_begun : (lengths shards : List ℕ) (masters : List Store)
     → AreSeen (pens_of masters) (begun_at shards (map (length_at lengths) shards) (map (note_at masters) shards))

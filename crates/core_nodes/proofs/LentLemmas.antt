@@ -10,7 +10,7 @@ use Rattle.sealed_item.specs.Fills.{SealedItem}
 use Rattle.shard_tables.specs.StoreView.{Store}
 use Rattle.shard_tables.specs.declared.leader_answer.LeaderAnswer.{LeaderAnswer}
 use Rattle.shard_tables.specs.declared.refusal.StoreRefusal.{StoreRefusal}
-use Rattle.tao_base.specs.Queries.{query_shard}
+use Rattle.tao_base.specs.Queries.{query_key, query_shard}
 use Rattle.tao_base.specs.declared.id.Key.{Key}
 use Rattle.tao_base.specs.declared.memory.OutOfMemory.{OutOfMemory}
 use Rattle.tao_base.specs.declared.query.Answer.{Answer}
@@ -23,7 +23,7 @@ use Rattle.core_model.specs.Consistent.{IsConsistent, IsFleetOf}
 use Rattle.core_model.specs.Evictions.{Evicts}
 use Rattle.core_model.specs.Fleet.{ChangesNode, Fleet}
 use Rattle.core_model.specs.Pens.{pens_of}
-use Rattle.core_model.specs.Reads.{EndsAsk, IsGivenFill, KeepsFill, LeaderAnswers, Wanted, wanted}
+use Rattle.core_model.specs.Reads.{AsksAtOnce, EndsAsk, IsGivenFill, KeepsFill, LeaderAnswers, Wanted, wanted}
 use Rattle.core_model.specs.Serving.{IsFollowerFor}
 use Rattle.core_model.specs.declared.named.Named.{Named}
 use Rattle.core_nodes.specs.Stages.{EvictsThere, FollowerDoes, LeaderDoes, LooksTrue}
@@ -32,7 +32,7 @@ use Rattle.core_nodes.specs.declared.reads.FirstLook.{FirstLook}
 use Rattle.core_nodes.proofs.AskLemmas.{AskStep, ask_step}
 use Rattle.core_nodes.proofs.EvictLemmas.{DropStep, follower_evicts, leader_evicts}
 use Rattle.core_nodes.proofs.FleetLemmas.{FleetStep}
-use Rattle.core_nodes.proofs.ReadLemmas.{EndStep, KeepStep, LookStep, end_step, keep_step, look_step}
+use Rattle.core_nodes.proofs.ReadLemmas.{AtOnceStep, EndStep, KeepStep, LookStep, at_once_step, end_step, keep_step, look_step}
 use Rattle.core_nodes.proofs.ViewLemmas.{LendsBoth, LendsFollowers, LendsLeaders, after_both, after_followers, after_leaders, both_after, followers_after, leaders_after}
 
 pub look_lent : (s : Settings) (schema : Schema) (name : NodeName) (query : Query) (floor : ℕ) (inside : Inside) (old : Fleet)
@@ -85,6 +85,13 @@ pub end_lent : (s : Settings) (name : NodeName) (ask : Option ℕ) (inside : Ins
 end_lent s name ask inside old lent left lends fleet change =
     subst (EndStep s name ask old) (sym (followers_after inside old lent left lends))
     (end_step s name ask old left fleet (subst (λ xs. ChangesNode name (FollowerDoes (EndsAsk ask)) xs left) lends.own change))
+
+pub at_once_lent : (s : Settings) (name : NodeName) (query : Query) (ask : Option ℕ) (inside : Inside) (old : Fleet) (lent left : List (Named FollowerState))
+    → LendsFollowers inside old lent left → IsFleetOf s old
+    → ChangesNode name (FollowerDoes (AsksAtOnce (query_key query) ask)) lent left → AtOnceStep s name query ask old (after_followers inside left)
+at_once_lent s name query ask inside old lent left lends fleet change =
+    subst (AtOnceStep s name query ask old) (sym (followers_after inside old lent left lends))
+    (at_once_step s name query ask old left fleet (subst (λ xs. ChangesNode name (FollowerDoes (AsksAtOnce (query_key query) ask)) xs left) lends.own change))
 
 pub evict_leader_lent : (s : Settings) (name : NodeName) (key : Option Key) (held : Bool) (inside : Inside) (old : Fleet) (lent left : List (Named Node))
     → LendsLeaders inside old lent left

@@ -1,5 +1,5 @@
 -- What the stages of a read leave, and what they answer.
-use Rattle.std.proofs.Common.{◌≡◌, ℕ, ◌≤◌, Bool, true, false, List, Option, Some, None, IfOk, IfSome, IsSome, OnErr, Result, Ok, Err, refl, ap, sym, ◌∙◌, subst, arith}
+use Rattle.std.proofs.Common.{◌≡◌, ℕ, ◌≤◌, ◌+◌, Bool, true, false, List, Option, Some, None, IfOk, IfSome, IsSome, OnErr, Result, Ok, Err, refl, ap, sym, ◌∙◌, subst, arith}
 use Rattle.std.specs.Prelude.{◌&&◌, if◌then◌else◌, nat_le}
 use Rattle.std.specs.Option.{option_map}
 use Rattle.std.proofs.lemmas.Bool.{leb-true}
@@ -40,7 +40,7 @@ use Rattle.core_model.specs.Asks.{IsAskOn}
 use Rattle.core_model.specs.Consistent.{IsFleetOf, IsNodeOf}
 use Rattle.core_model.specs.Fleet.{ChangesNode, Fleet, HasAsk}
 use Rattle.core_model.specs.Pens.{IsSeen, Pens, pens_of}
-use Rattle.core_model.specs.Reads.{AfterLook, EndsAsk, IsGivenFill, IsLegalLook, KeepsFill, LooksFirst, Wanted, wanted}
+use Rattle.core_model.specs.Reads.{AfterLook, AsksAtOnce, EndsAsk, IsGivenFill, IsLegalLook, KeepsFill, LooksFirst, Wanted, wanted}
 use Rattle.core_model.specs.Serving.{IsFollowerFor}
 use Rattle.core_model.specs.declared.named.Named.{Named}
 use Rattle.core_nodes.specs.Stages.{FollowerDoes, LooksTrue, NodeIs}
@@ -162,6 +162,68 @@ look_step s name query floor old fs (Ok first) fleet for change err =
 look_step s name query floor old fs (Err e) fleet for change err =
     let there : LookStep s name query floor old old (Err e) = record { step = fleet_rests s old fleet; looks = tt; ask = tt; legal = tt } in
     subst (λ l. LookStep s name query floor old (record old { followers = l }) (Err e)) (sym err) there
+
+-- ---- an ask without a look
+
+-- at a floor past the item that is held, nothing is found
+beyond : (decided : Bool) (version : ℕ) (found : Answer) (enough : Bool) → nat_le (version + 1) version ≡ enough
+    → Miss ≡ (if enough && decided then Hit found version else Miss)
+beyond decided version found false is = refl
+beyond decided version found true is = (let le = leb-true (version + 1) version is in absurd (omega (arith, le)))
+
+-- so an ask that opens at once is one after a look at such a floor
+pub record LooksBeyond (types : EdgeTypes) (query : Query) (ask : Option ℕ) (old new : FollowerState) : Type 0 where
+  pub floor : ℕ
+  pub looks : LooksFirst types (wanted query floor) Miss ask old new
+
+looks_past : (types : EdgeTypes) (query : Query) (ask : Option ℕ) (old new : FollowerState) (found : Option Item)
+    → item_at old.node.items (query_key query) ≡ found → AsksAtOnce (query_key query) ask old new → LooksBeyond types query ask old new
+looks_past types query ask old new None at asks = record {
+  floor = 0;
+  looks = record { look_is = ap (λ o. look_of types o query 0) (sym at); node = asks.node; refills = asks.refills };
+}
+looks_past types query ask old new (Some item) at asks = record {
+  floor = item.version + 1;
+  looks = record {
+    look_is = beyond (content_decides types item.content query) item.version (content_answer types item.content query)
+        (nat_le (item.version + 1) item.version) refl ∙ ap (λ o. look_of types o query (item.version + 1)) (sym at);
+    node = asks.node;
+    refills = asks.refills;
+  };
+}
+
+looks_beyond : (types : EdgeTypes) (query : Query) (ask : Option ℕ) (old new : FollowerState) → AsksAtOnce (query_key query) ask old new
+    → LooksBeyond types query ask old new
+looks_beyond types query ask old new asks = looks_past types query ask old new (item_at old.node.items (query_key query)) refl asks
+
+asked_at_once : (query : Query) (ask : Option ℕ) (name : NodeName) (old new : List (Named FollowerState))
+    → ChangesNode name (FollowerDoes (AsksAtOnce (query_key query) ask)) old new → IfSome ask (λ number. HasAsk name number (query_key query) new)
+asked_at_once query None name old new change = tt
+asked_at_once query (Some number) name old new change =
+    is_after (λ (f : FollowerState). IsAskOn f.node.asks number (query_key query)) (FollowerDoes (AsksAtOnce (query_key query) (Some number))) name old new change
+    (opened (query_key query) Miss number change.from.node change.to.node change.by.does.node change.by.asks)
+
+pub record AtOnceStep (s : Settings) (name : NodeName) (query : Query) (ask : Option ℕ) (old new : Fleet) : Type 0 where
+  pub step : FleetStep s old new
+  pub asks : ChangesNode name (AsksAtOnce (query_key query) ask) old.followers new.followers
+  pub ask_is : IfSome ask (λ number. HasAsk name number (query_key query) new.followers)
+
+pub at_once_step : (s : Settings) (name : NodeName) (query : Query) (ask : Option ℕ) (old : Fleet) (fs : List (Named FollowerState)) → IsFleetOf s old
+    → ChangesNode name (FollowerDoes (AsksAtOnce (query_key query) ask)) old.followers fs
+    → AtOnceStep s name query ask old (record old { followers = fs })
+at_once_step s name query ask old fs fleet change =
+    let types = types_of s.schema in
+    let Asks : FollowerState → FollowerState → Type 0 = AsksAtOnce (query_key query) ask in
+    record {
+      step = follower_step (FollowerDoes Asks) s old name fs fleet change
+          (λ from to by is. (let l = looks_beyond types query ask from to by.does in
+          (nodes_stay s (pens_of old.masters) name).looks (wanted query l.floor) Miss ask from to l.looks by.apart by.truth is))
+          (λ from to by. by.does.refills)
+          (λ from to by. (let l = looks_beyond types query ask from to by.does in
+          nodes_ask_on.looks types (wanted query l.floor) Miss ask from to l.looks));
+      asks = changes_so (FollowerDoes Asks) Asks name old.followers fs (λ from to by. by.does) change;
+      ask_is = asked_at_once query ask name old.followers fs change;
+    }
 
 -- ---- keep
 

@@ -104,7 +104,7 @@ fn lengths_at(alloc: Global, lengths: &[u64], shards: &[u16]) -> Result<Vec<u64>
 }
 
 /// A note of the log of a shard.
-fn note_at(masters: &mut [StoreNode], shard: u16) -> Result<Note, OutOfMemory>
+pub(crate) fn note_at(masters: &mut [StoreNode], shard: u16) -> Result<Note, OutOfMemory>
     requires within { shard < length masters.old }
     ensures note { IfOk result (λ note. note ≡ note_at masters.old shard) }
     ensures same { masters.new ≡ masters.old }

@@ -9,6 +9,7 @@ mod deliveries;
 mod evictions;
 mod fleet;
 mod masters;
+mod notes;
 mod opening;
 mod reads;
 mod shown;

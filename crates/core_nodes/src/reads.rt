@@ -5,7 +5,7 @@ ghost use Rattle.cache_node.specs.Answered.{ViewAnswers};
 ghost use Rattle.core_model.specs.Consistent.{GoesOn, IsConsistent, IsFleetOf};
 ghost use Rattle.core_model.specs.Fleet.{ChangesNode, HasAsk, HasNode};
 ghost use Rattle.core_model.specs.Pens.{pens_of};
-ghost use Rattle.core_model.specs.Reads.{EndsAsk, IsGivenAnswer, IsGivenFill, IsLegalLook, KeepsFill, LeaderAnswers, LooksFirst, wanted};
+ghost use Rattle.core_model.specs.Reads.{AsksAtOnce, EndsAsk, IsGivenAnswer, IsGivenFill, IsLegalLook, KeepsFill, LeaderAnswers, LooksFirst, wanted};
 ghost use Rattle.core_model.specs.Serving.{IsFollowerFor, IsLeaderFor};
 ghost use Rattle.core_model.specs.Stores.{HaveSeen};
 ghost use Rattle.core_nodes.specs.Stages.{FollowerDoes, NodeIs, LeaderDoes, LooksTrue, OpensAsk};
@@ -106,6 +106,33 @@ fn look_at(
 {
     let place = place_of(followers, name);
     look_first(&mut followers[place].node, schema, query, floor)
+}
+
+/// Opens an ask on the key without a look.
+fn open_at_once(follower: &mut Follower, key: Key) -> Option<AskNo>
+    requires { IsSome (served_at (key_shard key) follower.old.node.served) }
+    ensures { AsksAtOnce key result follower.old follower.new }
+{
+    follower.begin_ask(key)
+}
+
+fn open_true(follower: &mut Follower, key: Key) -> Option<AskNo>
+    requires { IsSome (served_at (key_shard key) follower.old.node.served) }
+    ensures { FollowerDoes (AsksAtOnce key result) follower.old follower.new }
+{
+    followers_are_true(follower);
+    let ask = open_at_once(follower, key);
+    followers_are_true(follower);
+    ask
+}
+
+fn open_at(followers: &mut [Named<Follower>], name: NodeName, query: &Query) -> Option<AskNo>
+    requires there { HasNode name followers.old }
+    requires serves { NodeIs name (λ f. IsSome (served_at (query_shard query.now) f.node.served)) followers.old }
+    ensures { ChangesNode name (FollowerDoes (AsksAtOnce (query_key query.now) result)) followers.old followers.new }
+{
+    let place = place_of(followers, name);
+    open_true(&mut followers[place].node, query.key())
 }
 
 fn ask_leader<K: Keeper>(
@@ -260,6 +287,26 @@ impl Fleet {
         ensures legal { IfOk result (λ first. IsLegalLook (types_of config.now.schema) (pens_of self.new.masters) (wanted query.now floor) first.look) }
     {
         look_at(&mut self.followers, &config.schema, follower, query, floor)
+    }
+
+    /// The stage `look` of a critical read, which the follower never answers: it opens an ask on the key at once, unless 256 are
+    /// open. None exactly then. Takes no memory.
+    pub fn ask_at_once(
+        &mut self,
+        config: &Config,
+        follower: NodeName,
+        query: &Query,
+    ) -> Option<AskNo>
+        requires fleet { IsFleetOf config.now self.old }
+        requires follower { IsFollowerFor config.now (query_shard query.now) follower }
+        ensures asks { ChangesNode follower (AsksAtOnce (query_key query.now) result) self.old.followers self.new.followers }
+        ensures rest { self.new ≡ record self.old { followers = self.new.followers } }
+        ensures fleet { IsFleetOf config.now self.new }
+        ensures goes { GoesOn self.old self.new }
+        ensures ask { IfSome result (λ number. HasAsk follower number (query_key query.now) self.new.followers) }
+    {
+        let _ = config;
+        open_at(&mut self.followers, follower, query)
     }
 
     /// The stage `ask`, once it was carried to a leader that serves the shard: the leader answers of an item of its own, or of

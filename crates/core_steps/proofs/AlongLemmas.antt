@@ -45,7 +45,7 @@ use Rattle.tao_link.specs.Shown.{LinkShown, after_carry}
 use Rattle.tao_schema.specs.Schema.{key_bound, types_of}
 use Rattle.topology.specs.Config.{Settings}
 use Rattle.core_steps.specs.Reads.{AnswersAgain, Ends, MayAnswer, ReadFails, ReadsAlong, WasGiven}
-use Rattle.core_steps.specs.ReadSteps.{AsksAlong, AsksOfKey, EndsRead, IsGivenAlong, IsGivenOver, IsNotGiven, IsNotRead}
+use Rattle.core_steps.specs.ReadSteps.{AsksAlong, AsksOfKey, EndsRead, IsGivenAlong, IsGivenOver, IsNotGiven, IsNotGivenAlong, IsNotRead}
 use Rattle.core_steps.specs.ReadSteps.{IsReached, IsReadOver, ReadOverFails, ReadsOn, TellsCost, is_behind, missed_read}
 use Rattle.core_steps.specs.Routes.{FailsCarry, Scene, hops_between, master_node, scene, there_and_back, was_called}
 use Rattle.core_steps.specs.declared.reads.Cost.{Cost}
@@ -187,7 +187,7 @@ behind_is (Behind version) is = (version, refl)
 behind_is (Filled fill) is = (let no : false ≡ true = is in absurd (cc))
 behind_is (Past answer version total note) is = (let no : false ≡ true = is in absurd (cc))
 
-given_reaches : (out : ReadOut) → is_behind (given_of out) ≡ false
+pub given_reaches : (out : ReadOut) → is_behind (given_of out) ≡ false
 given_reaches (store.Filled fill) = refl
 given_reaches (store.Past answer version total note) = refl
 
@@ -234,9 +234,28 @@ read_fails s route query (Refused (Store (KeeperFault count))) old mid end link 
 read_fails s route query (Refused (Memory position)) old mid end link first then_ fails = fails
 read_fails s route query reply old mid end link first then_ fails = absurd fails
 
+-- what a leader did not give, the read is not given
+given_fails : (s : Settings) (route : Route) (query : Query) (reply : Reply) (old end : Scene) → ReadOverFails route.follower route.leader reply old end
+    → ReadFails s route query reply old end
+given_fails s route query (Refused (Store (LinkFault count Before))) old end fails = (
+  fails.0,
+  elim fails.1 [
+    | inl there ↦ inl there
+    | inr back ↦ inr (inl back)
+  ],
+)
+given_fails s route query (Refused (Store (KeeperFault count))) old end fails = fails
+given_fails s route query (Refused (Memory position)) old end fails = fails
+given_fails s route query reply old end fails = absurd fails
+
+pub not_given_along : (s : Settings) (route : Route) (read : Wanted) (reply : Reply) (old end : Scene) → IsNotGiven s route read reply old end
+    → IsNotGivenAlong s route read reply old end
+not_given_along s route read reply old end lost =
+    record { fails = given_fails s route read.query reply old end lost.fails; leaders = lost.leaders; rest = lost.rest }
+
 pub read_not_given : (s : Settings) (route : Route) (read : Wanted) (given : LeaderAnswer) (reply : Reply) (old mid end : Scene)
     → IsGivenOver s route read given old mid → IsLater old.keepers mid.keepers → IsLater mid.keepers end.keepers
-    → IsNotRead s route.follower read.query reply mid end → IsNotGiven s route read reply old end
+    → IsNotRead s route.follower read.query reply mid end → IsNotGivenAlong s route read reply old end
 read_not_given s route read given reply old mid end over first then_ fails =
     let types = types_of s.schema in
     let leaders : end.fleet.leaders ≡ mid.fleet.leaders = ap (λ (f : Fleet). f.leaders) fails.same in
@@ -350,7 +369,7 @@ fails_then s route query reply old mid end h = absurd h
 
 -- nothing was given, and the ask has ended
 pub vain_ends : (tells : Bool) (s : Settings) (route : Route) (read : Wanted) (ask : Option ℕ) (reply : Reply) (old mid : Scene) (end : Fleet)
-    → IsNotGiven s route read reply old mid → end ≡ record mid.fleet { followers = end.followers }
+    → IsNotGivenAlong s route read reply old mid → end ≡ record mid.fleet { followers = end.followers }
     → ChangesNode route.follower (EndsAsk ask) mid.fleet.followers end.followers
     → AsksAlong tells s (missed_read route read ask) reply old (scene end mid.keepers mid.link)
 vain_ends tells s route read ask (Refused refused) old mid end lost rest ends =

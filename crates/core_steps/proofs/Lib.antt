@@ -4,3 +4,4 @@ pub mod Repeats
 pub mod GrowingLemmas
 pub mod StepLemmas
 pub mod WriteLemmas
+pub mod CriticalLemmas

@@ -3,7 +3,7 @@ use Rattle.std.proofs.Common.{◌≡◌, ℕ, Bool, false, Option, Some, None, E
 use Rattle.counts.specs.Count.{Rose}
 use Rattle.graph_model.specs.Told.{WhereTold}
 use Rattle.leader_tier.specs.TakenWrites.{TakesWritten}
-use Rattle.shard_log.proofs.GrowthLemmas.{grows-trans}
+use Rattle.shard_log.proofs.GrowthLemmas.{entry_stays, grows-trans}
 use Rattle.shard_log.specs.View.{View}
 use Rattle.shard_tables.specs.Written.{StandsIn, WriteAnswers}
 use Rattle.shard_tables.specs.declared.refusal.StoreRefusal.{StoreRefusal}
@@ -74,6 +74,13 @@ pub stands_there : (pens : Pens) (shard : ℕ) (note : View) (entry : Option Ent
 stands_there pens shard note None seen = tt
 stands_there pens shard note (Some e) seen = seen.stands
 
+-- so it does in the shard's log
+pub stands_in_log : (pens : Pens) (shard : ℕ) (note : View) (entry : Option Entry) → IfSome entry (IsSeenEntry pens shard note)
+    → IfSome entry (StandsIn (pens shard))
+stands_in_log pens shard note None seen = tt
+stands_in_log pens shard note (Some e) seen = λ told.
+    entry_stays note (pens shard) e.position e seen.seen (seen.stands (ap (λ l. l.told) (sym seen.seen.log_is) ∙ told))
+
 -- the followers of the master's region are told of a new one
 pub told_new : (states : NodeStates) (shard region : ℕ) (retry : Bool) (entry : Option Entry) (e : Entry) (note : View) (old new : Inboxes)
     → retry ≡ false → entry ≡ Some e → region ≡ master_region states shard → Sends (told_of states region shard) (message_of shard e note) old new
@@ -104,9 +111,8 @@ module _ (tells : Bool) (s : Settings) (route : Route) (call : ClientWrite) (wro
   pub back_written : (reply : WriteReply) → told_kind call.write wrote.entry ≡ Some reply.kind → reply.written ≡ written_by wrote.retry inverse.None wrote.entry
       → FollowerTakes (types_of s.schema) route shard wrote.entry mid.scene.fleet new.scene.fleet
       → new.scene.link ≡ after_carry mid.scene.link → reply.hops ≡ hops_between old.scene.link new.scene.link
-      → IsWritten tells s route call reply old new
+      → IsWritten tells s route call (record { reply = reply; entry = wrote.entry }) old new
   back_written reply kind written takes link hops = record {
-    entry = wrote.entry;
     retry = wrote.retry;
     kind_is = kind;
     written_is = written;
@@ -134,17 +140,17 @@ module _ (tells : Bool) (s : Settings) (route : Route) (call : ClientWrite) (wro
 
   pub back_refused : (reply : Reply) (count : ℕ) (when : When) → reply ≡ Refused (Store (LinkFault count when)) → count ≡ new.scene.link.faults
       → when ≡ when_of wrote.entry → FailsCarry route.leader route.follower mid.scene.link new.scene.link → new.scene.fleet ≡ mid.scene.fleet
-      → WritesAlong tells s route call reply old new
+      → WritesAlong tells s route call (Err reply) old new
   back_refused reply count when reply_is count_is when_is carry same =
-      let fails : WritesAlong tells s route call (Refused (Store (LinkFault count when))) old new =
+      let fails : WritesAlong tells s route call (Err (Refused (Store (LinkFault count when)))) old new =
       (count_is, inr (back_failed when when_is carry same)) in
-      subst (λ r. WritesAlong tells s route call r old new) (sym reply_is) fails
+      subst (λ r. WritesAlong tells s route call (Err r) old new) (sym reply_is) fails
 
 -- ---- refused
 
 -- what was not committed is refused
 pub refuses_write : (tells : Bool) (s : Settings) (route : Route) (call : ClientWrite) (reply : Reply) (old new : Posting)
-    → RefusesCommit tells s route call reply old new → WritesAlong tells s route call reply old new
+    → RefusesCommit tells s route call reply old new → WritesAlong tells s route call (Err reply) old new
 refuses_write tells s route call (Refused (Store (LinkFault count when))) old new h = (h.0, inl h.1)
 refuses_write tells s route call (Refused (Store (SeqReused position))) old new h = h
 refuses_write tells s route call (Refused (Store (ShardFull serial))) old new h = h

@@ -1,3 +1,4 @@
+pub mod CriticalReads
 pub mod ReadSteps
 pub mod Reads
 pub mod Replies

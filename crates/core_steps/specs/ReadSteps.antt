@@ -75,9 +75,17 @@ pub record IsGivenOver (s : Settings) (route : Route) (read : Wanted) (given : L
   pub rest : ChangesLeaders old new
   pub given_is : IsGivenAnswer (types_of s.schema) (pens_of new.fleet.masters) read given
 
+-- why nothing was carried back: the way there failed, or the store's keeper, or the way back; or memory was wanting
+abbrev pub ReadOverFails : NodeName → NodeName → Reply → Scene → Scene → Type 0
+ReadOverFails follower other (Refused (Store (LinkFault count Before))) old new = (count ≡ new.link.faults)
+    × (FailsCarry follower other old.link new.link ⊎ FailsCarry other follower (after_carry old.link) new.link)
+ReadOverFails follower other (Refused (Store (KeeperFault count))) old new = (count ≡ new.keepers.faults) × Rose old.keepers.faults new.keepers.faults
+ReadOverFails follower other (Refused (Memory position)) old new = position ≡ 0
+ReadOverFails follower other reply old new = ⊥
+
 -- nothing was carried back. No other node changed
 pub record IsNotGiven (s : Settings) (route : Route) (read : Wanted) (reply : Reply) (old new : Scene) : Type 0 where
-  pub fails : ReadFails s route read.query reply old new
+  pub fails : ReadOverFails route.follower route.leader reply old new
   pub leaders : MayAnswer (types_of s.schema) route read old new
   pub rest : ChangesLeaders old new
 
@@ -90,14 +98,6 @@ pub record IsReadOver (tells : Bool) (s : Settings) (query : Query) (out : ReadO
   pub same : new.fleet ≡ old.fleet
   pub given : (floor : ℕ) → IsReached tells s (wanted query floor) old.keepers
       → IsGivenAnswer (types_of s.schema) (pens_of new.fleet.masters) (wanted query floor) (given_of out)
-
--- why nothing was carried back: the way there failed, or the store's keeper, or the way back; or memory was wanting
-abbrev pub ReadOverFails : NodeName → NodeName → Reply → Scene → Scene → Type 0
-ReadOverFails follower store (Refused (Store (LinkFault count Before))) old new = (count ≡ new.link.faults)
-    × (FailsCarry follower store old.link new.link ⊎ FailsCarry store follower (after_carry old.link) new.link)
-ReadOverFails follower store (Refused (Store (KeeperFault count))) old new = (count ≡ new.keepers.faults) × Rose old.keepers.faults new.keepers.faults
-ReadOverFails follower store (Refused (Memory position)) old new = position ≡ 0
-ReadOverFails follower store reply old new = ⊥
 
 -- nothing was carried back. No node changed
 pub record IsNotRead (s : Settings) (follower : NodeName) (query : Query) (reply : Reply) (old new : Scene) : Type 0 where
@@ -118,6 +118,12 @@ pub record IsGivenAlong (s : Settings) (route : Route) (read : Wanted) (given : 
   pub reaches : is_behind given ≡ false
   pub rest : ChangesLeaders old new
   pub given_is : IsGivenAnswer (types_of s.schema) (pens_of new.fleet.masters) read given
+
+-- it was given nothing, by the leader or where that was behind by the master's store. No other node changed
+pub record IsNotGivenAlong (s : Settings) (route : Route) (read : Wanted) (reply : Reply) (old new : Scene) : Type 0 where
+  pub fails : ReadFails s route read.query reply old new
+  pub leaders : MayAnswer (types_of s.schema) route read old new
+  pub rest : ChangesLeaders old new
 
 -- ---- the end at the follower
 

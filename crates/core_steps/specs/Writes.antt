@@ -1,5 +1,5 @@
 -- What a write along a route is answered, and what it does to the log of its shard and to the nodes.
-use Rattle.std.specs.Prelude.{ℕ, ◌≡◌, ◌⊎◌, Bool, true, false, List, Option, Some, None, IfSome, if◌then◌else◌}
+use Rattle.std.specs.Prelude.{ℕ, ◌≡◌, ◌⊎◌, Bool, true, false, List, Option, Some, None, IfSome, Result, Ok, Err, if◌then◌else◌}
 use Rattle.counts.specs.Count.{Rose}
 use Rattle.core_model.specs.Fleet.{ChangesNode, Fleet}
 use Rattle.core_mail.specs.Inboxes.{Inboxes, Sends, message_of}
@@ -10,16 +10,14 @@ use Rattle.core_model.specs.Writes.{AppliesTo, IsSeenEntry}
 use Rattle.graph_model.specs.Told.{WhereTold}
 use Rattle.leader_tier.specs.TakenWrites.{TakesWritten}
 use Rattle.master_tables.specs.Masters.{stores_of}
-use Rattle.replies.specs.declared.calls.CallReply.TheVariants as called
 use Rattle.replies.specs.declared.calls.InverseEnd.TheVariants as inverse
-use Rattle.replies.specs.declared.calls.WriteReply.{WriteReply}
 use Rattle.replies.specs.declared.refusals.Refusal.TheVariants.{Store, Memory}
 use Rattle.replies.specs.declared.refusals.StoreRefused.{StoreRefused}
 use Rattle.replies.specs.declared.refusals.StoreRefused.TheVariants.{SeqReused, ShardFull, StampFull, LogFull, KeeperFault, LinkFault, Unsettled}
 use Rattle.replies.specs.declared.refusals.When.{When}
 use Rattle.replies.specs.declared.refusals.When.TheVariants.{Before}
 use Rattle.replies.specs.declared.reply.Reply.{Reply}
-use Rattle.replies.specs.declared.reply.Reply.TheVariants.{Called, Refused}
+use Rattle.replies.specs.declared.reply.Reply.TheVariants.{Refused}
 use Rattle.shard_log.specs.View.{View}
 use Rattle.shard_tables.specs.Jobs.{job_with}
 use Rattle.shard_tables.specs.StoreView.{Store as StoreSeen}
@@ -45,6 +43,7 @@ use Rattle.write_plan.specs.Committing.{told_kind}
 use Rattle.write_plan.specs.Plans.{when_of, written_by}
 use Rattle.core_steps.specs.Routes.{FailsCarry, Scene, hops_between, there_and_back}
 use Rattle.core_steps.specs.declared.routes.Route.{Route}
+use Rattle.core_steps.specs.declared.writes.CarriedOut.{CarriedOut}
 
 -- the write of a client, under its origin
 pub record ClientWrite : Type 0 where
@@ -133,17 +132,16 @@ pub record CanBeApplied (call : ClientWrite) (wrote : Wrote) (masters : List Sto
 
 -- a write that was carried out, by one carry there and one back: its reply tells the entry. No type has an inverse, since a core serves
 -- configurations without one
-pub record IsWritten (tells : Bool) (s : Settings) (route : Route) (call : ClientWrite) (reply : WriteReply) (old new : Posting) : Type 0 where
-  pub entry : Option Entry
+pub record IsWritten (tells : Bool) (s : Settings) (route : Route) (call : ClientWrite) (done : CarriedOut) (old new : Posting) : Type 0 where
   pub retry : Bool
-  pub kind_is : told_kind call.write entry ≡ Some reply.kind
-  pub written_is : reply.written ≡ written_by retry inverse.None entry
-  pub commits : Commits tells s call retry entry old.scene.keepers new.scene.keepers
-  pub leader : LeaderTakes (types_of s.schema) route (write_shard call.write) entry old.scene.fleet new.scene.fleet
-  pub follower : FollowerTakes (types_of s.schema) route (write_shard call.write) entry old.scene.fleet new.scene.fleet
-  pub told : TellsOfNew old.states (write_shard call.write) (new_entry retry entry) old.inboxes new.inboxes
+  pub kind_is : told_kind call.write done.entry ≡ Some done.reply.kind
+  pub written_is : done.reply.written ≡ written_by retry inverse.None done.entry
+  pub commits : Commits tells s call retry done.entry old.scene.keepers new.scene.keepers
+  pub leader : LeaderTakes (types_of s.schema) route (write_shard call.write) done.entry old.scene.fleet new.scene.fleet
+  pub follower : FollowerTakes (types_of s.schema) route (write_shard call.write) done.entry old.scene.fleet new.scene.fleet
+  pub told : TellsOfNew old.states (write_shard call.write) (new_entry retry done.entry) old.inboxes new.inboxes
   pub link : new.scene.link ≡ there_and_back old.scene.link
-  pub hops_is : reply.hops ≡ hops_between old.scene.link new.scene.link
+  pub hops_is : done.reply.hops ≡ hops_between old.scene.link new.scene.link
 
 -- ---- a write that was refused
 
@@ -198,8 +196,8 @@ WriteRefused tells s route call (LinkFault count when) old new =
 WriteRefused tells s route call refused old new = NotCommitted tells s route call refused old new
 
 -- what a write along a route is answered
-abbrev pub WritesAlong : Bool → Settings → Route → ClientWrite → Reply → Posting → Posting → Type 0
-WritesAlong tells s route call (Called (called.Write reply)) old new = IsWritten tells s route call reply old new
-WritesAlong tells s route call (Refused (Store refused)) old new = WriteRefused tells s route call refused old new
-WritesAlong tells s route call (Refused (Memory position)) old new = (position ≡ 0) × ChangesNoNode tells old new
-WritesAlong tells s route call reply old new = ⊥
+abbrev pub WritesAlong : Bool → Settings → Route → ClientWrite → Result CarriedOut Reply → Posting → Posting → Type 0
+WritesAlong tells s route call (Ok done) old new = IsWritten tells s route call done old new
+WritesAlong tells s route call (Err (Refused (Store refused))) old new = WriteRefused tells s route call refused old new
+WritesAlong tells s route call (Err (Refused (Memory position))) old new = (position ≡ 0) × ChangesNoNode tells old new
+WritesAlong tells s route call (Err reply) old new = ⊥

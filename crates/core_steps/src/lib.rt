@@ -5,13 +5,15 @@
 #![tactic(auto)]
 
 mod asking;
+mod critical;
 mod reads;
 mod refusals;
 mod routes;
 mod writes;
 
 pub use asking::{ask_over, read_over};
+pub use critical::read_critical;
 pub use reads::read_along;
 pub use refusals::{link_fault, out_of_memory, refilled_as, refused_as};
 pub use routes::Route;
-pub use writes::{apply_over, commit_over, write_along};
+pub use writes::{CarriedOut, apply_over, commit_over, write_along};

@@ -9,7 +9,8 @@ ghost use Rattle.tao_base.specs.Queries.{query_key, query_shard};
 ghost use Rattle.tao_keeper.specs.KeeperState.{IsLater, KeepsTables};
 ghost use Rattle.tao_schema.specs.Schema.{key_bound, types_of};
 ghost use Rattle.core_steps.specs.Reads.{ReadsAlong};
-ghost use Rattle.core_steps.specs.ReadSteps.{AsksAlong, AsksOfKey, EndsRead, IsGivenAlong, IsNotGiven, IsReached, ReadsOn, TellsCost, is_behind, missed_read};
+ghost use Rattle.core_steps.specs.ReadSteps.{AsksAlong, AsksOfKey, EndsRead, IsGivenAlong, IsNotGivenAlong, IsReached, ReadsOn, TellsCost};
+ghost use Rattle.core_steps.specs.ReadSteps.{is_behind, missed_read};
 ghost use Rattle.core_steps.specs.Routes.{scene};
 
 use crate::asking::{ask_over, given_of, read_over};
@@ -32,9 +33,9 @@ use topology::Config;
 
 /// What a read took: carries over links, and whether a keeper was called.
 #[derive(Clone, Copy)]
-struct Cost {
-    hops: u64,
-    store: bool,
+pub(crate) struct Cost {
+    pub(crate) hops: u64,
+    pub(crate) store: bool,
 }
 
 /// How many edges of a list of the query's type are kept at most.
@@ -113,7 +114,12 @@ pub fn read_along<K: Keeper, L: Link>(
 }
 
 /// What was taken since there were so many calls and carries.
-fn cost_since<K: Keeper, L: Link>(keepers: &K, link: &L, calls: u64, carries: u64) -> Cost
+pub(crate) fn cost_since<K: Keeper, L: Link>(
+    keepers: &K,
+    link: &L,
+    calls: u64,
+    carries: u64,
+) -> Cost
     ensures { result ≡ record { hops = (L.shown link.now).carries - carries; store = nat_lt calls (K.state keepers.now).calls } }
 {
     Cost {
@@ -180,7 +186,7 @@ fn given_along<K: Keeper, L: Link>(
     requires reached { IsReached K.TELLS config.now (wanted query.now floor) (K.state keepers.old) }
     ensures given { IfOk result (λ given. IsGivenAlong config.now route (wanted query.now floor) given
         (scene fleet.old (K.state keepers.old) (L.shown link.old)) (scene fleet.new (K.state keepers.new) (L.shown link.new))) }
-    ensures err { IfErr result (λ reply. IsNotGiven config.now route (wanted query.now floor) reply
+    ensures err { IfErr result (λ reply. IsNotGivenAlong config.now route (wanted query.now floor) reply
         (scene fleet.old (K.state keepers.old) (L.shown link.old)) (scene fleet.new (K.state keepers.new) (L.shown link.new))) }
     ensures on { ReadsOn K.TELLS config.now (scene fleet.old (K.state keepers.old) (L.shown link.old))
         (scene fleet.new (K.state keepers.new) (L.shown link.new)) }
@@ -194,7 +200,7 @@ fn given_along<K: Keeper, L: Link>(
 }
 
 /// Ends a read with what was given.
-fn end_read(
+pub(crate) fn end_read(
     fleet: &mut Fleet,
     config: &Config,
     route: Route,

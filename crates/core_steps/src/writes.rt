@@ -24,7 +24,7 @@ use crate::refusals::{link_fault, refused_as};
 use crate::routes::{Route, carry};
 use core_mail::Mail;
 use core_nodes::Fleet;
-use replies::{CallReply, InverseEnd, Reply, When, WriteReply, Written};
+use replies::{InverseEnd, Reply, When, WriteReply, Written};
 use shard_log::Note;
 use shard_tables::Wrote;
 use std::alloc::Global;
@@ -33,6 +33,13 @@ use tao_keeper::Keeper;
 use tao_link::{Link, LinkFailed};
 use topology::{Config, Topology};
 use write_plan::told_kind;
+
+/// A write that was carried out: what its reply says, and the entry that was written, or that stood there, where there is one.
+#[derive(Drop)]
+pub struct CarriedOut {
+    pub reply: WriteReply,
+    pub entry: Option<Entry>,
+}
 
 /// What was written. No type has an inverse yet.
 fn written_of(retry: bool, entry: &Option<Entry>) -> Written
@@ -220,7 +227,8 @@ pub fn commit_over<K: Keeper, L: Link>(
 /// there nothing was written; at the way back the write stands, at the position that it tells. Nothing but the link fails once the
 /// entry is written. Want of memory comes before.
 ///
-/// Costs what `Leader::write` does, a message for each tier of the region, and a look-up at the follower for each touch.
+/// What was carried out tells the reply, and the entry, which stands in the shard's log. Costs what `Leader::write` does, a message for
+/// each tier of the region, and a look-up at the follower for each touch.
 pub fn write_along<K: Keeper, L: Link>(
     alloc: Global,
     fleet: &mut Fleet,
@@ -232,7 +240,7 @@ pub fn write_along<K: Keeper, L: Link>(
     route: Route,
     origin: Origin,
     write: &Write,
-) -> Reply
+) -> Result<CarriedOut, Reply>
     requires consistent { IsConsistent K.TELLS config.now (K.state keepers.old).told fleet.old }
     requires inboxes { AreInboxesOf config.now (pens_of fleet.old.masters) mail.old }
     requires states { topology.now ≡ all_up config.now }
@@ -243,6 +251,7 @@ pub fn write_along<K: Keeper, L: Link>(
     ensures writes { WritesAlong K.TELLS config.now route (client_call origin write.now) result
         (posting (scene fleet.old (K.state keepers.old) (L.shown link.old)) mail.old topology.now)
         (posting (scene fleet.new (K.state keepers.new) (L.shown link.new)) mail.new topology.now) }
+    ensures stands { IfOk result (λ done. IfSome done.entry (StandsIn (pens_of fleet.new.masters (write_shard write.now)))) }
     ensures consistent { IsConsistent K.TELLS config.now (K.state keepers.new).told fleet.new }
     ensures inboxes { AreInboxesOf config.now (pens_of fleet.new.masters) mail.new }
     ensures goes { GoesOn fleet.old fleet.new }
@@ -263,11 +272,12 @@ pub fn write_along<K: Keeper, L: Link>(
             match apply_over(fleet, config, link, route, write.shard(), &entry, note) {
                 Ok(()) => {
                     let hops = link.carries().saturating_sub(carries);
-                    Reply::Called(CallReply::Write(write_reply(write, retry, &entry, hops)))
+                    let reply = write_reply(write, retry, &entry, hops);
+                    Ok(CarriedOut { reply, entry })
                 }
-                Err(LinkFailed) => link_fault(link.faults(), when_of(&entry)),
+                Err(LinkFailed) => Err(link_fault(link.faults(), when_of(&entry))),
             }
         }
-        Err(reply) => reply,
+        Err(reply) => Err(reply),
     }
 }

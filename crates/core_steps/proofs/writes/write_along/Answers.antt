@@ -1,4 +1,5 @@
-use Rattle.std.proofs.Common.{refl, ap, sym, subst, arith}
+use Rattle.std.proofs.Common.{IfSome, refl, ap, sym, subst, arith}
+use Rattle.shard_tables.specs.Written.{StandsIn}
 use Rattle.tao_base.specs.Writes.{write_shard}
 use Rattle.tao_schema.specs.Schema.{types_of}
 use Rattle.core_mail.specs.Inboxes.{AreInboxesOf}
@@ -6,7 +7,7 @@ use Rattle.core_model.specs.Fleet.{Fleet}
 use Rattle.core_model.specs.Pens.{pens_of}
 use Rattle.core_steps.specs.Routes.{scene}
 use Rattle.core_steps.specs.Writes.{FollowerTakes, client_call, posting}
-use Rattle.core_steps.proofs.WriteLemmas.{back_refused, back_written, goes_on, refuses_write}
+use Rattle.core_steps.proofs.WriteLemmas.{back_refused, back_written, goes_on, refuses_write, stands_in_log}
 use Rattle.core_steps.proofs.writes.write_along.Goals as goal
 
 pub returns-in-Ok-apply_over-clause-writes : goal.returns-in-Ok-apply_over-clause-writes
@@ -24,8 +25,14 @@ returns-in-Ok-apply_over-clause-writes g c =
     let takes = subst (λ n. FollowerTakes (types_of s.schema) c.args.route n wrote.entry c.commit_over.new.fleet c.apply_over.new.fleet) c.shard.ensures
     c.in-Ok-apply_over.ensures.takes in
     back_written g.K.Keeper.TELLS s c.args.route call wrote old mid new c.in-Ok.ensures.committed c.apply_over.ensures.rest refl refl
-    c.write_reply.result c.write_reply.ensures.kind c.write_reply.ensures.written takes c.in-Ok-apply_over.ensures.carried
-    (omega (arith, c.write_reply.ensures.hops, c.saturating_sub-hops.ensures, c.carries.ensures, c.carries-carries.ensures))
+    c.write_reply-reply.result c.write_reply-reply.ensures.kind c.write_reply-reply.ensures.written takes c.in-Ok-apply_over.ensures.carried
+    (omega (arith, c.write_reply-reply.ensures.hops, c.saturating_sub-hops.ensures, c.carries.ensures, c.carries-carries.ensures))
+
+pub returns-in-Ok-apply_over-clause-stands : goal.returns-in-Ok-apply_over-clause-stands
+returns-in-Ok-apply_over-clause-stands g c =
+    let shard = write_shard c.args.write.now in
+    let stands = stands_in_log (pens_of c.commit_over.new.fleet.masters) shard c.in-Ok.wrote.note c.in-Ok.wrote.entry c.in-Ok.ensures.apply.seen in
+    subst (λ masters. IfSome c.in-Ok.wrote.entry (StandsIn (pens_of masters shard))) (sym (ap (λ (f : Fleet). f.masters) c.apply_over.ensures.rest)) stands
 
 pub returns-in-Ok-apply_over-clause-inboxes : goal.returns-in-Ok-apply_over-clause-inboxes
 returns-in-Ok-apply_over-clause-inboxes g c =

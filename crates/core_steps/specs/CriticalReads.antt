@@ -1,0 +1,61 @@
+-- What a critical read is answered, which misses nothing that stood when it began, and what it does to the nodes.
+use Rattle.std.specs.Prelude.{ℕ, ◌≡◌, Bool, List, Option}
+use Rattle.core_model.specs.Fleet.{ChangesNode}
+use Rattle.core_model.specs.Reads.{AsksAtOnce, EndsAsk, StoreReads, Wanted, given_of}
+use Rattle.core_model.specs.Stores.{master_log}
+use Rattle.core_model.specs.declared.named.Named.{Named}
+use Rattle.follower_cache.specs.Seen.{FollowerState}
+use Rattle.graph_model.specs.Log.{version}
+use Rattle.graph_model.specs.Told.{WhereTold}
+use Rattle.node_name.specs.declared.NodeName.{NodeName}
+use Rattle.replies.specs.Kinds.{query_word}
+use Rattle.replies.specs.declared.calls.CallReply.TheVariants as called
+use Rattle.replies.specs.declared.calls.ReadReply.{ReadReply}
+use Rattle.replies.specs.declared.nodes.KeptOrNot.TheVariants.{Kept}
+use Rattle.replies.specs.declared.reply.Reply.{Reply}
+use Rattle.replies.specs.declared.reply.Reply.TheVariants.{Called, Refused}
+use Rattle.shard_tables.specs.declared.read_out.ReadOut.{ReadOut}
+use Rattle.tao_base.specs.Queries.{query_key, query_shard}
+use Rattle.tao_schema.specs.Schema.{types_of}
+use Rattle.topology.specs.Config.{Settings}
+use Rattle.core_steps.specs.ReadSteps.{ReadOverFails}
+use Rattle.core_steps.specs.Reads.{AnswersAgain, Ends, IsLegalNow}
+use Rattle.core_steps.specs.Routes.{Scene, hops_between, master_node, there_and_back, was_called}
+
+-- the answer has the version that the shard's log has at the query's key, where the tables are told: it misses nothing
+abbrev pub IsWhole : Bool → Settings → Wanted → ReadReply → Scene → Type 0
+IsWhole tells s read reply old =
+    WhereTold tells (reply.version ≡ version (master_log s old.keepers.told (query_shard read.query)) (query_key read.query))
+
+-- a read that the master's store answered, by one carry there and one back. Its follower opened an ask at once, unless 256 were open, and ended it with
+-- what was read: legally, with nothing missing. What is kept is held, and answers again
+pub record IsAnsweredByMaster (tells : Bool) (s : Settings) (follower : NodeName) (read : Wanted) (reply : ReadReply) (old new : Scene) : Type 0 where
+  pub word_is : reply.word ≡ query_word read.query
+  pub ask : Option ℕ
+  pub looked : List (Named FollowerState)
+  pub out : ReadOut
+  pub asks : ChangesNode follower (AsksAtOnce (query_key read.query) ask) old.fleet.followers looked
+  pub reads : StoreReads (types_of s.schema) read.query out old.fleet.masters old.keepers new.keepers
+  pub ends : Ends (types_of s.schema) follower read ask (given_of out) reply looked new.fleet.followers
+  pub rest : new.fleet ≡ record old.fleet { followers = new.fleet.followers }
+  pub link : new.link ≡ there_and_back old.link
+  pub hops_is : reply.hops ≡ hops_between old.link new.link
+  pub store_is : reply.store ≡ was_called old.keepers new.keepers
+  pub legal : IsLegalNow tells s read reply old.keepers
+  pub whole : IsWhole tells s read reply old
+  pub again : WhereTold tells (reply.kept ≡ Kept → AnswersAgain (types_of s.schema) follower read.query reply new.fleet.followers)
+
+-- it was refused: a carry failed, or the store's keeper, or memory was wanting. Its follower opened an ask at once, and ended it
+pub record IsRefusedByMaster (s : Settings) (follower : NodeName) (read : Wanted) (reply : Reply) (old new : Scene) : Type 0 where
+  pub fails : ReadOverFails follower (master_node s (query_shard read.query)) reply old new
+  pub ask : Option ℕ
+  pub looked : List (Named FollowerState)
+  pub asks : ChangesNode follower (AsksAtOnce (query_key read.query) ask) old.fleet.followers looked
+  pub ends : ChangesNode follower (EndsAsk ask) looked new.fleet.followers
+  pub rest : new.fleet ≡ record old.fleet { followers = new.fleet.followers }
+
+-- what a critical read is answered
+abbrev pub ReadsCritical : Bool → Settings → NodeName → Wanted → Reply → Scene → Scene → Type 0
+ReadsCritical tells s follower read (Called (called.Read reply)) old new = IsAnsweredByMaster tells s follower read reply old new
+ReadsCritical tells s follower read (Refused refused) old new = IsRefusedByMaster s follower read (Refused refused) old new
+ReadsCritical tells s follower read reply old new = ⊥

@@ -2,7 +2,7 @@
 use Rattle.std.proofs.Common.{◌≡◌, ◌⊎◌, ℕ, zero, suc, ◌+◌, Bool, true, false, ◌||◌, not, List, [], ◌∷◌, Option, Some, None}
 use Rattle.std.proofs.Common.{refl, ap, sym, subst, ◌∙◌, inl, inr, arith}
 use Rattle.std.specs.List.{list_any}
-use Rattle.std.specs.Prelude.{◌==◌, filter, if◌then◌else◌, map, slice_get, slice_set}
+use Rattle.std.specs.Prelude.{◌==◌, Err, Ok, Result, filter, if◌then◌else◌, map, slice_get, slice_set}
 use Rattle.std.proofs.lemmas.Bool.{cases_Bool, cases_order}
 use Rattle.std.proofs.lemmas.List.Folds.{list_any-append}
 use Rattle.std.proofs.lemmas.Map.Views.{any-filter_same}
@@ -16,16 +16,18 @@ use Rattle.cache_items.specs.declared.look.Look.TheVariants.{Hit, Miss}
 use Rattle.core_model.specs.Evictions.{Evicts}
 use Rattle.core_model.specs.Fleet.{ChangesNode, Fleet, named}
 use Rattle.core_model.specs.Messages.{DeliversThere, TakesRefill}
-use Rattle.core_model.specs.Reads.{AfterLook, EndsAsk, KeepsFill, LooksFirst, Wanted}
+use Rattle.core_model.specs.Reads.{AfterLook, AsksAtOnce, EndsAsk, KeepsFill, LooksFirst, Wanted, given_of}
 use Rattle.core_model.specs.Writes.{AppliesTo}
 use Rattle.core_model.specs.declared.named.Named.{Named}
 use Rattle.core_model.proofs.Places.{get_set, one_some, set_get, some_and}
 use Rattle.core_plans.specs.HeldLaws.{AsksStayHeld}
 use Rattle.core_plans.specs.Held.{AsksAreHeld, OpensNone, Plans, is_open_ask}
+use Rattle.core_steps.specs.CriticalReads.{ReadsCritical}
 use Rattle.core_steps.specs.Reads.{Ends, IsAnswered, IsFailedRead, ReadsAlong}
 use Rattle.core_steps.specs.Routes.{Scene}
 use Rattle.core_steps.specs.Writes.{ChangesNoNode, ClientWrite, FollowerTakes, Posting, WriteRefused, WritesAlong}
 use Rattle.core_steps.specs.declared.routes.Route.{Route}
+use Rattle.core_steps.specs.declared.writes.CarriedOut.{CarriedOut}
 use Rattle.follower_cache.specs.Seen.{FollowerState}
 use Rattle.follower_cache.specs.declared.queue.Refill.{Refill}
 use Rattle.maint_msg.specs.KeyVersions.{keys_of}
@@ -178,11 +180,11 @@ misses_open key (Some given) from to looks number h =
       | inr closed ↦ inr (ap Some (let given_is = looks.1 in grind (arith)))
     ]
 
-vain_none : (types : EdgeTypes) (read : Wanted) (ask : Option ℕ) (from mid to : FollowerState) → LooksFirst types read Miss ask from mid
+vain_none : (key : Key) (ask : Option ℕ) (from mid to : FollowerState) → AfterLook key Miss ask from.node mid.node
     → EndsOpen ask mid.node.asks to.node.asks → OpensNo from to
-vain_none types read ask from mid to looks ends number h =
+vain_none key ask from mid to opens ends number h =
     let last = ends number h in
-    elim (misses_open (query_key read.query) ask from.node mid.node looks.node number last.0) [
+    elim (misses_open key ask from.node mid.node opens number last.0) [
       | inl was ↦ was
       | inr given ↦ absurd (last.1 given)
     ]
@@ -289,30 +291,40 @@ module _ (name : NodeName) (old new : List (Named FollowerState)) where
       change_opens_none (λ from to. Evicts key held from.node to.node × (to.refills ≡ from.refills)) name old new
       (λ from to evicts. evicts_none key held from to evicts.0)
 
+  -- an ask that is opened, and what ends it
+  asked_opens_none : (Opens Ending : FollowerState → FollowerState → Type 0) (key : Key) (ask : Option ℕ) (looked : List (Named FollowerState))
+      → ((from to : FollowerState) → Opens from to → AfterLook key Miss ask from.node to.node)
+      → ((from to : FollowerState) → Ending from to → EndsOpen ask from.node.asks to.node.asks)
+      → ChangesNode name Opens old looked → ChangesNode name Ending looked new → OpensNone old new
+  asked_opens_none Opens Ending key ask looked opens ending asks ends =
+      change_opens_none _ name old new
+      (λ from to both. vain_none key ask from both.0 to (opens from both.0 both.1) (ending both.0 to both.2))
+      (changes_twice Opens Ending name old looked new asks ends)
+
   -- a look that finds nothing, and then the end of its ask
   pub vain_opens_none : (types : EdgeTypes) (read : Wanted) (ask : Option ℕ) (looked : List (Named FollowerState))
       → ChangesNode name (LooksFirst types read Miss ask) old looked → ChangesNode name (EndsAsk ask) looked new → OpensNone old new
-  vain_opens_none types read ask looked looks ends =
-      change_opens_none _ name old new
-      (λ from to both. vain_none types read ask from both.0 to both.1 (ends_open ask both.0 to both.2))
-      (changes_twice (LooksFirst types read Miss ask) (EndsAsk ask) name old looked new looks ends)
+  vain_opens_none types read ask looked =
+      asked_opens_none (LooksFirst types read Miss ask) (EndsAsk ask) (query_key read.query) ask looked (λ from to looks. looks.node) (ends_open ask)
 
   -- or what was given in answer to it
   pub filled_opens_none : (types : EdgeTypes) (read : Wanted) (ask : Option ℕ) (fill : SealedItem) (answer : Answer) (kept : Kept)
       (looked : List (Named FollowerState)) → ChangesNode name (LooksFirst types read Miss ask) old looked
       → ChangesNode name (KeepsFill types read.query ask fill answer kept) looked new → OpensNone old new
-  filled_opens_none types read ask fill answer kept looked looks keeps =
-      change_opens_none _ name old new
-      (λ from to both. vain_none types read ask from both.0 to both.1 (keeps_open types read.query ask fill answer kept both.0 to both.2))
-      (changes_twice (LooksFirst types read Miss ask) (KeepsFill types read.query ask fill answer kept) name old looked new looks keeps)
+  filled_opens_none types read ask fill answer kept looked =
+      asked_opens_none (LooksFirst types read Miss ask) (KeepsFill types read.query ask fill answer kept) (query_key read.query) ask looked
+      (λ from to looks. looks.node) (keeps_open types read.query ask fill answer kept)
 
-  answered_opens_none : (types : EdgeTypes) (read : Wanted) (ask : Option ℕ) (given : LeaderAnswer) (reply : ReadReply) (looked : List (Named FollowerState))
-      → ChangesNode name (LooksFirst types read Miss ask) old looked → Ends types name read ask given reply looked new → OpensNone old new
-  answered_opens_none types read ask (leader.Filled fill) reply looked looks ends =
-      filled_opens_none types read ask fill reply.answer ends.0 looked looks ends.1
-  answered_opens_none types read ask (leader.Past answer version total note) reply looked looks ends =
-      vain_opens_none types read ask looked looks ends.0
-  answered_opens_none types read ask (leader.Behind version) reply looked looks ends = absurd ends
+  answered_opens_none : (Opens : FollowerState → FollowerState → Type 0) (types : EdgeTypes) (read : Wanted) (ask : Option ℕ) (given : LeaderAnswer)
+      (reply : ReadReply) (looked : List (Named FollowerState))
+      → ((from to : FollowerState) → Opens from to → AfterLook (query_key read.query) Miss ask from.node to.node)
+      → ChangesNode name Opens old looked → Ends types name read ask given reply looked new → OpensNone old new
+  answered_opens_none Opens types read ask (leader.Filled fill) reply looked opens asks ends =
+      asked_opens_none Opens (KeepsFill types read.query ask fill reply.answer ends.0) (query_key read.query) ask looked opens
+      (keeps_open types read.query ask fill reply.answer ends.0) asks ends.1
+  answered_opens_none Opens types read ask (leader.Past answer version total note) reply looked opens asks ends =
+      asked_opens_none Opens (EndsAsk ask) (query_key read.query) ask looked opens (ends_open ask) asks ends.0
+  answered_opens_none Opens types read ask (leader.Behind version) reply looked opens asks ends = absurd ends
 
 -- ---- whole reads and writes
 
@@ -320,8 +332,8 @@ answer_opens_none : (tells : Bool) (s : Settings) (route : Route) (read : Wanted
     → IsAnswered tells s route read reply old new → OpensNone old.fleet.followers new.fleet.followers
 answer_opens_none tells s route read reply old new is = elim is.went [
   | inl hits ↦ hit_opens_none route.follower old.fleet.followers new.fleet.followers (types_of s.schema) read reply.answer reply.version None hits.looks
-  | inr misses ↦ answered_opens_none route.follower old.fleet.followers new.fleet.followers (types_of s.schema) read misses.ask misses.given reply misses.looked
-      misses.looks misses.ends
+  | inr misses ↦ answered_opens_none route.follower old.fleet.followers new.fleet.followers (LooksFirst (types_of s.schema) read Miss misses.ask)
+      (types_of s.schema) read misses.ask misses.given reply misses.looked (λ from to looks. looks.node) misses.looks misses.ends
 ]
 
 failed_opens_none : (s : Settings) (route : Route) (read : Wanted) (reply : Reply) (old new : Scene) → IsFailedRead s route read reply old new
@@ -336,6 +348,17 @@ pub read_opens_none : (tells : Bool) (s : Settings) (route : Route) (read : Want
 read_opens_none tells s route read (Called (called.Read reply)) old new is = answer_opens_none tells s route read reply old new is
 read_opens_none tells s route read (Refused refused) old new is = failed_opens_none s route read (Refused refused) old new is
 read_opens_none tells s route read reply old new is = absurd is
+
+-- a critical read opens its ask at once
+pub critical_opens_none : (tells : Bool) (s : Settings) (follower : NodeName) (read : Wanted) (reply : Reply) (old new : Scene)
+    → ReadsCritical tells s follower read reply old new → OpensNone old.fleet.followers new.fleet.followers
+critical_opens_none tells s follower read (Called (called.Read reply)) old new is =
+    answered_opens_none follower old.fleet.followers new.fleet.followers (AsksAtOnce (query_key read.query) is.ask) (types_of s.schema) read is.ask
+    (given_of is.out) reply is.looked (λ from to asks. asks.node) is.asks is.ends
+critical_opens_none tells s follower read (Refused refused) old new is =
+    asked_opens_none follower old.fleet.followers new.fleet.followers (AsksAtOnce (query_key read.query) is.ask) (EndsAsk is.ask) (query_key read.query)
+    is.ask is.looked (λ from to asks. asks.node) (ends_open is.ask) is.asks is.ends
+critical_opens_none tells s follower read reply old new is = absurd is
 
 follower_takes_none : (types : EdgeTypes) (route : Route) (shard : ℕ) (entry : Option Entry) (old new : Fleet)
     → FollowerTakes types route shard entry old new → OpensNone old.followers new.followers
@@ -360,13 +383,13 @@ module _ (tells : Bool) (s : Settings) (route : Route) (call : ClientWrite) (old
   refused_none (KeeperFault count) is = rests_none is.1
   refused_none (Unsettled at why) is = rests_none is.1
 
-  pub write_opens_none : (reply : Reply) → WritesAlong tells s route call reply old new
+  pub write_opens_none : (outcome : Result CarriedOut Reply) → WritesAlong tells s route call outcome old new
       → OpensNone old.scene.fleet.followers new.scene.fleet.followers
-  write_opens_none (Called (called.Write reply)) is =
-      follower_takes_none (types_of s.schema) route (write_shard call.write) is.entry old.scene.fleet new.scene.fleet is.follower
-  write_opens_none (Refused (Store refused)) is = refused_none refused is
-  write_opens_none (Refused (Memory position)) is = rests_none is.1
-  write_opens_none reply is = absurd is
+  write_opens_none (Ok done) is =
+      follower_takes_none (types_of s.schema) route (write_shard call.write) done.entry old.scene.fleet new.scene.fleet is.follower
+  write_opens_none (Err (Refused (Store refused))) is = refused_none refused is
+  write_opens_none (Err (Refused (Memory position))) is = rests_none is.1
+  write_opens_none (Err reply) is = absurd is
 
 -- ---- what is held
 
@@ -394,5 +417,6 @@ asks_stay_held = record {
     filled = filled_opens_none name old new;
   };
   reads = read_opens_none;
-  writes = λ tells s route call reply old new. write_opens_none tells s route call old new reply;
+  critical = critical_opens_none;
+  writes = λ tells s route call outcome old new. write_opens_none tells s route call old new outcome;
 }

@@ -1,6 +1,6 @@
 -- A held read goes on, and ends legally.
 use Rattle.std.proofs.Common.{◌≡◌, ℕ, zero, suc, [], ◌∷◌, ◌≤◌, false, true, Bool, List, Option, Some, None, refl, ap, sym, subst}
-use Rattle.std.specs.Prelude.{⊤, IfSome, slice_get}
+use Rattle.std.specs.Prelude.{⊤, Err, IfSome, Ok, slice_get}
 use Rattle.cache_items.specs.declared.look.Look.{Look}
 use Rattle.cache_items.specs.declared.look.Look.TheVariants.{Hit, Miss}
 use Rattle.core_model.specs.Consistent.{GoesOn}
@@ -15,10 +15,11 @@ use Rattle.graph_model.specs.Log.{version}
 use Rattle.graph_model.specs.Told.{WhereTold}
 use Rattle.node_name.specs.declared.NodeName.{NodeName}
 use Rattle.read_plan.specs.Ends.{EndsAt}
-use Rattle.read_plan.specs.Readings.{Reading, taken}
+use Rattle.read_plan.specs.Readings.{NeverAsks, Reading, taken}
 use Rattle.read_plan.specs.Standings.{after_ask, after_look, after_master, fill_of, stage_of, standing_after}
 use Rattle.read_plan.specs.declared.end.ReadEnd.TheVariants as ended
 use Rattle.read_plan.specs.declared.stages.ReadResult.{ReadResult}
+use Rattle.read_plan.specs.declared.stages.ReadResult.TheVariants as came
 use Rattle.read_plan.specs.declared.stages.ReadStage.TheVariants as stage
 use Rattle.read_plan.specs.declared.standing.Given.TheVariants.{Fill, HandedOut, Past}
 use Rattle.read_plan.specs.declared.standing.Standing.{Standing}
@@ -116,6 +117,41 @@ pub mastered_stands : (types : EdgeTypes) (pens : Pens) (read : Wanted) (out : R
 mastered_stands types pens read (store.Filled fill) is = is
 mastered_stands types pens read (store.Past answer version total note) is = is
 
+-- ---- a critical read asks no leader
+
+pub never_so : (critical : Bool) (bound : ℕ) (at : Standing) (outcome : ReadResult) → NeverAsks critical at
+    → NeverAsks critical (standing_after critical bound at outcome)
+never_so false bound at outcome never = tt
+never_so true bound at (came.Look (Ok look)) never = tt
+never_so true bound at (came.Look (Err reply)) never = tt
+never_so true bound at (came.Ask (Ok (leader.Filled fill))) never = tt
+never_so true bound at (came.Ask (Ok (leader.Past answer version total note))) never = tt
+never_so true bound at (came.Ask (Ok (leader.Behind version))) never = tt
+never_so true bound at (came.Ask (Err reply)) never = tt
+never_so true bound at (came.Master (Ok (store.Filled fill))) never = tt
+never_so true bound at (came.Master (Ok (store.Past answer version total note))) never = tt
+never_so true bound at (came.Master (Err reply)) never = tt
+never_so true bound (Keeping (Fill fill)) (came.Keep (Ok (Some found))) never = tt
+never_so true bound (Keeping (Fill fill)) (came.Keep (Ok None)) never = tt
+never_so true bound (Keeping (HandedOut version)) (came.Keep (Ok (Some found))) never = tt
+never_so true bound (Keeping (HandedOut version)) (came.Keep (Ok None)) never = tt
+never_so true bound (Keeping (Past answer version total seen)) (came.Keep (Ok (Some found))) never = tt
+never_so true bound (Keeping (Past answer version total seen)) (came.Keep (Ok None)) never = tt
+never_so true bound Looking (came.Keep (Ok found)) never = tt
+never_so true bound Asking (came.Keep (Ok found)) never = absurd never
+never_so true bound Mastering (came.Keep (Ok found)) never = tt
+never_so true bound (Ended end) (came.Keep (Ok found)) never = tt
+never_so true bound at (came.Keep (Err reply)) never = tt
+
+pub not_both : (critical : Bool) → critical ≡ false → critical ≡ true → ⊥
+not_both true plain is = absurd (cc)
+not_both false plain is = absurd (cc)
+
+-- so one that asks isn't critical
+pub asks_plain : (critical : Bool) (at : Standing) → at ≡ Asking → NeverAsks critical at → critical ≡ true → ⊥
+asks_plain true at asks never is = subst (NeverAsks true) asks never
+asks_plain false at asks never is = absurd (cc)
+
 -- ---- its ask goes on
 
 name_at : {N : Type 0} (nodes : List (Named N)) (name : NodeName) (place : ℕ) → IsNodeAt name nodes place → slice_get (names_of nodes) place ≡ Some name
@@ -159,7 +195,7 @@ pub goes_so : (tells : Bool) (s : Settings) (tables later : Tables) (f g : Fleet
 goes_so tells s tables later f g p outcome hops store is stays goes stands = record {
   follower = is.follower;
   region = is.region;
-  plain = is.plain;
+  never_asks = never_so p.critical p.bound p.at outcome is.never_asks;
   bound = is.bound;
   reached = λ told.
       subst (λ (t : Table). p.floor ≤ version t.log (query_key p.query)) (sym (stays told (master_store s (query_shard p.query)))) (is.reached told);

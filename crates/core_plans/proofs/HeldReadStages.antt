@@ -1,5 +1,5 @@
 -- What each stage of a held read comes to.
-use Rattle.std.proofs.Common.{◌≡◌, ℕ, ◌<◌, false, Bool, Option, Some, None, refl, ap, sym, ◌∙◌, subst, inl, inr}
+use Rattle.std.proofs.Common.{◌≡◌, ℕ, ◌<◌, false, true, Bool, Option, Some, None, refl, ap, sym, ◌∙◌, subst, inl, inr}
 use Rattle.std.specs.Prelude.{◌-◌, IfSome, Ok, Err, nat_lt}
 use Rattle.cache_items.specs.declared.look.Kept.{Kept as KeptWhy}
 use Rattle.cache_items.specs.declared.look.Look.{Look}
@@ -7,12 +7,11 @@ use Rattle.cache_items.specs.declared.look.Look.TheVariants.{Hit, Miss}
 use Rattle.core_model.specs.Consistent.{GoesOn, IsFleetOf}
 use Rattle.core_model.specs.Fleet.{ChangesNode, Fleet, HasAsk}
 use Rattle.core_model.specs.Pens.{pens_of}
-use Rattle.core_model.specs.Reads.{EndsAsk, IsGivenFill, IsLegalLook, KeepsFill, LeaderAnswers, LooksFirst, Wanted, wanted}
+use Rattle.core_model.specs.Reads.{AsksAtOnce, EndsAsk, IsGivenFill, IsLegalLook, KeepsFill, LeaderAnswers, LooksFirst, Wanted, wanted}
 use Rattle.core_model.specs.Stores.{AreStoresOf}
-use Rattle.core_steps.specs.Reads.{MayAnswer, ReadFails}
+use Rattle.core_steps.specs.Reads.{MayAnswer}
 use Rattle.core_steps.specs.ReadSteps.{IsGivenOver, IsNotGiven, IsNotRead, IsReadOver, ReadOverFails, ReadsOn}
 use Rattle.core_steps.specs.Routes.{Scene, hops_between, master_node, scene, was_called}
-use Rattle.core_steps.specs.declared.routes.Route.{Route}
 use Rattle.core_model.proofs.NamedNodes.{changes_so}
 use Rattle.core_nodes.specs.Stages.{NodeIs}
 use Rattle.core_nodes.proofs.NodesOfNames.{is_after}
@@ -34,6 +33,7 @@ use Rattle.read_plan.specs.declared.standing.Standing.TheVariants.{Looking, Aski
 use Rattle.replies.specs.declared.calls.CallReply.TheVariants as called
 use Rattle.replies.specs.declared.calls.ReadReply.{ReadReply}
 use Rattle.replies.specs.declared.nodes.KeptOrNot.TheVariants.{Kept}
+use Rattle.replies.specs.declared.refusals.Refusal.{Refusal}
 use Rattle.replies.specs.declared.refusals.Refusal.TheVariants.{Memory, Store}
 use Rattle.replies.specs.declared.refusals.StoreRefused.TheVariants.{KeeperFault, LinkFault}
 use Rattle.replies.specs.declared.refusals.When.TheVariants.{Before}
@@ -53,8 +53,10 @@ use Rattle.tao_link.specs.Shown.{LinkShown}
 use Rattle.tao_schema.specs.Schema.{types_of}
 use Rattle.topology.specs.Config.{Settings}
 use Rattle.core_plans.specs.declared.reads.Cost.{Cost}
-use Rattle.core_plans.specs.HeldReads.{DoesReadStage, EndsLegally, IsReadUnderWay, StandsSo, StepsRead, route_by, wanted_by}
-use Rattle.core_plans.proofs.HeldReadLemmas.{IsPast, asked_stands, asking, filled, goes_so, legally, looked_stands, looking, mastered_stands, mastering, past}
+use Rattle.core_plans.specs.HeldReads.{DoesLook, DoesReadStage, EndsLegally, HasComeTo, IsReadUnderWay, StandsSo, StepsRead, route_by, version_now, wanted_by}
+use Rattle.core_plans.proofs.HeldReadLemmas.{IsPast, asked_stands, asking, asks_plain, filled, goes_so, legally, looked_stands, looking, mastered_stands}
+use Rattle.core_plans.proofs.HeldReadLemmas.{mastering, never_so, not_both, past}
+use Rattle.core_plans.proofs.Missing.{store_comes}
 
 -- a stage was done, and the read can go on
 pub record IsDone (tells : Bool) (s : Settings) (leader : NodeName) (p : Reading) (old : Scene) (q : Reading) (new : Scene) : Type 0 where
@@ -79,6 +81,9 @@ pub costs : (cost : Cost) (calls carries : ℕ) (old new : Scene)
     → (cost.hops ≡ hops_between old.link new.link) × (cost.store ≡ was_called old.keepers new.keepers)
 costs cost calls carries old new is called carried =
     (ap (λ (c : Cost). c.hops) is ∙ ap (λ n. new.link.carries - n) carried, ap (λ (c : Cost). c.store) is ∙ ap (λ n. nat_lt n new.keepers.calls) called)
+
+no_refusal : (refusal : Refusal) (read : ReadReply) → Refused refusal ≡ Called (called.Read read) → ⊥
+no_refusal refusal read is = absurd (cc)
 
 -- ---- look
 
@@ -109,7 +114,7 @@ look_legal tells s leader p old new keepers link Miss ask plain are here change 
     legally tells s (taken (came.Look (Ok Miss)) 0 false (record p { ask = ask })) (scene new keepers link) Asking (ap (λ c. after_look c Miss) plain) tt
 
 pub looks_done : (tells : Bool) (s : Settings) (leader : NodeName) (p q : Reading) (old new : Fleet) (keepers : KeeperState) (link : LinkShown) (look : Look)
-    (ask : Option ℕ) (follower : NodeName) (query : Query) (floor : ℕ) → stage_of p.at ≡ stage.Look
+    (ask : Option ℕ) (follower : NodeName) (query : Query) (floor : ℕ) → stage_of p.at ≡ stage.Look → p.critical ≡ false
     → IsReadUnderWay tells s keepers.told old p → AreStoresOf tells s keepers.told old.masters → IsOfPlan p follower query floor
     → ChangesNode follower (LooksFirst (types_of s.schema) (wanted query floor) look ask) old.followers new.followers
     → new ≡ record old { followers = new.followers }
@@ -117,7 +122,7 @@ pub looks_done : (tells : Bool) (s : Settings) (leader : NodeName) (p q : Readin
     → IfSome ask (λ number. HasAsk follower number (query_key query) new.followers)
     → q ≡ taken (came.Look (Ok look)) 0 false (record p { ask = ask })
     → IsDone tells s leader p (scene old keepers link) q (scene new keepers link)
-looks_done tells s leader p q old new keepers link look ask follower query floor at is are of change rest legal has took =
+looks_done tells s leader p q old new keepers link look ask follower query floor at plain is are of change rest legal has took =
     let types = types_of s.schema in
     let from : Scene = scene old keepers link in
     let to : Scene = scene new keepers link in
@@ -125,22 +130,23 @@ looks_done tells s leader p q old new keepers link look ask follower query floor
     let looks = of_plan (λ f q n. ChangesNode f (LooksFirst types (wanted q n) look ask) old.followers new.followers) p follower query floor of change in
     let right = of_plan (λ f q n. IsLegalLook types (pens_of new.masters) (wanted q n) look) p follower query floor of legal in
     let asks = of_plan (λ f q n. IfSome ask (λ number. HasAsk f number (query_key q) new.followers)) p follower query floor of has in
-    let does : DoesReadStage tells s leader Looking p from after to = inl (record {
+    let does : DoesReadStage tells s leader Looking p from after to = subst (λ c. DoesLook s c p from after to) (sym plain) (inl (record {
       look = look;
       ask = ask;
       looks = looks;
       rest = ap (λ f. scene f keepers link) rest;
       then = refl;
-    }) in
+    })) in
     let done : IsDone tells s leader p from after to = record {
       steps = record {
         does = subst (λ a. DoesReadStage tells s leader a p from after to) (sym (looking p.at at)) does;
-        legal = look_legal tells s leader p old new keepers link look ask is.plain are is.follower.here looks rest right;
+        legal = look_legal tells s leader p old new keepers link look ask plain are is.follower.here looks rest right;
+        whole = λ least was told critical. absurd (not_both p.critical plain critical);
       };
       read = record {
         follower = is.follower;
         region = is.region;
-        plain = is.plain;
+        never_asks = never_so p.critical p.bound p.at (came.Look (Ok look)) is.never_asks;
         bound = is.bound;
         reached = is.reached;
         ask = asks;
@@ -148,6 +154,67 @@ looks_done tells s leader p q old new keepers link look ask follower query floor
       };
     } in
     subst (λ r. IsDone tells s leader p from r to) (sym took) done
+
+-- a critical one opened an ask at once
+pub asks_at_once : (tells : Bool) (s : Settings) (leader : NodeName) (p q : Reading) (old new : Fleet) (keepers : KeeperState) (link : LinkShown)
+    (ask : Option ℕ) (follower : NodeName) (query : Query) (floor : ℕ) → stage_of p.at ≡ stage.Look → p.critical ≡ true
+    → IsReadUnderWay tells s keepers.told old p → IsOfPlan p follower query floor
+    → ChangesNode follower (AsksAtOnce (query_key query) ask) old.followers new.followers → new ≡ record old { followers = new.followers }
+    → IfSome ask (λ number. HasAsk follower number (query_key query) new.followers)
+    → q ≡ taken (came.Look (Ok Miss)) 0 false (record p { ask = ask })
+    → IsDone tells s leader p (scene old keepers link) q (scene new keepers link)
+asks_at_once tells s leader p q old new keepers link ask follower query floor at critical is of change rest has took =
+    let from : Scene = scene old keepers link in
+    let to : Scene = scene new keepers link in
+    let after : Reading = taken (came.Look (Ok Miss)) 0 false (record p { ask = ask }) in
+    let masters : after_look p.critical Miss ≡ Mastering = ap (λ c. after_look c Miss) critical in
+    let does : DoesReadStage tells s leader Looking p from after to = subst (λ c. DoesLook s c p from after to) (sym critical) (record {
+      ask = ask;
+      asks = of_plan (λ f q n. ChangesNode f (AsksAtOnce (query_key q) ask) old.followers new.followers) p follower query floor of change;
+      rest = ap (λ f. scene f keepers link) rest;
+      then = refl;
+    }) in
+    let done : IsDone tells s leader p from after to = record {
+      steps = record {
+        does = subst (λ a. DoesReadStage tells s leader a p from after to) (sym (looking p.at at)) does;
+        legal = legally tells s after to Mastering masters tt;
+        whole = λ least was told so.
+            let now = version_now s p keepers in
+            subst (HasComeTo least now) (sym masters) (subst (HasComeTo least now) (looking p.at at) (was told so));
+      };
+      read = record {
+        follower = is.follower;
+        region = is.region;
+        never_asks = never_so p.critical p.bound p.at (came.Look (Ok Miss)) is.never_asks;
+        bound = is.bound;
+        reached = is.reached;
+        ask = of_plan (λ f q n. IfSome ask (λ number. HasAsk f number (query_key q) new.followers)) p follower query floor of has;
+        stands = looked_stands (types_of s.schema) (pens_of new.masters) (wanted_by p) p.critical Miss;
+      };
+    } in
+    subst (λ r. IsDone tells s leader p from r to) (sym took) done
+
+-- memory was wanting for the answer
+pub looks_lost : (tells : Bool) (s : Settings) (leader : NodeName) (p q : Reading) (old new : Fleet) (keepers : KeeperState) (link : LinkShown) (reply : Reply)
+    → stage_of p.at ≡ stage.Look → p.critical ≡ false → IsReadUnderWay tells s keepers.told old p → new ≡ old → GoesOn old new
+    → reply ≡ Refused (Memory 0) → q ≡ taken (came.Look (Err reply)) 0 false p
+    → IsDone tells s leader p (scene old keepers link) q (scene new keepers link)
+looks_lost tells s leader p q old new keepers link reply at plain is same goes said took =
+    let from : Scene = scene old keepers link in
+    let to : Scene = scene new keepers link in
+    let outcome = came.Look (Err (Refused (Memory 0))) in
+    let after : Reading = taken outcome 0 false p in
+    let does : DoesReadStage tells s leader Looking p from after to = subst (λ c. DoesLook s c p from after to) (sym plain)
+    (inr (record { same = ap (λ f. scene f keepers link) same; then = refl })) in
+    let done : IsDone tells s leader p from after to = record {
+      steps = record {
+        does = subst (λ a. DoesReadStage tells s leader a p from after to) (sym (looking p.at at)) does;
+        legal = legally tells s after to (Ended (ended.Refused (Refused (Memory 0)))) refl (no_refusal (Memory 0));
+        whole = λ least was told critical. tt;
+      };
+      read = goes_so tells s keepers.told keepers.told old new p outcome 0 false is (λ told store. refl) goes tt;
+    } in
+    subst (λ r. IsDone tells s leader p from r to) (sym (took ∙ ap (λ r. taken (came.Look (Err r)) 0 false p) said)) done
 
 -- ---- ask
 
@@ -179,23 +246,24 @@ asks_done tells s leader p q old new given hops store follower query floor at is
       steps = record {
         does = subst (λ a. DoesReadStage tells s leader a p old after new) (sym (asking p.at at)) does;
         legal = ask_legal tells s p new given hops store;
+        whole = λ least was told critical. absurd (asks_plain p.critical p.at (asking p.at at) is.never_asks critical);
       };
       read = goes_so tells s old.keepers.told new.keepers.told old.fleet new.fleet p (came.Ask (Ok given)) hops store is on.tables on.goes
           (asked_stands types (pens_of new.fleet.masters) (wanted_by p) given over.given_is);
     } in
     subst (λ r. IsDone tells s leader p old r new) (sym took) done
 
--- why nothing was given does not depend on the nodes
-fails_there : (s : Settings) (route : Route) (query : Query) (reply : Reply) (old mid : Scene) (end : Fleet) → ReadFails s route query reply old mid
-    → ReadFails s route query reply old (scene end mid.keepers mid.link)
-fails_there s route query (Refused (Store (LinkFault count Before))) old mid end h = h
-fails_there s route query (Refused (Store (KeeperFault count))) old mid end h = h
-fails_there s route query (Refused (Memory position)) old mid end h = h
-fails_there s route query reply old mid end h = absurd h
+-- why nothing was carried back does not depend on the nodes
+over_there : (follower store : NodeName) (reply : Reply) (old mid : Scene) (end : Fleet) → ReadOverFails follower store reply old mid
+    → ReadOverFails follower store reply old (scene end mid.keepers mid.link)
+over_there follower store (Refused (Store (LinkFault count Before))) old mid end h = h
+over_there follower store (Refused (Store (KeeperFault count))) old mid end h = h
+over_there follower store (Refused (Memory position)) old mid end h = h
+over_there follower store reply old mid end h = absurd h
 
-no_answer : (s : Settings) (route : Route) (query : Query) (reply : Reply) (old new : Scene) → ReadFails s route query reply old new → (read : ReadReply)
+no_out : (follower store : NodeName) (reply : Reply) (old new : Scene) → ReadOverFails follower store reply old new → (read : ReadReply)
     → reply ≡ Called (called.Read read) → ⊥
-no_answer s route query reply old new fails read is = subst (λ r. ReadFails s route query r old new) is fails
+no_out follower store reply old new fails read is = subst (λ r. ReadOverFails follower store r old new) is fails
 
 pub asks_lost : (tells : Bool) (s : Settings) (leader : NodeName) (p q : Reading) (old mid : Scene) (end : Fleet) (reply : Reply) (hops : ℕ) (store : Bool)
     (follower : NodeName) (query : Query) (floor : ℕ) → stage_of p.at ≡ stage.Ask
@@ -210,7 +278,7 @@ asks_lost tells s leader p q old mid end reply hops store follower query floor a
     let after : Reading = taken (came.Ask (Err reply)) hops store p in
     let not = of_plan (λ f q n. IsNotGiven s (record { follower = f; leader = leader }) (wanted q n) reply old mid) p follower query floor of lost in
     let leaders : end.leaders ≡ mid.fleet.leaders = ap (λ (f : Fleet). f.leaders) rest in
-    let fails = fails_there s (route_by leader p) p.query reply old mid end not.fails in
+    let fails = over_there p.follower leader reply old mid end not.fails in
     let may : MayAnswer types (route_by leader p) (wanted_by p) old new = elim not.leaders [
       | inl same ↦ inl (leaders ∙ same)
       | inr one ↦ inr (
@@ -222,18 +290,17 @@ asks_lost tells s leader p q old mid end reply hops store follower query floor a
     ] in
     let does : DoesReadStage tells s leader Asking p old after new = inr (record {
       reply = reply;
-      vain = record {
-        fails = fails;
-        leaders = may;
-        ends = subst (λ fs. ChangesNode p.follower (EndsAsk p.ask) fs end.followers) (ap (λ (f : Fleet). f.followers) not.rest) ends;
-        masters = ap (λ (f : Fleet). f.masters) rest ∙ ap (λ (f : Fleet). f.masters) not.rest;
-      };
+      fails = fails;
+      leaders = may;
+      ends = subst (λ fs. ChangesNode p.follower (EndsAsk p.ask) fs end.followers) (ap (λ (f : Fleet). f.followers) not.rest) ends;
+      masters = ap (λ (f : Fleet). f.masters) rest ∙ ap (λ (f : Fleet). f.masters) not.rest;
       then = ap (λ h. taken (came.Ask (Err reply)) h store p) cost ∙ ap (λ c. taken (came.Ask (Err reply)) (hops_between old.link mid.link) c p) called;
     }) in
     let done : IsDone tells s leader p old after new = record {
       steps = record {
         does = subst (λ a. DoesReadStage tells s leader a p old after new) (sym (asking p.at at)) does;
-        legal = legally tells s after new (Ended (ended.Refused reply)) refl (no_answer s (route_by leader p) p.query reply old new fails);
+        legal = legally tells s after new (Ended (ended.Refused reply)) refl (no_out p.follower leader reply old new fails);
+        whole = λ least was told critical. tt;
       };
       read = goes_so tells s old.keepers.told mid.keepers.told old.fleet end p (came.Ask (Err reply)) hops store is on.tables goes tt;
     } in
@@ -250,10 +317,11 @@ master_legal tells s p new (out.Past answer version total note) hops store =
 
 pub masters_done : (tells : Bool) (s : Settings) (leader : NodeName) (p q : Reading) (old new : Scene) (read : ReadOut) (hops : ℕ) (store : Bool)
     (query : Query) → stage_of p.at ≡ stage.Master
-    → IsReadUnderWay tells s old.keepers.told old.fleet p → query ≡ p.query → IsReadOver tells s query read old new → ReadsOn tells s old new
+    → IsReadUnderWay tells s old.keepers.told old.fleet p → AreStoresOf tells s old.keepers.told old.fleet.masters → query ≡ p.query
+    → IsReadOver tells s query read old new → ReadsOn tells s old new
     → q ≡ taken (came.Master (Ok read)) hops store p → hops ≡ hops_between old.link new.link → store ≡ was_called old.keepers new.keepers
     → IsDone tells s leader p old q new
-masters_done tells s leader p q old new read hops store query at is same reads on took cost called =
+masters_done tells s leader p q old new read hops store query at is are same reads on took cost called =
     let types = types_of s.schema in
     let after : Reading = taken (came.Master (Ok read)) hops store p in
     let over = subst (λ x. IsReadOver tells s x read old new) same reads in
@@ -266,22 +334,15 @@ masters_done tells s leader p q old new read hops store query at is same reads o
       steps = record {
         does = subst (λ a. DoesReadStage tells s leader a p old after new) (sym (mastering p.at at)) does;
         legal = master_legal tells s p new read hops store;
+        whole = λ least was told critical.
+            let now = version_now s p old.keepers in
+            store_comes tells s p old.keepers new.keepers old.fleet.masters read least (version_now s p new.keepers) are over.reads told
+            (subst (HasComeTo least now) (mastering p.at at) (was told critical));
       };
       read = goes_so tells s old.keepers.told new.keepers.told old.fleet new.fleet p (came.Master (Ok read)) hops store is on.tables on.goes
           (mastered_stands types (pens_of new.fleet.masters) (wanted_by p) read (over.given p.floor is.reached));
     } in
     subst (λ r. IsDone tells s leader p old r new) (sym took) done
-
-over_there : (follower store : NodeName) (reply : Reply) (old mid : Scene) (end : Fleet) → ReadOverFails follower store reply old mid
-    → ReadOverFails follower store reply old (scene end mid.keepers mid.link)
-over_there follower store (Refused (Store (LinkFault count Before))) old mid end h = h
-over_there follower store (Refused (Store (KeeperFault count))) old mid end h = h
-over_there follower store (Refused (Memory position)) old mid end h = h
-over_there follower store reply old mid end h = absurd h
-
-no_out : (follower store : NodeName) (reply : Reply) (old new : Scene) → ReadOverFails follower store reply old new → (read : ReadReply)
-    → reply ≡ Called (called.Read read) → ⊥
-no_out follower store reply old new fails read is = subst (λ r. ReadOverFails follower store r old new) is fails
 
 pub masters_lost : (tells : Bool) (s : Settings) (leader : NodeName) (p q : Reading) (old mid : Scene) (end : Fleet) (reply : Reply) (hops : ℕ) (store : Bool)
     (follower : NodeName) (query : Query) (floor : ℕ) → stage_of p.at ≡ stage.Master
@@ -308,6 +369,7 @@ masters_lost tells s leader p q old mid end reply hops store follower query floo
       steps = record {
         does = subst (λ a. DoesReadStage tells s leader a p old after new) (sym (mastering p.at at)) does;
         legal = legally tells s after new (Ended (ended.Refused reply)) refl (no_out p.follower master reply old new fails);
+        whole = λ least was told critical. tt;
       };
       read = goes_so tells s old.keepers.told mid.keepers.told old.fleet end p (came.Master (Err reply)) hops store is on.tables goes tt;
     } in
@@ -357,6 +419,9 @@ keeps_done tells s leader p q old new keepers link fill answer kept follower que
               legal_in_log tells s keepers.told old.masters shard types p.query p.floor answer fill.version are is.follower.here was,
               (λ told held place f floor first there le. again told held place f first there floor le),
             );
+        whole = λ least was told critical.
+            let now = version_now s p keepers in
+            subst (λ a. HasComeTo least now (after_keep p.bound a (Some (answer, kept)))) (sym at) (subst (HasComeTo least now) at (was told critical));
       };
       read = goes_so tells s keepers.told keepers.told old new p outcome 0 false is (λ told store. refl) goes
           (subst (λ a. StandsSo types (pens_of new.masters) (wanted_by p) (after_keep p.bound a (Some (answer, kept)))) (sym at) tt);
@@ -382,7 +447,8 @@ keeps_lost tells s leader p q old new keepers link fill reply follower ask found
     let done : IsDone tells s leader p from after to = record {
       steps = record {
         does = subst (λ a. DoesReadStage tells s leader a p from after to) (sym at) does;
-        legal = legally tells s after to (Ended (ended.Refused (Refused (Memory 0)))) refl (λ r no. absurd (cc));
+        legal = legally tells s after to (Ended (ended.Refused (Refused (Memory 0)))) refl (no_refusal (Memory 0));
+        whole = λ least was told critical. tt;
       };
       read = goes_so tells s keepers.told keepers.told old new p (came.Keep (Err (Refused (Memory 0)))) 0 false is (λ told store. refl) goes tt;
     } in
@@ -419,6 +485,9 @@ hands_done tells s leader p q old new keepers link handed none stage_is is are o
           legal_in_log tells s keepers.told old.masters shard types p.query p.floor b.answer b.version are is.follower.here right,
           (λ told kept. not_past p.bound b.total _ kept),
         );
+        whole = λ least was told critical.
+            let now = version_now s p keepers in
+            subst (λ a. HasComeTo least now (after_keep p.bound a None)) (sym b.is) (subst (HasComeTo least now) b.is (was told critical));
       };
       read = goes_so tells s keepers.told keepers.told old new p outcome 0 false is (λ told store. refl) goes
           (subst (λ a. StandsSo types (pens_of new.masters) (wanted_by p) (after_keep p.bound a None)) (sym b.is) tt);

@@ -1,5 +1,7 @@
 pub mod AsksHeld
+mod GivenUp
 pub mod HeldReadLemmas
 pub mod HeldReadStages
+pub mod Missing
 mod PlanMaps
 pub mod Standing

@@ -1,19 +1,18 @@
 -- A read that is held can go on, whatever was done in between.
-use Rattle.std.proofs.Common.{◌≡◌, ℕ, ◌≤◌, true, Bool, Option, Some, None, refl, arith}
+use Rattle.std.proofs.Common.{◌≡◌, ℕ, ◌≤◌, true, Bool, Some, None, arith}
 use Rattle.core_model.specs.Consistent.{GoesOn}
 use Rattle.core_model.specs.Fleet.{Fleet}
 use Rattle.core_model.specs.Growing.{MastersGrow}
 use Rattle.core_model.specs.Pens.{Pens, Rise, pens_of}
 use Rattle.core_model.specs.Reads.{IsGivenFill, Wanted}
-use Rattle.core_model.specs.Stores.{master_store}
+use Rattle.core_model.specs.Stores.{master_log}
 use Rattle.graph_model.specs.Log.{version}
 use Rattle.read_plan.specs.Readings.{Reading}
 use Rattle.read_plan.specs.declared.standing.Given.TheVariants.{Fill, HandedOut, Past}
 use Rattle.read_plan.specs.declared.standing.Standing.{Standing}
 use Rattle.read_plan.specs.declared.standing.Standing.TheVariants.{Looking, Asking, Mastering, Keeping, Ended}
 use Rattle.sealed_item.specs.Fills.{SealedItem}
-use Rattle.shard_log.proofs.GrowthLemmas.{grows-trans, versions_stay}
-use Rattle.shard_log.specs.View.{View}
+use Rattle.shard_log.proofs.GrowthLemmas.{grows-trans}
 use Rattle.tao_base.specs.EdgeTypes.{EdgeTypes}
 use Rattle.tao_base.specs.Queries.{query_key, query_shard}
 use Rattle.tao_base.specs.declared.id.Key.{Key}
@@ -22,6 +21,7 @@ use Rattle.tao_schema.specs.Schema.{types_of}
 use Rattle.topology.specs.Config.{Settings}
 use Rattle.core_plans.specs.HeldReads.{IsReadUnderWay, StandsSo, wanted_by}
 use Rattle.core_plans.proofs.HeldReadLemmas.{asks_on}
+use Rattle.core_plans.proofs.Missing.{version_later}
 
 -- a fill stays one, since what its note has seen is a beginning of what the log is later
 fill_rises : (types : EdgeTypes) (pens later : Pens) (read : Wanted) (fill : SealedItem) → Rise pens later → IsGivenFill types pens read fill
@@ -47,12 +47,10 @@ stands_still types pens later read Mastering rise is = tt
 stands_still types pens later read (Ended end) rise is = tt
 
 -- a log that grew is no less far
-reached_later : (tells : Bool) (s : Settings) (tables later : Tables) (key : Key) (shard floor : ℕ) (v : View) → MastersGrow tells s tables later → tells ≡ true
-    → floor ≤ version (tables (master_store s shard)).log key → floor ≤ version (later (master_store s shard)).log key
-reached_later tells s tables later key shard floor v grows told le =
-    let at = master_store s shard in
-    let rises = versions_stay.version_rises (record v { entries = (tables at).log }) (record v { entries = (later at).log }) key
-    (record { log_is = refl; begins = grows.logs.begins told at }) in
+reached_later : (tells : Bool) (s : Settings) (tables later : Tables) (key : Key) (shard floor : ℕ) → MastersGrow tells s tables later → tells ≡ true
+    → floor ≤ version (master_log s tables shard) key → floor ≤ version (master_log s later shard) key
+reached_later tells s tables later key shard floor grows told le =
+    let rises = version_later tells s tables later key shard grows.logs told in
     omega arith
 
 pub under_way_later : (tells : Bool) (s : Settings) (tables later : Tables) (f g : Fleet) (p : Reading) → IsReadUnderWay tells s tables f p → GoesOn f g
@@ -60,10 +58,9 @@ pub under_way_later : (tells : Bool) (s : Settings) (tables later : Tables) (f g
 under_way_later tells s tables later f g p is goes grows = record {
   follower = is.follower;
   region = is.region;
-  plain = is.plain;
+  never_asks = is.never_asks;
   bound = is.bound;
-  reached = λ told. reached_later tells s tables later (query_key p.query) (query_shard p.query) p.floor (pens_of f.masters (query_shard p.query)) grows told
-      (is.reached told);
+  reached = λ told. reached_later tells s tables later (query_key p.query) (query_shard p.query) p.floor grows told (is.reached told);
   ask = asks_on p.follower p.ask (query_key p.query) f g goes is.ask;
   stands = stands_still (types_of s.schema) (pens_of f.masters) (pens_of g.masters) (wanted_by p) p.at goes.rise is.stands;
 }

@@ -2,6 +2,7 @@
 use Rattle.std.specs.Prelude.{ℕ, ◌≡◌, ◌+◌, ◌==◌, ⊤, Bool, true, IsSome, List, Option, Some, None, length, slice_get, if◌then◌else◌}
 use Rattle.std.specs.BTreeMap.{is_at}
 use Rattle.std.specs.Map.{lookup}
+use Rattle.std.specs.Option.{option_map}
 use Rattle.std.specs.Ordering.{nat_cmp}
 use Rattle.ask_table.specs.Asks.{Asks}
 use Rattle.std.specs.List.{list_any}
@@ -18,17 +19,25 @@ use Rattle.read_plan.specs.declared.standing.Standing.{Standing}
 use Rattle.read_plan.specs.declared.standing.Standing.TheVariants.{Looking, Asking, Mastering, Keeping, Ended}
 use Rattle.replies.specs.declared.plans.Stage.{Stage}
 use Rattle.replies.specs.declared.reply.Reply.{Reply}
+use Rattle.replies.specs.declared.reply.Reply.TheVariants.{Called}
 use Rattle.tao_base.specs.Queries.{query_shard}
 use Rattle.tao_base.specs.Writes.{write_shard}
+use Rattle.tao_base.specs.declared.entry.Origin.{Origin}
+use Rattle.tao_base.specs.declared.entry.Origin.TheVariants.{Client, Merge}
 use Rattle.tao_keeper.specs.KeeperState.{KeepsTables}
 use Rattle.tao_keeper.specs.Table.{Tables}
 use Rattle.topology.specs.Config.{Settings}
 use Rattle.write_plan.specs.Plans.{next_of, reply_of}
 use Rattle.write_plan.specs.Stages.{told_stage}
+use Rattle.write_plan.specs.declared.committed.Committed.{Committed}
+use Rattle.write_plan.specs.declared.stage.WriteStage.{WriteStage}
+use Rattle.write_plan.specs.declared.progress.WayBack.TheVariants.{Ahead}
+use Rattle.write_plan.specs.declared.stage.WriteStage.TheVariants.{Apply, Commit}
 use Rattle.core_plans.specs.HeldReads.{IsReadUnderWay, StepsRead}
-use Rattle.core_plans.specs.HeldWrites.{DoesWriteStage, IsWriteUnderWay}
+use Rattle.core_plans.specs.HeldWrites.{DoesWriteStage, IsWriteUnderWay, way_given_up}
 use Rattle.core_plans.specs.declared.held.HeldPlan.{HeldPlan}
 use Rattle.core_plans.specs.declared.held.HeldPlan.TheVariants.{Read, Write}
+use Rattle.core_plans.specs.declared.held.ToldEntry.{ToldEntry}
 use Rattle.core_plans.specs.declared.plans.HeldPlans.TheInside.{Inside}
 
 -- ---- one plan
@@ -46,6 +55,34 @@ IsOver (Write p) reply = reply_of p ≡ Some reply
 abbrev pub IsUnderWay : Bool → Settings → Tables → Fleet → HeldPlan → Type 0
 IsUnderWay tells s tables f (Read p) = IsReadUnderWay tells s tables f p
 IsUnderWay tells s tables f (Write p) = IsWriteUnderWay s f p
+
+-- ---- what a session learns of it
+
+-- the entry of a write, and what was seen of its shard's log
+abbrev pub written_entry : Option Committed → Option ToldEntry
+written_entry None = None
+written_entry (Some c) = option_map (λ e. record { entry = e; note = c.wrote.note }) c.wrote.entry
+
+-- what is told with the reply of a plan: the entry of a write that was carried out, where there is one
+abbrev pub told_with : Reply → HeldPlan → Option ToldEntry
+told_with (Called reply) (Write p) = written_entry p.committed
+told_with (Called reply) (Read p) = None
+told_with reply plan = None
+
+-- the session of a write, where only its last stage is left
+abbrev pub learner_at : WriteStage → Origin → Option ℕ
+learner_at Apply (Client session seq) = Some session
+learner_at Apply (Merge shard position) = None
+learner_at next origin = None
+
+abbrev pub learner : HeldPlan → Option ℕ
+learner (Write p) = learner_at (next_of p) p.origin
+learner (Read p) = None
+
+-- a write of which only the last stage is left ends without it
+abbrev pub given_up : HeldPlan → HeldPlan
+given_up (Write p) = Write (way_given_up p)
+given_up (Read p) = Read p
 
 -- ---- all plans
 
@@ -156,9 +193,10 @@ HasNoneAt Mastering ask = ⊤
 HasNoneAt (Keeping given) ask = ⊤
 HasNoneAt (Ended end) ask = ⊤
 
+-- and the way back of a write begins after its commit
 abbrev pub OpensFirst : HeldPlan → Type 0
 OpensFirst (Read p) = HasNoneAt p.at p.ask
-OpensFirst (Write p) = ⊤
+OpensFirst (Write p) = next_of p ≡ Commit → p.back ≡ Ahead
 
 -- ---- what is held
 

@@ -1,5 +1,5 @@
 -- What stays so of the asks of held reads.
-use Rattle.std.specs.Prelude.{ℕ, ◌≡◌, Bool, List, Option}
+use Rattle.std.specs.Prelude.{ℕ, ◌≡◌, ◌≤◌, Bool, List, Option, Result}
 use Rattle.cache_items.specs.declared.look.Kept.{Kept}
 use Rattle.cache_items.specs.declared.look.Look.TheVariants.{Hit, Miss}
 use Rattle.core_model.specs.Evictions.{Evicts}
@@ -9,14 +9,19 @@ use Rattle.core_model.specs.Reads.{EndsAsk, KeepsFill, LooksFirst, Wanted}
 use Rattle.core_model.specs.Writes.{AppliesTo}
 use Rattle.core_model.specs.declared.named.Named.{Named}
 use Rattle.core_plans.specs.Held.{AsksAreHeld, OpensNone, Plans}
+use Rattle.core_plans.specs.HeldReads.{MissesNone, version_now}
+use Rattle.core_steps.specs.CriticalReads.{ReadsCritical}
 use Rattle.core_steps.specs.Reads.{ReadsAlong}
 use Rattle.core_steps.specs.Routes.{Scene}
 use Rattle.core_steps.specs.Writes.{ClientWrite, Posting, WritesAlong}
 use Rattle.core_steps.specs.declared.routes.Route.{Route}
+use Rattle.core_steps.specs.declared.writes.CarriedOut.{CarriedOut}
 use Rattle.follower_cache.specs.Seen.{FollowerState}
 use Rattle.follower_cache.specs.declared.queue.Refill.{Refill}
 use Rattle.maint_msg.specs.Maints.{SeenMaint}
 use Rattle.node_name.specs.declared.NodeName.{NodeName}
+use Rattle.read_plan.specs.Readings.{Reading}
+use Rattle.read_plan.specs.declared.standing.Standing.TheVariants.{Looking}
 use Rattle.replies.specs.declared.reply.Reply.{Reply}
 use Rattle.sealed_item.specs.Fills.{SealedItem}
 use Rattle.shard_log.specs.View.{View}
@@ -25,6 +30,8 @@ use Rattle.tao_base.specs.declared.entry.Entry.{Entry}
 use Rattle.tao_base.specs.declared.id.Key.{Key}
 use Rattle.tao_base.specs.declared.query.Answer.{Answer}
 use Rattle.tao_base.specs.declared.query.Query.{Query}
+use Rattle.tao_keeper.specs.Growing.{LogsGrow}
+use Rattle.tao_keeper.specs.KeeperState.{KeeperState}
 use Rattle.topology.specs.Config.{Settings}
 
 abbrev pub Followers : Type 0
@@ -58,5 +65,15 @@ pub record AsksStayHeld : Type 0 where
   pub changes : (name : NodeName) (old new : Followers) → ChangesOpenNone name old new
   pub reads : (tells : Bool) (s : Settings) (route : Route) (read : Wanted) (reply : Reply) (old new : Scene)
       → ReadsAlong tells s route read reply old new → OpensNone old.fleet.followers new.fleet.followers
-  pub writes : (tells : Bool) (s : Settings) (route : Route) (call : ClientWrite) (reply : Reply) (old new : Posting)
-      → WritesAlong tells s route call reply old new → OpensNone old.scene.fleet.followers new.scene.fleet.followers
+  pub critical : (tells : Bool) (s : Settings) (follower : NodeName) (read : Wanted) (reply : Reply) (old new : Scene)
+      → ReadsCritical tells s follower read reply old new → OpensNone old.fleet.followers new.fleet.followers
+  pub writes : (tells : Bool) (s : Settings) (route : Route) (call : ClientWrite) (outcome : Result CarriedOut Reply) (old new : Posting)
+      → WritesAlong tells s route call outcome old new → OpensNone old.scene.fleet.followers new.scene.fleet.followers
+
+-- what a critical read doesn't miss it doesn't miss later: logs only grow
+pub record NothingIsMissedLater : Type 0 where
+  pub later : (tells : Bool) (s : Settings) (least : ℕ) (p : Reading) (old new : KeeperState) → LogsGrow tells old.told new.told
+      → MissesNone tells s least p old → MissesNone tells s least p new
+  -- one that begins misses nothing that stands
+  pub begun : (tells : Bool) (s : Settings) (least : ℕ) (p : Reading) (keepers : KeeperState) → p.at ≡ Looking
+      → least ≤ version_now s p keepers → MissesNone tells s least p keepers

@@ -1,21 +1,24 @@
 -- A read that is held between its stages, and what each stage does.
-use Rattle.std.specs.Prelude.{ℕ, ◌≡◌, ◌<◌, ◌≤◌, ◌⊎◌, ⊤, Bool, false, IfSome, Option, Some, None, Ok, Err, length}
+use Rattle.std.specs.Prelude.{ℕ, ◌≡◌, ◌<◌, ◌≤◌, ◌⊎◌, ⊤, Bool, true, false, IfSome, Option, Some, None, Ok, Err, length}
 use Rattle.cache_items.specs.declared.look.Kept.{Kept as KeptWhy}
 use Rattle.cache_items.specs.declared.look.Look.{Look}
+use Rattle.cache_items.specs.declared.look.Look.TheVariants.{Miss}
 use Rattle.core_model.specs.Fleet.{ChangesNode, Fleet, HasAsk}
 use Rattle.core_model.specs.Pens.{Pens, pens_of}
-use Rattle.core_model.specs.Reads.{EndsAsk, IsGivenAnswer, IsGivenFill, KeepsFill, LooksFirst, Wanted, wanted}
+use Rattle.core_model.specs.Reads.{AsksAtOnce, EndsAsk, IsGivenAnswer, IsGivenFill, KeepsFill, LooksFirst, Wanted, wanted}
 use Rattle.core_model.specs.Serving.{IsFollowerFor}
 use Rattle.core_model.specs.Stores.{master_log}
-use Rattle.core_steps.specs.Reads.{AnswersAgain, IsLegalNow}
-use Rattle.core_steps.specs.ReadSteps.{IsAskedInVain, IsGivenOver, IsReadOver, MissedRead, ReadOverFails, missed_read}
+use Rattle.core_steps.specs.Reads.{AnswersAgain, IsLegalNow, MayAnswer}
+use Rattle.core_steps.specs.ReadSteps.{IsGivenOver, IsReadOver, ReadOverFails}
 use Rattle.core_steps.specs.Routes.{Scene, hops_between, master_node, was_called}
 use Rattle.core_steps.specs.declared.routes.Route.{Route}
 use Rattle.graph_model.specs.Log.{version}
 use Rattle.graph_model.specs.Told.{WhereTold}
 use Rattle.node_name.specs.declared.NodeName.{NodeName}
 use Rattle.read_plan.specs.Ends.{EndsWith}
-use Rattle.read_plan.specs.Readings.{Reading, new_reading, taken}
+use Rattle.read_plan.specs.Readings.{NeverAsks, Reading, new_reading, taken}
+use Rattle.read_plan.specs.declared.end.ReadEnd.TheVariants.{Answered}
+use Rattle.read_plan.specs.declared.end.ReadEnd.TheVariants as end
 use Rattle.read_plan.specs.declared.stages.ReadResult.TheVariants as came
 use Rattle.read_plan.specs.declared.standing.Given.{Given}
 use Rattle.read_plan.specs.declared.standing.Given.TheVariants.{Fill, HandedOut, Past}
@@ -35,6 +38,7 @@ use Rattle.tao_base.specs.EdgeTypes.{EdgeTypes}
 use Rattle.tao_base.specs.Queries.{query_key, query_shard}
 use Rattle.tao_base.specs.declared.query.Answer.{Answer}
 use Rattle.tao_base.specs.declared.query.Query.{Query}
+use Rattle.tao_keeper.specs.KeeperState.{KeeperState}
 use Rattle.tao_keeper.specs.Table.{Tables}
 use Rattle.tao_schema.specs.Schema.{key_bound, types_of}
 use Rattle.topology.specs.Config.{Settings}
@@ -44,16 +48,13 @@ abbrev pub wanted_by : Reading → Wanted
 wanted_by p = wanted p.query p.floor
 
 -- a read that is begun, at the bound of its type
-abbrev pub begun_read : Settings → Query → ℕ → ℕ → ℕ → NodeName → Reading
-begun_read s query region tier floor follower =
-    record (new_reading query region tier floor false follower) { bound = key_bound (types_of s.schema) (query_key query) }
+abbrev pub begun_read : Settings → Query → ℕ → ℕ → ℕ → Bool → NodeName → Reading
+begun_read s query region tier floor critical follower =
+    record (new_reading query region tier floor critical follower) { bound = key_bound (types_of s.schema) (query_key query) }
 
 -- its way, by a leader
 abbrev pub route_by : NodeName → Reading → Route
 route_by leader p = record { follower = p.follower; leader = leader }
-
-abbrev pub missed_by : NodeName → Reading → MissedRead
-missed_by leader p = missed_read (route_by leader p) (wanted_by p) p.ask
 
 -- ---- a read under way
 
@@ -71,12 +72,12 @@ StandsSo types pens read Asking = ⊤
 StandsSo types pens read Mastering = ⊤
 StandsSo types pens read (Ended end) = ⊤
 
--- a read of a follower that serves its shard, from a region of the configuration. The log has come to its floor; its ask, where it opened one, is on
--- its key; and what was given to it can be answered from
+-- a read of a follower that serves its shard, from a region of the configuration, which asks no leader where it is critical. The log has come to its
+-- floor; its ask, where it opened one, is on its key; and what was given to it can be answered from
 pub record IsReadUnderWay (tells : Bool) (s : Settings) (tables : Tables) (f : Fleet) (p : Reading) : Type 0 where
   pub follower : IsFollowerFor s (query_shard p.query) p.follower
   pub region : p.region < length s.regions
-  pub plain : p.critical ≡ false
+  pub never_asks : NeverAsks p.critical p.at
   pub bound : p.bound ≡ key_bound (types_of s.schema) (query_key p.query)
   pub reached : WhereTold tells (p.floor ≤ version (master_log s tables (query_shard p.query)) (query_key p.query))
   pub ask : IfSome p.ask (λ number. HasAsk p.follower number (query_key p.query) f.followers)
@@ -100,10 +101,21 @@ pub record Looks (s : Settings) (p : Reading) (old : Scene) (q : Reading) (new :
   pub rest : ChangesFollowers old new
   pub then : q ≡ taken (came.Look (Ok look)) 0 false (record p { ask = ask })
 
+-- or where it is critical, opens an ask at once
+pub record LooksPast (p : Reading) (old : Scene) (q : Reading) (new : Scene) : Type 0 where
+  pub ask : Option ℕ
+  pub asks : ChangesNode p.follower (AsksAtOnce (query_key p.query) ask) old.fleet.followers new.fleet.followers
+  pub rest : ChangesFollowers old new
+  pub then : q ≡ taken (came.Look (Ok Miss)) 0 false (record p { ask = ask })
+
 -- or memory was wanting for its answer
 pub record LooksInVain (p : Reading) (old : Scene) (q : Reading) (new : Scene) : Type 0 where
   pub same : new ≡ old
   pub then : q ≡ taken (came.Look (Err (Refused (Memory 0)))) 0 false p
+
+abbrev pub DoesLook : Settings → Bool → Reading → Scene → Reading → Scene → Type 0
+DoesLook s false p old q new = Looks s p old q new ⊎ LooksInVain p old q new
+DoesLook s true p old q new = LooksPast p old q new
 
 -- `ask`: the leader answers, over the link there and back
 pub record AsksLeader (s : Settings) (leader : NodeName) (p : Reading) (old : Scene) (q : Reading) (new : Scene) : Type 0 where
@@ -114,7 +126,10 @@ pub record AsksLeader (s : Settings) (leader : NodeName) (p : Reading) (old : Sc
 -- or nothing was carried back, and its ask ends
 pub record AsksInVain (s : Settings) (leader : NodeName) (p : Reading) (old : Scene) (q : Reading) (new : Scene) : Type 0 where
   pub reply : Reply
-  pub vain : IsAskedInVain s (missed_by leader p) reply old new
+  pub fails : ReadOverFails p.follower leader reply old new
+  pub leaders : MayAnswer (types_of s.schema) (route_by leader p) (wanted_by p) old new
+  pub ends : EndsItsAsk p old new
+  pub masters : new.fleet.masters ≡ old.fleet.masters
   pub then : q ≡ taken (came.Ask (Err reply)) (hops_between old.link new.link) (was_called old.keepers new.keepers) p
 
 -- `master`: the master's store answers, over the link there and back
@@ -158,18 +173,42 @@ KeepsGiven s p (HandedOut version) old q new = ⊥
 
 -- what the stage does that follows
 abbrev pub DoesReadStage : Bool → Settings → NodeName → Standing → Reading → Scene → Reading → Scene → Type 0
-DoesReadStage tells s leader Looking p old q new = Looks s p old q new ⊎ LooksInVain p old q new
+DoesReadStage tells s leader Looking p old q new = DoesLook s p.critical p old q new
 DoesReadStage tells s leader Asking p old q new = AsksLeader s leader p old q new ⊎ AsksInVain s leader p old q new
 DoesReadStage tells s leader Mastering p old q new = AsksMaster tells s p old q new ⊎ MastersInVain s p old q new
 DoesReadStage tells s leader (Keeping given) p old q new = KeepsGiven s p given old q new
 DoesReadStage tells s leader (Ended end) p old q new = ⊥
+
+-- the version of what was given
+abbrev pub given_version : Given → ℕ
+given_version (Fill fill) = fill.version
+given_version (HandedOut version) = version
+given_version (Past answer version total seen) = version
+
+-- a read has come to a version of its key: by the log, before it is given anything; by what was given; and by its answer
+abbrev pub HasComeTo : ℕ → ℕ → Standing → Type 0
+HasComeTo least now Looking = least ≤ now
+HasComeTo least now Asking = least ≤ now
+HasComeTo least now Mastering = least ≤ now
+HasComeTo least now (Keeping given) = least ≤ given_version given
+HasComeTo least now (Ended (Answered answer version held)) = least ≤ version
+HasComeTo least now (Ended (end.Refused reply)) = ⊤
+
+-- the version of the read's key in the log as it is
+abbrev pub version_now : Settings → Reading → KeeperState → ℕ
+version_now s p keepers = version (master_log s keepers.told (query_shard p.query)) (query_key p.query)
+
+-- where it is critical, it misses nothing of its key up to that version
+abbrev pub MissesNone : Bool → Settings → ℕ → Reading → KeeperState → Type 0
+MissesNone tells s least p keepers = WhereTold tells (p.critical ≡ true → HasComeTo least (version_now s p keepers) p.at)
 
 -- where it ends with an answer, that is legal in the log as it is then, and what is kept is held and answers again
 abbrev pub EndsLegally : Bool → Settings → Reading → Scene → Type 0
 EndsLegally tells s q new = (reply : ReadReply) → EndsWith q (Called (called.Read reply)) → IsLegalNow tells s (wanted_by q) reply new.keepers
     × WhereTold tells (reply.kept ≡ Kept → AnswersAgain (types_of s.schema) q.follower q.query reply new.fleet.followers)
 
--- one stage of a held read, the one that follows
+-- one stage of a held read, the one that follows. A critical one misses nothing that it didn't before, so nothing that stood when it began
 pub record StepsRead (tells : Bool) (s : Settings) (leader : NodeName) (p : Reading) (old : Scene) (q : Reading) (new : Scene) : Type 0 where
   pub does : DoesReadStage tells s leader p.at p old q new
   pub legal : EndsLegally tells s q new
+  pub whole : (least : ℕ) → MissesNone tells s least p old.keepers → MissesNone tells s least q new.keepers

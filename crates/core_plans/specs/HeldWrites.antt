@@ -100,10 +100,14 @@ pub record LosesWayBack (leader : NodeName) (p : Plan) (old : Posting) (q : Plan
   pub then : q ≡ after_stage p (came.Apply (Err (Refused (Store (LinkFault new.scene.link.faults (when_of committed.wrote.entry))))))
       (hops_between old.scene.link new.scene.link)
 
--- or memory was wanting for the way back: the write stands as well
+-- memory was wanting for the way back: the plan ends, at the position of what its commit answered
+abbrev pub way_given_up : Plan → Plan
+way_given_up p = after_stage p (came.Apply (Err (Refused (Memory (position_of (answered_entry p)))))) 0
+
+-- so the write stands as well
 pub record AppliesInVain (p : Plan) (old : Posting) (q : Plan) (new : Posting) : Type 0 where
   pub same : new ≡ old
-  pub then : q ≡ after_stage p (came.Apply (Err (Refused (Memory (position_of (answered_entry p)))))) 0
+  pub then : q ≡ way_given_up p
 
 -- what the stage does that follows
 abbrev pub DoesWriteStage : Bool → Settings → NodeName → WriteStage → Plan → Posting → Plan → Posting → Type 0

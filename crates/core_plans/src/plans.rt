@@ -78,8 +78,13 @@ impl Model for HeldPlans {
 }
 
 impl HeldPlans {
-    ghost use Rattle.std.specs.Prelude.{ℕ, ◌≡◌, None, OnErr, OnOk, false, is_some, option_copied, true};
-    ghost use Rattle.core_plans.specs.Held.{AddsPlan, TakesPlan, plan_at, plan_count};
+    ghost use Rattle.std.specs.Prelude.{ℕ, ◌≡◌, Bool, IsSome, None, OnErr, OnOk, false, is_some, option_and_then, option_copied, true};
+    ghost use Rattle.core_model.specs.Fleet.{Fleet as Fleet_};
+    ghost use Rattle.core_plans.specs.Held.{AddsPlan, TakesPlan, learner, plan_at, plan_count};
+    ghost use Rattle.core_steps.specs.Writes.{Posting};
+    ghost use Rattle.node_name.specs.declared.NodeName.{NodeName as NodeName_};
+    ghost use Rattle.tao_keeper.specs.Table.{Tables};
+    ghost use Rattle.topology.specs.Config.{Settings};
 
     /// None is held. Takes no memory.
     pub fn new(alloc: Global) -> HeldPlans
@@ -137,6 +142,20 @@ impl HeldPlans {
         ensures same { is_some result ≡ false → self.new ≡ self.old }
     {
         self.plans.remove(&number)
+    }
+
+    /// Ends a write of which only the last stage is left, since memory is wanting for what its session is to learn: the write stands, at
+    /// the position that its reply tells, and nothing changes but the plan, which stays. Takes no memory.
+    pub fn give_up(&mut self, number: u32)
+        requires { IsSome (option_and_then learner (plan_at self.old number)) }
+        ensures steps { (tells : Bool) (s : Settings) (leader : NodeName_) (now : Posting) → StepsPlan tells s leader number self.old now self.new now }
+        ensures under_way { (tells : Bool) (s : Settings) (tables : Tables) (f : Fleet_) → IfSome (plan_at self.old number) (IsUnderWay tells s tables f)
+            → IfSome (plan_at self.new number) (IsUnderWay tells s tables f) }
+    {
+        match self.plans.get_mut(&number) {
+            Some(plan) => plan.give_up(),
+            None => unreachable!(),
+        }
     }
 
     /// Does the stage of the plan of that number that follows, with a leader that serves its shard: for a read one of its region, for a

@@ -1,5 +1,5 @@
 //! The stages of held reads.
-ghost use Rattle.std.specs.Prelude.{◌≡◌, ◌-◌, IsSome, nat_lt};
+ghost use Rattle.std.specs.Prelude.{◌≡◌, ◌-◌, IsSome, false, nat_lt, true};
 ghost use Rattle.core_model.specs.Consistent.{GoesOn, IsConsistent, IsFleetOf};
 ghost use Rattle.core_model.specs.Fleet.{ChangesNode};
 ghost use Rattle.core_model.specs.Reads.{EndsAsk};
@@ -11,6 +11,7 @@ ghost use Rattle.read_plan.specs.Standings.{stage_named, stage_of};
 ghost use Rattle.read_plan.specs.declared.stages.ReadStage.TheVariants as stage;
 ghost use Rattle.tao_base.specs.Queries.{query_shard};
 
+use cache_items::Look;
 use core_nodes::{FirstLook, Fleet};
 use core_steps::{Route, ask_over, out_of_memory, read_over};
 use node_name::NodeName;
@@ -29,12 +30,13 @@ pub fn begin_read(
     region: u16,
     tier: u16,
     floor: u64,
+    critical: bool,
     follower: NodeName,
 ) -> ReadPlan
-    ensures { result ≡ begun_read config.now query region tier floor follower }
+    ensures { result ≡ begun_read config.now query region tier floor critical follower }
 {
     let bound = config.schema.bound_of(&query.key());
-    let mut plan = ReadPlan::begin(query, region, tier, floor, false, follower);
+    let mut plan = ReadPlan::begin(query, region, tier, floor, critical, follower);
     plan.set_bound(bound);
     plan
 }
@@ -68,6 +70,58 @@ fn end_ask_of(fleet: &mut Fleet, config: &Config, plan: &ReadPlan)
     fleet.end_ask(config, plan.follower(), plan.query().shard(), plan.ask());
 }
 
+/// The stage `look` of a critical read: its follower isn't to answer.
+fn look_past<K: Keeper, L: Link>(
+    fleet: &mut Fleet,
+    config: &Config,
+    keepers: &K,
+    link: &L,
+    leader: NodeName,
+    plan: &mut ReadPlan,
+)
+    requires consistent { IsConsistent K.TELLS config.now (K.state keepers.now).told fleet.old }
+    requires read { IsReadUnderWay K.TELLS config.now (K.state keepers.now).told fleet.old plan.old }
+    requires stage { stage_of plan.old.at ≡ stage.Look }
+    requires critical { plan.old.critical ≡ true }
+    ensures steps { StepsRead K.TELLS config.now leader plan.old (scene fleet.old (K.state keepers.now) (L.shown link.now))
+        plan.new (scene fleet.new (K.state keepers.now) (L.shown link.now)) }
+    ensures read { IsReadUnderWay K.TELLS config.now (K.state keepers.now).told fleet.new plan.new }
+    ensures consistent { IsConsistent K.TELLS config.now (K.state keepers.now).told fleet.new }
+    ensures goes { GoesOn fleet.old fleet.new }
+{
+    let ask = fleet.ask_at_once(config, plan.follower(), plan.query());
+    plan.set_ask(ask);
+    plan.take(ReadResult::Look(Ok(Look::Miss)), 0, false);
+}
+
+/// The stage `look` of a read that isn't critical.
+fn look_first<K: Keeper, L: Link>(
+    fleet: &mut Fleet,
+    config: &Config,
+    keepers: &K,
+    link: &L,
+    leader: NodeName,
+    plan: &mut ReadPlan,
+)
+    requires consistent { IsConsistent K.TELLS config.now (K.state keepers.now).told fleet.old }
+    requires read { IsReadUnderWay K.TELLS config.now (K.state keepers.now).told fleet.old plan.old }
+    requires stage { stage_of plan.old.at ≡ stage.Look }
+    requires plain { plan.old.critical ≡ false }
+    ensures steps { StepsRead K.TELLS config.now leader plan.old (scene fleet.old (K.state keepers.now) (L.shown link.now))
+        plan.new (scene fleet.new (K.state keepers.now) (L.shown link.now)) }
+    ensures read { IsReadUnderWay K.TELLS config.now (K.state keepers.now).told fleet.new plan.new }
+    ensures consistent { IsConsistent K.TELLS config.now (K.state keepers.now).told fleet.new }
+    ensures goes { GoesOn fleet.old fleet.new }
+{
+    match fleet.look(config, plan.follower(), plan.query(), plan.floor()) {
+        Ok(FirstLook { look, ask }) => {
+            plan.set_ask(ask);
+            plan.take(ReadResult::Look(Ok(look)), 0, false);
+        }
+        Err(OutOfMemory) => plan.take(ReadResult::Look(Err(out_of_memory())), 0, false),
+    }
+}
+
 /// The stage `look`.
 fn look_stage<K: Keeper, L: Link>(
     fleet: &mut Fleet,
@@ -86,12 +140,10 @@ fn look_stage<K: Keeper, L: Link>(
     ensures consistent { IsConsistent K.TELLS config.now (K.state keepers.now).told fleet.new }
     ensures goes { GoesOn fleet.old fleet.new }
 {
-    match fleet.look(config, plan.follower(), plan.query(), plan.floor()) {
-        Ok(FirstLook { look, ask }) => {
-            plan.set_ask(ask);
-            plan.take(ReadResult::Look(Ok(look)), 0, false);
-        }
-        Err(OutOfMemory) => plan.take(ReadResult::Look(Err(out_of_memory())), 0, false),
+    if plan.is_critical() {
+        look_past(fleet, config, keepers, link, leader, plan);
+    } else {
+        look_first(fleet, config, keepers, link, leader, plan);
     }
 }
 

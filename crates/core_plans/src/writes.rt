@@ -5,7 +5,7 @@ ghost use Rattle.core_model.specs.Consistent.{GoesOn, IsConsistent, IsFleetOf};
 ghost use Rattle.core_model.specs.Growing.{MastersGrow};
 ghost use Rattle.core_model.specs.Pens.{pens_of};
 ghost use Rattle.core_model.specs.Serving.{IsLeaderFor};
-ghost use Rattle.core_plans.specs.HeldWrites.{DoesWriteStage, IsWriteUnderWay, position_of, without_job};
+ghost use Rattle.core_plans.specs.HeldWrites.{DoesWriteStage, IsWriteUnderWay, position_of, way_given_up, without_job};
 ghost use Rattle.core_steps.specs.Routes.{FailsCarry, scene};
 ghost use Rattle.core_steps.specs.Writes.{FollowerTakes, posting};
 ghost use Rattle.shard_tables.specs.Written.{HasEntry};
@@ -113,6 +113,26 @@ fn commit_stage<K: Keeper, L: Link>(
     plan.take(WriteResult::Commit(outcome), hops);
 }
 
+/// The reply that memory is wanting for the way back of what a plan's commit answered: the write stands, at the position that it tells.
+fn out_of_memory_back(plan: &WritePlan) -> Reply
+    ensures { result ≡ Reply.Refused (Refusal.Memory (position_of (answered_entry plan.now))) }
+{
+    let position = match plan.entry() {
+        Some(entry) => entry.position,
+        None => 0,
+    };
+    Reply::Refused(Refusal::Memory { position })
+}
+
+/// Ends a write of which only the last stage is left, since memory is wanting for its way back.
+pub(crate) fn give_up_way(plan: &mut WritePlan)
+    requires { next_of plan.old ≡ stage.Apply }
+    ensures { plan.new ≡ way_given_up plan.old }
+{
+    let reply = out_of_memory_back(plan);
+    plan.take(WriteResult::Apply(Err(reply)), 0);
+}
+
 /// The note in which the answer of a plan's commit stands, a second one; or the reply that memory is wanting for it.
 fn answer_note(plan: &mut WritePlan) -> Result<Note, Reply>
     requires { IsSome plan.old.committed }
@@ -123,12 +143,7 @@ fn answer_note(plan: &mut WritePlan) -> Result<Note, Reply>
     match plan.note() {
         Ok(Some(note)) => Ok(note),
         Ok(None) => unreachable!(),
-        Err(OutOfMemory) => Err(Reply::Refused(Refusal::Memory {
-            position: match plan.entry() {
-                Some(entry) => entry.position,
-                None => 0,
-            },
-        })),
+        Err(OutOfMemory) => Err(out_of_memory_back(plan)),
     }
 }
 

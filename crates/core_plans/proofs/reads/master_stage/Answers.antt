@@ -11,7 +11,7 @@ returns-in-Ok-clause-steps g c =
     let cost = costs c.cost_since-cost.result c.calls-calls.result c.carries-carries.result old new c.cost_since-cost.ensures c.calls-calls.ensures
     c.carries-carries.ensures in
     (masters_done g.K.Keeper.TELLS c.args.config.now c.args.leader c.args.plan.now c.take.new.self old new c.in-Ok.out c.cost_since-cost.result.hops
-    c.cost_since-cost.result.store c.query-query.result.now c.requires.stage c.requires.read c.query-query.ensures
+    c.cost_since-cost.result.store c.query-query.result.now c.requires.stage c.requires.read c.requires.consistent.stores c.query-query.ensures
     c.in-Ok.ensures.read c.read_over.ensures.on c.take.ensures cost.0 cost.1).steps
 
 pub returns-in-Ok-clause-read : goal.returns-in-Ok-clause-read
@@ -21,7 +21,7 @@ returns-in-Ok-clause-read g c =
     let cost = costs c.cost_since-cost.result c.calls-calls.result c.carries-carries.result old new c.cost_since-cost.ensures c.calls-calls.ensures
     c.carries-carries.ensures in
     (masters_done g.K.Keeper.TELLS c.args.config.now c.args.leader c.args.plan.now c.take.new.self old new c.in-Ok.out c.cost_since-cost.result.hops
-    c.cost_since-cost.result.store c.query-query.result.now c.requires.stage c.requires.read c.query-query.ensures
+    c.cost_since-cost.result.store c.query-query.result.now c.requires.stage c.requires.read c.requires.consistent.stores c.query-query.ensures
     c.in-Ok.ensures.read c.read_over.ensures.on c.take.ensures cost.0 cost.1).read
 
 pub returns-in-Err-clause-steps : goal.returns-in-Err-clause-steps

@@ -27,25 +27,25 @@ use Rattle.request_check.specs.Calls.{checked_query, checked_write}
 use Rattle.request_check.specs.Names.{tier_named}
 use Rattle.request_check.specs.Placed.{IsPlaced, IsPlacedCall, IsPlacedFollower, IsPlacedNode}
 use Rattle.request_check.specs.Refusal.{named, replied, reply_unless_memory}
-use Rattle.request_check.specs.Requests.{checked_call, checked_of, checked_read_call, key_named, maybe_key_named, placed_as}
+use Rattle.request_check.specs.Requests.{checked_call, checked_of, checked_read_call, key_named, link_place, maybe_key_named, placed_as}
 use Rattle.request_check.specs.declared.checked.Checked.{Checked}
 use Rattle.request_check.specs.declared.checked.Checked.TheVariants as checked
 use Rattle.request_check.specs.declared.checked.CheckedCall.{CheckedCall}
 use Rattle.request_check.specs.declared.checked.CheckedCall.TheVariants as of_call
+use Rattle.request_check.specs.declared.checked.LinkPlace.{LinkPlace}
 use Rattle.request_check.specs.declared.refusal.CheckRefusal.{CheckRefusal}
-use Rattle.tao_core.specs.Asked.{CallCanBeDone, CanBeDone, admitted, held_plan, is_built_call, new_plan, new_session, open_session, session_of}
-use Rattle.tao_core.specs.Sessions.{is_open}
-use Rattle.tao_core.specs.declared.sessions.OpenSession.{OpenSession}
+use Rattle.tao_core.specs.Asked.{CallCanBeDone, CanBeDone, admitted, held_plan, new_plan, new_session, open_session, session_of}
+use Rattle.core_sessions.specs.Sessions.{Session, is_open}
 
 -- a session that may be opened isn't open
-not_open : (sessions : List OpenSession) (session : ℕ) → new_session sessions session ≡ Ok tt → is_open sessions session ≡ false
+not_open : (sessions : List Session) (session : ℕ) → new_session sessions session ≡ Ok tt → is_open sessions session ≡ false
 not_open sessions session h = elim (cases_Bool (is_open sessions session)) [
   | inl is_so ↦ (let e = rw is_so at h in absurd (cc))
   | inr not_so ↦ not_so
 ]
 
 -- a session that a call may name is open
-is_so_open : (sessions : List OpenSession) (session : ℕ) → open_session sessions session ≡ Ok tt → is_open sessions session ≡ true
+is_so_open : (sessions : List Session) (session : ℕ) → open_session sessions session ≡ Ok tt → is_open sessions session ≡ true
 is_so_open sessions session h = elim (cases_Bool (is_open sessions session)) [
   | inl is_so ↦ is_so
   | inr not_so ↦ (let e = rw not_so at h in absurd (cc))
@@ -69,53 +69,37 @@ both_pass : (first second : Result ⊤ Refusal) → (first >>= (λ x. second)) �
 both_pass (Ok x) second h = (refl, h)
 both_pass (Err refused) second h = absurd (cc)
 
--- what is built, of an open session
-pub record MayCall (sessions : List OpenSession) (asked : Call) : Type 0 where
-  pub built : is_built_call asked ≡ true
-  pub there : is_open sessions (session_of asked) ≡ true
+call_admitted : (sessions : List Session) (plans : Plans) (asked : Call) → admitted sessions plans (request.Call asked) ≡ Ok tt
+    → is_open sessions (session_of asked) ≡ true
+call_admitted sessions plans asked h = is_so_open sessions (session_of asked) h
 
-call_admitted : (sessions : List OpenSession) (plans : Plans) (asked : Call) → admitted sessions plans (request.Call asked) ≡ Ok tt → MayCall sessions asked
-call_admitted sessions plans asked h = elim (cases_Bool (is_built_call asked)) [
-  | inl is_so ↦ record { built = is_so; there = is_so_open sessions (session_of asked) (rw is_so at h) }
-  | inr not_so ↦ (let e = rw not_so at h in absurd (cc))
-]
+hold_admitted : (sessions : List Session) (plans : Plans) (plan : ℕ) (asked : Call) → admitted sessions plans (request.Hold plan asked) ≡ Ok tt
+    → (plan_at plans plan ≡ None) × (is_open sessions (session_of asked) ≡ true)
+hold_admitted sessions plans plan asked h =
+    let both = both_pass (new_plan plans plan) (open_session sessions (session_of asked)) h in
+    (not_held plans plan both.0, is_so_open sessions (session_of asked) both.1)
 
-hold_admitted : (sessions : List OpenSession) (plans : Plans) (plan : ℕ) (asked : Call) → admitted sessions plans (request.Hold plan asked) ≡ Ok tt
-    → (plan_at plans plan ≡ None) × MayCall sessions asked
-hold_admitted sessions plans plan asked h = elim (cases_Bool (is_built_call asked)) [
-  | inl is_so ↦ (
-      let both = both_pass (new_plan plans plan) (open_session sessions (session_of asked)) (rw is_so at h) in
-      (not_held plans plan both.0, record { built = is_so; there = is_so_open sessions (session_of asked) both.1 }))
-  | inr not_so ↦ (let e = rw not_so at h in absurd (cc))
-]
-
-advance_admitted : (sessions : List OpenSession) (plans : Plans) (plan : ℕ) → admitted sessions plans (request.Advance plan) ≡ Ok tt
+advance_admitted : (sessions : List Session) (plans : Plans) (plan : ℕ) → admitted sessions plans (request.Advance plan) ≡ Ok tt
     → IsSome (plan_at plans plan)
 advance_admitted sessions plans plan h = some_found (plan_at plans plan) _ (both_pass (held_plan plans plan) (Ok tt) h).0
 
-not_critical : (text : ReadCall) → is_built_call (call.Read text) ≡ true → text.critical ≡ false
-not_critical text h = elim (cases_Bool text.critical) [
-  | inl is_so ↦ (let e = rw is_so at h in absurd (cc))
-  | inr not_so ↦ not_so
-]
-
-module _ (s : Settings) (sessions : List OpenSession) (plans : Plans) where
+module _ (s : Settings) (sessions : List Session) (plans : Plans) where
   write_can : (text : WriteCall) (found : Result Write NameRefused) → is_open sessions text.session ≡ true
       → IfOk (found >>= (λ w. Ok (record { session = text.session; seq = text.seq; write = w })) >>= (λ c. Ok (of_call.Write c)))
       (λ c. IsPlacedCall s c → CallCanBeDone s sessions c)
   write_can text (Ok w) there = λ here. (here, there)
   write_can text (Err refused) there = tt
 
-  read_can : (text : ReadCall) (found : Result Query NameRefused) → is_open sessions text.session ≡ true → text.critical ≡ false
+  read_can : (text : ReadCall) (found : Result Query NameRefused) → is_open sessions text.session ≡ true
       → IfOk (found >>= (λ q. Ok (record { session = text.session; query = q; critical = text.critical })) >>= (λ c. Ok (of_call.Read c)))
       (λ c. IsPlacedCall s c → CallCanBeDone s sessions c)
-  read_can text (Ok q) there mild = λ here. (here, there, mild)
-  read_can text (Err refused) there mild = tt
+  read_can text (Ok q) there = λ here. (here, there)
+  read_can text (Err refused) there = tt
 
   -- a call that may be made, as it is checked
-  call_can : (asked : Call) → MayCall sessions asked → IfOk (checked_call s asked) (λ c. IsPlacedCall s c → CallCanBeDone s sessions c)
-  call_can (call.Write text) may = write_can text (checked_write s text.write) may.there
-  call_can (call.Read text) may = read_can text (checked_query s text.query) may.there (not_critical text may.built)
+  call_can : (asked : Call) → is_open sessions (session_of asked) ≡ true → IfOk (checked_call s asked) (λ c. IsPlacedCall s c → CallCanBeDone s sessions c)
+  call_can (call.Write text) there = write_can text (checked_write s text.write) there
+  call_can (call.Read text) there = read_can text (checked_query s text.query) there
 
   -- what is asked of it then
   asks_can : (asks : CheckedCall → Checked) (found : Result CheckedCall NameRefused)
@@ -162,6 +146,12 @@ module _ (s : Settings) (sessions : List OpenSession) (plans : Plans) where
   show_can (Ok node) (Err refused) = tt
   show_can (Err refused) key = tt
 
+  link_can : (asks : LinkPlace → Checked) (found : Result LinkPlace NameRefused)
+      → ((place : LinkPlace) → CanBeDone s sessions plans (asks place))
+      → IfOk (placed_as asks found) (λ c. IsPlaced s c → CanBeDone s sessions plans c)
+  link_can asks (Ok place) can = λ here. can place
+  link_can asks (Err refused) can = tt
+
   -- what is placed, of a request that was admitted
   by_word : (asked : Request) → admitted sessions plans asked ≡ Ok tt → IfOk (checked_of s asked) (λ c. IsPlaced s c → CanBeDone s sessions plans c)
   by_word (request.Open opening) h =
@@ -182,6 +172,8 @@ module _ (s : Settings) (sessions : List OpenSession) (plans : Plans) where
   by_word (request.Evict name key) h = evict_can _ (maybe_key_named s key)
   by_word (request.Show name key) h = show_can _ (key_named s key)
   by_word (request.Inbox name) h = node_can checked.Inbox _ (λ node here. cache_there node here)
+  by_word (request.Cut link) h = link_can checked.Cut (link_place s link) (λ place. tt)
+  by_word (request.Mend link) h = link_can checked.Mend (link_place s link) (λ place. tt)
   by_word (request.Audit text) h = whatever _ (checked_read_call s text) _ (λ r here. here)
   by_word asked h = absurd (cc)
 
@@ -190,7 +182,7 @@ named_ok (Ok x) c h = cc
 named_ok (Err refused) c h = absurd (cc)
 
 -- what a request that was admitted is checked to can be done
-pub checked_can : (s : Settings) (sessions : List OpenSession) (plans : Plans) (asked : Request) (r : Result Checked CheckRefusal)
+pub checked_can : (s : Settings) (sessions : List Session) (plans : Plans) (asked : Request) (r : Result Checked CheckRefusal)
     → admitted sessions plans asked ≡ Ok tt → Gives reply_unless_memory r (replied (named (checked_of s asked))) → IfOk r (IsPlaced s)
     → IfOk r (CanBeDone s sessions plans)
 checked_can s sessions plans asked (Ok c) there h here =

@@ -13,7 +13,7 @@ use Rattle.topology.specs.Config.{Settings}
 use Rattle.tao_core.specs.Asked.{asked_of, reply_as}
 use Rattle.tao_core.specs.Core.{Moment}
 use Rattle.tao_core.specs.Replies.{AnswersAsked, AnswersRequest}
-use Rattle.tao_core.specs.declared.sessions.OpenSession.{OpenSession}
+use Rattle.core_sessions.specs.Sessions.{Session}
 
 refused_so : (tells : Bool) (now : Moment) (r : Result Checked Refusal) (reply : Reply) → replied r ≡ Err reply → AnswersAsked tells now r reply now
 refused_so tells now (Ok c) reply h = absurd (cc)
@@ -24,9 +24,9 @@ replied_ok (Ok x) c h = cc
 replied_ok (Err refused) c h = absurd (cc)
 
 -- the core whose settings, sessions and plans were lent
-module _ (now : Moment) (s : Settings) (sessions : List OpenSession) (plans : Plans) (is_s : s ≡ now.core.settings) (is_sessions : sessions ≡ now.core.sessions)
+module _ (now : Moment) (s : Settings) (sessions : List Session) (plans : Plans) (is_s : s ≡ now.core.settings) (is_sessions : sessions ≡ now.core.sessions)
     (is_plans : plans ≡ now.core.plans) where
-  lent : (P : Settings → List OpenSession → Plans → Type 0) → P s sessions plans → P now.core.settings now.core.sessions now.core.plans
+  lent : (P : Settings → List Session → Plans → Type 0) → P s sessions plans → P now.core.settings now.core.sessions now.core.plans
   lent P p =
       subst (λ x. P now.core.settings now.core.sessions x) is_plans
       (subst (λ x. P now.core.settings x plans) is_sessions (subst (λ x. P x sessions plans) is_s p))

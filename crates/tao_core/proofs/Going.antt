@@ -1,42 +1,72 @@
 -- The replies to a session's read and write that went along their route.
-use Rattle.std.proofs.Common.{◌≡◌, ◌<◌, ℕ, Bool, Some, refl, sym, subst}
+use Rattle.std.proofs.Common.{◌≡◌, ◌<◌, ◌≤◌, ℕ, Bool, true, false, List, Result, Ok, Err, Some, refl, sym, subst}
 use Rattle.core_mail.specs.Inboxes.{Inboxes}
 use Rattle.core_model.specs.Consistent.{IsConsistent}
 use Rattle.core_model.specs.Fleet.{Fleet}
-use Rattle.core_model.specs.Reads.{wanted}
-use Rattle.core_steps.specs.Reads.{ReadsAlong}
-use Rattle.core_steps.specs.Routes.{scene}
-use Rattle.core_steps.specs.Writes.{WritesAlong, posting}
+use Rattle.core_model.specs.Pens.{pens_of}
+use Rattle.core_model.specs.Reads.{Wanted, wanted}
+use Rattle.core_model.specs.Stores.{master_log}
+use Rattle.core_steps.specs.ReadSteps.{IsReached}
+use Rattle.graph_model.specs.Log.{version}
+use Rattle.session_pass.specs.Floors.{floor_at}
+use Rattle.core_sessions.specs.Sessions.{Session, session_at}
+use Rattle.core_steps.specs.Routes.{Scene, scene}
+use Rattle.core_steps.specs.Writes.{ClientWrite, Posting, WritesAlong, posting}
 use Rattle.core_steps.specs.declared.routes.Route.{Route}
+use Rattle.core_steps.specs.declared.writes.CarriedOut.{CarriedOut}
 use Rattle.replies.specs.declared.refusals.NodeRefused.TheVariants.{NoServer}
 use Rattle.replies.specs.declared.refusals.Refusal.TheVariants.{Node}
 use Rattle.replies.specs.declared.reply.Reply.{Reply}
 use Rattle.replies.specs.declared.reply.Reply.TheVariants.{Refused}
 use Rattle.request_check.specs.declared.checked.CheckedRead.{CheckedRead}
 use Rattle.request_check.specs.declared.checked.CheckedWrite.{CheckedWrite}
-use Rattle.tao_base.specs.Queries.{query_shard}
+use Rattle.tao_base.specs.Queries.{query_key, query_shard}
+use Rattle.tao_base.specs.declared.query.Query.{Query}
 use Rattle.tao_base.specs.Writes.{write_shard}
 use Rattle.tao_keeper.specs.KeeperState.{KeeperState, KeepsTables}
 use Rattle.tao_link.specs.Shown.{LinkShown}
+use Rattle.topology.specs.Config.{Settings}
 use Rattle.topology.specs.Choices.{chosen_follower, master_region, preferred_leader}
-use Rattle.tao_core.specs.Calls.{AnswersRead, AnswersWrite, IsRoute, ReadGoes, RepliesToRead, RepliesToWrite, WriteGoes, client_write_of}
-use Rattle.tao_core.specs.Core.{CoreState, Moment, moment}
-use Rattle.tao_core.proofs.Reaching.{kept_reaches}
-use Rattle.tao_core.specs.Sessions.{session_at}
-use Rattle.tao_core.specs.declared.sessions.OpenSession.{OpenSession}
+use Rattle.tao_core.specs.Calls.{AnswersRead, AnswersWrite, IsRoute, Learns, ReadGoes, ReadsBy, RepliesToRead, RepliesToWrite, WriteGoes, client_write_of, entry_of, posting_of}
+use Rattle.tao_core.specs.Calls.{scene_of, wanted_in, written_as}
+use Rattle.tao_core.specs.Core.{CoreState, IsConsistentCore, IsSessionOf, Moment, moment}
+use Rattle.tao_core.proofs.Reaching.{kept_reaches_by}
+use Rattle.tao_core.proofs.Ways.{session_is}
 
 -- a call that went isn't answered that none could serve it
+read_served : (critical tells : Bool) (s : Settings) (route : Route) (read : Wanted) (region : ℕ) (old new : Scene)
+    → ReadsBy critical tells s route read (Refused (Node (NoServer region))) old new → ⊥
+read_served false tells s route read region old new reads = reads.fails
+read_served true tells s route read region old new reads = reads.fails
+
 read_went : (tells : Bool) (old : Moment) (call : CheckedRead) (reply : Reply) (new : Moment) → ReadGoes tells old call reply new
     → RepliesToRead tells old call reply new
-read_went tells old call (Refused (Node (NoServer region))) new goes = absurd goes.reads.fails
+read_went tells old call (Refused (Node (NoServer region))) new goes =
+    absurd (read_served call.critical tells old.core.settings goes.route (wanted_in goes.session call.query) region (scene_of old) (scene_of new) goes.reads)
 read_went tells old call reply new goes = goes
+
+write_served : (tells : Bool) (s : Settings) (route : Route) (call : ClientWrite) (outcome : Result CarriedOut Reply) (region : ℕ) (old new : Posting)
+    → Refused (Node (NoServer region)) ≡ written_as outcome → WritesAlong tells s route call outcome old new → ⊥
+write_served tells s route call (Ok done) region old new is writes = absurd (cc)
+write_served tells s route call (Err reply) region old new is writes =
+    subst (λ r. WritesAlong tells s route call (Err r) old new) (sym is) writes
 
 write_went : (tells : Bool) (old : Moment) (call : CheckedWrite) (reply : Reply) (new : Moment) → WriteGoes tells old call reply new
     → RepliesToWrite tells old call reply new
-write_went tells old call (Refused (Node (NoServer region))) new goes = absurd goes.writes
+write_went tells old call (Refused (Node (NoServer region))) new goes =
+    absurd (write_served tells old.core.settings goes.route (client_write_of call) goes.outcome region (posting_of old) (posting_of new) goes.reply_is
+    goes.writes)
 write_went tells old call reply new goes = goes
 
-module _ (tells : Bool) (core : CoreState) (after : Fleet) (session : OpenSession) (route : Route) (before now : KeeperState) (from to : LinkShown)
+-- each key has come to the floor of a session
+pub read_reached : (tells : Bool) (keepers : KeeperState) (core : CoreState) (of : IsConsistentCore tells keepers.told core) (number : ℕ) (query : Query)
+    (session : Session) (floor : ℕ) → session_at core.sessions number ≡ Some session → floor ≡ floor_at session.floors (query_key query)
+    → IsReached tells core.settings (wanted query floor) keepers
+read_reached tells keepers core of number query session floor found is = λ told.
+    let own = session_is (IsSessionOf tells core.settings keepers.told (pens_of core.fleet.masters)) core.sessions number session of.sessions found in
+    subst (λ n. n ≤ version (master_log core.settings keepers.told (query_shard query)) (query_key query)) (sym is) (own.floors told (query_key query))
+
+module _ (tells : Bool) (core : CoreState) (after : Fleet) (session : Session) (route : Route) (before now : KeeperState) (from to : LinkShown)
     (reply : Reply) where
   way_is : (region shard asked : ℕ) → shard ≡ asked → Some route.follower ≡ chosen_follower core.states session.region session.tier shard
       → route.leader ≡ preferred_leader core.states region shard → IsRoute core session region asked route
@@ -46,7 +76,8 @@ module _ (tells : Bool) (core : CoreState) (after : Fleet) (session : OpenSessio
   pub answers_read : (call : CheckedRead) (shard : ℕ) → session_at core.sessions call.session ≡ Some session → shard ≡ query_shard call.query
       → Some route.follower ≡ chosen_follower core.states session.region session.tier shard
       → route.leader ≡ preferred_leader core.states session.region shard
-      → ReadsAlong tells core.settings route (wanted call.query 0) reply (scene core.fleet before from) (scene after now to) → KeepsTables tells before now
+      → ReadsBy call.critical tells core.settings route (wanted_in session call.query) reply (scene core.fleet before from) (scene after now to)
+      → KeepsTables tells before now
       → IsConsistent tells core.settings now.told after → query_shard call.query < core.settings.shards
       → AnswersRead tells (moment core before from) call reply (moment (record core { fleet = after }) now to)
   answers_read call shard found is chosen preferred reads stays consistent here = record {
@@ -56,29 +87,36 @@ module _ (tells : Bool) (core : CoreState) (after : Fleet) (session : OpenSessio
       found = found;
       way = way_is session.region shard (query_shard call.query) is chosen preferred;
       reads = reads;
-      reaches = kept_reaches tells core.settings route (wanted call.query 0) reply (scene core.fleet before from) (scene after now to) reads consistent
-          here;
+      reaches = kept_reaches_by call.critical tells core.settings route (wanted_in session call.query) reply (scene core.fleet before from)
+          (scene after now to) reads consistent here;
     });
     tables = stays;
     rest = refl;
   }
 
-  pub answers_write : (call : CheckedWrite) (region shard : ℕ) (mail : Inboxes) → session_at core.sessions call.session ≡ Some session
+  pub answers_write : (call : CheckedWrite) (region shard : ℕ) (mail : Inboxes) (sessions : List Session) (outcome : Result CarriedOut Reply)
+      → session_at core.sessions call.session ≡ Some session
       → shard ≡ write_shard call.write
       → region ≡ master_region core.states shard → Some route.follower ≡ chosen_follower core.states session.region session.tier shard
-      → route.leader ≡ preferred_leader core.states region shard
-      → WritesAlong tells core.settings route (client_write_of call) reply (posting (scene core.fleet before from) core.mail core.states)
+      → route.leader ≡ preferred_leader core.states region shard → reply ≡ written_as outcome
+      → WritesAlong tells core.settings route (client_write_of call) outcome (posting (scene core.fleet before from) core.mail core.states)
       (posting (scene after now to) mail core.states)
-      → AnswersWrite tells (moment core before from) call reply (moment (record core { fleet = after; mail = mail }) now to)
-  answers_write call region shard mail found is master chosen preferred writes =
+      → Learns call.session (write_shard call.write) (entry_of outcome) core.sessions sessions
+      → AnswersWrite tells (moment core before from) call reply (moment (record core { fleet = after; mail = mail; sessions = sessions }) now to)
+  answers_write call region shard mail sessions outcome found is master chosen preferred reply_is writes learns =
       let asked = write_shard call.write in
-      let home : region ≡ master_region core.states asked = subst (λ n. region ≡ master_region core.states n) is master in record {
-        replies = write_went tells (moment core before from) call reply (moment (record core { fleet = after; mail = mail }) now to) (record {
-          session = session;
-          route = route;
-          found = found;
-          way = subst (λ r. IsRoute core session r asked route) home (way_is region shard asked is chosen preferred);
-          writes = writes;
-        });
+      let home : region ≡ master_region core.states asked = subst (λ n. region ≡ master_region core.states n) is master in
+      record {
+        replies = write_went tells (moment core before from) call reply
+            (moment (record core { fleet = after; mail = mail; sessions = sessions }) now to) (record {
+              session = session;
+              route = route;
+              found = found;
+              way = subst (λ r. IsRoute core session r asked route) home (way_is region shard asked is chosen preferred);
+              outcome = outcome;
+              reply_is = reply_is;
+              writes = writes;
+              learns = learns;
+            });
         rest = refl;
       }

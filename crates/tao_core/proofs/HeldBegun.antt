@@ -1,23 +1,29 @@
 -- A call that is held: its plan can go on, and its first stage finds no want of a server.
-use Rattle.std.proofs.Common.{◌≡◌, ◌<◌, ◌≤◌, ℕ, Bool, true, false, length, List, Option, Some, None, refl, ap, sym, ◌∙◌, subst, inl, inr, arith}
-use Rattle.std.specs.Prelude.{IsSome}
+use Rattle.std.proofs.Common.{◌≡◌, ℕ, Bool, true, false, List, Option, Some, None, refl, ap, sym, ◌∙◌, subst, inl, inr, arith}
+use Rattle.std.specs.Prelude.{IsSome, IsSomeAnd}
 use Rattle.cache_items.specs.declared.look.Look.{Look}
 use Rattle.cache_items.specs.declared.look.Look.TheVariants.{Hit, Miss}
+use Rattle.core_model.specs.Pens.{pens_of}
 use Rattle.core_model.specs.declared.named.Named.{Named}
 use Rattle.core_model.proofs.Places.{one_some}
 use Rattle.core_nodes.proofs.FleetLemmas.{goes_self}
 use Rattle.core_plans.specs.Held.{AddsPlan, HoldsAsk, IsOver, IsUnderWay, Plans, StepsHeld, next_stage, plan_at}
+use Rattle.core_plans.specs.HeldReads.{DoesLook, begun_read}
 use Rattle.core_plans.specs.HeldWrites.{call_by, way_by}
 use Rattle.core_plans.specs.declared.held.HeldPlan.{HeldPlan}
 use Rattle.core_plans.specs.declared.held.HeldPlan.TheVariants as held
 use Rattle.core_plans.proofs.AsksHeld.{same_opens_none}
 use Rattle.core_steps.proofs.GrowingLemmas.{stays_masters}
+use Rattle.core_sessions.specs.Sessions.{Session, is_open, place_of, session_at}
+use Rattle.core_sessions.specs.declared.sessions.OpenSession.{OpenSession}
+use Rattle.core_steps.specs.Routes.{Scene}
 use Rattle.core_steps.specs.Writes.{Posting, RefusesCommit}
 use Rattle.follower_cache.specs.Seen.{FollowerState}
 use Rattle.node_name.specs.declared.NodeName.{NodeName}
-use Rattle.read_plan.specs.Ends.{EndsAt}
-use Rattle.read_plan.specs.Readings.{Reading}
+use Rattle.read_plan.specs.Ends.{EndsAt, EndsWith}
+use Rattle.read_plan.specs.Readings.{NeverAsks, Reading}
 use Rattle.read_plan.specs.Standings.{after_look}
+use Rattle.read_plan.specs.declared.standing.Standing.TheVariants.{Looking}
 use Rattle.replies.specs.declared.plans.Stage.{Stage}
 use Rattle.replies.specs.declared.refusals.NodeRefused.TheVariants.{NoServer}
 use Rattle.replies.specs.declared.refusals.Refusal.TheVariants.{Node, Memory}
@@ -25,71 +31,81 @@ use Rattle.replies.specs.declared.reply.Reply.{Reply}
 use Rattle.replies.specs.declared.reply.Reply.TheVariants.{Called, Refused}
 use Rattle.request_check.specs.declared.checked.CheckedCall.{CheckedCall}
 use Rattle.request_check.specs.declared.checked.CheckedCall.TheVariants as call
-use Rattle.tao_base.specs.Queries.{query_shard}
+use Rattle.tao_base.specs.Queries.{query_key, query_shard}
 use Rattle.tao_base.specs.Writes.{write_shard}
 use Rattle.tao_base.specs.declared.entry.Origin.TheVariants.{Client}
 use Rattle.tao_keeper.specs.KeeperState.{KeeperState}
+use Rattle.tao_keeper.specs.Table.{Tables}
+use Rattle.tao_link.specs.Shown.{LinkShown}
 use Rattle.topology.specs.Choices.{chosen_follower}
 use Rattle.topology.specs.Config.{Settings}
 use Rattle.words.specs.declared.PlanWord.TheVariants as word
 use Rattle.write_plan.specs.Plans.{Plan, new_plan, reply_of}
 use Rattle.tao_core.specs.Asked.{CallCanBeDone}
 use Rattle.tao_core.specs.Calls.{posting_of}
-use Rattle.tao_core.specs.Core.{CoreState, IsCoreOf, Moment}
-use Rattle.tao_core.specs.HeldCalls.{AnswersHold, HoldGoes, Leaves, StepsAt, begun_plan, call_session, call_shard, plan_leader, told_by}
-use Rattle.tao_core.specs.Sessions.{session_at}
-use Rattle.tao_core.specs.declared.sessions.OpenSession.{OpenSession}
-use Rattle.tao_core.proofs.HeldKeeping.{plans_set, set_here, with_plans}
+use Rattle.tao_core.specs.Core.{CoreState, IsCoreOf, IsOfSession, IsSessionOf, Moment, moment}
+use Rattle.tao_core.specs.HeldCalls.{AnswersHold, Held, HoldGoes, Leaves, begun_plan, call_floor, call_session, call_shard, held_in, plan_leader, told_by}
+use Rattle.tao_core.proofs.HeldKeeping.{plans_set, set_each, set_here, with_plans}
+use Rattle.tao_core.proofs.Found.{open_found, some_there}
 use Rattle.tao_core.proofs.HeldSteps.{MayHold, StepsAsks, holds_none}
-use Rattle.tao_core.proofs.Ways.{follower_for, session_placed}
+use Rattle.tao_core.proofs.Ways.{follower_for, session_is}
 
 -- ---- the plan of a call
 
-begun_asks : (s : Settings) (session : OpenSession) (follower : NodeName) (asked : CheckedCall) (name : NodeName) (number : ℕ)
+begun_asks : (s : Settings) (session : Session) (follower : NodeName) (asked : CheckedCall) (name : NodeName) (number : ℕ)
     → HoldsAsk name number (Some (begun_plan s session follower asked)) → ⊥
 begun_asks s session follower (call.Write write) name number h = h
 begun_asks s session follower (call.Read read) name number h = (let it = h.1 in absurd (cc))
 
-begun_may : (s : Settings) (session : OpenSession) (follower : NodeName) (asked : CheckedCall) → MayHold (Some (begun_plan s session follower asked))
-begun_may s session follower (call.Write write) = tt
+begun_may : (s : Settings) (session : Session) (follower : NodeName) (asked : CheckedCall) → MayHold (Some (begun_plan s session follower asked))
+begun_may s session follower (call.Write write) = λ is. refl
 begun_may s session follower (call.Read read) = refl
 
-begun_goes : (s : Settings) (session : OpenSession) (follower : NodeName) (asked : CheckedCall) → IsSome (next_stage (begun_plan s session follower asked))
+begun_goes : (s : Settings) (session : Session) (follower : NodeName) (asked : CheckedCall) → IsSome (next_stage (begun_plan s session follower asked))
 begun_goes s session follower (call.Write write) = refl
 begun_goes s session follower (call.Read read) = refl
 
-begun_steps : (s : Settings) (session : OpenSession) (follower : NodeName) (asked : CheckedCall) (fs : List (Named FollowerState))
+begun_steps : (s : Settings) (session : Session) (follower : NodeName) (asked : CheckedCall) (fs : List (Named FollowerState))
     → StepsAsks None (Some (begun_plan s session follower asked)) fs fs
 begun_steps s session follower asked fs =
     holds_none None (Some (begun_plan s session follower asked)) fs fs (same_opens_none fs fs refl) (λ name number h. h) (begun_asks s session follower asked)
     (begun_may s session follower asked)
 
-begun_under_way : (tells : Bool) (keepers : KeeperState) (core : CoreState) (session : OpenSession) (follower : NodeName) (asked : CheckedCall)
-    → IsCoreOf tells keepers.told core → session.region < length core.settings.regions
+looking_never : (critical : Bool) → NeverAsks critical Looking
+looking_never true = tt
+looking_never false = tt
+
+begun_under_way : (tells : Bool) (keepers : KeeperState) (core : CoreState) (session : Session) (follower : NodeName) (asked : CheckedCall)
+    → IsCoreOf tells keepers.told core → IsSessionOf tells core.settings keepers.told (pens_of core.fleet.masters) session
     → Some follower ≡ chosen_follower core.states session.region session.tier (call_shard asked) → CallCanBeDone core.settings core.sessions asked
     → IsUnderWay tells core.settings keepers.told core.fleet (begun_plan core.settings session follower asked)
-begun_under_way tells keepers core session follower (call.Write write) of placed chosen can = record {
+begun_under_way tells keepers core session follower (call.Write write) of is chosen can = record {
   follower = follower_for tells keepers.told core of.is_consistent session.region session.tier (write_shard write.write) (write_shard write.write) follower refl
       can.0.configured chosen;
-  region = placed;
+  region = is.region;
   changes = can.0.changes;
   client = refl;
   committed = tt;
   job = refl;
   other = refl;
 }
-begun_under_way tells keepers core session follower (call.Read read) of placed chosen can = record {
+begun_under_way tells keepers core session follower (call.Read read) of is chosen can = record {
   follower = follower_for tells keepers.told core of.is_consistent session.region session.tier (query_shard read.query) (query_shard read.query) follower refl
       can.0 chosen;
-  region = placed;
-  plain = refl;
+  region = is.region;
+  never_asks = looking_never read.critical;
   bound = refl;
-  reached = λ told. omega arith;
+  reached = λ told. is.floors told (query_key read.query);
   ask = tt;
   stands = tt;
 }
 
-module _ (tells : Bool) (keepers : KeeperState) (core : CoreState) (of : IsCoreOf tells keepers.told core) (session : OpenSession) (follower : NodeName)
+begun_author : (s : Settings) (sessions : List Session) (session : Session) (follower : NodeName) (asked : CheckedCall)
+    → is_open sessions (call_session asked) ≡ true → IsOfSession sessions (begun_plan s session follower asked)
+begun_author s sessions session follower (call.Write write) found = found
+begun_author s sessions session follower (call.Read read) found = tt
+
+module _ (tells : Bool) (keepers : KeeperState) (core : CoreState) (of : IsCoreOf tells keepers.told core) (session : Session) (follower : NodeName)
     (asked : CheckedCall) (found : session_at core.sessions (call_session asked) ≡ Some session)
     (chosen : Some follower ≡ chosen_follower core.states session.region session.tier (call_shard asked))
     (can : CallCanBeDone core.settings core.sessions asked) where
@@ -98,8 +114,9 @@ module _ (tells : Bool) (keepers : KeeperState) (core : CoreState) (of : IsCoreO
       → AddsPlan number (begun_plan core.settings session follower asked) core.plans added → IsCoreOf tells keepers.told (record core { plans = added })
   begun_core number added free adds =
       let plan : HeldPlan = begun_plan core.settings session follower asked in
-      let within = session_placed core.settings core.sessions (call_session asked) session of.is_consistent.sessions found in
-      let under = begun_under_way tells keepers core session follower asked of within chosen can in record {
+      let is = session_is (IsSessionOf tells core.settings keepers.told (pens_of core.fleet.masters)) core.sessions (call_session asked) session
+      of.is_consistent.sessions found in
+      let under = begun_under_way tells keepers core session follower asked of is chosen can in record {
         is_consistent = with_plans tells keepers.told core added of.is_consistent;
         plans = plans_set tells core.settings keepers.told keepers.told core.fleet core.fleet number None (Some plan) core.plans added of.plans free adds.sets
             (begun_steps core.settings session follower asked core.fleet.followers) (goes_self core.fleet)
@@ -107,15 +124,31 @@ module _ (tells : Bool) (keepers : KeeperState) (core : CoreState) (of : IsCoreO
             (λ other same.
             subst (λ x. IsUnderWay tells core.settings keepers.told core.fleet x × IsSome (next_stage x)) (one_some plan other same)
             (under, begun_goes core.settings session follower asked));
+        authors = set_each number (Some plan) core.plans added (IsOfSession core.sessions) adds.sets
+            (λ other same. subst (IsOfSession core.sessions) (one_some plan other same) (begun_author core.settings core.sessions session follower asked
+            (open_found core.sessions (call_session asked) session found)))
+            of.authors;
       }
 
 -- ---- its first stage
 
-looked_reply : (look : Look) (p : Reading) (region : ℕ) → EndsAt (after_look false look) p (Refused (Node (NoServer region))) → ⊥
-looked_reply (Hit answer version) p region h = absurd (cc)
-looked_reply Miss p region h = h
+looked_reply : (critical : Bool) (look : Look) (p : Reading) (region : ℕ) → EndsAt (after_look critical look) p (Refused (Node (NoServer region))) → ⊥
+looked_reply true look p region h = h
+looked_reply false (Hit answer version) p region h = absurd (cc)
+looked_reply false Miss p region h = h
 
-module _ (tells : Bool) (s : Settings) (by : NodeName) (session : OpenSession) (follower : NodeName) (old new : Posting) (region : ℕ) where
+look_served : (s : Settings) (critical : Bool) (p q : Reading) (old new : Scene) (region : ℕ) → DoesLook s critical p old q new
+    → EndsWith q (Refused (Node (NoServer region))) → ⊥
+look_served s false p q old new region (inl looks) over =
+    looked_reply p.critical looks.look q region (subst (λ (r : Reading). EndsAt r.at q (Refused (Node (NoServer region)))) looks.then over)
+look_served s false p q old new region (inr vain) over =
+    let ended : Refused (Node (NoServer region)) ≡ Refused (Memory 0) =
+    subst (λ (r : Reading). EndsAt r.at q (Refused (Node (NoServer region)))) vain.then over in
+    absurd (cc)
+look_served s true p q old new region looks over =
+    looked_reply p.critical Miss q region (subst (λ (r : Reading). EndsAt r.at q (Refused (Node (NoServer region)))) looks.then over)
+
+module _ (tells : Bool) (s : Settings) (by : NodeName) (session : Session) (follower : NodeName) (old new : Posting) (region : ℕ) where
   -- no stage is refused for want of a server
   served : (asked : CheckedCall) (after : HeldPlan) → StepsHeld tells s by (begun_plan s session follower asked) old after new
       → IsOver after (Refused (Node (NoServer region))) → ⊥
@@ -130,23 +163,19 @@ module _ (tells : Bool) (s : Settings) (by : NodeName) (session : OpenSession) (
       let p : Plan = new_plan write.write (Client write.session write.seq) session.region session.tier follower in
       subst (λ reply. RefusesCommit tells s (way_by by p) (call_by p) reply old new) same refuses.refuses
   served (call.Read read) (held.Write q) steps over = steps
-  served (call.Read read) (held.Read q) steps over = elim steps.steps.does [
-    | inl looks ↦ looked_reply looks.look q region (subst (λ (r : Reading). EndsAt r.at q (Refused (Node (NoServer region)))) looks.then over)
-    | inr vain ↦
-        let ended : Refused (Node (NoServer region)) ≡ Refused (Memory 0) =
-        subst (λ (r : Reading). EndsAt r.at q (Refused (Node (NoServer region)))) vain.then over in
-        absurd (cc)
-  ]
+  served (call.Read read) (held.Read q) steps over =
+      look_served s read.critical (begun_read s read.query session.region session.tier (call_floor session (call.Read read)) read.critical follower) q
+      old.scene new.scene region steps.steps.does over
 
 told_refused : (number region : ℕ) (ended : Reply) → Refused (Node (NoServer region)) ≡ told_by number ended → ended ≡ Refused (Node (NoServer region))
 told_refused number region (Called reply) h = absurd (cc)
 told_refused number region reply h = sym h
 
-leaves_served : (number region : ℕ) (after : HeldPlan) (next : Option Stage) (plans later : Plans) → (IsOver after (Refused (Node (NoServer region))) → ⊥)
-    → Leaves word.Hold number after next (Refused (Node (NoServer region))) plans later → ⊥
-leaves_served number region after (Some stage) plans later served leaves = (let told = leaves.0 in absurd (cc))
-leaves_served number region after None plans later served leaves =
-    served (subst (IsOver after) (told_refused number region leaves.0 leaves.2) leaves.1)
+leaves_served : (number region : ℕ) (after : HeldPlan) (next : Option Stage) (was now : Held) → (IsOver after (Refused (Node (NoServer region))) → ⊥)
+    → Leaves word.Hold number after next was (Refused (Node (NoServer region))) now → ⊥
+leaves_served number region after (Some stage) was now never leaves = (let told = leaves.told in absurd (cc))
+leaves_served number region after None was now never leaves =
+    never (subst (IsOver after) (told_refused number region leaves.ended leaves.told) leaves.over)
 
 module _ (tells : Bool) (number region : ℕ) (asked : CheckedCall) (old new : Moment) where
   went_served : HoldGoes tells number asked old (Refused (Node (NoServer region))) new → ⊥
@@ -156,7 +185,7 @@ module _ (tells : Bool) (number region : ℕ) (asked : CheckedCall) (old new : M
       let same : goes.steps.before ≡ plan = one_some goes.steps.before plan (sym goes.steps.stands ∙ there) in
       let start : Moment = record old { core = record old.core { plans = goes.added } } in
       let leader : NodeName = plan_leader start.core goes.steps.before in
-      leaves_served number region goes.steps.after (next_stage goes.steps.after) goes.added new.core.plans
+      leaves_served number region goes.steps.after (next_stage goes.steps.after) (held_in start.core) (held_in new.core)
       (served tells old.core.settings leader goes.session goes.follower (posting_of start) (posting_of new) region asked goes.steps.after
       (subst (λ p. StepsHeld tells old.core.settings leader p (posting_of start) goes.steps.after (posting_of new)) same goes.steps.steps))
       goes.steps.leaves
@@ -167,3 +196,70 @@ pub hold_went : (tells : Bool) (number : ℕ) (asked : CheckedCall) (old : Momen
 hold_went tells number asked old (Refused (Node (NoServer region))) new goes = absurd (went_served tells number region asked old new goes)
 hold_went tells number asked old (Refused (Memory position)) new goes = inr goes
 hold_went tells number asked old reply new goes = goes
+
+-- ---- what `hold` finds
+
+-- the session of a call, at a place, and the floor of its call
+pub record IsFound (sessions : List Session) (asked : CheckedCall) (place : OpenSession) (floor : ℕ) : Type 0 where
+  pub session : Session
+  pub found : session_at sessions (call_session asked) ≡ Some session
+  pub place_is : place ≡ place_of session
+  pub floor_is : floor ≡ call_floor session asked
+
+some_at : {X : Type 0} (P : X → Type 0) (o : Option X) (x : X) → IsSomeAnd o P → o ≡ Some x → P x
+some_at P None x h at = absurd h
+some_at P (Some y) x h at = subst P (one_some y x at) h
+
+pub found_for : (sessions : List Session) (number : ℕ) (asked : CheckedCall) (place : OpenSession) (floor : ℕ) → number ≡ call_session asked
+    → IsSomeAnd (session_at sessions number) (λ s. place ≡ place_of s)
+    → IsSomeAnd (session_at sessions (call_session asked)) (λ s. floor ≡ call_floor s asked) → IsFound sessions asked place floor
+found_for sessions number asked place floor same at_place at_floor =
+    let one = some_there (λ s. place ≡ place_of s) (session_at sessions number) at_place in
+    let found : session_at sessions (call_session asked) ≡ Some one.0 = subst (λ n. session_at sessions n ≡ Some one.0) same one.1 in
+    record {
+      session = one.0;
+      found = found;
+      place_is = one.2;
+      floor_is = some_at (λ s. floor ≡ call_floor s asked) (session_at sessions (call_session asked)) one.0 at_floor found;
+    }
+
+-- who is chosen for its place
+pub chosen_for : (core : CoreState) (asked : CheckedCall) (place : OpenSession) (session : Session) (follower : Option NodeName) (shard : ℕ)
+    → place ≡ place_of session → shard ≡ call_shard asked → follower ≡ chosen_follower core.states place.region place.tier shard
+    → follower ≡ chosen_follower core.states session.region session.tier (call_shard asked)
+chosen_for core asked place session follower shard is at chosen =
+    subst (λ (o : OpenSession). follower ≡ chosen_follower core.states o.region o.tier (call_shard asked)) is
+    (subst (λ n. follower ≡ chosen_follower core.states place.region place.tier n) at chosen)
+
+-- none could be
+pub none_found : (tells : Bool) (number : ℕ) (old : Moment) (asked : CheckedCall) (place : OpenSession) (called shard : ℕ) → called ≡ call_session asked
+    → IsSomeAnd (session_at old.core.sessions called) (λ s. place ≡ place_of s) → shard ≡ call_shard asked
+    → None ≡ chosen_follower old.core.states place.region place.tier shard
+    → AnswersHold tells number asked old (Refused (Node (NoServer place.region))) old
+none_found tells number old asked place called shard same at_place at none =
+    let one = some_there (λ s. place ≡ place_of s) (session_at old.core.sessions called) at_place in
+    record {
+      session = one.0;
+      found = subst (λ n. session_at old.core.sessions n ≡ Some one.0) same one.1;
+      region_is = ap (λ (o : OpenSession). o.region) one.2;
+      none = sym (chosen_for old.core asked place one.0 None shard one.2 at none);
+      same = refl;
+    }
+
+-- memory was wanting, and nothing changed
+pub want_found : (tells : Bool) (number : ℕ) (asked : CheckedCall) (core : CoreState) (sessions : List Session) (plans : Plans) (keepers : KeeperState)
+    (link : LinkShown) (reply : Reply) → sessions ≡ core.sessions → plans ≡ core.plans → reply ≡ Refused (Memory 0)
+    → AnswersHold tells number asked (moment core keepers link) reply (moment (record core { sessions = sessions; plans = plans }) keepers link)
+want_found tells number asked core sessions plans keepers link reply same held is =
+    subst (λ r. AnswersHold tells number asked (moment core keepers link) r (moment (record core { sessions = sessions; plans = plans }) keepers link))
+    (sym is) (inl (record {
+      position_is = refl;
+      same = ap (λ xs. moment (record core { sessions = xs; plans = plans }) keepers link) same
+          ∙ ap (λ ps. moment (record core { plans = ps }) keepers link) held;
+    }))
+
+pub core_same : (tells : Bool) (tables : Tables) (core : CoreState) (sessions : List Session) (plans : Plans) → sessions ≡ core.sessions
+    → plans ≡ core.plans → IsCoreOf tells tables core → IsCoreOf tells tables (record core { sessions = sessions; plans = plans })
+core_same tells tables core sessions plans same held of =
+    subst (λ xs. IsCoreOf tells tables (record core { sessions = xs; plans = plans })) (sym same)
+    (subst (λ ps. IsCoreOf tells tables (record core { plans = ps })) (sym held) of)

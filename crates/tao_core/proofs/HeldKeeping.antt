@@ -1,6 +1,6 @@
 -- A core whose held plan did a stage, or took one more, may be used.
-use Rattle.std.proofs.Common.{◌≡◌, ◌⊎◌, ◌<◌, ◌+◌, ℕ, Bool, true, false, length, Option, Some, None, refl, ap, sym, ◌∙◌, subst, inl, inr, arith}
-use Rattle.std.specs.Prelude.{◌==◌, IfSome, IsSome, IsTrue, if◌then◌else◌, option_and_then}
+use Rattle.std.proofs.Common.{◌≡◌, ℕ, Bool, true, false, List, Option, Some, None, refl, ap, sym, ◌∙◌, subst, inl, inr, arith}
+use Rattle.std.specs.Prelude.{◌==◌, All, IfSome, IsSome, IsTrue, if◌then◌else◌, option_and_then}
 use Rattle.std.proofs.lemmas.Bool.{cases_Bool, eq-eqb, eqb-true}
 use Rattle.core_mail.specs.Inboxes.{AreInboxesOf, Inboxes}
 use Rattle.core_model.specs.Consistent.{GoesOn, IsConsistent}
@@ -27,9 +27,11 @@ use Rattle.core_plans.specs.Held.{
   next_stage,
   plan_at,
   plan_count,
+  told_with,
 }
 use Rattle.core_plans.specs.declared.held.HeldPlan.{HeldPlan}
 use Rattle.core_plans.specs.declared.held.HeldPlan.TheVariants.{Read, Write}
+use Rattle.core_sessions.specs.Sessions.{Session}
 use Rattle.core_steps.specs.Routes.{scene}
 use Rattle.core_steps.specs.Writes.{posting}
 use Rattle.graph_model.proofs.Members.{if_some_at}
@@ -44,14 +46,17 @@ use Rattle.tao_keeper.specs.Table.{Tables}
 use Rattle.tao_link.specs.Shown.{LinkShown}
 use Rattle.topology.specs.Choices.{master_region}
 use Rattle.topology.specs.Config.{Settings}
-use Rattle.topology.specs.States.{NodeStates, is_cache}
+use Rattle.topology.specs.States.{is_cache}
+use Rattle.words.specs.declared.PlanWord.{PlanWord}
 use Rattle.tao_core.specs.Calls.{posting_of}
-use Rattle.tao_core.specs.Core.{CoreState, IsConsistentCore, IsCoreOf, Moment, moment}
-use Rattle.tao_core.specs.HeldCalls.{DoesStage, EndsPlan, IsOfRegion, next_at, plan_leader}
+use Rattle.tao_core.specs.Core.{CoreState, IsConsistentCore, IsCoreOf, IsOfSession, IsSessionOf, Moment, moment}
+use Rattle.tao_core.specs.HeldCalls.{DoesStage, EndsPlan, IsOfRegion, Leaves, LearnsOf, StepsAt, held, held_in, next_at, plan_leader}
+use Rattle.tao_core.proofs.HeldLearning.{author_stays, learns_ours, of_session_still}
 use Rattle.tao_core.proofs.HeldOn.{plan_later}
 use Rattle.tao_core.proofs.HeldSteps.{MayHold, StepsAsks, held_after, kept, steps_asks}
 use Rattle.tao_core.proofs.Reaching.{held_reaches}
 use Rattle.tao_core.proofs.NamesOnce.{stand_alone}
+use Rattle.tao_core.proofs.Told.{sessions_later}
 use Rattle.tao_core.proofs.Ways.{leads_at, region_within}
 
 -- ---- one plan is set
@@ -66,6 +71,15 @@ set_other number other held old new sets differs = sets other ∙ ap (λ b. if b
 pub set_here : (number : ℕ) (held : Option HeldPlan) (old new : Plans) → SetsPlan number held old new → plan_at new number ≡ held
 set_here number held old new sets = set_same number number held old new sets (eq-eqb number number refl)
 
+-- what holds of the plan that was set, and of those that were there, holds of each
+pub set_each : (number : ℕ) (held : Option HeldPlan) (old new : Plans) (P : HeldPlan → Type 0) → SetsPlan number held old new
+    → ((plan : HeldPlan) → held ≡ Some plan → P plan) → ((other : ℕ) (plan : HeldPlan) → plan_at old other ≡ Some plan → P plan)
+    → (other : ℕ) (plan : HeldPlan) → plan_at new other ≡ Some plan → P plan
+set_each number held old new P sets mine others other plan there = elim (cases_Bool (other == number)) [
+  | inl same ↦ mine plan (sym (set_same number other held old new sets same) ∙ there)
+  | inr differs ↦ others other plan (sym (set_other number other held old new sets differs) ∙ there)
+]
+
 -- an ask that a plan holds was given
 had : (tells : Bool) (s : Settings) (tables : Tables) (f : Fleet) (plans : Plans) (plan : ℕ) (found : Option HeldPlan) (name : NodeName) (number : ℕ)
     → ArePlansOf tells s tables f plans → plan_at plans plan ≡ found → HoldsAsk name number found → (key : Key) × HasAsk name number key f.followers
@@ -78,13 +92,9 @@ had tells s tables f plans plan (Some (Read p)) name number are at holds =
 
 module _ (tells : Bool) (s : Settings) (before later : Tables) (f g : Fleet) (number : ℕ) (was held : Option HeldPlan) (old new : Plans)
     (are : ArePlansOf tells s before f old) (at : plan_at old number ≡ was) (sets : SetsPlan number held old new) where
-  -- what holds of the plan that was set, and of those that were there, holds of each
   each : (P : HeldPlan → Type 0) → ((plan : HeldPlan) → held ≡ Some plan → P plan)
       → ((other : ℕ) (plan : HeldPlan) → plan_at old other ≡ Some plan → P plan) → (other : ℕ) (plan : HeldPlan) → plan_at new other ≡ Some plan → P plan
-  each P mine others other plan there = elim (cases_Bool (other == number)) [
-    | inl same ↦ mine plan (sym (set_same number other held old new sets same) ∙ there)
-    | inr differs ↦ others other plan (sym (set_other number other held old new sets differs) ∙ there)
-  ]
+  each P = set_each number held old new P sets
 
   module _ (steps : StepsAsks was held f.followers g.followers) where
     mine : (name : NodeName) (ask : ℕ) → HoldsAsk name ask held → (plan : ℕ) × HoldsAsk name ask (plan_at new plan)
@@ -173,15 +183,29 @@ with_plans tells tables core plans of = record {
   no_inverse = of.no_inverse;
 }
 
+-- and with other sessions, each of which is one of the core
+pub with_sessions : (tells : Bool) (tables : Tables) (core : CoreState) (plans : Plans) (sessions : List Session) → IsConsistentCore tells tables core
+    → All (IsSessionOf tells core.settings tables (pens_of core.fleet.masters)) sessions
+    → IsConsistentCore tells tables (record core { plans = plans; sessions = sessions })
+with_sessions tells tables core plans sessions of all = record {
+  consistent = of.consistent;
+  mail = of.mail;
+  up = of.up;
+  sessions = all;
+  no_inverse = of.no_inverse;
+}
+
 -- and after a step of one of them
 pub stepped_core : (tells : Bool) (tables later : Tables) (core : CoreState) (fleet : Fleet) (mail : Inboxes) (plans : Plans)
     → IsConsistentCore tells tables core → IsConsistent tells core.settings later fleet → AreInboxesOf core.settings (pens_of fleet.masters) mail
+    → GoesOn core.fleet fleet → MastersGrow tells core.settings tables later
     → IsConsistentCore tells later (record core { fleet = fleet; mail = mail; plans = plans })
-stepped_core tells tables later core fleet mail plans of consistent inboxes = record {
+stepped_core tells tables later core fleet mail plans of consistent inboxes goes grows = record {
   consistent = consistent;
   mail = inboxes;
   up = of.up;
-  sessions = of.sessions;
+  sessions = sessions_later tells core.settings tables later (pens_of core.fleet.masters) (pens_of fleet.masters) core.sessions grows.logs goes.rise
+      of.sessions;
   no_inverse = of.no_inverse;
 }
 
@@ -226,24 +250,40 @@ module _ (tells : Bool) (number : ℕ) (old mid : Moment) (does : DoesStage tell
         (subst (λ n. StepsAsks (Some does.steps.before) (kept n After) old.core.fleet.followers mid.core.fleet.followers) is asks_of) goes grows
         (can_after next later is under)
 
+    author_after : IsOfSession old.core.sessions After
+    author_after =
+        author_stays tells old.core.settings (plan_leader old.core does.plan) does.steps.before After (posting_of old) (posting_of mid) old.core.sessions
+        does.steps.steps (of.authors number does.steps.before does.steps.stands)
+
+    pub author_held : (sessions : List Session) → old.core.sessions ≡ sessions → (other : ℕ) (plan : HeldPlan) → plan_at mid.core.plans other ≡ Some plan
+        → IsOfSession sessions plan
+    author_held sessions same other plan there =
+        subst (λ xs. IsOfSession xs plan) same
+        (set_each number (Some After) old.core.plans mid.core.plans (IsOfSession old.core.sessions) does.steps.changes.sets
+        (λ one is. subst (IsOfSession old.core.sessions) (one_some After one is) author_after) of.authors other plan there)
+
     -- the plan is held before the stage that follows
     pub next_core : (stage : Stage) → next_at mid.core.plans number ≡ Some stage → IsConsistentCore tells mid.keepers.told mid.core
-        → mid.core.settings ≡ old.core.settings → GoesOn old.core.fleet mid.core.fleet
+        → mid.core.settings ≡ old.core.settings → mid.core.sessions ≡ old.core.sessions → GoesOn old.core.fleet mid.core.fleet
         → MastersGrow tells old.core.settings old.keepers.told mid.keepers.told
         → IfSome (plan_at mid.core.plans number) (IsUnderWay tells old.core.settings mid.keepers.told mid.core.fleet)
         → IsCoreOf tells mid.keepers.told mid.core
-    next_core stage next is own goes grows under = record {
+    next_core stage next is own same goes grows under = record {
       is_consistent = is;
       plans = subst (λ s. ArePlansOf tells s mid.keepers.told mid.core.fleet mid.core.plans) (sym own)
           (held_then (Some stage) mid.core.plans mid.keepers.told (sym next_is ∙ next) does.steps.changes.sets goes grows under);
+      authors = author_held mid.core.sessions (sym same);
     }
 
   -- ---- it is over, and was taken out
 
-  module _ (later : Plans) (reply : Reply) (over : next_at mid.core.plans number ≡ None)
-      (ends : IfSome (plan_at mid.core.plans number) (λ plan. EndsPlan number plan mid.core.plans reply later)) where
-    ends_after : EndsPlan number After mid.core.plans reply later
-    ends_after = if_some_at (λ plan. EndsPlan number plan mid.core.plans reply later) (plan_at mid.core.plans number) After ends at_after
+  module _ (later : Plans) (sessions : List Session) (reply : Reply) (over : next_at mid.core.plans number ≡ None)
+      (ends : IfSome (plan_at mid.core.plans number)
+      (λ plan. EndsPlan number plan (held mid.core.plans old.core.sessions) reply (held later sessions))) where
+    ends_after : EndsPlan number After (held mid.core.plans old.core.sessions) reply (held later sessions)
+    ends_after =
+        if_some_at (λ plan. EndsPlan number plan (held mid.core.plans old.core.sessions) reply (held later sessions)) (plan_at mid.core.plans number)
+        After ends at_after
 
     gone : (other : ℕ) → plan_at later other ≡ (if other == number then None else plan_at old.core.plans other)
     gone other = elim (cases_Bool (other == number)) [
@@ -259,16 +299,52 @@ module _ (tells : Bool) (number : ℕ) (old mid : Moment) (does : DoesStage tell
     is_over : next_stage After ≡ None
     is_over = sym next_is ∙ over
 
+    pub ends_here : EndsPlan number After (held_in old.core) reply (held later sessions)
+    ends_here = record { ended = ends_after.ended; over = ends_after.over; told = ends_after.told; takes = takes; learns = ends_after.learns }
+
     pub ends_core : (of : IsCoreOf tells old.keepers.told old.core) → IsConsistentCore tells mid.keepers.told mid.core
-        → mid.core.settings ≡ old.core.settings → GoesOn old.core.fleet mid.core.fleet
+        → mid.core.settings ≡ old.core.settings → mid.core.sessions ≡ old.core.sessions → GoesOn old.core.fleet mid.core.fleet
         → MastersGrow tells old.core.settings old.keepers.told mid.keepers.told
         → IfSome (plan_at mid.core.plans number) (IsUnderWay tells old.core.settings mid.keepers.told mid.core.fleet)
-        → IsCoreOf tells mid.keepers.told (record mid.core { plans = later })
-    ends_core of is own goes grows under = record {
-      is_consistent = with_plans tells mid.keepers.told mid.core later is;
-      plans = subst (λ s. ArePlansOf tells s mid.keepers.told mid.core.fleet later) (sym own)
-          (held_then of None later mid.keepers.told is_over gone goes grows under);
-    }
+        → IsCoreOf tells mid.keepers.told (record mid.core { plans = later; sessions = sessions })
+    ends_core of is own same goes grows under =
+        let here = if_some_at (IsUnderWay tells old.core.settings mid.keepers.told mid.core.fleet) (plan_at mid.core.plans number) After under at_after in
+        record {
+          is_consistent = with_sessions tells mid.keepers.told mid.core later sessions is
+              (learns_ours tells mid.core.settings mid.keepers.told mid.core.fleet After ends_after.ended mid.core.sessions sessions is.consistent.stores
+              (subst (λ s. IsUnderWay tells s mid.keepers.told mid.core.fleet After) (sym own) here)
+              (subst (λ xs. LearnsOf After (told_with ends_after.ended After) xs sessions) (sym same) ends_after.learns) is.sessions);
+          plans = subst (λ s. ArePlansOf tells s mid.keepers.told mid.core.fleet later) (sym own)
+              (held_then of None later mid.keepers.told is_over gone goes grows under);
+          authors = set_each number None mid.core.plans later (IsOfSession sessions) ends_after.takes.sets (λ one is. absurd (cc))
+              (λ other plan there. of_session_still After (told_with ends_after.ended After) old.core.sessions sessions plan ends_after.learns
+              (author_held of old.core.sessions refl other plan there));
+        }
+
+  -- ---- what is replied
+
+  same_plan : does.plan ≡ does.steps.before
+  same_plan = one_some does.plan does.steps.before (sym does.stands ∙ does.steps.stands)
+
+  steps_before : StepsHeld tells old.core.settings (plan_leader old.core does.steps.before) does.steps.before (posting_of old) After (posting_of mid)
+  steps_before =
+      subst (λ p. StepsHeld tells old.core.settings (plan_leader old.core p) does.steps.before (posting_of old) After (posting_of mid)) same_plan
+      does.steps.steps
+
+  pub end_steps : (asked : PlanWord) (later : Plans) (sessions : List Session) (reply : Reply) → next_at mid.core.plans number ≡ None
+      → IfSome (plan_at mid.core.plans number) (λ plan. EndsPlan number plan (held mid.core.plans old.core.sessions) reply (held later sessions))
+      → mid.core ≡ record old.core { fleet = mid.core.fleet; mail = mid.core.mail; plans = mid.core.plans }
+      → StepsAt tells asked number old reply (record mid { core = record mid.core { plans = later; sessions = sessions } })
+  end_steps asked later sessions reply over ends rest = record {
+    before = does.steps.before;
+    after = After;
+    stands = does.steps.stands;
+    steps = steps_before;
+    reaches = does.reaches;
+    leaves = subst (λ n. Leaves asked number After n (held_in old.core) reply (held later sessions)) (sym over ∙ next_is)
+        (ends_here later sessions reply over ends);
+    rest = ap (λ (x : CoreState). record x { plans = later; sessions = sessions }) rest;
+  }
 
 -- ---- a stage is done
 

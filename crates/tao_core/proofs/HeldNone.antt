@@ -30,7 +30,7 @@ none_open f name number empty h =
     let no : false ≡ true = subst (λ (asks : List Ask). list_any (λ (a : Ask). a.number == number) asks ≡ true) one.node.asks h.is_open in
     absurd (cc)
 
-no_plan : (plans : Plans) (number : ℕ) (plan : HeldPlan) → ((n : ℕ) → plan_at plans n ≡ None) → plan_at plans number ≡ Some plan → ⊥
+pub no_plan : (plans : Plans) (number : ℕ) (plan : HeldPlan) → ((n : ℕ) → plan_at plans n ≡ None) → plan_at plans number ≡ Some plan → ⊥
 no_plan plans number plan none at = (let no : None ≡ Some plan = sym (none number) ∙ at in absurd (cc))
 
 pub none_held : (tells : Bool) (s : Settings) (tables : Tables) (f : Fleet) (plans : Plans) → ((number : ℕ) → plan_at plans number ≡ None)

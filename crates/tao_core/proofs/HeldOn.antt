@@ -9,7 +9,7 @@ use Rattle.core_model.specs.Growing.{MastersGrow}
 use Rattle.core_model.specs.Messages.{DeliversAt}
 use Rattle.core_model.specs.Pens.{Rise, pens_of}
 use Rattle.core_nodes.proofs.FleetLemmas.{goes_self}
-use Rattle.core_plans.specs.Held.{ArePlansOf, AsksAreHeld, IsUnderWay, OpensNone, Plans}
+use Rattle.core_plans.specs.Held.{ArePlansOf, AsksAreHeld, IsUnderWay, OpensNone, Plans, plan_at}
 use Rattle.core_plans.specs.HeldWrites.{IsAnswerTo, IsWriteUnderWay, call_by}
 use Rattle.core_plans.specs.declared.held.HeldPlan.{HeldPlan}
 use Rattle.core_plans.specs.declared.held.HeldPlan.TheVariants.{Read, Write}
@@ -35,7 +35,9 @@ use Rattle.tao_keeper.specs.Table.{Tables}
 use Rattle.topology.specs.Config.{Settings}
 use Rattle.write_plan.specs.Plans.{Plan}
 use Rattle.write_plan.specs.declared.committed.Committed.{Committed}
-use Rattle.tao_core.specs.Core.{CoreState, IsConsistentCore, IsCoreOf, StaysHeld}
+use Rattle.tao_core.specs.Core.{CoreState, IsConsistentCore, IsCoreOf, IsOfSession, StaysHeld, author}
+use Rattle.tao_core.proofs.StayOpen.{StayOpen, same_open}
+use Rattle.core_sessions.specs.Sessions.{Session}
 
 -- ---- a write that is held
 
@@ -93,34 +95,43 @@ plans_later tells s before later f g plans on grows are = record {
   asks = asks_still_held plans f.followers g.followers on.opens are.asks;
 }
 
+-- a write of an open session is still one
+pub still_of : (old new : List Session) (plan : HeldPlan) → StayOpen old new → IsOfSession old plan → IsOfSession new plan
+still_of old new (Read p) stay is = tt
+still_of old new (Write p) stay is = stay.stays (author p.origin) is
+
 -- the core may be used, as before
 pub core_goes_on : (tells : Bool) (before later : Tables) (old new : CoreState) → IsCoreOf tells before old → IsConsistentCore tells later new
     → StaysHeld old.fleet new.fleet → MastersGrow tells old.settings before later → new.settings ≡ old.settings → new.plans ≡ old.plans
-    → IsCoreOf tells later new
-core_goes_on tells before later old new of is on grows own same = record {
+    → StayOpen old.sessions new.sessions → IsCoreOf tells later new
+core_goes_on tells before later old new of is on grows own same stay = record {
   is_consistent = is;
   plans = subst (λ s. ArePlansOf tells s later new.fleet new.plans) (sym own)
       (subst (ArePlansOf tells old.settings later new.fleet) (sym same)
       (plans_later tells old.settings before later old.fleet new.fleet old.plans on grows of.plans));
+  authors = λ number plan at. still_of old.sessions new.sessions plan stay
+      (of.authors number plan (subst (λ plans. plan_at plans number ≡ Some plan) same at));
 }
 
 -- no table changed
 pub core_held : (tells : Bool) (before later : KeeperState) (old new : CoreState) → IsCoreOf tells before.told old
     → IsConsistentCore tells later.told new → StaysHeld old.fleet new.fleet → KeepsTables tells before later
-    → new ≡ record old { sessions = new.sessions; fleet = new.fleet; mail = new.mail } → IsCoreOf tells later.told new
+    → new ≡ record old { fleet = new.fleet; mail = new.mail } → IsCoreOf tells later.told new
 core_held tells before later old new of is on stays rest =
     core_goes_on tells before.told later.told old new of is on (stays_masters tells old.settings before later stays) (ap (λ (x : CoreState). x.settings) rest)
-    (ap (λ (x : CoreState). x.plans) rest)
+    (ap (λ (x : CoreState). x.plans) rest) (same_open old.sessions new.sessions (ap (λ (x : CoreState). x.sessions) rest))
 
 -- ---- what opens no ask that stays open
 
--- of what changed only nodes and messages, the sessions are as they were
-pub nodes_alone : (old new : CoreState) → new ≡ record old { fleet = new.fleet; mail = new.mail }
-    → new ≡ record old { sessions = new.sessions; fleet = new.fleet; mail = new.mail }
-nodes_alone old new rest = rest ∙ ap (λ xs. record old { sessions = xs; fleet = new.fleet; mail = new.mail }) (sym (ap (λ (x : CoreState). x.sessions) rest))
-
 pub same_held : (f : Fleet) → StaysHeld f f
 same_held f = record { goes = goes_self f; opens = same_opens_none f.followers f.followers refl }
+
+-- a session was opened
+pub core_opened : (tells : Bool) (tables : Tables) (old : CoreState) (next : List Session) → IsCoreOf tells tables old
+    → IsConsistentCore tells tables (record old { sessions = next }) → MastersGrow tells old.settings tables tables → StayOpen old.sessions next
+    → IsCoreOf tells tables (record old { sessions = next })
+core_opened tells tables old next of is grows stay =
+    core_goes_on tells tables tables old (record old { sessions = next }) of is (same_held old.fleet) grows refl refl stay
 
 pub fleet_stays : (old new : Fleet) → new ≡ old → StaysHeld old new
 fleet_stays old new same = subst (StaysHeld old) (sym same) (same_held old)

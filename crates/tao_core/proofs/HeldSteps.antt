@@ -1,16 +1,15 @@
 -- What the stage of a held plan does to the asks that are open.
-use Rattle.std.proofs.Common.{◌≡◌, ◌⊎◌, ◌≤◌, ◌+◌, ℕ, Bool, true, false, List, Option, Some, None, Ok, Err, refl, ap, sym, ◌∙◌, subst, inl, inr, arith}
-use Rattle.std.specs.Prelude.{⊤, IfSome, IsSome, slice_get, slice_set}
+use Rattle.std.proofs.Common.{◌≡◌, ◌⊎◌, ℕ, Bool, true, false, List, Option, Some, None, Ok, refl, ap, sym, ◌∙◌, subst, inl, inr, arith}
+use Rattle.std.specs.Prelude.{⊤, option_and_then, slice_get, slice_set, unwrap_or}
 use Rattle.cache_items.specs.declared.look.Look.{Look}
 use Rattle.cache_items.specs.declared.look.Look.TheVariants.{Hit, Miss}
 use Rattle.cache_items.specs.Node.{Node}
-use Rattle.core_model.specs.Asks.{IsAskOn}
 use Rattle.core_model.specs.Fleet.{ChangesNode, Fleet, HasAsk, named}
-use Rattle.core_model.specs.Reads.{AfterLook, EndsAsk, KeepsFill, LooksFirst, Wanted}
+use Rattle.core_model.specs.Reads.{AfterLook, AsksAtOnce, EndsAsk, KeepsFill, LooksFirst}
 use Rattle.core_model.specs.declared.named.Named.{Named}
 use Rattle.core_model.proofs.Places.{get_set, one_some}
 use Rattle.core_plans.specs.Held.{HasNoneAt, HoldsAsk, IsOpenAt, OpensFirst, OpensNone, StepsHeld, is_open_ask, next_stage}
-use Rattle.core_plans.specs.HeldReads.{DoesReadStage, KeepsGiven, wanted_by}
+use Rattle.core_plans.specs.HeldReads.{DoesLook, DoesReadStage, KeepsGiven, wanted_by}
 use Rattle.core_plans.specs.HeldWrites.{DoesWriteStage, call_by, way_by}
 use Rattle.core_plans.specs.declared.held.HeldPlan.{HeldPlan}
 use Rattle.core_plans.specs.declared.held.HeldPlan.TheVariants.{Read, Write}
@@ -42,9 +41,15 @@ use Rattle.tao_base.specs.Queries.{query_key}
 use Rattle.tao_base.specs.Writes.{write_shard}
 use Rattle.tao_base.specs.declared.entry.Entry.{Entry}
 use Rattle.tao_base.specs.declared.id.Key.{Key}
+use Rattle.tao_keeper.specs.declared.jobs.Job.{Job}
 use Rattle.tao_schema.specs.Schema.{types_of}
 use Rattle.topology.specs.Config.{Settings}
-use Rattle.write_plan.specs.Plans.{Plan, next_of}
+use Rattle.write_plan.specs.Plans.{Plan, back_stage, job_stage, next_of, next_stage as stage_by}
+use Rattle.write_plan.specs.declared.committed.Committed.{Committed}
+use Rattle.write_plan.specs.declared.progress.OtherEnd.{OtherEnd}
+use Rattle.write_plan.specs.declared.progress.OtherEnd.TheVariants.{Due, Merged, Ended as JobEnded, Open}
+use Rattle.write_plan.specs.declared.progress.WayBack.{WayBack}
+use Rattle.write_plan.specs.declared.progress.WayBack.TheVariants.{Ahead, Relayed, Applied}
 use Rattle.write_plan.specs.declared.stage.WriteStage.{WriteStage}
 use Rattle.write_plan.specs.declared.stage.WriteStage.TheVariants.{Commit, Inverse, End, Relay, Apply, Done}
 use Rattle.tao_core.proofs.NamesOnce.{StandAlone}
@@ -137,9 +142,11 @@ module _ (p : Reading) (old new : Followers) where
   }
 
   -- it had none, and opened one
-  ask_opened : (q : Reading) (types : EdgeTypes) (given : ℕ) → ChangesNode p.follower (LooksFirst types (wanted_by p) Miss (Some given)) old new
+  ask_opened : (Opens : FollowerState → FollowerState → Type 0) (q : Reading) (given : ℕ)
+      → ((from to : FollowerState) → Opens from to → AfterLook (query_key p.query) Miss (Some given) from.node to.node)
+      → ChangesNode p.follower Opens old new
       → p.ask ≡ None → q.follower ≡ p.follower → q.ask ≡ Some given → HasNoneAt q.at q.ask → StepsAsks (Some (Read p)) (Some (Read q)) old new
-  ask_opened q types given change none follower ask first = record {
+  ask_opened Opens q given opens change none follower ask first = record {
     still = λ name number h.
         let at : slice_get (slice_set old change.place (named p.follower change.to)) h.place ≡ Some (named name h.follower) =
         subst (λ xs. slice_get xs h.place ≡ Some (named name h.follower)) change.is h.stands in
@@ -151,7 +158,7 @@ module _ (p : Reading) (old new : Followers) where
           | inr e ↦
               let same_name : p.follower ≡ name = ap (λ n. n.name) e.1 in
               let there = subst (λ (f : FollowerState). is_open_ask number f.node.asks ≡ true) (sym (ap (λ n. n.node) e.1)) h.is_open in
-              elim (misses_open (query_key p.query) (Some given) change.from.node change.to.node change.by.node number there) [
+              elim (misses_open (query_key p.query) (Some given) change.from.node change.to.node (opens change.from change.to change.by) number there) [
                 | inl was ↦ inr (
                   record {
                     place = change.place;
@@ -167,7 +174,7 @@ module _ (p : Reading) (old new : Followers) where
     fresh = λ name number holds. inr (λ key has.
         let one = subst (λ (n : NodeName). HasAsk n number key old) (sym (sym follower ∙ holds.0)) has in
         let le = (one change.place change.from change.first change.stands).given in
-        let next = change.by.node.1 in
+        let next = (opens change.from change.to change.by).1 in
         let same : given ≡ number = one_some given number (sym ask ∙ holds.1) in
         absurd (omega arith));
     may = first;
@@ -183,6 +190,24 @@ looked_first true look ask = tt
 looked_first false (Hit answer version) ask = tt
 looked_first false Miss ask = tt
 
+-- one that goes on, with the ask that it opened, where it did
+missed_asks : (Opens : FollowerState → FollowerState → Type 0) (p : Reading) (ask : Option ℕ) (old new : Followers)
+    → ((from to : FollowerState) → Opens from to → AfterLook (query_key p.query) Miss ask from.node to.node) → p.ask ≡ None
+    → ChangesNode p.follower Opens old new
+    → StepsAsks (Some (Read p)) (held_after (Read (taken (came.Look (Ok Miss)) 0 false (record p { ask = ask })))) old new
+missed_asks Opens p None old new opens none change =
+    let q : Reading = taken (came.Look (Ok Miss)) 0 false (record p { ask = None }) in
+    holds_none (Some (Read p)) (held_after (Read q)) old new
+    (change_opens_none Opens p.follower old new
+    (λ from to by number h. subst (λ (n : Node). is_open_ask number n.asks ≡ true) (opens from to by).1 h) change)
+    (λ name number. no_ask p name number none)
+    (λ name number h. no_ask q name number refl (kept_holds (next_stage (Read q)) (Read q) name number h))
+    (kept_may (next_stage (Read q)) (Read q) (looked_first p.critical Miss None))
+missed_asks Opens p (Some given) old new opens none change =
+    let q : Reading = taken (came.Look (Ok Miss)) 0 false (record p { ask = Some given }) in
+    subst (λ held. StepsAsks (Some (Read p)) held old new) (sym (miss_goes p.critical (Read q)))
+    (ask_opened p old new Opens q given opens change none refl refl (looked_first p.critical Miss (Some given)))
+
 looks_asks : (types : EdgeTypes) (p : Reading) (look : Look) (ask : Option ℕ) (old new : Followers) → p.ask ≡ None
     → ChangesNode p.follower (LooksFirst types (wanted_by p) look ask) old new
     → StepsAsks (Some (Read p)) (held_after (Read (taken (came.Look (Ok look)) 0 false (record p { ask = ask })))) old new
@@ -194,18 +219,8 @@ looks_asks types p (Hit answer version) ask old new none change =
     (λ name number. no_ask p name number none)
     (λ name number h. no_ask q name number gone (kept_holds (next_stage (Read q)) (Read q) name number h))
     (kept_may (next_stage (Read q)) (Read q) (looked_first p.critical (Hit answer version) ask))
-looks_asks types p Miss None old new none change =
-    let q : Reading = taken (came.Look (Ok Miss)) 0 false (record p { ask = None }) in
-    holds_none (Some (Read p)) (held_after (Read q)) old new
-    (change_opens_none (LooksFirst types (wanted_by p) Miss None) p.follower old new
-    (λ from to looks number h. subst (λ (n : Node). is_open_ask number n.asks ≡ true) looks.node.1 h) change)
-    (λ name number. no_ask p name number none)
-    (λ name number h. no_ask q name number refl (kept_holds (next_stage (Read q)) (Read q) name number h))
-    (kept_may (next_stage (Read q)) (Read q) (looked_first p.critical Miss None))
-looks_asks types p Miss (Some given) old new none change =
-    let q : Reading = taken (came.Look (Ok Miss)) 0 false (record p { ask = Some given }) in
-    subst (λ held. StepsAsks (Some (Read p)) held old new) (sym (miss_goes p.critical (Read q)))
-    (ask_opened p old new q types given change none refl refl (looked_first p.critical Miss (Some given)))
+looks_asks types p Miss ask old new none change =
+    missed_asks (LooksFirst types (wanted_by p) Miss ask) p ask old new (λ from to looks. looks.node) none change
 
 asked_goes : (given : LeaderAnswer) (plan : HeldPlan) → kept (stage_named (stage_of (after_ask given))) plan ≡ Some plan
 asked_goes (leader.Filled fill) plan = refl
@@ -247,20 +262,26 @@ module _ (tells : Bool) (s : Settings) (by : NodeName) (p q : Reading) (old new 
       subst Asks (sym on.then) (subst (λ held. StepsAsks (Some (Read p)) held old.fleet.followers new.fleet.followers) (sym over) (ended on.ends))
   over_given (HandedOut version) at on = absurd on
 
-  read_asks : (at : Standing) → p.at ≡ at → HasNoneAt at p.ask → DoesReadStage tells s by at p old q new → Asks q
-  read_asks Looking at none (inl looks) =
+  look_asks : (critical : Bool) → p.ask ≡ None → DoesLook s critical p old q new → Asks q
+  look_asks false none (inl looks) =
       subst Asks (sym looks.then) (looks_asks (types_of s.schema) p looks.look looks.ask old.fleet.followers new.fleet.followers none looks.looks)
-  read_asks Looking at none (inr vain) =
+  look_asks false none (inr vain) =
       subst Asks (sym vain.then)
       (holds_none (Some (Read p)) None old.fleet.followers new.fleet.followers
       (same_opens_none old.fleet.followers new.fleet.followers (ap (λ (x : Scene). x.fleet.followers) vain.same))
       (λ name number. no_ask p name number none) (λ name number h. absurd h) tt)
+  look_asks true none looks =
+      subst Asks (sym looks.then)
+      (missed_asks (AsksAtOnce (query_key p.query) looks.ask) p looks.ask old.fleet.followers new.fleet.followers (λ from to asks. asks.node) none looks.asks)
+
+  read_asks : (at : Standing) → p.at ≡ at → HasNoneAt at p.ask → DoesReadStage tells s by at p old q new → Asks q
+  read_asks Looking at none does = look_asks p.critical none does
   read_asks Asking at none (inl asks) =
       let r : Reading = taken (came.Ask (Ok asks.given)) _ _ p in
       let same : new.fleet.followers ≡ old.fleet.followers = ap (λ (f : Fleet). f.followers) asks.over.rest in
       subst Asks (sym asks.then) (subst (λ held. StepsAsks (Some (Read p)) held old.fleet.followers new.fleet.followers) (sym (asked_goes asks.given (Read r)))
       (ask_stays p old.fleet.followers new.fleet.followers r same refl refl (asked_first asks.given p.ask)))
-  read_asks Asking at none (inr vain) = subst Asks (sym vain.then) (ended vain.vain.ends)
+  read_asks Asking at none (inr vain) = subst Asks (sym vain.then) (ended vain.ends)
   read_asks Mastering at none (inl asks) =
       let r : Reading = taken (came.Master (Ok asks.out)) _ _ p in
       let same : new.fleet.followers ≡ old.fleet.followers = ap (λ (f : Fleet). f.followers) asks.over.same in
@@ -312,6 +333,48 @@ write_opens tells s by End p q old new does = absurd does
 write_opens tells s by Relay p q old new does = absurd does
 write_opens tells s by Done p q old new does = absurd does
 
+-- one that did a stage is past its commit, or over
+back_not : (passed : Option NodeName) (back : WayBack) → back_stage passed back ≡ Commit → ⊥
+back_not None Ahead h = absurd (cc)
+back_not (Some leader) Ahead h = absurd (cc)
+back_not None Relayed h = absurd (cc)
+back_not (Some leader) Relayed h = absurd (cc)
+back_not None Applied h = absurd (cc)
+back_not (Some leader) Applied h = absurd (cc)
+
+after_not : (o : Option Job) (passed : Option NodeName) (job : OtherEnd) (back : WayBack)
+    → unwrap_or (option_and_then (λ _. job_stage job) o) (back_stage passed back) ≡ Commit → ⊥
+after_not None passed job back h = back_not passed back h
+after_not (Some j) passed Due back h = absurd (cc)
+after_not (Some j) passed Merged back h = absurd (cc)
+after_not (Some j) passed JobEnded back h = back_not passed back h
+after_not (Some j) passed (Open why) back h = back_not passed back h
+
+committed_not : (refused : Option Reply) (c : Committed) (job : OtherEnd) (back : WayBack) → stage_by refused (Some c) job back ≡ Commit → ⊥
+committed_not (Some reply) c job back h = absurd (cc)
+committed_not None c job back h = after_not c.wrote.job c.passed job back h
+
+refused_not : (q : Plan) (reply : Reply) → q.refused ≡ Some reply → next_of q ≡ Commit → ⊥
+refused_not q reply is h =
+    let over : Done ≡ Commit = subst (λ r. stage_by r q.committed q.job q.back ≡ Commit) is h in
+    absurd (cc)
+
+has_not : (q : Plan) (c : Committed) → q.committed ≡ Some c → next_of q ≡ Commit → ⊥
+has_not q c is h = committed_not q.refused c q.job q.back (subst (λ o. stage_by q.refused o q.job q.back ≡ Commit) is h)
+
+pub past_commit : (tells : Bool) (s : Settings) (by : NodeName) (at : WriteStage) (p q : Plan) (old new : Posting) → DoesWriteStage tells s by at p old q new
+    → next_of q ≡ Commit → ⊥
+past_commit tells s by Commit p q old new (inl commits) h = has_not q commits.committed (ap (λ (x : Plan). x.committed) commits.then) h
+past_commit tells s by Commit p q old new (inr refuses) h = refused_not q refuses.reply (ap (λ (x : Plan). x.refused) refuses.then) h
+past_commit tells s by Apply p q old new (inl applies) h =
+    has_not q applies.committed (ap (λ (x : Plan). x.committed) applies.then ∙ applies.answered) h
+past_commit tells s by Apply p q old new (inr (inl loses)) h = refused_not q _ (ap (λ (x : Plan). x.refused) loses.then) h
+past_commit tells s by Apply p q old new (inr (inr vain)) h = refused_not q _ (ap (λ (x : Plan). x.refused) vain.then) h
+past_commit tells s by Inverse p q old new does h = absurd does
+past_commit tells s by End p q old new does h = absurd does
+past_commit tells s by Relay p q old new does h = absurd does
+past_commit tells s by Done p q old new does h = absurd does
+
 -- ---- the stage of a plan
 
 pub steps_asks : (tells : Bool) (s : Settings) (by : NodeName) (before after : HeldPlan) (old new : Posting) → StandAlone old.scene.fleet.followers
@@ -321,6 +384,7 @@ steps_asks tells s by (Read p) (Read q) old new alone first steps = read_asks te
 steps_asks tells s by (Write p) (Write q) old new alone first steps =
     holds_none (Some (Write p)) (held_after (Write q)) old.scene.fleet.followers new.scene.fleet.followers
     (write_opens tells s by (next_of p) p q old new steps) (λ name number h. h)
-    (λ name number h. kept_holds (next_stage (Write q)) (Write q) name number h) (kept_may (next_stage (Write q)) (Write q) tt)
+    (λ name number h. kept_holds (next_stage (Write q)) (Write q) name number h)
+    (kept_may (next_stage (Write q)) (Write q) (λ is. absurd (past_commit tells s by (next_of p) p q old new steps is)))
 steps_asks tells s by (Read p) (Write q) old new alone first steps = absurd steps
 steps_asks tells s by (Write p) (Read q) old new alone first steps = absurd steps

@@ -1,5 +1,5 @@
 -- What leaves a core one that may be used.
-use Rattle.std.proofs.Common.{◌≡◌, Bool, List, refl, ap, sym, ◌∙◌, subst}
+use Rattle.std.proofs.Common.{◌≡◌, ◌<◌, Bool, List, length, refl, ap, sym, ◌∙◌, subst, arith}
 use Rattle.std.specs.Prelude.{All, Option}
 use Rattle.cache_items.specs.Node.{Node}
 use Rattle.core_mail.proofs.InboxLemmas.{inboxes_stay}
@@ -7,42 +7,51 @@ use Rattle.core_mail.specs.Inboxes.{AreInboxesOf, Inboxes}
 use Rattle.core_model.specs.Consistent.{GoesOn, IsConsistent, IsFleetOf}
 use Rattle.core_model.specs.Evictions.{ChangesCache, Evicts}
 use Rattle.core_model.specs.Fleet.{Fleet}
-use Rattle.core_model.specs.Pens.{pens_of}
+use Rattle.core_model.specs.Pens.{AreNotesOf, pens_of}
 use Rattle.core_model.specs.Stores.{AreStoresOf}
+use Rattle.core_nodes.proofs.FleetLemmas.{goes_self}
 use Rattle.core_nodes.proofs.StoreLemmas.{seen_stay, sound_same}
+use Rattle.core_sessions.specs.Sessions.{Session, new_session, with_session}
+use Rattle.core_sessions.specs.declared.sessions.OpenSession.{OpenSession}
 use Rattle.graph_model.specs.Told.{WhereTold}
 use Rattle.node_name.specs.declared.NodeName.{NodeName}
 use Rattle.node_name.specs.declared.NodeName.TheVariants.{Store as StoreName_, Leader, Follower}
 use Rattle.replies.specs.declared.nodes.CacheReply.TheVariants.{Evicted}
 use Rattle.replies.specs.declared.nodes.NodeReply.TheVariants.{Cache}
-use Rattle.replies.specs.declared.refusals.Refusal.TheVariants.{Memory}
 use Rattle.replies.specs.declared.reply.Reply.{Reply}
-use Rattle.replies.specs.declared.reply.Reply.TheVariants.{Opened, Refused, Node as AtNode}
+use Rattle.replies.specs.declared.reply.Reply.TheVariants.{Node as AtNode}
+use Rattle.shard_log.specs.View.{View}
 use Rattle.tao_base.specs.declared.id.Key.{Key}
+use Rattle.tao_keeper.proofs.Growing.{growing_laws}
+use Rattle.tao_keeper.specs.Growing.{LogsGrow}
 use Rattle.tao_keeper.specs.Table.{Tables, Stays}
 use Rattle.topology.specs.Config.{Settings}
-use Rattle.tao_core.specs.Core.{CoreState, IsConsistentCore, IsPlacedIn, Moment}
-use Rattle.tao_core.specs.Replies.{AnswersEvict, AnswersOpen}
-use Rattle.tao_core.specs.declared.sessions.OpenSession.{OpenSession}
-use Rattle.tao_core.proofs.Ways.{opened_placed}
+use Rattle.tao_core.specs.Core.{CoreState, IsConsistentCore, IsSessionOf, Moment}
+use Rattle.tao_core.specs.Replies.{AnswersEvict}
+use Rattle.tao_core.proofs.Told.{sessions_later}
+use Rattle.tao_core.proofs.Ways.{with_session_too}
 
 -- ---- a session is opened
 
-sessions_after : (s : Settings) (new : OpenSession) (sessions next : List OpenSession) (reply : Reply) → All (IsPlacedIn s) sessions → IsPlacedIn s new
-    → AnswersOpen new sessions reply next → All (IsPlacedIn s) next
-sessions_after s new sessions next (Opened session) all placed answers = subst (All (IsPlacedIn s)) (sym answers.1) (opened_placed s sessions new all placed)
-sessions_after s new sessions next (Refused (Memory position)) all placed answers = subst (All (IsPlacedIn s)) (sym answers.1) all
-sessions_after s new sessions next reply all placed answers = absurd answers
-
-pub opened_core : (tells : Bool) (tables : Tables) (core : CoreState) (new : OpenSession) (next : List OpenSession) (reply : Reply) → IsConsistentCore tells tables core
-    → IsPlacedIn core.settings new → AnswersOpen new core.sessions reply next → IsConsistentCore tells tables (record core { sessions = next })
-opened_core tells tables core new next reply of placed answers = record {
+-- with notes of the shards' logs it is one of the core
+pub opened_core : (tells : Bool) (tables : Tables) (core : CoreState) (opened : OpenSession) (notes : List View) (next : List Session)
+    → IsConsistentCore tells tables core → opened.region < length core.settings.regions
+    → AreNotesOf (pens_of core.fleet.masters) core.settings.shards notes → next ≡ with_session (new_session opened notes) core.sessions
+    → IsConsistentCore tells tables (record core { sessions = next })
+opened_core tells tables core opened notes next of within are is = record {
   consistent = of.consistent;
   mail = of.mail;
   up = of.up;
-  sessions = sessions_after core.settings new core.sessions next reply of.sessions placed answers;
+  sessions = subst (All (IsSessionOf tells core.settings tables (pens_of core.fleet.masters))) (sym is)
+      (with_session_too (IsSessionOf tells core.settings tables (pens_of core.fleet.masters)) core.sessions (new_session opened notes) of.sessions
+      (record { region = within; notes = are; floors = λ told key. omega arith }));
   no_inverse = of.no_inverse;
 }
+
+-- none was opened
+pub unopened_core : (tells : Bool) (tables : Tables) (core : CoreState) (next : List Session) → IsConsistentCore tells tables core → next ≡ core.sessions
+    → IsConsistentCore tells tables (record core { sessions = next })
+unopened_core tells tables core next of is = subst (λ xs. IsConsistentCore tells tables (record core { sessions = xs })) (sym is) of
 
 -- ---- the nodes and their messages change, and no store
 
@@ -56,29 +65,30 @@ module _ (tells : Bool) (tables : Tables) (core : CoreState) (of : IsConsistentC
     };
     mail = subst (λ ms. AreInboxesOf core.settings (pens_of ms) mail) (sym masters) inboxes;
     up = of.up;
-    sessions = of.sessions;
+    sessions = subst (λ ms. All (IsSessionOf tells core.settings tables (pens_of ms)) core.sessions) (sym masters) of.sessions;
     no_inverse = of.no_inverse;
   }
 
   -- the logs go on, and what waits stays
-  pub going_core : (later : Tables) (fleet : Fleet) → IsConsistent tells core.settings later fleet → GoesOn core.fleet fleet
+  pub going_core : (later : Tables) (fleet : Fleet) → IsConsistent tells core.settings later fleet → GoesOn core.fleet fleet → LogsGrow tells tables later
       → IsConsistentCore tells later (record core { fleet = fleet })
-  going_core later fleet consistent goes = record {
+  going_core later fleet consistent goes grows = record {
     consistent = consistent;
     mail = (inboxes_stay core.settings (pens_of core.fleet.masters) core.mail).rises (pens_of fleet.masters) goes.rise of.mail;
     up = of.up;
-    sessions = of.sessions;
+    sessions = sessions_later tells core.settings tables later (pens_of core.fleet.masters) (pens_of fleet.masters) core.sessions grows goes.rise of.sessions;
     no_inverse = of.no_inverse;
   }
 
   -- messages were sent
   pub written_core : (later : Tables) (fleet : Fleet) (mail : Inboxes) → IsConsistent tells core.settings later fleet
-      → AreInboxesOf core.settings (pens_of fleet.masters) mail → IsConsistentCore tells later (record core { fleet = fleet; mail = mail })
-  written_core later fleet mail consistent inboxes = record {
+      → AreInboxesOf core.settings (pens_of fleet.masters) mail → GoesOn core.fleet fleet → LogsGrow tells tables later
+      → IsConsistentCore tells later (record core { fleet = fleet; mail = mail })
+  written_core later fleet mail consistent inboxes goes grows = record {
     consistent = consistent;
     mail = inboxes;
     up = of.up;
-    sessions = of.sessions;
+    sessions = sessions_later tells core.settings tables later (pens_of core.fleet.masters) (pens_of fleet.masters) core.sessions grows goes.rise of.sessions;
     no_inverse = of.no_inverse;
   }
 
@@ -141,6 +151,7 @@ core_stays tells old new core of stays = record {
   };
   mail = of.mail;
   up = of.up;
-  sessions = of.sessions;
+  sessions = sessions_later tells core.settings old new (pens_of core.fleet.masters) (pens_of core.fleet.masters) core.sessions
+      (growing_laws.stays tells old new stays) (goes_self core.fleet).rise of.sessions;
   no_inverse = of.no_inverse;
 }

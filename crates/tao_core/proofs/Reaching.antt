@@ -1,5 +1,5 @@
 -- What is kept has come as far as its follower's mark.
-use Rattle.std.proofs.Common.{◌≡◌, ℕ, zero, suc, ◌≤◌, ◌<◌, true, Bool, List, [], ◌∷◌, Option, Some, None, refl, ap, sym, ◌∙◌, subst, inl, inr, arith}
+use Rattle.std.proofs.Common.{◌≡◌, ℕ, zero, suc, ◌≤◌, ◌<◌, true, false, Bool, List, [], ◌∷◌, Option, Some, None, refl, ap, sym, ◌∙◌, subst, inl, inr, arith}
 use Rattle.std.specs.Option.{option_map_or}
 use Rattle.std.specs.Prelude.{IsSome, nat_le, slice_get, take, length}
 use Rattle.std.proofs.lemmas.Bool.Decides.{nat_tests}
@@ -18,6 +18,7 @@ use Rattle.core_model.specs.Stores.{master_log}
 use Rattle.core_plans.specs.Held.{IsUnderWay, StepsHeld}
 use Rattle.core_plans.specs.declared.held.HeldPlan.{HeldPlan}
 use Rattle.core_plans.specs.declared.held.HeldPlan.TheVariants as held
+use Rattle.core_steps.specs.CriticalReads.{ReadsCritical}
 use Rattle.core_steps.specs.Reads.{ReadsAlong}
 use Rattle.core_steps.specs.Writes.{Posting}
 use Rattle.core_steps.specs.Routes.{Scene}
@@ -40,7 +41,7 @@ use Rattle.tao_base.specs.declared.query.Query.{Query}
 use Rattle.tao_keeper.specs.Table.{Tables}
 use Rattle.tao_schema.specs.Schema.{types_of}
 use Rattle.topology.specs.Config.{Settings}
-use Rattle.tao_core.specs.Calls.{KeptReaches, ReachesMark}
+use Rattle.tao_core.specs.Calls.{KeptReaches, ReachesMark, ReadsBy}
 use Rattle.tao_core.specs.HeldCalls.{HeldReaches}
 use Rattle.tao_core.proofs.Exact.{log_is}
 
@@ -108,6 +109,22 @@ kept_reaches tells s route read (Called (called.Read reply)) old new reads consi
     (λ place f first at. reads.again told kept place f 0 first at (omega arith))
 kept_reaches tells s route read (Refused refused) old new reads consistent here = tt
 kept_reaches tells s route read reply old new reads consistent here = absurd reads
+
+pub critical_reaches : (tells : Bool) (s : Settings) (follower : NodeName) (read : Wanted) (reply : Reply) (old new : Scene)
+    → ReadsCritical tells s follower read reply old new → IsConsistent tells s new.keepers.told new.fleet → query_shard read.query < s.shards
+    → KeptReaches tells s follower read.query reply new
+critical_reaches tells s follower read (Called (called.Read reply)) old new reads consistent here = λ told kept.
+    reaches_mark tells s follower read.query reply.answer reply.version new told consistent here
+    (λ place f first at. reads.again told kept place f 0 first at (omega arith))
+critical_reaches tells s follower read (Refused refused) old new reads consistent here = tt
+critical_reaches tells s follower read reply old new reads consistent here = absurd reads
+
+pub kept_reaches_by : (critical tells : Bool) (s : Settings) (route : Route) (read : Wanted) (reply : Reply) (old new : Scene)
+    → ReadsBy critical tells s route read reply old new → IsConsistent tells s new.keepers.told new.fleet → query_shard read.query < s.shards
+    → KeptReaches tells s route.follower read.query reply new
+kept_reaches_by false tells s route read reply old new reads consistent here = kept_reaches tells s route read reply old new reads consistent here
+kept_reaches_by true tells s route read reply old new reads consistent here =
+    critical_reaches tells s route.follower read reply old new reads consistent here
 
 -- ---- a read that was held
 

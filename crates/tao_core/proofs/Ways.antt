@@ -1,24 +1,28 @@
 -- The way of a session's call through a core: its follower and its leader may be asked about the shard.
-use Rattle.std.proofs.Common.{◌≡◌, ℕ, ◌<◌, Bool, List, [], ◌∷◌, length, Some, ap, sym, subst, inl, inr, ◌∙◌}
-use Rattle.std.specs.Prelude.{All, find, IsTrue, nat_lt, filter, ◌==◌}
+use Rattle.std.proofs.Common.{◌≡◌, ℕ, ◌<◌, Bool, List, [], ◌∷◌, length, Option, Some, None, refl, ap, sym, subst, inl, inr, ◌∙◌}
+use Rattle.std.specs.Prelude.{All, IsSomeAnd, find, IsTrue, nat_lt, filter, ◌==◌}
 use Rattle.std.specs.List.{AllByRecursion}
 use Rattle.std.proofs.lemmas.Bool.{cases_Bool}
 use Rattle.std.proofs.lemmas.List.{length-map}
 use Rattle.std.proofs.lemmas.List.Elements.{All-append, All-filter, All-from_recursion, recursion_from_All}
 use Rattle.core_model.proofs.Turns.{choices_serve}
 use Rattle.core_model.specs.Fleet.{regions_of}
+use Rattle.core_model.specs.Pens.{Pens, pens_of}
 use Rattle.core_model.specs.Serving.{IsFollowerFor, IsLeaderFor}
+use Rattle.core_sessions.specs.Sessions.{Session, place_of, session_at, with_session}
+use Rattle.core_sessions.specs.declared.sessions.OpenSession.{OpenSession}
+use Rattle.session_pass.specs.Floors.{floor_at}
+use Rattle.std.specs.Option.{option_map}
+use Rattle.tao_base.specs.declared.id.Key.{Key}
 use Rattle.node_name.specs.declared.NodeName.{NodeName}
 use Rattle.tao_keeper.specs.Table.{Tables}
 use Rattle.topology.specs.Choices.{chosen_follower, preferred_leader}
 use Rattle.topology.specs.Counts.{counts_of}
 use Rattle.topology.specs.Config.{Settings}
 use Rattle.topology.specs.States.{NodeStates, is_cache}
-use Rattle.tao_core.specs.Core.{CoreState, IsConsistentCore, IsPlacedIn}
-use Rattle.tao_core.specs.Sessions.{session_at, with_session}
-use Rattle.tao_core.specs.declared.sessions.OpenSession.{OpenSession}
+use Rattle.tao_core.specs.Core.{CoreState, IsConsistentCore, IsSessionOf}
 
--- ---- sessions are of regions
+-- ---- sessions
 
 -- what holds of each is true of the one that is found
 found_too : {X : Type 0} (P : X → Type 0) (test : X → Bool) (xs : List X) (x : X) → AllByRecursion P xs → find test xs ≡ Some x → P x
@@ -31,19 +35,43 @@ found_too P test (y ∷ ys) x all h = elim (cases_Bool (test y)) [
   | inr fails ↦ found_too P test ys x all.1 (rw fails at h)
 ]
 
-pub session_placed : (s : Settings) (sessions : List OpenSession) (number : ℕ) (session : OpenSession) → All (IsPlacedIn s) sessions
-    → session_at sessions number ≡ Some session → session.region < length s.regions
-session_placed s sessions number session all h =
-    found_too (IsPlacedIn s) (λ o. o.session == number) sessions session (recursion_from_All (IsPlacedIn s) sessions all) h
+pub session_is : (P : Session → Type 0) (sessions : List Session) (number : ℕ) (session : Session) → All P sessions
+    → session_at sessions number ≡ Some session → P session
+session_is P sessions number session all h = found_too P (λ o. o.session == number) sessions session (recursion_from_All P sessions all) h
 
-pub opened_placed : (s : Settings) (sessions : List OpenSession) (new : OpenSession) → All (IsPlacedIn s) sessions → IsPlacedIn s new
-    → All (IsPlacedIn s) (with_session new sessions)
-opened_placed s sessions new all placed =
-    let behind = All-filter (λ o. nat_lt new.session o.session) (IsPlacedIn s) sessions all in
-    All-append (IsPlacedIn s) (filter (λ o. nat_lt o.session new.session) sessions) (new ∷ filter (λ o. nat_lt new.session o.session) sessions)
-    (All-filter (λ o. nat_lt o.session new.session) (IsPlacedIn s) sessions all)
-    (All-from_recursion (IsPlacedIn s) (new ∷ filter (λ o. nat_lt new.session o.session) sessions)
-    (placed, recursion_from_All (IsPlacedIn s) (filter (λ o. nat_lt new.session o.session) sessions) behind))
+pub session_placed : (tells : Bool) (s : Settings) (tables : Tables) (pens : Pens) (sessions : List Session) (number : ℕ) (session : Session)
+    → All (IsSessionOf tells s tables pens) sessions → session_at sessions number ≡ Some session → session.region < length s.regions
+session_placed tells s tables pens sessions number session all h =
+    (session_is (IsSessionOf tells s tables pens) sessions number session all h).region
+
+-- and of the one that is opened, if it holds of that
+pub with_session_too : (P : Session → Type 0) (sessions : List Session) (new : Session) → All P sessions → P new → All P (with_session new sessions)
+with_session_too P sessions new all is =
+    let behind = All-filter (λ o. nat_lt new.session o.session) P sessions all in
+    All-append P (filter (λ o. nat_lt o.session new.session) sessions) (new ∷ filter (λ o. nat_lt new.session o.session) sessions)
+    (All-filter (λ o. nat_lt o.session new.session) P sessions all)
+    (All-from_recursion P (new ∷ filter (λ o. nat_lt new.session o.session) sessions)
+    (is, recursion_from_All P (filter (λ o. nat_lt new.session o.session) sessions) behind))
+
+-- the session of a place that was found
+pub record FoundAt (sessions : List Session) (number : ℕ) (place : OpenSession) : Type 0 where
+  pub session : Session
+  pub at : session_at sessions number ≡ Some session
+  pub is : place ≡ place_of session
+
+pub found_at : (sessions : List Session) (number : ℕ) (place : OpenSession)
+    → IsSomeAnd (session_at sessions number) (λ s. place ≡ place_of s) → FoundAt sessions number place
+found_at sessions number place found = by (session_at sessions number) refl found
+  where
+    by : (o : Option Session) → session_at sessions number ≡ o → IsSomeAnd o (λ s. place ≡ place_of s) → FoundAt sessions number place
+    by None at found = absurd found
+    by (Some session) at found = record { session = session; at = at; is = found }
+
+-- its floor
+pub floor_of : (sessions : List Session) (number : ℕ) (session : Session) (key : Key) (floor : ℕ) → session_at sessions number ≡ Some session
+    → Some floor ≡ option_map (λ s. floor_at s.floors key) (session_at sessions number) → floor ≡ floor_at session.floors key
+floor_of sessions number session key floor at is =
+    (let e : Some floor ≡ Some (floor_at session.floors key) = is ∙ ap (option_map (λ (s : Session). floor_at s.floors key)) at in cc)
 
 -- ---- who is asked
 
@@ -75,8 +103,8 @@ module _ (tells : Bool) (tables : Tables) (core : CoreState) (of : IsConsistentC
       subst (λ xs. region < length xs) (sym regions_are) (subst (λ n. region < n) (sym (length-map core.settings.regions counts_of)) within)
 
   -- the region of a session is one of the states
-  pub region_there : (number : ℕ) (session : OpenSession) → session_at core.sessions number ≡ Some session → session.region < length core.states.regions
+  pub region_there : (number : ℕ) (session : Session) → session_at core.sessions number ≡ Some session → session.region < length core.states.regions
   region_there number session found =
-      let within = session_placed core.settings core.sessions number session of.sessions found in
+      let within = session_placed tells core.settings tables (pens_of core.fleet.masters) core.sessions number session of.sessions found in
       subst (λ xs. session.region < length xs) (sym regions_are)
       (subst (λ n. session.region < n) (sym (length-map core.settings.regions counts_of)) within)

@@ -10,7 +10,8 @@ use Rattle.requests.specs.declared.request.Request.{Request}
 use Rattle.requests.specs.declared.request.Request.TheVariants as request
 use Rattle.replies.specs.declared.refusals.LineRefused.TheVariants.{NotBuilt}
 use Rattle.replies.specs.declared.refusals.Refusal.{Refusal}
-use Rattle.replies.specs.declared.refusals.Refusal.TheVariants.{Line, Plan, Session, Memory}
+use Rattle.replies.specs.declared.refusals.Refusal.TheVariants.{Line, Plan, Memory}
+use Rattle.replies.specs.declared.refusals.Refusal.TheVariants as refused
 use Rattle.replies.specs.declared.refusals.PlanRefused.TheVariants.{NoPlan, PlanThere, PlanFull}
 use Rattle.replies.specs.declared.refusals.SessionRefused.TheVariants.{NoSession, SessionThere, SessionFull}
 use Rattle.replies.specs.declared.reply.Reply.{Reply}
@@ -18,6 +19,7 @@ use Rattle.replies.specs.declared.reply.Reply.TheVariants.{Refused}
 use Rattle.core_model.specs.Evictions.{IsCacheOf}
 use Rattle.core_model.specs.Fleet.{follower_names}
 use Rattle.core_plans.specs.Held.{Plans, plan_at, plan_count}
+use Rattle.core_sessions.specs.Sessions.{Session, is_open, most_sessions}
 use Rattle.request_check.specs.Placed.{IsPlacedKey, IsPlacedWrite}
 use Rattle.request_check.specs.Refusal.{named}
 use Rattle.request_check.specs.Requests.{checked_of}
@@ -27,21 +29,14 @@ use Rattle.request_check.specs.declared.checked.CheckedCall.{CheckedCall}
 use Rattle.request_check.specs.declared.checked.CheckedCall.TheVariants as checked_call
 use Rattle.request_check.specs.declared.refusal.CheckRefusal.{CheckRefusal}
 use Rattle.request_check.specs.declared.refusal.CheckRefusal.TheVariants as check
-use Rattle.tao_core.specs.Sessions.{is_open, most_sessions}
-use Rattle.tao_core.specs.declared.sessions.OpenSession.{OpenSession}
 
 -- ---- what is built
 
--- the calls of objects and associations are built, but for critical reads
-abbrev pub is_built_call : Call → Bool
-is_built_call (call.Write write) = true
-is_built_call (call.Read read) = not read.critical
-
--- they are so held or not, and so are `advance`, `open`, `audit` and the words of single cache nodes
+-- the calls of objects and associations are built, held or not, and so are `advance`, `open`, `audit`, `cut`, `mend` and the words of single cache nodes
 abbrev pub is_built : Request → Bool
 is_built (request.Open opening) = true
-is_built (request.Call asked) = is_built_call asked
-is_built (request.Hold plan asked) = is_built_call asked
+is_built (request.Call asked) = true
+is_built (request.Hold plan asked) = true
 is_built (request.Advance plan) = true
 is_built (request.Deliver message) = true
 is_built (request.Again message) = true
@@ -50,6 +45,8 @@ is_built (request.Refill node) = true
 is_built (request.Evict name key) = true
 is_built (request.Show name key) = true
 is_built (request.Inbox node) = true
+is_built (request.Cut link) = true
+is_built (request.Mend link) = true
 is_built (request.Audit read) = true
 is_built other = false
 
@@ -86,17 +83,17 @@ session_of (call.Write write) = write.session
 session_of (call.Read read) = read.session
 
 -- a call is of an open session
-abbrev pub open_session : List OpenSession → ℕ → Result ⊤ Refusal
-open_session sessions session = refused_unless (Session (NoSession session)) (is_open sessions session)
+abbrev pub open_session : List Session → ℕ → Result ⊤ Refusal
+open_session sessions session = refused_unless (refused.Session (NoSession session)) (is_open sessions session)
 
 -- a session that is to be opened isn't open yet, and there is room for one
-abbrev pub new_session : List OpenSession → ℕ → Result ⊤ Refusal
+abbrev pub new_session : List Session → ℕ → Result ⊤ Refusal
 new_session sessions session = do
-  new ← refused_unless (Session (SessionThere session)) (not (is_open sessions session))
-  refused_unless (Session (SessionFull (length sessions))) (nat_lt (length sessions) most_sessions)
+  new ← refused_unless (refused.Session (SessionThere session)) (not (is_open sessions session))
+  refused_unless (refused.Session (SessionFull (length sessions))) (nat_lt (length sessions) most_sessions)
 
 -- nothing but calls, held or not, and `open` names a session
-abbrev pub session_for : List OpenSession → Request → Result ⊤ Refusal
+abbrev pub session_for : List Session → Request → Result ⊤ Refusal
 session_for sessions (request.Call asked) = open_session sessions (session_of asked)
 session_for sessions (request.Hold plan asked) = open_session sessions (session_of asked)
 session_for sessions (request.Open opening) = new_session sessions opening.session
@@ -105,25 +102,25 @@ session_for sessions other = Ok tt
 -- ---- requests
 
 -- what isn't built is refused first, then a plan, and then a session
-abbrev pub admitted : List OpenSession → Plans → Request → Result ⊤ Refusal
+abbrev pub admitted : List Session → Plans → Request → Result ⊤ Refusal
 admitted sessions plans asked = do
   built ← refused_unless (not_built asked) (is_built asked)
   held ← plan_for plans asked
   session_for sessions asked
 
 -- what the request asks, with places in place of names
-abbrev pub asked_of : Settings → List OpenSession → Plans → Request → Result Checked Refusal
+abbrev pub asked_of : Settings → List Session → Plans → Request → Result Checked Refusal
 asked_of s sessions plans asked = do
   there ← admitted sessions plans asked
   named (checked_of s asked)
 
--- a call is of a configured shard and an open session; a read is none that is critical
-abbrev pub CallCanBeDone : Settings → List OpenSession → CheckedCall → Type 0
+-- a call is of a configured shard and an open session
+abbrev pub CallCanBeDone : Settings → List Session → CheckedCall → Type 0
 CallCanBeDone s sessions (checked_call.Write call) = IsPlacedWrite s call.write × (is_open sessions call.session ≡ true)
-CallCanBeDone s sessions (checked_call.Read call) = IsPlacedKey s (query_key call.query) × (is_open sessions call.session ≡ true) × (call.critical ≡ false)
+CallCanBeDone s sessions (checked_call.Read call) = IsPlacedKey s (query_key call.query) × (is_open sessions call.session ≡ true)
 
 -- what is asked is one of what is built, each shard, key and node is configured, and a session that is to be opened isn't open, and is of a region
-abbrev pub CanBeDone : Settings → List OpenSession → Plans → Checked → Type 0
+abbrev pub CanBeDone : Settings → List Session → Plans → Checked → Type 0
 CanBeDone s sessions plans (checked.Open session region tier) = (is_open sessions session ≡ false) × (region < length s.regions)
 CanBeDone s sessions plans (checked.Call asked) = CallCanBeDone s sessions asked
 CanBeDone s sessions plans (checked.Hold plan asked) = (plan_at plans plan ≡ None) × CallCanBeDone s sessions asked
@@ -135,6 +132,8 @@ CanBeDone s sessions plans (checked.Refill node) = Contains (follower_names s) n
 CanBeDone s sessions plans (checked.Evict node key) = IsCacheOf s node
 CanBeDone s sessions plans (checked.Show node key) = IsCacheOf s node
 CanBeDone s sessions plans (checked.Inbox node) = IsCacheOf s node
+CanBeDone s sessions plans (checked.Cut link) = ⊤
+CanBeDone s sessions plans (checked.Mend link) = ⊤
 CanBeDone s sessions plans (checked.Audit asked) = IsPlacedKey s (query_key asked.query)
 CanBeDone s sessions plans other = ⊥
 

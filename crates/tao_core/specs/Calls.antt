@@ -1,12 +1,15 @@
 -- What the reply to a session's call says.
-use Rattle.std.specs.Prelude.{ℕ, ◌≡◌, ◌≤◌, ⊤, Bool, Some, None, slice_get, take}
+use Rattle.std.specs.Prelude.{ℕ, ◌≡◌, ◌≤◌, ⊤, Bool, true, false, List, Option, Some, None, Result, Ok, Err, slice_get, take}
 use Rattle.core_model.specs.Fleet.{IsFirstAt, named}
-use Rattle.core_model.specs.Reads.{wanted}
+use Rattle.core_model.specs.Reads.{Wanted, wanted}
 use Rattle.core_model.specs.Stores.{master_log}
+use Rattle.core_sessions.specs.Sessions.{Session, SessionLearns, session_at}
+use Rattle.core_steps.specs.CriticalReads.{ReadsCritical}
 use Rattle.core_steps.specs.Reads.{ReadsAlong}
 use Rattle.core_steps.specs.Routes.{Scene, scene}
 use Rattle.core_steps.specs.Writes.{ClientWrite, Posting, WritesAlong, client_call, posting}
 use Rattle.core_steps.specs.declared.routes.Route.{Route}
+use Rattle.core_steps.specs.declared.writes.CarriedOut.{CarriedOut}
 use Rattle.follower_cache.specs.Seen.{FollowerState}
 use Rattle.graph_model.specs.Log.{version}
 use Rattle.graph_model.specs.Told.{WhereTold}
@@ -20,16 +23,17 @@ use Rattle.replies.specs.declared.reply.Reply.TheVariants.{Called, Refused}
 use Rattle.request_check.specs.declared.checked.CheckedRead.{CheckedRead}
 use Rattle.request_check.specs.declared.checked.CheckedWrite.{CheckedWrite}
 use Rattle.served_shards.specs.Served.{low_at}
+use Rattle.session_pass.specs.Floors.{floor_at}
+use Rattle.shard_log.specs.View.{View}
 use Rattle.tao_base.specs.Queries.{query_key, query_shard}
 use Rattle.tao_base.specs.Writes.{write_shard}
 use Rattle.tao_base.specs.declared.query.Query.{Query}
+use Rattle.tao_base.specs.declared.entry.Entry.{Entry}
 use Rattle.tao_base.specs.declared.entry.Origin.TheVariants.{Client}
 use Rattle.tao_keeper.specs.KeeperState.{KeepsTables}
 use Rattle.topology.specs.Config.{Settings}
 use Rattle.topology.specs.Choices.{chosen_follower, master_region, preferred_leader}
 use Rattle.tao_core.specs.Core.{CoreState, Moment}
-use Rattle.tao_core.specs.Sessions.{session_at}
-use Rattle.tao_core.specs.declared.sessions.OpenSession.{OpenSession}
 
 -- the nodes of a core, with what is shown to them
 abbrev pub scene_of : Moment → Scene
@@ -42,13 +46,13 @@ posting_of m = posting (scene_of m) m.core.mail m.core.states
 -- ---- the way of a call
 
 -- a session's follower of a shard is the one that is chosen for it, and its leader the one that a region prefers
-pub record IsRoute (core : CoreState) (session : OpenSession) (region shard : ℕ) (route : Route) : Type 0 where
+pub record IsRoute (core : CoreState) (session : Session) (region shard : ℕ) (route : Route) : Type 0 where
   pub follower : chosen_follower core.states session.region session.tier shard ≡ Some route.follower
   pub leader : route.leader ≡ preferred_leader core.states region shard
 
 -- the session of that number is open, and no follower of its region can be chosen for the shard
 pub record FindsNoServer (old : Moment) (number shard region : ℕ) (new : Moment) : Type 0 where
-  pub session : OpenSession
+  pub session : Session
   pub found : session_at old.core.sessions number ≡ Some session
   pub region_is : region ≡ session.region
   pub none : chosen_follower old.core.states session.region session.tier shard ≡ None
@@ -67,13 +71,22 @@ abbrev pub KeptReaches : Bool → Settings → NodeName → Query → Reply → 
 KeptReaches tells s name query (Called (called.Read reply)) new = WhereTold tells (reply.kept ≡ Kept → ReachesMark s name query reply.version new)
 KeptReaches tells s name query reply new = ⊤
 
--- the session is open, and its read goes to its follower, and from there to the leader of its region
+-- a read at a floor goes along its route; where it is critical, its follower asks the master's store at once
+abbrev pub ReadsBy : Bool → Bool → Settings → Route → Wanted → Reply → Scene → Scene → Type 0
+ReadsBy false tells s route read reply old new = ReadsAlong tells s route read reply old new
+ReadsBy true tells s route read reply old new = ReadsCritical tells s route.follower read reply old new
+
+-- what is asked in a session, at its floor of the query's key
+abbrev pub wanted_in : Session → Query → Wanted
+wanted_in session query = wanted query (floor_at session.floors (query_key query))
+
+-- the session is open, and its read at its floor goes to its follower, and from there to the leader of its region, or to the master's store
 pub record ReadGoes (tells : Bool) (old : Moment) (call : CheckedRead) (reply : Reply) (new : Moment) : Type 0 where
-  pub session : OpenSession
+  pub session : Session
   pub route : Route
   pub found : session_at old.core.sessions call.session ≡ Some session
   pub way : IsRoute old.core session session.region (query_shard call.query) route
-  pub reads : ReadsAlong tells old.core.settings route (wanted call.query 0) reply (scene_of old) (scene_of new)
+  pub reads : ReadsBy call.critical tells old.core.settings route (wanted_in session call.query) reply (scene_of old) (scene_of new)
   pub reaches : KeptReaches tells old.core.settings route.follower call.query reply (scene_of new)
 
 abbrev pub RepliesToRead : Bool → Moment → CheckedRead → Reply → Moment → Type 0
@@ -92,19 +105,40 @@ pub record AnswersRead (tells : Bool) (old : Moment) (call : CheckedRead) (reply
 abbrev pub client_write_of : CheckedWrite → ClientWrite
 client_write_of call = client_call (Client call.session call.seq) call.write
 
--- the session is open, and its write goes to its follower, and from there to the leader of the shard's master region
+-- the session of that number learns an entry of the shard's log, where there is one, with a note, and nothing else is learnt
+abbrev pub LearnsSeeing : View → ℕ → ℕ → Option Entry → List Session → List Session → Type 0
+LearnsSeeing note number shard None old new = new ≡ old
+LearnsSeeing note number shard (Some entry) old new = SessionLearns number shard entry note old new
+
+abbrev pub Learns : ℕ → ℕ → Option Entry → List Session → List Session → Type 0
+Learns number shard entry old new = (note : View) × LearnsSeeing note number shard entry old new
+
+-- the entry of a write that was carried out
+abbrev pub entry_of : Result CarriedOut Reply → Option Entry
+entry_of (Ok done) = done.entry
+entry_of (Err reply) = None
+
+-- how what came of a write is replied
+abbrev pub written_as : Result CarriedOut Reply → Reply
+written_as (Ok done) = Called (called.Write done.reply)
+written_as (Err reply) = reply
+
+-- the session is open, and its write goes to its follower, and from there to the leader of the shard's master region. It learns what it wrote
 pub record WriteGoes (tells : Bool) (old : Moment) (call : CheckedWrite) (reply : Reply) (new : Moment) : Type 0 where
-  pub session : OpenSession
+  pub session : Session
   pub route : Route
   pub found : session_at old.core.sessions call.session ≡ Some session
   pub way : IsRoute old.core session (master_region old.core.states (write_shard call.write)) (write_shard call.write) route
-  pub writes : WritesAlong tells old.core.settings route (client_write_of call) reply (posting_of old) (posting_of new)
+  pub outcome : Result CarriedOut Reply
+  pub reply_is : reply ≡ written_as outcome
+  pub writes : WritesAlong tells old.core.settings route (client_write_of call) outcome (posting_of old) (posting_of new)
+  pub learns : Learns call.session (write_shard call.write) (entry_of outcome) old.core.sessions new.core.sessions
 
 abbrev pub RepliesToWrite : Bool → Moment → CheckedWrite → Reply → Moment → Type 0
 RepliesToWrite tells old call (Refused (Node (NoServer region))) new = FindsNoServer old call.session (write_shard call.write) region new
 RepliesToWrite tells old call reply new = WriteGoes tells old call reply new
 
--- what the reply to a write says. Nothing of the core but its nodes and their messages changes
+-- what the reply to a write says. Nothing of the core but its nodes, their messages and what its session was told of changes
 pub record AnswersWrite (tells : Bool) (old : Moment) (call : CheckedWrite) (reply : Reply) (new : Moment) : Type 0 where
   pub replies : RepliesToWrite tells old call reply new
-  pub rest : new.core ≡ record old.core { fleet = new.core.fleet; mail = new.core.mail }
+  pub rest : new.core ≡ record old.core { fleet = new.core.fleet; mail = new.core.mail; sessions = new.core.sessions }

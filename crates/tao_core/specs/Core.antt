@@ -1,32 +1,48 @@
 -- What contracts see of a core.
-use Rattle.std.specs.Prelude.{◌≡◌, ◌<◌, List, [], Bool, All, length}
+use Rattle.std.specs.Prelude.{ℕ, ◌≡◌, ◌<◌, ◌≤◌, ⊤, List, [], Bool, true, All, Some, length}
 use Rattle.config_json.specs.Stage.{IsWithoutInverses}
 use Rattle.core_mail.specs.Inboxes.{AreEmpty, AreInboxesOf, Inboxes}
 use Rattle.core_model.specs.Consistent.{GoesOn, IsConsistent}
 use Rattle.core_model.specs.Fleet.{Fleet}
-use Rattle.core_model.specs.Pens.{pens_of}
+use Rattle.core_model.specs.Pens.{AreNotesOf, Pens, pens_of}
+use Rattle.core_model.specs.Stores.{master_log}
 use Rattle.core_nodes.specs.Beginning.{IsEmptyFleet}
-use Rattle.core_plans.specs.Held.{ArePlansOf, OpensNone, Plans}
+use Rattle.core_plans.specs.Held.{ArePlansOf, OpensNone, Plans, plan_at}
+use Rattle.core_plans.specs.declared.held.HeldPlan.{HeldPlan}
+use Rattle.core_plans.specs.declared.held.HeldPlan.TheVariants.{Read, Write}
+use Rattle.core_sessions.specs.Sessions.{Session, is_open, sessions_of}
+use Rattle.graph_model.specs.Log.{version}
+use Rattle.graph_model.specs.Told.{WhereTold}
+use Rattle.session_pass.specs.Floors.{floor_at}
+use Rattle.tao_base.specs.Keys.{key_shard}
+use Rattle.tao_base.specs.declared.entry.Origin.{Origin}
+use Rattle.tao_base.specs.declared.entry.Origin.TheVariants.{Client, Merge}
+use Rattle.tao_base.specs.declared.id.Key.{Key}
 use Rattle.tao_keeper.specs.KeeperState.{KeeperState}
 use Rattle.tao_keeper.specs.Table.{Tables}
 use Rattle.tao_link.specs.Shown.{LinkShown}
 use Rattle.topology.specs.Config.{Settings}
 use Rattle.topology.specs.States.{NodeStates, all_up}
 use Rattle.tao_core.specs.declared.serving.Core.TheInside.{Inside}
-use Rattle.tao_core.specs.declared.sessions.OpenSession.{OpenSession}
 
 -- its configuration, the sessions that are open, which nodes are up, the nodes, the messages that wait for them, and the calls that are held
 pub record CoreState : Type 0 where
   pub settings : Settings
-  pub sessions : List OpenSession
+  pub sessions : List Session
   pub states : NodeStates
   pub fleet : Fleet
   pub mail : Inboxes
   pub plans : Plans
 
 abbrev pub core_state : Inside → CoreState
-core_state core =
-    record { settings = core.config.now; sessions = core.sessions; states = core.topology; fleet = core.fleet; mail = core.mail; plans = core.plans }
+core_state core = record {
+  settings = core.config.now;
+  sessions = sessions_of core.sessions;
+  states = core.topology;
+  fleet = core.fleet;
+  mail = core.mail;
+  plans = core.plans;
+}
 
 -- no session is open, no node holds anything, no message waits, and no call is held
 pub record IsNewCore (core : CoreState) : Type 0 where
@@ -35,24 +51,37 @@ pub record IsNewCore (core : CoreState) : Type 0 where
   pub mail : AreEmpty core.mail
   pub plans : core.plans ≡ []
 
--- the session is of a region of the configuration
-abbrev pub IsPlacedIn : Settings → OpenSession → Type 0
-IsPlacedIn s session = session.region < length s.regions
+-- the session is of a region of the configuration, has seen beginnings of the shards' logs, and where the tables are told each key has come to its floor
+pub record IsSessionOf (tells : Bool) (s : Settings) (tables : Tables) (pens : Pens) (session : Session) : Type 0 where
+  pub region : session.region < length s.regions
+  pub notes : AreNotesOf pens s.shards session.notes
+  pub floors : WhereTold tells ((key : Key) → floor_at session.floors key ≤ version (master_log s tables (key_shard key)) key)
 
--- the nodes are consistent with keepers that tell these tables, and each message names an entry of its shard's log. Each node is up, and no type of
--- its configuration has an inverse
+-- the nodes are consistent with keepers that tell these tables, each message names an entry of its shard's log, and each key has come to the floors
+-- of the sessions. Each node is up, and no type of its configuration has an inverse
 pub record IsConsistentCore (tells : Bool) (tables : Tables) (core : CoreState) : Type 0 where
   pub consistent : IsConsistent tells core.settings tables core.fleet
   pub mail : AreInboxesOf core.settings (pens_of core.fleet.masters) core.mail
   pub up : core.states ≡ all_up core.settings
-  pub sessions : All (IsPlacedIn core.settings) core.sessions
+  pub sessions : All (IsSessionOf tells core.settings tables (pens_of core.fleet.masters)) core.sessions
   pub no_inverse : IsWithoutInverses core.settings
 
--- the core may be used with keepers that tell these tables: it is consistent, each call that is held can go on, and each open ask is that of one
--- held read
+-- the session of a client's write
+abbrev pub author : Origin → ℕ
+author (Client session seq) = session
+author (Merge shard position) = 0
+
+-- a write that is held is of an open session
+abbrev pub IsOfSession : List Session → HeldPlan → Type 0
+IsOfSession sessions (Write p) = is_open sessions (author p.origin) ≡ true
+IsOfSession sessions (Read p) = ⊤
+
+-- the core may be used with keepers that tell these tables: it is consistent, each call that is held can go on, each open ask is that of one held
+-- read, and each held write is of an open session
 pub record IsCoreOf (tells : Bool) (tables : Tables) (core : CoreState) : Type 0 where
   pub is_consistent : IsConsistentCore tells tables core
   pub plans : ArePlansOf tells core.settings tables core.fleet core.plans
+  pub authors : (number : ℕ) (plan : HeldPlan) → plan_at core.plans number ≡ Some plan → IsOfSession core.sessions plan
 
 -- the nodes go on, so that each call that is held can go on, and no ask was opened that stays open
 pub record StaysHeld (old new : Fleet) : Type 0 where

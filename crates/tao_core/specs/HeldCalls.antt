@@ -1,9 +1,14 @@
 -- What the replies to `hold` and `advance` say.
-use Rattle.std.specs.Prelude.{ℕ, ◌≡◌, ◌<◌, ◌⊎◌, ⊤, Bool, length, Option, Some, None, option_and_then}
-use Rattle.core_plans.specs.Held.{AddsPlan, ChangesPlan, IsOver, Plans, StepsHeld, StepsPlan, TakesPlan, next_stage, plan_at}
+use Rattle.std.specs.Prelude.{ℕ, ◌≡◌, ◌<◌, ◌⊎◌, ⊤, Bool, true, length, IfSome, List, Option, Some, None, option_and_then}
+use Rattle.session_pass.specs.Passes.{IsNoteOf, SeenPass}
+use Rattle.graph_model.specs.Log.{entry_at}
+use Rattle.graph_model.specs.Told.{WhereTold}
+use Rattle.core_plans.specs.Held.{AddsPlan, ChangesPlan, IsOver, Plans, StepsHeld, StepsPlan, TakesPlan, next_stage, plan_at, told_with, written_entry}
 use Rattle.core_plans.specs.HeldReads.{begun_read}
 use Rattle.core_plans.specs.declared.held.HeldPlan.{HeldPlan}
-use Rattle.core_plans.specs.declared.held.HeldPlan.TheVariants as held
+use Rattle.core_plans.specs.declared.held.HeldPlan.TheVariants as of
+use Rattle.core_plans.specs.declared.held.ToldEntry.{ToldEntry}
+use Rattle.core_sessions.specs.Sessions.{HasRoom, Session, SessionLearns, is_open, session_at, sessions_of}
 use Rattle.core_steps.specs.Routes.{Scene}
 use Rattle.node_name.specs.declared.NodeName.{NodeName}
 use Rattle.read_plan.specs.Ends.{EndsWith}
@@ -14,10 +19,12 @@ use Rattle.replies.specs.declared.plans.Stage.{Stage}
 use Rattle.replies.specs.declared.refusals.NodeRefused.TheVariants.{NoServer}
 use Rattle.replies.specs.declared.refusals.Refusal.TheVariants.{Node, Memory}
 use Rattle.replies.specs.declared.reply.Reply.{Reply}
-use Rattle.replies.specs.declared.reply.Reply.TheVariants.{Called, Plan, Refused}
+use Rattle.replies.specs.declared.reply.Reply.TheVariants.{Called, Refused}
+use Rattle.replies.specs.declared.reply.Reply.TheVariants as replied
 use Rattle.request_check.specs.declared.checked.CheckedCall.{CheckedCall}
 use Rattle.request_check.specs.declared.checked.CheckedCall.TheVariants as call
-use Rattle.tao_base.specs.Queries.{query_shard}
+use Rattle.session_pass.specs.Floors.{floor_at}
+use Rattle.tao_base.specs.Queries.{query_key, query_shard}
 use Rattle.tao_base.specs.Writes.{write_shard}
 use Rattle.tao_base.specs.declared.entry.Origin.TheVariants.{Client}
 use Rattle.topology.specs.Config.{Settings}
@@ -25,50 +32,112 @@ use Rattle.topology.specs.Choices.{chosen_follower, master_region, preferred_lea
 use Rattle.topology.specs.States.{NodeStates}
 use Rattle.words.specs.declared.PlanWord.{PlanWord}
 use Rattle.words.specs.declared.PlanWord.TheVariants as word
-use Rattle.write_plan.specs.Plans.{new_plan}
+use Rattle.write_plan.specs.Plans.{Plan, new_plan, reply_of}
 use Rattle.tao_core.specs.Calls.{FindsNoServer, KeptReaches, posting_of, scene_of}
-use Rattle.tao_core.specs.Core.{CoreState, Moment}
-use Rattle.tao_core.specs.Sessions.{session_at}
-use Rattle.tao_core.specs.declared.sessions.OpenSession.{OpenSession}
+use Rattle.tao_core.specs.Core.{CoreState, Moment, author}
 
 -- ---- one stage
 
 -- the leader of a plan's stages: for a read the one that its region prefers, for a write the one that the master's does
 abbrev pub plan_leader : CoreState → HeldPlan → NodeName
-plan_leader core (held.Read p) = preferred_leader core.states p.region (query_shard p.query)
-plan_leader core (held.Write p) = preferred_leader core.states (master_region core.states (write_shard p.write)) (write_shard p.write)
+plan_leader core (of.Read p) = preferred_leader core.states p.region (query_shard p.query)
+plan_leader core (of.Write p) = preferred_leader core.states (master_region core.states (write_shard p.write)) (write_shard p.write)
 
 -- a read is of a region of the configuration
 abbrev pub IsOfRegion : NodeStates → HeldPlan → Type 0
-IsOfRegion states (held.Read p) = p.region < length states.regions
-IsOfRegion states (held.Write p) = ⊤
+IsOfRegion states (of.Read p) = p.region < length states.regions
+IsOfRegion states (of.Write p) = ⊤
+
+-- the plans that are held, and the sessions
+pub record Held : Type 0 where
+  pub plans : Plans
+  pub sessions : List Session
+
+abbrev pub held : Plans → List Session → Held
+held plans sessions = record { plans = plans; sessions = sessions }
+
+abbrev pub held_in : CoreState → Held
+held_in core = held core.plans core.sessions
 
 -- the reply of a plan that is over: that of its call, with the plan's number, or its refusal
 abbrev pub told_by : ℕ → Reply → Reply
-told_by number (Called reply) = Plan (Ended number reply)
+told_by number (Called reply) = replied.Plan (Ended number reply)
 told_by number reply = reply
 
--- a plan that did a stage is held before the stage that follows, or is over and gone
-abbrev pub Leaves : PlanWord → ℕ → HeldPlan → Option Stage → Reply → Plans → Plans → Type 0
-Leaves asked number plan (Some stage) reply plans later = (reply ≡ Plan (Next asked number stage)) × ChangesPlan number plan plans later
-Leaves asked number plan None reply plans later = (ended : Reply) × IsOver plan ended × (reply ≡ told_by number ended) × TakesPlan number plans later
+-- the session of that number learns the entry of the shard's log that it is told, where there is one, and nothing else is learnt
+abbrev pub LearnsTold : ℕ → ℕ → Option ToldEntry → List Session → List Session → Type 0
+LearnsTold number shard None old new = new ≡ old
+LearnsTold number shard (Some t) old new = SessionLearns number shard t.entry t.note old new
+
+-- the session of a write learns what is told with its reply
+abbrev pub LearnsOf : HeldPlan → Option ToldEntry → List Session → List Session → Type 0
+LearnsOf (of.Write p) told old new = LearnsTold (author p.origin) (write_shard p.write) told old new
+LearnsOf (of.Read p) told old new = new ≡ old
+
+-- there is room for what the session of a write is told with its reply, once it is over
+abbrev pub HasRoomFor : HeldPlan → List SeenPass → Type 0
+HasRoomFor (of.Write p) passes = next_stage (of.Write p) ≡ None → (reply : Reply) → reply_of p ≡ Some reply
+    → IfSome (told_with reply (of.Write p)) (λ _. HasRoom (author p.origin) passes)
+HasRoomFor (of.Read p) passes = ⊤
+
+-- what is told of a shard's log stands in what was seen of that, and the session of that number may learn it
+pub record MayLearnTold (told : ToldEntry) (number shard : ℕ) (sessions : List Session) : Type 0 where
+  pub note : IfSome (session_at sessions number) (λ s. IsNoteOf shard told.note s.notes)
+  pub stands : WhereTold told.note.log.told (entry_at told.note.entries told.entry.position ≡ Some told.entry)
+
+-- the session of a write is open, and has room for what it is told, which it may learn
+pub record MayLearnOf (p : Plan) (passes : List SeenPass) : Type 0 where
+  pub author_is : is_open (sessions_of passes) (author p.origin) ≡ true
+  pub room : HasRoomFor (of.Write p) passes
+  pub told : IfSome (written_entry p.committed) (λ t. MayLearnTold t (author p.origin) (write_shard p.write) (sessions_of passes))
+
+abbrev pub MayLearn : HeldPlan → List SeenPass → Type 0
+MayLearn (of.Read p) passes = ⊤
+MayLearn (of.Write p) passes = MayLearnOf p passes
+
+-- the session of that number is open, and has room for what it is told of the shard's log, which it may learn
+pub record MayLearnNow (number shard : ℕ) (told : ToldEntry) (passes : List SeenPass) : Type 0 where
+  pub author_is : is_open (sessions_of passes) number ≡ true
+  pub room : HasRoom number passes
+  pub may : MayLearnTold told number shard (sessions_of passes)
+
+-- whose session learns what is told with the reply of a plan, and of which shard
+abbrev pub learns_of : HeldPlan → ℕ
+learns_of (of.Write p) = author p.origin
+learns_of (of.Read p) = 0
+
+abbrev pub shard_of_plan : HeldPlan → ℕ
+shard_of_plan (of.Write p) = write_shard p.write
+shard_of_plan (of.Read p) = query_shard p.query
+
+-- a plan that is over is told and taken out, and its session learns what it wrote
+pub record EndsPlan (number : ℕ) (plan : HeldPlan) (old : Held) (reply : Reply) (new : Held) : Type 0 where
+  pub ended : Reply
+  pub over : IsOver plan ended
+  pub told : reply ≡ told_by number ended
+  pub takes : TakesPlan number old.plans new.plans
+  pub learns : LearnsOf plan (told_with ended plan) old.sessions new.sessions
+
+-- a plan that did a stage is held before the stage that follows
+pub record GoesOnHeld (asked : PlanWord) (number : ℕ) (plan : HeldPlan) (stage : Stage) (old : Held) (reply : Reply) (new : Held) : Type 0 where
+  pub told : reply ≡ replied.Plan (Next asked number stage)
+  pub changes : ChangesPlan number plan old.plans new.plans
+  pub sessions : new.sessions ≡ old.sessions
+
+-- it is held so, or over and gone
+abbrev pub Leaves : PlanWord → ℕ → HeldPlan → Option Stage → Held → Reply → Held → Type 0
+Leaves asked number plan (Some stage) old reply new = GoesOnHeld asked number plan stage old reply new
+Leaves asked number plan None old reply new = EndsPlan number plan old reply new
 
 -- the stage of a held plan that follows
 abbrev pub next_at : Plans → ℕ → Option Stage
 next_at plans number = option_and_then next_stage (plan_at plans number)
 
--- a plan that is over is told and taken out
-pub record EndsPlan (number : ℕ) (plan : HeldPlan) (old : Plans) (reply : Reply) (new : Plans) : Type 0 where
-  pub ended : Reply
-  pub over : IsOver plan ended
-  pub told : reply ≡ told_by number ended
-  pub takes : TakesPlan number old new
-
 -- what a read that ends says is kept has come as far as its follower's mark
 abbrev pub HeldReaches : Bool → Settings → HeldPlan → Scene → Type 0
-HeldReaches tells s (held.Read q) new = (reply : ReadReply) → EndsWith q (Called (called.Read reply))
+HeldReaches tells s (of.Read q) new = (reply : ReadReply) → EndsWith q (Called (called.Read reply))
     → KeptReaches tells s q.follower q.query (Called (called.Read reply)) new
-HeldReaches tells s (held.Write q) new = ⊤
+HeldReaches tells s (of.Write q) new = ⊤
 
 -- the plan of that number did the stage that follows, and is there as it is then
 pub record DoesStage (tells : Bool) (number : ℕ) (old new : Moment) : Type 0 where
@@ -84,8 +153,8 @@ pub record StepsAt (tells : Bool) (asked : PlanWord) (number : ℕ) (old : Momen
   pub stands : plan_at old.core.plans number ≡ Some before
   pub steps : StepsHeld tells old.core.settings (plan_leader old.core before) before (posting_of old) after (posting_of new)
   pub reaches : HeldReaches tells old.core.settings after (scene_of new)
-  pub leaves : Leaves asked number after (next_stage after) reply old.core.plans new.core.plans
-  pub rest : new.core ≡ record old.core { fleet = new.core.fleet; mail = new.core.mail; plans = new.core.plans }
+  pub leaves : Leaves asked number after (next_stage after) (held_in old.core) reply (held_in new.core)
+  pub rest : new.core ≡ record old.core { fleet = new.core.fleet; mail = new.core.mail; plans = new.core.plans; sessions = new.core.sessions }
 
 -- ---- advance
 
@@ -102,15 +171,21 @@ abbrev pub call_shard : CheckedCall → ℕ
 call_shard (call.Write write) = write_shard write.write
 call_shard (call.Read read) = query_shard read.query
 
+-- the floor of a session's call: for a read that of its key
+abbrev pub call_floor : Session → CheckedCall → ℕ
+call_floor session (call.Write write) = 0
+call_floor session (call.Read read) = floor_at session.floors (query_key read.query)
+
 -- the plan of a session's call, of which nothing is done
-abbrev pub begun_plan : Settings → OpenSession → NodeName → CheckedCall → HeldPlan
+abbrev pub begun_plan : Settings → Session → NodeName → CheckedCall → HeldPlan
 begun_plan s session follower (call.Write write) =
-    held.Write (new_plan write.write (Client write.session write.seq) session.region session.tier follower)
-begun_plan s session follower (call.Read read) = held.Read (begun_read s read.query session.region session.tier 0 follower)
+    of.Write (new_plan write.write (Client write.session write.seq) session.region session.tier follower)
+begun_plan s session follower (call.Read read) =
+    of.Read (begun_read s read.query session.region session.tier (call_floor session (call.Read read)) read.critical follower)
 
 -- the session is open, and its call goes to its follower: a plan of it is held, and does its first stage
 pub record HoldGoes (tells : Bool) (number : ℕ) (asked : CheckedCall) (old : Moment) (reply : Reply) (new : Moment) : Type 0 where
-  pub session : OpenSession
+  pub session : Session
   pub follower : NodeName
   pub added : Plans
   pub found : session_at old.core.sessions (call_session asked) ≡ Some session
@@ -125,5 +200,6 @@ pub record HoldsNone (position : ℕ) (old new : Moment) : Type 0 where
 
 abbrev pub AnswersHold : Bool → ℕ → CheckedCall → Moment → Reply → Moment → Type 0
 AnswersHold tells number asked old (Refused (Node (NoServer region))) new = FindsNoServer old (call_session asked) (call_shard asked) region new
-AnswersHold tells number asked old (Refused (Memory position)) new = HoldsNone position old new ⊎ HoldGoes tells number asked old (Refused (Memory position)) new
+AnswersHold tells number asked old (Refused (Memory position)) new =
+    HoldsNone position old new ⊎ HoldGoes tells number asked old (Refused (Memory position)) new
 AnswersHold tells number asked old reply new = HoldGoes tells number asked old reply new

@@ -4,4 +4,3 @@ pub mod Core
 pub mod HeldCalls
 pub mod Deliveries
 pub mod Replies
-pub mod Sessions

@@ -1,13 +1,15 @@
 -- What a reply says of what was asked, of the moment before, and of the moment after.
-use Rattle.std.specs.Prelude.{ℕ, ◌≡◌, ◌⊎◌, Bool, List, Option, Result, Ok, Err, length}
+use Rattle.std.specs.Prelude.{ℕ, ◌≡◌, ◌⊎◌, Bool, true, false, List, Option, Result, Ok, Err, length}
 use Rattle.counts.specs.Count.{Rose}
 use Rattle.core_model.specs.Evictions.{ChangesCache, Evicts}
 use Rattle.core_model.specs.Stores.{master_log}
+use Rattle.core_sessions.specs.Sessions.{Session, new_session, with_session}
+use Rattle.core_sessions.specs.declared.sessions.OpenSession.{OpenSession}
 use Rattle.graph_model.specs.Answers.{answer}
 use Rattle.graph_model.specs.Told.{WhereTold}
 use Rattle.node_name.specs.declared.NodeName.{NodeName}
 use Rattle.replies.specs.declared.nodes.CacheReply.TheVariants.{Evicted}
-use Rattle.replies.specs.declared.nodes.NodeReply.TheVariants.{Cache}
+use Rattle.replies.specs.declared.nodes.NodeReply.TheVariants.{Cache, Link}
 use Rattle.replies.specs.declared.refusals.Refusal.{Refusal}
 use Rattle.replies.specs.declared.refusals.Refusal.TheVariants.{Store, Memory}
 use Rattle.replies.specs.declared.refusals.StoreRefused.{StoreRefused}
@@ -18,7 +20,9 @@ use Rattle.request_check.specs.declared.checked.Checked.{Checked}
 use Rattle.request_check.specs.declared.checked.Checked.TheVariants as checked
 use Rattle.request_check.specs.declared.checked.CheckedCall.TheVariants as checked_call
 use Rattle.request_check.specs.declared.checked.CheckedRead.{CheckedRead}
+use Rattle.request_check.specs.declared.checked.LinkPlace.{LinkPlace}
 use Rattle.requests.specs.declared.request.Request.{Request}
+use Rattle.shard_log.specs.View.{View}
 use Rattle.tao_base.specs.EdgeTypes.{EdgeTypes}
 use Rattle.tao_base.specs.Keys.{key_shard}
 use Rattle.tao_base.specs.Queries.{query_key}
@@ -29,15 +33,16 @@ use Rattle.tao_base.specs.declared.query.Query.{Query}
 use Rattle.tao_keeper.specs.KeeperState.{KeeperState, KeepsTables}
 use Rattle.tao_keeper.specs.declared.keeper.KeepFail.{KeepFail}
 use Rattle.tao_keeper.specs.declared.keeper.KeepFail.TheVariants as keep
+use Rattle.tao_link.specs.Cuts.{SwitchesWhereTold, between}
 use Rattle.tao_schema.specs.Schema.{types_of}
 use Rattle.topology.specs.Config.{Settings}
+use Rattle.words.specs.declared.LinkWord.{LinkWord}
+use Rattle.words.specs.declared.LinkWord.TheVariants as link
 use Rattle.tao_core.specs.Asked.{asked_of}
 use Rattle.tao_core.specs.Core.{Moment}
 use Rattle.tao_core.specs.Calls.{AnswersRead, AnswersWrite}
 use Rattle.tao_core.specs.Deliveries.{AnswersDeliver, AnswersInbox, AnswersLoss, AnswersRefill, AnswersSecond, AnswersShow}
 use Rattle.tao_core.specs.HeldCalls.{AnswersAdvance, AnswersHold}
-use Rattle.tao_core.specs.Sessions.{with_session}
-use Rattle.tao_core.specs.declared.sessions.OpenSession.{OpenSession}
 
 -- ---- refusals
 
@@ -83,11 +88,19 @@ AnswersAudit tells s old call reply new = ⊥
 
 -- ---- requests
 
--- a session is opened, or memory was wanting
-abbrev pub AnswersOpen : OpenSession → List OpenSession → Reply → List OpenSession → Type 0
-AnswersOpen opened sessions (Opened session) next = (session ≡ opened.session) × (next ≡ with_session opened sessions)
+-- a session is opened, which was told of nothing, or memory was wanting
+abbrev pub AnswersOpen : OpenSession → List Session → Reply → List Session → Type 0
+AnswersOpen opened sessions (Opened session) next = (session ≡ opened.session)
+    × ((notes : List View) × (next ≡ with_session (new_session opened notes) sessions))
 AnswersOpen opened sessions (Refused (Memory position)) next = (position ≡ 0) × (next ≡ sessions)
 AnswersOpen opened sessions reply next = ⊥
+
+-- one direction between two nodes was mended, where it is to be whole, or else cut, where the link tells its cuts; or memory was wanting
+abbrev pub AnswersSwitch : LinkWord → Bool → LinkPlace → Moment → Reply → Moment → Type 0
+AnswersSwitch word whole place old (Node (Link told)) new = (told ≡ word) × SwitchesWhereTold (between place.from place.to) whole old.link.cuts new.link.cuts
+    × (new ≡ record old { link = record old.link { cuts = new.link.cuts } })
+AnswersSwitch word whole place old (Refused (Memory position)) new = (position ≡ 0) × (new ≡ old)
+AnswersSwitch word whole place old reply new = ⊥
 
 -- a node was emptied of an item, or held none
 abbrev pub AnswersEvict : NodeName → Option Key → Moment → Reply → Moment → Type 0
@@ -120,6 +133,8 @@ AnswersAsked tells old (Ok (checked.Show node key)) reply new = AnswersShow tell
 AnswersAsked tells old (Ok (checked.Inbox node)) reply new = AnswersInbox node old.core reply × (new ≡ old)
 AnswersAsked tells old (Ok (checked.Evict node key)) reply new =
     AnswersEvict node key old reply new × (new ≡ record old { core = record old.core { fleet = new.core.fleet } })
+AnswersAsked tells old (Ok (checked.Cut place)) reply new = AnswersSwitch link.Cut false place old reply new
+AnswersAsked tells old (Ok (checked.Mend place)) reply new = AnswersSwitch link.Mend true place old reply new
 AnswersAsked tells old (Ok (checked.Audit call)) reply new =
     AnswersAudit tells old.core.settings old.keepers call reply new.keepers × (new ≡ record old { keepers = new.keepers })
 AnswersAsked tells old (Ok other) reply new = ⊥

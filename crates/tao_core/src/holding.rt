@@ -1,19 +1,26 @@
 //! Calls that are held, and go stage by stage.
-ghost use Rattle.std.specs.Prelude.{◌≡◌, IfOk, IfSome, IsSome, IsTrue, None, Some, true};
-ghost use Rattle.core_model.specs.Consistent.{GoesOn};
+ghost use Rattle.std.specs.Prelude.{◌≡◌, IfOk, IfSome, IsSome, IsSomeAnd, IsTrue, None, OnErr, OnOk, Some, option_and_then, true};
+ghost use Rattle.core_mail.specs.Inboxes.{AreInboxesOf};
+ghost use Rattle.core_model.specs.Consistent.{GoesOn, IsConsistent};
 ghost use Rattle.core_model.specs.Growing.{MastersGrow};
-ghost use Rattle.core_plans.specs.Held.{IsUnderWay, next_stage, plan_at};
+ghost use Rattle.core_model.specs.Pens.{pens_of};
+ghost use Rattle.core_plans.specs.Held.{CanStep, IsOver, IsUnderWay, OpensFirst, StepsPlan, learner, next_stage, plan_at, told_with};
+ghost use Rattle.core_sessions.specs.Sessions.{HasRoom, Session, is_open, place_of, session_at, sessions_of};
+ghost use Rattle.core_steps.specs.Routes.{scene};
+ghost use Rattle.core_steps.specs.Writes.{posting};
 ghost use Rattle.tao_core.specs.Asked.{CallCanBeDone};
-ghost use Rattle.tao_core.specs.Core.{IsConsistentCore, IsCoreOf, moment};
-ghost use Rattle.tao_core.specs.HeldCalls.{AnswersHold, DoesStage, EndsPlan, IsOfRegion, StepsAt, begun_plan, call_session, call_shard, next_at, plan_leader, told_by};
-ghost use Rattle.tao_core.specs.Sessions.{is_open};
+ghost use Rattle.tao_core.specs.Core.{IsCoreOf, IsOfSession, author, moment};
+ghost use Rattle.tao_core.specs.HeldCalls.{AnswersHold, EndsPlan, HasRoomFor, IsOfRegion, LearnsOf, LearnsTold, MayLearn, MayLearnNow, StepsAt};
+ghost use Rattle.tao_core.specs.HeldCalls.{begun_plan, call_floor, call_session, call_shard, held, learns_of, next_at, plan_leader, shard_of_plan, told_by};
 ghost use Rattle.tao_keeper.specs.KeeperState.{IsLater};
-ghost use Rattle.topology.specs.States.{is_cache};
+ghost use Rattle.topology.specs.States.{all_up, is_cache};
 
 use crate::refusals::no_server;
-use crate::serving::{Core, NO_FLOOR};
-use crate::sessions::OpenSession;
-use core_plans::{HeldPlan, HeldPlans, begin_read};
+use crate::serving::Core;
+use core_mail::Mail;
+use core_nodes::Fleet;
+use core_plans::{EndedPlan, HeldPlan, HeldPlans, ToldEntry, begin_read};
+use core_sessions::{OpenSession, Sessions};
 use core_steps::out_of_memory;
 use node_name::NodeName;
 use replies::{PlanReply, Reply, Stage};
@@ -22,7 +29,7 @@ use std::alloc::Global;
 use tao_base::{Origin, OutOfMemory, Query, Write};
 use tao_keeper::Keeper;
 use tao_link::Link;
-use topology::Config;
+use topology::{Config, Topology};
 use words::PlanWord;
 use write_plan::WritePlan;
 
@@ -60,16 +67,32 @@ fn copied_query(query: &Query) -> Result<Query, OutOfMemory>
     Ok(query.clone()?)
 }
 
-/// The plan of a session's call, of which nothing is done. The one error is want of memory for a copy of what it asks.
+/// The version that the answer to a session's call has at least: for a read the session's floor of its key.
+fn call_floor(sessions: &Sessions, call: &CheckedCall) -> u64
+    requires { is_open (sessions_of sessions.now) (call_session call.now) ≡ true }
+    ensures { IsSomeAnd (session_at (sessions_of sessions.now) (call_session call.now)) (λ s. result ≡ call_floor s call.now) }
+{
+    match call {
+        CheckedCall::Write(_) => 0,
+        CheckedCall::Read(call) => match sessions.floor(call.session, call.query.key()) {
+            Some(floor) => floor,
+            None => unreachable!(),
+        },
+    }
+}
+
+/// The plan of a session's call at a floor, of which nothing is done. The one error is want of memory for a copy of what it asks.
 fn begun_plan(
     config: &Config,
-    session: OpenSession,
+    place: OpenSession,
+    floor: u64,
     follower: NodeName,
     call: &CheckedCall,
 ) -> Result<HeldPlan, OutOfMemory>
-    ensures { IfOk result (λ plan. plan ≡ begun_plan config.now session follower call.now) }
+    ensures { IfOk result (λ plan. (session : Session) → place ≡ place_of session → floor ≡ call_floor session call.now
+        → plan ≡ begun_plan config.now session follower call.now) }
 {
-    let OpenSession { region, tier, .. } = session;
+    let OpenSession { region, tier, .. } = place;
     match call {
         CheckedCall::Write(call) => {
             let origin = Origin::Client {
@@ -81,8 +104,20 @@ fn begun_plan(
         }
         CheckedCall::Read(call) => {
             let query = copied_query(&call.query)?;
-            Ok(HeldPlan::Read(begin_read(config, query, region, tier, NO_FLOOR, follower)))
+            let plan = begin_read(config, query, region, tier, floor, call.critical, follower);
+            Ok(HeldPlan::Read(plan))
         }
+    }
+}
+
+/// Makes room for what the session of a call is to learn: for a write. The one error is want of memory.
+fn make_room(sessions: &mut Sessions, call: &CheckedCall) -> Result<(), OutOfMemory>
+    requires { is_open (sessions_of sessions.old) (call_session call.now) ≡ true }
+    ensures { sessions_of sessions.new ≡ sessions_of sessions.old }
+{
+    match call {
+        CheckedCall::Write(call) => sessions.reserve(call.session),
+        CheckedCall::Read(_) => Ok(()),
     }
 }
 
@@ -106,15 +141,135 @@ fn next_at(plans: &HeldPlans, number: u32) -> Option<Stage>
     plans.at(number)?.next()
 }
 
-/// Takes a plan that is over out.
-fn end_plan(plans: &mut HeldPlans, number: u32) -> Reply
+/// The session of a client's write.
+fn author(origin: Origin) -> u32
+    ensures { result ≡ author origin }
+{
+    match origin {
+        Origin::Client { session, .. } => session,
+        Origin::Merge { .. } => 0,
+    }
+}
+
+/// The session that learns what is told with the reply of a plan; 0 for a read.
+fn learns_of(plan: &HeldPlan) -> u32
+    ensures { result ≡ learns_of plan.now }
+{
+    match plan {
+        HeldPlan::Write(plan) => author(plan.origin()),
+        HeldPlan::Read(_) => 0,
+    }
+}
+
+/// The shard of a plan.
+fn shard_of_plan(plan: &HeldPlan) -> u16
+    ensures { result ≡ shard_of_plan plan.now }
+{
+    match plan {
+        HeldPlan::Write(plan) => plan.write().shard(),
+        HeldPlan::Read(plan) => plan.query().shard(),
+    }
+}
+
+/// A session learns the entry of a shard's log that it is told, where there is one.
+fn learn_told(sessions: &mut Sessions, session: u32, shard: u16, told: Option<ToldEntry>)
+    requires { IfSome told (λ t. MayLearnNow session shard t sessions.old) }
+    ensures { LearnsTold session shard told (sessions_of sessions.old) (sessions_of sessions.new) }
+{
+    match told {
+        Some(ToldEntry { entry, note }) => sessions.learn(session, shard, &entry, note),
+        None => (),
+    }
+}
+
+/// The reply of a plan that is over. Its session learns what is told with it.
+#[tactic(auto, using(crate::proofs::HeldLearning::learns_now, crate::proofs::HeldLearning::learnt_of))]
+fn finish_plan(sessions: &mut Sessions, plan: HeldPlan) -> Reply
+    requires over { next_stage plan ≡ None }
+    requires may { MayLearn plan sessions.old }
+    ensures over { IsOver plan result }
+    ensures learns { LearnsOf plan (told_with result plan) (sessions_of sessions.old) (sessions_of sessions.new) }
+{
+    let session = learns_of(&plan);
+    let shard = shard_of_plan(&plan);
+    let EndedPlan { reply, told } = plan.finish();
+    learn_told(sessions, session, shard, told);
+    reply
+}
+
+/// Takes a plan that is over out, and its session learns what is told with its reply.
+fn end_plan(plans: &mut HeldPlans, sessions: &mut Sessions, number: u32) -> Reply
     requires there { IsSome (plan_at plans.old number) }
     requires over { next_at plans.old number ≡ None }
-    ensures { IfSome (plan_at plans.old number) (λ plan. EndsPlan number plan plans.old result plans.new) }
+    requires may { IfSome (plan_at plans.old number) (λ plan. MayLearn plan sessions.old) }
+    ensures { IfSome (plan_at plans.old number) (λ plan.
+        EndsPlan number plan (held plans.old (sessions_of sessions.old)) result (held plans.new (sessions_of sessions.new))) }
 {
     match plans.take(number) {
-        Some(plan) => told_by(number, plan.finish()),
+        Some(plan) => told_by(number, finish_plan(sessions, plan)),
         None => unreachable!(),
+    }
+}
+
+/// The session of the plan of that number, where it is a write of which only the last stage is left.
+fn learner_at(plans: &HeldPlans, number: u32) -> Option<u32>
+    ensures { result ≡ option_and_then learner (plan_at plans.now number) }
+{
+    plans.at(number)?.learner()
+}
+
+/// Makes room for what the session of a write is to learn, where only its last stage is left. The one error is want of memory.
+#[tactic(auto, using(crate::proofs::HeldLearning::learner_open))]
+fn room_for_last(plans: &HeldPlans, sessions: &mut Sessions, number: u32) -> Result<(), OutOfMemory>
+    requires author { IfSome (plan_at plans.now number) (IsOfSession (sessions_of sessions.old)) }
+    ensures same { sessions_of sessions.new ≡ sessions_of sessions.old }
+    ensures room { OnOk result (IfSome (option_and_then learner (plan_at plans.now number)) (λ session. HasRoom session sessions.new)) }
+    ensures learner { OnErr result (IsSome (option_and_then learner (plan_at plans.now number))) }
+{
+    match learner_at(plans, number) {
+        Some(session) => sessions.reserve(session),
+        None => Ok(()),
+    }
+}
+
+/// Does the stage of a held plan that follows. Before the last stage of a write room is made for what its session is to learn; where
+/// memory is wanting for that, the plan is over.
+fn step_or_give_up<K: Keeper, L: Link>(
+    alloc: Global,
+    plans: &mut HeldPlans,
+    sessions: &mut Sessions,
+    fleet: &mut Fleet,
+    mail: &mut Mail,
+    config: &Config,
+    topology: &Topology,
+    keepers: &mut K,
+    link: &mut L,
+    leader: NodeName,
+    number: u32,
+)
+    requires consistent { IsConsistent K.TELLS config.now (K.state keepers.old).told fleet.old }
+    requires inboxes { AreInboxesOf config.now (pens_of fleet.old.masters) mail.old }
+    requires states { topology.now ≡ all_up config.now }
+    requires can { CanStep K.TELLS config.now (K.state keepers.old).told fleet.old leader (plan_at plans.old number) }
+    requires author { IfSome (plan_at plans.old number) (IsOfSession (sessions_of sessions.old)) }
+    requires begun { IfSome (plan_at plans.old number) OpensFirst }
+    ensures steps { StepsPlan K.TELLS config.now leader number
+        plans.old (posting (scene fleet.old (K.state keepers.old) (L.shown link.old)) mail.old topology.now)
+        plans.new (posting (scene fleet.new (K.state keepers.new) (L.shown link.new)) mail.new topology.now) }
+    ensures under_way { IfSome (plan_at plans.new number) (IsUnderWay K.TELLS config.now (K.state keepers.new).told fleet.new) }
+    ensures consistent { IsConsistent K.TELLS config.now (K.state keepers.new).told fleet.new }
+    ensures inboxes { AreInboxesOf config.now (pens_of fleet.new.masters) mail.new }
+    ensures goes { GoesOn fleet.old fleet.new }
+    ensures grows { MastersGrow K.TELLS config.now (K.state keepers.old).told (K.state keepers.new).told }
+    ensures later { IsLater (K.state keepers.old) (K.state keepers.new) }
+    ensures same { sessions_of sessions.new ≡ sessions_of sessions.old }
+    ensures room { IfSome (plan_at plans.new number) (λ plan. HasRoomFor plan sessions.new) }
+{
+    match room_for_last(plans, sessions, number) {
+        Ok(()) => plans.step(
+            alloc, fleet, mail, config, topology, keepers, link, leader, number,
+        ),
+        Err(OutOfMemory) => plans.give_up(number),
     }
 }
 
@@ -136,42 +291,6 @@ impl<'c> Core<'c> {
         }
     }
 
-    /// Does the stage of a held plan that follows, with the leader that is preferred for it. The plan stays.
-    fn do_stage<K: Keeper, L: Link>(
-        &mut self,
-        alloc: Global,
-        keepers: &mut K,
-        link: &mut L,
-        number: u32,
-    )
-        requires keepers { IsCoreOf K.TELLS (K.state keepers.old).told self.old }
-        requires there { IsSome (plan_at self.old.plans number) }
-        ensures does { DoesStage K.TELLS number (moment self.old (K.state keepers.old) (L.shown link.old))
-            (moment self.new (K.state keepers.new) (L.shown link.new)) }
-        ensures under_way { IfSome (plan_at self.new.plans number) (IsUnderWay K.TELLS self.old.settings (K.state keepers.new).told self.new.fleet) }
-        ensures keepers { IsConsistentCore K.TELLS (K.state keepers.new).told self.new }
-        ensures goes { GoesOn self.old.fleet self.new.fleet }
-        ensures grows { MastersGrow K.TELLS self.old.settings (K.state keepers.old).told (K.state keepers.new).told }
-        ensures later { IsLater (K.state keepers.old) (K.state keepers.new) }
-        ensures rest { self.new ≡ record self.old { fleet = self.new.fleet; mail = self.new.mail; plans = self.new.plans } }
-    {
-        let Some(plan) = self.plans.at(number) else {
-            unreachable!()
-        };
-        let leader = self.plan_leader(plan);
-        self.plans.step(
-            alloc,
-            &mut self.fleet,
-            &mut self.mail,
-            self.config,
-            &self.topology,
-            keepers,
-            link,
-            leader,
-            number,
-        );
-    }
-
     /// Does the stage of a held plan that follows, with the leader that is preferred for it.
     pub(crate) fn step_plan<K: Keeper, L: Link>(
         &mut self,
@@ -189,14 +308,30 @@ impl<'c> Core<'c> {
         ensures grows { MastersGrow K.TELLS self.old.settings (K.state keepers.old).told (K.state keepers.new).told }
         ensures later { IsLater (K.state keepers.old) (K.state keepers.new) }
     {
-        self.do_stage(alloc, keepers, link, number);
+        let Some(plan) = self.plans.at(number) else {
+            unreachable!()
+        };
+        let leader = self.plan_leader(plan);
+        step_or_give_up(
+            alloc,
+            &mut self.plans,
+            &mut self.sessions,
+            &mut self.fleet,
+            &mut self.mail,
+            self.config,
+            &self.topology,
+            keepers,
+            link,
+            leader,
+            number,
+        );
         match next_at(&self.plans, number) {
             Some(next) => Reply::Plan(PlanReply::Next {
                 word,
                 plan: number,
                 next,
             }),
-            None => end_plan(&mut self.plans, number),
+            None => end_plan(&mut self.plans, &mut self.sessions, number),
         }
     }
 
@@ -218,12 +353,16 @@ impl<'c> Core<'c> {
         ensures grows { MastersGrow K.TELLS self.old.settings (K.state keepers.old).told (K.state keepers.new).told }
         ensures later { IsLater (K.state keepers.old) (K.state keepers.new) }
     {
-        let session = self.sessions.at(call_session(call));
+        let place = self.sessions.at(call_session(call));
         let shard = call_shard(call);
-        let Some(follower) = self.topology.follower(session.region, session.tier, shard) else {
-            return no_server(session.region);
+        let Some(follower) = self.topology.follower(place.region, place.tier, shard) else {
+            return no_server(place.region);
         };
-        let Ok(plan) = begun_plan(self.config, session, follower, call) else {
+        let floor = call_floor(&self.sessions, call);
+        let Ok(plan) = begun_plan(self.config, place, floor, follower, call) else {
+            return out_of_memory();
+        };
+        let Ok(()) = make_room(&mut self.sessions, call) else {
             return out_of_memory();
         };
         match self.plans.add(number, plan) {

@@ -7,7 +7,6 @@ mod holding;
 mod refusals;
 mod resolving;
 mod serving;
-mod sessions;
 
+pub use core_sessions::OpenSession;
 pub use serving::Core;
-pub use sessions::OpenSession;

@@ -1,11 +1,12 @@
 //! What a request asks of the core, or why nothing is asked.
 ghost use Rattle.std.specs.Prelude.{◌≡◌, IfOk};
+ghost use Rattle.core_sessions.specs.Sessions.{sessions_of};
 ghost use Rattle.outcomes.specs.Results.{Gives};
 ghost use Rattle.request_check.specs.Refusal.{replied, reply_unless_memory};
-ghost use Rattle.tao_core.specs.Asked.{CanBeDone, admitted, asked_of, held_plan, is_built, is_built_call, new_plan, new_session, not_built, open_session, plan_for, session_for, session_of};
+ghost use Rattle.tao_core.specs.Asked.{CanBeDone, admitted, asked_of, held_plan, is_built, new_plan, new_session, not_built, open_session, plan_for, session_for, session_of};
 
-use crate::sessions::Sessions;
 use core_plans::HeldPlans;
+use core_sessions::Sessions;
 use replies::{LineRefused, PlanRefused, Refusal, Reply, SessionRefused};
 use request_check::{CheckRefusal, Checked, check};
 use requests::{Call, Request};
@@ -28,8 +29,8 @@ pub(crate) fn resolve(
     plans: &HeldPlans,
     request: &Request,
 ) -> Result<Checked, CheckRefusal>
-    ensures asked { Gives reply_unless_memory result (replied (asked_of config.now sessions.now plans.now request.now)) }
-    ensures can { IfOk result (CanBeDone config.now sessions.now plans.now) }
+    ensures asked { Gives reply_unless_memory result (replied (asked_of config.now (sessions_of sessions.now) plans.now request.now)) }
+    ensures can { IfOk result (CanBeDone config.now (sessions_of sessions.now) plans.now) }
 {
     match admit(sessions, plans, request) {
         Ok(()) => check(alloc, config, request),
@@ -39,7 +40,7 @@ pub(crate) fn resolve(
 
 /// Refuses a word that isn't built yet, and a plan or a session that the request may not name.
 fn admit(sessions: &Sessions, plans: &HeldPlans, request: &Request) -> Result<(), Refusal>
-    ensures { result ≡ admitted sessions.now plans.now request.now }
+    ensures { result ≡ admitted (sessions_of sessions.now) plans.now request.now }
 {
     if !is_built(request) {
         return Err(not_built(request));
@@ -50,23 +51,13 @@ fn admit(sessions: &Sessions, plans: &HeldPlans, request: &Request) -> Result<()
 
 // ---- what is built
 
-/// A call is built, but for a critical read.
-fn is_built_call(call: &Call) -> bool
-    ensures { result ≡ is_built_call call.now }
-{
-    match call {
-        Call::Write(_) => true,
-        Call::Read(read) => !read.critical,
-    }
-}
-
 fn is_built(request: &Request) -> bool
     ensures { result ≡ is_built request.now }
 {
     match request {
-        Request::Hold { call, .. } => is_built_call(call),
-        Request::Call(call) => is_built_call(call),
         Request::Open(_)
+        | Request::Call(_)
+        | Request::Hold { .. }
         | Request::Advance { .. }
         | Request::Deliver(_)
         | Request::Again(_)
@@ -75,6 +66,8 @@ fn is_built(request: &Request) -> bool
         | Request::Evict { .. }
         | Request::Show { .. }
         | Request::Inbox { .. }
+        | Request::Cut(_)
+        | Request::Mend(_)
         | Request::Audit(_) => true,
         _ => false,
     }
@@ -141,7 +134,7 @@ fn session_of(call: &Call) -> u32
 
 /// Refuses a session that isn't open.
 fn open_session(sessions: &Sessions, session: u32) -> Result<(), Refusal>
-    ensures { result ≡ open_session sessions.now session }
+    ensures { result ≡ open_session (sessions_of sessions.now) session }
 {
     if sessions.is_open(session) {
         Ok(())
@@ -152,7 +145,7 @@ fn open_session(sessions: &Sessions, session: u32) -> Result<(), Refusal>
 
 /// Refuses a session that can't be opened.
 fn new_session(sessions: &Sessions, session: u32) -> Result<(), Refusal>
-    ensures { result ≡ new_session sessions.now session }
+    ensures { result ≡ new_session (sessions_of sessions.now) session }
 {
     if sessions.is_open(session) {
         return Err(Refusal::Session(SessionRefused::SessionThere { session }));
@@ -167,7 +160,7 @@ fn new_session(sessions: &Sessions, session: u32) -> Result<(), Refusal>
 
 /// Refuses the session that the request names, unless it may.
 fn session_for(sessions: &Sessions, request: &Request) -> Result<(), Refusal>
-    ensures { result ≡ session_for sessions.now request.now }
+    ensures { result ≡ session_for (sessions_of sessions.now) request.now }
 {
     match request {
         Request::Call(call) => open_session(sessions, session_of(call)),

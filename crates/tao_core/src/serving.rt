@@ -1,51 +1,61 @@
 //! The core.
-ghost use Rattle.std.specs.Prelude.{◌≡◌, Ok, IfOk, IfErr, None, Some, false, if◌then◌else◌, option_copied, true};
+ghost use Rattle.std.specs.Prelude.{◌≡◌, ◌<◌, Bool, Ok, IfOk, IfErr, IfSome, OnOk, Some, false, length, option_copied, slice_get, true};
 ghost use Rattle.config_json.specs.Stage.{IsWithoutInverses};
 ghost use Rattle.core_nodes.specs.Shown.{IsHeldAt, IsMarkAt};
 ghost use Rattle.core_nodes.specs.Opening.{IsOpened, MayOpen, RefusesOpening};
 ghost use Rattle.graph_model.specs.Told.{WhereTold};
 ghost use Rattle.request_check.specs.Placed.{IsPlacedKey, IsPlacedWrite};
-ghost use Rattle.tao_base.specs.Queries.{query_key};
+ghost use Rattle.tao_base.specs.Queries.{query_key, query_shard};
 ghost use Rattle.tao_core.specs.Asked.{CanBeDone, CallCanBeDone, reply_as};
-ghost use Rattle.tao_core.specs.Core.{IsConsistentCore, IsCoreOf, IsNewCore, StaysHeld, moment};
+ghost use Rattle.tao_core.specs.Core.{CoreState, IsConsistentCore, IsCoreOf, IsNewCore, StaysHeld, moment};
 ghost use Rattle.core_model.specs.Growing.{MastersGrow};
-ghost use Rattle.tao_core.specs.Calls.{AnswersRead, AnswersWrite};
-ghost use Rattle.core_model.specs.Consistent.{IsFleetOf};
+ghost use Rattle.core_model.specs.Stores.{AreStores};
+ghost use Rattle.tao_core.specs.Calls.{AnswersRead, AnswersWrite, LearnsSeeing, ReadsBy};
+ghost use Rattle.core_model.specs.Consistent.{IsConsistent, IsFleetOf};
+ghost use Rattle.core_model.specs.Reads.{wanted};
+ghost use Rattle.core_model.specs.Serving.{IsFollowerFor, IsLeaderFor};
+ghost use Rattle.core_steps.specs.ReadSteps.{IsReached};
+ghost use Rattle.core_steps.specs.Routes.{scene};
 ghost use Rattle.core_model.specs.Evictions.{IsCacheOf};
-ghost use Rattle.tao_core.specs.Replies.{AnswersAsked, AnswersEvict, AnswersOpen, AnswersRequest};
+ghost use Rattle.tao_core.specs.Replies.{AnswersAsked, AnswersEvict, AnswersOpen, AnswersRequest, AnswersSwitch};
 ghost use Rattle.tao_keeper.specs.KeeperState.{KeeperState};
 ghost use Rattle.tao_link.specs.Shown.{LinkShown};
-ghost use Rattle.tao_core.specs.Sessions.{is_open};
+ghost use Rattle.core_sessions.specs.Sessions.{HasRoom, is_open, session_at, sessions_of};
+ghost use Rattle.core_model.specs.Pens.{pens_of};
+ghost use Rattle.session_pass.specs.Floors.{floor_at};
+ghost use Rattle.session_pass.specs.Passes.{IsNoteOf};
+ghost use Rattle.shard_log.specs.View.{as_note};
+ghost use Rattle.shard_tables.specs.Written.{StandsIn};
+ghost use Rattle.std.specs.Option.{option_map};
 ghost use Rattle.tao_keeper.specs.Growing.{LogsGrow};
+ghost use Rattle.tao_keeper.specs.Table.{Tables};
 ghost use Rattle.tao_keeper.specs.KeeperState.{IsLater, KeepsTables};
 
 use crate::audits::audit;
 use crate::refusals::no_server;
 use crate::resolving::{not_built, resolve};
-use crate::sessions::{OpenSession, Sessions};
 use cache_items::Item;
 use core_mail::Mail;
 use core_nodes::Fleet;
 use core_plans::HeldPlans;
-use core_steps::{Route, out_of_memory, read_along, write_along};
+use core_sessions::{OpenSession, Sessions};
+use core_steps::{CarriedOut, Route, out_of_memory, read_along, read_critical, write_along};
 use node_name::NodeName;
-use replies::{CacheReply, NodeReply, OpenRefusal, Reply};
-use request_check::{CheckRefusal, Checked, CheckedCall, CheckedRead, CheckedWrite};
+use replies::{CacheReply, CallReply, NodeReply, OpenRefusal, Reply};
+use request_check::{CheckRefusal, Checked, CheckedCall, CheckedRead, CheckedWrite, LinkPlace};
 use requests::Request;
+use shard_log::Note;
 use std::alloc::Global;
 use std::marker::Model;
-use tao_base::{Key, Origin, OutOfMemory};
+use tao_base::{Entry, Key, Origin, OutOfMemory};
 use tao_keeper::Keeper;
 use tao_link::Link;
 use topology::{Config, Topology};
-use words::PlanWord;
+use words::{LinkWord, PlanWord};
 
-/// The version that the answer to a session's read has at least: sessions don't learn what they wrote yet.
-pub(crate) const NO_FLOOR: u64 = 0;
-
-/// The core of a run: its configuration, the sessions that are open, which nodes are up, the messages that wait, the calls that are
-/// held, and the nodes:
-/// followers, leaders, and the stores of the shards. What the stores hold lies with the keepers that each call is given.
+/// The core of a run: its configuration, the sessions that are open with what they were told of, which nodes are up, the messages that
+/// wait, the calls that are held, and the nodes: followers, leaders, and the stores of the shards. What the stores hold lies with the
+/// keepers that each call is given.
 #[derive(Drop)]
 pub struct Core<'c> {
     pub(crate) config: &'c Config,
@@ -66,8 +76,8 @@ impl<'c> Model for Core<'c> {
 
 impl<'c> Core<'c> {
     /// Opens the store of each shard with the configuration's line, the shards in order, and makes the nodes before them, which
-    /// hold nothing yet, and for which no message waits. No session is open then. The configuration is one without inverses, as each that `read_config` takes:
-    /// the far ends of edges aren't written yet. Logs only grow.
+    /// hold nothing yet, and for which no message waits. No session is open then. The configuration is one without inverses, as each
+    /// that `read_config` takes: the far ends of edges aren't written yet. Logs only grow.
     ///
     /// `OtherLine` comes exactly where a store was first opened with another line: the stores before it
     /// are open then. `KeeperFault` comes only where the keepers' count of faults rose, and
@@ -107,9 +117,10 @@ impl<'c> Core<'c> {
         }
     }
 
-    /// Answers a request: opens a session, makes a write, answers a read or an audit, or drops an item of a node; or refuses it. A
-    /// write's one entry is committed before it is answered. After a refusal no log has changed, but where the way back of a write
-    /// failed. Logs only grow.
+    /// Answers a request: opens a session, makes a write, answers a read or an audit, does a stage of a held call, delivers a message,
+    /// drops an item of a node, or cuts or mends a link; or refuses it. A write's one entry is committed before it is answered, and its
+    /// session learns it with the answer. After a refusal no log has changed, but where it tells the position of a write that stands.
+    /// Logs only grow.
     ///
     /// Costs what `request_check::check` does, a binary search among the open sessions, a look-up at the follower, and where that
     /// holds nothing that answers, what its leader takes. An audit takes the whole log of its shard.
@@ -163,8 +174,10 @@ impl<'c> Core<'c> {
                     region: *region,
                     tier: *tier,
                 };
-                open_session(&mut self.sessions, opened)
+                self.open_session(alloc, opened)
             }
+            Checked::Cut(place) => switch(link, LinkWord::Cut, *place, false),
+            Checked::Mend(place) => switch(link, LinkWord::Mend, *place, true),
             Checked::Call(CheckedCall::Write(call)) => self.write(alloc, keepers, link, call),
             Checked::Call(CheckedCall::Read(call)) => self.read(alloc, keepers, link, call),
             Checked::Hold { plan, call } => self.hold(alloc, keepers, link, *plan, call),
@@ -209,15 +222,18 @@ impl<'c> Core<'c> {
             follower,
             leader: self.topology.preferred(session.region, shard),
         };
-        read_along(
+        let Some(floor) = self.sessions.floor(call.session, call.query.key()) else {
+            unreachable!()
+        };
+        read_by(
             alloc,
             &mut self.fleet,
             self.config,
             keepers,
             link,
             route,
-            &call.query,
-            NO_FLOOR,
+            call,
+            floor,
         )
     }
 
@@ -245,6 +261,9 @@ impl<'c> Core<'c> {
         let Some(follower) = self.topology.follower(session.region, session.tier, shard) else {
             return no_server(session.region);
         };
+        let Ok(note) = ready(&mut self.sessions, call.session, shard) else {
+            return out_of_memory();
+        };
         let master = self.topology.master(shard);
         let route = Route {
             follower,
@@ -254,7 +273,7 @@ impl<'c> Core<'c> {
             session: call.session,
             seq: call.seq,
         };
-        write_along(
+        match write_along(
             alloc,
             &mut self.fleet,
             &mut self.mail,
@@ -265,7 +284,21 @@ impl<'c> Core<'c> {
             route,
             origin,
             &call.write,
-        )
+        ) {
+            Ok(CarriedOut { reply, entry }) => {
+                learn(
+                    &mut self.sessions,
+                    &mut self.fleet,
+                    self.config,
+                    call.session,
+                    shard,
+                    entry,
+                    note,
+                );
+                Reply::Called(CallReply::Write(reply))
+            }
+            Err(reply) => reply,
+        }
     }
 
     /// The item that a leader or follower holds at the key. None exactly where the name is none of theirs, or the node holds no item
@@ -284,12 +317,31 @@ impl<'c> Core<'c> {
         self.fleet.mark(node, shard)
     }
 
-    /// The version that a session's reads of the key have at least: none is asked for yet. None exactly where the session isn't open.
+    /// The version that a session's reads of the key have at least: the greatest that its writes which were carried out gave the key. None
+    /// exactly where the session isn't open. A binary search, and a look-up.
     pub fn floor(&self, session: u32, key: Key) -> Option<u64>
-        ensures { result ≡ (if is_open self.now.sessions session then Some 0 else None) }
+        ensures { result ≡ option_map (λ s. floor_at s.floors key) (session_at self.now.sessions session) }
     {
-        let _ = key;
-        self.sessions.is_open(session).then_some(NO_FLOOR)
+        self.sessions.floor(session, key)
+    }
+
+    /// Opens a session, with a note of each shard's log.
+    fn open_session(&mut self, alloc: Global, opened: OpenSession) -> Reply
+        requires stores { AreStores self.old.settings self.old.settings.shards self.old.fleet.masters }
+        requires new { is_open self.old.sessions opened.session ≡ false }
+        requires region { opened.region < length self.old.settings.regions }
+        ensures does { AnswersOpen opened self.old.sessions result self.new.sessions }
+        ensures keepers { (tells : Bool) (tables : Tables) → IsConsistentCore tells tables self.old → IsConsistentCore tells tables self.new }
+        ensures rest { self.new ≡ record self.old { sessions = self.new.sessions } }
+    {
+        let Ok(notes) = self.fleet.notes(alloc, self.config) else {
+            return out_of_memory();
+        };
+        let session = opened.session;
+        match self.sessions.add(alloc, opened, notes) {
+            Ok(()) => Reply::Opened { session },
+            Err(OutOfMemory) => out_of_memory(),
+        }
     }
 
     /// Drops an item of a cache node.
@@ -306,6 +358,36 @@ impl<'c> Core<'c> {
     }
 }
 
+/// Answers a read at its floor along its route: a critical one by the master's store.
+fn read_by<K: Keeper, L: Link>(
+    alloc: Global,
+    fleet: &mut Fleet,
+    config: &Config,
+    keepers: &mut K,
+    link: &mut L,
+    route: Route,
+    call: &CheckedRead,
+    floor: u64,
+) -> Reply
+    requires consistent { IsConsistent K.TELLS config.now (K.state keepers.old).told fleet.old }
+    requires follower { IsFollowerFor config.now (query_shard call.now.query) route.follower }
+    requires leader { IsLeaderFor config.now (query_shard call.now.query) route.leader }
+    requires reached { IsReached K.TELLS config.now (wanted call.now.query floor) (K.state keepers.old) }
+    ensures reads { ReadsBy call.now.critical K.TELLS config.now route (wanted call.now.query floor) result
+        (scene fleet.old (K.state keepers.old) (L.shown link.old)) (scene fleet.new (K.state keepers.new) (L.shown link.new)) }
+    ensures on { StaysHeld fleet.old fleet.new }
+    ensures consistent { IsConsistent K.TELLS config.now (K.state keepers.new).told fleet.new }
+    ensures tables { KeepsTables K.TELLS (K.state keepers.old) (K.state keepers.new) }
+    ensures later { IsLater (K.state keepers.old) (K.state keepers.new) }
+{
+    let query = &call.query;
+    if call.critical {
+        read_critical(alloc, fleet, config, keepers, link, route, query, floor)
+    } else {
+        read_along(alloc, fleet, config, keepers, link, route, query, floor)
+    }
+}
+
 /// The reply where nothing is asked.
 fn unasked(refusal: CheckRefusal) -> Reply
     ensures { result ≡ reply_as refusal }
@@ -316,14 +398,51 @@ fn unasked(refusal: CheckRefusal) -> Reply
     }
 }
 
-/// Opens a session.
-fn open_session(sessions: &mut Sessions, session: OpenSession) -> Reply
-    requires { is_open sessions.old session.session ≡ false }
-    ensures { AnswersOpen session sessions.old result sessions.new }
+/// Makes room for what a session is to learn, and takes a note of the shard's log for it. The one error is want of memory.
+fn ready(sessions: &mut Sessions, session: u32, shard: u16) -> Result<Note, OutOfMemory>
+    requires open { is_open (sessions_of sessions.old) session ≡ true }
+    requires shard { IfSome (session_at (sessions_of sessions.old) session) (λ s. shard < length s.notes) }
+    ensures same { sessions_of sessions.new ≡ sessions_of sessions.old }
+    ensures room { OnOk result (HasRoom session sessions.new) }
+    ensures note { IfOk result (λ note. IfSome (session_at (sessions_of sessions.old) session) (λ s. slice_get s.notes shard ≡ Some note)) }
 {
-    let number = session.session;
-    match sessions.add(session) {
-        Ok(()) => Reply::Opened { session: number },
-        Err(_) => out_of_memory(),
+    sessions.reserve(session)?;
+    sessions.note(session, shard)
+}
+
+/// The session learns what was written to the shard's log, where there is an entry. The note was taken before, and sees the entry now.
+fn learn(
+    sessions: &mut Sessions,
+    fleet: &mut Fleet,
+    config: &Config,
+    session: u32,
+    shard: u16,
+    entry: Option<Entry>,
+    note: Note,
+)
+    requires stores { AreStores config.now config.now.shards fleet.old.masters }
+    requires here { shard < config.now.shards }
+    requires one_log { (pens_of fleet.old.masters shard).log ≡ note.log }
+    requires open { is_open (sessions_of sessions.old) session ≡ true }
+    requires room { HasRoom session sessions.old }
+    requires seen { IfSome (session_at (sessions_of sessions.old) session) (λ s. IsNoteOf shard (as_note (pens_of fleet.old.masters shard)) s.notes) }
+    requires stands { IfSome entry (StandsIn (pens_of fleet.old.masters shard)) }
+    ensures learns { LearnsSeeing (as_note (pens_of fleet.old.masters shard)) session shard entry (sessions_of sessions.old) (sessions_of sessions.new) }
+    ensures same { fleet.new ≡ fleet.old }
+{
+    if let Some(entry) = entry {
+        let note = fleet.renew(config, shard, note);
+        sessions.learn(session, shard, &entry, note);
+    }
+}
+
+/// Asks a link to cut one direction between two nodes, or to mend it.
+fn switch<L: Link>(link: &mut L, word: LinkWord, place: LinkPlace, whole: bool) -> Reply
+    ensures { (core : CoreState) (keepers : KeeperState) → AnswersSwitch word whole place (moment core keepers (L.shown link.old)) result
+        (moment core keepers (L.shown link.new)) }
+{
+    match link.switch(place.from, place.to, whole) {
+        Ok(()) => Reply::Node(NodeReply::Link { word }),
+        Err(OutOfMemory) => out_of_memory(),
     }
 }

@@ -2,20 +2,23 @@ use Rattle.std.proofs.Common.{[], subst, sym}
 use Rattle.std.specs.Prelude.{All}
 use Rattle.std.proofs.lemmas.List.Elements.{All-from_recursion}
 use Rattle.core_model.specs.Pens.{pens_of}
-use Rattle.tao_core.specs.Core.{IsPlacedIn}
-use Rattle.tao_core.proofs.HeldNone.{none_held}
+use Rattle.tao_core.specs.Core.{IsSessionOf}
+use Rattle.tao_core.proofs.HeldNone.{no_plan, none_held}
 use Rattle.tao_core.proofs.serving.Core.open.Goals as goal
 
 pub returns-in-Ok-open-clause-keepers : goal.returns-in-Ok-open-clause-keepers
 returns-in-Ok-open-clause-keepers g c =
     let s = c.args.config.now in
+    let tables = (g.K.Keeper.state c.open.new.keepers).told in
     record {
       is_consistent = record {
         consistent = c.in_ok-fleet.ensures.consistent;
         mail = c.in-Ok-open.ensures.of (pens_of c.in_ok-fleet.fleet.masters);
         up = c.in-Ok.ensures.made;
-        sessions = subst (All (IsPlacedIn s)) (sym c.new.ensures) (All-from_recursion (IsPlacedIn s) [] tt);
+        sessions = subst (All (IsSessionOf g.K.Keeper.TELLS s tables (pens_of c.in_ok-fleet.fleet.masters))) (sym c.new.ensures)
+            (All-from_recursion (IsSessionOf g.K.Keeper.TELLS s tables (pens_of c.in_ok-fleet.fleet.masters)) [] tt);
         no_inverse = c.requires.no_inverse;
       };
+      authors = λ number plan at. absurd (no_plan c.new-in-Ok-open.result number plan c.new-in-Ok-open.ensures.none at);
       plans = none_held g.K.Keeper.TELLS s _ c.in_ok-fleet.fleet c.new-in-Ok-open.result c.new-in-Ok-open.ensures.none c.in_ok-fleet.ensures.empty;
     }

@@ -1,24 +1,29 @@
 use Rattle.std.proofs.Common.{Ok, ap, refl, subst, sym}
 use Rattle.tao_core.specs.Asked.{CanBeDone}
-use Rattle.tao_core.specs.Core.{CoreState, IsCoreOf, IsPlacedIn, core_state, moment}
+use Rattle.tao_core.specs.Core.{CoreState, IsConsistentCore, IsCoreOf, moment}
 use Rattle.tao_core.specs.Replies.{AnswersAsked}
-use Rattle.tao_core.specs.declared.sessions.OpenSession.{OpenSession}
-use Rattle.tao_core.proofs.HeldOn.{core_held, core_goes_on, fleet_stays, nodes_alone, same_held}
-use Rattle.tao_core.proofs.Keeping.{core_stays, delivered_core, evicted_core, mail_only, nodes_only, only_mail, only_nodes, opened_core}
+use Rattle.core_sessions.specs.declared.sessions.OpenSession.{OpenSession}
+use Rattle.core_steps.proofs.GrowingLemmas.{stays_masters}
+use Rattle.tao_core.proofs.HeldOn.{core_held, core_goes_on, core_opened, fleet_stays, same_held}
+use Rattle.tao_core.proofs.StayOpen.{opens_stay, writes_stay}
+use Rattle.tao_core.proofs.Keeping.{core_stays, delivered_core, evicted_core, mail_only, nodes_only, only_mail, only_nodes}
 use Rattle.tao_core.proofs.serving.Core.perform.Goals as goal
+
+pub open_session-requires-clause-region : goal.open_session-requires-clause-region
+open_session-requires-clause-region g c =
+    (subst (CanBeDone c.args.self.now.settings c.args.self.now.sessions c.args.self.now.plans) c.in-Open.is c.requires.can).1
 
 pub returns-in-Open-clause-keepers : goal.returns-in-Open-clause-keepers
 returns-in-Open-clause-keepers g c =
     let keepers = g.K.Keeper.state c.args.keepers.now in
-    let core = core_state c.self.inside in
-    let of = subst (IsCoreOf g.K.Keeper.TELLS keepers.told) (sym c.self.view_is) c.requires.keepers in
     let can = subst (CanBeDone c.args.self.now.settings c.args.self.now.sessions c.args.self.now.plans) c.in-Open.is c.requires.can in
-    let session : OpenSession = record { session = c.in-Open.session; region = c.in-Open.region; tier = c.in-Open.tier } in
-    let placed = subst (λ (x : CoreState). IsPlacedIn x.settings session) (sym c.self.view_is) can.1 in
-    let after : CoreState = record core { sessions = c.open_session.new.sessions } in
-    core_held g.K.Keeper.TELLS keepers keepers core after of
-    (opened_core g.K.Keeper.TELLS keepers.told core session c.open_session.new.sessions c.open_session.result of.is_consistent placed c.open_session.ensures)
-    (same_held core.fleet) (λ told at. refl) refl
+    let opened : OpenSession = record { session = c.in-Open.session; region = c.in-Open.region; tier = c.in-Open.tier } in
+    let is = c.open_session.ensures.keepers g.K.Keeper.TELLS keepers.told c.requires.keepers.is_consistent in
+    subst (IsCoreOf g.K.Keeper.TELLS keepers.told) (sym c.open_session.ensures.rest)
+    (core_opened g.K.Keeper.TELLS keepers.told c.args.self.now c.open_session.new.self.sessions c.requires.keepers
+    (subst (IsConsistentCore g.K.Keeper.TELLS keepers.told) c.open_session.ensures.rest is)
+    (stays_masters g.K.Keeper.TELLS c.args.self.now.settings keepers keepers (λ told at. refl))
+    (opens_stay opened c.args.self.now.sessions c.open_session.result c.open_session.new.self.sessions can.0 c.open_session.ensures.does))
 
 pub returns-in-Evict-clause-keepers : goal.returns-in-Evict-clause-keepers
 returns-in-Evict-clause-keepers g c =
@@ -27,7 +32,7 @@ returns-in-Evict-clause-keepers g c =
     core_held g.K.Keeper.TELLS keepers keepers c.args.self.now c.evict.new.self c.requires.keepers
     (evicted_core g.K.Keeper.TELLS keepers.told c.in-Evict.node c.in-Evict.key (moment c.args.self.now keepers link) (moment c.evict.new.self keepers link)
     c.evict.result c.requires.keepers.is_consistent (c.evict.ensures.does keepers link) c.evict.ensures.fleet c.evict.ensures.rest)
-    c.evict.ensures.on (λ told at. refl) (nodes_alone c.args.self.now c.evict.new.self (only_nodes c.args.self.now c.evict.new.self c.evict.ensures.rest))
+    c.evict.ensures.on (λ told at. refl) (only_nodes c.args.self.now c.evict.new.self c.evict.ensures.rest)
 
 pub returns-in-Audit-clause-keepers : goal.returns-in-Audit-clause-keepers
 returns-in-Audit-clause-keepers g c =
@@ -50,7 +55,7 @@ returns-in-Deliver-clause-keepers g c =
     core_held g.K.Keeper.TELLS keepers keepers c.args.self.now c.deliver.new.self c.requires.keepers
     (delivered_core g.K.Keeper.TELLS keepers.told c.args.self.now c.deliver.new.self c.requires.keepers.is_consistent
     c.deliver.ensures.fleet c.deliver.ensures.masters c.deliver.ensures.inboxes c.deliver.ensures.rest)
-    c.deliver.ensures.on (λ told at. refl) (nodes_alone c.args.self.now c.deliver.new.self c.deliver.ensures.rest)
+    c.deliver.ensures.on (λ told at. refl) c.deliver.ensures.rest
 
 pub returns-in-Again-clause-does : goal.returns-in-Again-clause-does
 returns-in-Again-clause-does g c =
@@ -68,7 +73,7 @@ returns-in-Again-clause-keepers g c =
     (nodes_only g.K.Keeper.TELLS keepers.told c.args.self.now c.deliver_again.new.self c.requires.keepers.is_consistent
     c.deliver_again.ensures.fleet c.deliver_again.ensures.masters c.deliver_again.ensures.rest)
     c.deliver_again.ensures.on (λ told at. refl)
-    (nodes_alone c.args.self.now c.deliver_again.new.self (only_nodes c.args.self.now c.deliver_again.new.self c.deliver_again.ensures.rest))
+    (only_nodes c.args.self.now c.deliver_again.new.self c.deliver_again.ensures.rest)
 
 pub returns-in-Drop-clause-does : goal.returns-in-Drop-clause-does
 returns-in-Drop-clause-does g c =
@@ -84,7 +89,7 @@ returns-in-Drop-clause-keepers g c =
     core_held g.K.Keeper.TELLS keepers keepers c.args.self.now c.lose.new.self c.requires.keepers
     (mail_only g.K.Keeper.TELLS keepers.told c.args.self.now c.lose.new.self c.requires.keepers.is_consistent c.lose.ensures.inboxes c.lose.ensures.rest)
     (fleet_stays c.args.self.now.fleet c.lose.new.self.fleet (ap (λ (x : CoreState). x.fleet) c.lose.ensures.rest)) (λ told at. refl)
-    (nodes_alone c.args.self.now c.lose.new.self rest)
+    rest
 
 pub returns-in-Show-clause-does : goal.returns-in-Show-clause-does
 returns-in-Show-clause-does g c =
@@ -110,7 +115,7 @@ returns-in-Refill-clause-keepers g c =
     let new = g.K.Keeper.state c.refill.new.keepers in
     core_held g.K.Keeper.TELLS old new c.args.self.now c.refill.new.self c.requires.keepers c.refill.ensures.keepers c.refill.ensures.on
     c.refill.ensures.tables
-    (nodes_alone c.args.self.now c.refill.new.self (only_nodes c.args.self.now c.refill.new.self c.refill.ensures.rest))
+    (only_nodes c.args.self.now c.refill.new.self c.refill.ensures.rest)
 
 pub returns-in-Call-Write-clause-keepers : goal.returns-in-Call-Write-clause-keepers
 returns-in-Call-Write-clause-keepers g c =
@@ -118,6 +123,9 @@ returns-in-Call-Write-clause-keepers g c =
     core_goes_on g.K.Keeper.TELLS (g.K.Keeper.state c.args.keepers.now).told (g.K.Keeper.state c.write.new.keepers).told c.args.self.now c.write.new.self
     c.requires.keepers c.write.ensures.keepers c.write.ensures.on c.write.ensures.grows (ap (λ (x : CoreState). x.settings) rest)
     (ap (λ (x : CoreState). x.plans) rest)
+    (writes_stay g.K.Keeper.TELLS (moment c.args.self.now (g.K.Keeper.state c.args.keepers.now) (g.L.Link.shown c.args.link.now))
+    c.in-Call-Write.call c.write.result (moment c.write.new.self (g.K.Keeper.state c.write.new.keepers) (g.L.Link.shown c.write.new.link))
+    c.write.ensures.does.replies)
 
 pub returns-in-Call-Read-clause-keepers : goal.returns-in-Call-Read-clause-keepers
 returns-in-Call-Read-clause-keepers g c =
@@ -125,4 +133,4 @@ returns-in-Call-Read-clause-keepers g c =
     let new = g.K.Keeper.state c.read.new.keepers in
     core_held g.K.Keeper.TELLS old new c.args.self.now c.read.new.self c.requires.keepers c.read.ensures.keepers c.read.ensures.on
     c.read.ensures.does.tables
-    (nodes_alone c.args.self.now c.read.new.self (only_nodes c.args.self.now c.read.new.self c.read.ensures.does.rest))
+    (only_nodes c.args.self.now c.read.new.self c.read.ensures.does.rest)

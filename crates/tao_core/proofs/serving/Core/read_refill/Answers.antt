@@ -7,6 +7,7 @@ use Rattle.core_steps.specs.Reads.{ReadsAlong}
 use Rattle.core_steps.specs.Routes.{scene}
 use Rattle.node_name.specs.declared.NodeName.{NodeName}
 use Rattle.tao_base.specs.Queries.{query_shard}
+use Rattle.tao_keeper.proofs.Growing.{growing_laws}
 use Rattle.tao_core.specs.Core.{CoreState, IsConsistentCore, StaysHeld, core_state}
 use Rattle.tao_core.specs.Deliveries.{refill_route}
 use Rattle.tao_core.proofs.Delivering.{refill_chosen, refill_leader, refill_reached}
@@ -55,6 +56,7 @@ returns-clause-keepers g c =
     let of = subst (IsConsistentCore g.K.Keeper.TELLS (state c.args.keepers.now).told) (sym c.self.view_is) c.requires.keepers in
     going_core g.K.Keeper.TELLS (state c.args.keepers.now).told (core_state c.self.inside) of (state c.read_along.new.keepers).told
     c.read_along.new.fleet c.read_along.ensures.consistent c.read_along.ensures.goes
+    (growing_laws.stays g.K.Keeper.TELLS (state c.args.keepers.now).told (state c.read_along.new.keepers).told c.read_along.ensures.tables)
 
 pub returns-clause-on : goal.returns-clause-on
 returns-clause-on g c =

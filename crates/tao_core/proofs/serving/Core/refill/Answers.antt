@@ -1,8 +1,9 @@
-use Rattle.std.proofs.Common.{◌≡◌, ap, subst, sym}
+use Rattle.std.proofs.Common.{◌≡◌, ap, refl, subst, sym}
 use Rattle.core_model.specs.Consistent.{IsConsistent}
 use Rattle.core_model.specs.Fleet.{Fleet, HasNode}
 use Rattle.core_model.specs.Messages.{IsRefillFor}
 use Rattle.core_model.specs.Pens.{pens_of}
+use Rattle.tao_keeper.proofs.Growing.{growing_laws}
 use Rattle.tao_core.specs.Core.{CoreState, IsConsistentCore, StaysHeld, core_state, moment}
 use Rattle.tao_core.specs.Deliveries.{AnswersRefill}
 use Rattle.tao_core.proofs.Delivering.{follower_has, refill_answers, refill_consistent, refill_none}
@@ -23,7 +24,7 @@ read_refill-requires-clause-keepers g c =
     going_core g.K.Keeper.TELLS tables (core_state c.self.inside) of tables c.next_refill.new.self
     (refill_consistent g.K.Keeper.TELLS c.self.inside.config.now tables c.self.inside.fleet c.next_refill.new.self of.consistent c.next_refill.ensures.rest
     c.next_refill.ensures.fleet)
-    c.next_refill.ensures.goes
+    c.next_refill.ensures.goes (growing_laws.stays g.K.Keeper.TELLS tables tables (λ told at. refl))
 
 pub read_refill-requires-clause-refill : goal.read_refill-requires-clause-refill
 read_refill-requires-clause-refill g c =
@@ -63,7 +64,7 @@ returns-in-None-clause-keepers g c =
     going_core g.K.Keeper.TELLS tables (core_state c.self.inside) of tables c.next_refill.new.self
     (refill_consistent g.K.Keeper.TELLS c.self.inside.config.now tables c.self.inside.fleet c.next_refill.new.self of.consistent c.next_refill.ensures.rest
     c.next_refill.ensures.fleet)
-    c.next_refill.ensures.goes
+    c.next_refill.ensures.goes (growing_laws.stays g.K.Keeper.TELLS tables tables (λ told at. refl))
 
 pub returns-in-Some-clause-on : goal.returns-in-Some-clause-on
 returns-in-Some-clause-on g c =

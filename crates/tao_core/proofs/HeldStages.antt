@@ -1,0 +1,118 @@
+-- What a stage of a held plan leaves, where the plan is held on, and where it is over.
+use Rattle.std.proofs.Common.{◌≡◌, ℕ, Bool, List, Option, Some, None, refl, sym, subst}
+use Rattle.std.specs.Prelude.{All, IfSome, IsSome, option_and_then}
+use Rattle.core_mail.specs.Inboxes.{AreInboxesOf, Inboxes}
+use Rattle.core_model.specs.Consistent.{GoesOn, IsConsistent}
+use Rattle.core_model.specs.Fleet.{Fleet}
+use Rattle.core_model.specs.Growing.{MastersGrow}
+use Rattle.core_model.specs.Pens.{pens_of}
+use Rattle.core_plans.specs.Held.{CanStep, ChangesPlan, IsUnderWay, OpensFirst, Plans, StepsPlan, learner, plan_at}
+use Rattle.core_plans.specs.declared.held.HeldPlan.{HeldPlan}
+use Rattle.core_sessions.specs.Sessions.{HasRoom, Session, sessions_of}
+use Rattle.core_steps.specs.Routes.{Scene, scene}
+use Rattle.core_steps.specs.Writes.{Posting, posting}
+use Rattle.graph_model.proofs.Members.{if_some, if_some_at}
+use Rattle.node_name.specs.declared.NodeName.{NodeName}
+use Rattle.replies.specs.declared.plans.Stage.{Stage}
+use Rattle.replies.specs.declared.reply.Reply.{Reply}
+use Rattle.session_pass.specs.Passes.{SeenPass}
+use Rattle.tao_keeper.specs.KeeperState.{KeeperState}
+use Rattle.tao_keeper.specs.Table.{Tables}
+use Rattle.tao_link.specs.Shown.{LinkShown}
+use Rattle.topology.specs.Config.{Settings}
+use Rattle.topology.specs.States.{NodeStates}
+use Rattle.words.specs.declared.PlanWord.{PlanWord}
+use Rattle.tao_core.specs.Core.{CoreState, IsConsistentCore, IsCoreOf, IsOfSession, IsSessionOf, moment}
+use Rattle.tao_core.specs.HeldCalls.{DoesStage, EndsPlan, HasRoomFor, MayLearn, StepsAt, held, next_at, plan_leader}
+use Rattle.tao_core.proofs.HeldKeeping.{author_held, does_stage, end_steps, ends_core, next_core, set_here, stepped_core}
+use Rattle.tao_core.proofs.HeldLearning.{may_learn, room_after, room_given_up}
+
+-- ---- a stage, or the end without it
+
+-- a link that showed no carry
+abbrev pub fresh_link : LinkShown
+fresh_link = record { cuts = None; carries = 0; faults = 0; failed = None }
+
+pub can_under : (tells : Bool) (s : Settings) (tables : Tables) (f : Fleet) (leader : NodeName) (plan : Option HeldPlan)
+    → CanStep tells s tables f leader plan → IfSome plan (IsUnderWay tells s tables f)
+can_under tells s tables f leader None can = absurd can
+can_under tells s tables f leader (Some plan) can = can.under_way
+
+module _ (tells : Bool) (s : Settings) (leader : NodeName) (number : ℕ) (plans later : Plans) (passes : List SeenPass) where
+  room_there : (after : HeldPlan) → ChangesPlan number after plans later → HasRoomFor after passes
+      → IfSome (plan_at later number) (λ one. HasRoomFor one passes)
+  room_there after changes room =
+      subst (λ (o : Option HeldPlan). IfSome o (λ one. HasRoomFor one passes)) (sym (set_here number (Some after) plans later changes.sets)) room
+
+  pub room_stepped : (tables : Tables) (f : Fleet) (old new : Posting) → StepsPlan tells s leader number plans old later new
+      → CanStep tells s tables f leader (plan_at plans number) → IfSome (plan_at plans number) OpensFirst
+      → IfSome (option_and_then learner (plan_at plans number)) (λ n. HasRoom n passes) → IfSome (plan_at later number) (λ one. HasRoomFor one passes)
+  room_stepped tables f old new steps can first room = room_there steps.after steps.changes
+      (room_after tells s tables f leader steps.before steps.after old new passes
+      (if_some_at OpensFirst (plan_at plans number) steps.before first steps.stands)
+      (if_some_at (IsUnderWay tells s tables f) (plan_at plans number) steps.before (can_under tells s tables f leader (plan_at plans number) can) steps.stands)
+      steps.steps (subst (λ o. IfSome (option_and_then learner o) (λ n. HasRoom n passes)) steps.stands room))
+
+  pub room_given : (scene : Scene) (inboxes : Inboxes) (states : NodeStates)
+      → StepsPlan tells s leader number plans (posting (record scene { link = fresh_link }) inboxes states) later
+      (posting (record scene { link = fresh_link }) inboxes states)
+      → IsSome (option_and_then learner (plan_at plans number)) → IfSome (plan_at later number) (λ one. HasRoomFor one passes)
+  room_given scene inboxes states steps some = room_there steps.after steps.changes
+      (room_given_up tells s leader steps.before steps.after (posting (record scene { link = fresh_link }) inboxes states) passes refl
+      (subst (λ o. IsSome (option_and_then learner o)) steps.stands some) steps.steps)
+
+-- ---- the replies
+
+module _ (tells : Bool) (number : ℕ) (core : CoreState) (fleet : Fleet) (mail : Inboxes) (plans : Plans) (sessions : List Session)
+    (before now : KeeperState) (from to : LinkShown) (plan : HeldPlan) (leader : NodeName)
+    (of : IsCoreOf tells before.told core) (stands : plan_at core.plans number ≡ Some plan) (leads : leader ≡ plan_leader core plan)
+    (steps : StepsPlan tells core.settings leader number core.plans (posting (scene core.fleet before from) core.mail core.states) plans
+    (posting (scene fleet now to) mail core.states))
+    (under : IfSome (plan_at plans number) (IsUnderWay tells core.settings now.told fleet))
+    (consistent : IsConsistent tells core.settings now.told fleet) (inboxes : AreInboxesOf core.settings (pens_of fleet.masters) mail)
+    (goes : GoesOn core.fleet fleet) (grows : MastersGrow tells core.settings before.told now.told) (same : sessions ≡ core.sessions) where
+  abbrev Mid : CoreState
+  Mid = record core { fleet = fleet; mail = mail; plans = plans }
+
+  abbrev After : CoreState
+  After = record core { fleet = fleet; mail = mail; plans = plans; sessions = sessions }
+
+  does : DoesStage tells number (moment core before from) (moment Mid now to)
+  does = does_stage tells number core fleet mail plans before now from to plan leader stands leads steps consistent under
+
+  is_mid : IsConsistentCore tells now.told Mid
+  is_mid = stepped_core tells before.told now.told core fleet mail plans of.is_consistent consistent inboxes goes grows
+
+  -- ---- it is held on
+
+  pub next_still : (stage : Stage) → next_at plans number ≡ Some stage → IsCoreOf tells now.told After
+  next_still stage next =
+      subst (λ xs. IsCoreOf tells now.told (record Mid { sessions = xs })) (sym same)
+      (next_core tells number (moment core before from) (moment Mid now to) does of stage next is_mid refl refl goes grows under)
+
+  -- ---- it is over
+
+  pub may_here : (passes : List SeenPass) → sessions_of passes ≡ core.sessions → IfSome (plan_at plans number) (λ held_plan. HasRoomFor held_plan passes)
+      → IfSome (plan_at plans number) (λ held_plan. MayLearn held_plan passes)
+  may_here passes are room = if_some (λ held_plan. MayLearn held_plan passes) (plan_at plans number) (λ held_plan at.
+      may_learn tells core.settings now.told fleet held_plan passes
+      (if_some_at (IsUnderWay tells core.settings now.told fleet) (plan_at plans number) held_plan under at)
+      (subst (λ xs. IsOfSession xs held_plan) (sym are)
+      (author_held tells number (moment core before from) (moment Mid now to) does of core.sessions refl number held_plan at))
+      (if_some_at (λ one. HasRoomFor one passes) (plan_at plans number) held_plan room at)
+      (subst (All (IsSessionOf tells core.settings now.told (pens_of fleet.masters))) (sym are) is_mid.sessions))
+
+  module _ (later : Plans) (learnt : List Session) (reply : Reply) (over : next_at plans number ≡ None)
+      (ends : IfSome (plan_at plans number) (λ held_plan. EndsPlan number held_plan (held plans sessions) reply (held later learnt))) where
+    ends_mid : IfSome (plan_at plans number) (λ held_plan. EndsPlan number held_plan (held plans core.sessions) reply (held later learnt))
+    ends_mid =
+        subst (λ xs. IfSome (plan_at plans number) (λ held_plan. EndsPlan number held_plan (held plans xs) reply (held later learnt))) same ends
+
+    pub end_here : (asked : PlanWord)
+        → StepsAt tells asked number (moment core before from) reply
+        (moment (record core { fleet = fleet; mail = mail; plans = later; sessions = learnt }) now to)
+    end_here asked = end_steps tells number (moment core before from) (moment Mid now to) does asked later learnt reply over ends_mid refl
+
+    pub end_still : IsCoreOf tells now.told (record core { fleet = fleet; mail = mail; plans = later; sessions = learnt })
+    end_still =
+        ends_core tells number (moment core before from) (moment Mid now to) does later learnt reply over ends_mid of is_mid refl refl goes grows under

@@ -1,0 +1,150 @@
+-- What a session learns of an entry: each key has come to its floors still, and its notes have seen beginnings of the logs.
+use Rattle.std.proofs.Common.{◌≡◌, ℕ, zero, suc, ◌<◌, ◌≤◌, ◌+◌, Bool, true, false, cond, List, [], ◌∷◌, Some, length, max, take}
+use Rattle.std.proofs.Common.{refl, ap, sym, subst, ◌∙◌, inl, inr, arith}
+use Rattle.std.specs.Prelude.{◌==◌, ◌||◌, All, find, if◌then◌else◌, slice_get, slice_index_or, slice_set}
+use Rattle.std.specs.List.{AllByRecursion}
+use Rattle.std.proofs.lemmas.Bool.{cases_Bool, cases_eq, eqb-true}
+use Rattle.std.proofs.lemmas.List.Elements.{All-from_recursion, recursion_from_All}
+use Rattle.core_model.proofs.Places.{at_index, get_set}
+use Rattle.core_model.specs.Pens.{AreNotesOf, IsSeen, Pens, pens_of}
+use Rattle.core_model.specs.Stores.{AreStoresOf, master_log}
+use Rattle.core_sessions.specs.Sessions.{LearnsWith, Session, SessionLearns, is_open, with_changed}
+use Rattle.graph_model.proofs.Exact.{version_take}
+use Rattle.graph_model.proofs.Later.{all_take}
+use Rattle.graph_model.proofs.Rising.{touches_tell}
+use Rattle.graph_model.specs.Log.{entry_at, version}
+use Rattle.graph_model.specs.Soundness.{IsSound}
+use Rattle.session_pass.specs.Floors.{floor_at, learnt_touches, version_told}
+use Rattle.session_pass.specs.Passes.{after_meeting}
+use Rattle.shard_log.proofs.GrowthLemmas.{entry_stays, seen-meets}
+use Rattle.shard_log.specs.View.{View, longer_view}
+use Rattle.shard_tables.specs.StoreView.{Store}
+use Rattle.shard_tables.specs.Written.{StandsIn}
+use Rattle.tao_base.proofs.SameKeys.{same_key-Decides}
+use Rattle.tao_base.specs.Keys.{key_shard, same_key}
+use Rattle.tao_base.specs.declared.entry.Entry.{Entry}
+use Rattle.tao_base.specs.declared.entry.Touch.{Touch}
+use Rattle.tao_base.specs.declared.id.Key.{Key}
+use Rattle.tao_keeper.specs.Table.{Tables}
+use Rattle.topology.specs.Config.{Settings}
+use Rattle.tao_core.specs.Core.{IsSessionOf}
+use Rattle.tao_core.proofs.Exact.{log_is}
+
+-- ---- what the touches of an entry tell is reached where it stands
+
+told_below : (log : List Entry) (n : ℕ) (key : Key) (ts : List Touch) → AllByRecursion (λ t. t.version ≡ version (take n log) t.key) ts
+    → version_told key ts ≤ version log key
+told_below log n key [] all = omega arith
+told_below log n key (t ∷ ts) all =
+    most (cond (same_key key t.key) t.version 0) (version_told key ts) (version log key) (by (same_key key t.key) refl) (told_below log n key ts all.1)
+  where
+    most : (a b m : ℕ) → a ≤ m → b ≤ m → max a b ≤ m
+    most a b m p q = omega (arith, p, q)
+
+    by : (b : Bool) → same_key key t.key ≡ b → cond b t.version 0 ≤ version log key
+    by true e =
+        let here : t.version ≡ version (take n log) key = all.0 ∙ ap (version (take n log)) (sym ((same_key-Decides key t.key).0 e)) in
+        let rises = version_take n log key in
+        omega (arith, here, rises)
+    by false e = omega arith
+
+told_reached : (log : List Entry) (position : ℕ) (e : Entry) (key : Key) → IsSound log → entry_at log position ≡ Some e
+    → version_told key (learnt_touches e) ≤ version log key
+told_reached log zero e key sound at = absurd (cc (at))
+told_reached log (suc n) e key sound at =
+    told_below log (n + 1) key (take 8 e.touches) (all_take (λ t. t.version ≡ version (take (n + 1) log) t.key) 8 e.touches
+    (recursion_from_All (λ t. t.version ≡ version (take (n + 1) log) t.key) e.touches (touches_tell log sound n e at).versions))
+
+-- ---- sessions by their numbers
+
+-- what holds of each holds of the one that is found
+found_so : {X : Type 0} (P : X → Type 0) (test : X → Bool) (xs : List X) (x : X) → AllByRecursion P xs → find test xs ≡ Some x → P x
+found_so P test [] x all h = absurd (cc)
+found_so P test (y ∷ ys) x all h = elim (cases_Bool (test y)) [
+  | inl passes ↦ (
+      let e : Some y ≡ Some x = rw passes at h in
+      let same : y ≡ x = cc in
+      subst P same all.0)
+  | inr fails ↦ found_so P test ys x all.1 (rw fails at h)
+]
+
+changed_so : (P : Session → Type 0) (to : Session) (xs : List Session) → P to → AllByRecursion P xs → AllByRecursion P (with_changed to xs)
+changed_so P to [] one all = tt
+changed_so P to (x ∷ xs) one all =
+    (elim (cases_Bool (x.session == to.session)) [ inl e ↦ rw e one | inr e ↦ rw e all.0 ], changed_so P to xs one all.1)
+
+same_number : (to x : Session) → (if x.session == to.session then to else x).session ≡ x.session
+same_number to x = elim (cases_Bool (x.session == to.session)) [ inl e ↦ rw e (sym (eqb-true x.session to.session e)) | inr e ↦ rw e refl ]
+
+changed_open : (to : Session) (xs : List Session) (n : ℕ) → is_open (with_changed to xs) n ≡ is_open xs n
+changed_open to [] n = refl
+changed_open to (x ∷ xs) n =
+    ap (λ m. (m == n) || is_open (with_changed to xs) n) (same_number to x) ∙ ap (λ b. (x.session == n) || b) (changed_open to xs n)
+
+-- who is open is open still, and no other
+pub learnt_open : (number shard : ℕ) (entry : Entry) (note : View) (old new : List Session) → SessionLearns number shard entry note old new
+    → (n : ℕ) → is_open new n ≡ is_open old n
+learnt_open number shard entry note old new learns n = ap (λ xs. is_open xs n) learns.is ∙ changed_open learns.to old n
+
+-- ---- one session learns
+
+set_long : (xs : List View) (k : ℕ) (x : View) → length (slice_set xs k x) ≡ length xs
+set_long [] k x = refl
+set_long (y ∷ ys) zero x = refl
+set_long (y ∷ ys) (suc k) x = ap suc (set_long ys k x)
+
+within : (was more most now : ℕ) → now ≡ max was more → was ≤ most → more ≤ most → now ≤ most
+within was more most now is one two = omega (arith, is, one, two)
+
+-- its notes, after one met what was seen of its shard's log
+pub met_notes : (pens : Pens) (count shard : ℕ) (note : View) (notes : List View) → shard < count → IsSeen pens shard note → AreNotesOf pens count notes
+    → AreNotesOf pens count (after_meeting shard note notes)
+met_notes pens count shard note notes here seen are =
+    let long = are.long in
+    let own : View = slice_index_or notes shard note in
+    let at : slice_get notes shard ≡ Some own = at_index notes shard shard note refl (omega (arith, here, long)) in
+    record {
+      long = set_long notes shard (longer_view own note) ∙ are.long;
+      seen = λ k v h. elim (get_set notes shard (longer_view own note) k v h) [
+        | inl e ↦ are.seen k v e.1
+        | inr e ↦ subst (λ n. IsSeen pens n v) (sym e.0)
+            (subst (IsSeen pens shard) e.1 (seen-meets own note (pens shard) (are.seen shard own at) seen))
+      ];
+    }
+
+module _ (tells : Bool) (s : Settings) (tables : Tables) (masters : List Store) (number shard : ℕ) (entry : Entry) (note : View)
+    (stores : AreStoresOf tells s tables masters) (here : shard < s.shards) (seen : IsSeen (pens_of masters) shard note) (stands : StandsIn note entry) where
+  abbrev IsOne : Session → Type 0
+  IsOne = IsSessionOf tells s tables (pens_of masters)
+
+  told_now : (key : Key) → tells ≡ true → version_told key (learnt_touches entry) ≤ version (master_log s tables shard) key
+  told_now key told =
+      let log = log_is tells s tables masters shard stores here in
+      let own : note.log.told ≡ true = ap (λ l. l.told) (sym seen.log_is) ∙ log.told_is ∙ told in
+      let at = entry_stays note (pens_of masters shard) entry.position entry seen (stands own) in
+      told_reached (master_log s tables shard) entry.position entry key (stores.sound told shard here).sound
+      (subst (λ es. entry_at es entry.position ≡ Some entry) (log.entries_is told) at)
+
+  floor_now : (old new : Session) (key : Key) → LearnsWith shard entry note old new → IsOne old → tells ≡ true
+      → floor_at new.floors key ≤ version (master_log s tables (key_shard key)) key
+  floor_now old new key learns is told = elim (cases_eq (key_shard key) shard) [
+    | inl on ↦ within (floor_at old.floors key) (version_told key (learnt_touches entry)) (version (master_log s tables (key_shard key)) key)
+        (floor_at new.floors key) (learns.floors.here key on) (is.floors told key)
+        (subst (λ n. version_told key (learnt_touches entry) ≤ version (master_log s tables n) key) (sym on) (told_now key told))
+    | inr off ↦ subst (λ n. n ≤ version (master_log s tables (key_shard key)) key) (sym (learns.floors.others key off)) (is.floors told key)
+  ]
+
+  pub session_learns : (old new : Session) → LearnsWith shard entry note old new → IsOne old → IsOne new
+  session_learns old new learns is = record {
+    region = subst (λ (x : Session). x.region < length s.regions) (sym learns.rest) is.region;
+    notes = subst (λ (x : Session). AreNotesOf (pens_of masters) s.shards x.notes) (sym learns.rest)
+        (met_notes (pens_of masters) s.shards shard note old.notes here seen is.notes);
+    floors = λ told key. floor_now old new key learns is told;
+  }
+
+  -- so are all sessions
+  pub learnt_sessions : (old new : List Session) → SessionLearns number shard entry note old new → All IsOne old → All IsOne new
+  learnt_sessions old new learns all =
+      let each = recursion_from_All IsOne old all in
+      let to = session_learns learns.from learns.to learns.learns (found_so IsOne (λ o. o.session == number) old learns.from each learns.found) in
+      subst (All IsOne) (sym learns.is) (All-from_recursion IsOne (with_changed learns.to old) (changed_so IsOne learns.to old to each))

@@ -70,6 +70,9 @@ fn take_run_line(alloc: Global, run: &mut Run, line: &str) -> Result<bool, Alloc
     if let Some(reply) = line.strip_prefix('>') {
         return take_piece(alloc, &mut run.replies, piece_of(reply));
     }
+    if let Some(numbers) = line.strip_prefix("! carry ") {
+        return push_numbers(&mut run.carries, numbers);
+    }
     if let Some(numbers) = line.strip_prefix("! take ") {
         return push_numbers(&mut run.takes, numbers);
     }

@@ -19,6 +19,8 @@ pub struct Run {
     pub words: Vec<String>,
     /// The bytes of its source.
     pub input: String,
+    /// The carries of the link that fail.
+    pub carries: Vec<u64>,
     /// The calls of the source that fail.
     pub takes: Vec<u64>,
     /// The calls of the sink that fail.
@@ -48,6 +50,7 @@ impl Run {
             is_anew,
             words: Vec::new(alloc),
             input: String::new(alloc),
+            carries: Vec::new(alloc),
             takes: Vec::new(alloc),
             puts: Vec::new(alloc),
             room: None,

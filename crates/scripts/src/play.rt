@@ -8,24 +8,25 @@ use keeper_map::{Fails, MapKeeper};
 use script_text::{Run, Script, Unread, describe, fault_of, read};
 use std::alloc::{AllocError, Global};
 use tao_io::{MemorySink, MemorySource, Sink, Source, Status};
-use tao_link::SteadyLink;
+use tao_link::{Link, PlannedLink, SwitchLink};
 
-/// The status of a run over the keeper, after which another may follow.
-fn run_kept<R: Source, S: Sink>(
+/// The status of a run over the keeper and a link, after which another may follow.
+fn run_kept<R: Source, S: Sink, L: Link>(
     alloc: Global,
     words: &[String],
     input: &mut R,
     output: &mut S,
     keeper: &mut MapKeeper,
+    link: &mut L,
 ) -> Status
     requires { MayBeginAny (told_by keeper.old) }
     ensures { MayBeginAny (told_by keeper.new) }
 {
-    let mut link = SteadyLink::make();
-    tao_top::run(alloc, words, input, output, keeper, &mut link)
+    tao_top::run(alloc, words, input, output, keeper, link)
 }
 
-/// The status of a run of a script, which writes to this sink.
+/// The status of a run of a script, which writes to this sink. Its link fails at the carries that the script tells, or where it has none
+/// at those that the run cuts.
 fn run_over<S: Sink>(
     alloc: Global,
     keeper: &mut MapKeeper,
@@ -37,7 +38,12 @@ fn run_over<S: Sink>(
 {
     let input = run.input.as_bytes().to_vec(alloc)?;
     let mut source = MemorySource::of(input, run.takes.to_vec(alloc)?);
-    Ok(run_kept(alloc, &run.words, &mut source, output, keeper))
+    if run.carries.is_empty() {
+        let mut link = SwitchLink::make(alloc);
+        return Ok(run_kept(alloc, &run.words, &mut source, output, keeper, &mut link));
+    }
+    let mut link = PlannedLink::make(run.carries.to_vec(alloc)?);
+    Ok(run_kept(alloc, &run.words, &mut source, output, keeper, &mut link))
 }
 
 /// What is said of how a run ended, or nothing where it is right.

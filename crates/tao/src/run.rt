@@ -7,7 +7,7 @@ use keeper_sql::SqlKeeper;
 use sqlite::Alter;
 use tao_io::{StdSink, StdSource};
 use tao_keeper::{KeepFail, Keeper};
-use tao_link::SteadyLink;
+use tao_link::SwitchLink;
 
 /// The status where the file can't be opened.
 const NO_FILE: u8 = 6;
@@ -21,7 +21,7 @@ fn over<K: Keeper>(rt: &HostRuntime, words: &[String], keepers: &mut K) -> u8
 {
     let mut input = StdSource::of(rt.stdin());
     let mut output = StdSink::of(rt.stdout());
-    let mut link = SteadyLink::make();
+    let mut link = SwitchLink::make(rt.alloc());
     tao_top::run(
         rt.alloc(),
         words,

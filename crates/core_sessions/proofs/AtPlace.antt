@@ -1,12 +1,12 @@
 -- The pass of a session that is open, at its place.
-use Rattle.std.proofs.Common.{◌≡◌, ℕ, zero, suc, ◌<◌, ◌≤◌, Bool, true, false, cond, List, [], ◌∷◌, length, get_or, map, Option, Some, None, IfSome, refl, ap, sym, ◌∙◌, subst, arith, inl, inr, slice_set}
+use Rattle.std.proofs.Common.{◌≡◌, ℕ, zero, suc, ◌+◌, ◌<◌, ◌≤◌, Bool, true, false, cond, List, [], ◌∷◌, length, get_or, map, Option, Some, None, IfSome, refl, ap, sym, ◌∙◌, subst, arith, inl, inr, slice_set}
 use Rattle.std.specs.Prelude.{◌==◌, nat_lt, slice_get}
 use Rattle.std.specs.List.{find, AllByRecursion}
 use Rattle.std.proofs.lemmas.Bool.{cases_lt, false≢true}
 use Rattle.std.proofs.lemmas.Bool.Decides.{nat_tests}
 use Rattle.std.proofs.lemmas.Option.{slice_get_past, slice_get_read}
 use Rattle.core_sessions.proofs.InOrder.{IsPlace, above_first, found_at, is_found, other_number, rest_in_order}
-use Rattle.core_sessions.specs.Sessions.{HaveRisingNumbers, HasRoom, Session, SessionLearns, is_open, session_at, session_of, sessions_of, with_changed}
+use Rattle.core_sessions.specs.Sessions.{HaveRisingNumbers, HasRoom, HasRoomForBoth, Session, SessionLearns, is_open, session_at, session_of, sessions_of, with_changed}
 use Rattle.session_pass.specs.Passes.{LearnsEntry, SeenPass}
 use Rattle.shard_log.specs.View.{View}
 use Rattle.tao_base.specs.Ids.{IsRising}
@@ -102,8 +102,8 @@ module _ (n : ℕ) (xs : List SeenPass) (i : ℕ) (p : SeenPass) (here : StandsA
   pub holds_at : (F : Session → Type 0) → F (session_of p) → IfSome (session_at (sessions_of xs) n) F
   holds_at F holds = subst (λ o. IfSome o F) (sym session_is) holds
 
-  pub has_room : HasRoom n xs → 8 ≤ p.spare
-  has_room room = subst (λ o. IfSome o (λ q. 8 ≤ q.spare)) first_is room
+  pub has_room : (m : ℕ) → IfSome (find (λ q. q.session == n) xs) (λ q. m ≤ q.spare) → m ≤ p.spare
+  has_room m room = subst (λ o. IfSome o (λ q. m ≤ q.spare)) first_is room
 
   pub set_in_order : (q : SeenPass) → q.session ≡ p.session → HaveRisingNumbers (slice_set xs i q)
   set_in_order q same = subst IsRising (sym (map_set (λ r. r.session) xs i p q here.at same)) here.up
@@ -125,9 +125,18 @@ module _ (n : ℕ) (xs : List SeenPass) (i : ℕ) (p : SeenPass) (here : StandsA
   }
 
 -- the room of a pass that was given some
-pub room_there : (n : ℕ) (xs : List SeenPass) (i : ℕ) (p q : SeenPass) → StandsAt n xs i p → q.session ≡ p.session → 8 ≤ q.spare → HasRoom n (slice_set xs i q)
-room_there n xs i p q here same room =
-    subst (λ o. IfSome o (λ r. 8 ≤ r.spare)) (sym (first_is n (slice_set xs i q) i q (set_stands n xs i p here q same))) room
+pub room_there : (n : ℕ) (xs : List SeenPass) (i : ℕ) (p q : SeenPass) (m : ℕ) → StandsAt n xs i p → q.session ≡ p.session → m ≤ q.spare
+    → IfSome (find (λ r. r.session == n) (slice_set xs i q)) (λ r. m ≤ r.spare)
+room_there n xs i p q m here same room =
+    subst (λ o. IfSome o (λ r. m ≤ r.spare)) (sym (first_is n (slice_set xs i q) i q (set_stands n xs i p here q same))) room
+
+-- of the room for both entries, that for one is left after an entry
+pub more_there : (n : ℕ) (xs : List SeenPass) (i : ℕ) (p q : SeenPass) → StandsAt n xs i p → q.session ≡ p.session → p.spare ≤ q.spare + 8
+    → HasRoomForBoth n xs → HasRoom n (slice_set xs i q)
+more_there n xs i p q here same spent both =
+    let room = has_room n xs i p here 16 both in
+    let left : 8 ≤ q.spare = omega (arith, room, spent) in
+    room_there n xs i p q 8 here same left
 
 -- ---- over what the code holds
 

@@ -76,3 +76,7 @@ pub record SessionLearns (number shard : ℕ) (entry : Entry) (note : View) (old
 -- the first pass of that number has room for the keys of an entry
 abbrev pub HasRoom : ℕ → List SeenPass → Type 0
 HasRoom number passes = IfSome (find (λ p. p.session == number) passes) (λ p. 8 ≤ p.spare)
+
+-- or for those of the two entries of a write
+abbrev pub HasRoomForBoth : ℕ → List SeenPass → Type 0
+HasRoomForBoth number passes = IfSome (find (λ p. p.session == number) passes) (λ p. 16 ≤ p.spare)

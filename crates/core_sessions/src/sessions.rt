@@ -39,7 +39,7 @@ impl Model for Sessions {
 impl Sessions {
     ghost use Rattle.std.specs.Option.{option_map};
     ghost use Rattle.std.specs.Prelude.{◌≡◌, ◌<◌, [], length, true, false, IfOk, IfSome, IsSomeAnd, OnOk, OnErr, Some, slice_get};
-    ghost use Rattle.core_sessions.specs.Sessions.{HasRoom, SessionLearns, is_open, new_session, place_of, session_at, sessions_of, with_session};
+    ghost use Rattle.core_sessions.specs.Sessions.{HasRoom, HasRoomForBoth, SessionLearns, is_open, new_session, place_of, session_at, sessions_of, with_session};
     ghost use Rattle.graph_model.specs.Log.{entry_at};
     ghost use Rattle.graph_model.specs.Told.{WhereTold};
     ghost use Rattle.session_pass.specs.Floors.{floor_at};
@@ -120,11 +120,11 @@ impl Sessions {
         Ok(())
     }
 
-    /// Makes room in the session's pass for the keys of an entry. The one error is want of memory. No floor changes.
+    /// Makes room in the session's pass for the keys of the two entries of a write. The one error is want of memory. No floor changes.
     pub fn reserve(&mut self, session: u32) -> Result<(), OutOfMemory>
         requires open { is_open (sessions_of self.old) session ≡ true }
         ensures same { sessions_of self.new ≡ sessions_of self.old }
-        ensures room { OnOk result (HasRoom session self.new) }
+        ensures room { OnOk result (HasRoomForBoth session self.new) }
     {
         let place = place_of(&self.passes, session);
         self.passes[place].reserve()
@@ -148,7 +148,8 @@ impl Sessions {
         requires room { HasRoom session self.old }
         requires shard { IfSome (session_at (sessions_of self.old) session) (λ s. IsNoteOf shard note s.notes) }
         requires stands { WhereTold note.log.told (entry_at note.entries entry.now.position ≡ Some entry.now) }
-        ensures { SessionLearns session shard entry.now note (sessions_of self.old) (sessions_of self.new) }
+        ensures learns { SessionLearns session shard entry.now note (sessions_of self.old) (sessions_of self.new) }
+        ensures more { HasRoomForBoth session self.old → HasRoom session self.new }
     {
         let place = place_of(&self.passes, session);
         self.passes[place].learn_entry(shard, entry, note);

@@ -66,7 +66,8 @@ impl Floors {
     /// Learns what the touches say of the keys of a shard. Takes no memory.
     pub(crate) fn learn_touches(&mut self, shard: u16, touches: &[Touch])
         requires { length touches.now ≤ self.old.spare }
-        ensures { LearnsTouches shard touches.now self.old.floors self.new.floors }
+        ensures learns { LearnsTouches shard touches.now self.old.floors self.new.floors }
+        ensures spare { self.old.spare ≤ self.new.spare + length touches.now }
     {
         for touch in touches {
             self.learn_touch(shard, touch);

@@ -9,8 +9,11 @@ use std::alloc::Global;
 use std::marker::Model;
 use tao_base::{Entry, Key, OutOfMemory};
 
-/// How many keys may be learnt after a `reserve`, before the next: the touches of a write's two entries.
+/// How many keys an entry may teach: twice as many as it has.
 const SPARE: usize = 8;
+
+/// How many keys may be learnt after a `reserve`, before the next: those of a write's two entries.
+const SPARE_OF_BOTH: usize = 16;
 
 /// The pass of a session: its number, its region and tier by their places, for each key the greatest version that it
 /// was told of, its floor, and for each shard a note of what it has seen of the log.
@@ -95,13 +98,14 @@ impl Pass {
         self.floors.at(&key)
     }
 
-    /// Makes room for eight keys. The one error is want of memory, which leaves the pass as it was.
+    /// Makes room for sixteen keys, those of the two entries of a write. The one error is want of memory, which leaves the pass as it
+    /// was.
     pub fn reserve(&mut self) -> Result<(), OutOfMemory>
         ensures same { self.new ≡ record self.old { spare = self.new.spare } }
-        ensures ok { OnOk result (8 ≤ self.new.spare) }
+        ensures ok { OnOk result (16 ≤ self.new.spare) }
         ensures spare { self.old.spare ≤ self.new.spare }
     {
-        self.floors.reserve(SPARE)
+        self.floors.reserve(SPARE_OF_BOTH)
     }
 
     /// The session was told that a key has a version: its floor there is now the greater of that and what it was. The
@@ -129,6 +133,7 @@ impl Pass {
         requires shard { IsNoteOf shard note self.old.notes }
         requires stands { WhereTold note.log.told (entry_at note.entries entry.now.position ≡ Some entry.now) }
         ensures learns { LearnsEntry shard entry.now note self.old self.new }
+        ensures spare { self.old.spare ≤ self.new.spare + 8 }
         ensures rise { FloorsRise self.old.floors self.new.floors }
         ensures meets { MeetsNote shard note self.old.notes }
     {

@@ -33,5 +33,5 @@ returns-clause-room c =
     let there : is_open (sessions_of items) c.args.session ≡ true = rw c.self.view_is c.requires.open in
     let here = stands c.args.session items c.deref.result.now c.place_of-place.result c.index_mut.result.now c.deref.ensures.value c.self.invariant there
     c.place_of-place.ensures.place c.index_mut.ensures.value in
-    on_ok_weaker c.reserve.result (room_there c.args.session items c.place_of-place.result c.index_mut.result.now c.reserve.new.self here
+    on_ok_weaker c.reserve.result (room_there c.args.session items c.place_of-place.result c.index_mut.result.now c.reserve.new.self 16 here
     (ap (λ p. p.session) c.reserve.ensures.same)) c.reserve.ensures.ok

@@ -16,7 +16,7 @@ invariant_of-self c =
     let least : c.min.result ≡ min (length c.as_slice-touches.result.now) 8 = search rules in
     let first : take c.min.result c.as_slice-touches.result.now ≡ learnt_touches c.args.entry.now = first_eight _ _ _ least c.as_slice-touches.ensures in
     let learnt : LearnsTouches c.args.shard (learnt_touches c.args.entry.now) c.self.inside.floors.floors c.learn_touches.new.self.floors =
-    rw (← first) c.learn_touches.ensures in
+    rw (← first) c.learn_touches.ensures.learns in
     rw (with_items_is c.self.inside.notes c.meet.new.notes long) (rw c.meet.ensures.met (rw value
     (learnt_entry before c.args.shard c.args.entry.now c.args.note c.learn_touches.new.self.floors c.learn_touches.new.self.spare known meets
     c.notes_are_sound.ensures.sound c.requires.stands learnt c.self.invariant)))
@@ -29,5 +29,5 @@ returns-clause-learns c =
     let least : c.min.result ≡ min (length c.as_slice-touches.result.now) 8 = search rules in
     let first : take c.min.result c.as_slice-touches.result.now ≡ learnt_touches c.args.entry.now = first_eight _ _ _ least c.as_slice-touches.ensures in
     let learnt : LearnsTouches c.args.shard (learnt_touches c.args.entry.now) c.self.inside.floors.floors c.learn_touches.new.self.floors =
-    rw (← first) c.learn_touches.ensures in
+    rw (← first) c.learn_touches.ensures.learns in
     rw (← c.self.view_is) (rw (with_items_is c.self.inside.notes c.meet.new.notes long) (rw c.meet.ensures.met (rw value record { floors = learnt; rest = refl })))

@@ -11,7 +11,6 @@ use Rattle.tao_schema.specs.AssocTypes.{assocs_of}
 use Rattle.tao_schema.specs.ObjectTypes.{objects_of}
 use Rattle.tao_schema.specs.declared.lines.AssocLine.{AssocLine}
 use Rattle.json_fields.specs.Items.{each_at}
-use Rattle.config_json.specs.Stage.{have_no_inverse}
 
 -- 1 to 64 names, all different
 abbrev pub objects_at : Data → Option (List (List ℕ))
@@ -28,9 +27,8 @@ assoc_of d = do
   bound ← number_or (codes "bound") 6000 1 6000 d
   then_some (has_only (codes "name" ∷ codes "inverse" ∷ codes "bound" ∷ []) d) (record { name = name; inverse = inverse; bound = bound })
 
--- 1 to 64 association types, whose names differ and whose inverses match, as far as inverses are built
+-- 1 to 64 association types, whose names differ and whose inverses match
 abbrev pub assocs_at : Data → Option (List AssocLine)
 assocs_at d = do
   lines ← each_at assoc_of (codes "assocs") d
-  built ← then_some (have_no_inverse lines) lines
-  result_ok (assocs_of built)
+  result_ok (assocs_of lines)

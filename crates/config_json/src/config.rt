@@ -3,7 +3,6 @@ ghost use Rattle.std.specs.Prelude.{◌≡◌, ◌≢◌, Ok, Err, IfOk, IfErr, 
 ghost use Rattle.serde_json.specs.View.{view};
 ghost use Rattle.config_json.specs.Object.{line_object};
 ghost use Rattle.config_json.specs.Config.{in_field, config_of, config_in};
-ghost use Rattle.config_json.specs.Stage.{IsWithoutInverses};
 
 use super::refusal::ConfigRefusal;
 use super::regions::{masters_at, regions_at};
@@ -34,11 +33,9 @@ const FIELDS: [&str; 7] = [
     "cache_items",
 ];
 
-/// The configuration that a line is: one without inverses, which aren't built yet. Reads the line once, and takes
-/// memory for what it says.
+/// The configuration that a line is. Reads the line once, and takes memory for what it says.
 pub fn read_config(alloc: Global, line: &[u8]) -> Result<Config, ConfigRefusal>
     ensures ok { IfOk result (λ config. config_in line.now ≡ Ok config) }
-    ensures no_inverse { IfOk result IsWithoutInverses }
     ensures refused { IfErr result (λ refusal. refusal ≢ ConfigRefusal.OutOfMemory → config_in line.now ≡ Err refusal) }
 {
     match line_object(alloc, line)? {

@@ -1,14 +1,11 @@
 //! The object types and the association types.
-ghost use Rattle.std.specs.Prelude.{◌≡◌, IfOk, option_map, option_and_then};
+ghost use Rattle.std.specs.Prelude.{◌≡◌, IfOk, option_map};
 ghost use Rattle.std.specs.Result.{result_ok};
-ghost use Rattle.std.specs.Bool.{then_some};
 ghost use Rattle.serde_json.specs.View.{view};
 ghost use Rattle.tao_schema.specs.AssocTypes.{assocs_of};
 ghost use Rattle.tao_schema.specs.ObjectTypes.{objects_of};
 ghost use Rattle.config_json.specs.Types.{objects_at, assoc_of, assocs_at};
-ghost use Rattle.config_json.specs.Stage.{have_no_inverse};
 
-use super::stage::have_no_inverse;
 use json_fields::fields::{has_only, maybe_text_at, number_or, text_at};
 use json_fields::items::{Reader, TextReader, each_at};
 use serde_json::Value;
@@ -84,13 +81,10 @@ pub(crate) fn assocs_at(alloc: Global, value: &Value) -> Result<Option<AssocType
     }
 }
 
-/// The association types of these lines, unless they break a rule or aren't built yet.
+/// The association types of these lines, unless they break a rule.
 fn assoc_types(alloc: Global, lines: &[AssocLine]) -> Result<Option<AssocTypes>, AllocError>
-    ensures { IfOk result (λ types. types ≡ option_and_then (λ built. result_ok (assocs_of built)) (then_some (have_no_inverse lines.now) lines.now)) }
+    ensures { IfOk result (λ types. types ≡ result_ok (assocs_of lines.now)) }
 {
-    if !have_no_inverse(lines) {
-        return Ok(None);
-    }
     match AssocTypes::read(alloc, lines) {
         Ok(types) => Ok(Some(types)),
         Err(SchemaRefusal::BadField { .. }) => Ok(None),

@@ -47,7 +47,9 @@ fn passed_on(refusal: StoreRefusal) -> RepairRefusal
 
 /// Carries a job of one store to another one, merges it there, and carries the answer back, also that of a merge that was
 /// refused. The refusal of the merge stands where the carry back fails as well. The job stays open.
-fn merge_there<M: Keeper, L: Link>(
+///
+/// `LinkFault` comes only where the link's count of faults rose, `KeeperFault` only where the keeper's did. Costs a merge.
+pub fn merge_there<M: Keeper, L: Link>(
     alloc: Global,
     from: StoreName,
     to: &mut StoreNode,
@@ -76,8 +78,9 @@ fn merge_there<M: Keeper, L: Link>(
     Ok(Repaired { wrote: wrote.entry })
 }
 
-/// Ends the job of a position at its own store.
-fn end_here<M: Keeper>(
+/// Ends the job of a position at its own store, once it is merged at the other one. A refusal leaves it open. Costs one call of the
+/// keeper.
+pub fn end_here<M: Keeper>(
     from: &mut StoreNode,
     keeper: &mut M,
     position: u64,

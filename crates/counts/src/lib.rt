@@ -49,19 +49,3 @@ impl Count {
         self.value
     }
 }
-
-#[cfg(test)]
-mod tests {
-    use super::*;
-
-    #[test]
-    fn a_count_rises_by_one_and_a_copy_stays(rt: HostRuntime) {
-        let mut count = Count::new();
-        let before = count;
-        count.rise();
-        count.rise();
-        assert_eq!(rt; count.value(), 2);
-        assert_eq!(rt; before, Count::default());
-        assert_eq!(rt; before.value(), 0);
-    }
-}

@@ -7,8 +7,6 @@ mod map;
 mod plan;
 mod store;
 mod stores;
-#[cfg(test)]
-mod tests;
 
 pub use map::MapKeeper;
 pub use plan::Fails;

@@ -1,57 +1,78 @@
-//! Fills of a told log and of one that is not.
-ghost use Rattle.std.specs.Prelude.{◌≡◌, [], false};
+//! Fills that no run makes: one that a leader reads for itself, and a second note of one.
+ghost use Rattle.std.specs.Prelude.{◌≡◌, ◌∷◌, [], IfOk, None, Some, false};
 ghost use Rattle.sealed_item.specs.Fills.{sealed_item};
+ghost use Rattle.served_shards.specs.Served.{log_at};
+ghost use Rattle.tao_base.specs.Ids.{shard_of};
 
-use crate::given::first_edge;
-use list_prefix::Prefix;
-use log_fixtures::{LIKES, id, untold_note};
-use sealed_item::laws::beginnings_are_sealed;
+use cache_node::{CacheNode, Kept};
 use sealed_item::{Content, Fill};
 use shard_log::{Note, ShardLog};
+use std::alloc::{AllocError, Global};
 use std::test::Fail;
-use tao_base::{Edges, Id, Key};
+use tao_base::{Answer, Id, Key, OutOfMemory, Query, Text};
+use tao_schema::{AssocLine, Schema};
 
-/// Of a log that isn't told, a fill says nothing.
-fn sealed(key: Key, version: u64, as_of: u64, content: Content, note: Note) -> Fill
-    requires { note.log.told ≡ false }
-    ensures { result ≡ sealed_item key version as_of content note }
-{
-    Fill::seal(key, version, as_of, content, note)
+fn schema(alloc: Global) -> Result<Schema, Fail> {
+    let objects = vec![in alloc; Text::copy_of(alloc, "user")?]?;
+    let likes = AssocLine {
+        name: Text::copy_of(alloc, "likes")?,
+        inverse: None,
+        bound: 3,
+    };
+    let assocs = vec![in alloc; likes]?;
+    Ok(Schema::read(alloc, &objects, &assocs)?)
 }
 
-/// An empty log, told or not, has no object.
+/// Of a log that isn't told, a fill says nothing.
 fn no_object(id: Id, note: Note) -> Fill
-    requires { note.entries ≡ [] }
+    requires { note.log.told ≡ false }
     ensures { result ≡ sealed_item (Key.Obj id) 0 0 (Content.Object None) note }
 {
-    beginnings_are_sealed(&[], 0);
     Fill::seal(Key::Obj(id), 0, 0, Content::Object(None), note)
 }
 
-#[test]
-fn a_fill_gives_back_what_was_sealed(rt: HostRuntime) -> Result<(), Fail> {
-    let alloc = rt.alloc();
-    let list = Key::List(id(1)?, LIKES);
-    let front = Prefix::of(Edges::of(Vec::new(alloc)), 2);
-    let fill = sealed(list, 7, 5, Content::List(front), untold_note(alloc)?);
-    assert_eq!(rt; (fill.key(), fill.version(), fill.as_of()), (list, 7, 5));
-    assert!(rt; matches!(fill.content(), Content::List(front) if front.total() == 2));
-    let (key, version, as_of, content, mut note) = fill.into_parts();
-    assert_eq!(rt; (key, version, as_of, note.look()), (list, 7, 5, 0));
-    assert!(rt; matches!(&content, Content::List(front) if front.total() == 2));
-    Ok(())
+fn one_note(alloc: Global, note: Note) -> Result<Vec<Note>, AllocError>
+    ensures { IfOk result (λ notes. notes.items ≡ note ∷ []) }
+{
+    Ok(vec![in alloc; note]?)
+}
+
+/// A node that serves the first shard.
+fn node_of(alloc: Global, note: Note) -> Result<CacheNode, OutOfMemory>
+    requires { note.log.told ≡ false }
+    ensures { IfOk result (λ node. log_at 0 node.served ≡ Some note.log) }
+{
+    let notes = one_note(alloc, note)?;
+    CacheNode::make(alloc, 2, &[0], &[0], notes)
+}
+
+/// Whether the node keeps that there is no object, and answers so.
+fn keeps(node: &mut CacheNode, schema: &Schema, id: Id, note: Note) -> Result<bool, OutOfMemory>
+    requires here { shard_of id ≡ 0 }
+    requires log { log_at 0 node.old.served ≡ Some note.log }
+    requires untold { note.log.told ≡ false }
+{
+    let fill = no_object(id, note);
+    let (answer, kept) = node.keep_own(schema, &Query::ObjGet { id }, fill)?;
+    Ok(kept == Kept::Yes && matches!(answer, Answer::Object(None)))
+}
+
+/// The same of a node and a log that are made for it.
+fn keeps_its_own(alloc: Global, schema: &Schema, id: Id) -> Result<bool, OutOfMemory> {
+    let mut pen = ShardLog::make(alloc, Vec::new(alloc), false)?;
+    let mut node = node_of(alloc, pen.note()?)?;
+    let mut given = no_object(id, pen.note()?);
+    let note = given.split_note()?;
+    if id.shard() != 0 {
+        return Ok(false);
+    }
+    keeps(&mut node, schema, id, note)
 }
 
 #[test]
-fn a_fill_of_a_told_log_sees_it_grow(rt: HostRuntime) -> Result<(), Fail> {
-    let alloc = rt.alloc();
-    let (one, two) = (id(1)?, id(2)?);
-    let mut pen = ShardLog::make(alloc, Vec::new(alloc), true)?;
-    let mut fill = no_object(one, pen.note()?);
-    let entry = first_edge(alloc, one, two)?;
-    assert_eq!(rt; (fill.look(), pen.append(&entry), fill.look()), (0, 1, 1));
-    assert_eq!(rt; fill.split_note()?.look(), 1);
-    assert_eq!(rt; (fill.version(), fill.as_of()), (0, 0));
-    assert!(rt; matches!(fill.content(), Content::Object(None)));
+fn a_leader_keeps_what_it_reads_for_itself(rt: HostRuntime) -> Result<(), Fail> {
+    let id = Id::read(1).ok_or("an id")?;
+    let schema = schema(rt.alloc())?;
+    assert!(rt; keeps_its_own(rt.alloc(), &schema, id)?);
     Ok(())
 }

@@ -3,8 +3,7 @@ ghost use Rattle.std.specs.Prelude.{◌≡◌, false, Some, IfSome, OnSome};
 ghost use Rattle.graph_model.specs.Log.{entry_at};
 ghost use Rattle.shard_log.specs.View.{Begins, Grows};
 
-use crate::given::first_edge;
-use log_fixtures::id;
+use crate::given::untouching;
 use shard_log::{Note, Pen, ShardLog};
 use std::marker::{Brand, Model, PhantomData};
 use std::sync::{Mutex, Wait};
@@ -169,8 +168,7 @@ fn entries_of_two_threads_stand_in_one_log(rt: HostRuntime) -> Result<(), Fail> 
     let alloc = rt.alloc();
     let mut pen = ShardLog::make(alloc, Vec::new(alloc), false)?;
     let (one, two) = (pen.note()?, pen.note()?);
-    let first = first_edge(alloc, id(1)?, id(2)?)?;
-    let second = first_edge(alloc, id(1)?, id(3)?)?;
+    let (first, second) = (untouching(alloc, 1), untouching(alloc, 2));
     let Some(mut added) = named(&rt, pen, one, two, &first, &second) else {
         return Err("memory")?;
     };

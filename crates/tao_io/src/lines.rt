@@ -260,6 +260,3 @@ impl LineReader {
         }
     }
 }
-
-#[cfg(test)]
-mod tests;

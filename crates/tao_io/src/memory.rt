@@ -143,36 +143,3 @@ impl Sink for MemorySink {
         Ok(piece.len())
     }
 }
-
-#[cfg(test)]
-mod tests {
-    use super::*;
-    use std::test::Fail;
-
-    #[test]
-    fn a_source_gives_its_bytes_and_fails_at_the_listed_calls(rt: HostRuntime) -> Result<(), Fail> {
-        let alloc = rt.alloc();
-        let mut source = MemorySource::of(b"abc".to_vec(alloc)?, vec![in alloc; 2, 5]?);
-        let mut room = [0u8; 2];
-        assert_eq!(rt; source.take(&mut room), Ok(2));
-        assert_eq!(rt; room.as_slice(), b"ab".as_slice());
-        assert_eq!(rt; source.take(&mut room), Err(SourceFailed));
-        assert_eq!(rt; source.take(&mut room), Ok(1));
-        assert_eq!(rt; room.as_slice(), b"cb".as_slice());
-        assert_eq!(rt; source.take(&mut room), Ok(0));
-        assert_eq!(rt; source.take(&mut room), Err(SourceFailed));
-        Ok(())
-    }
-
-    #[test]
-    fn a_sink_keeps_its_pieces_and_fails_at_the_listed_calls(rt: HostRuntime) -> Result<(), Fail> {
-        let alloc = rt.alloc();
-        let mut sink = MemorySink::make(alloc, vec![in alloc; 1, 3]?);
-        assert_eq!(rt; sink.put(b"ab"), Err(SinkFailed));
-        assert_eq!(rt; sink.put(b"ab"), Ok(2));
-        assert_eq!(rt; sink.put(b"c"), Err(SinkFailed));
-        assert_eq!(rt; sink.put(b"d"), Ok(1));
-        assert_eq!(rt; sink.bytes(), b"abd".as_slice());
-        Ok(())
-    }
-}

@@ -19,14 +19,3 @@ impl From<Status> for ExitCode {
         ExitCode::from(status.code)
     }
 }
-
-#[cfg(test)]
-mod tests {
-    use super::*;
-
-    #[test]
-    fn a_status_is_an_exit_code(rt: HostRuntime) {
-        assert_eq!(rt; ExitCode::from(Status { code: 0 }), ExitCode::SUCCESS);
-        assert_eq!(rt; ExitCode::from(Status { code: 1 }), ExitCode::FAILURE);
-    }
-}

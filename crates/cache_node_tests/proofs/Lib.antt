@@ -1,2 +1,0 @@
-pub mod FollowerLemmas
-pub mod RigLemmas

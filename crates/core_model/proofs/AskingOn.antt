@@ -1,5 +1,5 @@
 -- A follower's asks go on, whatever stage it does.
-use Rattle.std.proofs.Common.{◌≡◌, ℕ, Bool, true, false, Option, Some, None, ap, sym, subst}
+use Rattle.std.proofs.Common.{◌≡◌, ℕ, Bool, true, false, List, [], ◌∷◌, Option, Some, None, ap, sym, subst}
 use Rattle.std.specs.Prelude.{if◌then◌else◌}
 use Rattle.tao_base.specs.EdgeTypes.{EdgeTypes}
 use Rattle.tao_base.specs.Keys.{key_shard}
@@ -8,7 +8,7 @@ use Rattle.tao_base.specs.declared.entry.Entry.{Entry}
 use Rattle.tao_base.specs.declared.id.Key.{Key}
 use Rattle.ask_table.specs.Asks.{Asks}
 use Rattle.cache_items.specs.Kept.{is_yes, item_of, took, with_item}
-use Rattle.cache_items.specs.Node.{Node, delivered, with_ended_ask, with_opened_ask}
+use Rattle.cache_items.specs.Node.{Node, caught_up, delivered, met, processed, with_ended_ask, with_opened_ask}
 use Rattle.cache_items.specs.TakenEntry.{AppliesEntry}
 use Rattle.cache_items.specs.declared.look.Kept.{Kept}
 use Rattle.cache_items.specs.declared.look.Look.{Look}
@@ -57,6 +57,17 @@ applies_on types shard entry note from to applies =
 pub delivers_on : (m : SeenMaint) (from to : Node) → to ≡ delivered m from → AsksGoOn from.asks to.asks
 delivers_on m from to same = go_on_to from to (delivered m from) same (raises_all m.keys from.asks)
 
+caught_on : (shard : ℕ) (es : List Entry) (n : Node) → AsksGoOn n.asks (caught_up shard es n).asks
+caught_on shard [] n = asks_stay n.asks
+caught_on shard (e ∷ es) n =
+    let once : Node = processed shard e.position (keys_of e) n in
+    asks_go_on n.asks once.asks (caught_up shard es once).asks (raises_all (keys_of e) n.asks) (caught_on shard es once)
+
+pub processes_on : (shard : ℕ) (es : List Entry) (note : View) (from to : Node) → to ≡ caught_up shard es (met shard note from) → AsksGoOn from.asks to.asks
+processes_on shard es note from to same =
+    let mid : Node = met shard note from in
+    go_on_to from to (caught_up shard es mid) same (caught_on shard es mid)
+
 pub nodes_ask_on : NodesAskOn
 nodes_ask_on = record {
   looks = λ types read look ask old new looks. looks_on (query_key read.query) look ask old.node new.node looks.node;
@@ -65,4 +76,5 @@ nodes_ask_on = record {
   ends = λ ask old new ends. ends_on ask old.node new.node (ap (λ (f : FollowerState). f.node) ends);
   applies = λ types shard entry note old new applies. applies_on types shard entry note old.node new.node applies.node;
   delivers = λ m dropped old new delivers. delivers_on m old new delivers.node_is;
+  processes = processes_on;
 }

@@ -1,6 +1,7 @@
 pub mod AsksOn
 pub mod NodesSeen
 pub mod Staying
+pub mod StayingJobs
 pub mod AskingOn
 pub mod Legal
 pub mod Turns
@@ -9,3 +10,5 @@ pub mod Refilling
 pub mod NamesInTurn
 pub mod Places
 pub mod NamedNodes
+pub mod KeptStores
+pub mod OwedJobs

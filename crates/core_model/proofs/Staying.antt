@@ -12,7 +12,7 @@ use Rattle.tao_base.specs.declared.entry.Touch.{Touch}
 use Rattle.tao_base.specs.declared.id.Key.{Key}
 use Rattle.changeset.specs.Changes.{change_by}
 use Rattle.cache_items.specs.Kept.{is_yes, item_of, took, with_item}
-use Rattle.cache_items.specs.Node.{Items, Node, delivered, dropped, with_ended_ask, without, without_last}
+use Rattle.cache_items.specs.Node.{Items, Node, caught_up, delivered, dropped, met, processed, with_ended_ask, without, without_last}
 use Rattle.cache_items.specs.TakenEntry.{AppliesEntry, TakesEntry, TakesTouches}
 use Rattle.cache_items.specs.declared.look.Kept.{Kept}
 use Rattle.cache_items.specs.declared.look.Look.{Look}
@@ -27,6 +27,7 @@ use Rattle.follower_cache.specs.Seen.{FollowerState}
 use Rattle.leader_tier.specs.LeaderReads.{KeepsGiven}
 use Rattle.leader_tier.specs.TakenWrites.{TakesWritten}
 use Rattle.lru.specs.LruCache.{promoted}
+use Rattle.maint_msg.specs.KeyVersions.{keys_of as keys_touched}
 use Rattle.maint_msg.specs.Maints.{SeenMaint}
 use Rattle.node_name.specs.declared.NodeName.{NodeName}
 use Rattle.sealed_item.specs.Decided.{IsWithinBound}
@@ -199,6 +200,28 @@ module _ (s : Settings) (pens : Pens) (name : NodeName) where
       (subst (λ (n : Node). AreWithin (types_of s.schema) n.items) (sym same)
       ((items_stay_within (types_of s.schema) from.items).fewer (dropped from.items m.keys) ((items_are_fewer from.items distinct).left m.keys) is.within)) truth is
 
+  -- entries that were processed
+  caught_numbers : (shard : ℕ) (es : List Entry) (n : Node) → numbers_of (caught_up shard es n).served ≡ numbers_of n.served
+  caught_numbers shard [] n = refl
+  caught_numbers shard (e ∷ es) n =
+      caught_numbers shard es (processed shard e.position (keys_touched e) n) ∙ numbers_stay shard (marking e.position) n.served (λ t. refl)
+
+  caught_seen : (shard : ℕ) (es : List Entry) (n : Node) → AreSeen pens n.served → AreSeen pens (caught_up shard es n).served
+  caught_seen shard [] n seen = seen
+  caught_seen shard (e ∷ es) n seen =
+      caught_seen shard es (processed shard e.position (keys_touched e) n) (served-marks pens shard e.position n.served seen)
+
+  pub processes_node : (shard : ℕ) (es : List Entry) (note : View) (from to : Node) → to ≡ caught_up shard es (met shard note from) → IsSeen pens shard note
+      → IsDistinct same_key (keys_held from.items) → IsTrueNode to → IsNodeOf s pens name from → IsNodeOf s pens name to
+  processes_node shard es note from to same seen distinct truth is =
+      let mid : Node = met shard note from in
+      node_after from to is truth
+      (ap (λ (n : Node). numbers_of n.served) same ∙ caught_numbers shard es mid ∙ numbers_stay shard (seeing note) from.served (λ t. refl))
+      (subst (λ (n : Node). AreSeen pens n.served) (sym same)
+      (caught_seen shard es mid (served-meets pens shard note from.served seen is.seen)))
+      (subst (λ (n : Node). AreWithin (types_of s.schema) n.items) (sym same)
+      ((items_stay_within (types_of s.schema) from.items).caught shard es mid refl distinct is.within))
+
   pub writes_node : (shard : ℕ) (entry : Option Entry) (note : View) (from to : Node) → TakesWritten (types_of s.schema) shard entry note from to → IsSeen pens shard note
       → IsDistinct same_key (keys_held from.items) → IsTrueNode to → IsNodeOf s pens name from → IsNodeOf s pens name to
   writes_node shard None note from to takes seen distinct truth is = subst (IsNodeOf s pens name) (sym takes) is
@@ -233,6 +256,7 @@ module _ (s : Settings) (pens : Pens) (name : NodeName) where
     evicts = λ key old new same distinct truth is. fewer_node (without key old.items) old new same ((items_are_fewer old.items distinct).without_one key) truth is;
     evicts_last = λ old new same truth is. fewer_node (without_last old.items) old new same (λ key item h. held_take (length old.items - 1) old.items key item h) truth is;
     delivers = λ m dropped old new delivers message distinct truth is. delivers_node m old new delivers.node_is message.seen distinct truth is;
+    processes = processes_node;
   }
 
 -- what a message names was seen of a log that goes on

@@ -1,5 +1,5 @@
 -- What stays so of the nodes of a core, whatever its stages do.
-use Rattle.std.specs.Prelude.{ℕ, ◌≡◌, ◌≤◌, ◌<◌, IfSome, IsSome, IsTrue, List, Option, Some}
+use Rattle.std.specs.Prelude.{ℕ, ◌≡◌, ◌≤◌, ◌<◌, IfSome, IsSome, IsTrue, List, Option, Some, true}
 use Rattle.std.specs.List.{IsDistinct}
 use Rattle.std.specs.Map.{keys_of as keys_held}
 use Rattle.cache_items.specs.Node.{Node, without, without_last}
@@ -26,7 +26,9 @@ use Rattle.tao_base.specs.Queries.{query_shard}
 use Rattle.tao_base.specs.declared.entry.Entry.{Entry}
 use Rattle.tao_base.specs.declared.id.Key.{Key}
 use Rattle.tao_base.specs.declared.query.Answer.{Answer}
+use Rattle.tao_keeper.specs.Growing.{LogsGrow}
 use Rattle.tao_keeper.specs.KeeperState.{KeeperState}
+use Rattle.tao_keeper.specs.Table.{Tables}
 use Rattle.tao_schema.specs.Schema.{types_of}
 use Rattle.topology.specs.Choices.{chosen_follower, preferred_leader}
 use Rattle.topology.specs.Config.{Settings}
@@ -34,10 +36,12 @@ use Rattle.topology.specs.States.{NodeStates, is_cache}
 use Rattle.core_model.specs.Asks.{AsksGoOn}
 use Rattle.core_model.specs.Consistent.{AreSeen, IsFollowerOf, IsNodeOf}
 use Rattle.core_model.specs.Fleet.{regions_of, serves_in_turn}
-use Rattle.core_model.specs.Messages.{Delivers, DeliversThere, IsMessageFor, IsRefillFor, TakesRefill}
+use Rattle.core_model.specs.Jobs.{IsMergedJob, IsOwedJob, ShardJob}
+use Rattle.core_model.specs.Messages.{Delivers, DeliversThere, IsMessageFor, IsRefillFor, Processes, TakesRefill}
 use Rattle.core_model.specs.Pens.{IsSeen, Pens, Rise}
 use Rattle.core_model.specs.Reads.{EndsAsk, IsGivenAnswer, IsGivenFill, IsLegalLook, KeepsFill, LeaderAnswers, LooksFirst, Wanted}
 use Rattle.core_model.specs.Serving.{IsFollowerFor, IsLeaderFor}
+use Rattle.core_model.specs.Stores.{AreKeptIn}
 use Rattle.core_model.specs.Writes.{AppliesTo}
 
 -- ---- what was seen stays seen
@@ -90,6 +94,9 @@ pub record NodesStay (s : Settings) (pens : Pens) (name : NodeName) : Type 0 whe
   -- a message
   pub delivers : (m : SeenMaint) (dropped : ℕ) (old new : Node) → Delivers m dropped old new → IsMessageFor s pens name m
       → IsDistinct same_key (keys_held old.items) → IsTrueNode new → IsNodeOf s pens name old → IsNodeOf s pens name new
+  -- entries of a log
+  pub processes : (shard : ℕ) (entries : List Entry) (note : View) (old new : Node) → Processes shard entries note old new → IsSeen pens shard note
+      → IsDistinct same_key (keys_held old.items) → IsTrueNode new → IsNodeOf s pens name old → IsNodeOf s pens name new
 
 -- ---- a follower stays one, with its refills
 
@@ -125,6 +132,8 @@ pub record NodesAskOn : Type 0 where
   pub applies : (types : EdgeTypes) (shard : ℕ) (entry : Entry) (note : View) (old new : FollowerState) → AppliesTo types shard entry note old new
       → AsksGoOn old.node.asks new.node.asks
   pub delivers : (m : SeenMaint) (dropped : ℕ) (old new : Node) → Delivers m dropped old new → AsksGoOn old.asks new.asks
+  pub processes : (shard : ℕ) (entries : List Entry) (note : View) (old new : Node) → Processes shard entries note old new
+      → AsksGoOn old.asks new.asks
 
 -- ---- reads are legal
 
@@ -154,3 +163,10 @@ pub record ChoicesServe (s : Settings) (states : NodeStates) : Type 0 where
       → chosen_follower states region tier shard ≡ Some name → IsFollowerFor s shard name
   pub leader : (region shard : ℕ) → states.regions ≡ regions_of s → shard < s.shards
       → IsTrue (is_cache states.regions (preferred_leader states region shard)) → IsLeaderFor s shard (preferred_leader states region shard)
+
+-- ---- jobs
+
+-- as long as logs only grow, a job is owed, and one that was merged is merged
+pub record JobsStayOwed (s : Settings) : Type 0 where
+  pub owed : (old new : Tables) (j : ShardJob) → LogsGrow true old new → IsOwedJob s old j → IsOwedJob s new j
+  pub merged : (old new : Tables) (j : ShardJob) → AreKeptIn s new → LogsGrow true old new → IsMergedJob s old j → IsMergedJob s new j

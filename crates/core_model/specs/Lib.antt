@@ -3,6 +3,7 @@ pub mod Consistent
 pub mod Evictions
 pub mod Fleet
 pub mod Growing
+pub mod Jobs
 pub mod Laws
 pub mod Messages
 pub mod Pens

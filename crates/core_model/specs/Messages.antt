@@ -2,7 +2,7 @@
 use Rattle.std.specs.Prelude.{ℕ, ◌≡◌, ◌≤◌, ◌<◌, IsTrue, List, [], ◌∷◌, Option, Some, None, filter}
 use Rattle.std.specs.List.{AllByRecursion}
 use Rattle.cache_items.specs.Delivered.{dropped_lists}
-use Rattle.cache_items.specs.Node.{Node, delivered, drop_count}
+use Rattle.cache_items.specs.Node.{Node, caught_up, delivered, drop_count, met}
 use Rattle.follower_cache.specs.Refills.{Queues}
 use Rattle.follower_cache.specs.Seen.{FollowerState}
 use Rattle.follower_cache.specs.declared.queue.Refill.{Refill}
@@ -11,8 +11,10 @@ use Rattle.graph_model.specs.Told.{WhereTold}
 use Rattle.maint_msg.specs.Maints.{IsMaint, SeenMaint}
 use Rattle.node_name.specs.declared.NodeName.{NodeName}
 use Rattle.node_name.specs.declared.NodeName.TheVariants.{Store as StoreName_, Leader, Follower}
+use Rattle.shard_log.specs.View.{View}
 use Rattle.tao_base.specs.EdgeTypes.{EdgeTypes}
 use Rattle.tao_base.specs.Queries.{query_key, query_shard}
+use Rattle.tao_base.specs.declared.entry.Entry.{Entry}
 use Rattle.topology.specs.Choices.{followers_in_turn}
 use Rattle.topology.specs.Config.{Settings}
 use Rattle.topology.specs.States.{NodeStates, is_up}
@@ -51,6 +53,10 @@ DeliversAt types m dropped (Leader region index) old new =
     ChangesNode (Leader region index) (Delivers m dropped) old.leaders new.leaders × (new ≡ record old { leaders = new.leaders })
 DeliversAt types m dropped (Follower region tier index) old new =
     ChangesNode (Follower region tier index) (DeliversThere types m dropped) old.followers new.followers × (new ≡ record old { followers = new.followers })
+
+-- a node meets a note of a shard's log, and processes entries of that log one after another
+abbrev pub Processes : ℕ → List Entry → View → Node → Node → Type 0
+Processes shard entries note old new = new ≡ caught_up shard entries (met shard note old)
 
 -- ---- refills
 

@@ -4,13 +4,15 @@ use Rattle.tao_base.specs.declared.entry.Entry.{Entry}
 use Rattle.tao_base.specs.declared.id.StoreName.{StoreName}
 use Rattle.graph_model.specs.Soundness.{IsSoundOf}
 use Rattle.graph_model.specs.Told.{WhereTold}
-use Rattle.master_tables.specs.Masters.{Masters}
+use Rattle.master_tables.specs.Masters.{Masters, stores_of}
 use Rattle.shard_tables.specs.StoreView.{Store}
 use Rattle.shard_tables.specs.Stores.{IsStoreOf}
 use Rattle.shard_tables.specs.declared.store.Role.TheVariants.{Master}
 use Rattle.tao_keeper.specs.Table.{Tables}
 use Rattle.tao_schema.specs.Schema.{types_of}
 use Rattle.topology.specs.Config.{Settings}
+use Rattle.write_model.specs.Merges.{Stores}
+use Rattle.write_model.specs.Steps.{AreSoundAndCovered}
 
 -- the master region of a shard: the masters take turns
 abbrev pub master_of : Settings → ℕ → ℕ
@@ -27,6 +29,14 @@ masters_of s = record { shards = s.shards; name = master_store s; of_shard = λ 
 -- the log of a shard is that of its master's store
 abbrev pub master_log : Settings → Tables → ℕ → List Entry
 master_log s tables shard = (tables (master_store s shard)).log
+
+-- the logs and open jobs of all shards
+abbrev pub stores_in : Settings → Tables → Stores
+stores_in s tables = stores_of (masters_of s) tables
+
+-- the logs of all shards are sound, and what is missing at the other end of an edge is owed by an open job
+abbrev pub AreKeptIn : Settings → Tables → Type 0
+AreKeptIn s tables = AreSoundAndCovered (types_of s.schema) (stores_in s tables)
 
 -- each shard's log is sound with the types of the configuration
 abbrev pub HasSoundLogs : Settings → Tables → Type 0
@@ -50,5 +60,5 @@ HaveSeen tells tables stores = (shard : ℕ) (store : Store) → slice_get store
 -- the stores are those of the configuration, and may be used with keepers that tell these tables
 pub record AreStoresOf (tells : Bool) (s : Settings) (tables : Tables) (stores : List Store) : Type 0 where
   pub masters : AreStores s s.shards stores
-  pub sound : WhereTold tells (HasSoundLogs s tables)
+  pub kept : WhereTold tells (AreKeptIn s tables)
   pub seen : HaveSeen tells tables stores

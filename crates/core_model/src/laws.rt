@@ -2,7 +2,7 @@
 ghost use Rattle.std.specs.Prelude.{ℕ};
 ghost use Rattle.cache_items.specs.Node.{Node};
 ghost use Rattle.core_model.specs.Asks.{AsksStayOn};
-ghost use Rattle.core_model.specs.Laws.{ChoicesServe, FollowersStay, MessagesStay, NodesAskOn, NodesStay, NodesStaySeen, ReadsAreLegal, ServesItsTurn};
+ghost use Rattle.core_model.specs.Laws.{ChoicesServe, FollowersStay, JobsStayOwed, MessagesStay, NodesAskOn, NodesStay, NodesStaySeen, ReadsAreLegal, ServesItsTurn};
 ghost use Rattle.core_model.specs.Pens.{Pens};
 ghost use Rattle.core_model.specs.Reads.{Wanted};
 ghost use Rattle.node_name.specs.declared.NodeName.{NodeName as AnyNode};
@@ -62,4 +62,10 @@ pub fn nodes_serve()
 #[tactic(auto, using(crate::proofs::Turns::choices_serve))]
 pub fn choices_serve()
     ensures { (s : Settings) (states : NodeStates) → ChoicesServe s states }
+{}
+
+/// What an entry owes it owes on, and what was merged stays merged, as long as logs only grow.
+#[tactic(auto, using(crate::proofs::StayingJobs::jobs_stay_owed))]
+pub fn jobs_stay_owed()
+    ensures { (s : Settings) → JobsStayOwed s }
 {}

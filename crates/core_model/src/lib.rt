@@ -4,9 +4,13 @@
 //! The definitions stand in `specs`; the laws, each the contract of a function that does nothing, say what follows of them.
 #![tactic(auto)]
 
+mod jobs;
 pub mod laws;
 mod named;
 mod names;
 
+pub use jobs::far_shard;
 pub use named::{Named, find_node, place_of};
-pub use names::{follower_names, leader_names, served_by, serving_follower, tier_count};
+pub use names::{
+    follower_names, leader_names, served_by, serves_in_turn, serving_follower, tier_count,
+};

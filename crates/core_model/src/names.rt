@@ -141,7 +141,7 @@ pub fn serving_follower(config: &Config, region: u16, tier: u16, shard: u16) -> 
 }
 
 /// Whether the node serves the shard: the nodes of a tier, and the leaders of a region, take turns.
-fn serves_in_turn(config: &Config, name: NodeName, shard: u16) -> bool
+pub fn serves_in_turn(config: &Config, name: NodeName, shard: u16) -> bool
     ensures { result ≡ serves_in_turn (regions_of config.now) name shard }
 {
     match name {

@@ -1,9 +1,10 @@
 -- The inboxes of a configuration stay such.
-use Rattle.std.proofs.Common.{◌≡◌, ℕ, zero, suc, ◌<◌, ◌%◌, true, List, [], ◌∷◌, map, refl, ap, sym, ◌∙◌, subst, inl, inr}
+use Rattle.std.proofs.Common.{◌≡◌, ℕ, zero, suc, ◌+◌, ◌<◌, ◌%◌, true, List, [], ◌∷◌, ◌++◌, drop, length, map, take, refl, ap, sym, ◌∙◌, subst, inl, inr}
 use Rattle.std.proofs.lemmas.Bool.{eq-eqb}
+use Rattle.std.proofs.lemmas.List.Edits.{map_over_more}
 use Rattle.std.proofs.lemmas.List.Elements.{Contains-append_left, Contains-append_right}
 use Rattle.std.specs.List.{AllByRecursion, remove}
-use Rattle.std.specs.Prelude.{Contains, IfOk, IfSome, Option, Some, Result, Ok, Err, slice_get, slice_index_or}
+use Rattle.std.specs.Prelude.{Contains, IfOk, IfSome, Option, Some, Result, Ok, Err, slice_get, slice_index_or, slice_set}
 use Rattle.graph_model.proofs.Later.{all_append, all_filter, all_map}
 use Rattle.maint_msg.proofs.MaintLemmas.{is_maint}
 use Rattle.maint_msg.specs.Inbox.{IsSent}
@@ -25,7 +26,7 @@ use Rattle.core_model.specs.declared.named.Named.{Named}
 use Rattle.core_model.proofs.NamedNodes.{all_set, named_stands, names_set}
 use Rattle.core_model.proofs.Places.{one_some}
 use Rattle.core_model.proofs.Staying.{messages_stay}
-use Rattle.core_mail.specs.Inboxes.{AreEmpty, AreInboxesOf, Inboxes, Sends, TakesOut, WaitsAt, cache_names, message_of, no_messages}
+use Rattle.core_mail.specs.Inboxes.{AreEmpty, AreInboxesOf, Inboxes, Sends, TakesOut, WaitsAt, cache_names, cleared, message_of, no_messages}
 use Rattle.core_mail.specs.Laws.{InboxesStay}
 
 -- ---- each message of a list
@@ -113,6 +114,15 @@ module _ (s : Settings) (pens : Pens) where
       (all_of_image (λ name. IsMessageFor s pens name m) (λ t. serving_follower states.regions region t shard)
       (λ t. is (serving_follower states.regions region t shard) (serve t)) tiers)
 
+  -- one node is told, which serves the shard
+  pub tell_kept : (name : NodeName) (shard : ℕ) (entry : Entry) (note : View) (old new : Inboxes) → shard < s.shards
+      → serves_in_turn (regions_of s) name shard ≡ true → StandsIn note entry → LiesOn note shard entry
+      → Sends (name ∷ []) (message_of shard entry note) old new → IsSeen pens shard note → AreInboxesOf s pens old → AreInboxesOf s pens new
+  tell_kept name shard entry note old new here serves stands lies sends seen is =
+      let for : IsMessageFor s pens name (message_of shard entry note) =
+      record { here = here; serves = serves; seen = seen; names = is_maint entry shard note stands lies } in
+      sends_kept (name ∷ []) (message_of shard entry note) old new (for, tt) sends is
+
   pub send_kept : (states : NodeStates) (region shard : ℕ) (entry : Entry) (note : View) (old new : Inboxes) → states.regions ≡ regions_of s
       → shard < s.shards → StandsIn note entry → LiesOn note shard entry → Sends (told_of states region shard) (message_of shard entry note) old new
       → IsSeen pens shard note → AreInboxesOf s pens old → AreInboxesOf s pens new
@@ -178,3 +188,41 @@ empty_of s names pens all = record {
   names = names_empty names ∙ all;
   messages = λ place name waiting stands. subst (AllByRecursion (IsMessageFor s pens name)) (none_waits names place name waiting stands) tt;
 }
+
+-- ---- inboxes are cleared
+
+-- one more inbox is
+pub clears_more : (xs ys : Inboxes) (place : ℕ) (inbox : Named (List SeenMaint)) (left : List SeenMaint) → place < length xs
+    → ys ≡ map cleared (take place xs) ++ drop place xs → inbox ≡ slice_index_or ys place inbox → left ≡ []
+    → slice_set ys place (named (slice_index_or ys place inbox).name left) ≡ map cleared (take (place + 1) xs) ++ drop (place + 1) xs
+clears_more xs ys place inbox left lt so_far is none =
+    let next : cleared inbox ≡ named (slice_index_or ys place inbox).name left =
+    ap (λ (n : Named (List SeenMaint)). no_messages n.name) is ∙ ap (named (slice_index_or ys place inbox).name) (sym none) in
+    ap (slice_set ys place) (sym next) ∙ map_over_more cleared xs ys place inbox lt so_far is
+
+names_cleared : (inboxes : Inboxes) → names_of (map cleared inboxes) ≡ names_of inboxes
+names_cleared [] = refl
+names_cleared (inbox ∷ inboxes) = ap (λ names. inbox.name ∷ names) (names_cleared inboxes)
+
+none_left : (inboxes : Inboxes) (place : ℕ) (name : NodeName) (waiting : List SeenMaint) → slice_get (map cleared inboxes) place ≡ Some (named name waiting)
+    → [] ≡ waiting
+none_left [] place name waiting stands = absurd (cc)
+none_left (inbox ∷ inboxes) zero name waiting stands = ap (λ n. n.node) (one_some (cleared inbox) (named name waiting) stands)
+none_left (inbox ∷ inboxes) (suc place) name waiting stands = none_left inboxes place name waiting stands
+
+-- what clearing leaves
+pub record IsCleared (old new : Inboxes) : Type 0 where
+  pub empty : AreEmpty new
+  pub names : names_of new ≡ names_of old
+  pub of : (s : Settings) (pens : Pens) → AreInboxesOf s pens old → AreInboxesOf s pens new
+
+pub all_cleared : (old new : Inboxes) → new ≡ map cleared old → IsCleared old new
+all_cleared old new is = subst (IsCleared old) (sym is) (record {
+  empty = all_of_image (λ inbox. inbox.node ≡ []) cleared (λ inbox. refl) old;
+  names = names_cleared old;
+  of = λ s pens of. record {
+    names = names_cleared old ∙ of.names;
+    messages = λ place name waiting stands.
+        subst (AllByRecursion (IsMessageFor s pens name)) (none_left old place name waiting stands) tt;
+  };
+})

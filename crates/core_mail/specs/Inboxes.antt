@@ -36,6 +36,10 @@ AreEmpty inboxes = AllByRecursion (λ inbox. inbox.node ≡ []) inboxes
 abbrev pub no_messages : NodeName → Named (List SeenMaint)
 no_messages name = named name []
 
+-- the inbox of a node of that name once all its messages are taken out
+abbrev pub cleared : Named (List SeenMaint) → Named (List SeenMaint)
+cleared inbox = no_messages inbox.name
+
 -- ---- messages that are sent
 
 -- the message of the entry of a shard's log, by what the note has seen of it

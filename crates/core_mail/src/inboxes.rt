@@ -1,6 +1,6 @@
 //! What is done to the inbox of a node, which is found by its name.
 ghost use Rattle.std.specs.Prelude.{◌≡◌, IfOk, map};
-ghost use Rattle.core_mail.specs.Inboxes.{TakesOut, WaitsAt, message_of, no_messages, shown_message};
+ghost use Rattle.core_mail.specs.Inboxes.{TakesOut, WaitsAt, cleared, message_of, no_messages, shown_message};
 ghost use Rattle.core_model.specs.Fleet.{ChangesNode, HasNode};
 ghost use Rattle.maint_msg.specs.Inbox.{IsSent};
 ghost use Rattle.shard_tables.specs.Written.{LiesOn, StandsIn};
@@ -103,6 +103,15 @@ pub(crate) fn copy_at(
 {
     let index = place_of(inboxes, name);
     inboxes[index].node.copy_at(place)
+}
+
+/// Takes all messages out of each inbox.
+pub(crate) fn clear_all(inboxes: &mut [Named<Inbox>])
+    ensures { inboxes.new ≡ map cleared inboxes.old }
+{
+    for inbox in inboxes.iter_mut() {
+        inbox.node.clear();
+    }
 }
 
 /// Messages as they are shown.

@@ -1,13 +1,13 @@
 //! `Mail`.
-ghost use Rattle.std.specs.Prelude.{◌≡◌, ◌<◌, IfOk, IfSome};
+ghost use Rattle.std.specs.Prelude.{◌≡◌, ◌<◌, ◌∷◌, [], IfOk, IfSome, IsTrue};
 ghost use Rattle.core_mail.specs.Inboxes.{AreEmpty, AreInboxesOf, Sends, ShowsInbox, TakesOut, WaitsAt, cache_names, message_of};
-ghost use Rattle.core_model.specs.Fleet.{ChangesNode, HasNode, names_of, regions_of};
+ghost use Rattle.core_model.specs.Fleet.{ChangesNode, HasNode, names_of, regions_of, serves_in_turn};
 ghost use Rattle.core_model.specs.Messages.{IsMessageFor, told_of};
 ghost use Rattle.core_model.specs.Pens.{IsSeen, Pens};
 ghost use Rattle.shard_tables.specs.Written.{LiesOn, StandsIn};
 ghost use Rattle.topology.specs.Config.{Settings};
 
-use crate::inboxes::{copy_at, empty_inboxes, send_at, shown, take_at};
+use crate::inboxes::{clear_all, copy_at, empty_inboxes, send_at, shown, take_at};
 use core_model::{Named, find_node, follower_names, leader_names, serving_follower, tier_count};
 use maint_msg::{Inbox, Maint};
 use node_name::NodeName;
@@ -108,6 +108,42 @@ impl Mail {
             entry,
             note,
         );
+    }
+
+    /// Tells one leader or follower of an entry of a shard that it serves: it is sent a message with a note of its own, which comes
+    /// behind the others.
+    ///
+    /// With 4,096 messages waiting the message is lost, and so it is without memory for its note, its keys or its place. Takes no
+    /// other memory.
+    pub fn tell(
+        &mut self,
+        alloc: Global,
+        config: &Config,
+        node: NodeName,
+        shard: u16,
+        entry: &Entry,
+        note: &mut Note,
+    )
+        requires there { HasNode node self.old }
+        requires here { shard < config.now.shards }
+        requires serves { IsTrue (serves_in_turn (regions_of config.now) node shard) }
+        requires stands { StandsIn note.old entry.now }
+        requires lies { LiesOn note.old shard entry.now }
+        ensures sends { Sends (node ∷ []) (message_of shard entry.now note.old) self.old self.new }
+        ensures note { note.new ≡ note.old }
+        ensures of { (pens : Pens) → IsSeen pens shard note.old → AreInboxesOf config.now pens self.old → AreInboxesOf config.now pens self.new }
+    {
+        let _ = config;
+        send_at(&mut self.inboxes, node, alloc, shard, entry, note);
+    }
+
+    /// Takes out all messages of every node. Takes no memory.
+    pub fn clear(&mut self)
+        ensures empty { AreEmpty self.new }
+        ensures names { names_of self.new ≡ names_of self.old }
+        ensures of { (s : Settings) (pens : Pens) → AreInboxesOf s pens self.old → AreInboxesOf s pens self.new }
+    {
+        clear_all(&mut self.inboxes);
     }
 
     /// Takes the message at a place, the oldest at 0, out of a node's inbox; those behind it move up. None, and nothing changed,

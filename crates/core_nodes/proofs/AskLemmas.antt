@@ -3,7 +3,6 @@ use Rattle.std.proofs.Common.{◌≡◌, ℕ, Bool, true, false, List, Option, S
 use Rattle.std.specs.Prelude.{⊤, if◌then◌else◌, nat_lt, slice_get}
 use Rattle.std.specs.Option.{option_map}
 use Rattle.cache_items.specs.Node.{Node}
-use Rattle.graph_model.specs.Soundness.{IsSoundOf}
 use Rattle.graph_model.specs.Told.{WhereTold}
 use Rattle.leader_tier.specs.LeaderReads.{IsLegalAt, at_floor}
 use Rattle.node_name.specs.declared.NodeName.{NodeName}
@@ -13,7 +12,7 @@ use Rattle.shard_log.proofs.GrowthLemmas.{grows-self}
 use Rattle.shard_log.specs.View.{Grows, View, as_note}
 use Rattle.shard_tables.specs.ReadOuts.{read_note}
 use Rattle.shard_tables.specs.StoreView.{Store}
-use Rattle.shard_tables.specs.Stores.{HasSeen, IsStoreOf, note_of, seen_by}
+use Rattle.shard_tables.specs.Stores.{note_of, seen_by}
 use Rattle.shard_tables.specs.declared.leader_answer.LeaderAnswer.{LeaderAnswer}
 use Rattle.shard_tables.specs.declared.leader_answer.LeaderAnswer.TheVariants.{Filled, Past, Behind}
 use Rattle.shard_tables.specs.declared.read_out.ReadOut.{ReadOut}
@@ -23,9 +22,10 @@ use Rattle.shard_tables.specs.declared.store.Role.TheVariants.{Master}
 use Rattle.tao_base.specs.EdgeTypes.{EdgeTypes}
 use Rattle.tao_base.specs.Queries.{query_shard}
 use Rattle.tao_keeper.specs.KeeperState.{KeeperState, KeepsTables}
-use Rattle.tao_keeper.specs.Table.{Stays, Table, Tables}
+use Rattle.tao_keeper.specs.Table.{Stays, Tables}
 use Rattle.tao_schema.specs.Schema.{types_of}
 use Rattle.topology.specs.Config.{Settings}
+use Rattle.core_model.proofs.KeptStores.{kept_stays}
 use Rattle.core_model.proofs.Legal.{reads_are_legal}
 use Rattle.core_model.proofs.NodesSeen.{nodes_stay_seen}
 use Rattle.core_model.proofs.Staying.{nodes_stay}
@@ -35,30 +35,21 @@ use Rattle.core_model.specs.Fleet.{ChangesNode, Fleet}
 use Rattle.core_model.specs.Pens.{IsSeen, Pens, pens_of, view_or_none}
 use Rattle.core_model.specs.Reads.{IsGivenAnswer, LeaderAnswers, Wanted}
 use Rattle.core_model.specs.Serving.{IsLeaderFor}
-use Rattle.core_model.specs.Stores.{AreStoresOf, HasSoundLogs, master_store}
+use Rattle.core_model.specs.Stores.{AreStoresOf}
 use Rattle.core_model.specs.declared.named.Named.{Named}
 use Rattle.core_nodes.specs.Stages.{LeaderDoes, NodeIs}
 use Rattle.core_nodes.proofs.FleetLemmas.{goes_self, leader_step}
 use Rattle.core_nodes.proofs.ReadLemmas.{log_of_shard}
+use Rattle.core_nodes.proofs.StoreLemmas.{seen_stay}
 
 -- ---- the stores, where no table changes
-
-seen_here : (tells : Bool) (old new : Tables) (store : Store) → IsStoreOf tells old store → WhereTold tells (Stays old new) → IsStoreOf tells new store
-seen_here tells old new store is stays = record {
-  told_is = is.told_is;
-  seen = λ told. subst (λ (t : Table). HasSeen store.role t.log store.view.entries) (sym (stays told store.name)) (is.seen told);
-}
-
-sound_here : (s : Settings) (old new : Tables) → HasSoundLogs s old → Stays old new → HasSoundLogs s new
-sound_here s old new sound stays shard here =
-    subst (λ (t : Table). IsSoundOf (types_of s.schema) shard t.log) (sym (stays (master_store s shard))) (sound shard here)
 
 pub stores_here : (tells : Bool) (s : Settings) (old new : Tables) (stores : List Store) → AreStoresOf tells s old stores → WhereTold tells (Stays old new)
     → AreStoresOf tells s new stores
 stores_here tells s old new stores are stays = record {
   masters = are.masters;
-  sound = λ told. sound_here s old new (are.sound told) (stays told);
-  seen = λ shard store at. seen_here tells old new store (are.seen shard store at) stays;
+  kept = λ told. kept_stays s old new (stays told) (are.kept told);
+  seen = seen_stay tells old new stores are.seen stays;
 }
 
 -- ---- what a leader that may be asked has seen

@@ -205,7 +205,7 @@ log_of_role Master log entries is seen = seen
 log_of_role Slave log entries is seen = absurd (cc)
 
 module _ (s : Settings) (tells : Bool) (tables : Tables) (masters : List Store) (lengths : List ℕ) where
-  length_is : (shard : ℕ) → AreMeasured s masters lengths → HaveSeen tells tables masters → tells ≡ true → shard < length masters
+  pub length_is : (shard : ℕ) → AreMeasured s masters lengths → HaveSeen tells tables masters → tells ≡ true → shard < length masters
       → length_at lengths shard ≡ length (master_log s tables shard)
   length_is shard are seen told lt = elim (slice_get_cases masters shard).1 [
     | inl e ↦ (

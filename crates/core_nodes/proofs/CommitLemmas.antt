@@ -23,7 +23,6 @@ use Rattle.tao_schema.specs.Schema.{types_of}
 use Rattle.tao_schema.specs.declared.schema.Schema.{Schema}
 use Rattle.topology.specs.Config.{Settings}
 use Rattle.core_model.proofs.AskingOn.{nodes_ask_on}
-use Rattle.core_model.proofs.Refilling.{followers_stay}
 use Rattle.core_model.proofs.Staying.{nodes_stay}
 use Rattle.core_model.specs.Consistent.{GoesOn, IsConsistent, IsFleetOf}
 use Rattle.core_model.specs.Fleet.{ChangesNode, Fleet, named}
@@ -34,7 +33,7 @@ use Rattle.core_model.specs.declared.named.Named.{Named}
 use Rattle.core_nodes.specs.FleetView.{fleet_seen}
 use Rattle.core_nodes.specs.Stages.{FollowerDoes, LeaderDoes}
 use Rattle.core_nodes.specs.declared.fleet.Fleet.TheInside.{Inside}
-use Rattle.core_nodes.proofs.FleetLemmas.{FleetStep, follower_step, leader_step}
+use Rattle.core_nodes.proofs.FleetLemmas.{FleetStep, fleet_risen, follower_step, leader_step}
 use Rattle.core_model.proofs.NamedNodes.{changes_so}
 use Rattle.core_model.proofs.Places.{at_index, one_some, set_back, set_get, set_same}
 use Rattle.core_nodes.proofs.ViewLemmas.{LendsFollowers, after_both, after_followers, followers_after}
@@ -135,20 +134,11 @@ module _ (tells : Bool) (s : Settings) (name : NodeName) (shard : ℕ) (after : 
       if_some wrote.entry (StandsIn wrote.note) (IsSeenEntry (pens_of xs) shard wrote.note) (λ e in_note. record { seen = seen; stands = in_note }) stands
   stands_seen (Err e) seen stands = tt
 
-  -- every node stays one of its core, since the logs rise
-  risen : IsFleetOf s old → Rise (pens_of old.masters) (pens_of xs) → IsFleetOf s (record old { masters = xs })
-  risen fleet rise = record {
-    leader_names = fleet.leader_names;
-    follower_names = fleet.follower_names;
-    leaders = λ place called node at. (nodes_stay s (pens_of old.masters) called).rises (pens_of xs) node rise (fleet.leaders place called node at);
-    followers = λ place called f at. (followers_stay s (pens_of old.masters) called).rises (pens_of xs) f rise (fleet.followers place called f at);
-  }
-
   pub commit_step : (r : Result Wrote StoreRefusal) → IsFleetOf s old → ChangesNode name (Written s shard xs r) old.leaders ls → OnErr r (xs ≡ old.masters)
       → AreStoresOf tells s after xs → Rise (pens_of old.masters) (pens_of xs) → IfOk r (λ wrote. wrote.note ≡ as_note (pens_of xs shard))
       → IfOk r (λ wrote. IfSome wrote.entry (StandsIn wrote.note)) → CommitStep tells s name shard after old (record old { leaders = ls; masters = xs }) r
   commit_step r fleet change rest stores rise note stands =
-      let step = leader_step (Written s shard xs r) s (record old { masters = xs }) name ls (risen fleet rise) change
+      let step = leader_step (Written s shard xs r) s (record old { masters = xs }) name ls (fleet_risen s old xs fleet rise) change
       (λ from to by was. (nodes_stay s (pens_of xs) name).writes shard (taken_entry true r) (as_note (pens_of xs shard)) from to by.does
       (note_seen (pens_of xs shard)) by.apart by.truth was) in
       let seen = note_of_pen r note in

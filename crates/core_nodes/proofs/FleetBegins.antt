@@ -18,7 +18,7 @@ use Rattle.core_model.specs.Stores.{HaveSeen}
 use Rattle.core_nodes.specs.Beginning.{AreAtEnds, HaveBegun, IsAtEnds, IsBegunFollower, IsBegunLeader, IsEmptyFleet, IsEmptyFollower, IsEmptyNode, begun_node}
 use Rattle.core_nodes.specs.Opening.{IsOpened, MayOpen}
 use Rattle.core_nodes.proofs.BeginLemmas.{ends_begun, seen_begun, served_within, shards_begun}
-use Rattle.core_nodes.proofs.StoreLemmas.{sound_opened}
+use Rattle.core_nodes.proofs.OpenedLogs.{kept_opened}
 
 all_at : {X : Type 0} (P : X → Type 0) (xs : List X) (k : ℕ) (x : X) → All P xs → slice_get xs k ≡ Some x → P x
 all_at P xs k x all h = subst P (get_or_from_slice_get xs k x x h) (all k x (slice_get_within xs k x h))
@@ -97,6 +97,6 @@ module _ (s : Settings) (masters : List Store) (f : Fleet) (h : HaveBegun s mast
     pub fleet_consistent : (line : List ℕ) (start : Tables) → WhereTold tells (MayOpen s line start) → WhereTold tells (IsOpened s line start tables)
         → IsConsistent tells s tables f
     fleet_consistent line start may opened = record {
-      stores = record { masters = own.nodes.measured.stores; sound = λ told. sound_opened s line start tables (may told) (opened told); seen = seen_own };
+      stores = record { masters = own.nodes.measured.stores; kept = λ told. kept_opened s line start tables (may told) (opened told); seen = seen_own };
       fleet = begun_fleet s f own;
     }

@@ -8,6 +8,7 @@ use Rattle.shard_log.proofs.GrowthLemmas.{grows-self}
 use Rattle.shard_tables.specs.StoreView.{Store}
 use Rattle.topology.specs.Config.{Settings}
 use Rattle.core_model.proofs.Refilling.{followers_stay}
+use Rattle.core_model.proofs.Staying.{nodes_stay}
 use Rattle.core_model.specs.Asks.{AsksGoOn}
 use Rattle.core_model.specs.Consistent.{GoesOn, IsFleetOf, IsFollowerOf, IsNodeOf}
 use Rattle.core_model.specs.Fleet.{ChangesNode, Fleet, HasNode, named}
@@ -101,6 +102,16 @@ leader_step By s old name ls fleet change stays =
       };
     } in
     subst (λ l. FleetStep s old (record old { leaders = l })) (sym change.is) there
+
+-- every node stays one of its core, where the logs rise
+pub fleet_risen : (s : Settings) (old : Fleet) (xs : List Store) → IsFleetOf s old → Rise (pens_of old.masters) (pens_of xs)
+    → IsFleetOf s (record old { masters = xs })
+fleet_risen s old xs fleet rise = record {
+  leader_names = fleet.leader_names;
+  follower_names = fleet.follower_names;
+  leaders = λ place called node at. (nodes_stay s (pens_of old.masters) called).rises (pens_of xs) node rise (fleet.leaders place called node at);
+  followers = λ place called f at. (followers_stay s (pens_of old.masters) called).rises (pens_of xs) f rise (fleet.followers place called f at);
+}
 
 -- nothing changes
 pub fleet_rests : (s : Settings) (old : Fleet) → IsFleetOf s old → FleetStep s old old

@@ -1,5 +1,5 @@
 -- The stores of a configuration, while one of them changes.
-use Rattle.std.proofs.Common.{◌≡◌, ◌≢◌, ◌⊎◌, ℕ, zero, suc, ◌+◌, ◌<◌, nat_lt, Bool, true, false, List, [], ◌∷◌, ◌++◌, length, Option, Some, None, Result, Ok, Err, refl, ap, sym, ◌∙◌, subst, inl, inr, arith, length-append}
+use Rattle.std.proofs.Common.{◌≡◌, ◌≢◌, ◌⊎◌, ℕ, ◌+◌, ◌<◌, nat_lt, Bool, true, false, List, [], ◌∷◌, ◌++◌, length, Option, Some, None, Result, Ok, Err, refl, ap, sym, ◌∙◌, subst, inl, inr, arith, length-append}
 use Rattle.std.specs.Prelude.{if◌then◌else◌, is_ok, is_err, slice_get, slice_index_or, slice_set}
 use Rattle.std.proofs.lemmas.Bool.{cases_Bool, cases_eq}
 use Rattle.std.proofs.lemmas.Bool.Decides.{nat_tests}
@@ -23,9 +23,11 @@ use Rattle.graph_model.proofs.Sound.{slice_get-push}
 use Rattle.graph_model.specs.Told.{WhereTold}
 use Rattle.replies.specs.declared.opening.OpenRefusal.{OpenRefusal}
 use Rattle.replies.specs.declared.opening.OpenRefusal.TheVariants as refusal
-use Rattle.core_nodes.specs.Opening.{AreOpened, AreReady, HasOpenCause, IsOpened, IsUnmade, MayOpen, OpensOne, RefusesOpening}
+use Rattle.core_nodes.specs.Opening.{AreOpened, AreReady, HasOpenCause, IsOpened, IsUnmade, OpensOne, RefusesOpening}
 use Rattle.tao_keeper.specs.KeeperState.{IsLater, KeeperState}
-use Rattle.core_model.specs.Stores.{HasSoundLogs, AreStores, AreStoresOf, HaveSeen, IsMasterOf, master_store}
+use Rattle.core_model.proofs.KeptStores.{sound_logs}
+use Rattle.core_model.proofs.Places.{get_set}
+use Rattle.core_model.specs.Stores.{AreKeptIn, AreStores, AreStoresOf, HaveSeen, IsMasterOf, master_store}
 
 -- stores of different shards have different names
 pub other_store : (s : Settings) (m n : ℕ) → m ≢ n → master_store s m ≢ master_store s n
@@ -41,30 +43,6 @@ first_or_other s count at = by_shard (cases_Bool (nat_lt at.shard count)) (same_
     by_shard (inl lt) (inl is) = inl (grind (arith, nat_tests), is)
     by_shard (inl lt) (inr isnt) = inr (λ shard within is. isnt (is ∙ ap (master_store s) (sym (ap (λ a. a.shard) is))))
     by_shard (inr past) other = inr (λ shard within is. let shard_is : at.shard ≡ shard = ap (λ a. a.shard) is in absurd (grind (arith, nat_tests)))
-
--- ---- soundness
-
-pub sound_same : (s : Settings) (old new : Tables) → HasSoundLogs s old → Stays old new → HasSoundLogs s new
-sound_same s old new sound stays shard lt =
-    let P : Table → Type 0 = λ t. IsSoundOf (types_of s.schema) shard t.log in subst P (sym (stays (master_store s shard))) (sound shard lt)
-
--- the logs stay sound where one of them gains an entry and stays so
-pub sound_after : (s : Settings) (old new : Tables) (shard : ℕ) (e : Option Entry) (job : Option Job) → HasSoundLogs s old
-    → TableGains old new (master_store s shard) e job
-    → IsSoundOf (types_of s.schema) shard (new (master_store s shard)).log → HasSoundLogs s new
-sound_after s old new shard None job sound gains here n lt = sound_same s old new sound gains n lt
-sound_after s old new shard (Some entry) job sound gains here n lt = elim (cases_eq n shard) [
-  | inl same ↦ (let P : ℕ → Type 0 = λ k. IsSoundOf (types_of s.schema) k (new (master_store s k)).log in subst P (sym same) here)
-  | inr differ ↦ (
-      let P : Table → Type 0 = λ t. IsSoundOf (types_of s.schema) n t.log in
-      subst P (sym (gains.others (master_store s n) (other_store s n shard differ))) (sound n lt))
-]
-
--- what opens leaves the logs
-pub sound_opened : (s : Settings) (line : List ℕ) (old new : Tables) → MayOpen s line old → IsOpened s line old new → HasSoundLogs s new
-sound_opened s line old new may is shard lt =
-    let P : Table → Type 0 = λ t. IsSoundOf (types_of s.schema) shard t.log in
-    subst P (sym (is.opened.stores shard lt)) (may shard lt (is.ready shard lt))
 
 -- ---- opening
 
@@ -202,26 +180,15 @@ pub sound_at : (tells : Bool) (s : Settings) (tables : Tables) (schema : Schema)
     → AreStoresOf tells s tables xs → schema ≡ s.schema → IsMasterOf s shard x
     → shard < s.shards → WhereTold tells (IsSoundOf (types_of schema) x.name.shard (tables x.name).log)
 sound_at tells s tables schema xs shard x are of_s is lt = λ told.
-    let one = subst (λ at. IsSoundOf (types_of s.schema) at.shard (tables at).log) (sym is.name_is) (are.sound told shard lt) in
+    let one = subst (λ at. IsSoundOf (types_of s.schema) at.shard (tables at).log) (sym is.name_is) (sound_logs s tables (are.kept told) shard lt) in
     subst (λ c. IsSoundOf (types_of c) x.name.shard (tables x.name).log) (sym of_s) one
-
-slice_get_set : (xs : List Store) (k : ℕ) (x : Store) (n : ℕ) (y : Store) → slice_get (slice_set xs k x) n ≡ Some y
-    → ((n ≢ k) × (slice_get xs n ≡ Some y)) ⊎ ((n ≡ k) × (x ≡ y))
-slice_get_set [] k x n y h = absurd (cc)
-slice_get_set (z ∷ zs) zero x zero y h = inr (refl, cc)
-slice_get_set (z ∷ zs) zero x (suc n) y h = inl ((λ e. omega (arith, e)), h)
-slice_get_set (z ∷ zs) (suc k) x zero y h = inl ((λ e. omega (arith, e)), h)
-slice_get_set (z ∷ zs) (suc k) x (suc n) y h = elim (slice_get_set zs k x n y h) [
-  | inl e ↦ inl ((λ same. e.0 (omega (arith, same))), e.1)
-  | inr e ↦ inr (ap suc e.0, e.1)
-]
 
 -- one store takes the place of another of its name
 pub stores_set : (s : Settings) (count : ℕ) (xs : List Store) (place shard : ℕ) (x : Store) → AreStores s count xs → place ≡ shard
     → IsMasterOf s shard x → AreStores s count (slice_set xs place x)
 stores_set s count xs place shard x are here is = record {
   long = length-set xs place x ∙ are.long;
-  each = λ n store h. elim (slice_get_set xs place x n store h) [
+  each = λ n store h. elim (get_set xs place x n store h) [
     | inl e ↦ are.each n store e.1
     | inr e ↦ (let there : IsMasterOf s n x = subst (λ k. IsMasterOf s k x) (sym (e.0 ∙ here)) is in subst (IsMasterOf s n) e.1 there)
   ];
@@ -233,36 +200,42 @@ master_gained s shard x y e is grown =
     let here : IsMasterOf s shard (store_with x e) = record { name_is = is.name_is; limit_is = is.limit_is; role_is = is.role_is } in
     subst (IsMasterOf s shard) (sym grown) here
 
--- only the table of that store changes
-other_stays : (old new : Tables) (at other : StoreName) (e : Option Entry) (job : Option Job) → TableGains old new at e job → other ≢ at
-    → new other ≡ old other
-other_stays old new at other None job gains differ = gains other
-other_stays old new at other (Some entry) job gains differ = gains.others other differ
+-- only this table changes
+abbrev pub OthersStay : Tables → Tables → StoreName → Type 0
+OthersStay old new at = (other : StoreName) → other ≢ at → new other ≡ old other
+
+-- so where it gains an entry, or none
+pub others_stay : (old new : Tables) (at : StoreName) (e : Option Entry) (job : Option Job) → TableGains old new at e job → OthersStay old new at
+others_stay old new at None job gains other differ = gains other
+others_stay old new at (Some entry) job gains other differ = gains.others other differ
 
 -- a store has seen its log at the place of one whose table alone changed
-pub seen_set : (tells : Bool) (s : Settings) (old new : Tables) (xs : List Store) (place shard : ℕ) (y : Store) (added : Option Entry)
-    (job : Option Job) → AreStores s s.shards xs → HaveSeen tells old xs → place ≡ shard
-    → IsStoreOf tells new y → WhereTold tells (TableGains old new (master_store s shard) added job) → HaveSeen tells new (slice_set xs place y)
-seen_set tells s old new xs place shard y added job are seen here is gains n store h = elim (slice_get_set xs place y n store h) [
+seen_set : (tells : Bool) (s : Settings) (old new : Tables) (xs : List Store) (place shard : ℕ) (y : Store) → AreStores s s.shards xs
+    → HaveSeen tells old xs → place ≡ shard → IsStoreOf tells new y → WhereTold tells (OthersStay old new (master_store s shard))
+    → HaveSeen tells new (slice_set xs place y)
+seen_set tells s old new xs place shard y are seen here is others n store h = elim (get_set xs place y n store h) [
   | inl e ↦ (
       let named : store.name ≡ master_store s n = (are.each n store e.1).name_is in
       let differ : store.name ≢ master_store s shard = λ same. other_store s n shard (λ k. e.0 (k ∙ sym here)) (sym named ∙ same) in
-      seen_here tells old new store (seen n store e.1) (λ told. other_stays old new (master_store s shard) store.name added job (gains told) differ))
+      seen_here tells old new store (seen n store e.1) (λ told. others told store.name differ))
   | inr e ↦ subst (IsStoreOf tells new) e.1 is
 ]
 
--- the stores after a call of one of them, which gained an entry or none
-pub stores_after : (tells : Bool) (s : Settings) (old new : Tables) (schema : Schema) (xs : List Store) (place shard : ℕ) (x y : Store)
-    (e : Option Entry) (job : Option Job)
-    → AreStoresOf tells s old xs → schema ≡ s.schema → place ≡ shard → IsMasterOf s shard x → y ≡ store_with x e → IsStoreOf tells new y
-    → WhereTold tells (TableGains old new x.name e job) → WhereTold tells (IsSoundOf (types_of schema) x.name.shard (new x.name).log)
-    → AreStoresOf tells s new (slice_set xs place y)
-stores_after tells s old new schema xs place shard x y e job are of_s here is grown seen gains sound = record {
-  masters = stores_set s s.shards xs place shard y are.masters here (master_gained s shard x y e is grown);
-  sound = λ told.
-      let one = subst (λ c. IsSoundOf (types_of c) x.name.shard (new x.name).log) of_s (sound told) in
-      sound_after s old new shard e job (are.sound told) (subst (λ at. TableGains old new at e job) is.name_is (gains told))
-      (subst (λ at. IsSoundOf (types_of s.schema) at.shard (new at).log) is.name_is one);
-  seen = seen_set tells s old new xs place shard y e job are.masters are.seen here seen
-      (λ told. subst (λ at. TableGains old new at e job) is.name_is (gains told));
+-- the stores after a call of one of them, which may have changed its table and left them kept
+pub stores_changed : (tells : Bool) (s : Settings) (old new : Tables) (xs : List Store) (place shard : ℕ) (y : Store) → AreStoresOf tells s old xs
+    → place ≡ shard → IsMasterOf s shard y → IsStoreOf tells new y → WhereTold tells (OthersStay old new (master_store s shard))
+    → WhereTold tells (AreKeptIn s new) → AreStoresOf tells s new (slice_set xs place y)
+stores_changed tells s old new xs place shard y are here is seen others kept = record {
+  masters = stores_set s s.shards xs place shard y are.masters here is;
+  kept = kept;
+  seen = seen_set tells s old new xs place shard y are.masters are.seen here seen others;
 }
+
+-- so where it gained an entry or none
+pub stores_after : (tells : Bool) (s : Settings) (old new : Tables) (xs : List Store) (place shard : ℕ) (x y : Store) (e : Option Entry)
+    (job : Option Job)
+    → AreStoresOf tells s old xs → place ≡ shard → IsMasterOf s shard x → y ≡ store_with x e → IsStoreOf tells new y
+    → WhereTold tells (TableGains old new x.name e job) → WhereTold tells (AreKeptIn s new) → AreStoresOf tells s new (slice_set xs place y)
+stores_after tells s old new xs place shard x y e job are here is grown seen gains kept =
+    stores_changed tells s old new xs place shard y are here (master_gained s shard x y e is grown) seen
+    (λ told. others_stay old new (master_store s shard) e job (subst (λ at. TableGains old new at e job) is.name_is (gains told))) kept

@@ -1,5 +1,7 @@
 pub mod Beginning
 pub mod FleetView
 pub mod Opening
+pub mod Repairs
+pub mod Settling
 pub mod Shown
 pub mod Stages

@@ -3,15 +3,13 @@ use Rattle.std.specs.Prelude.{ℕ, ◌≡◌, ◌≢◌, ◌≤◌, ◌<◌, ◌
 use Rattle.counts.specs.Count.{Rose}
 use Rattle.tao_base.specs.declared.id.StoreName.{StoreName}
 use Rattle.graph_model.specs.Told.{WhereTold}
-use Rattle.graph_model.specs.Soundness.{IsSoundOf}
 use Rattle.tao_keeper.specs.KeeperState.{KeeperState}
 use Rattle.tao_keeper.specs.Table.{Tables, Becomes, OpensAs, Stays, after_open}
 use Rattle.tao_keeper.specs.declared.keeper.KeepFail.{KeepFail}
 use Rattle.tao_keeper.specs.declared.keeper.KeepFail.TheVariants as keep
 use Rattle.tao_keeper.specs.declared.keeper.Opened.TheVariants.{Ready, OtherLine}
-use Rattle.tao_schema.specs.Schema.{types_of}
 use Rattle.topology.specs.Config.{Settings}
-use Rattle.core_model.specs.Stores.{master_store}
+use Rattle.core_model.specs.Stores.{AreKeptIn, master_store}
 use Rattle.replies.specs.declared.opening.OpenRefusal.{OpenRefusal}
 use Rattle.replies.specs.declared.opening.OpenRefusal.TheVariants as refusal
 
@@ -81,7 +79,6 @@ IsUnmade before now refusal.OutOfMemory = ⊤
 
 -- ----
 
--- the logs of the stores that take the line are sound with the types of the configuration
+-- where every store takes the line, their logs are sound with the types of the configuration, and covered
 abbrev pub MayOpen : Settings → List ℕ → Tables → Type 0
-MayOpen s line tables = (shard : ℕ) → shard < s.shards → OpensAs Ready (tables (master_store s shard)) line
-    → IsSoundOf (types_of s.schema) shard (tables (master_store s shard)).log
+MayOpen s line tables = AreReady s line s.shards tables → AreKeptIn s tables

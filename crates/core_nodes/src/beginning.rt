@@ -5,18 +5,20 @@ ghost use Rattle.core_model.specs.Fleet.{named, names_of};
 ghost use Rattle.core_model.specs.Stores.{AreStores, HaveSeen, IsMasterOf};
 ghost use Rattle.core_nodes.specs.Beginning.{AreBegun, AreLengths, IsBegunFollower, IsBegunLeader, IsTurn, AreMeasured, MayStand, length_at, note_at};
 ghost use Rattle.core_nodes.specs.Opening.{IsUnmade};
+ghost use Rattle.core_nodes.specs.Settling.{StopsLengths, StopsReads, unmade_for};
 ghost use Rattle.graph_model.specs.Told.{WhereTold};
 ghost use Rattle.shard_tables.specs.Stores.{IsStoreOf};
 ghost use Rattle.shard_tables.specs.declared.store.Role.TheVariants.{Master};
 ghost use Rattle.tao_keeper.specs.KeeperState.{IsLater, KeepsTables};
 
+use crate::settling::{SettleStop, stop_at};
 use core_model::{Named, follower_names, leader_names, served_by};
 use follower_cache::{Follower, followers_are_true};
 use leader_tier::{Leader, leaders_are_true};
 use node_name::NodeName;
 use replies::OpenRefusal;
 use shard_log::Note;
-use shard_tables::{StoreNode, StoreRefusal};
+use shard_tables::StoreNode;
 use std::alloc::Global;
 use tao_base::OutOfMemory;
 use tao_keeper::Keeper;
@@ -37,52 +39,64 @@ pub(crate) struct Caches {
     pub(crate) followers: Vec<Named<Follower>>,
 }
 
-/// The length of a store's log. One call of the keeper.
-fn log_length<K: Keeper>(store: &mut StoreNode, keepers: &mut K) -> Result<u64, OpenRefusal>
+/// The length of the log of a shard's store. One call of the keeper.
+fn log_length<K: Keeper>(
+    store: &mut StoreNode,
+    keepers: &mut K,
+    shard: u16,
+) -> Result<u64, SettleStop>
     requires master { store.old.role ≡ Master }
     requires seen { IsStoreOf K.TELLS (K.state keepers.old).told store.old }
     ensures length { IfOk result (λ length_of. WhereTold store.old.view.log.told (length_of ≡ length store.old.view.entries)) }
     ensures same { store.new ≡ store.old }
-    ensures unmade { IfErr result (IsUnmade (K.state keepers.old).faults (K.state keepers.new).faults) }
+    ensures stop { IfErr result (StopsReads shard (K.state keepers.old) (K.state keepers.new)) }
     ensures stays { KeepsTables K.TELLS (K.state keepers.old) (K.state keepers.new) }
     ensures later { IsLater (K.state keepers.old) (K.state keepers.new) }
 {
     match store.length(keepers) {
         Ok(length) => Ok(length),
-        Err(StoreRefusal::KeeperFault) => Err(OpenRefusal::KeeperFault),
-        Err(StoreRefusal::OutOfMemory) => Err(OpenRefusal::OutOfMemory),
-        Err(_) => unreachable!(),
+        Err(refusal) => Err(stop_at(shard, refusal)),
     }
 }
 
 /// The lengths of all stores' logs, in order of shard. One call of the keeper for each.
-fn log_lengths<K: Keeper>(
+pub(crate) fn log_lengths<K: Keeper>(
     alloc: Global,
     config: &Config,
     masters: &mut [StoreNode],
     keepers: &mut K,
-) -> Result<Vec<u64>, OpenRefusal>
+) -> Result<Vec<u64>, SettleStop>
     requires stores { AreStores config.now config.now.shards masters.old }
     requires seen { HaveSeen K.TELLS (K.state keepers.old).told masters.old }
     ensures lengths { IfOk result (λ lengths. AreMeasured config.now masters.old lengths.items) }
     ensures same { masters.new ≡ masters.old }
-    ensures unmade { IfErr result (IsUnmade (K.state keepers.old).faults (K.state keepers.new).faults) }
+    ensures stop { IfErr result (StopsLengths config.now (K.state keepers.old) (K.state keepers.new)) }
     ensures stays { KeepsTables K.TELLS (K.state keepers.old) (K.state keepers.new) }
     ensures later { IsLater (K.state keepers.old) (K.state keepers.new) }
 {
     let mut lengths = Vec::new(alloc);
     for shard in 0..config.shards {
         let place = usize::from(shard);
-        let length = log_length(&mut masters[place], keepers)?;
+        let length = log_length(&mut masters[place], keepers, shard)?;
         if lengths.push(length).is_err() {
-            return Err(OpenRefusal::OutOfMemory);
+            return Err(SettleStop::OutOfMemory);
         }
     }
     Ok(lengths)
 }
 
+/// Why the nodes aren't made, where the lengths aren't known.
+fn unmade_for(stop: SettleStop) -> OpenRefusal
+    ensures { result ≡ unmade_for stop }
+{
+    match stop {
+        SettleStop::Unsettled { .. } | SettleStop::NoServer { .. } => OpenRefusal::KeeperFault,
+        SettleStop::OutOfMemory => OpenRefusal::OutOfMemory,
+    }
+}
+
 /// The length of a shard's log, of the lengths of all.
-fn length_at(lengths: &[u64], shard: u16) -> u64
+pub(crate) fn length_at(lengths: &[u64], shard: u16) -> u64
     ensures { result ≡ length_at lengths.now shard }
 {
     match lengths.get(usize::from(shard)) {
@@ -273,7 +287,7 @@ pub(crate) fn begin<K: Keeper>(
     ensures stays { KeepsTables K.TELLS (K.state keepers.old) (K.state keepers.new) }
     ensures later { IsLater (K.state keepers.old) (K.state keepers.new) }
 {
-    let lengths = log_lengths(alloc, config, masters, keepers)?;
+    let lengths = log_lengths(alloc, config, masters, keepers).map_err(unmade_for)?;
     match make_caches(alloc, config, masters, &lengths) {
         Ok(caches) => Ok(caches),
         Err(OutOfMemory) => Err(OpenRefusal::OutOfMemory),

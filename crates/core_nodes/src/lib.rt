@@ -5,16 +5,20 @@
 #![tactic(auto)]
 
 mod beginning;
+mod catching;
 mod deliveries;
 mod evictions;
 mod fleet;
+mod jobs;
 mod masters;
 mod notes;
 mod opening;
 mod reads;
+mod settling;
 mod shown;
 mod writes;
 
 pub use fleet::Fleet;
 pub use opening::{master_store, open_stores};
 pub use reads::FirstLook;
+pub use settling::SettleStop;

@@ -54,6 +54,17 @@ impl Fleet {
         all_notes(alloc, &mut self.masters, config.shards)
     }
 
+    /// A note of a shard's log, which has seen all of it. The one error is want of memory.
+    pub fn note(&mut self, config: &Config, shard: u16) -> Result<Note, OutOfMemory>
+        requires stores { AreStores config.now config.now.shards self.old.masters }
+        requires here { shard < config.now.shards }
+        ensures view { IfOk result (λ note. note ≡ as_note (pens_of self.old.masters shard)) }
+        ensures same { self.new ≡ self.old }
+    {
+        let _ = config;
+        note_at(&mut self.masters, shard)
+    }
+
     /// A note that has seen all of a shard's log, in place of a note of that log. Takes no memory, so that one who took a note before a
     /// write sees for certain what it wrote.
     pub fn renew(&mut self, config: &Config, shard: u16, note: Note) -> Note

@@ -166,7 +166,7 @@ impl Fleet {
         line: &[u8],
         keepers: &mut K,
     ) -> Result<Fleet, OpenRefusal>
-        requires sound { WhereTold K.TELLS (MayOpen config.now line.now (K.state keepers.old).told) }
+        requires kept { WhereTold K.TELLS (MayOpen config.now line.now (K.state keepers.old).told) }
         ensures opened { WhereTold K.TELLS (IfOk result (λ _. IsOpened config.now line.now (K.state keepers.old).told (K.state keepers.new).told)) }
         ensures consistent { IfOk result (IsConsistent K.TELLS config.now (K.state keepers.new).told) }
         ensures empty { IfOk result IsEmptyFleet }

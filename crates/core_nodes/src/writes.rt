@@ -2,6 +2,7 @@
 ghost use Rattle.std.specs.Prelude.{◌≡◌, ◌<◌, IfOk, IfSome, IsTrue, OnErr, Some, slice_get, true};
 ghost use Rattle.core_model.specs.Consistent.{GoesOn, IsConsistent, IsFleetOf};
 ghost use Rattle.core_model.specs.Fleet.{ChangesNode, HasNode};
+ghost use Rattle.core_model.specs.Jobs.{IsOwedJob, job_on};
 ghost use Rattle.core_model.specs.Pens.{IsSeen, Rise, pens_of};
 ghost use Rattle.core_model.specs.Serving.{IsFollowerFor, IsLeaderFor};
 ghost use Rattle.core_model.specs.Stores.{AreStoresOf, master_log, master_store};
@@ -17,6 +18,7 @@ ghost use Rattle.shard_tables.specs.Stores.{IsStoreOf, store_with};
 ghost use Rattle.shard_tables.specs.StoreView.{Store as StoreSeen};
 ghost use Rattle.shard_tables.specs.Written.{HasEntry, LiesOn, StandsIn, TableGains, WriteAnswers, added_entry, asked_write};
 ghost use Rattle.shard_tables.specs.declared.store.Role.TheVariants.{Master};
+ghost use Rattle.tao_base.specs.EdgeTypes.{InversesMatch};
 ghost use Rattle.tao_base.specs.Writes.{ChangesType, write_shard};
 ghost use Rattle.tao_keeper.specs.Given.{IsGivenJob};
 ghost use Rattle.tao_keeper.specs.Growing.{LogsGrow};
@@ -32,10 +34,17 @@ use node_name::NodeName;
 use shard_log::Note;
 use shard_tables::{StoreNode, StoreRefusal, Wrote};
 use std::alloc::Global;
-use tao_base::{Entry, Origin, Write};
+use tao_base::{AType, Entry, Origin, Write};
 use tao_keeper::Keeper;
 use tao_schema::Schema;
 use topology::Config;
+
+/// Each type of a schema is the inverse of its inverse, as the schema says with each inverse that it gives.
+pub(crate) fn inverses_match(schema: &Schema)
+    ensures { InversesMatch (types_of schema.now) }
+{
+    let _inverse = schema.inverse(AType(0));
+}
 
 /// Makes the write at the leader and its store.
 fn commit_of<K: Keeper>(
@@ -72,7 +81,6 @@ fn commit_of<K: Keeper>(
     ensures stands { IfOk result (λ wrote. IfSome wrote.entry (StandsIn wrote.note)) }
     ensures lies { IfOk result (λ wrote. IfSome wrote.entry (LiesOn wrote.note store.old.name.shard)) }
     ensures keeper { IsStoreOf K.TELLS (K.state keepers.new).told store.new }
-    ensures sound { WhereTold K.TELLS (IsSoundOf (types_of schema.now) store.old.name.shard ((K.state keepers.new).told store.old.name).log) }
     ensures calls { CallsKeeper StoreRefusal.KeeperFault (K.state keepers.old) (K.state keepers.new) result }
 {
     leaders_are_true(leader);
@@ -113,6 +121,8 @@ fn commit_at<K: Keeper>(
     ensures found { WhereTold K.TELLS (IfOk result (λ wrote.
         FindsJob ((K.state keepers.old).told (master_store config.now (write_shard write.now))) wrote.retry wrote.entry wrote.job)) }
     ensures given { IfOk result (λ wrote. IfSome wrote.job IsGivenJob) }
+    ensures owes { WhereTold K.TELLS (IfOk result (λ wrote. IfSome wrote.job (λ job.
+        IsOwedJob config.now (K.state keepers.new).told (job_on (write_shard write.now) job)))) }
     ensures tables { WhereTold K.TELLS (TableGains (K.state keepers.old).told (K.state keepers.new).told (master_store config.now (write_shard write.now))
         (added_entry result) (job_with (types_of config.now.schema) (added_entry result))) }
     ensures logs { LogsGrow K.TELLS (K.state keepers.old).told (K.state keepers.new).told }
@@ -124,6 +134,7 @@ fn commit_at<K: Keeper>(
     let shard = usize::from(write.shard());
     let leader = &mut leaders[place].node;
     let store = &mut masters[shard];
+    inverses_match(&config.schema);
     commit_of(alloc, leader, store, keepers, &config.schema, origin, write)
 }
 
@@ -194,6 +205,8 @@ impl Fleet {
         ensures found { WhereTold K.TELLS (IfOk result (λ wrote.
             FindsJob ((K.state keepers.old).told (master_store config.now (write_shard write.now))) wrote.retry wrote.entry wrote.job)) }
         ensures given { IfOk result (λ wrote. IfSome wrote.job IsGivenJob) }
+        ensures owes { WhereTold K.TELLS (IfOk result (λ wrote. IfSome wrote.job (λ job.
+            IsOwedJob config.now (K.state keepers.new).told (job_on (write_shard write.now) job)))) }
         ensures tables { WhereTold K.TELLS (TableGains (K.state keepers.old).told (K.state keepers.new).told (master_store config.now (write_shard write.now))
             (added_entry result) (job_with (types_of config.now.schema) (added_entry result))) }
         ensures logs { LogsGrow K.TELLS (K.state keepers.old).told (K.state keepers.new).told }

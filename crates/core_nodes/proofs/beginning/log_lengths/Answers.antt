@@ -1,7 +1,10 @@
-use Rattle.std.proofs.Common.{◌≡◌, ◌<◌, length, slice_set, ap, ◌∙◌, arith}
+use Rattle.std.proofs.Common.{◌≡◌, ◌<◌, length, slice_set, ap, subst, sym, ◌∙◌, arith}
 use Rattle.std.proofs.lemmas.List.{set-get_or}
+use Rattle.std.proofs.lemmas.Result.{err_from_is_err_and}
 use Rattle.core_nodes.proofs.BeginLemmas.{lengths_next, measured, seen_read}
+use Rattle.core_nodes.proofs.SettleLemmas.{stops_lengths}
 use Rattle.core_nodes.proofs.StoreLemmas.{pushed, seen_stay}
+use Rattle.core_nodes.specs.Settling.{StopsLengths}
 use Rattle.core_nodes.proofs.beginning.log_lengths.Goals as goal
 
 pub log_length-requires-clause-seen : goal.log_length-requires-clause-seen
@@ -30,6 +33,16 @@ loop-shard-preserved g c =
       stays = λ told at. c.in_ok-length.ensures.stays told at ∙ c.loop-shard.invariant.stays told at;
       later = record { calls = omega arith; faults = omega arith };
     }
+
+pub returns-in_err-length-clause-stop : goal.returns-in_err-length-clause-stop
+returns-in_err-length-clause-stop g c =
+    let shards : c.config.inside.shards ≡ c.args.config.now.shards = ap (λ s. s.shards) c.config.view_is in
+    let state = g.K.Keeper.state in
+    let here : c.loop-shard.shard < c.args.config.now.shards = omega arith in
+    let stop = stops_lengths c.args.config.now (state c.args.keepers.now) (state c.loop-shard.keepers) (state c.log_length.new.keepers) c.loop-shard.shard
+    c.in_err-length.field-0.0 here c.loop-shard.invariant.later c.in_err-length.ensures.stop in
+    let p = err_from_is_err_and c.from_residual.result c.from_residual.ensures.1 in
+    rw p.1 (subst (StopsLengths c.args.config.now (state c.args.keepers.now) (state c.log_length.new.keepers)) (sym p.2) stop)
 
 pub returns-clause-lengths : goal.returns-clause-lengths
 returns-clause-lengths g c =

@@ -20,7 +20,7 @@ returns-clause-consistent g c =
     IfOk-weaker c.fleet_before.result _ _
     (λ f begun.
     fleet_consistent c.args.config.now masters f begun g.K.Keeper.TELLS new (seen_stay g.K.Keeper.TELLS mid new masters c.in_ok-masters.ensures.seen
-    c.fleet_before.ensures.stays) c.args.line.now old c.requires.sound
+    c.fleet_before.ensures.stays) c.args.line.now old c.requires.kept
     (λ told. opened_kept c.args.config.now c.args.line.now old mid new (c.in_ok-masters.ensures.opened told) (c.fleet_before.ensures.stays told)))
     c.fleet_before.ensures.begun
 

@@ -1,0 +1,274 @@
+-- What the merge of a job from store to store leaves of the stores, the tables and the link.
+use Rattle.std.proofs.Common.{◌≡◌, ◌⊎◌, ◌≢◌, ℕ, ◌≤◌, ◌<◌, ◌+◌, Bool, true, false, List, [], ◌∷◌, ◌++◌, length, Option, Some, None, Result, Ok, Err, IfOk, IfSome, refl, sym, ap, ◌∙◌, subst, inl, inr}
+use Rattle.std.specs.Prelude.{All, IsSome, slice_set}
+use Rattle.std.proofs.lemmas.Option.{get_or_from_slice_get, slice_get_within}
+use Rattle.core_model.proofs.KeptStores.{kept_stays, sound_logs}
+use Rattle.core_model.specs.Pens.{pens_of}
+use Rattle.core_model.specs.Jobs.{IsOwedJob, MergesOwed, ShardJob, far_shard}
+use Rattle.core_model.specs.Stores.{AreKeptIn, AreStoresOf, IsMasterOf, master_log, master_store}
+use Rattle.core_nodes.proofs.JobLemmas.{due, is_merged, may_be_merged, merge_keeps, merges_owed}
+use Rattle.core_nodes.proofs.StoreLemmas.{OthersStay, master_gained, others_stay, stores_changed}
+use Rattle.core_nodes.specs.Repairs.{ComesBack, FindsNoRoom, MayMerge, MergesThere, WritesDueEntry, carry_back, carry_there, outside}
+use Rattle.edge_repair.specs.Calls.{MayTakeJob}
+use Rattle.edge_repair.specs.Carries.{CarriesBack, CarriesBy, FailsAt}
+use Rattle.edge_repair.specs.JobBetween.{JobBetween, job_between, way_back, way_there}
+use Rattle.edge_repair.specs.Merging.{GainsBy, LacksRoom, MergesBy, MergesDue, WritesDue, due_entry}
+use Rattle.edge_repair.specs.declared.refusal.RepairRefusal.{RepairRefusal}
+use Rattle.edge_repair.specs.declared.refusal.RepairRefusal.TheVariants.{KeeperFault, LinkFault, LogFull, OutOfMemory}
+use Rattle.edge_repair.specs.declared.repairs.Repaired.{Repaired}
+use Rattle.graph_model.specs.Log.{entry_at}
+use Rattle.graph_model.specs.Soundness.{IsSoundOf, KeepsEnds}
+use Rattle.graph_model.specs.Told.{WhereTold}
+use Rattle.node_name.specs.declared.NodeName.TheVariants.{Store as StoreName_}
+use Rattle.shard_tables.proofs.WriteLemmas.{has_all}
+use Rattle.shard_tables.specs.StoreView.{Store}
+use Rattle.shard_tables.specs.Stores.{IsStoreOf, store_with}
+use Rattle.shard_tables.specs.Written.{LiesOn, StandsIn, TableGains}
+use Rattle.tao_base.specs.EdgeTypes.{EdgeTypes, InversesMatch}
+use Rattle.tao_base.specs.Keys.{key_shard}
+use Rattle.tao_base.specs.declared.entry.Entry.{Entry}
+use Rattle.tao_base.specs.declared.id.StoreName.{StoreName}
+use Rattle.tao_keeper.specs.Given.{IsGivenJob}
+use Rattle.tao_keeper.specs.KeeperState.{KeeperState}
+use Rattle.tao_keeper.specs.Table.{Stays, Tables}
+use Rattle.tao_link.specs.Cuts.{between}
+use Rattle.tao_link.specs.Shown.{LinkShown, after_carry}
+use Rattle.tao_link.specs.declared.link.Carry.{Carry}
+use Rattle.tao_schema.specs.Schema.{types_of}
+use Rattle.topology.specs.Config.{Settings}
+use Rattle.write_model.proofs.Covered.{at_place}
+use Rattle.write_model.proofs.Growing.{entry_at-last}
+use Rattle.write_model.specs.MergeLaws.{MayBeMerged}
+use Rattle.write_model.specs.Merges.{merge_of}
+
+one_store : (a b : StoreName) → StoreName_ a ≡ StoreName_ b → a ≡ b
+one_store a b h = cc
+
+one_carry : (a b : Carry) → Some a ≡ Some b → a ≡ b
+one_carry a b h = cc
+
+-- ---- the last entry of a log
+
+module _ (types : EdgeTypes) (shard : ℕ) (log : List Entry) (e : Entry) (sound : IsSoundOf types shard (log ++ e ∷ [])) where
+  last_stands : entry_at (log ++ e ∷ []) e.position ≡ Some e
+  last_stands =
+      let at = at_place types shard (log ++ e ∷ []) (length log + 1) e sound (entry_at-last log e) in
+      subst (λ p. entry_at (log ++ e ∷ []) p ≡ Some e) (sym at.2) (entry_at-last log e)
+
+  last_lies : All (λ t. key_shard t.key ≡ shard) e.touches
+  last_lies =
+      let whole = log ++ e ∷ [] in
+      let at = at_place types shard whole (length log + 1) e sound (entry_at-last log e) in
+      let ends : KeepsEnds types shard e =
+      subst (KeepsEnds types shard) (get_or_from_slice_get whole at.0 e e at.1) (sound.ends at.0 e (slice_get_within whole at.0 e at.1)) in
+      ends.here
+
+-- ---- what was written
+
+-- it stands in what the store has seen, and lies on its shard
+module _ (tells : Bool) (s : Settings) (shard : ℕ) (tables : Tables) (x y : Store) (here : shard < s.shards) (is : IsMasterOf s shard x)
+    (of : IsStoreOf tells tables y) (kept : WhereTold tells (AreKeptIn s tables)) where
+  sound_seen : (e : Entry) → y ≡ store_with x (Some e) → y.view.log.told ≡ true → IsSoundOf (types_of s.schema) shard (x.view.entries ++ e ∷ [])
+  sound_seen e grown heard =
+      let told : tells ≡ true = sym of.told_is ∙ heard in
+      let master = master_gained s shard x y (Some e) is grown in
+      let log_is : y.view.entries ≡ (tables (master_store s shard)).log =
+      has_all tells tables y master.role_is of told ∙ ap (λ at. (tables at).log) master.name_is in
+      let own = subst (IsSoundOf (types_of s.schema) shard) (sym log_is) (sound_logs s tables (kept told) shard here) in
+      subst (λ (z : Store). IsSoundOf (types_of s.schema) shard z.view.entries) grown own
+
+  wrote_stands : (wrote : Option Entry) → y ≡ store_with x wrote → IfSome wrote (StandsIn y.view)
+  wrote_stands None grown = tt
+  wrote_stands (Some e) grown = λ heard.
+      subst (λ (z : Store). entry_at z.view.entries e.position ≡ Some e) (sym grown)
+      (last_stands (types_of s.schema) shard x.view.entries e (sound_seen e grown heard))
+
+  wrote_lies : (wrote : Option Entry) → y ≡ store_with x wrote → IfSome wrote (LiesOn y.view shard)
+  wrote_lies None grown = tt
+  wrote_lies (Some e) grown = λ heard. last_lies (types_of s.schema) shard x.view.entries e (sound_seen e grown heard)
+
+  stands_by : (r : Result Repaired RepairRefusal) → GainsBy x y r → IfOk r (λ repaired. IfSome repaired.wrote (StandsIn y.view))
+  stands_by (Ok repaired) grown = wrote_stands repaired.wrote grown
+  stands_by (Err e) grown = tt
+
+  lies_by : (r : Result Repaired RepairRefusal) → GainsBy x y r → IfOk r (λ repaired. IfSome repaired.wrote (LiesOn y.view shard))
+  lies_by (Ok repaired) grown = wrote_lies repaired.wrote grown
+  lies_by (Err e) grown = tt
+
+  gained : (r : Result Repaired RepairRefusal) → GainsBy x y r → IsMasterOf s shard y
+  gained (Ok repaired) grown = master_gained s shard x y repaired.wrote is grown
+  gained (Err (LogFull count)) same = subst (IsMasterOf s shard) (sym same) is
+  gained (Err LinkFault) may = master_gained s shard x y may.0 is may.1
+  gained (Err KeeperFault) may = master_gained s shard x y may.0 is may.1
+  gained (Err OutOfMemory) may = master_gained s shard x y may.0 is may.1
+
+-- ---- the tables
+
+-- a job between the stores of its two shards
+module _ (s : Settings) (j : ShardJob) (from : StoreName) (x : Store) (from_is : from ≡ master_store s j.shard) (is : IsMasterOf s (far_shard j.job) x) where
+  abbrev taken : JobBetween
+  taken = job_between from x j.job
+
+  due_is : (tables : Tables) → due_entry taken tables ≡ due s tables j
+  due_is tables =
+      ap (λ at. merge_of (tables at).log from.shard j.job.position j.job.edges) is.name_is
+      ∙ ap (λ (at : StoreName). merge_of (master_log s tables (far_shard j.job)) at.shard j.job.position j.job.edges) from_is
+
+  -- the two carries differ
+  ways_differ : j.shard ≢ far_shard j.job → way_there taken ≢ way_back taken
+  ways_differ apart same =
+      let names : from ≡ x.name = one_store from x.name (ap (λ (c : Carry). c.from) same) in
+      apart (ap (λ (at : StoreName). at.shard) (sym from_is ∙ names ∙ is.name_is))
+
+  there_is : way_there taken ≡ carry_there s j
+  there_is = ap (λ at. between (StoreName_ from) (StoreName_ at)) is.name_is
+      ∙ ap (λ at. between (StoreName_ at) (StoreName_ (master_store s (far_shard j.job)))) from_is
+
+  back_is : way_back taken ≡ carry_back s j
+  back_is = ap (λ at. between (StoreName_ at) (StoreName_ from)) is.name_is
+      ∙ ap (λ at. between (StoreName_ (master_store s (far_shard j.job))) (StoreName_ at)) from_is
+
+  comes_back : (old new : LinkShown) → CarriesBack taken old new → ComesBack s j old new
+  comes_back old new (inl whole) = inl whole
+  comes_back old new (inr fails) = inr (subst (λ c. FailsAt c (after_carry old) new) back_is fails)
+
+  -- by the carry that failed, the job was merged or nothing changed
+  stays_there : (failed : Option Carry) (old new : Tables) → j.shard ≢ far_shard j.job → failed ≡ Some (way_there taken)
+      → MergesBy taken failed old new (Err LinkFault) → Stays old new
+  stays_there failed old new apart at (inl there) = there.1
+  stays_there failed old new apart at (inr back) = absurd (ways_differ apart (one_carry (way_there taken) (way_back taken) (sym at ∙ back.0)))
+
+  merges_back : (failed : Option Carry) (old new : Tables) → j.shard ≢ far_shard j.job → failed ≡ Some (way_back taken)
+      → MergesBy taken failed old new (Err LinkFault) → MergesDue taken old new
+  merges_back failed old new apart at (inl there) = absurd (ways_differ apart (one_carry (way_there taken) (way_back taken) (sym there.0 ∙ at)))
+  merges_back failed old new apart at (inr back) = back.1
+
+  stays_or_merges : (failed : Option Carry) (old new : Tables) (r : Result Repaired RepairRefusal) → MergesBy taken failed old new r
+      → Stays old new ⊎ MergesDue taken old new
+  stays_or_merges failed old new (Ok repaired) merges = inr merges.merges
+  stays_or_merges failed old new (Err (LogFull count)) merges = inl merges.stays
+  stays_or_merges failed old new (Err LinkFault) (inl there) = inl there.1
+  stays_or_merges failed old new (Err LinkFault) (inr back) = inr back.1
+  stays_or_merges failed old new (Err KeeperFault) merges = merges
+  stays_or_merges failed old new (Err OutOfMemory) merges = merges
+
+  gains_due : (old new : Tables) → MergesDue taken old new → TableGains old new (master_store s (far_shard j.job)) (due_entry taken old) None
+  gains_due old new merges = subst (λ at. TableGains old new at (due_entry taken old) None) is.name_is merges
+
+  others : (old new : Tables) → Stays old new ⊎ MergesDue taken old new → OthersStay old new (master_store s (far_shard j.job))
+  others old new (inl stays) other differs = stays other
+  others old new (inr merges) other differs =
+      others_stay old new (master_store s (far_shard j.job)) (due_entry taken old) None (gains_due old new merges) other differs
+
+  -- ---- what was answered
+
+  module _ (tells : Bool) (old new : KeeperState) (far : far_shard j.job < s.shards) (owed : WhereTold tells (IsOwedJob s old.told j))
+      (match : InversesMatch (types_of s.schema)) (kept : WhereTold tells (AreKeptIn s old.told)) (some : 0 < length j.job.edges) where
+    apart : tells ≡ true → j.shard ≢ far_shard j.job
+    apart told = (may_be_merged s old.told j far match (kept told) some (owed told)).away
+
+    step : tells ≡ true → MergesDue taken old.told new.told → MergesOwed s old.told new.told j
+    step told merges =
+        merges_owed s old.told j far new.told (due_entry taken old.told) (owed told) (due_is old.told) (gains_due old.told new.told merges)
+
+    kept_after : tells ≡ true → Stays old.told new.told ⊎ MergesDue taken old.told new.told → AreKeptIn s new.told
+    kept_after told (inl stays) = kept_stays s old.told new.told stays (kept told)
+    kept_after told (inr merges) = merge_keeps s old.told new.told j match (kept told) (step told merges)
+
+    wrote_due : tells ≡ true → (wrote : Option Entry) → WritesDue taken old.told new.told wrote → WritesDueEntry s j wrote old new
+    wrote_due told wrote writes =
+        let merges = step told writes.merges in
+        record {
+          wrote_is = writes.wrote_is ∙ due_is old.told;
+          room = subst (λ most. IfSome wrote (λ e. length (master_log s old.told (far_shard j.job)) < most)) is.limit_is
+              (subst (λ at. IfSome wrote (λ e. length (old.told at).log < x.log_max)) is.name_is writes.room);
+          merges = merges;
+          merged = is_merged s old.told new.told j match (kept told) merges;
+        }
+
+    no_room : (count : ℕ) → LacksRoom taken old.told new.told count → FindsNoRoom s j count old
+    no_room count lacks = record {
+      due = subst IsSome (due_is old.told) lacks.due;
+      full = subst (λ most. most ≤ length (master_log s old.told (far_shard j.job))) is.limit_is
+          (subst (λ at. x.log_max ≤ length (old.told at).log) is.name_is lacks.full);
+      count_is = lacks.count_is ∙ ap (λ at. length (old.told at).log) is.name_is;
+    }
+
+    may_merge : (told : Bool) → tells ≡ told → WhereTold tells (Stays old.told new.told ⊎ MergesDue taken old.told new.told) → MayMerge tells s j old new
+    may_merge true heard h = elim (h heard) [
+      | inl stays ↦ inl (λ told. stays)
+      | inr merges ↦ inr (λ told. step told merges)
+    ]
+    may_merge false unheard h = inl (λ told. absurd (cc))
+
+    merges_there : (before after : LinkShown) (r : Result Repaired RepairRefusal)
+        → WhereTold tells (MergesBy taken after.failed old.told new.told r) → CarriesBy taken before after r
+        → MergesThere tells s j r (outside old before) (outside new after)
+    merges_there before after (Ok repaired) merges carries = (λ told. wrote_due told repaired.wrote (merges told), carries)
+    merges_there before after (Err (LogFull count)) merges carries =
+        (λ told. no_room count (merges told), λ told. (merges told).stays, comes_back before after carries)
+    merges_there before after (Err LinkFault) merges (inl there) = inl (
+      subst (λ c. FailsAt c before after) there_is there,
+      λ told. stays_there after.failed old.told new.told (apart told) there.failed (merges told),
+    )
+    merges_there before after (Err LinkFault) merges (inr back) = inr (
+      subst (λ c. FailsAt c (after_carry before) after) back_is back,
+      λ told. step told (merges_back after.failed old.told new.told (apart told) back.failed (merges told)),
+    )
+    merges_there before after (Err KeeperFault) merges carries = (may_merge tells refl merges, comes_back before after carries)
+    merges_there before after (Err OutOfMemory) merges carries = (may_merge tells refl merges, comes_back before after carries)
+
+-- ---- the store of the shard where the job is owed
+
+-- it may take the job
+pub may_take_job : (tells : Bool) (s : Settings) (tables : Tables) (j : ShardJob) (from : StoreName) (x : Store) → from ≡ master_store s j.shard
+    → IsMasterOf s (far_shard j.job) x → IsStoreOf tells tables x → far_shard j.job < s.shards → InversesMatch (types_of s.schema)
+    → WhereTold tells (AreKeptIn s tables) → IsGivenJob j.job → WhereTold tells (IsOwedJob s tables j) → MayTakeJob tells tables (job_between from x j.job)
+may_take_job tells s tables j from x from_is is of far match kept given owed = record {
+  master = is.role_is;
+  store = of;
+  position = given.position.0;
+  stamps = given.stamps;
+  may = λ told.
+      let may = may_be_merged s tables j far match (kept told) given.some (owed told) in
+      let named = subst (λ (at : StoreName). MayBeMerged at.shard (tables at).log j.shard j.job.position j.job.edges) (sym is.name_is) may in
+      subst (λ n. MayBeMerged x.name.shard (tables x.name).log n j.job.position j.job.edges) (sym (ap (λ (at : StoreName). at.shard) from_is)) named;
+}
+
+pub record FarMerged (tells : Bool) (s : Settings) (j : ShardJob) (old new : KeeperState) (before after : LinkShown) (xs : List Store)
+    (r : Result Repaired RepairRefusal) : Type 0 where
+  pub merges : MergesThere tells s j r (outside old before) (outside new after)
+  pub stands : IfOk r (λ repaired. IfSome repaired.wrote (StandsIn (pens_of xs (far_shard j.job))))
+  pub lies : IfOk r (λ repaired. IfSome repaired.wrote (LiesOn (pens_of xs (far_shard j.job)) (far_shard j.job)))
+  pub stores : AreStoresOf tells s new.told xs
+
+-- what the store was asked, and what it answered
+pub record TakesJob (tells : Bool) (b : JobBetween) (old new : KeeperState) (before after : LinkShown) (y : Store) (r : Result Repaired RepairRefusal)
+    : Type 0 where
+  pub merges : WhereTold tells (MergesBy b after.failed old.told new.told r)
+  pub to : GainsBy b.to y r
+  pub keeper : IsStoreOf tells new.told y
+  pub carries : CarriesBy b before after r
+
+pub far_merged : (tells : Bool) (s : Settings) (j : ShardJob) (from : StoreName) (xs : List Store) (place : ℕ) (x y : Store) (old new : KeeperState)
+    (before after : LinkShown) (r : Result Repaired RepairRefusal)
+    → AreStoresOf tells s old.told xs → place ≡ far_shard j.job → far_shard j.job < s.shards → from ≡ master_store s j.shard
+    → IsMasterOf s (far_shard j.job) x → pens_of (slice_set xs place y) (far_shard j.job) ≡ y.view → InversesMatch (types_of s.schema)
+    → WhereTold tells (IsOwedJob s old.told j) → 0 < length j.job.edges → TakesJob tells (job_between from x j.job) old new before after y r
+    → FarMerged tells s j old new before after (slice_set xs place y) r
+far_merged tells s j from xs place x y old new before after r are at far from_is is pen match owed some took =
+    let far_at = far_shard j.job in
+    let ways : WhereTold tells (Stays old.told new.told ⊎ MergesDue (job_between from x j.job) old.told new.told) =
+    λ told. stays_or_merges s j from x from_is is after.failed old.told new.told r (took.merges told) in
+    let kept : WhereTold tells (AreKeptIn s new.told) =
+    λ told. kept_after s j from x from_is is tells old new far owed match are.kept some told (ways told) in
+    record {
+      merges = merges_there s j from x from_is is tells old new far owed match are.kept some before after r took.merges took.carries;
+      stands = subst (λ v. IfOk r (λ repaired. IfSome repaired.wrote (StandsIn v))) (sym pen)
+          (stands_by tells s far_at new.told x y far is took.keeper kept r took.to);
+      lies = subst (λ v. IfOk r (λ repaired. IfSome repaired.wrote (LiesOn v far_at))) (sym pen)
+          (lies_by tells s far_at new.told x y far is took.keeper kept r took.to);
+      stores = stores_changed tells s old.told new.told xs place far_at y are at
+          (gained tells s far_at new.told x y far is took.keeper kept r took.to) took.keeper
+          (λ told. others s j from x from_is is old.told new.told (ways told)) kept;
+    }

@@ -1,0 +1,63 @@
+-- What the end of a job and a look for the first one leave of the stores and the tables.
+use Rattle.std.proofs.Common.{◌≡◌, ℕ, ◌<◌, Bool, List, Option, Some, None, Result, Ok, Err, IfOk, IfSome, OnOk, sym, subst}
+use Rattle.std.specs.Prelude.{slice_set}
+use Rattle.core_model.proofs.KeptStores.{kept_stays}
+use Rattle.core_model.specs.Jobs.{EndsOwed, IsFirstJobOf, IsMergedJob, ShardJob, job_on}
+use Rattle.core_model.specs.Stores.{AreKeptIn, AreStoresOf, IsMasterOf, master_store}
+use Rattle.core_nodes.proofs.JobLemmas.{end_keeps, ends_owed, first_job_of}
+use Rattle.core_nodes.proofs.StoreLemmas.{OthersStay, stores_changed}
+use Rattle.graph_model.specs.Told.{WhereTold}
+use Rattle.shard_tables.specs.StoreView.{Store}
+use Rattle.shard_tables.specs.Stores.{IsStoreOf}
+use Rattle.shard_tables.specs.declared.refusal.StoreRefusal.{StoreRefusal}
+use Rattle.tao_keeper.specs.Given.{IsGivenJob}
+use Rattle.tao_keeper.specs.Table.{Changes, IsLeastJob, Stays, Tables, after_end}
+use Rattle.tao_keeper.specs.declared.jobs.Job.{Job}
+use Rattle.topology.specs.Config.{Settings}
+
+-- ---- the end of a job
+
+-- the job's own table without it
+abbrev pub Ends : {T : Type 0} → Settings → Tables → Tables → ShardJob → Result T StoreRefusal → Type 0
+Ends s before after j r = Changes r before after (master_store s j.shard) (after_end (before (master_store s j.shard)) j.job.position)
+
+pub record EndedAfter {T : Type 0} (tells : Bool) (s : Settings) (before after : Tables) (j : ShardJob) (xs : List Store) (r : Result T StoreRefusal) : Type 0
+  where
+    pub stores : AreStoresOf tells s after xs
+    pub step : WhereTold tells (OnOk r (EndsOwed s before after j))
+
+ends_others : {T : Type 0} (s : Settings) (before after : Tables) (j : ShardJob) (r : Result T StoreRefusal) → Ends s before after j r
+    → OthersStay before after (master_store s j.shard)
+ends_others s before after j (Ok t) ends other apart = ends.others other apart
+ends_others s before after j (Err e) ends other apart = ends other
+
+module _ (s : Settings) (before after : Tables) (j : ShardJob) (here : j.shard < s.shards) (is : IsMergedJob s before j) where
+  ends_step : {T : Type 0} (r : Result T StoreRefusal) → Ends s before after j r → OnOk r (EndsOwed s before after j)
+  ends_step (Ok t) ends = ends_owed s before after j here is ends
+  ends_step (Err e) ends = tt
+
+  ends_kept : {T : Type 0} (r : Result T StoreRefusal) → AreKeptIn s before → Ends s before after j r → AreKeptIn s after
+  ends_kept (Ok t) kept ends = end_keeps s before after j kept (ends_owed s before after j here is ends)
+  ends_kept (Err e) kept ends = kept_stays s before after ends kept
+
+pub ended_after : {T : Type 0} (tells : Bool) (s : Settings) (before after : Tables) (xs : List Store) (place : ℕ) (j : ShardJob) (y : Store)
+    (r : Result T StoreRefusal)
+    → AreStoresOf tells s before xs → place ≡ j.shard → j.shard < s.shards → IsMasterOf s j.shard y → WhereTold tells (IsMergedJob s before j)
+    → WhereTold tells (Ends s before after j r) → IsStoreOf tells after y → EndedAfter tells s before after j (slice_set xs place y) r
+ended_after tells s before after xs place j y r are at here is merged ends of = record {
+  stores = stores_changed tells s before after xs place j.shard y are at is of (λ told. ends_others s before after j r (ends told))
+      (λ told. ends_kept s before after j here (merged told) r (are.kept told) (ends told));
+  step = λ told. ends_step s before after j here (merged told) r (ends told);
+}
+
+-- ---- the first job
+
+-- the job that was found is the first of its shard
+pub first_found : (s : Settings) (before after : Tables) (shard : ℕ) (r : Result (Option Job) StoreRefusal) → shard < s.shards → AreKeptIn s before
+    → Stays before after → IfOk r (λ found. IfSome found IsGivenJob) → IfOk r (IsLeastJob (before (master_store s shard)).jobs)
+    → IfOk r (λ found. IfSome found (λ job. IsFirstJobOf s after (job_on shard job)))
+first_found s before after shard (Ok None) here kept stays given least = tt
+first_found s before after shard (Ok (Some job)) here kept stays given least =
+    let same : after ≡ before = λ i at. stays at i in
+    subst (λ tables. IsFirstJobOf s tables (job_on shard job)) (sym same) (first_job_of s before shard job here kept given.some least)
+first_found s before after shard (Err e) here kept stays given least = tt

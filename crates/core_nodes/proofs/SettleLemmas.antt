@@ -1,0 +1,65 @@
+-- What settling asks of keepers and links, step by step, and why it stops.
+use Rattle.std.proofs.Common.{◌≡◌, ℕ, ◌<◌, ◌≤◌, Bool, refl, ap, sym, ◌∙◌, subst, arith}
+use Rattle.counts.proofs.Rises.{Rose-earlier}
+use Rattle.counts.specs.Count.{Rose}
+use Rattle.graph_model.specs.Told.{WhereTold}
+use Rattle.replies.specs.declared.opening.OpenRefusal.{OpenRefusal}
+use Rattle.replies.specs.declared.refusals.UnsettledWhy.TheVariants.{KeeperFault, LinkFault, LogFull}
+use Rattle.tao_keeper.specs.KeeperState.{IsLater, KeeperState}
+use Rattle.topology.specs.Config.{Settings}
+use Rattle.core_nodes.specs.Opening.{IsUnmade}
+use Rattle.core_nodes.specs.Repairs.{Outside}
+use Rattle.core_nodes.specs.Settling.{OnlyReads, StopsCatchUp, StopsLengths, StopsReads, unmade_for}
+use Rattle.core_nodes.specs.declared.settling.SettleStop.{SettleStop}
+use Rattle.core_nodes.specs.declared.settling.SettleStop.TheVariants.{NoServer, OutOfMemory, Unsettled}
+
+pub reads_none : (tells : Bool) (o : Outside) → OnlyReads tells o o
+reads_none tells o = record {
+  tables = λ told at. refl;
+  keepers = record { calls = omega arith; faults = omega arith };
+  link = record { carries = omega arith; faults = omega arith; cuts = refl };
+}
+
+pub reads_on : (tells : Bool) (o p q : Outside) → OnlyReads tells o p → OnlyReads tells p q → OnlyReads tells o q
+reads_on tells o p q first second =
+    let calls = first.keepers.calls in
+    let more_calls = second.keepers.calls in
+    let faults = first.keepers.faults in
+    let more_faults = second.keepers.faults in
+    let carries = first.link.carries in
+    let more_carries = second.link.carries in
+    let lost = first.link.faults in
+    let more_lost = second.link.faults in
+    record {
+      tables = λ told at. second.tables told at ∙ first.tables told at;
+      keepers = record { calls = omega arith; faults = omega arith };
+      link = record { carries = omega arith; faults = omega arith; cuts = second.link.cuts ∙ first.link.cuts };
+    }
+
+-- what stops it later stops the whole
+pub stops_later : (tells : Bool) (s : Settings) (o p q : Outside) (stop : SettleStop) → OnlyReads tells o p → StopsCatchUp s p q stop → StopsCatchUp s o q stop
+stops_later tells s o p q (Unsettled shard KeeperFault) reads stops =
+    (stops.0, Rose-earlier o.keepers.faults p.keepers.faults q.keepers.faults reads.keepers.faults stops.1)
+stops_later tells s o p q (Unsettled shard LinkFault) reads stops =
+    (stops.0, Rose-earlier o.link.faults p.link.faults q.link.faults reads.link.faults stops.1, stops.2)
+stops_later tells s o p q (Unsettled shard LogFull) reads stops = absurd stops
+stops_later tells s o p q (NoServer shard) reads stops = absurd stops
+stops_later tells s o p q OutOfMemory reads stops = tt
+
+-- the store of one shard gives nothing, after others were read
+pub stops_lengths : (s : Settings) (start old new : KeeperState) (shard : ℕ) (stop : SettleStop) → shard < s.shards → IsLater start old
+    → StopsReads shard old new stop → StopsLengths s start new stop
+stops_lengths s start old new shard (Unsettled at KeeperFault) here later stops =
+    (subst (λ n. n < s.shards) (sym stops.0) here, Rose-earlier start.faults old.faults new.faults later.faults stops.1)
+stops_lengths s start old new shard (Unsettled at LinkFault) here later stops = absurd stops
+stops_lengths s start old new shard (Unsettled at LogFull) here later stops = absurd stops
+stops_lengths s start old new shard (NoServer at) here later stops = absurd stops
+stops_lengths s start old new shard OutOfMemory here later stops = tt
+
+-- without the lengths no node is made
+pub unmade : (s : Settings) (old new : KeeperState) (stop : SettleStop) → StopsLengths s old new stop → IsUnmade old.faults new.faults (unmade_for stop)
+unmade s old new (Unsettled shard KeeperFault) stops = stops.1
+unmade s old new (Unsettled shard LinkFault) stops = absurd stops
+unmade s old new (Unsettled shard LogFull) stops = absurd stops
+unmade s old new (NoServer shard) stops = absurd stops
+unmade s old new OutOfMemory stops = tt

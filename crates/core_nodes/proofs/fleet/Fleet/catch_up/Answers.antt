@@ -1,0 +1,72 @@
+use Rattle.std.proofs.Common.{List, ap, arith, ◌∙◌, subst, sym}
+use Rattle.cache_items.specs.Node.{Node}
+use Rattle.follower_cache.specs.Seen.{FollowerState}
+use Rattle.shard_tables.specs.StoreView.{Store}
+use Rattle.tao_keeper.proofs.Growing.{stays_grow}
+use Rattle.core_model.specs.Fleet.{Fleet}
+use Rattle.core_model.specs.Pens.{pens_of}
+use Rattle.core_model.specs.Stores.{AreStoresOf}
+use Rattle.core_model.specs.declared.named.Named.{Named}
+use Rattle.core_nodes.specs.Settling.{AllCatchUp, AreCaches, CachesGoOn, HaveCaughtUp, follower_node, follower_refills, leader_node, leader_refills}
+use Rattle.core_nodes.proofs.FleetSettles.{LendsAll, SettleStep, after_both_ok, all_after, followers_are, leaders_are, settle_catches, settle_step}
+use Rattle.core_nodes.proofs.fleet.Fleet.catch_up.Goals as goal
+
+pub catch_up_caches-requires : goal.catch_up_caches-requires
+catch_up_caches-requires g c =
+    let s = c.args.config.now in
+    let leaders = c.deref_mut.ensures.value ∙ ap (λ (f : Fleet). f.leaders) c.self.view_is in
+    let followers = c.deref_mut-2.ensures.value ∙ ap (λ (f : Fleet). f.followers) c.self.view_is in
+    let masters = c.deref_mut-3.ensures.value ∙ ap (λ (f : Fleet). f.masters) c.self.view_is in
+    record {
+      stores = subst (AreStoresOf g.K.Keeper.TELLS s (g.K.Keeper.state c.args.keepers.now).told) (sym masters) c.requires.consistent.stores;
+      leaders =
+          subst (λ (ms : List Store). AreCaches leader_node s (pens_of ms) c.deref_mut.result.now) (sym masters)
+          (subst (AreCaches leader_node s (pens_of c.args.self.now.masters)) (sym leaders) (leaders_are s c.args.self.now c.requires.consistent.fleet));
+      followers =
+          subst (λ (ms : List Store). AreCaches follower_node s (pens_of ms) c.deref_mut-2.result.now) (sym masters)
+          (subst (AreCaches follower_node s (pens_of c.args.self.now.masters)) (sym followers)
+          (followers_are s c.args.self.now c.requires.consistent.fleet));
+      lengths = c.requires.lengths;
+    }
+
+pub returns : goal.returns
+returns g c =
+    let tells = g.K.Keeper.TELLS in
+    let s = c.args.config.now in
+    let old = c.args.self.now in
+    let before = (g.K.Keeper.state c.args.keepers.now).told in
+    let tables = (g.K.Keeper.state c.catch_up_caches.new.keepers).told in
+    let ls = c.catch_up_caches.new.leaders in
+    let fs = c.catch_up_caches.new.followers in
+    let given = c.catch_up_caches.ensures in
+    let leaders = c.deref_mut.ensures.value ∙ ap (λ (f : Fleet). f.leaders) c.self.view_is in
+    let followers = c.deref_mut-2.ensures.value ∙ ap (λ (f : Fleet). f.followers) c.self.view_is in
+    let masters = c.deref_mut-3.ensures.value ∙ ap (λ (f : Fleet). f.masters) c.self.view_is in
+    let lends : LendsAll c.self.inside old ls fs c.deref_mut-3.result.now c.catch_up_caches.new.masters =
+    record { view = c.self.view_is; long_leaders = omega arith; long_followers = omega arith; long = omega arith; own = masters; is = given.same } in
+    let is = all_after c.self.inside old ls fs c.deref_mut-3.result.now c.catch_up_caches.new.masters lends in
+    let on_leaders =
+    subst (λ (xs : List (Named Node)). CachesGoOn leader_node leader_refills tells s before (pens_of old.masters) xs ls) leaders
+    (subst (λ (ms : List Store). CachesGoOn leader_node leader_refills tells s before (pens_of ms) c.deref_mut.result.now ls) masters given.leaders) in
+    let on_followers =
+    subst (λ (xs : List (Named FollowerState)). CachesGoOn follower_node follower_refills tells s before (pens_of old.masters) xs fs) followers
+    (subst (λ (ms : List Store). CachesGoOn follower_node follower_refills tells s before (pens_of ms) c.deref_mut-2.result.now fs) masters
+    given.followers) in
+    let step = subst (SettleStep tells s tables old) (sym is)
+    (settle_step tells s before tables old ls fs c.requires.consistent given.reads.tables on_leaders on_followers) in
+    record {
+      caught = λ told.
+          after_both_ok c.catch_up_caches.result
+          (λ first second. subst (AllCatchUp s tables old) (sym is)
+          (settle_catches tells s before tables old ls fs c.requires.consistent given.reads.tables on_leaders on_followers told
+          (subst (λ (xs : List (Named Node)). HaveCaughtUp leader_node s before xs ls) leaders first)
+          (subst (λ (xs : List (Named FollowerState)). HaveCaughtUp follower_node s before xs fs) followers second)))
+          (given.caught told) (given.also told);
+      on = step.on;
+      stop = given.stop;
+      masters = step.masters;
+      consistent = step.consistent;
+      goes = step.goes;
+      reads = given.reads;
+      logs = stays_grow tells before tables given.reads.tables;
+    }

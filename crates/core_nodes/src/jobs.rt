@@ -1,0 +1,337 @@
+//! The stages of a job: it is merged where it is owed, and then ended.
+ghost use Rattle.std.specs.Prelude.{◌≡◌, ◌<◌, IfErr, IfOk, IfSome, None, OnErr, OnOk, Some, false, slice_get, true};
+ghost use Rattle.core_model.specs.Consistent.{GoesOn, IsConsistent};
+ghost use Rattle.core_model.specs.Fleet.{ChangesNode, HasNode};
+ghost use Rattle.core_model.specs.Jobs.{EndsOwed, IsFirstJobOf, IsMergedJob, IsOwedJob, MergesOwed, far_shard, job_on};
+ghost use Rattle.core_model.specs.Pens.{IsSeen, Rise, pens_of};
+ghost use Rattle.core_model.specs.Serving.{IsLeaderFor};
+ghost use Rattle.core_model.specs.Stores.{AreStoresOf, master_log, master_store};
+ghost use Rattle.core_model.specs.Writes.{IsSeenEntry};
+ghost use Rattle.core_nodes.specs.Repairs.{MergesThere, outside};
+ghost use Rattle.core_nodes.specs.Stages.{LeaderDoes, NodeIs};
+ghost use Rattle.edge_repair.specs.declared.refusal.RepairRefusal.TheVariants as repair;
+ghost use Rattle.graph_model.specs.Told.{WhereTold};
+ghost use Rattle.leader_tier.specs.TakenWrites.{TakesWritten, taken_entry};
+ghost use Rattle.served_shards.specs.Served.{log_at};
+ghost use Rattle.shard_log.specs.View.{Grows, as_note};
+ghost use Rattle.shard_tables.specs.Jobs.{IsOfMerges, MergesAs};
+ghost use Rattle.shard_tables.specs.Refusals.{IsOfReads};
+ghost use Rattle.shard_tables.specs.StoreView.{Store as StoreSeen};
+ghost use Rattle.shard_tables.specs.Stores.{IsStoreOf, store_with};
+ghost use Rattle.shard_tables.specs.Written.{LiesOn, StandsIn, TableGains, added_entry};
+ghost use Rattle.shard_tables.specs.declared.store.Role.TheVariants.{Master};
+ghost use Rattle.tao_keeper.specs.Given.{IsGivenJob};
+ghost use Rattle.tao_keeper.specs.Growing.{LogsGrow};
+ghost use Rattle.tao_keeper.specs.KeeperState.{CallsKeeper, KeepsTables};
+ghost use Rattle.tao_keeper.specs.Table.{Changes, IsLeastJob, after_end};
+ghost use Rattle.tao_schema.specs.Schema.{types_of};
+ghost use Rattle.write_model.specs.MergeLaws.{MayBeMerged};
+
+use crate::fleet::Fleet;
+use crate::opening::master_store;
+use crate::writes::inverses_match;
+use core_model::{Named, far_shard, place_of};
+use edge_repair::{RepairRefusal, Repaired, merge_there};
+use leader_tier::{Leader, leaders_are_true};
+use node_name::NodeName;
+use shard_tables::{StoreNode, StoreRefusal, Wrote};
+use std::alloc::Global;
+use tao_keeper::{Job, Keeper};
+use tao_link::Link;
+use tao_schema::Schema;
+use topology::Config;
+
+/// Merges the job at the leader and its store.
+fn merge_of<K: Keeper>(
+    alloc: Global,
+    leader: &mut Leader,
+    store: &mut StoreNode,
+    keepers: &mut K,
+    schema: &Schema,
+    from: u16,
+    job: &Job,
+) -> Result<Wrote, StoreRefusal>
+    requires log { log_at store.old.name.shard leader.old.served ≡ Some store.old.view.log }
+    requires master { store.old.role ≡ Master }
+    requires keeper { IsStoreOf K.TELLS (K.state keepers.old).told store.old }
+    requires given { IsGivenJob job.now }
+    requires may { WhereTold K.TELLS
+        (MayBeMerged store.old.name.shard ((K.state keepers.old).told store.old.name).log from job.now.position job.now.edges) }
+    ensures node { LeaderDoes (TakesWritten (types_of schema.now) store.old.name.shard (taken_entry true result) (as_note store.new.view))
+        leader.old leader.new }
+    ensures answer { WhereTold K.TELLS
+        (MergesAs store.old.log_max ((K.state keepers.old).told store.old.name).log from job.now.position job.now.edges result) }
+    ensures refusals { IfErr result IsOfMerges }
+    ensures new { IfOk result (λ wrote. wrote.retry ≡ false) }
+    ensures tables { WhereTold K.TELLS (TableGains (K.state keepers.old).told (K.state keepers.new).told store.old.name (added_entry result) None) }
+    ensures logs { LogsGrow K.TELLS (K.state keepers.old).told (K.state keepers.new).told }
+    ensures log { store.new ≡ store_with store.old (added_entry result) }
+    ensures grows { Grows store.old.view store.new.view }
+    ensures note { IfOk result (λ wrote. wrote.note ≡ as_note store.new.view) }
+    ensures stands { IfOk result (λ wrote. IfSome wrote.entry (StandsIn wrote.note)) }
+    ensures lies { IfOk result (λ wrote. IfSome wrote.entry (LiesOn wrote.note store.old.name.shard)) }
+    ensures keeper { IsStoreOf K.TELLS (K.state keepers.new).told store.new }
+    ensures calls { CallsKeeper StoreRefusal.KeeperFault (K.state keepers.old) (K.state keepers.new) result }
+{
+    leaders_are_true(leader);
+    let wrote = leader.merge(alloc, true, store, keepers, schema, from, job);
+    leaders_are_true(leader);
+    wrote
+}
+
+/// Merges the job at the leader of that name and the store of the shard where it is owed.
+fn merge_at<K: Keeper>(
+    alloc: Global,
+    leaders: &mut [Named<Leader>],
+    masters: &mut [StoreNode],
+    keepers: &mut K,
+    config: &Config,
+    name: NodeName,
+    from: u16,
+    job: &Job,
+) -> Result<Wrote, StoreRefusal>
+    requires there { HasNode name leaders.old }
+    requires shard { far_shard job.now < config.now.shards }
+    requires logs { NodeIs name (λ node. (store : StoreSeen) → slice_get masters.old (far_shard job.now) ≡ Some store
+        → log_at (far_shard job.now) node.served ≡ Some store.view.log) leaders.old }
+    requires stores { AreStoresOf K.TELLS config.now (K.state keepers.old).told masters.old }
+    requires given { IsGivenJob job.now }
+    requires owed { WhereTold K.TELLS (IsOwedJob config.now (K.state keepers.old).told (job_on from job.now)) }
+    ensures node { ChangesNode name (LeaderDoes (TakesWritten (types_of config.now.schema) (far_shard job.now) (taken_entry true result)
+        (as_note (pens_of masters.new (far_shard job.now))))) leaders.old leaders.new }
+    ensures rest { OnErr result (masters.new ≡ masters.old) }
+    ensures stores { AreStoresOf K.TELLS config.now (K.state keepers.new).told masters.new }
+    ensures rise { Rise (pens_of masters.old) (pens_of masters.new) }
+    ensures note { IfOk result (λ wrote. wrote.note ≡ as_note (pens_of masters.new (far_shard job.now))) }
+    ensures answer { WhereTold K.TELLS (MergesAs config.now.log_max (master_log config.now (K.state keepers.old).told (far_shard job.now))
+        from job.now.position job.now.edges result) }
+    ensures refusals { IfErr result IsOfMerges }
+    ensures tables { WhereTold K.TELLS (TableGains (K.state keepers.old).told (K.state keepers.new).told (master_store config.now (far_shard job.now))
+        (added_entry result) None) }
+    ensures step { WhereTold K.TELLS (OnOk result (MergesOwed config.now (K.state keepers.old).told (K.state keepers.new).told (job_on from job.now))) }
+    ensures merged { WhereTold K.TELLS (OnOk result (IsMergedJob config.now (K.state keepers.new).told (job_on from job.now))) }
+    ensures logs { LogsGrow K.TELLS (K.state keepers.old).told (K.state keepers.new).told }
+    ensures stands { IfOk result (λ wrote. IfSome wrote.entry (StandsIn wrote.note)) }
+    ensures lies { IfOk result (λ wrote. IfSome wrote.entry (LiesOn wrote.note (far_shard job.now))) }
+    ensures calls { CallsKeeper StoreRefusal.KeeperFault (K.state keepers.old) (K.state keepers.new) result }
+{
+    inverses_match(&config.schema);
+    let place = place_of(leaders, name);
+    let shard = usize::from(far_shard(job));
+    let leader = &mut leaders[place].node;
+    let store = &mut masters[shard];
+    merge_of(alloc, leader, store, keepers, &config.schema, from, job)
+}
+
+/// Ends the job at its own shard's store.
+fn end_at<K: Keeper>(
+    masters: &mut [StoreNode],
+    keepers: &mut K,
+    config: &Config,
+    shard: u16,
+    job: &Job,
+) -> Result<(), StoreRefusal>
+    requires stores { AreStoresOf K.TELLS config.now (K.state keepers.old).told masters.old }
+    requires here { shard < config.now.shards }
+    requires merged { WhereTold K.TELLS (IsMergedJob config.now (K.state keepers.old).told (job_on shard job.now)) }
+    ensures same { masters.new ≡ masters.old }
+    ensures stores { AreStoresOf K.TELLS config.now (K.state keepers.new).told masters.new }
+    ensures ends { WhereTold K.TELLS (Changes result (K.state keepers.old).told (K.state keepers.new).told (master_store config.now shard)
+        (after_end ((K.state keepers.old).told (master_store config.now shard)) job.now.position)) }
+    ensures step { WhereTold K.TELLS (OnOk result (EndsOwed config.now (K.state keepers.old).told (K.state keepers.new).told (job_on shard job.now))) }
+    ensures refusals { IfErr result IsOfReads }
+    ensures logs { LogsGrow K.TELLS (K.state keepers.old).told (K.state keepers.new).told }
+    ensures calls { CallsKeeper StoreRefusal.KeeperFault (K.state keepers.old) (K.state keepers.new) result }
+{
+    let place = usize::from(shard);
+    let store = &mut masters[place];
+    store.end_job(keepers, job.position)
+}
+
+/// Finds the first open job at the shard's store.
+fn first_at<K: Keeper>(
+    masters: &mut [StoreNode],
+    keepers: &mut K,
+    config: &Config,
+    shard: u16,
+) -> Result<Option<Job>, StoreRefusal>
+    requires stores { AreStoresOf K.TELLS config.now (K.state keepers.old).told masters.old }
+    requires here { shard < config.now.shards }
+    ensures answer { WhereTold K.TELLS (IfOk result (IsLeastJob ((K.state keepers.old).told (master_store config.now shard)).jobs)) }
+    ensures first { WhereTold K.TELLS (IfOk result (λ found. IfSome found (λ job.
+        IsFirstJobOf config.now (K.state keepers.new).told (job_on shard job)))) }
+    ensures given { IfOk result (λ found. IfSome found IsGivenJob) }
+    ensures same { masters.new ≡ masters.old }
+    ensures stores { AreStoresOf K.TELLS config.now (K.state keepers.new).told masters.new }
+    ensures refusals { IfErr result IsOfReads }
+    ensures tables { KeepsTables K.TELLS (K.state keepers.old) (K.state keepers.new) }
+    ensures logs { LogsGrow K.TELLS (K.state keepers.old).told (K.state keepers.new).told }
+    ensures calls { CallsKeeper StoreRefusal.KeeperFault (K.state keepers.old) (K.state keepers.new) result }
+{
+    let place = usize::from(shard);
+    let store = &mut masters[place];
+    store.first_job(keepers)
+}
+
+/// Merges the job from its own shard's store at the store of the shard where it is owed.
+fn merge_over<K: Keeper, L: Link>(
+    alloc: Global,
+    masters: &mut [StoreNode],
+    keepers: &mut K,
+    link: &mut L,
+    config: &Config,
+    from: u16,
+    job: &Job,
+) -> Result<Repaired, RepairRefusal>
+    requires stores { AreStoresOf K.TELLS config.now (K.state keepers.old).told masters.old }
+    requires here { from < config.now.shards }
+    requires there { far_shard job.now < config.now.shards }
+    requires given { IsGivenJob job.now }
+    requires owed { WhereTold K.TELLS (IsOwedJob config.now (K.state keepers.old).told (job_on from job.now)) }
+    ensures merges { MergesThere K.TELLS config.now (job_on from job.now) result
+        (outside (K.state keepers.old) (L.shown link.old)) (outside (K.state keepers.new) (L.shown link.new)) }
+    ensures stands { IfOk result (λ repaired. IfSome repaired.wrote (StandsIn (pens_of masters.new (far_shard job.now)))) }
+    ensures lies { IfOk result (λ repaired. IfSome repaired.wrote (LiesOn (pens_of masters.new (far_shard job.now)) (far_shard job.now))) }
+    ensures stores { AreStoresOf K.TELLS config.now (K.state keepers.new).told masters.new }
+    ensures rise { Rise (pens_of masters.old) (pens_of masters.new) }
+    ensures logs { LogsGrow K.TELLS (K.state keepers.old).told (K.state keepers.new).told }
+    ensures calls { CallsKeeper repair.KeeperFault (K.state keepers.old) (K.state keepers.new) result }
+{
+    inverses_match(&config.schema);
+    let from = master_store(config, from);
+    let place = usize::from(far_shard(job));
+    let to = &mut masters[place];
+    merge_there(alloc, from, to, keepers, link, job)
+}
+
+impl Fleet {
+    /// The stage `inverse`, once it was carried to the leader of the shard on which the job's records lie, the preferred one of its master
+    /// region: it merges the job at that shard's store, and its items take what was written. The job stays open.
+    ///
+    /// Refused as the store refuses it, with no node changed. Costs what `Leader::merge` does.
+    pub fn merge<K: Keeper>(
+        &mut self,
+        alloc: Global,
+        config: &Config,
+        keepers: &mut K,
+        leader: NodeName,
+        from: u16,
+        job: &Job,
+    ) -> Result<Wrote, StoreRefusal>
+        requires consistent { IsConsistent K.TELLS config.now (K.state keepers.old).told self.old }
+        requires leader { IsLeaderFor config.now (far_shard job.now) leader }
+        requires given { IsGivenJob job.now }
+        requires owed { WhereTold K.TELLS (IsOwedJob config.now (K.state keepers.old).told (job_on from job.now)) }
+
+        // What the nodes are then.
+        ensures node { IfOk result (λ wrote. ChangesNode leader (TakesWritten (types_of config.now.schema) (far_shard job.now) wrote.entry wrote.note)
+            self.old.leaders self.new.leaders) }
+        ensures err { OnErr result (self.new ≡ self.old) }
+        ensures consistent { IsConsistent K.TELLS config.now (K.state keepers.new).told self.new }
+        ensures goes { GoesOn self.old self.new }
+        ensures followers { self.new.followers ≡ self.old.followers }
+
+        // The answer and the tables, as a merge of the store leaves them: a step of the plain machine.
+        ensures answer { WhereTold K.TELLS (MergesAs config.now.log_max (master_log config.now (K.state keepers.old).told (far_shard job.now))
+            from job.now.position job.now.edges result) }
+        ensures refusals { IfErr result IsOfMerges }
+        ensures tables { WhereTold K.TELLS (TableGains (K.state keepers.old).told (K.state keepers.new).told (master_store config.now (far_shard job.now))
+            (added_entry result) None) }
+        ensures step { WhereTold K.TELLS (OnOk result (MergesOwed config.now (K.state keepers.old).told (K.state keepers.new).told (job_on from job.now))) }
+        ensures merged { WhereTold K.TELLS (OnOk result (IsMergedJob config.now (K.state keepers.new).told (job_on from job.now))) }
+        ensures logs { LogsGrow K.TELLS (K.state keepers.old).told (K.state keepers.new).told }
+        ensures seen { IfOk result (λ wrote. IsSeen (pens_of self.new.masters) (far_shard job.now) wrote.note) }
+        ensures stands { IfOk result (λ wrote. IfSome wrote.entry (IsSeenEntry (pens_of self.new.masters) (far_shard job.now) wrote.note)) }
+        ensures here { IfOk result (λ wrote. IfSome wrote.entry (LiesOn wrote.note (far_shard job.now))) }
+        ensures calls { CallsKeeper StoreRefusal.KeeperFault (K.state keepers.old) (K.state keepers.new) result }
+    {
+        merge_at(
+            alloc,
+            &mut self.leaders,
+            &mut self.masters,
+            keepers,
+            config,
+            leader,
+            from,
+            job,
+        )
+    }
+
+    /// The stage `end`: a job that was merged is ended at its own shard's store. Nothing changes where it isn't open any more, nor where
+    /// the call is refused. One call of the keeper.
+    pub fn end_job<K: Keeper>(
+        &mut self,
+        config: &Config,
+        keepers: &mut K,
+        shard: u16,
+        job: &Job,
+    ) -> Result<(), StoreRefusal>
+        requires consistent { IsConsistent K.TELLS config.now (K.state keepers.old).told self.old }
+        requires here { shard < config.now.shards }
+        requires merged { WhereTold K.TELLS (IsMergedJob config.now (K.state keepers.old).told (job_on shard job.now)) }
+        ensures same { self.new ≡ self.old }
+        ensures consistent { IsConsistent K.TELLS config.now (K.state keepers.new).told self.new }
+        ensures ends { WhereTold K.TELLS (Changes result (K.state keepers.old).told (K.state keepers.new).told (master_store config.now shard)
+            (after_end ((K.state keepers.old).told (master_store config.now shard)) job.now.position)) }
+        ensures step { WhereTold K.TELLS (OnOk result (EndsOwed config.now (K.state keepers.old).told (K.state keepers.new).told (job_on shard job.now))) }
+        ensures refusals { IfErr result IsOfReads }
+        ensures logs { LogsGrow K.TELLS (K.state keepers.old).told (K.state keepers.new).told }
+        ensures calls { CallsKeeper StoreRefusal.KeeperFault (K.state keepers.old) (K.state keepers.new) result }
+    {
+        end_at(&mut self.masters, keepers, config, shard, job)
+    }
+
+    /// The open job of the least position of a shard, where one is open. One call of the keeper.
+    pub fn first_job<K: Keeper>(
+        &mut self,
+        config: &Config,
+        keepers: &mut K,
+        shard: u16,
+    ) -> Result<Option<Job>, StoreRefusal>
+        requires consistent { IsConsistent K.TELLS config.now (K.state keepers.old).told self.old }
+        requires here { shard < config.now.shards }
+        ensures answer { WhereTold K.TELLS (IfOk result (IsLeastJob ((K.state keepers.old).told (master_store config.now shard)).jobs)) }
+        ensures first { WhereTold K.TELLS (IfOk result (λ found. IfSome found (λ job.
+            IsFirstJobOf config.now (K.state keepers.new).told (job_on shard job)))) }
+        ensures given { IfOk result (λ found. IfSome found IsGivenJob) }
+        ensures same { self.new ≡ self.old }
+        ensures consistent { IsConsistent K.TELLS config.now (K.state keepers.new).told self.new }
+        ensures refusals { IfErr result IsOfReads }
+        ensures tables { KeepsTables K.TELLS (K.state keepers.old) (K.state keepers.new) }
+        ensures logs { LogsGrow K.TELLS (K.state keepers.old).told (K.state keepers.new).told }
+        ensures calls { CallsKeeper StoreRefusal.KeeperFault (K.state keepers.old) (K.state keepers.new) result }
+    {
+        first_at(&mut self.masters, keepers, config, shard)
+    }
+
+    /// Merges a job of a shard at the store of the shard on which its records lie, over the link from store to store and back, also where
+    /// the merge was refused. No leader takes part, and the job stays open.
+    ///
+    /// `LinkFault` comes only where the link's count of faults rose, and `KeeperFault` only where the keepers' did. Costs a merge.
+    pub fn merge_there<K: Keeper, L: Link>(
+        &mut self,
+        alloc: Global,
+        config: &Config,
+        keepers: &mut K,
+        link: &mut L,
+        from: u16,
+        job: &Job,
+    ) -> Result<Repaired, RepairRefusal>
+        requires consistent { IsConsistent K.TELLS config.now (K.state keepers.old).told self.old }
+        requires here { from < config.now.shards }
+        requires there { far_shard job.now < config.now.shards }
+        requires given { IsGivenJob job.now }
+        requires owed { WhereTold K.TELLS (IsOwedJob config.now (K.state keepers.old).told (job_on from job.now)) }
+        ensures merges { MergesThere K.TELLS config.now (job_on from job.now) result
+            (outside (K.state keepers.old) (L.shown link.old)) (outside (K.state keepers.new) (L.shown link.new)) }
+        ensures stands { IfOk result (λ repaired. IfSome repaired.wrote (StandsIn (pens_of self.new.masters (far_shard job.now)))) }
+        ensures lies { IfOk result (λ repaired. IfSome repaired.wrote (LiesOn (pens_of self.new.masters (far_shard job.now)) (far_shard job.now))) }
+        ensures rest { self.new ≡ record self.old { masters = self.new.masters } }
+        ensures consistent { IsConsistent K.TELLS config.now (K.state keepers.new).told self.new }
+        ensures goes { GoesOn self.old self.new }
+        ensures logs { LogsGrow K.TELLS (K.state keepers.old).told (K.state keepers.new).told }
+        ensures calls { CallsKeeper repair.KeeperFault (K.state keepers.old) (K.state keepers.new) result }
+    {
+        merge_over(alloc, &mut self.masters, keepers, link, config, from, job)
+    }
+}

@@ -2,7 +2,6 @@
 use Rattle.std.proofs.Common.{◌≡◌, ℕ, ◌≤◌, ◌<◌, true, false, Bool, List, Option, None, refl, ap, sym, ◌∙◌, subst, inl, inr, arith}
 use Rattle.std.specs.Prelude.{◌⊎◌, ◌-◌, nat_lt}
 use Rattle.std.proofs.lemmas.Bool.Decides.{nat_tests}
-use Rattle.counts.proofs.Rises.{Rose-earlier}
 use Rattle.cache_items.specs.declared.look.Kept.{Kept as KeptWhy}
 use Rattle.cache_items.specs.declared.look.Look.{Look}
 use Rattle.cache_items.specs.declared.look.Look.TheVariants.{Hit, Miss}
@@ -39,15 +38,15 @@ use Rattle.tao_base.specs.EdgeTypes.{EdgeTypes}
 use Rattle.tao_base.specs.Queries.{query_key, query_shard}
 use Rattle.tao_base.specs.declared.query.Answer.{Answer}
 use Rattle.tao_base.specs.declared.query.Query.{Query}
-use Rattle.tao_keeper.specs.KeeperState.{IsLater, KeeperState, KeepsTables}
+use Rattle.tao_keeper.specs.KeeperState.{KeeperState, KeepsTables}
 use Rattle.tao_keeper.specs.Table.{Table}
-use Rattle.tao_link.specs.Shown.{LinkShown, after_carry}
+use Rattle.tao_link.specs.Shown.{LinkShown}
 use Rattle.tao_schema.specs.Schema.{key_bound, types_of}
 use Rattle.topology.specs.Config.{Settings}
 use Rattle.core_steps.specs.Reads.{AnswersAgain, Ends, MayAnswer, ReadFails, ReadsAlong, WasGiven}
-use Rattle.core_steps.specs.ReadSteps.{AsksAlong, AsksOfKey, EndsRead, IsGivenAlong, IsGivenOver, IsNotGiven, IsNotGivenAlong, IsNotRead}
-use Rattle.core_steps.specs.ReadSteps.{IsReached, IsReadOver, ReadOverFails, ReadsOn, TellsCost, is_behind, missed_read}
-use Rattle.core_steps.specs.Routes.{FailsCarry, Scene, hops_between, master_node, scene, there_and_back, was_called}
+use Rattle.core_steps.specs.ReadSteps.{AsksAlong, AsksOfKey, EndsRead, IsGivenAlong, IsGivenOver, IsNotGivenAlong}
+use Rattle.core_steps.specs.ReadSteps.{IsReached, IsReadOver, ReadsOn, TellsCost, is_behind, missed_read}
+use Rattle.core_steps.specs.Routes.{Scene, hops_between, scene, there_and_back, was_called}
 use Rattle.core_steps.specs.declared.reads.Cost.{Cost}
 use Rattle.core_steps.specs.declared.routes.Route.{Route}
 use Rattle.core_steps.proofs.ReadLemmas.{goes_trans, legal_in_log, where_told}
@@ -215,59 +214,6 @@ read_gives tells s route read given out old mid end behind over reads reached =
       reaches = given_reaches out;
       rest = reads.same ∙ over.rest ∙ ap (λ ls. record old.fleet { leaders = ls }) (sym leaders);
       given_is = reads.given read.floor reached;
-    }
-
--- nothing was read
-read_fails : (s : Settings) (route : Route) (query : Query) (reply : Reply) (old mid end : Scene) → mid.link ≡ there_and_back old.link
-    → IsLater old.keepers mid.keepers → IsLater mid.keepers end.keepers
-    → ReadOverFails route.follower (master_node s (query_shard query)) reply mid end → ReadFails s route query reply old end
-read_fails s route query (Refused (Store (LinkFault count Before))) old mid end link first then_ fails =
-    let store = master_node s (query_shard query) in (
-      fails.0,
-      elim fails.1 [
-        | inl there ↦ inr (inr (inl (subst (λ l. FailsCarry route.follower store l end.link) link there)))
-        | inr back ↦ inr (inr (inr (subst (λ l. FailsCarry store route.follower (after_carry l) end.link) link back)))
-      ],
-    )
-read_fails s route query (Refused (Store (KeeperFault count))) old mid end link first then_ fails =
-    (fails.0, Rose-earlier old.keepers.faults mid.keepers.faults end.keepers.faults first.faults fails.1)
-read_fails s route query (Refused (Memory position)) old mid end link first then_ fails = fails
-read_fails s route query reply old mid end link first then_ fails = absurd fails
-
--- what a leader did not give, the read is not given
-given_fails : (s : Settings) (route : Route) (query : Query) (reply : Reply) (old end : Scene) → ReadOverFails route.follower route.leader reply old end
-    → ReadFails s route query reply old end
-given_fails s route query (Refused (Store (LinkFault count Before))) old end fails = (
-  fails.0,
-  elim fails.1 [
-    | inl there ↦ inl there
-    | inr back ↦ inr (inl back)
-  ],
-)
-given_fails s route query (Refused (Store (KeeperFault count))) old end fails = fails
-given_fails s route query (Refused (Memory position)) old end fails = fails
-given_fails s route query reply old end fails = absurd fails
-
-pub not_given_along : (s : Settings) (route : Route) (read : Wanted) (reply : Reply) (old end : Scene) → IsNotGiven s route read reply old end
-    → IsNotGivenAlong s route read reply old end
-not_given_along s route read reply old end lost =
-    record { fails = given_fails s route read.query reply old end lost.fails; leaders = lost.leaders; rest = lost.rest }
-
-pub read_not_given : (s : Settings) (route : Route) (read : Wanted) (given : LeaderAnswer) (reply : Reply) (old mid end : Scene)
-    → IsGivenOver s route read given old mid → IsLater old.keepers mid.keepers → IsLater mid.keepers end.keepers
-    → IsNotRead s route.follower read.query reply mid end → IsNotGivenAlong s route read reply old end
-read_not_given s route read given reply old mid end over first then_ fails =
-    let types = types_of s.schema in
-    let leaders : end.fleet.leaders ≡ mid.fleet.leaders = ap (λ (f : Fleet). f.leaders) fails.same in
-    record {
-      fails = read_fails s route read.query reply old mid end over.gives.link first then_ fails.fails;
-      leaders = inr (
-        given,
-        mid.keepers,
-        subst (λ ls. ChangesNode route.leader
-            (LeaderAnswers types read given old.fleet.masters old.keepers mid.keepers) old.fleet.leaders ls) (sym leaders) over.gives.asks,
-      );
-      rest = fails.same ∙ over.rest ∙ ap (λ ls. record old.fleet { leaders = ls }) (sym leaders);
     }
 
 -- ---- what was given ends the read

@@ -5,3 +5,5 @@ pub mod GrowingLemmas
 pub mod StepLemmas
 pub mod WriteLemmas
 pub mod CriticalLemmas
+pub mod MergeLemmas
+pub mod InverseThere

@@ -18,8 +18,6 @@ use Rattle.tao_base.specs.declared.query.Answer.{Answer}
 use Rattle.tao_base.specs.declared.query.Query.{Query}
 use Rattle.tao_keeper.specs.Table.{Tables}
 use Rattle.topology.specs.Config.{Settings}
-use Rattle.core_steps.specs.ReadSteps.{ReadsOn}
-use Rattle.core_steps.specs.Routes.{Scene}
 
 -- ---- one step after another
 
@@ -32,15 +30,6 @@ goes_trans a b c p q = record {
       let mid = q.asks place name to h in
       let was = p.asks place name mid.0 mid.1 in
       (was.0, was.1, (λ number key is. mid.2 number key (was.2 number key is)));
-}
-
-pub on_trans : (tells : Bool) (s : Settings) (a b c : Scene) → ReadsOn tells s a b → ReadsOn tells s b c → ReadsOn tells s a c
-on_trans tells s a b c p q = record {
-  consistent = q.consistent;
-  goes = goes_trans a.fleet b.fleet c.fleet p.goes q.goes;
-  tables = λ told at. q.tables told at ∙ p.tables told at;
-  later = (let p1 = p.later.calls in let q1 = q.later.calls in let p2 = p.later.faults in let q2 = q.later.faults in
-      record { calls = omega arith; faults = omega arith });
 }
 
 -- ---- the log of a shard is what its pen has seen

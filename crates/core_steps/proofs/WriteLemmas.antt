@@ -1,71 +1,42 @@
 -- What the stages of a write make of its reply, and of the nodes.
-use Rattle.std.proofs.Common.{◌≡◌, ℕ, Bool, false, Option, Some, None, Err, IfSome, refl, sym, ap, subst, ◌∙◌, inl, inr}
+use Rattle.std.proofs.Common.{◌≡◌, ℕ, Bool, List, Option, Some, None, Result, Ok, Err, IfSome, refl, sym, ap, subst, ◌∙◌, inr}
+use Rattle.std.specs.Prelude.{IfErr, IfOk, OnErr, OnOk}
 use Rattle.counts.specs.Count.{Rose}
 use Rattle.graph_model.specs.Told.{WhereTold}
-use Rattle.leader_tier.specs.TakenWrites.{TakesWritten}
 use Rattle.shard_log.proofs.GrowthLemmas.{entry_stays, grows-trans}
 use Rattle.shard_log.specs.View.{View}
+use Rattle.shard_tables.specs.StoreView.{Store as StoreSeen}
 use Rattle.shard_tables.specs.Written.{StandsIn, WriteAnswers}
 use Rattle.shard_tables.specs.declared.refusal.StoreRefusal.{StoreRefusal}
 use Rattle.shard_tables.specs.declared.refusal.StoreRefusal.TheVariants as store
-use Rattle.tao_base.specs.EdgeTypes.{EdgeTypes}
-use Rattle.tao_base.specs.declared.entry.Entry.{Entry}
-use Rattle.tao_keeper.specs.KeeperState.{KeepsTables}
-use Rattle.topology.specs.Config.{Settings}
-use Rattle.core_model.specs.Consistent.{GoesOn}
-use Rattle.core_model.specs.Fleet.{ChangesNode, Fleet}
-use Rattle.core_mail.specs.Inboxes.{Inboxes, Sends, message_of}
-use Rattle.core_model.specs.Messages.{told_of}
-use Rattle.core_model.specs.Pens.{Pens, pens_of}
-use Rattle.core_model.specs.Writes.{AppliesTo, IsSeenEntry}
-use Rattle.replies.specs.declared.calls.InverseEnd.TheVariants as inverse
-use Rattle.replies.specs.declared.calls.WriteReply.{WriteReply}
-use Rattle.replies.specs.declared.refusals.Refusal.TheVariants.{Store, Memory}
-use Rattle.replies.specs.declared.refusals.StoreRefused.TheVariants.{SeqReused, ShardFull, StampFull, LogFull, KeeperFault, LinkFault, Unsettled}
-use Rattle.replies.specs.declared.refusals.When.{When}
-use Rattle.replies.specs.declared.reply.Reply.{Reply}
-use Rattle.replies.specs.declared.reply.Reply.TheVariants.{Refused}
 use Rattle.shard_tables.specs.declared.writes.Wrote.{Wrote}
 use Rattle.tao_base.specs.Writes.{write_shard}
+use Rattle.tao_base.specs.declared.entry.Entry.{Entry}
+use Rattle.tao_keeper.specs.KeeperState.{KeepsTables}
 use Rattle.tao_link.specs.Shown.{after_carry}
 use Rattle.tao_schema.specs.Schema.{types_of}
 use Rattle.topology.specs.Choices.{master_region}
+use Rattle.topology.specs.Config.{Settings}
 use Rattle.topology.specs.States.{NodeStates}
-use Rattle.write_plan.specs.Committing.{told_kind}
-use Rattle.write_plan.specs.Plans.{when_of, written_by}
+use Rattle.core_mail.specs.Inboxes.{Inboxes, Sends, message_of}
+use Rattle.core_model.specs.Fleet.{Fleet}
+use Rattle.core_model.specs.Messages.{told_of}
+use Rattle.core_model.specs.Pens.{Pens, Rise, pens_of}
+use Rattle.core_model.specs.Writes.{IsSeenEntry}
+use Rattle.replies.specs.declared.refusals.Refusal.TheVariants.{Store}
+use Rattle.replies.specs.declared.refusals.StoreRefused.TheVariants.{SeqReused, ShardFull, StampFull, LogFull, KeeperFault, LinkFault}
+use Rattle.replies.specs.declared.reply.Reply.{Reply}
+use Rattle.replies.specs.declared.reply.Reply.TheVariants.{Refused}
+use Rattle.write_plan.specs.Plans.{when_of}
+use Rattle.write_plan.specs.declared.committed.Committed.{Committed}
+use Rattle.core_steps.specs.CarriedOut.{IsCarriedOut, WorksOffAs}
+use Rattle.core_steps.specs.Posting.{AppliesAlone, ChangesNoNode, Posting, TellsOfNew}
 use Rattle.core_steps.specs.Replies.{refused_as}
 use Rattle.core_steps.specs.Routes.{FailsCarry, hops_between}
-use Rattle.core_steps.specs.Writes.{ChangesNoNode, ClientWrite, Commits, FailsBack, FollowerTakes, IsCommitted, IsWritten, LeaderTakes, Posting}
-use Rattle.core_steps.specs.Writes.{RefusesCommit, TellsOfNew, WritesAlong, asked_of_log, new_entry}
+use Rattle.core_steps.specs.Writes.{CanBeApplied, ClientWrite, FailsBack, FollowerTakes, IsWritten, RefusesCommit, WritesAlong, asked_of_log}
 use Rattle.core_steps.specs.declared.routes.Route.{Route}
-
--- ---- one stage after another
-
-pub goes_on : (old mid new : Fleet) → GoesOn old mid → GoesOn mid new → GoesOn old new
-goes_on old mid new one two = record {
-  rise = λ shard. grows-trans (pens_of old.masters shard) (pens_of mid.masters shard) (pens_of new.masters shard) (one.rise shard) (two.rise shard);
-  leaders = two.leaders ∙ one.leaders;
-  followers = two.followers ∙ one.followers;
-  asks = λ place name to at.
-      let later = two.asks place name to at in
-      let earlier = one.asks place name later.0 later.1 in
-      (earlier.0, earlier.1, (λ number key on. later.2 number key (earlier.2 number key on)));
-}
-
-module _ (types : EdgeTypes) (route : Route) (shard : ℕ) (old mid new : Fleet) where
-  -- the leader took the entry, and stays so while the follower takes it
-  pub leader_took : (entry : Option Entry) (note : View) → ChangesNode route.leader (TakesWritten types shard entry note) old.leaders mid.leaders
-      → new ≡ record mid { followers = new.followers } → LeaderTakes types route shard entry old new
-  leader_took entry note change rest =
-      let leaders : new.leaders ≡ mid.leaders = ap (λ (f : Fleet). f.leaders) rest in
-      record { note = note; takes = subst (ChangesNode route.leader (TakesWritten types shard entry note) old.leaders) (sym leaders) change }
-
-  -- the follower took it, after a stage that left the followers
-  pub follower_took : (entry : Option Entry) → mid.followers ≡ old.followers → FollowerTakes types route shard entry mid new
-      → FollowerTakes types route shard entry old new
-  follower_took None same takes = takes ∙ same
-  follower_took (Some e) same takes =
-      (takes.0, subst (λ l. ChangesNode route.follower (AppliesTo types shard e takes.0) l new.followers) same takes.1)
+use Rattle.core_steps.specs.declared.writes.CarriedOut.{CarriedOut}
+use Rattle.core_steps.specs.declared.writes.WorkedOff.{WorkedOff}
 
 -- ---- the write that was committed, and the way back
 
@@ -74,6 +45,13 @@ pub stands_there : (pens : Pens) (shard : ℕ) (note : View) (entry : Option Ent
 stands_there pens shard note None seen = tt
 stands_there pens shard note (Some e) seen = seen.stands
 
+-- and stays seen while the logs grow
+seen_later : (pens later : Pens) (shard : ℕ) (note : View) (entry : Option Entry) → Rise pens later → IfSome entry (IsSeenEntry pens shard note)
+    → IfSome entry (IsSeenEntry later shard note)
+seen_later pens later shard note None rise seen = tt
+seen_later pens later shard note (Some e) rise seen =
+    record { seen = grows-trans note (pens shard) (later shard) seen.seen (rise shard); stands = seen.stands }
+
 -- so it does in the shard's log
 pub stands_in_log : (pens : Pens) (shard : ℕ) (note : View) (entry : Option Entry) → IfSome entry (IsSeenEntry pens shard note)
     → IfSome entry (StandsIn (pens shard))
@@ -81,85 +59,87 @@ stands_in_log pens shard note None seen = tt
 stands_in_log pens shard note (Some e) seen = λ told.
     entry_stays note (pens shard) e.position e seen.seen (seen.stands (ap (λ l. l.told) (sym seen.seen.log_is) ∙ told))
 
--- the followers of the master's region are told of a new one
-pub told_new : (states : NodeStates) (shard region : ℕ) (retry : Bool) (entry : Option Entry) (e : Entry) (note : View) (old new : Inboxes)
-    → retry ≡ false → entry ≡ Some e → region ≡ master_region states shard → Sends (told_of states region shard) (message_of shard e note) old new
-    → TellsOfNew states shard (new_entry retry entry) old new
-told_new states shard region retry entry e note old new fresh is here sends =
+-- the followers of the master's region are told of it
+pub told_new : (states : NodeStates) (shard region : ℕ) (entry : Option Entry) (e : Entry) (note : View) (old new : Inboxes)
+    → entry ≡ Some e → region ≡ master_region states shard → Sends (told_of states region shard) (message_of shard e note) old new
+    → TellsOfNew states shard entry old new
+told_new states shard region entry e note old new is here sends =
     let told : TellsOfNew states shard (Some e) old new =
     (note, subst (λ r. Sends (told_of states r shard) (message_of shard e note) old new) here sends) in
-    subst (λ again. TellsOfNew states shard (new_entry again entry) old new) (sym fresh)
-    (subst (λ found. TellsOfNew states shard (new_entry false found) old new) (sym is) told)
+    subst (λ found. TellsOfNew states shard found old new) (sym is) told
 
 -- it came back, and the follower took it
-module _ (tells : Bool) (s : Settings) (route : Route) (call : ClientWrite) (wrote : Wrote) (old mid new : Posting)
-    (is : IsCommitted tells s route call wrote old mid) (rest : new.scene.fleet ≡ record mid.scene.fleet { followers = new.scene.fleet.followers })
-    (inboxes : new.inboxes ≡ mid.inboxes) (keepers : new.scene.keepers ≡ mid.scene.keepers) where
+module _ (tells : Bool) (s : Settings) (route : Route) (call : ClientWrite) (done : WorkedOff) (old mid new : Posting)
+    (is : WorksOffAs tells s route call done old mid) (rest : AppliesAlone mid new) where
   abbrev shard : ℕ
   shard = write_shard call.write
 
-  leader_still : LeaderTakes (types_of s.schema) route shard wrote.entry old.scene.fleet new.scene.fleet
-  leader_still =
-      leader_took (types_of s.schema) route shard old.scene.fleet mid.scene.fleet new.scene.fleet wrote.entry is.leader.note is.leader.takes rest
+  abbrev entry_of : Committed → Option Entry
+  entry_of c = c.wrote.entry
 
-  told_still : TellsOfNew old.states shard (new_entry wrote.retry wrote.entry) old.inboxes new.inboxes
-  told_still = subst (TellsOfNew old.states shard (new_entry wrote.retry wrote.entry) old.inboxes) (sym inboxes) is.told
-
-  commits_still : Commits tells s call wrote.retry wrote.entry old.scene.keepers new.scene.keepers
-  commits_still = subst (Commits tells s call wrote.retry wrote.entry old.scene.keepers) (sym keepers) is.commits
-
-  pub back_written : (reply : WriteReply) → told_kind call.write wrote.entry ≡ Some reply.kind → reply.written ≡ written_by wrote.retry inverse.None wrote.entry
-      → FollowerTakes (types_of s.schema) route shard wrote.entry mid.scene.fleet new.scene.fleet
-      → new.scene.link ≡ after_carry mid.scene.link → reply.hops ≡ hops_between old.scene.link new.scene.link
-      → IsWritten tells s route call (record { reply = reply; entry = wrote.entry }) old new
-  back_written reply kind written takes link hops = record {
-    retry = wrote.retry;
-    kind_is = kind;
-    written_is = written;
-    commits = commits_still;
-    leader = leader_still;
-    follower = follower_took (types_of s.schema) route shard old.scene.fleet mid.scene.fleet new.scene.fleet wrote.entry is.followers takes;
-    told = told_still;
-    link = link ∙ ap after_carry is.link;
-    hops_is = hops;
+  pub back_written : (out : CarriedOut) → IsCarriedOut done (hops_between old.scene.link new.scene.link) out
+      → FollowerTakes (types_of s.schema) route shard done.committed.wrote.entry mid.scene.fleet new.scene.fleet
+      → new.scene.link ≡ after_carry mid.scene.link → IsWritten tells s route call out old new
+  back_written out out_is takes link = record {
+    worked_off = mid;
+    works = is.works;
+    follower = subst (λ c. FollowerTakes (types_of s.schema) route shard (entry_of c) mid.scene.fleet new.scene.fleet) (sym is.committed_is) takes;
+    rest = rest;
+    link = link;
+    entry_is = out_is.entry_is ∙ ap entry_of (sym is.committed_is);
+    other_is = cc (is.committed_is, is.other_is, out_is.other_is);
+    kind_is = cc (is.committed_is, out_is.kind_is);
+    written_is = cc (is.committed_is, is.other_is, out_is.written_is);
+    hops_is = out_is.hops_is;
   }
 
   -- it didn't
-  back_failed : (when : When) → when ≡ when_of wrote.entry → FailsCarry route.leader route.follower mid.scene.link new.scene.link
-      → new.scene.fleet ≡ mid.scene.fleet → FailsBack tells s route call when old new
-  back_failed when when_is carry same = record {
-    entry = wrote.entry;
-    retry = wrote.retry;
-    when_is = when_is;
-    carry = subst (λ l. FailsCarry route.leader route.follower l new.scene.link) is.link carry;
-    commits = commits_still;
-    leader = leader_still;
-    followers = ap (λ (f : Fleet). f.followers) same ∙ is.followers;
-    told = told_still;
-  }
-
-  pub back_refused : (reply : Reply) (count : ℕ) (when : When) → reply ≡ Refused (Store (LinkFault count when)) → count ≡ new.scene.link.faults
-      → when ≡ when_of wrote.entry → FailsCarry route.leader route.follower mid.scene.link new.scene.link → new.scene.fleet ≡ mid.scene.fleet
+  pub back_refused : (reply : Reply) → reply ≡ Refused (Store (LinkFault new.scene.link.faults (when_of done.committed.wrote.entry)))
+      → FailsCarry route.leader route.follower mid.scene.link new.scene.link → new.scene.fleet ≡ mid.scene.fleet
       → WritesAlong tells s route call (Err reply) old new
-  back_refused reply count when reply_is count_is when_is carry same =
-      let fails : WritesAlong tells s route call (Err (Refused (Store (LinkFault count when)))) old new =
-      (count_is, inr (back_failed when when_is carry same)) in
-      subst (λ r. WritesAlong tells s route call (Err r) old new) (sym reply_is) fails
+  back_refused reply reply_is carry same =
+      let fails : FailsBack tells s route call (when_of done.committed.wrote.entry) old new = record {
+        worked_off = mid;
+        works = is.works;
+        when_is = ap (λ c. when_of (entry_of c)) (sym is.committed_is);
+        carry = carry;
+        fleet = same;
+        rest = rest;
+      } in
+      let refuses : WritesAlong tells s route call (Err (Refused (Store (LinkFault new.scene.link.faults (when_of done.committed.wrote.entry))))) old new =
+      (refl, inr fails) in
+      subst (λ r. WritesAlong tells s route call (Err r) old new) (sym reply_is) refuses
+
+  pub comes_back : (result : Result CarriedOut Reply) → IfOk result (IsCarriedOut done (hops_between old.scene.link new.scene.link))
+      → OnOk result (FollowerTakes (types_of s.schema) route shard done.committed.wrote.entry mid.scene.fleet new.scene.fleet)
+      → OnOk result (new.scene.link ≡ after_carry mid.scene.link)
+      → IfErr result (λ reply. reply ≡ Refused (Store (LinkFault new.scene.link.faults (when_of done.committed.wrote.entry))))
+      → OnErr result (FailsCarry route.leader route.follower mid.scene.link new.scene.link) → OnErr result (new.scene.fleet ≡ mid.scene.fleet)
+      → WritesAlong tells s route call result old new
+  comes_back (Ok out) is_out takes link reply_is carry same = back_written out is_out takes link
+  comes_back (Err reply) is_out takes link reply_is carry same = back_refused reply reply_is carry same
+
+-- the stores stay while the follower takes it
+pub masters_stay : (mid new : Fleet) → new ≡ record mid { followers = new.followers } → new.masters ≡ mid.masters
+masters_stay mid new rest = ap (λ (f : Fleet). f.masters) rest
+
+-- what holds of the entry of a write holds of the one that it tells once it came back
+pub entry_out : (done : WorkedOff) (hops : ℕ) (P : Entry → Type 0) (result : Result CarriedOut Reply) → IfOk result (IsCarriedOut done hops)
+    → IfSome done.committed.wrote.entry P → IfOk result (λ out. IfSome out.entry P)
+entry_out done hops P (Ok out) is h = subst (λ (o : Option Entry). IfSome o P) (sym is.entry_is) h
+entry_out done hops P (Err reply) is h = tt
+
+-- what can be applied can be while the logs grow
+pub applied_later : (call : ClientWrite) (wrote : Wrote) (masters later : List StoreSeen) → Rise (pens_of masters) (pens_of later)
+    → CanBeApplied call wrote masters → CanBeApplied call wrote later
+applied_later call wrote masters later rise can = record {
+  fits = can.fits;
+  has = can.has;
+  seen = seen_later (pens_of masters) (pens_of later) (write_shard call.write) wrote.note wrote.entry rise can.seen;
+  here = can.here;
+}
 
 -- ---- refused
-
--- what was not committed is refused
-pub refuses_write : (tells : Bool) (s : Settings) (route : Route) (call : ClientWrite) (reply : Reply) (old new : Posting)
-    → RefusesCommit tells s route call reply old new → WritesAlong tells s route call (Err reply) old new
-refuses_write tells s route call (Refused (Store (LinkFault count when))) old new h = (h.0, inl h.1)
-refuses_write tells s route call (Refused (Store (SeqReused position))) old new h = h
-refuses_write tells s route call (Refused (Store (ShardFull serial))) old new h = h
-refuses_write tells s route call (Refused (Store (StampFull number))) old new h = h
-refuses_write tells s route call (Refused (Store (LogFull count))) old new h = h
-refuses_write tells s route call (Refused (Store (KeeperFault count))) old new h = h
-refuses_write tells s route call (Refused (Store (Unsettled at why))) old new h = h
-refuses_write tells s route call (Refused (Memory position)) old new h = h
-refuses_write tells s route call reply old new h = absurd h
 
 -- what the store refused, with nothing changed
 module _ (tells : Bool) (s : Settings) (route : Route) (call : ClientWrite) (old new : Posting) (stays : KeepsTables tells old.scene.keepers new.scene.keepers)

@@ -1,4 +1,9 @@
+pub mod CarriedOut
 pub mod CriticalReads
+pub mod Laws
+pub mod MergeAnswers
+pub mod OtherEnds
+pub mod Posting
 pub mod ReadSteps
 pub mod Reads
 pub mod Replies

@@ -2,15 +2,10 @@
 use Rattle.std.specs.Prelude.{ℕ, ◌≡◌, ◌⊎◌, Bool, true, false, List, Option, Some, None, IfSome, Result, Ok, Err, if◌then◌else◌}
 use Rattle.counts.specs.Count.{Rose}
 use Rattle.core_model.specs.Fleet.{ChangesNode, Fleet}
-use Rattle.core_mail.specs.Inboxes.{Inboxes, Sends, message_of}
-use Rattle.core_model.specs.Messages.{told_of}
 use Rattle.core_model.specs.Pens.{pens_of}
-use Rattle.core_model.specs.Stores.{master_log, master_store, masters_of}
+use Rattle.core_model.specs.Stores.{master_log, master_store, stores_in}
 use Rattle.core_model.specs.Writes.{AppliesTo, IsSeenEntry}
 use Rattle.graph_model.specs.Told.{WhereTold}
-use Rattle.leader_tier.specs.TakenWrites.{TakesWritten}
-use Rattle.master_tables.specs.Masters.{stores_of}
-use Rattle.replies.specs.declared.calls.InverseEnd.TheVariants as inverse
 use Rattle.replies.specs.declared.refusals.Refusal.TheVariants.{Store, Memory}
 use Rattle.replies.specs.declared.refusals.StoreRefused.{StoreRefused}
 use Rattle.replies.specs.declared.refusals.StoreRefused.TheVariants.{SeqReused, ShardFull, StampFull, LogFull, KeeperFault, LinkFault, Unsettled}
@@ -19,7 +14,7 @@ use Rattle.replies.specs.declared.refusals.When.TheVariants.{Before}
 use Rattle.replies.specs.declared.reply.Reply.{Reply}
 use Rattle.replies.specs.declared.reply.Reply.TheVariants.{Refused}
 use Rattle.shard_log.specs.View.{View}
-use Rattle.shard_tables.specs.Jobs.{job_with}
+use Rattle.shard_tables.specs.Jobs.{FindsJob, OpensJob, job_with}
 use Rattle.shard_tables.specs.StoreView.{Store as StoreSeen}
 use Rattle.shard_tables.specs.WriteSteps.{client_write}
 use Rattle.shard_tables.specs.declared.writes.Wrote.{Wrote}
@@ -29,19 +24,21 @@ use Rattle.tao_base.specs.Writes.{write_shard}
 use Rattle.tao_base.specs.declared.entry.Entry.{Entry}
 use Rattle.tao_base.specs.declared.entry.Origin.{Origin}
 use Rattle.tao_base.specs.declared.write.Write.{Write}
-use Rattle.tao_keeper.specs.KeeperState.{KeeperState, KeepsTables}
+use Rattle.tao_keeper.specs.KeeperState.{KeeperState}
 use Rattle.tao_link.specs.Shown.{after_carry}
 use Rattle.tao_schema.specs.Schema.{types_of}
-use Rattle.topology.specs.Choices.{master_region}
 use Rattle.topology.specs.Config.{Settings}
-use Rattle.topology.specs.States.{NodeStates}
 use Rattle.write_model.specs.Machine.{ChangesNothing, Repeats}
 use Rattle.write_model.specs.Merges.{Stores}
 use Rattle.write_model.specs.Steps.{CommitsWithJob, JobsStay}
 use Rattle.write_model.specs.Writes.{FitsWrite}
-use Rattle.write_plan.specs.Committing.{told_kind}
+use Rattle.write_plan.specs.Committing.{has_inverse, told_kind}
 use Rattle.write_plan.specs.Plans.{when_of, written_by}
-use Rattle.core_steps.specs.Routes.{FailsCarry, Scene, hops_between, there_and_back}
+use Rattle.write_plan.specs.declared.committed.Committed.{Committed}
+use Rattle.core_steps.specs.OtherEnds.{WorksOffOf, told_there}
+use Rattle.core_steps.specs.Posting.{AppliesAlone, ChangesNoNode, LeaderTakes, Posting, TellsOfNew}
+use Rattle.core_steps.specs.Routes.{FailsCarry, hops_between}
+use Rattle.core_steps.specs.declared.jobs.OtherEndDone.{OtherEndDone}
 use Rattle.core_steps.specs.declared.routes.Route.{Route}
 use Rattle.core_steps.specs.declared.writes.CarriedOut.{CarriedOut}
 
@@ -57,18 +54,9 @@ client_call origin write = record { origin = origin; write = write }
 abbrev pub asked_of_log : Settings → KeeperState → ClientWrite → AskedWrite
 asked_of_log s keepers call = asked_write (types_of s.schema) s.log_max (master_log s keepers.told (write_shard call.write)) call.origin call.write
 
--- what a write sees: its scene, the messages that wait, and which nodes are up
-pub record Posting : Type 0 where
-  pub scene : Scene
-  pub inboxes : Inboxes
-  pub states : NodeStates
-
-abbrev pub posting : Scene → Inboxes → NodeStates → Posting
-posting scene inboxes states = record { scene = scene; inboxes = inboxes; states = states }
-
 -- the logs and open jobs of all shards
 abbrev pub stores_now : Settings → KeeperState → Stores
-stores_now s keepers = stores_of (masters_of s) keepers.told
+stores_now s keepers = stores_in s keepers.told
 
 -- ---- what is committed
 
@@ -94,32 +82,24 @@ pub record Commits (tells : Bool) (s : Settings) (call : ClientWrite) (retry : B
 
 -- ---- what the nodes take of it
 
--- the leader that wrote takes the entry, where there is one, and marks it
-pub record LeaderTakes (types : EdgeTypes) (route : Route) (shard : ℕ) (entry : Option Entry) (old new : Fleet) : Type 0 where
-  pub note : View
-  pub takes : ChangesNode route.leader (TakesWritten types shard entry note) old.leaders new.leaders
-
 -- the follower that asked for it takes its changes
 abbrev pub FollowerTakes : EdgeTypes → Route → ℕ → Option Entry → Fleet → Fleet → Type 0
 FollowerTakes types route shard None old new = new.followers ≡ old.followers
 FollowerTakes types route shard (Some e) old new = (note : View) × ChangesNode route.follower (AppliesTo types shard e note) old.followers new.followers
-
--- of an entry that the log gained the followers of the master's region are told, and of no other
-abbrev pub TellsOfNew : NodeStates → ℕ → Option Entry → Inboxes → Inboxes → Type 0
-TellsOfNew states shard None old new = new ≡ old
-TellsOfNew states shard (Some e) old new =
-    (note : View) × Sends (told_of states (master_region states shard) shard) (message_of shard e note) old new
 
 -- ---- a write that was committed
 
 -- the write was carried to the leader, which committed it; that leader and the inboxes took what was written
 pub record IsCommitted (tells : Bool) (s : Settings) (route : Route) (call : ClientWrite) (wrote : Wrote) (old new : Posting) : Type 0 where
   pub commits : Commits tells s call wrote.retry wrote.entry old.scene.keepers new.scene.keepers
-  pub leader : LeaderTakes (types_of s.schema) route (write_shard call.write) wrote.entry old.scene.fleet new.scene.fleet
+  pub leader : LeaderTakes (types_of s.schema) route.leader (write_shard call.write) wrote.entry old.scene.fleet new.scene.fleet
   pub followers : new.scene.fleet.followers ≡ old.scene.fleet.followers
   pub told : TellsOfNew old.states (write_shard call.write) (new_entry wrote.retry wrote.entry) old.inboxes new.inboxes
   pub states : new.states ≡ old.states
   pub link : new.scene.link ≡ after_carry old.scene.link
+  -- the job in its answer is that of its new entry, or the one that is still open
+  pub opens : OpensJob (types_of s.schema) wrote.retry wrote.entry wrote.job
+  pub finds : WhereTold tells (FindsJob (old.scene.keepers.told (master_store s (write_shard call.write))) wrote.retry wrote.entry wrote.job)
 
 -- what its follower may take: the entry is the write's, and stands in what was seen of the shard's log
 pub record CanBeApplied (call : ClientWrite) (wrote : Wrote) (masters : List StoreSeen) : Type 0 where
@@ -130,17 +110,34 @@ pub record CanBeApplied (call : ClientWrite) (wrote : Wrote) (masters : List Sto
 
 -- ---- a write that was carried out
 
--- a write that was carried out, by one carry there and one back: its reply tells the entry. No type has an inverse, since a core serves
--- configurations without one
+-- what the commit of a write answered: by whom, which write it was, and whether a type that it names has an inverse
+pub record IsAnswerOf (s : Settings) (route : Route) (call : ClientWrite) (c : Committed) : Type 0 where
+  pub leader : c.leader ≡ route.leader
+  pub passed : c.passed ≡ None
+  pub kind : told_kind call.write c.wrote.entry ≡ Some c.kind
+  pub paired : c.paired ≡ has_inverse (types_of s.schema) call.write
+
+-- a write that was committed, and of whose job all was done that could be
+pub record IsWorkedOff (tells : Bool) (s : Settings) (route : Route) (call : ClientWrite) (old new : Posting) : Type 0 where
+  pub committed : Committed
+  pub other_end : OtherEndDone
+  pub between : Posting
+  pub answer : IsAnswerOf s route call committed
+  pub commits : IsCommitted tells s route call committed.wrote old between
+  pub works_off : WorksOffOf tells s (write_shard call.write) committed committed.wrote.job other_end between new
+
+-- a write that was carried out: it was committed, its other end was written or scheduled, and by a carry back its follower took the changes. Its reply
+-- tells the entry, and what became of the inverse
 pub record IsWritten (tells : Bool) (s : Settings) (route : Route) (call : ClientWrite) (done : CarriedOut) (old new : Posting) : Type 0 where
-  pub retry : Bool
-  pub kind_is : told_kind call.write done.entry ≡ Some done.reply.kind
-  pub written_is : done.reply.written ≡ written_by retry inverse.None done.entry
-  pub commits : Commits tells s call retry done.entry old.scene.keepers new.scene.keepers
-  pub leader : LeaderTakes (types_of s.schema) route (write_shard call.write) done.entry old.scene.fleet new.scene.fleet
-  pub follower : FollowerTakes (types_of s.schema) route (write_shard call.write) done.entry old.scene.fleet new.scene.fleet
-  pub told : TellsOfNew old.states (write_shard call.write) (new_entry retry done.entry) old.inboxes new.inboxes
-  pub link : new.scene.link ≡ there_and_back old.scene.link
+  pub worked_off : Posting
+  pub works : IsWorkedOff tells s route call old worked_off
+  pub follower : FollowerTakes (types_of s.schema) route (write_shard call.write) works.committed.wrote.entry worked_off.scene.fleet new.scene.fleet
+  pub rest : AppliesAlone worked_off new
+  pub link : new.scene.link ≡ after_carry worked_off.scene.link
+  pub entry_is : done.entry ≡ works.committed.wrote.entry
+  pub other_is : done.other ≡ told_there works.committed.wrote.job works.other_end.wrote
+  pub kind_is : done.reply.kind ≡ works.committed.kind
+  pub written_is : done.reply.written ≡ written_by works.committed.wrote.retry works.other_end.told works.committed.wrote.entry
   pub hops_is : done.reply.hops ≡ hops_between old.scene.link new.scene.link
 
 -- ---- a write that was refused
@@ -155,12 +152,6 @@ StoreRefuses tells asked (KeeperFault count) old new = (count ≡ new.faults) ×
 StoreRefuses tells asked (LinkFault count when) old new = ⊥
 StoreRefuses tells asked (Unsettled shard why) old new = ⊥
 
--- no node, no inbox and no table changed
-pub record ChangesNoNode (tells : Bool) (old new : Posting) : Type 0 where
-  pub fleet : new.scene.fleet ≡ old.scene.fleet
-  pub inboxes : new.inboxes ≡ old.inboxes
-  pub tables : KeepsTables tells old.scene.keepers new.scene.keepers
-
 -- the way there failed, and nothing changed
 pub record FailsThere (tells : Bool) (route : Route) (when : When) (old new : Posting) : Type 0 where
   pub before : when ≡ Before
@@ -169,14 +160,12 @@ pub record FailsThere (tells : Bool) (route : Route) (when : When) (old new : Po
 
 -- the way back failed: the write stands, at the position that the reply tells where there is an entry. The follower's items stay
 pub record FailsBack (tells : Bool) (s : Settings) (route : Route) (call : ClientWrite) (when : When) (old new : Posting) : Type 0 where
-  pub entry : Option Entry
-  pub retry : Bool
-  pub when_is : when ≡ when_of entry
-  pub carry : FailsCarry route.leader route.follower (after_carry old.scene.link) new.scene.link
-  pub commits : Commits tells s call retry entry old.scene.keepers new.scene.keepers
-  pub leader : LeaderTakes (types_of s.schema) route (write_shard call.write) entry old.scene.fleet new.scene.fleet
-  pub followers : new.scene.fleet.followers ≡ old.scene.fleet.followers
-  pub told : TellsOfNew old.states (write_shard call.write) (new_entry retry entry) old.inboxes new.inboxes
+  pub worked_off : Posting
+  pub works : IsWorkedOff tells s route call old worked_off
+  pub when_is : when ≡ when_of works.committed.wrote.entry
+  pub carry : FailsCarry route.leader route.follower worked_off.scene.link new.scene.link
+  pub fleet : new.scene.fleet ≡ worked_off.scene.fleet
+  pub rest : AppliesAlone worked_off new
 
 -- why a write was not committed: its way there failed, or the store refused it. Nothing changed
 abbrev pub NotCommitted : Bool → Settings → Route → ClientWrite → StoreRefused → Posting → Posting → Type 0

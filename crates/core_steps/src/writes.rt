@@ -1,30 +1,34 @@
 //! The writes of sessions.
-ghost use Rattle.std.specs.Prelude.{◌≡◌, ◌<◌, IfErr, IfOk, IfSome, IsTrue, OnErr, OnOk, Some};
+ghost use Rattle.std.specs.Prelude.{◌≡◌, ◌<◌, ◌-◌, IfErr, IfOk, IfSome, IsTrue, OnErr, OnOk};
 ghost use Rattle.core_model.specs.Consistent.{GoesOn, IsConsistent, IsFleetOf};
-ghost use Rattle.core_model.specs.Fleet.{names_of, regions_of};
 ghost use Rattle.core_model.specs.Growing.{MastersGrow};
-ghost use Rattle.core_model.specs.Pens.{IsSeen, Pens, pens_of};
+ghost use Rattle.core_model.specs.Jobs.{CanBeMerged, job_on};
+ghost use Rattle.core_model.specs.Pens.{pens_of};
 ghost use Rattle.core_model.specs.Serving.{IsFollowerFor, IsLeaderFor};
 ghost use Rattle.core_model.specs.Writes.{IsSeenEntry};
 ghost use Rattle.core_steps.specs.Routes.{FailsCarry, scene};
-ghost use Rattle.core_mail.specs.Inboxes.{AreInboxesOf, cache_names};
-ghost use Rattle.core_steps.specs.Writes.{CanBeApplied, FollowerTakes, IsCommitted, RefusesCommit, TellsOfNew, WritesAlong, client_call, new_entry, posting};
+ghost use Rattle.core_mail.specs.Inboxes.{AreInboxesOf};
+ghost use Rattle.core_steps.specs.CarriedOut.{IsCarriedOut, WorksOffAs};
+ghost use Rattle.core_steps.specs.OtherEnds.{StandsThere};
+ghost use Rattle.core_steps.specs.Posting.{posting};
+ghost use Rattle.core_steps.specs.Writes.{CanBeApplied, FollowerTakes, IsCommitted, RefusesCommit, WritesAlong, client_call};
 ghost use Rattle.graph_model.specs.Soundness.{is_client};
-ghost use Rattle.shard_tables.specs.Written.{HasEntry, LiesOn, StandsIn};
+ghost use Rattle.shard_tables.specs.Written.{LiesOn, StandsIn};
 ghost use Rattle.tao_base.specs.Writes.{ChangesType, write_shard};
+ghost use Rattle.tao_keeper.specs.Given.{IsGivenJob};
 ghost use Rattle.tao_keeper.specs.KeeperState.{IsLater};
 ghost use Rattle.tao_link.specs.Shown.{after_carry};
 ghost use Rattle.tao_schema.specs.Schema.{types_of};
 ghost use Rattle.topology.specs.States.{all_up};
-ghost use Rattle.write_model.specs.Writes.{FitsWrite};
-ghost use Rattle.write_plan.specs.Committing.{told_kind};
 ghost use Rattle.write_plan.specs.Plans.{when_of, written_by};
 
+use crate::jobs::{OtherEndDone, ToldEntry, told_there, work_off};
 use crate::refusals::{link_fault, refused_as};
 use crate::routes::{Route, carry};
+use crate::telling::tell_of_new;
 use core_mail::Mail;
 use core_nodes::Fleet;
-use replies::{InverseEnd, Reply, When, WriteReply, Written};
+use replies::{InverseEnd, Refusal, Reply, StoreRefused, When, WriteReply, Written};
 use shard_log::Note;
 use shard_tables::Wrote;
 use std::alloc::Global;
@@ -32,27 +36,41 @@ use tao_base::{Entry, Origin, Write};
 use tao_keeper::Keeper;
 use tao_link::{Link, LinkFailed};
 use topology::{Config, Topology};
-use write_plan::told_kind;
+use write_plan::Committed;
 
-/// A write that was carried out: what its reply says, and the entry that was written, or that stood there, where there is one.
+/// A write that was carried out: what its reply says, the entry that was written, or that stood there, where there is one, and the entry
+/// that was written at the other end by this call.
 #[derive(Drop)]
 pub struct CarriedOut {
     pub reply: WriteReply,
     pub entry: Option<Entry>,
+    pub other: Option<ToldEntry>,
 }
 
-/// What was written. No type has an inverse yet.
-fn written_of(retry: bool, entry: &Option<Entry>) -> Written
-    ensures { result ≡ written_by retry InverseEnd.None entry.now }
+/// What was done of a write before its way back: what its commit answered, and what became of its other end.
+#[derive(Drop)]
+struct WorkedOff {
+    committed: Committed,
+    other: OtherEndDone,
+}
+
+/// What was written.
+fn written_of(retry: bool, told: InverseEnd, entry: &Option<Entry>) -> Written
+    ensures { result ≡ written_by retry told entry.now }
 {
-    Written {
-        changed: entry.is_some(),
-        inverse: InverseEnd::None,
-        position: match entry {
-            Some(entry) => entry.position,
-            None => 0,
+    match entry {
+        Some(Entry { position, .. }) => Written {
+            changed: true,
+            inverse: told,
+            position: *position,
+            retry,
         },
-        retry,
+        None => Written {
+            changed: false,
+            inverse: InverseEnd::None,
+            position: 0,
+            retry,
+        },
     }
 }
 
@@ -65,21 +83,6 @@ fn when_of(entry: &Option<Entry>) -> When
             position: entry.position,
         },
         None => When::Before,
-    }
-}
-
-/// The reply to a write that was carried out.
-fn write_reply(write: &Write, retry: bool, entry: &Option<Entry>, hops: u64) -> WriteReply
-    requires fits { IfSome entry.now (λ e. FitsWrite e write.now) }
-    requires entry { HasEntry write.now entry.now }
-    ensures kind { told_kind write.now entry.now ≡ Some result.kind }
-    ensures written { result.written ≡ written_by retry InverseEnd.None entry.now }
-    ensures hops { result.hops ≡ hops }
-{
-    WriteReply {
-        kind: told_kind(write, entry),
-        written: written_of(retry, entry),
-        hops,
     }
 }
 
@@ -136,41 +139,6 @@ pub fn apply_over<L: Link>(
     Ok(())
 }
 
-/// Tells the followers of the master's region of an entry that is new.
-fn tell_of_new(
-    alloc: Global,
-    mail: &mut Mail,
-    config: &Config,
-    topology: &Topology,
-    shard: u16,
-    wrote: &mut Wrote,
-)
-    requires here { shard < config.now.shards }
-    requires own { topology.now.regions ≡ regions_of config.now }
-    requires names { names_of mail.old ≡ cache_names config.now }
-    requires stands { IfSome wrote.old.entry (StandsIn wrote.old.note) }
-    requires lies { IfSome wrote.old.entry (LiesOn wrote.old.note shard) }
-    ensures told { TellsOfNew topology.now shard (new_entry wrote.old.retry wrote.old.entry) mail.old mail.new }
-    ensures same { wrote.new ≡ wrote.old }
-    ensures of { (pens : Pens) → IsSeen pens shard wrote.old.note → AreInboxesOf config.now pens mail.old → AreInboxesOf config.now pens mail.new }
-{
-    if wrote.retry {
-        return;
-    }
-    if let Some(entry) = &wrote.entry {
-        let region = topology.master(shard);
-        mail.send(
-            alloc,
-            config,
-            topology,
-            region,
-            shard,
-            entry,
-            &mut wrote.note,
-        );
-    }
-}
-
 /// The stage `commit`: the write of a client is carried to the leader, which writes to the shard's store and takes what was written.
 /// Of a new entry each follower of the master's region that serves the shard and is up is told, by a message.
 ///
@@ -198,6 +166,8 @@ pub fn commit_over<K: Keeper, L: Link>(
         (posting (scene fleet.old (K.state keepers.old) (L.shown link.old)) mail.old topology.now)
         (posting (scene fleet.new (K.state keepers.new) (L.shown link.new)) mail.new topology.now)) }
     ensures apply { IfOk result (λ wrote. CanBeApplied (client_call origin write.now) wrote fleet.new.masters) }
+    ensures job { IfOk result (λ wrote. IfSome wrote.job (λ job.
+        CanBeMerged K.TELLS config.now (K.state keepers.new).told (job_on (write_shard write.now) job))) }
     ensures refused { IfErr result (λ reply. RefusesCommit K.TELLS config.now route (client_call origin write.now) reply
         (posting (scene fleet.old (K.state keepers.old) (L.shown link.old)) mail.old topology.now)
         (posting (scene fleet.new (K.state keepers.new) (L.shown link.new)) mail.new topology.now)) }
@@ -220,15 +190,114 @@ pub fn commit_over<K: Keeper, L: Link>(
     }
 }
 
-/// Makes the write of a client along its route: over the link the leader writes to the shard's store and takes what was written, and
-/// over the link back the follower takes the changes. The followers of the master's region are told of a new entry.
+/// Makes the write at the leader of its route, and does what can be done of its other end.
+fn commit_and_work_off<K: Keeper, L: Link>(
+    alloc: Global,
+    fleet: &mut Fleet,
+    mail: &mut Mail,
+    config: &Config,
+    topology: &Topology,
+    keepers: &mut K,
+    link: &mut L,
+    route: Route,
+    origin: Origin,
+    write: &Write,
+) -> Result<WorkedOff, Reply>
+    requires consistent { IsConsistent K.TELLS config.now (K.state keepers.old).told fleet.old }
+    requires inboxes { AreInboxesOf config.now (pens_of fleet.old.masters) mail.old }
+    requires states { topology.now ≡ all_up config.now }
+    requires client { IsTrue (is_client origin) }
+    requires changes { ChangesType (types_of config.now.schema) write.now }
+    requires leader { IsLeaderFor config.now (write_shard write.now) route.leader }
+    ensures works { IfOk result (λ done. WorksOffAs K.TELLS config.now route (client_call origin write.now) done
+        (posting (scene fleet.old (K.state keepers.old) (L.shown link.old)) mail.old topology.now)
+        (posting (scene fleet.new (K.state keepers.new) (L.shown link.new)) mail.new topology.now)) }
+    ensures apply { IfOk result (λ done. CanBeApplied (client_call origin write.now) done.committed.wrote fleet.new.masters) }
+    ensures given { IfOk result (λ done. IfSome done.committed.wrote.job IsGivenJob) }
+    ensures other { IfOk result (λ done. IfSome done.committed.wrote.job (λ job. StandsThere config.now job done.other.wrote fleet.new.masters)) }
+    ensures refused { IfErr result (λ reply. RefusesCommit K.TELLS config.now route (client_call origin write.now) reply
+        (posting (scene fleet.old (K.state keepers.old) (L.shown link.old)) mail.old topology.now)
+        (posting (scene fleet.new (K.state keepers.new) (L.shown link.new)) mail.new topology.now)) }
+    ensures consistent { IsConsistent K.TELLS config.now (K.state keepers.new).told fleet.new }
+    ensures inboxes { AreInboxesOf config.now (pens_of fleet.new.masters) mail.new }
+    ensures goes { GoesOn fleet.old fleet.new }
+    ensures grows { MastersGrow K.TELLS config.now (K.state keepers.old).told (K.state keepers.new).told }
+    ensures later { IsLater (K.state keepers.old) (K.state keepers.new) }
+{
+    let wrote = commit_over(
+        alloc, fleet, mail, config, topology, keepers, link, route, origin, write,
+    )?;
+    let committed = Committed::of(&config.schema, write, wrote, route.leader, None);
+    let shard = write.shard();
+    let other = work_off(
+        alloc, fleet, mail, config, topology, keepers, link, shard, &committed,
+    );
+    Ok(WorkedOff { committed, other })
+}
+
+/// Brings a write back to the follower of its route, after so many carries of the link, which takes the changes.
+fn come_back<L: Link>(
+    fleet: &mut Fleet,
+    config: &Config,
+    link: &mut L,
+    route: Route,
+    shard: u16,
+    carries: u64,
+    done: WorkedOff,
+) -> Result<CarriedOut, Reply>
+    requires fleet { IsFleetOf config.now fleet.old }
+    requires follower { IsFollowerFor config.now shard route.follower }
+    requires seen { IfSome done.committed.wrote.entry (IsSeenEntry (pens_of fleet.old.masters) shard done.committed.wrote.note) }
+    requires here { IfSome done.committed.wrote.entry (LiesOn done.committed.wrote.note shard) }
+    requires given { IfSome done.committed.wrote.job IsGivenJob }
+    ensures carried { OnOk result (L.shown link.new ≡ after_carry (L.shown link.old)) }
+    ensures takes { OnOk result (FollowerTakes (types_of config.now.schema) route shard done.committed.wrote.entry fleet.old fleet.new) }
+    ensures out { IfOk result (λ out. IsCarriedOut done ((L.shown link.new).carries - carries) out) }
+    ensures reply { IfErr result (λ reply. reply ≡
+        Reply.Refused (Refusal.Store (StoreRefused.LinkFault (L.shown link.new).faults (when_of done.committed.wrote.entry)))) }
+    ensures failed { OnErr result (FailsCarry route.leader route.follower (L.shown link.old) (L.shown link.new)) }
+    ensures stays { OnErr result (fleet.new ≡ fleet.old) }
+    ensures rest { fleet.new ≡ record fleet.old { followers = fleet.new.followers } }
+    ensures fleet { IsFleetOf config.now fleet.new }
+    ensures goes { GoesOn fleet.old fleet.new }
+{
+    let WorkedOff { committed, other } = done;
+    let Committed { wrote, kind, .. } = committed;
+    let Wrote {
+        entry,
+        retry,
+        note,
+        job,
+    } = wrote;
+    match apply_over(fleet, config, link, route, shard, &entry, note) {
+        Ok(()) => {
+            let reply = WriteReply {
+                kind,
+                written: written_of(retry, other.told, &entry),
+                hops: link.carries().saturating_sub(carries),
+            };
+            let other = told_there(&job, other.wrote);
+            Ok(CarriedOut {
+                reply,
+                entry,
+                other,
+            })
+        }
+        Err(LinkFailed) => Err(link_fault(link.faults(), when_of(&entry))),
+    }
+}
+
+/// Makes the write of a client along its route: over the link the leader writes to the shard's store and takes what was written. Where
+/// that owes a job to another shard, the job is merged there and ended. Over the link back the follower takes the changes. The followers
+/// of the master's region are told of a new entry, at both ends.
 ///
 /// Refused as the store refuses it, with nothing changed. `LinkFault` comes only where the link's count of faults rose: at the way
 /// there nothing was written; at the way back the write stands, at the position that it tells. Nothing but the link fails once the
-/// entry is written. Want of memory comes before.
+/// entry is written: where the job could not be merged or ended, it stays open, and the reply tells the inverse as scheduled. Want of
+/// memory comes before.
 ///
-/// What was carried out tells the reply, and the entry, which stands in the shard's log. Costs what `Leader::write` does, a message for
-/// each tier of the region, and a look-up at the follower for each touch.
+/// What was carried out tells the reply, and the entries, which stand in their shards' logs. Costs what `Leader::write` and `Leader::merge`
+/// do, a message for each tier of the region, and a look-up at the follower for each touch.
 pub fn write_along<K: Keeper, L: Link>(
     alloc: Global,
     fleet: &mut Fleet,
@@ -252,6 +321,8 @@ pub fn write_along<K: Keeper, L: Link>(
         (posting (scene fleet.old (K.state keepers.old) (L.shown link.old)) mail.old topology.now)
         (posting (scene fleet.new (K.state keepers.new) (L.shown link.new)) mail.new topology.now) }
     ensures stands { IfOk result (λ done. IfSome done.entry (StandsIn (pens_of fleet.new.masters (write_shard write.now)))) }
+    ensures other { IfOk result (λ done. IfSome done.other (λ t.
+        (t.shard < config.now.shards) × IsSeenEntry (pens_of fleet.new.masters) t.shard t.note t.entry)) }
     ensures consistent { IsConsistent K.TELLS config.now (K.state keepers.new).told fleet.new }
     ensures inboxes { AreInboxesOf config.now (pens_of fleet.new.masters) mail.new }
     ensures goes { GoesOn fleet.old fleet.new }
@@ -259,25 +330,8 @@ pub fn write_along<K: Keeper, L: Link>(
     ensures later { IsLater (K.state keepers.old) (K.state keepers.new) }
 {
     let carries = link.carries();
-    match commit_over(
+    let done = commit_and_work_off(
         alloc, fleet, mail, config, topology, keepers, link, route, origin, write,
-    ) {
-        Ok(wrote) => {
-            let Wrote {
-                entry,
-                retry,
-                note,
-                ..
-            } = wrote;
-            match apply_over(fleet, config, link, route, write.shard(), &entry, note) {
-                Ok(()) => {
-                    let hops = link.carries().saturating_sub(carries);
-                    let reply = write_reply(write, retry, &entry, hops);
-                    Ok(CarriedOut { reply, entry })
-                }
-                Err(LinkFailed) => Err(link_fault(link.faults(), when_of(&entry))),
-            }
-        }
-        Err(reply) => Err(reply),
-    }
+    )?;
+    come_back(fleet, config, link, route, write.shard(), carries, done)
 }

@@ -4,12 +4,16 @@ use Rattle.shard_tables.specs.Written.{LiesOn, added_entry}
 use Rattle.tao_base.specs.Writes.{write_shard}
 use Rattle.tao_schema.specs.Schema.{types_of}
 use Rattle.core_mail.proofs.InboxLemmas.{inboxes_stay}
+use Rattle.core_model.proofs.KeptStores.{sound_logs}
+use Rattle.core_model.specs.Jobs.{CanBeMerged, job_on}
 use Rattle.core_model.specs.Pens.{IsSeen, pens_of}
 use Rattle.core_model.specs.Stores.{master_store}
 use Rattle.core_steps.specs.Replies.{refused_as}
 use Rattle.core_steps.specs.Routes.{scene}
-use Rattle.core_steps.specs.Writes.{CanBeApplied, IsCommitted, RefusesCommit, TellsOfNew, client_call, new_entry, posting}
+use Rattle.core_steps.specs.Posting.{TellsOfNew, posting}
+use Rattle.core_steps.specs.Writes.{CanBeApplied, IsCommitted, RefusesCommit, client_call, new_entry}
 use Rattle.core_steps.proofs.GrowingLemmas.{gains_masters}
+use Rattle.core_steps.proofs.MergeLemmas.{can_merge}
 use Rattle.core_steps.proofs.StepLemmas.{commits}
 use Rattle.core_steps.proofs.WriteLemmas.{refused, stands_there}
 use Rattle.core_steps.proofs.writes.commit_over.Goals as goal
@@ -42,7 +46,7 @@ returns-in-Ok-clause-committed g c =
     let new = posting (scene c.commit.new.self (state c.commit.new.keepers) (g.L.Link.shown c.carry.new.link)) c.tell_of_new.new.mail c.args.topology.now in
     let is : IsCommitted g.K.Keeper.TELLS s c.args.route call wrote old new = record {
       commits = commits s (state c.args.keepers.now) (state c.commit.new.keepers) call c.requires.leader.here g.K.Keeper.TELLS wrote.retry wrote.entry
-          (λ told. c.requires.consistent.stores.sound told shard c.requires.leader.here)
+          (λ told. sound_logs s (state c.args.keepers.now).told (c.requires.consistent.stores.kept told) shard c.requires.leader.here)
           (λ told. g.met.K.Keeper.of_entries c.args.keepers.now (master_store s shard) told) c.in-Ok.ensures.answer c.in-Ok.ensures.tables;
       leader = record { note = wrote.note; takes = c.in-Ok.ensures.node };
       followers = c.in-Ok.ensures.followers;
@@ -50,6 +54,8 @@ returns-in-Ok-clause-committed g c =
           c.tell_of_new.ensures.told;
       states = refl;
       link = c.in_default.ensures.ok;
+      opens = c.in-Ok.ensures.job;
+      finds = c.in-Ok.ensures.found;
     } in
     subst (λ w. IsCommitted g.K.Keeper.TELLS s c.args.route call w old new) (sym c.tell_of_new.ensures.same) is
 
@@ -63,6 +69,14 @@ returns-in-Ok-clause-apply g c =
       here = c.in-Ok.ensures.here;
     } in
     subst (λ w. CanBeApplied call w c.commit.new.self.masters) (sym c.tell_of_new.ensures.same) can
+
+pub returns-in-Ok-clause-job : goal.returns-in-Ok-clause-job
+returns-in-Ok-clause-job g c =
+    let tables = (g.K.Keeper.state c.commit.new.keepers).told in
+    let shard = write_shard c.args.write.now in
+    let s = c.args.config.now in
+    subst (λ w. IfSome w.job (λ job. CanBeMerged g.K.Keeper.TELLS s tables (job_on shard job))) (sym c.tell_of_new.ensures.same)
+    (can_merge g.K.Keeper.TELLS s tables shard c.in-Ok.wrote.job c.in-Ok.ensures.given c.in-Ok.ensures.owes)
 
 pub returns-in-Ok-clause-inboxes : goal.returns-in-Ok-clause-inboxes
 returns-in-Ok-clause-inboxes g c =

@@ -1,0 +1,138 @@
+-- What the stages of a job come to.
+use Rattle.std.proofs.Common.{◌≡◌, ◌≢◌, ℕ, ◌<◌, Bool, Option, Some, None, Result, Ok, Err, IfSome, sym, ap, subst, ◌∙◌, inl, inr}
+use Rattle.std.specs.Prelude.{IfErr, IfOk, IsTrue, OnErr, OnOk, ⊤}
+use Rattle.graph_model.specs.Told.{WhereTold}
+use Rattle.node_name.specs.declared.NodeName.{NodeName}
+use Rattle.replies.specs.declared.calls.ScheduledWhy.TheVariants as reason
+use Rattle.shard_tables.specs.declared.refusal.StoreRefusal.{StoreRefusal}
+use Rattle.shard_tables.specs.declared.refusal.StoreRefusal.TheVariants.{KeeperFault, LogFull, ShardFull, StampFull, SeqReused, OutOfMemory}
+use Rattle.shard_tables.specs.declared.writes.Wrote.{Wrote}
+use Rattle.tao_keeper.specs.Given.{IsGivenJob}
+use Rattle.tao_keeper.specs.KeeperState.{KeepsTables}
+use Rattle.tao_keeper.specs.Table.{Tables}
+use Rattle.tao_keeper.specs.declared.jobs.Job.{Job}
+use Rattle.tao_link.specs.Shown.{LinkShown, after_carry}
+use Rattle.tao_link.specs.declared.link.LinkFailed.{LinkFailed}
+use Rattle.topology.specs.Choices.{master_region, preferred_leader}
+use Rattle.topology.specs.Config.{Settings}
+use Rattle.topology.specs.States.{NodeStates, all_up, is_cache}
+use Rattle.write_plan.specs.declared.results.Late.{Late}
+use Rattle.write_plan.specs.declared.results.Late.TheVariants.{Scheduled, Refused}
+use Rattle.core_model.proofs.Turns.{choices_serve}
+use Rattle.core_model.specs.Jobs.{CanBeMerged, IsOwedJob, ShardJob, job_on}
+use Rattle.core_model.specs.Serving.{IsLeaderFor}
+use Rattle.core_steps.specs.MergeAnswers.{IsScheduled, RefusesMerge, merge_answer, told_after, why_late}
+use Rattle.core_steps.specs.OtherEnds.{Crosses, EndsOver, FailsToCross, GoesBetween, JobWay, LeavesJob}
+use Rattle.core_steps.specs.OtherEnds.{MayComeBack, MergesOver, TakesMerge, WorksOffJob, master_leader, merging_leader}
+use Rattle.core_steps.specs.Posting.{ChangesNoNode, Posting}
+use Rattle.core_steps.specs.Routes.{FailsCarry}
+use Rattle.core_steps.specs.declared.jobs.OtherEndDone.{OtherEndDone}
+
+-- ---- carries between two nodes that may be one
+
+module _ (from to : NodeName) (old mid new : LinkShown) where
+  pub goes_between : Crosses from to old mid → Crosses to from mid new → GoesBetween from to old new
+  goes_between (inl here) (inl back) = inl (here.0, back.1 ∙ here.1)
+  goes_between (inl here) (inr back) = absurd (back.0 (sym here.0))
+  goes_between (inr there) (inl back) = absurd (there.0 (sym back.0))
+  goes_between (inr there) (inr back) = inr (there.0, back.1 ∙ ap after_carry there.1)
+
+  pub fails_back : Crosses from to old mid → FailsToCross to from mid new → (from ≢ to) × FailsCarry to from (after_carry old) new
+  fails_back (inl here) back = absurd (back.0 (sym here.0))
+  fails_back (inr there) back = (there.0, subst (λ l. FailsCarry to from l new) there.1 back.1)
+
+-- ---- who merges
+
+-- the leader that the master's region prefers serves the shard
+pub merging_leads : (s : Settings) (states : NodeStates) (region shard : ℕ) (leader : NodeName) → states ≡ all_up s → shard < s.shards
+    → leader ≡ preferred_leader states region shard → IsTrue (is_cache states.regions leader) → IsLeaderFor s shard leader
+merging_leads s states region shard leader up here is cache =
+    subst (IsLeaderFor s shard) (sym is) ((choices_serve s states).leader region shard (ap (λ (n : NodeStates). n.regions) up) here
+    (subst (λ n. IsTrue (is_cache states.regions n)) is cache))
+
+-- and is the one that merges
+pub master_prefers : (states : NodeStates) (shard far region : ℕ) (leader : NodeName) → far ≡ shard → region ≡ master_region states far
+    → leader ≡ preferred_leader states region far → leader ≡ master_leader states shard
+master_prefers states shard far region leader far_is region_is is =
+    subst (λ n. leader ≡ master_leader states n) far_is (is ∙ ap (λ r. preferred_leader states r far) region_is)
+
+-- ---- what a commit owes can be merged
+
+pub can_merge : (tells : Bool) (s : Settings) (tables : Tables) (shard : ℕ) (job : Option Job) → IfSome job IsGivenJob
+    → WhereTold tells (IfSome job (λ j. IsOwedJob s tables (job_on shard j))) → IfSome job (λ j. CanBeMerged tells s tables (job_on shard j))
+can_merge tells s tables shard None given owed = tt
+can_merge tells s tables shard (Some job) given owed = record { given = given; owed = owed }
+
+-- ---- a merge over the link
+
+module _ (tells : Bool) (s : Settings) (way : JobWay) (old new : Posting) (mid : LinkShown) (to : NodeName) (to_is : to ≡ merging_leader old.states way)
+    (there : Crosses way.leader to old.scene.link mid) where
+  -- how the carry back went, after a merge that was refused
+  may_come_back : (back : Result ⊤ LinkFailed) → OnOk back (Crosses to way.leader mid new.scene.link)
+      → OnErr back (FailsToCross to way.leader mid new.scene.link)
+      → MayComeBack way.leader (merging_leader old.states way) old.scene.link new.scene.link
+  may_come_back (Ok done) crosses fails = subst (λ n. MayComeBack way.leader n old.scene.link new.scene.link) to_is
+      (inl (goes_between way.leader to old.scene.link mid new.scene.link there crosses))
+  may_come_back (Err lost) crosses fails = subst (λ n. MayComeBack way.leader n old.scene.link new.scene.link) to_is
+      (inr (fails_back way.leader to old.scene.link mid new.scene.link there fails))
+
+  late_merge : (r : StoreRefusal) → RefusesMerge tells s way.job r old.scene.keepers new.scene.keepers → ChangesNoNode tells old new
+      → MayComeBack way.leader (merging_leader old.states way) old.scene.link new.scene.link → LeavesJob tells s way (why_late r) None old new
+  late_merge KeeperFault cause same back = (cause, same, back)
+  late_merge (LogFull count) cause same back = ((λ told. (count, cause told)), same, back)
+  late_merge OutOfMemory cause same back = (same, back)
+  late_merge (SeqReused at) cause same back = absurd cause
+  late_merge (ShardFull serial) cause same back = absurd cause
+  late_merge (StampFull number) cause same back = absurd cause
+
+  answered : (merged : Result Wrote StoreRefusal) (back : Result ⊤ LinkFailed) → IfOk merged (λ wrote. TakesMerge tells s way wrote old new)
+      → IfErr merged (λ r. RefusesMerge tells s way.job r old.scene.keepers new.scene.keepers) → OnErr merged (new.scene.fleet ≡ old.scene.fleet)
+      → OnErr merged (new.inboxes ≡ old.inboxes) → OnErr merged (KeepsTables tells old.scene.keepers new.scene.keepers)
+      → OnOk back (Crosses to way.leader mid new.scene.link) → OnErr back (FailsToCross to way.leader mid new.scene.link)
+      → MergesOver tells s way (merge_answer merged back) old new
+  answered (Ok wrote) (Ok done) takes refuses fleet inboxes tables crosses fails = (
+    takes,
+    subst (λ n. GoesBetween way.leader n old.scene.link new.scene.link) to_is
+        (goes_between way.leader to old.scene.link mid new.scene.link there crosses),
+  )
+  answered (Ok wrote) (Err lost) takes refuses fleet inboxes tables crosses fails =
+      let back : (way.leader ≢ merging_leader old.states way)
+      × FailsCarry (merging_leader old.states way) way.leader (after_carry old.scene.link) new.scene.link =
+      subst (λ n. (way.leader ≢ n) × FailsCarry n way.leader (after_carry old.scene.link) new.scene.link) to_is
+      (fails_back way.leader to old.scene.link mid new.scene.link there fails) in
+      (back.0, back.1, takes)
+  answered (Err r) back takes refuses fleet inboxes tables crosses fails =
+      late_merge r refuses (record { fleet = fleet; inboxes = inboxes; tables = tables }) (may_come_back back crosses fails)
+
+  pub merges_over : (result : Result Wrote Late) (merged : Result Wrote StoreRefusal) (back : Result ⊤ LinkFailed) → result ≡ merge_answer merged back
+      → IfOk merged (λ wrote. TakesMerge tells s way wrote old new)
+      → IfErr merged (λ r. RefusesMerge tells s way.job r old.scene.keepers new.scene.keepers) → OnErr merged (new.scene.fleet ≡ old.scene.fleet)
+      → OnErr merged (new.inboxes ≡ old.inboxes) → OnErr merged (KeepsTables tells old.scene.keepers new.scene.keepers)
+      → OnOk back (Crosses to way.leader mid new.scene.link) → OnErr back (FailsToCross to way.leader mid new.scene.link)
+      → MergesOver tells s way result old new
+  merges_over result merged back is takes refuses fleet inboxes tables crosses fails =
+      subst (λ r. MergesOver tells s way r old new) (sym is) (answered merged back takes refuses fleet inboxes tables crosses fails)
+
+-- ---- both
+
+-- a job that isn't ended is late
+pub ends_scheduled : (tells : Bool) (s : Settings) (j : ShardJob) (old new : Posting) (ended : Result ⊤ Late) → EndsOver tells s j ended old new
+    → IfErr ended IsScheduled
+ends_scheduled tells s j old new (Ok done) ends = tt
+ends_scheduled tells s j old new (Err (Scheduled why wrote)) ends = tt
+ends_scheduled tells s j old new (Err (Refused reply)) ends = absurd ends
+
+-- one that was merged is ended, or late
+module _ (tells : Bool) (s : Settings) (way : JobWay) (old between new : Posting) where
+  pub works_off : (wrote : Wrote) (ended : Result ⊤ Late) (done : OtherEndDone) → MergesOver tells s way (Ok wrote) old between
+      → EndsOver tells s way.job ended between new → done.told ≡ told_after ended → done.wrote ≡ Some wrote → WorksOffJob tells s way done old new
+  works_off wrote (Ok one) done merges ends told_is wrote_is =
+      inl (record { wrote = wrote; between = between; merges = merges; ends = ends; wrote_is = wrote_is; told_is = told_is })
+  works_off wrote (Err (Scheduled why None)) done merges ends told_is wrote_is =
+      inr (inl (record { wrote = wrote; why = why; between = between; merges = merges; ends = ends; wrote_is = wrote_is; told_is = told_is }))
+  works_off wrote (Err (Scheduled reason.LinkFault (Some more))) done merges ends told_is wrote_is = absurd ends
+  works_off wrote (Err (Scheduled reason.KeeperFault (Some more))) done merges ends told_is wrote_is = absurd ends
+  works_off wrote (Err (Scheduled reason.LogFull (Some more))) done merges ends told_is wrote_is = absurd ends
+  works_off wrote (Err (Scheduled reason.NoServer (Some more))) done merges ends told_is wrote_is = absurd ends
+  works_off wrote (Err (Scheduled reason.Memory (Some more))) done merges ends told_is wrote_is = absurd ends
+  works_off wrote (Err (Refused reply)) done merges ends told_is wrote_is = absurd ends

@@ -1,0 +1,39 @@
+use Rattle.std.proofs.Common.{◌<◌, subst}
+use Rattle.topology.specs.Config.{Settings}
+use Rattle.core_model.specs.Jobs.{far_shard, job_on}
+use Rattle.core_model.specs.Serving.{IsLeaderFor}
+use Rattle.core_steps.specs.OtherEnds.{job_way}
+use Rattle.core_steps.specs.Posting.{posting}
+use Rattle.core_steps.specs.Routes.{scene}
+use Rattle.core_steps.proofs.MergeLemmas.{master_prefers, merges_over, merging_leads}
+use Rattle.core_steps.proofs.jobs.merge_over.Goals as goal
+
+pub merge_at-merged-requires-clause-leader : goal.merge_at-merged-requires-clause-leader
+merge_at-merged-requires-clause-leader g c =
+    subst (λ n. IsLeaderFor c.args.config.now n c.preferred-merging.result) c.far_shard-far.ensures
+    (merging_leads c.args.config.now c.args.topology.now c.master.result c.far_shard-far.result c.preferred-merging.result c.requires.states
+    (subst (λ (s : Settings). c.far_shard-far.result < s.shards) c.config.view_is c.if-far-config.false)
+    c.preferred-merging.ensures.preferred (c.preferred-merging.ensures.configured c.master.ensures.configured))
+
+pub merge_at-merged-requires-clause-preferred : goal.merge_at-merged-requires-clause-preferred
+merge_at-merged-requires-clause-preferred g c =
+    master_prefers c.args.topology.now (far_shard c.args.job.now) c.far_shard-far.result c.master.result c.preferred-merging.result c.far_shard-far.ensures
+    c.master.ensures.master c.preferred-merging.ensures.preferred
+
+pub returns-clause-merges : goal.returns-clause-merges
+returns-clause-merges g c =
+    let state = g.K.Keeper.state in
+    let shown = g.L.Link.shown in
+    let s = c.args.config.now in
+    let way = job_way c.args.leader (job_on c.args.shard c.args.job.now) in
+    let merged = c.merge_at-merged in
+    let before = shown c.args.link.now in
+    let after = shown c.carry_between-back.new.link in
+    let old = posting (scene c.args.fleet.now (state c.args.keepers.now) before) c.args.mail.now c.args.topology.now in
+    let new = posting (scene merged.new.fleet (state merged.new.keepers) after) merged.new.mail c.args.topology.now in
+    let to_is = master_prefers c.args.topology.now (far_shard c.args.job.now) c.far_shard-far.result c.master.result c.preferred-merging.result
+    c.far_shard-far.ensures c.master.ensures.master c.preferred-merging.ensures.preferred in
+    merges_over g.K.Keeper.TELLS s way old new (shown c.carry_between.new.link) c.preferred-merging.result to_is c.in_default.ensures.crosses
+    c.merge_answer.result merged.result c.carry_between-back.result c.merge_answer.ensures (merged.ensures.takes c.args.leader before after)
+    merged.ensures.refused merged.ensures.same merged.ensures.untold merged.ensures.tables c.carry_between-back.ensures.crosses
+    c.carry_between-back.ensures.fails

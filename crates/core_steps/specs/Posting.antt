@@ -1,0 +1,46 @@
+-- What a write sees, and what nodes and inboxes take of it.
+use Rattle.std.specs.Prelude.{ℕ, ◌≡◌, Bool, Option, Some, None}
+use Rattle.core_mail.specs.Inboxes.{Inboxes, Sends, message_of}
+use Rattle.core_model.specs.Fleet.{ChangesNode, Fleet}
+use Rattle.core_model.specs.Messages.{told_of}
+use Rattle.leader_tier.specs.TakenWrites.{TakesWritten}
+use Rattle.node_name.specs.declared.NodeName.{NodeName}
+use Rattle.shard_log.specs.View.{View}
+use Rattle.tao_base.specs.EdgeTypes.{EdgeTypes}
+use Rattle.tao_base.specs.declared.entry.Entry.{Entry}
+use Rattle.tao_keeper.specs.KeeperState.{KeepsTables}
+use Rattle.topology.specs.Choices.{master_region}
+use Rattle.topology.specs.States.{NodeStates}
+use Rattle.core_steps.specs.Routes.{Scene}
+
+-- what a write sees: its scene, the messages that wait, and which nodes are up
+pub record Posting : Type 0 where
+  pub scene : Scene
+  pub inboxes : Inboxes
+  pub states : NodeStates
+
+abbrev pub posting : Scene → Inboxes → NodeStates → Posting
+posting scene inboxes states = record { scene = scene; inboxes = inboxes; states = states }
+
+-- the leader that wrote takes the entry, where there is one, and marks it
+pub record LeaderTakes (types : EdgeTypes) (leader : NodeName) (shard : ℕ) (entry : Option Entry) (old new : Fleet) : Type 0 where
+  pub note : View
+  pub takes : ChangesNode leader (TakesWritten types shard entry note) old.leaders new.leaders
+
+-- of an entry that the log gained the followers of the master's region are told, and of no other
+abbrev pub TellsOfNew : NodeStates → ℕ → Option Entry → Inboxes → Inboxes → Type 0
+TellsOfNew states shard None old new = new ≡ old
+TellsOfNew states shard (Some e) old new =
+    (note : View) × Sends (told_of states (master_region states shard) shard) (message_of shard e note) old new
+
+-- no node, no inbox and no table changed
+pub record ChangesNoNode (tells : Bool) (old new : Posting) : Type 0 where
+  pub fleet : new.scene.fleet ≡ old.scene.fleet
+  pub inboxes : new.inboxes ≡ old.inboxes
+  pub tables : KeepsTables tells old.scene.keepers new.scene.keepers
+
+-- no node but followers changed, nor any table nor message
+pub record AppliesAlone (old new : Posting) : Type 0 where
+  pub fleet : new.scene.fleet ≡ record old.scene.fleet { followers = new.scene.fleet.followers }
+  pub keepers : new.scene.keepers ≡ old.scene.keepers
+  pub inboxes : new.inboxes ≡ old.inboxes

@@ -1,0 +1,357 @@
+//! The stages of a write's other end: its job is merged at the other shard, and then ended.
+ghost use Rattle.std.specs.Prelude.{◌≡◌, ◌<◌, IfErr, IfOk, IfSome, OnErr, OnOk, Some};
+ghost use Rattle.core_mail.specs.Inboxes.{AreInboxesOf, Inboxes};
+ghost use Rattle.core_model.specs.Consistent.{GoesOn, IsConsistent};
+ghost use Rattle.core_model.specs.Growing.{MastersGrow};
+ghost use Rattle.core_model.specs.Jobs.{CanBeMerged, IsMergedJob, far_shard, job_on};
+ghost use Rattle.core_model.specs.Pens.{pens_of};
+ghost use Rattle.core_model.specs.Serving.{IsLeaderFor};
+ghost use Rattle.core_steps.specs.MergeAnswers.{IsScheduled, LeavesOpen, RefusesMerge, late_as, merge_answer, told_after, why_late};
+ghost use Rattle.core_steps.specs.OtherEnds.{Crosses, EndsOver, FailsToCross, MergesOver, StandsThere, TakesMerge, WorksOffJob, WorksOffOf, job_way};
+ghost use Rattle.core_steps.specs.OtherEnds.{known_of, master_leader, told_there};
+ghost use Rattle.core_steps.specs.Posting.{posting};
+ghost use Rattle.core_steps.specs.Routes.{scene};
+ghost use Rattle.graph_model.specs.Told.{WhereTold};
+ghost use Rattle.node_name.specs.declared.NodeName.{NodeName as AnyNode};
+ghost use Rattle.shard_tables.specs.Jobs.{IsOfMerges};
+ghost use Rattle.tao_keeper.specs.Given.{IsGivenJob};
+ghost use Rattle.tao_keeper.specs.KeeperState.{IsLater, KeepsTables};
+ghost use Rattle.tao_link.specs.Shown.{LinkShown};
+ghost use Rattle.topology.specs.States.{NodeStates, all_up};
+
+use crate::routes::carry;
+use crate::telling::tell_of;
+use core_mail::Mail;
+use core_model::far_shard;
+use core_nodes::Fleet;
+use node_name::NodeName;
+use replies::{InverseEnd, ScheduledWhy};
+use shard_log::Note;
+use shard_tables::{StoreRefusal, Wrote};
+use std::alloc::Global;
+use tao_base::Entry;
+use tao_keeper::{Job, Keeper};
+use tao_link::{Link, LinkFailed};
+use topology::{Config, Topology};
+use write_plan::{Committed, Late};
+
+/// An entry of a shard's log, and a note that has seen it there.
+#[derive(Drop)]
+pub struct ToldEntry {
+    pub shard: u16,
+    pub entry: Entry,
+    pub note: Note,
+}
+
+/// What came of the other end of a write: how its reply tells the inverse, and what was written there, as far as that is known.
+#[derive(Drop)]
+pub struct OtherEndDone {
+    pub told: InverseEnd,
+    pub wrote: Option<Wrote>,
+}
+
+/// The entry that was written at the other end, where there is one.
+pub fn told_there(job: &Option<Job>, wrote: Option<Wrote>) -> Option<ToldEntry>
+    requires given { IfSome job.now IsGivenJob }
+    ensures { result ≡ told_there job.now wrote }
+{
+    let shard = far_shard(job.as_ref()?);
+    let Wrote { entry, note, .. } = wrote?;
+    Some(ToldEntry {
+        shard,
+        entry: entry?,
+        note,
+    })
+}
+
+/// Carries a call, or its answer, from one node to another, unless they are one.
+fn carry_between<L: Link>(link: &mut L, from: NodeName, to: NodeName) -> Result<(), LinkFailed>
+    ensures crosses { OnOk result (Crosses from to (L.shown link.old) (L.shown link.new)) }
+    ensures fails { OnErr result (FailsToCross from to (L.shown link.old) (L.shown link.new)) }
+{
+    if from == to {
+        return Ok(());
+    }
+    carry(link, from, to)
+}
+
+/// Why a job is late that the store refused to merge or to end.
+fn why_late(refusal: &StoreRefusal) -> ScheduledWhy
+    requires { IsOfMerges refusal.now }
+    ensures { result ≡ why_late refusal.now }
+{
+    match refusal {
+        StoreRefusal::KeeperFault => ScheduledWhy::KeeperFault,
+        StoreRefusal::LogFull { .. } => ScheduledWhy::LogFull,
+        StoreRefusal::OutOfMemory => ScheduledWhy::Memory,
+        _ => unreachable!(),
+    }
+}
+
+/// A job that stays open, which the store refused to merge or to end.
+fn late_as(refusal: StoreRefusal) -> Late
+    requires { IsOfMerges refusal }
+    ensures { result ≡ late_as refusal }
+{
+    Late::Scheduled {
+        why: why_late(&refusal),
+        wrote: None,
+    }
+}
+
+/// What a merge is answered, over the carry back.
+fn merge_answer(
+    merged: Result<Wrote, StoreRefusal>,
+    back: Result<(), LinkFailed>,
+) -> Result<Wrote, Late>
+    requires { IfErr merged IsOfMerges }
+    ensures { result ≡ merge_answer merged back }
+{
+    let wrote = match merged {
+        Ok(wrote) => wrote,
+        Err(refusal) => return Err(late_as(refusal)),
+    };
+    match back {
+        Ok(()) => Ok(wrote),
+        Err(LinkFailed) => Err(Late::Scheduled {
+            why: ScheduledWhy::LinkFault,
+            wrote: Some(wrote),
+        }),
+    }
+}
+
+/// Merges the job at the leader of the shard on which its records lie. Of a new entry the followers of the master's region are told.
+fn merge_at<K: Keeper>(
+    alloc: Global,
+    fleet: &mut Fleet,
+    mail: &mut Mail,
+    config: &Config,
+    topology: &Topology,
+    keepers: &mut K,
+    leader: NodeName,
+    shard: u16,
+    job: &Job,
+) -> Result<Wrote, StoreRefusal>
+    requires consistent { IsConsistent K.TELLS config.now (K.state keepers.old).told fleet.old }
+    requires inboxes { AreInboxesOf config.now (pens_of fleet.old.masters) mail.old }
+    requires states { topology.now ≡ all_up config.now }
+    requires leader { IsLeaderFor config.now (far_shard job.now) leader }
+    requires preferred { leader ≡ master_leader topology.now (far_shard job.now) }
+    requires job { CanBeMerged K.TELLS config.now (K.state keepers.old).told (job_on shard job.now) }
+    ensures takes { (by : AnyNode) (before after : LinkShown) → IfOk result (λ wrote.
+        TakesMerge K.TELLS config.now (job_way by (job_on shard job.now)) wrote
+        (posting (scene fleet.old (K.state keepers.old) before) mail.old topology.now)
+        (posting (scene fleet.new (K.state keepers.new) after) mail.new topology.now)) }
+    ensures refused { IfErr result (λ refusal.
+        RefusesMerge K.TELLS config.now (job_on shard job.now) refusal (K.state keepers.old) (K.state keepers.new)) }
+    ensures same { OnErr result (fleet.new ≡ fleet.old) }
+    ensures untold { OnErr result (mail.new ≡ mail.old) }
+    ensures tables { OnErr result (KeepsTables K.TELLS (K.state keepers.old) (K.state keepers.new)) }
+    ensures merged { WhereTold K.TELLS (OnOk result (IsMergedJob config.now (K.state keepers.new).told (job_on shard job.now))) }
+    ensures stands { IfOk result (λ wrote. StandsThere config.now job.now (Some wrote) fleet.new.masters) }
+    ensures consistent { IsConsistent K.TELLS config.now (K.state keepers.new).told fleet.new }
+    ensures inboxes { AreInboxesOf config.now (pens_of fleet.new.masters) mail.new }
+    ensures goes { GoesOn fleet.old fleet.new }
+    ensures grows { MastersGrow K.TELLS config.now (K.state keepers.old).told (K.state keepers.new).told }
+    ensures later { IsLater (K.state keepers.old) (K.state keepers.new) }
+{
+    let mut wrote = fleet.merge(alloc, config, keepers, leader, shard, job)?;
+    tell_of(alloc, mail, config, topology, far_shard(job), &mut wrote);
+    Ok(wrote)
+}
+
+/// The stage `inverse`: a job of a shard is carried from the leader that committed it to the one that the master's region prefers for the shard on
+/// which its records lie, which merges it and takes what was written, and the answer is carried back, also that of a merge that was refused.
+/// Where both are one node nothing is carried. Of a new entry the followers are told as after a write.
+///
+/// The job stays open. Whatever fails leaves it so: `LinkFault` only where the link's count of faults rose, `KeeperFault` only where the keepers'
+/// did, `LogFull` where the other shard's log has no room for the entry, `NoServer` where that shard isn't configured, `Memory` where there was none.
+/// What was written although its answer was lost is told. Costs what `Leader::merge` does, and a message for each tier of the region.
+pub fn merge_over<K: Keeper, L: Link>(
+    alloc: Global,
+    fleet: &mut Fleet,
+    mail: &mut Mail,
+    config: &Config,
+    topology: &Topology,
+    keepers: &mut K,
+    link: &mut L,
+    leader: NodeName,
+    shard: u16,
+    job: &Job,
+) -> Result<Wrote, Late>
+    requires consistent { IsConsistent K.TELLS config.now (K.state keepers.old).told fleet.old }
+    requires inboxes { AreInboxesOf config.now (pens_of fleet.old.masters) mail.old }
+    requires states { topology.now ≡ all_up config.now }
+    requires job { CanBeMerged K.TELLS config.now (K.state keepers.old).told (job_on shard job.now) }
+    ensures merges { MergesOver K.TELLS config.now (job_way leader (job_on shard job.now)) result
+        (posting (scene fleet.old (K.state keepers.old) (L.shown link.old)) mail.old topology.now)
+        (posting (scene fleet.new (K.state keepers.new) (L.shown link.new)) mail.new topology.now) }
+    ensures merged { WhereTold K.TELLS (OnOk result (IsMergedJob config.now (K.state keepers.new).told (job_on shard job.now))) }
+    ensures stands { StandsThere config.now job.now (known_of result) fleet.new.masters }
+    ensures consistent { IsConsistent K.TELLS config.now (K.state keepers.new).told fleet.new }
+    ensures inboxes { AreInboxesOf config.now (pens_of fleet.new.masters) mail.new }
+    ensures goes { GoesOn fleet.old fleet.new }
+    ensures grows { MastersGrow K.TELLS config.now (K.state keepers.old).told (K.state keepers.new).told }
+    ensures later { IsLater (K.state keepers.old) (K.state keepers.new) }
+{
+    let far = far_shard(job);
+    if far >= config.shards {
+        return Err(Late::Scheduled {
+            why: ScheduledWhy::NoServer,
+            wrote: None,
+        });
+    }
+    let merging = topology.preferred(topology.master(far), far);
+    if let Err(LinkFailed) = carry_between(link, leader, merging) {
+        return Err(Late::Scheduled {
+            why: ScheduledWhy::LinkFault,
+            wrote: None,
+        });
+    }
+    let merged = merge_at(
+        alloc, fleet, mail, config, topology, keepers, merging, shard, job,
+    );
+    let back = carry_between(link, merging, leader);
+    merge_answer(merged, back)
+}
+
+/// The stage `end`: a job that was merged is ended at its own shard. Whatever fails leaves it open: `KeeperFault` only where the keepers' count of
+/// faults rose, and `Memory` where there was none. One call of the keeper.
+pub fn end_over<K: Keeper>(
+    fleet: &mut Fleet,
+    config: &Config,
+    keepers: &mut K,
+    shard: u16,
+    job: &Job,
+) -> Result<(), Late>
+    requires consistent { IsConsistent K.TELLS config.now (K.state keepers.old).told fleet.old }
+    requires here { shard < config.now.shards }
+    requires merged { WhereTold K.TELLS (IsMergedJob config.now (K.state keepers.old).told (job_on shard job.now)) }
+    ensures ends { (link : LinkShown) (inboxes : Inboxes) (states : NodeStates) → EndsOver K.TELLS config.now (job_on shard job.now) result
+        (posting (scene fleet.old (K.state keepers.old) link) inboxes states) (posting (scene fleet.new (K.state keepers.new) link) inboxes states) }
+    ensures same { fleet.new ≡ fleet.old }
+    ensures consistent { IsConsistent K.TELLS config.now (K.state keepers.new).told fleet.new }
+    ensures grows { MastersGrow K.TELLS config.now (K.state keepers.old).told (K.state keepers.new).told }
+    ensures later { IsLater (K.state keepers.old) (K.state keepers.new) }
+{
+    match fleet.end_job(config, keepers, shard, job) {
+        Ok(()) => Ok(()),
+        Err(refusal) => Err(late_as(refusal)),
+    }
+}
+
+/// How the reply tells the inverse, once its job was merged, by what came of its end.
+fn told_after(ended: Result<(), Late>) -> InverseEnd
+    requires { IfErr ended IsScheduled }
+    ensures { result ≡ told_after ended }
+{
+    match ended {
+        Ok(()) => InverseEnd::Written,
+        Err(Late::Scheduled { why, .. }) => InverseEnd::Scheduled { why },
+        Err(Late::Refused(_)) => unreachable!(),
+    }
+}
+
+/// What came of the other end where the job stays open.
+fn left_open(late: Late) -> OtherEndDone
+    requires { IsScheduled late }
+    ensures { LeavesOpen late result }
+{
+    match late {
+        Late::Scheduled { why, wrote } => OtherEndDone {
+            told: InverseEnd::Scheduled { why },
+            wrote,
+        },
+        Late::Refused(_) => unreachable!(),
+    }
+}
+
+/// Merges a job, and then ends it.
+fn work_off_job<K: Keeper, L: Link>(
+    alloc: Global,
+    fleet: &mut Fleet,
+    mail: &mut Mail,
+    config: &Config,
+    topology: &Topology,
+    keepers: &mut K,
+    link: &mut L,
+    leader: NodeName,
+    shard: u16,
+    job: &Job,
+) -> OtherEndDone
+    requires consistent { IsConsistent K.TELLS config.now (K.state keepers.old).told fleet.old }
+    requires inboxes { AreInboxesOf config.now (pens_of fleet.old.masters) mail.old }
+    requires states { topology.now ≡ all_up config.now }
+    requires here { shard < config.now.shards }
+    requires job { CanBeMerged K.TELLS config.now (K.state keepers.old).told (job_on shard job.now) }
+    ensures works { WorksOffJob K.TELLS config.now (job_way leader (job_on shard job.now)) result
+        (posting (scene fleet.old (K.state keepers.old) (L.shown link.old)) mail.old topology.now)
+        (posting (scene fleet.new (K.state keepers.new) (L.shown link.new)) mail.new topology.now) }
+    ensures stands { StandsThere config.now job.now result.wrote fleet.new.masters }
+    ensures consistent { IsConsistent K.TELLS config.now (K.state keepers.new).told fleet.new }
+    ensures inboxes { AreInboxesOf config.now (pens_of fleet.new.masters) mail.new }
+    ensures goes { GoesOn fleet.old fleet.new }
+    ensures grows { MastersGrow K.TELLS config.now (K.state keepers.old).told (K.state keepers.new).told }
+    ensures later { IsLater (K.state keepers.old) (K.state keepers.new) }
+{
+    match merge_over(
+        alloc, fleet, mail, config, topology, keepers, link, leader, shard, job,
+    ) {
+        Ok(merged) => OtherEndDone {
+            told: told_after(end_over(fleet, config, keepers, shard, job)),
+            wrote: Some(merged),
+        },
+        Err(late) => left_open(late),
+    }
+}
+
+/// Does all that can be done of the job of what a commit answered: merges it, and then ends it.
+pub(crate) fn work_off<K: Keeper, L: Link>(
+    alloc: Global,
+    fleet: &mut Fleet,
+    mail: &mut Mail,
+    config: &Config,
+    topology: &Topology,
+    keepers: &mut K,
+    link: &mut L,
+    shard: u16,
+    committed: &Committed,
+) -> OtherEndDone
+    requires consistent { IsConsistent K.TELLS config.now (K.state keepers.old).told fleet.old }
+    requires inboxes { AreInboxesOf config.now (pens_of fleet.old.masters) mail.old }
+    requires states { topology.now ≡ all_up config.now }
+    requires here { shard < config.now.shards }
+    requires job { IfSome committed.now.wrote.job (λ job. CanBeMerged K.TELLS config.now (K.state keepers.old).told (job_on shard job)) }
+    ensures works { WorksOffOf K.TELLS config.now shard committed.now committed.now.wrote.job result
+        (posting (scene fleet.old (K.state keepers.old) (L.shown link.old)) mail.old topology.now)
+        (posting (scene fleet.new (K.state keepers.new) (L.shown link.new)) mail.new topology.now) }
+    ensures stands { IfSome committed.now.wrote.job (λ job. StandsThere config.now job result.wrote fleet.new.masters) }
+    ensures consistent { IsConsistent K.TELLS config.now (K.state keepers.new).told fleet.new }
+    ensures inboxes { AreInboxesOf config.now (pens_of fleet.new.masters) mail.new }
+    ensures goes { GoesOn fleet.old fleet.new }
+    ensures grows { MastersGrow K.TELLS config.now (K.state keepers.old).told (K.state keepers.new).told }
+    ensures later { IsLater (K.state keepers.old) (K.state keepers.new) }
+{
+    match &committed.wrote.job {
+        Some(job) => work_off_job(
+            alloc,
+            fleet,
+            mail,
+            config,
+            topology,
+            keepers,
+            link,
+            committed.leader,
+            shard,
+            job,
+        ),
+        None => OtherEndDone {
+            told: if committed.paired {
+                InverseEnd::Written
+            } else {
+                InverseEnd::None
+            },
+            wrote: None,
+        },
+    }
+}

@@ -2,7 +2,7 @@
 use Rattle.std.proofs.Common.{◌≡◌, ◌⊎◌, ℕ, zero, suc, ◌+◌, Bool, true, false, ◌||◌, not, List, [], ◌∷◌, Option, Some, None}
 use Rattle.std.proofs.Common.{refl, ap, sym, subst, ◌∙◌, inl, inr, arith}
 use Rattle.std.specs.List.{list_any}
-use Rattle.std.specs.Prelude.{◌==◌, Err, Ok, Result, filter, if◌then◌else◌, map, slice_get, slice_set}
+use Rattle.std.specs.Prelude.{◌==◌, ⊤, Err, Ok, Result, filter, if◌then◌else◌, map, slice_get, slice_set}
 use Rattle.std.proofs.lemmas.Bool.{cases_Bool, cases_order}
 use Rattle.std.proofs.lemmas.List.Folds.{list_any-append}
 use Rattle.std.proofs.lemmas.Map.Views.{any-filter_same}
@@ -15,6 +15,7 @@ use Rattle.cache_items.specs.declared.look.Kept.{Kept}
 use Rattle.cache_items.specs.declared.look.Look.TheVariants.{Hit, Miss}
 use Rattle.core_model.specs.Evictions.{Evicts}
 use Rattle.core_model.specs.Fleet.{ChangesNode, Fleet, named}
+use Rattle.core_model.specs.Jobs.{ShardJob, job_on}
 use Rattle.core_model.specs.Messages.{DeliversThere, TakesRefill}
 use Rattle.core_model.specs.Reads.{AfterLook, AsksAtOnce, EndsAsk, KeepsFill, LooksFirst, Wanted, given_of}
 use Rattle.core_model.specs.Writes.{AppliesTo}
@@ -22,10 +23,14 @@ use Rattle.core_model.specs.declared.named.Named.{Named}
 use Rattle.core_model.proofs.Places.{get_set, one_some, set_get, some_and}
 use Rattle.core_plans.specs.HeldLaws.{AsksStayHeld}
 use Rattle.core_plans.specs.Held.{AsksAreHeld, OpensNone, Plans, is_open_ask}
+use Rattle.core_plans.specs.HeldWrites.{DoesWriteStage, call_by, job_by, way_by}
 use Rattle.core_steps.specs.CriticalReads.{ReadsCritical}
 use Rattle.core_steps.specs.Reads.{Ends, IsAnswered, IsFailedRead, ReadsAlong}
 use Rattle.core_steps.specs.Routes.{Scene}
-use Rattle.core_steps.specs.Writes.{ChangesNoNode, ClientWrite, FollowerTakes, Posting, WriteRefused, WritesAlong}
+use Rattle.core_steps.specs.OtherEnds.{ChangesKeepers, EndsOver, JobWay, LeavesJob, MergesOver, WorksOffJob, WorksOffOf, job_way}
+use Rattle.core_steps.specs.Posting.{ChangesNoNode, Posting}
+use Rattle.core_steps.specs.Writes.{ClientWrite, FollowerTakes, IsWorkedOff, NotCommitted, RefusesCommit, WriteRefused, WritesAlong}
+use Rattle.core_steps.specs.declared.jobs.OtherEndDone.{OtherEndDone}
 use Rattle.core_steps.specs.declared.routes.Route.{Route}
 use Rattle.core_steps.specs.declared.writes.CarriedOut.{CarriedOut}
 use Rattle.follower_cache.specs.Seen.{FollowerState}
@@ -36,6 +41,9 @@ use Rattle.maint_msg.specs.declared.key_versions.KeyVersion.{KeyVersion}
 use Rattle.node_name.specs.declared.NodeName.{NodeName}
 use Rattle.replies.specs.declared.calls.CallReply.TheVariants as called
 use Rattle.replies.specs.declared.calls.ReadReply.{ReadReply}
+use Rattle.replies.specs.declared.calls.ScheduledWhy.{ScheduledWhy}
+use Rattle.replies.specs.declared.calls.ScheduledWhy.TheVariants.{NoServer}
+use Rattle.replies.specs.declared.calls.ScheduledWhy.TheVariants as why
 use Rattle.replies.specs.declared.refusals.Refusal.TheVariants.{Store, Memory}
 use Rattle.replies.specs.declared.refusals.StoreRefused.{StoreRefused}
 use Rattle.replies.specs.declared.refusals.StoreRefused.TheVariants.{SeqReused, ShardFull, StampFull, LogFull, KeeperFault, LinkFault, Unsettled}
@@ -45,6 +53,7 @@ use Rattle.sealed_item.specs.Fills.{SealedItem}
 use Rattle.shard_log.specs.View.{View}
 use Rattle.shard_tables.specs.declared.leader_answer.LeaderAnswer.{LeaderAnswer}
 use Rattle.shard_tables.specs.declared.leader_answer.LeaderAnswer.TheVariants as leader
+use Rattle.shard_tables.specs.declared.writes.Wrote.{Wrote}
 use Rattle.tao_base.specs.EdgeTypes.{EdgeTypes}
 use Rattle.tao_base.specs.Keys.{same_key}
 use Rattle.tao_base.specs.Queries.{query_key}
@@ -53,8 +62,16 @@ use Rattle.tao_base.specs.declared.entry.Entry.{Entry}
 use Rattle.tao_base.specs.declared.id.Key.{Key}
 use Rattle.tao_base.specs.declared.query.Answer.{Answer}
 use Rattle.tao_base.specs.declared.query.Query.{Query}
+use Rattle.tao_keeper.specs.declared.jobs.Job.{Job}
 use Rattle.tao_schema.specs.Schema.{types_of}
 use Rattle.topology.specs.Config.{Settings}
+use Rattle.write_plan.specs.Plans.{Plan}
+use Rattle.write_plan.specs.declared.committed.Committed.{Committed}
+use Rattle.write_plan.specs.declared.results.Late.{Late}
+use Rattle.write_plan.specs.declared.results.Late.TheVariants.{Scheduled}
+use Rattle.write_plan.specs.declared.results.Late.TheVariants as late
+use Rattle.write_plan.specs.declared.stage.WriteStage.{WriteStage}
+use Rattle.write_plan.specs.declared.stage.WriteStage.TheVariants.{Commit, Inverse, End, Relay, Apply, Done}
 
 -- ---- the asks of one node
 
@@ -366,6 +383,76 @@ follower_takes_none types route shard None old new same = same_opens_none old.fo
 follower_takes_none types route shard (Some e) old new takes =
     apply_opens_none route.follower old.followers new.followers types shard e takes.0 takes.1
 
+-- ---- the other end of a write
+
+abbrev pub followers_of : Posting → List (Named FollowerState)
+followers_of x = x.scene.fleet.followers
+
+module _ (tells : Bool) (s : Settings) (way : JobWay) (old new : Posting) where
+  untouched : ChangesNoNode tells old new → followers_of new ≡ followers_of old
+  untouched rests = ap (λ (f : Fleet). f.followers) rests.fleet
+
+  left_same : (why : ScheduledWhy) (wrote : Option Wrote) → LeavesJob tells s way why wrote old new → followers_of new ≡ followers_of old
+  left_same NoServer None is = ap followers_of is.1
+  left_same why.LinkFault None is = untouched is.2
+  left_same why.LinkFault (Some w) is = is.2.followers
+  left_same why.KeeperFault None is = untouched is.1
+  left_same why.LogFull None is = untouched is.1
+  left_same why.Memory None is = untouched is.0
+  left_same NoServer (Some w) is = absurd is
+  left_same why.KeeperFault (Some w) is = absurd is
+  left_same why.LogFull (Some w) is = absurd is
+  left_same why.Memory (Some w) is = absurd is
+
+  -- a merge changes no follower
+  pub merge_same : (result : Result Wrote Late) → MergesOver tells s way result old new → followers_of new ≡ followers_of old
+  merge_same (Ok wrote) is = is.0.followers
+  merge_same (Err (Scheduled why wrote)) is = left_same why wrote is
+  merge_same (Err (late.Refused reply)) is = absurd is
+
+changed_keepers : (old new : Posting) → ChangesKeepers old new → followers_of new ≡ followers_of old
+changed_keepers old new is = ap followers_of is
+
+late_same : (tells : Bool) (s : Settings) (j : ShardJob) (why : ScheduledWhy) (wrote : Option Wrote) (old new : Posting)
+    → EndsOver tells s j (Err (Scheduled why wrote)) old new → followers_of new ≡ followers_of old
+late_same tells s j why.KeeperFault None old new is = changed_keepers old new is.2
+late_same tells s j why.Memory None old new is = changed_keepers old new is.1
+late_same tells s j why.KeeperFault (Some w) old new is = absurd is
+late_same tells s j why.Memory (Some w) old new is = absurd is
+late_same tells s j why.LinkFault wrote old new is = absurd is
+late_same tells s j why.LogFull wrote old new is = absurd is
+late_same tells s j NoServer wrote old new is = absurd is
+
+-- nor does the end of a job
+pub end_same : (tells : Bool) (s : Settings) (j : ShardJob) (result : Result ⊤ Late) (old new : Posting) → EndsOver tells s j result old new
+    → followers_of new ≡ followers_of old
+end_same tells s j (Ok done) old new is = changed_keepers old new is.1
+end_same tells s j (Err (Scheduled why wrote)) old new is = late_same tells s j why wrote old new is
+end_same tells s j (Err (late.Refused reply)) old new is = absurd is
+
+job_same : (tells : Bool) (s : Settings) (way : JobWay) (done : OtherEndDone) (old new : Posting) → WorksOffJob tells s way done old new
+    → followers_of new ≡ followers_of old
+job_same tells s way done old new (inl both) =
+    end_same tells s way.job (Ok tt) both.between new both.ends ∙ merge_same tells s way old both.between (Ok both.wrote) both.merges
+job_same tells s way done old new (inr (inl open_still)) =
+    end_same tells s way.job (Err (Scheduled open_still.why None)) open_still.between new open_still.ends
+    ∙ merge_same tells s way old open_still.between (Ok open_still.wrote) open_still.merges
+job_same tells s way done old new (inr (inr left)) = merge_same tells s way old new (Err (Scheduled left.why done.wrote)) left.merges
+
+other_end_same : (tells : Bool) (s : Settings) (shard : ℕ) (c : Committed) (job : Option Job) (done : OtherEndDone) (old new : Posting)
+    → WorksOffOf tells s shard c job done old new → followers_of new ≡ followers_of old
+other_end_same tells s shard c None done old new is = ap followers_of is.2
+other_end_same tells s shard c (Some job) done old new is = job_same tells s (job_way c.leader (job_on shard job)) done old new is
+
+-- a write changes none up to its way back
+worked_off_same : (tells : Bool) (s : Settings) (route : Route) (call : ClientWrite) (old new : Posting) → IsWorkedOff tells s route call old new
+    → followers_of new ≡ followers_of old
+worked_off_same tells s route call old new is =
+    other_end_same tells s (write_shard call.write) is.committed is.committed.wrote.job is.other_end is.between new is.works_off
+    ∙ is.commits.followers
+
+-- ---- whole writes, and those that are held
+
 module _ (tells : Bool) (s : Settings) (route : Route) (call : ClientWrite) (old new : Posting) where
   rests_none : ChangesNoNode tells old new → OpensNone old.scene.fleet.followers new.scene.fleet.followers
   rests_none rests = same_opens_none old.scene.fleet.followers new.scene.fleet.followers (ap (λ (f : Fleet). f.followers) rests.fleet)
@@ -374,7 +461,8 @@ module _ (tells : Bool) (s : Settings) (route : Route) (call : ClientWrite) (old
       → OpensNone old.scene.fleet.followers new.scene.fleet.followers
   refused_none (LinkFault count when) is = elim is.1 [
     | inl there ↦ rests_none there.same
-    | inr back ↦ same_opens_none old.scene.fleet.followers new.scene.fleet.followers back.followers
+    | inr back ↦ same_opens_none old.scene.fleet.followers new.scene.fleet.followers
+        (ap (λ (f : Fleet). f.followers) back.fleet ∙ worked_off_same tells s route call old back.worked_off back.works)
   ]
   refused_none (SeqReused position) is = rests_none is.1
   refused_none (ShardFull serial) is = rests_none is.1
@@ -386,10 +474,45 @@ module _ (tells : Bool) (s : Settings) (route : Route) (call : ClientWrite) (old
   pub write_opens_none : (outcome : Result CarriedOut Reply) → WritesAlong tells s route call outcome old new
       → OpensNone old.scene.fleet.followers new.scene.fleet.followers
   write_opens_none (Ok done) is =
-      follower_takes_none (types_of s.schema) route (write_shard call.write) done.entry old.scene.fleet new.scene.fleet is.follower
+      opens_none_on old.scene.fleet.followers is.worked_off.scene.fleet.followers new.scene.fleet.followers
+      (same_opens_none old.scene.fleet.followers is.worked_off.scene.fleet.followers (worked_off_same tells s route call old is.worked_off is.works))
+      (follower_takes_none (types_of s.schema) route (write_shard call.write) is.works.committed.wrote.entry is.worked_off.scene.fleet new.scene.fleet
+      is.follower)
   write_opens_none (Err (Refused (Store refused))) is = refused_none refused is
   write_opens_none (Err (Refused (Memory position))) is = rests_none is.1
   write_opens_none (Err reply) is = absurd is
+
+-- no stage of a write that is held opens one
+module _ (tells : Bool) (s : Settings) (leader : NodeName) (p q : Plan) (old new : Posting) where
+  refusal_none : (refused : StoreRefused) → NotCommitted tells s (way_by leader p) (call_by p) refused old new → ChangesNoNode tells old new
+  refusal_none (LinkFault count when) is = is.1.same
+  refusal_none (SeqReused position) is = is.1
+  refusal_none (ShardFull serial) is = is.1
+  refusal_none (StampFull number) is = is.1
+  refusal_none (LogFull count) is = is.1
+  refusal_none (KeeperFault count) is = is.1
+  refusal_none (Unsettled at why) is = is.1
+
+  uncommitted_none : (reply : Reply) → RefusesCommit tells s (way_by leader p) (call_by p) reply old new → ChangesNoNode tells old new
+  uncommitted_none (Refused (Store refused)) is = refusal_none refused is
+  uncommitted_none (Refused (Memory position)) is = is.1
+  uncommitted_none reply is = absurd is
+
+  alone : followers_of new ≡ followers_of old → OpensNone (followers_of old) (followers_of new)
+  alone = same_opens_none (followers_of old) (followers_of new)
+
+  pub stage_opens_none : (at : WriteStage) → DoesWriteStage tells s leader at p old q new → OpensNone (followers_of old) (followers_of new)
+  stage_opens_none Commit (inl commits) = alone commits.commits.followers
+  stage_opens_none Commit (inr refuses) = alone (ap (λ (f : Fleet). f.followers) (uncommitted_none refuses.reply refuses.refuses).fleet)
+  stage_opens_none Inverse merges = alone (merge_same tells s (job_way leader (job_by p merges.job)) old new merges.result merges.merges)
+  stage_opens_none End ends = alone (end_same tells s (job_by p ends.job) ends.result old new ends.ends)
+  stage_opens_none Apply (inl applies) =
+      follower_takes_none (types_of s.schema) (way_by leader p) (write_shard p.write) applies.committed.wrote.entry old.scene.fleet new.scene.fleet
+      applies.takes
+  stage_opens_none Apply (inr (inl loses)) = alone (ap (λ (f : Fleet). f.followers) loses.fleet)
+  stage_opens_none Apply (inr (inr vain)) = alone (ap followers_of vain.same)
+  stage_opens_none Relay does = absurd does
+  stage_opens_none Done does = absurd does
 
 -- ---- what is held
 
@@ -419,4 +542,5 @@ asks_stay_held = record {
   reads = read_opens_none;
   critical = critical_opens_none;
   writes = λ tells s route call outcome old new. write_opens_none tells s route call old new outcome;
+  stages = λ tells s leader at p q old new. stage_opens_none tells s leader p q old new at;
 }

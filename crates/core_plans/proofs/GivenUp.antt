@@ -1,20 +1,21 @@
 -- A write of which only the last stage is left, and which ends without it.
-use Rattle.std.proofs.Common.{◌≡◌, ℕ, Bool, List, Option, Some, None, refl, sym, subst, inr}
-use Rattle.std.specs.Prelude.{IfSome, IsSome}
+use Rattle.std.proofs.Common.{◌≡◌, ℕ, Bool, Option, Some, None, refl, sym, subst, inr}
+use Rattle.std.specs.Prelude.{Err, IsSome}
 use Rattle.core_model.specs.Fleet.{Fleet}
 use Rattle.core_plans.specs.Held.{IsUnderWay, StepsHeld, given_up, learner, learner_at}
-use Rattle.core_plans.specs.HeldWrites.{DoesWriteStage, IsAnswerTo, way_given_up}
+use Rattle.core_plans.specs.HeldWrites.{DoesWriteStage, position_of, way_given_up}
 use Rattle.core_plans.specs.declared.held.HeldPlan.{HeldPlan}
 use Rattle.core_plans.specs.declared.held.HeldPlan.TheVariants.{Read, Write}
-use Rattle.core_steps.specs.Writes.{Posting}
+use Rattle.core_plans.proofs.HeldWriteStages.{applied_still}
+use Rattle.core_steps.specs.Posting.{Posting}
 use Rattle.node_name.specs.declared.NodeName.{NodeName}
 use Rattle.read_plan.specs.Readings.{Reading}
-use Rattle.shard_tables.specs.StoreView.{Store}
+use Rattle.replies.specs.declared.refusals.Refusal.TheVariants.{Memory}
+use Rattle.replies.specs.declared.reply.Reply.TheVariants.{Refused}
 use Rattle.tao_base.specs.declared.entry.Origin.{Origin}
 use Rattle.tao_keeper.specs.Table.{Tables}
 use Rattle.topology.specs.Config.{Settings}
-use Rattle.write_plan.specs.Plans.{Plan, next_of}
-use Rattle.write_plan.specs.declared.committed.Committed.{Committed}
+use Rattle.write_plan.specs.Plans.{answered_entry, next_of}
 use Rattle.write_plan.specs.declared.stage.WriteStage.{WriteStage}
 use Rattle.write_plan.specs.declared.stage.WriteStage.TheVariants.{Commit, Inverse, End, Relay, Apply, Done}
 
@@ -42,20 +43,7 @@ gives_up tells s leader (Write p) now is =
     (inr (inr (record { same = refl; then = refl })))
 gives_up tells s leader (Read p) now is = absurd (cc)
 
-answer_stays : (masters : List Store) (p : Plan) (found : Option Committed) → IfSome found (IsAnswerTo masters p)
-    → IfSome found (IsAnswerTo masters (way_given_up p))
-answer_stays masters p None is = tt
-answer_stays masters p (Some c) is = record { apply = is.apply; kind = is.kind; job = is.job; passed = is.passed; paired = is.paired }
-
 pub under_way_still : (tells : Bool) (s : Settings) (tables : Tables) (f : Fleet) (plan : HeldPlan) → IsUnderWay tells s tables f plan
     → IsUnderWay tells s tables f (given_up plan)
-under_way_still tells s tables f (Write p) is = record {
-  follower = is.follower;
-  region = is.region;
-  changes = is.changes;
-  client = is.client;
-  committed = answer_stays f.masters p p.committed is.committed;
-  job = is.job;
-  other = is.other;
-}
+under_way_still tells s tables f (Write p) is = applied_still tells s tables f p is (Err (Refused (Memory (position_of (answered_entry p))))) 0
 under_way_still tells s tables f (Read p) is = is

@@ -5,3 +5,5 @@ pub mod HeldReadStages
 pub mod Missing
 mod PlanMaps
 pub mod Standing
+pub mod WritesGoOn
+pub mod HeldWriteStages

@@ -7,7 +7,7 @@ use Rattle.std.specs.Prelude.{◌==◌, IfSome, IsSome, Some, true}
 use Rattle.core_model.specs.Fleet.{Fleet}
 use Rattle.core_plans.specs.Held.{ChangesPlan, IsUnderWay, Plans, StepsHeld, StepsPlan, plan_at}
 use Rattle.core_plans.specs.declared.held.HeldPlan.{HeldPlan}
-use Rattle.core_steps.specs.Writes.{Posting}
+use Rattle.core_steps.specs.Posting.{Posting}
 use Rattle.node_name.specs.declared.NodeName.{NodeName}
 use Rattle.tao_keeper.specs.Table.{Tables}
 use Rattle.topology.specs.Config.{Settings}

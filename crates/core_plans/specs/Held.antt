@@ -1,5 +1,5 @@
 -- The plans that are held, by their numbers.
-use Rattle.std.specs.Prelude.{ℕ, ◌≡◌, ◌+◌, ◌==◌, ⊤, Bool, true, IsSome, List, Option, Some, None, length, slice_get, if◌then◌else◌}
+use Rattle.std.specs.Prelude.{ℕ, ◌≡◌, ◌+◌, ◌==◌, ⊤, Bool, true, IsSome, List, Option, Some, None, length, slice_get, if◌then◌else◌, option_and_then}
 use Rattle.std.specs.BTreeMap.{is_at}
 use Rattle.std.specs.Map.{lookup}
 use Rattle.std.specs.Option.{option_map}
@@ -9,7 +9,9 @@ use Rattle.std.specs.List.{list_any}
 use Rattle.core_model.specs.Fleet.{Fleet, named}
 use Rattle.core_model.specs.Serving.{IsLeaderFor}
 use Rattle.core_model.specs.declared.named.Named.{Named}
-use Rattle.core_steps.specs.Writes.{Posting}
+use Rattle.core_steps.specs.OtherEnds.{told_there}
+use Rattle.core_steps.specs.Posting.{Posting}
+use Rattle.core_steps.specs.declared.jobs.ToldEntry.{ToldEntry}
 use Rattle.follower_cache.specs.Seen.{FollowerState}
 use Rattle.node_name.specs.declared.NodeName.{NodeName}
 use Rattle.read_plan.specs.Ends.{EndsWith}
@@ -20,6 +22,7 @@ use Rattle.read_plan.specs.declared.standing.Standing.TheVariants.{Looking, Aski
 use Rattle.replies.specs.declared.plans.Stage.{Stage}
 use Rattle.replies.specs.declared.reply.Reply.{Reply}
 use Rattle.replies.specs.declared.reply.Reply.TheVariants.{Called}
+use Rattle.shard_tables.specs.declared.writes.Wrote.{Wrote}
 use Rattle.tao_base.specs.Queries.{query_shard}
 use Rattle.tao_base.specs.Writes.{write_shard}
 use Rattle.tao_base.specs.declared.entry.Origin.{Origin}
@@ -27,17 +30,17 @@ use Rattle.tao_base.specs.declared.entry.Origin.TheVariants.{Client, Merge}
 use Rattle.tao_keeper.specs.KeeperState.{KeepsTables}
 use Rattle.tao_keeper.specs.Table.{Tables}
 use Rattle.topology.specs.Config.{Settings}
-use Rattle.write_plan.specs.Plans.{next_of, reply_of}
+use Rattle.write_plan.specs.Plans.{Plan, answered_job, next_of, reply_of}
 use Rattle.write_plan.specs.Stages.{told_stage}
-use Rattle.write_plan.specs.declared.committed.Committed.{Committed}
 use Rattle.write_plan.specs.declared.stage.WriteStage.{WriteStage}
-use Rattle.write_plan.specs.declared.progress.WayBack.TheVariants.{Ahead}
-use Rattle.write_plan.specs.declared.stage.WriteStage.TheVariants.{Apply, Commit}
+use Rattle.write_plan.specs.declared.progress.WayBack.{WayBack}
+use Rattle.write_plan.specs.declared.progress.WayBack.TheVariants.{Ahead, Applied, Relayed}
+use Rattle.write_plan.specs.declared.stage.WriteStage.TheVariants.{Apply}
 use Rattle.core_plans.specs.HeldReads.{IsReadUnderWay, StepsRead}
 use Rattle.core_plans.specs.HeldWrites.{DoesWriteStage, IsWriteUnderWay, way_given_up}
 use Rattle.core_plans.specs.declared.held.HeldPlan.{HeldPlan}
 use Rattle.core_plans.specs.declared.held.HeldPlan.TheVariants.{Read, Write}
-use Rattle.core_plans.specs.declared.held.ToldEntry.{ToldEntry}
+use Rattle.core_plans.specs.declared.held.ToldEntries.{ToldEntries}
 use Rattle.core_plans.specs.declared.plans.HeldPlans.TheInside.{Inside}
 
 -- ---- one plan
@@ -54,20 +57,30 @@ IsOver (Write p) reply = reply_of p ≡ Some reply
 
 abbrev pub IsUnderWay : Bool → Settings → Tables → Fleet → HeldPlan → Type 0
 IsUnderWay tells s tables f (Read p) = IsReadUnderWay tells s tables f p
-IsUnderWay tells s tables f (Write p) = IsWriteUnderWay s f p
+IsUnderWay tells s tables f (Write p) = IsWriteUnderWay tells s tables f p
 
 -- ---- what a session learns of it
 
--- the entry of a write, and what was seen of its shard's log
-abbrev pub written_entry : Option Committed → Option ToldEntry
-written_entry None = None
-written_entry (Some c) = option_map (λ e. record { entry = e; note = c.wrote.note }) c.wrote.entry
+-- the entry that was written on a shard, or that stood there, with what was seen of its log
+abbrev pub told_entry : ℕ → Wrote → Option ToldEntry
+told_entry shard wrote = option_map (λ e. record { shard = shard; entry = e; note = wrote.note }) wrote.entry
 
--- what is told with the reply of a plan: the entry of a write that was carried out, where there is one
-abbrev pub told_with : Reply → HeldPlan → Option ToldEntry
-told_with (Called reply) (Write p) = written_entry p.committed
-told_with (Called reply) (Read p) = None
-told_with reply plan = None
+-- that of a write
+abbrev pub told_here : Plan → Option ToldEntry
+told_here p = option_and_then (λ c. told_entry (write_shard p.write) c.wrote) p.committed
+
+-- a session is told of it, and of the entry that was written at the other end
+abbrev pub told_of_write : Plan → ToldEntries
+told_of_write p = record { here = told_here p; other = told_there (answered_job p) p.other }
+
+abbrev pub nothing_told : ToldEntries
+nothing_told = record { here = None; other = None }
+
+-- what is told with the reply of a plan: of a write that was carried out, both
+abbrev pub told_with : Reply → HeldPlan → ToldEntries
+told_with (Called reply) (Write p) = told_of_write p
+told_with (Called reply) (Read p) = nothing_told
+told_with reply plan = nothing_told
 
 -- the session of a write, where only its last stage is left
 abbrev pub learner_at : WriteStage → Origin → Option ℕ
@@ -193,10 +206,16 @@ HasNoneAt Mastering ask = ⊤
 HasNoneAt (Keeping given) ask = ⊤
 HasNoneAt (Ended end) ask = ⊤
 
--- and the way back of a write begins after its commit
+-- the way back of a write isn't done
+abbrev pub IsBefore : WayBack → Type 0
+IsBefore Ahead = ⊤
+IsBefore Relayed = ⊤
+IsBefore Applied = ⊥
+
+-- and a write's way back is done last
 abbrev pub OpensFirst : HeldPlan → Type 0
 OpensFirst (Read p) = HasNoneAt p.at p.ask
-OpensFirst (Write p) = next_of p ≡ Commit → p.back ≡ Ahead
+OpensFirst (Write p) = IsBefore p.back
 
 -- ---- what is held
 

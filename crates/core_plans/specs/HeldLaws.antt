@@ -10,10 +10,12 @@ use Rattle.core_model.specs.Writes.{AppliesTo}
 use Rattle.core_model.specs.declared.named.Named.{Named}
 use Rattle.core_plans.specs.Held.{AsksAreHeld, OpensNone, Plans}
 use Rattle.core_plans.specs.HeldReads.{MissesNone, version_now}
+use Rattle.core_plans.specs.HeldWrites.{DoesWriteStage}
 use Rattle.core_steps.specs.CriticalReads.{ReadsCritical}
 use Rattle.core_steps.specs.Reads.{ReadsAlong}
 use Rattle.core_steps.specs.Routes.{Scene}
-use Rattle.core_steps.specs.Writes.{ClientWrite, Posting, WritesAlong}
+use Rattle.core_steps.specs.Posting.{Posting}
+use Rattle.core_steps.specs.Writes.{ClientWrite, WritesAlong}
 use Rattle.core_steps.specs.declared.routes.Route.{Route}
 use Rattle.core_steps.specs.declared.writes.CarriedOut.{CarriedOut}
 use Rattle.follower_cache.specs.Seen.{FollowerState}
@@ -33,6 +35,8 @@ use Rattle.tao_base.specs.declared.query.Query.{Query}
 use Rattle.tao_keeper.specs.Growing.{LogsGrow}
 use Rattle.tao_keeper.specs.KeeperState.{KeeperState}
 use Rattle.topology.specs.Config.{Settings}
+use Rattle.write_plan.specs.Plans.{Plan}
+use Rattle.write_plan.specs.declared.stage.WriteStage.{WriteStage}
 
 abbrev pub Followers : Type 0
 Followers = List (Named FollowerState)
@@ -69,6 +73,9 @@ pub record AsksStayHeld : Type 0 where
       → ReadsCritical tells s follower read reply old new → OpensNone old.fleet.followers new.fleet.followers
   pub writes : (tells : Bool) (s : Settings) (route : Route) (call : ClientWrite) (outcome : Result CarriedOut Reply) (old new : Posting)
       → WritesAlong tells s route call outcome old new → OpensNone old.scene.fleet.followers new.scene.fleet.followers
+  -- nor does a stage of a held write
+  pub stages : (tells : Bool) (s : Settings) (leader : NodeName) (at : WriteStage) (p q : Plan) (old new : Posting)
+      → DoesWriteStage tells s leader at p old q new → OpensNone old.scene.fleet.followers new.scene.fleet.followers
 
 -- what a critical read doesn't miss it doesn't miss later: logs only grow
 pub record NothingIsMissedLater : Type 0 where

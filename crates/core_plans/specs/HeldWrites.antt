@@ -1,11 +1,15 @@
--- A write that is held between its stages, and what each stage does. No type has an inverse, since a core serves configurations without one.
-use Rattle.std.specs.Prelude.{ℕ, ◌≡◌, ◌<◌, ◌⊎◌, Bool, false, IfSome, IsTrue, List, Option, None, Some, Ok, Err, length}
+-- A write that is held between its stages, and what each stage does.
+use Rattle.std.specs.Prelude.{ℕ, ◌≡◌, ◌<◌, ◌⊎◌, ⊤, Bool, IfSome, IsTrue, List, Option, None, Some, Result, Ok, Err, length}
 use Rattle.core_model.specs.Fleet.{Fleet}
+use Rattle.core_model.specs.Jobs.{CanBeMerged, IsMergedJob, ShardJob, job_on}
 use Rattle.core_model.specs.Serving.{IsFollowerFor}
 use Rattle.core_steps.specs.Routes.{FailsCarry, hops_between}
-use Rattle.core_steps.specs.Writes.{CanBeApplied, ClientWrite, FollowerTakes, IsCommitted, Posting, RefusesCommit, client_call}
+use Rattle.core_steps.specs.OtherEnds.{EndsOver, MergesOver, StandsThere, job_way}
+use Rattle.core_steps.specs.Posting.{AppliesAlone, Posting}
+use Rattle.core_steps.specs.Writes.{CanBeApplied, ClientWrite, FollowerTakes, IsCommitted, RefusesCommit, client_call}
 use Rattle.core_steps.specs.declared.routes.Route.{Route}
 use Rattle.graph_model.specs.Soundness.{is_client}
+use Rattle.graph_model.specs.Told.{WhereTold}
 use Rattle.node_name.specs.declared.NodeName.{NodeName}
 use Rattle.replies.specs.declared.refusals.Refusal.TheVariants.{Store, Memory}
 use Rattle.replies.specs.declared.refusals.StoreRefused.TheVariants.{LinkFault}
@@ -15,13 +19,17 @@ use Rattle.shard_tables.specs.StoreView.{Store as StoreSeen}
 use Rattle.shard_tables.specs.declared.writes.Wrote.{Wrote}
 use Rattle.tao_base.specs.Writes.{ChangesType, write_shard}
 use Rattle.tao_base.specs.declared.entry.Entry.{Entry}
+use Rattle.tao_base.specs.declared.write.Write.{Write}
+use Rattle.tao_keeper.specs.Table.{Tables}
+use Rattle.tao_keeper.specs.declared.jobs.Job.{Job}
 use Rattle.tao_link.specs.Shown.{after_carry}
 use Rattle.tao_schema.specs.Schema.{types_of}
 use Rattle.topology.specs.Config.{Settings}
-use Rattle.write_plan.specs.Committing.{told_kind}
-use Rattle.write_plan.specs.Plans.{Plan, after_stage, answered_entry, when_of}
+use Rattle.write_plan.specs.Committing.{has_inverse, told_kind}
+use Rattle.write_plan.specs.Plans.{Plan, after_stage, answered_entry, answered_job, when_of}
 use Rattle.write_plan.specs.declared.committed.Committed.{Committed}
-use Rattle.write_plan.specs.declared.progress.OtherEnd.TheVariants.{Due}
+use Rattle.write_plan.specs.declared.progress.OtherEnd.TheVariants.{Due, Merged}
+use Rattle.write_plan.specs.declared.results.Late.{Late}
 use Rattle.write_plan.specs.declared.results.WriteResult.TheVariants as came
 use Rattle.write_plan.specs.declared.stage.WriteStage.{WriteStage}
 use Rattle.write_plan.specs.declared.stage.WriteStage.TheVariants.{Commit, Inverse, End, Relay, Apply, Done}
@@ -33,32 +41,42 @@ call_by p = client_call p.origin p.write
 abbrev pub way_by : NodeName → Plan → Route
 way_by leader p = record { follower = p.follower; leader = leader }
 
--- what was written, without a job
-abbrev pub without_job : Wrote → Wrote
-without_job wrote = record wrote { job = None }
-
 -- the position of an entry, or 0
 abbrev pub position_of : Option Entry → ℕ
 position_of None = 0
 position_of (Some e) = e.position
 
--- what its commit answered: its follower may take it, and nothing is left to be done but that
-pub record IsAnswerTo (masters : List StoreSeen) (p : Plan) (c : Committed) : Type 0 where
+-- what its commit answered: its follower may take it, and it passed no other leader
+pub record IsAnswerTo (s : Settings) (masters : List StoreSeen) (p : Plan) (c : Committed) : Type 0 where
   pub apply : CanBeApplied (call_by p) c.wrote masters
   pub kind : told_kind p.write c.wrote.entry ≡ Some c.kind
-  pub job : c.wrote.job ≡ None
   pub passed : c.passed ≡ None
-  pub paired : c.paired ≡ false
+  pub paired : c.paired ≡ has_inverse (types_of s.schema) p.write
 
--- a write of a client, at a follower that serves its shard, from a region of the configuration; what its commit answered can be applied
-pub record IsWriteUnderWay (s : Settings) (f : Fleet) (p : Plan) : Type 0 where
+-- what the leader answered to a write, as its plan takes it: so it does where it passed no other leader
+abbrev pub IsTakenAs : Settings → Write → Result Wrote Reply → Result Committed Reply → Type 0
+IsTakenAs s write (Ok wrote) (Ok c) = (c.wrote ≡ wrote) × (told_kind write wrote.entry ≡ Some c.kind) × (c.passed ≡ None)
+    × (c.paired ≡ has_inverse (types_of s.schema) write)
+IsTakenAs s write (Err refusal) (Err reply) = reply ≡ refusal
+IsTakenAs s write (Ok wrote) (Err reply) = ⊥
+IsTakenAs s write (Err refusal) (Ok c) = ⊥
+
+-- the job that its commit answered, as one of its shard
+abbrev pub job_by : Plan → Job → ShardJob
+job_by p job = job_on (write_shard p.write) job
+
+-- a write of a client, at a follower that serves its shard, from a region of the configuration. Before its commit nothing is done of its other end.
+-- What the commit answered can be applied, and its job merged; a job that was merged can be ended, and what was written at the other end stands there
+pub record IsWriteUnderWay (tells : Bool) (s : Settings) (tables : Tables) (f : Fleet) (p : Plan) : Type 0 where
   pub follower : IsFollowerFor s (write_shard p.write) p.follower
   pub region : p.region < length s.regions
   pub changes : ChangesType (types_of s.schema) p.write
   pub client : IsTrue (is_client p.origin)
-  pub committed : IfSome p.committed (IsAnswerTo f.masters p)
-  pub job : p.job ≡ Due
-  pub other : p.other ≡ None
+  pub begun : p.committed ≡ None → (p.job ≡ Due) × (p.other ≡ None)
+  pub committed : IfSome p.committed (IsAnswerTo s f.masters p)
+  pub job : IfSome (answered_job p) (λ job. CanBeMerged tells s tables (job_by p job))
+  pub merged : p.job ≡ Merged → IfSome (answered_job p) (λ job. WhereTold tells (IsMergedJob s tables (job_by p job)))
+  pub other : IfSome (answered_job p) (λ job. StandsThere s job p.other f.masters)
 
 -- ---- what its stages do
 
@@ -66,7 +84,7 @@ pub record IsWriteUnderWay (s : Settings) (f : Fleet) (p : Plan) : Type 0 where
 pub record CommitsHeld (tells : Bool) (s : Settings) (leader : NodeName) (p : Plan) (old : Posting) (q : Plan) (new : Posting) : Type 0 where
   pub committed : Committed
   pub commits : IsCommitted tells s (way_by leader p) (call_by p) committed.wrote old new
-  pub answer : IsAnswerTo new.scene.fleet.masters p committed
+  pub answer : IsAnswerTo s new.scene.fleet.masters p committed
   pub then : q ≡ after_stage p (came.Commit (Ok committed)) (hops_between old.scene.link new.scene.link)
 
 -- or it was refused, and nothing changed
@@ -75,11 +93,21 @@ pub record RefusesHeld (tells : Bool) (s : Settings) (leader : NodeName) (p : Pl
   pub refuses : RefusesCommit tells s (way_by leader p) (call_by p) reply old new
   pub then : q ≡ after_stage p (came.Commit (Err reply)) (hops_between old.scene.link new.scene.link)
 
--- no node but followers changed, nor any table nor message
-pub record AppliesAlone (old new : Posting) : Type 0 where
-  pub fleet : new.scene.fleet ≡ record old.scene.fleet { followers = new.scene.fleet.followers }
-  pub keepers : new.scene.keepers ≡ old.scene.keepers
-  pub inboxes : new.inboxes ≡ old.inboxes
+-- `inverse`: the job is carried to the leader of the other shard, which merges it, and the answer back
+pub record MergesHeld (tells : Bool) (s : Settings) (leader : NodeName) (p : Plan) (old : Posting) (q : Plan) (new : Posting) : Type 0 where
+  pub job : Job
+  pub answered : answered_job p ≡ Some job
+  pub result : Result Wrote Late
+  pub merges : MergesOver tells s (job_way leader (job_by p job)) result old new
+  pub then : q ≡ after_stage p (came.Inverse result) (hops_between old.scene.link new.scene.link)
+
+-- `end`: the job is ended
+pub record EndsHeld (tells : Bool) (s : Settings) (p : Plan) (old : Posting) (q : Plan) (new : Posting) : Type 0 where
+  pub job : Job
+  pub answered : answered_job p ≡ Some job
+  pub result : Result ⊤ Late
+  pub ends : EndsOver tells s (job_by p job) result old new
+  pub then : q ≡ after_stage p (came.End result) 0
 
 -- `apply`: the answer is carried back, and the follower takes the changes
 pub record AppliesHeld (s : Settings) (leader : NodeName) (p : Plan) (old : Posting) (q : Plan) (new : Posting) : Type 0 where
@@ -113,7 +141,7 @@ pub record AppliesInVain (p : Plan) (old : Posting) (q : Plan) (new : Posting) :
 abbrev pub DoesWriteStage : Bool → Settings → NodeName → WriteStage → Plan → Posting → Plan → Posting → Type 0
 DoesWriteStage tells s leader Commit p old q new = CommitsHeld tells s leader p old q new ⊎ RefusesHeld tells s leader p old q new
 DoesWriteStage tells s leader Apply p old q new = AppliesHeld s leader p old q new ⊎ (LosesWayBack leader p old q new ⊎ AppliesInVain p old q new)
-DoesWriteStage tells s leader Inverse p old q new = ⊥
-DoesWriteStage tells s leader End p old q new = ⊥
+DoesWriteStage tells s leader Inverse p old q new = MergesHeld tells s leader p old q new
+DoesWriteStage tells s leader End p old q new = EndsHeld tells s p old q new
 DoesWriteStage tells s leader Relay p old q new = ⊥
 DoesWriteStage tells s leader Done p old q new = ⊥

@@ -1,12 +1,17 @@
 //! `HeldPlan`.
-ghost use Rattle.std.specs.Prelude.{◌≡◌, IsSome, None};
-ghost use Rattle.core_plans.specs.Held.{IsOver, given_up, learner, next_stage, told_with, written_entry};
+ghost use Rattle.std.specs.Prelude.{◌≡◌, IsSome, None, option_and_then};
+ghost use Rattle.core_model.specs.Jobs.{far_shard};
+ghost use Rattle.core_plans.specs.Held.{IsOver, given_up, learner, next_stage, nothing_told, told_entry, told_with};
+ghost use Rattle.core_steps.specs.OtherEnds.{told_there};
 
 use crate::writes::give_up_way;
+use core_model::far_shard;
+use core_steps::ToldEntry;
 use read_plan::ReadPlan;
 use replies::{Reply, Stage};
-use shard_log::Note;
-use tao_base::{Entry, Origin};
+use shard_tables::Wrote;
+use tao_base::Origin;
+use tao_keeper::Job;
 use write_plan::{Committed, EndedWrite, WritePlan, WriteStage};
 
 /// A read or a write between two of its stages.
@@ -16,29 +21,72 @@ pub enum HeldPlan {
     Write(WritePlan),
 }
 
-/// The entry of a write, and a note that has seen it in its shard's log.
+/// What a session is told of a write: its own entry, and the one that it wrote at the other end.
 #[derive(Drop)]
-pub struct ToldEntry {
-    pub entry: Entry,
-    pub note: Note,
+pub struct ToldEntries {
+    pub here: Option<ToldEntry>,
+    pub other: Option<ToldEntry>,
 }
 
 /// What comes of a plan that is over: its reply, and what its session is told with it.
 #[derive(Drop)]
 pub struct EndedPlan {
     pub reply: Reply,
-    pub told: Option<ToldEntry>,
+    pub told: ToldEntries,
 }
 
-/// The entry that a commit answered, where there is one.
-fn written_entry(committed: Option<Committed>) -> Option<ToldEntry>
-    ensures { result ≡ written_entry committed }
+impl ToldEntries {
+    /// Nothing is told.
+    fn none() -> ToldEntries
+        ensures { result ≡ nothing_told }
+    {
+        ToldEntries {
+            here: None,
+            other: None,
+        }
+    }
+
+    /// What a write of the shard wrote, by what its commit answered and by what was written at the other end.
+    fn of(shard: u16, committed: Option<Committed>, other: Option<Wrote>) -> ToldEntries
+        ensures here { result.here ≡ option_and_then (λ c. told_entry shard c.wrote) committed }
+        ensures other { result.other ≡ told_there (option_and_then (λ c. c.wrote.job) committed) other }
+    {
+        match committed {
+            Some(Committed { wrote, .. }) => ToldEntries {
+                other: told_there(&wrote.job, other),
+                here: told_entry(shard, wrote),
+            },
+            None => ToldEntries::none(),
+        }
+    }
+}
+
+/// The entry of what was written on a shard, where there is one.
+fn told_entry(shard: u16, wrote: Wrote) -> Option<ToldEntry>
+    ensures { result ≡ told_entry shard wrote }
 {
-    let wrote = committed?.wrote;
     Some(ToldEntry {
+        shard,
         entry: wrote.entry?,
         note: wrote.note,
     })
+}
+
+/// The shard on which a job's records lie; the first one where it has none.
+fn shard_there(job: &Job) -> u16
+    ensures { result ≡ far_shard job.now }
+{
+    if job.edges.as_slice().is_empty() {
+        return 0;
+    }
+    far_shard(job)
+}
+
+/// The entry that was written at the other end, where there is one.
+fn told_there(job: &Option<Job>, wrote: Option<Wrote>) -> Option<ToldEntry>
+    ensures { result ≡ told_there job.now wrote }
+{
+    told_entry(shard_there(job.as_ref()?), wrote?)
 }
 
 impl HeldPlan {
@@ -76,7 +124,7 @@ impl HeldPlan {
         }
     }
 
-    /// The reply of a plan that is over, and what is told with it: the entry of a write that was carried out.
+    /// The reply of a plan that is over, and what is told with it: what a write that was carried out wrote at both ends.
     pub fn finish(self) -> EndedPlan
         requires { next_stage self ≡ None }
         ensures over { IsOver self result.reply }
@@ -85,17 +133,18 @@ impl HeldPlan {
         match self {
             HeldPlan::Read(plan) => EndedPlan {
                 reply: plan.finish(),
-                told: None,
+                told: ToldEntries::none(),
             },
             HeldPlan::Write(plan) => {
+                let shard = plan.write().shard();
                 let EndedWrite {
                     reply,
                     committed,
-                    ..
+                    other,
                 } = plan.into_parts();
                 let told = match &reply {
-                    Reply::Called(_) => written_entry(committed),
-                    _ => None,
+                    Reply::Called(_) => ToldEntries::of(shard, committed, other),
+                    _ => ToldEntries::none(),
                 };
                 EndedPlan { reply, told }
             }

@@ -10,7 +10,7 @@ mod plans;
 mod reads;
 mod writes;
 
-pub use held::{EndedPlan, HeldPlan, ToldEntry};
+pub use held::{EndedPlan, HeldPlan, ToldEntries};
 pub use plans::HeldPlans;
 pub use reads::{begin_read, read_stage};
 pub use writes::write_stage;

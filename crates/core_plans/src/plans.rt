@@ -6,7 +6,7 @@ ghost use Rattle.core_model.specs.Growing.{MastersGrow};
 ghost use Rattle.core_model.specs.Pens.{pens_of};
 ghost use Rattle.core_plans.specs.Held.{CanStep, IsThere, IsUnderWay, StepsHeld, StepsPlan};
 ghost use Rattle.core_steps.specs.Routes.{scene};
-ghost use Rattle.core_steps.specs.Writes.{posting};
+ghost use Rattle.core_steps.specs.Posting.{posting};
 ghost use Rattle.tao_keeper.specs.KeeperState.{IsLater};
 ghost use Rattle.topology.specs.States.{all_up};
 
@@ -81,7 +81,7 @@ impl HeldPlans {
     ghost use Rattle.std.specs.Prelude.{ℕ, ◌≡◌, Bool, IsSome, None, OnErr, OnOk, false, is_some, option_and_then, option_copied, true};
     ghost use Rattle.core_model.specs.Fleet.{Fleet as Fleet_};
     ghost use Rattle.core_plans.specs.Held.{AddsPlan, TakesPlan, learner, plan_at, plan_count};
-    ghost use Rattle.core_steps.specs.Writes.{Posting};
+    ghost use Rattle.core_steps.specs.Posting.{Posting};
     ghost use Rattle.node_name.specs.declared.NodeName.{NodeName as NodeName_};
     ghost use Rattle.tao_keeper.specs.Table.{Tables};
     ghost use Rattle.topology.specs.Config.{Settings};

@@ -1,28 +1,29 @@
 //! The stages of held writes.
-ghost use Rattle.std.specs.Prelude.{◌≡◌, false, true, IfErr, IfOk, IfSome, IsSome, None, OnErr, OnOk, Some};
+ghost use Rattle.std.specs.Prelude.{◌≡◌, Bool, IfErr, IfOk, IfSome, IsSome, OnErr, OnOk, true};
 ghost use Rattle.core_mail.specs.Inboxes.{AreInboxesOf, Inboxes};
 ghost use Rattle.core_model.specs.Consistent.{GoesOn, IsConsistent, IsFleetOf};
 ghost use Rattle.core_model.specs.Growing.{MastersGrow};
 ghost use Rattle.core_model.specs.Pens.{pens_of};
-ghost use Rattle.core_model.specs.Serving.{IsLeaderFor};
-ghost use Rattle.core_plans.specs.HeldWrites.{DoesWriteStage, IsWriteUnderWay, position_of, way_given_up, without_job};
+ghost use Rattle.core_model.specs.Serving.{IsFollowerFor, IsLeaderFor};
+ghost use Rattle.core_plans.specs.HeldWrites.{DoesWriteStage, IsAnswerTo, IsTakenAs, IsWriteUnderWay, position_of, way_given_up};
 ghost use Rattle.core_steps.specs.Routes.{FailsCarry, scene};
-ghost use Rattle.core_steps.specs.Writes.{FollowerTakes, posting};
+ghost use Rattle.core_steps.specs.Posting.{posting};
+ghost use Rattle.core_steps.specs.Writes.{FollowerTakes};
 ghost use Rattle.shard_tables.specs.Written.{HasEntry};
 ghost use Rattle.tao_base.specs.Writes.{write_shard};
 ghost use Rattle.tao_keeper.specs.KeeperState.{IsLater, KeeperState};
-ghost use Rattle.tao_link.specs.Shown.{after_carry};
+ghost use Rattle.tao_keeper.specs.Table.{Tables};
+ghost use Rattle.tao_link.specs.Shown.{LinkShown, after_carry};
 ghost use Rattle.tao_schema.specs.Schema.{types_of};
 ghost use Rattle.topology.specs.States.{NodeStates, all_up};
 ghost use Rattle.write_model.specs.Writes.{FitsWrite};
-ghost use Rattle.write_plan.specs.Committing.{told_kind};
 ghost use Rattle.write_plan.specs.Plans.{answered_entry, next_of, when_of};
 ghost use Rattle.write_plan.specs.Stages.{told_stage};
 ghost use Rattle.write_plan.specs.declared.stage.WriteStage.TheVariants as stage;
 
 use core_mail::Mail;
 use core_nodes::Fleet;
-use core_steps::{Route, apply_over, commit_over, link_fault};
+use core_steps::{Route, apply_over, commit_over, end_over, link_fault, merge_over};
 use node_name::NodeName;
 use replies::{Refusal, Reply, StoreRefused};
 use shard_log::Note;
@@ -32,31 +33,22 @@ use tao_base::{OutOfMemory, Write};
 use tao_keeper::Keeper;
 use tao_link::{Link, LinkFailed};
 use topology::{Config, Topology};
-use write_plan::{Committed, WritePlan, WriteResult, WriteStage, told_kind};
+use write_plan::{Committed, WritePlan, WriteResult, WriteStage};
 
-/// What was written, without a job: no type has an inverse.
-fn without_job(wrote: Wrote) -> Wrote
-    ensures { result ≡ without_job wrote }
+/// What the leader answered to a write, as its plan takes it.
+fn answered(
+    config: &Config,
+    write: &Write,
+    leader: NodeName,
+    wrote: Result<Wrote, Reply>,
+) -> Result<Committed, Reply>
+    requires fits { IfOk wrote (λ w. IfSome w.entry (λ e. FitsWrite e write.now)) }
+    requires entry { IfOk wrote (λ w. HasEntry write.now w.entry) }
+    ensures { IsTakenAs config.now write.now wrote result }
 {
-    Wrote { job: None, ..wrote }
-}
-
-/// What the leader answered to a write, without a job and without another end.
-fn answered(write: &Write, wrote: Wrote, leader: NodeName) -> Committed
-    requires fits { IfSome wrote.entry (λ e. FitsWrite e write.now) }
-    requires entry { HasEntry write.now wrote.entry }
-    ensures wrote { result.wrote ≡ without_job wrote }
-    ensures kind { told_kind write.now wrote.entry ≡ Some result.kind }
-    ensures passed { result.passed ≡ None }
-    ensures paired { result.paired ≡ false }
-{
-    let kind = told_kind(write, &wrote.entry);
-    Committed {
-        wrote: without_job(wrote),
-        leader,
-        passed: None,
-        kind,
-        paired: false,
+    match wrote {
+        Ok(wrote) => Ok(Committed::of(&config.schema, write, wrote, leader, None)),
+        Err(reply) => Err(reply),
     }
 }
 
@@ -76,12 +68,12 @@ fn commit_stage<K: Keeper, L: Link>(
     requires inboxes { AreInboxesOf config.now (pens_of fleet.old.masters) mail.old }
     requires states { topology.now ≡ all_up config.now }
     requires leader { IsLeaderFor config.now (write_shard plan.old.write) leader }
-    requires write { IsWriteUnderWay config.now fleet.old plan.old }
+    requires write { IsWriteUnderWay K.TELLS config.now (K.state keepers.old).told fleet.old plan.old }
     requires stage { next_of plan.old ≡ stage.Commit }
     ensures does { DoesWriteStage K.TELLS config.now leader stage.Commit
         plan.old (posting (scene fleet.old (K.state keepers.old) (L.shown link.old)) mail.old topology.now)
         plan.new (posting (scene fleet.new (K.state keepers.new) (L.shown link.new)) mail.new topology.now) }
-    ensures write { IsWriteUnderWay config.now fleet.new plan.new }
+    ensures write { IsWriteUnderWay K.TELLS config.now (K.state keepers.new).told fleet.new plan.new }
     ensures consistent { IsConsistent K.TELLS config.now (K.state keepers.new).told fleet.new }
     ensures inboxes { AreInboxesOf config.now (pens_of fleet.new.masters) mail.new }
     ensures goes { GoesOn fleet.old fleet.new }
@@ -93,8 +85,7 @@ fn commit_stage<K: Keeper, L: Link>(
         follower: plan.follower(),
         leader,
     };
-    let write = plan.write();
-    let outcome = match commit_over(
+    let wrote = commit_over(
         alloc,
         fleet,
         mail,
@@ -104,13 +95,78 @@ fn commit_stage<K: Keeper, L: Link>(
         link,
         route,
         plan.origin(),
-        write,
-    ) {
-        Ok(wrote) => Ok(answered(write, wrote, leader)),
-        Err(reply) => Err(reply),
-    };
+        plan.write(),
+    );
+    let outcome = answered(config, plan.write(), leader, wrote);
     let hops = link.carries().saturating_sub(carries);
     plan.take(WriteResult::Commit(outcome), hops);
+}
+
+/// The stage `inverse`.
+fn inverse_stage<K: Keeper, L: Link>(
+    alloc: Global,
+    fleet: &mut Fleet,
+    mail: &mut Mail,
+    config: &Config,
+    topology: &Topology,
+    keepers: &mut K,
+    link: &mut L,
+    leader: NodeName,
+    plan: &mut WritePlan,
+)
+    requires consistent { IsConsistent K.TELLS config.now (K.state keepers.old).told fleet.old }
+    requires inboxes { AreInboxesOf config.now (pens_of fleet.old.masters) mail.old }
+    requires states { topology.now ≡ all_up config.now }
+    requires write { IsWriteUnderWay K.TELLS config.now (K.state keepers.old).told fleet.old plan.old }
+    requires stage { next_of plan.old ≡ stage.Inverse }
+    ensures does { DoesWriteStage K.TELLS config.now leader stage.Inverse
+        plan.old (posting (scene fleet.old (K.state keepers.old) (L.shown link.old)) mail.old topology.now)
+        plan.new (posting (scene fleet.new (K.state keepers.new) (L.shown link.new)) mail.new topology.now) }
+    ensures write { IsWriteUnderWay K.TELLS config.now (K.state keepers.new).told fleet.new plan.new }
+    ensures consistent { IsConsistent K.TELLS config.now (K.state keepers.new).told fleet.new }
+    ensures inboxes { AreInboxesOf config.now (pens_of fleet.new.masters) mail.new }
+    ensures goes { GoesOn fleet.old fleet.new }
+    ensures grows { MastersGrow K.TELLS config.now (K.state keepers.old).told (K.state keepers.new).told }
+    ensures later { IsLater (K.state keepers.old) (K.state keepers.new) }
+{
+    let carries = link.carries();
+    let shard = plan.write().shard();
+    let Some(job) = plan.job() else {
+        unreachable!()
+    };
+    let result = merge_over(
+        alloc, fleet, mail, config, topology, keepers, link, leader, shard, job,
+    );
+    let hops = link.carries().saturating_sub(carries);
+    plan.take(WriteResult::Inverse(result), hops);
+}
+
+/// The stage `end`.
+fn end_stage<K: Keeper>(
+    fleet: &mut Fleet,
+    config: &Config,
+    keepers: &mut K,
+    leader: NodeName,
+    plan: &mut WritePlan,
+)
+    requires consistent { IsConsistent K.TELLS config.now (K.state keepers.old).told fleet.old }
+    requires write { IsWriteUnderWay K.TELLS config.now (K.state keepers.old).told fleet.old plan.old }
+    requires stage { next_of plan.old ≡ stage.End }
+    ensures does { (link : LinkShown) (inboxes : Inboxes) (states : NodeStates) → DoesWriteStage K.TELLS config.now leader stage.End
+        plan.old (posting (scene fleet.old (K.state keepers.old) link) inboxes states)
+        plan.new (posting (scene fleet.new (K.state keepers.new) link) inboxes states) }
+    ensures write { IsWriteUnderWay K.TELLS config.now (K.state keepers.new).told fleet.new plan.new }
+    ensures same { fleet.new ≡ fleet.old }
+    ensures consistent { IsConsistent K.TELLS config.now (K.state keepers.new).told fleet.new }
+    ensures grows { MastersGrow K.TELLS config.now (K.state keepers.old).told (K.state keepers.new).told }
+    ensures later { IsLater (K.state keepers.old) (K.state keepers.new) }
+{
+    let shard = plan.write().shard();
+    let Some(job) = plan.job() else {
+        unreachable!()
+    };
+    let result = end_over(fleet, config, keepers, shard, job);
+    plan.take(WriteResult::End(result), 0);
 }
 
 /// The reply that memory is wanting for the way back of what a plan's commit answered: the write stands, at the position that it tells.
@@ -157,7 +213,8 @@ fn carry_back<L: Link>(
     note: Note,
 ) -> Result<(), Reply>
     requires fleet { IsFleetOf config.now fleet.old }
-    requires write { IsWriteUnderWay config.now fleet.old plan.now }
+    requires follower { IsFollowerFor config.now (write_shard plan.now.write) plan.now.follower }
+    requires answer { IfSome plan.now.committed (IsAnswerTo config.now fleet.old.masters plan.now) }
     requires route { route.follower ≡ plan.now.follower }
     requires committed { IsSome plan.now.committed }
     requires note { IfSome plan.now.committed (λ c. note ≡ c.wrote.note) }
@@ -199,12 +256,14 @@ fn apply_stage<L: Link>(
     plan: &mut WritePlan,
 )
     requires fleet { IsFleetOf config.now fleet.old }
-    requires write { IsWriteUnderWay config.now fleet.old plan.old }
+    requires follower { IsFollowerFor config.now (write_shard plan.old.write) plan.old.follower }
+    requires answer { IfSome plan.old.committed (IsAnswerTo config.now fleet.old.masters plan.old) }
     requires stage { next_of plan.old ≡ stage.Apply }
     ensures does { (keepers : KeeperState) (inboxes : Inboxes) (states : NodeStates) → DoesWriteStage true config.now leader stage.Apply
         plan.old (posting (scene fleet.old keepers (L.shown link.old)) inboxes states)
         plan.new (posting (scene fleet.new keepers (L.shown link.new)) inboxes states) }
-    ensures write { IsWriteUnderWay config.now fleet.new plan.new }
+    ensures write { (tells : Bool) (tables : Tables) → IsWriteUnderWay tells config.now tables fleet.old plan.old
+        → IsWriteUnderWay tells config.now tables fleet.new plan.new }
     ensures rest { fleet.new ≡ record fleet.old { followers = fleet.new.followers } }
     ensures fleet { IsFleetOf config.now fleet.new }
     ensures goes { GoesOn fleet.old fleet.new }
@@ -241,12 +300,12 @@ pub fn write_stage<K: Keeper, L: Link>(
     requires inboxes { AreInboxesOf config.now (pens_of fleet.old.masters) mail.old }
     requires states { topology.now ≡ all_up config.now }
     requires leader { IsLeaderFor config.now (write_shard plan.old.write) leader }
-    requires write { IsWriteUnderWay config.now fleet.old plan.old }
+    requires write { IsWriteUnderWay K.TELLS config.now (K.state keepers.old).told fleet.old plan.old }
     requires goes_on { IsSome (told_stage (next_of plan.old)) }
     ensures does { DoesWriteStage K.TELLS config.now leader (next_of plan.old)
         plan.old (posting (scene fleet.old (K.state keepers.old) (L.shown link.old)) mail.old topology.now)
         plan.new (posting (scene fleet.new (K.state keepers.new) (L.shown link.new)) mail.new topology.now) }
-    ensures write { IsWriteUnderWay config.now fleet.new plan.new }
+    ensures write { IsWriteUnderWay K.TELLS config.now (K.state keepers.new).told fleet.new plan.new }
     ensures consistent { IsConsistent K.TELLS config.now (K.state keepers.new).told fleet.new }
     ensures inboxes { AreInboxesOf config.now (pens_of fleet.new.masters) mail.new }
     ensures goes { GoesOn fleet.old fleet.new }
@@ -257,7 +316,11 @@ pub fn write_stage<K: Keeper, L: Link>(
         WriteStage::Commit => commit_stage(
             alloc, fleet, mail, config, topology, keepers, link, leader, plan,
         ),
+        WriteStage::Inverse => inverse_stage(
+            alloc, fleet, mail, config, topology, keepers, link, leader, plan,
+        ),
+        WriteStage::End => end_stage(fleet, config, keepers, leader, plan),
         WriteStage::Apply => apply_stage(fleet, config, link, leader, plan),
-        _ => unreachable!(),
+        WriteStage::Relay | WriteStage::Done => unreachable!(),
     }
 }

@@ -1,5 +1,5 @@
 use Rattle.core_steps.specs.Routes.{scene}
-use Rattle.core_steps.specs.Writes.{posting}
+use Rattle.core_steps.specs.Posting.{posting}
 use Rattle.core_plans.proofs.PlanMaps.{steps_plan}
 use Rattle.core_plans.proofs.plans.HeldPlans.step.Goals as goal
 

@@ -1,0 +1,329 @@
+-- What each stage of a held write comes to.
+use Rattle.std.proofs.Common.{◌≡◌, ℕ, false, true, Bool, List, Option, Some, None, refl, sym, ap, ◌∙◌, subst, inl, inr}
+use Rattle.std.proofs.lemmas.Option.{IfSome_then}
+use Rattle.std.specs.Prelude.{⊤, Err, IfErr, IfOk, IfSome, IsSome, Ok, OnOk, Result, option_and_then, unwrap_or}
+use Rattle.core_model.specs.Fleet.{Fleet}
+use Rattle.core_model.specs.Jobs.{CanBeMerged, IsMergedJob, ShardJob, job_on}
+use Rattle.core_steps.specs.OtherEnds.{EndsOver, StandsThere, known_of}
+use Rattle.core_steps.specs.Posting.{Posting}
+use Rattle.core_steps.specs.Routes.{hops_between}
+use Rattle.core_steps.specs.Writes.{CanBeApplied, ClientWrite, IsCommitted, RefusesCommit, client_call}
+use Rattle.core_steps.specs.declared.routes.Route.{Route}
+use Rattle.graph_model.specs.Told.{WhereTold}
+use Rattle.node_name.specs.declared.NodeName.{NodeName}
+use Rattle.replies.specs.declared.calls.ScheduledWhy.{ScheduledWhy}
+use Rattle.replies.specs.declared.calls.ScheduledWhy.TheVariants.{LinkFault, KeeperFault, LogFull, NoServer, Memory}
+use Rattle.replies.specs.declared.reply.Reply.{Reply}
+use Rattle.shard_tables.specs.StoreView.{Store}
+use Rattle.shard_tables.specs.declared.writes.Wrote.{Wrote}
+use Rattle.tao_base.specs.Writes.{write_shard}
+use Rattle.tao_base.specs.declared.entry.Origin.{Origin}
+use Rattle.tao_base.specs.declared.write.Write.{Write}
+use Rattle.tao_keeper.specs.Table.{Tables}
+use Rattle.tao_keeper.specs.declared.jobs.Job.{Job}
+use Rattle.tao_link.specs.Shown.{LinkShown}
+use Rattle.tao_schema.specs.Schema.{types_of}
+use Rattle.topology.specs.Config.{Settings}
+use Rattle.write_plan.specs.Committing.{has_inverse, told_kind}
+use Rattle.write_plan.specs.Plans.{Plan, after_stage, answered_job, back_stage, job_stage, next_of, next_stage as stage_by, written_there}
+use Rattle.write_plan.specs.declared.committed.Committed.{Committed}
+use Rattle.write_plan.specs.declared.progress.OtherEnd.{OtherEnd}
+use Rattle.write_plan.specs.declared.progress.OtherEnd.TheVariants.{Due, Merged, Ended, Open}
+use Rattle.write_plan.specs.declared.progress.WayBack.{WayBack}
+use Rattle.write_plan.specs.declared.progress.WayBack.TheVariants.{Ahead, Relayed, Applied}
+use Rattle.write_plan.specs.declared.results.Late.{Late}
+use Rattle.write_plan.specs.declared.results.Late.TheVariants.{Scheduled, Refused}
+use Rattle.write_plan.specs.declared.results.WriteResult.{WriteResult}
+use Rattle.write_plan.specs.declared.results.WriteResult.TheVariants as came
+use Rattle.write_plan.specs.declared.stage.WriteStage.{WriteStage}
+use Rattle.write_plan.specs.declared.stage.WriteStage.TheVariants.{Commit, Inverse, End, Relay, Apply, Done}
+use Rattle.core_plans.specs.HeldWrites.{DoesWriteStage, IsAnswerTo, IsTakenAs, IsWriteUnderWay, call_by, job_by, way_by}
+
+-- ---- where a write stands
+
+-- a stage of the way back
+abbrev is_back : WriteStage → Bool
+is_back Commit = false
+is_back Inverse = false
+is_back End = false
+is_back Relay = true
+is_back Apply = true
+is_back Done = true
+
+goes_back : (passed : Option NodeName) (back : WayBack) → is_back (back_stage passed back) ≡ true
+goes_back None Ahead = refl
+goes_back (Some leader) Ahead = refl
+goes_back None Relayed = refl
+goes_back (Some leader) Relayed = refl
+goes_back None Applied = refl
+goes_back (Some leader) Applied = refl
+
+not_back : (passed : Option NodeName) (back : WayBack) (at : WriteStage) → is_back at ≡ false → back_stage passed back ≡ at → ⊥
+not_back passed back at never is =
+    let way : is_back at ≡ true = ap is_back (sym is) ∙ goes_back passed back in
+    absurd (cc)
+
+stage_of_job : (o : Option Job) (passed : Option NodeName) (job : OtherEnd) (back : WayBack) (at : WriteStage) → is_back at ≡ false
+    → unwrap_or (option_and_then (λ _. job_stage job) o) (back_stage passed back) ≡ at → IsSome o × (job_stage job ≡ Some at)
+stage_of_job None passed job back at never is = absurd (not_back passed back at never is)
+stage_of_job (Some j) passed Due back at never is = (refl, ap Some is)
+stage_of_job (Some j) passed Merged back at never is = (refl, ap Some is)
+stage_of_job (Some j) passed Ended back at never is = absurd (not_back passed back at never is)
+stage_of_job (Some j) passed (Open why) back at never is = absurd (not_back passed back at never is)
+
+-- what a job has before it is no commit
+not_commit : (job : OtherEnd) → job_stage job ≡ Some Commit → ⊥
+not_commit Due is = absurd (cc)
+not_commit Merged is = absurd (cc)
+not_commit Ended is = absurd (cc)
+not_commit (Open why) is = absurd (cc)
+
+is_due : (job : OtherEnd) → job_stage job ≡ Some Inverse → job ≡ Due
+is_due Due is = refl
+is_due Merged is = absurd (cc)
+is_due Ended is = absurd (cc)
+is_due (Open why) is = absurd (cc)
+
+is_merged : (job : OtherEnd) → job_stage job ≡ Some End → job ≡ Merged
+is_merged Due is = absurd (cc)
+is_merged Merged is = refl
+is_merged Ended is = absurd (cc)
+is_merged (Open why) is = absurd (cc)
+
+none_answered : (refused : Option Reply) (committed : Option Committed) (job : OtherEnd) (back : WayBack) → stage_by refused committed job back ≡ Commit
+    → committed ≡ None
+none_answered (Some reply) committed job back is = absurd (cc)
+none_answered None None job back is = refl
+none_answered None (Some c) job back is = absurd (not_commit job (stage_of_job c.wrote.job c.passed job back Commit refl is).1)
+
+-- before its commit nothing was answered
+pub before_commit : (p : Plan) → next_of p ≡ Commit → p.committed ≡ None
+before_commit p is = none_answered p.refused p.committed p.job p.back is
+
+job_ahead : (refused : Option Reply) (committed : Option Committed) (job : OtherEnd) (back : WayBack) (at : WriteStage) → is_back at ≡ false
+    → (Commit ≡ at → ⊥) → stage_by refused committed job back ≡ at → IsSome (option_and_then (λ c. c.wrote.job) committed) × (job_stage job ≡ Some at)
+job_ahead (Some reply) committed job back at never not is = (let over : true ≡ false = ap is_back is ∙ never in absurd (cc))
+job_ahead None None job back at never not is = absurd (not is)
+job_ahead None (Some c) job back at never not is = stage_of_job c.wrote.job c.passed job back at never is
+
+-- at the stage `inverse` its job is due
+pub at_inverse : (p : Plan) → next_of p ≡ Inverse → IsSome (answered_job p) × (p.job ≡ Due)
+at_inverse p is =
+    let at = job_ahead p.refused p.committed p.job p.back Inverse refl (λ same. absurd (cc)) is in
+    (at.0, is_due p.job at.1)
+
+-- and at the stage `end` it is merged
+pub at_end : (p : Plan) → next_of p ≡ End → IsSome (answered_job p) × (p.job ≡ Merged)
+at_end p is =
+    let at = job_ahead p.refused p.committed p.job p.back End refl (λ same. absurd (cc)) is in
+    (at.0, is_merged p.job at.1)
+
+-- ---- it can go on
+
+answered_none : (p : Plan) (job : Job) → answered_job p ≡ Some job → p.committed ≡ None → ⊥
+answered_none p job is none =
+    let gone : None ≡ Some job = ap (option_and_then (λ c. c.wrote.job)) (sym none) ∙ is in
+    absurd (cc)
+
+-- what was written at the other end stands there, and stays so where more is told
+none_there : (s : Settings) (masters : List Store) (o : Option Job) → IfSome o (λ j. StandsThere s j None masters)
+none_there s masters None = tt
+none_there s masters (Some j) = tt
+
+more_there : (s : Settings) (masters : List Store) (job : Job) (before more : Option Wrote) → StandsThere s job before masters
+    → StandsThere s job more masters → StandsThere s job (written_there before more) masters
+more_there s masters job (Some w) more was now = was
+more_there s masters job None more was now = now
+
+-- what the end of a job writes there
+abbrev late_wrote : Result ⊤ Late → Option Wrote
+late_wrote (Ok done) = None
+late_wrote (Err (Scheduled why wrote)) = wrote
+late_wrote (Err (Refused reply)) = None
+
+no_late_wrote : (tells : Bool) (s : Settings) (j : ShardJob) (why : ScheduledWhy) (w : Wrote) (old new : Posting)
+    → EndsOver tells s j (Err (Scheduled why (Some w))) old new → ⊥
+no_late_wrote tells s j LinkFault w old new is = absurd is
+no_late_wrote tells s j KeeperFault w old new is = absurd is
+no_late_wrote tells s j LogFull w old new is = absurd is
+no_late_wrote tells s j NoServer w old new is = absurd is
+no_late_wrote tells s j Memory w old new is = absurd is
+
+-- is nothing
+end_writes_none : (tells : Bool) (s : Settings) (j : ShardJob) (result : Result ⊤ Late) (old new : Posting) → EndsOver tells s j result old new
+    → late_wrote result ≡ None
+end_writes_none tells s j (Ok done) old new is = refl
+end_writes_none tells s j (Err (Scheduled why None)) old new is = refl
+end_writes_none tells s j (Err (Scheduled why (Some w))) old new is = absurd (no_late_wrote tells s j why w old new is)
+end_writes_none tells s j (Err (Refused reply)) old new is = refl
+
+-- so it does, with what it took
+pub taken_on : (tells : Bool) (s : Settings) (tables : Tables) (f : Fleet) (p q : Plan) (result : WriteResult) (hops : ℕ) → q ≡ after_stage p result hops
+    → IsWriteUnderWay tells s tables f (after_stage p result hops) → IsWriteUnderWay tells s tables f q
+taken_on tells s tables f p q result hops then = subst (IsWriteUnderWay tells s tables f) (sym then)
+
+module _ (tells : Bool) (s : Settings) (tables : Tables) (f : Fleet) (p : Plan) (is : IsWriteUnderWay tells s tables f p) where
+  -- what its commit answered stays that
+  answer_stays : (q : Plan) → q.write ≡ p.write → q.origin ≡ p.origin → (c : Committed) → IsAnswerTo s f.masters p c → IsAnswerTo s f.masters q c
+  answer_stays q write origin c answer = record {
+    apply = subst (λ w. CanBeApplied (client_call q.origin w) c.wrote f.masters) (sym write)
+        (subst (λ o. CanBeApplied (client_call o p.write) c.wrote f.masters) (sym origin) answer.apply);
+    kind = subst (λ w. told_kind w c.wrote.entry ≡ Some c.kind) (sym write) answer.kind;
+    passed = answer.passed;
+    paired = subst (λ w. c.paired ≡ has_inverse (types_of s.schema) w) (sym write) answer.paired;
+  }
+
+  -- whatever became of its job, or of its way back
+  moves : (job : OtherEnd) (other : Option Wrote) (back : WayBack) (refused : Option Reply) (hops : ℕ)
+      → (p.committed ≡ None → (job ≡ Due) × (other ≡ None))
+      → (job ≡ Merged → IfSome (answered_job p) (λ j. WhereTold tells (IsMergedJob s tables (job_by p j))))
+      → IfSome (answered_job p) (λ j. StandsThere s j other f.masters)
+      → IsWriteUnderWay tells s tables f (record p { job = job; other = other; back = back; refused = refused; hops = hops })
+  moves job other back refused hops begun merged stands = record {
+    follower = is.follower;
+    region = is.region;
+    changes = is.changes;
+    client = is.client;
+    begun = begun;
+    committed = IfSome_then p.committed is.committed (answer_stays _ refl refl);
+    job = is.job;
+    merged = merged;
+    other = stands;
+  }
+
+  -- it was refused
+  refused_still : (reply : Reply) (hops : ℕ) → IsWriteUnderWay tells s tables f (record p { refused = Some reply; hops = hops })
+  refused_still reply hops = moves p.job p.other p.back (Some reply) hops is.begun is.merged is.other
+
+  -- it came so far on its way back, or not
+  pub applied_still : (outcome : Result ⊤ Reply) (hops : ℕ) → IsWriteUnderWay tells s tables f (after_stage p (came.Apply outcome) hops)
+  applied_still (Ok done) hops = moves p.job p.other Applied p.refused _ is.begun is.merged is.other
+  applied_still (Err reply) hops = refused_still reply _
+
+  -- it was committed, or not
+  committed_still : (outcome : Result Committed Reply) (hops : ℕ) → p.committed ≡ None
+      → IfOk outcome (IsAnswerTo s f.masters p) → IfOk outcome (λ c. IfSome c.wrote.job (λ j. CanBeMerged tells s tables (job_by p j)))
+      → IsWriteUnderWay tells s tables f (after_stage p (came.Commit outcome) hops)
+  committed_still (Ok c) hops none answer job = record {
+    follower = is.follower;
+    region = is.region;
+    changes = is.changes;
+    client = is.client;
+    begun = λ gone. absurd (cc);
+    committed = answer_stays _ refl refl c answer;
+    job = job;
+    merged = λ at. (let due = (is.begun none).0 in absurd (cc));
+    other = subst (λ o. IfSome c.wrote.job (λ j. StandsThere s j o f.masters)) (sym (is.begun none).1) (none_there s f.masters c.wrote.job);
+  }
+  committed_still (Err reply) hops none answer job = refused_still reply _
+
+  module _ (job : Job) (at : answered_job p ≡ Some job) where
+    not_begun : (due : OtherEnd) (other : Option Wrote) → p.committed ≡ None → (due ≡ Due) × (other ≡ None)
+    not_begun due other none = absurd (answered_none p job at none)
+
+    there : (more : Option Wrote) → StandsThere s job more f.masters → IfSome (answered_job p) (λ j. StandsThere s j (written_there p.other more) f.masters)
+    there more now = subst (λ o. IfSome o (λ j. StandsThere s j (written_there p.other more) f.masters)) (sym at)
+        (more_there s f.masters job p.other more (subst (λ o. IfSome o (λ j. StandsThere s j p.other f.masters)) at is.other) now)
+
+    -- its job was merged, or not
+    pub merged_still : (result : Result Wrote Late) (hops : ℕ) → WhereTold tells (OnOk result (IsMergedJob s tables (job_by p job)))
+        → StandsThere s job (known_of result) f.masters → IsWriteUnderWay tells s tables f (after_stage p (came.Inverse result) hops)
+    merged_still (Ok wrote) hops merged stands =
+        moves Merged (written_there p.other (Some wrote)) p.back p.refused _ (not_begun Merged (written_there p.other (Some wrote)))
+        (λ now. subst (λ o. IfSome o (λ j. WhereTold tells (IsMergedJob s tables (job_by p j)))) (sym at) merged) (there (Some wrote) stands)
+    merged_still (Err (Scheduled why wrote)) hops merged stands =
+        moves (Open why) (written_there p.other wrote) p.back p.refused _ (not_begun (Open why) (written_there p.other wrote))
+        (λ now. absurd (cc)) (there wrote stands)
+    merged_still (Err (Refused reply)) hops merged stands = refused_still reply _
+
+    -- it ended, or not
+    pub ended_still : (result : Result ⊤ Late) (hops : ℕ) → late_wrote result ≡ None
+        → IsWriteUnderWay tells s tables f (after_stage p (came.End result) hops)
+    ended_still (Ok done) hops none = moves Ended p.other p.back p.refused _ (not_begun Ended p.other) (λ now. absurd (cc)) is.other
+    ended_still (Err (Scheduled why wrote)) hops none =
+        moves (Open why) (written_there p.other wrote) p.back p.refused _ (not_begun (Open why) (written_there p.other wrote))
+        (λ now. absurd (cc)) (there wrote (subst (λ o. StandsThere s job o f.masters) (sym none) tt))
+    ended_still (Err (Refused reply)) hops none = refused_still reply _
+
+-- ---- commit
+
+-- what a plan says of itself
+pub of_write : (leader : NodeName) (p : Plan) (follower : NodeName) (origin : Origin) (write : Write) (P : Route → ClientWrite → Type 0)
+    → follower ≡ p.follower → origin ≡ p.origin → write ≡ p.write → P (record { follower = follower; leader = leader }) (client_call origin write)
+    → P (way_by leader p) (call_by p)
+of_write leader p follower origin write P follower_is origin_is write_is h =
+    subst (λ f. P (record { follower = f; leader = leader }) (call_by p)) follower_is
+    (subst (λ o. P (record { follower = follower; leader = leader }) (client_call o p.write)) origin_is
+    (subst (λ w. P (record { follower = follower; leader = leader }) (client_call origin w)) write_is h))
+
+-- what the leader answered, its follower may take
+answer_of : (s : Settings) (masters : List Store) (p : Plan) (wrote : Result Wrote Reply) (outcome : Result Committed Reply)
+    → IsTakenAs s p.write wrote outcome → IfOk wrote (λ w. CanBeApplied (call_by p) w masters) → IfOk outcome (IsAnswerTo s masters p)
+answer_of s masters p (Ok w) (Ok c) taken apply = record {
+  apply = subst (λ x. CanBeApplied (call_by p) x masters) (sym taken.0) apply;
+  kind = subst (λ (x : Wrote). told_kind p.write x.entry ≡ Some c.kind) (sym taken.0) taken.1;
+  passed = taken.2;
+  paired = taken.3;
+}
+answer_of s masters p (Ok w) (Err reply) taken apply = tt
+answer_of s masters p (Err refusal) (Ok c) taken apply = absurd taken
+answer_of s masters p (Err refusal) (Err reply) taken apply = tt
+
+-- and its job may be merged
+job_of_answer : (s : Settings) (write : Write) (P : Job → Type 0) (wrote : Result Wrote Reply) (outcome : Result Committed Reply)
+    → IsTakenAs s write wrote outcome → IfOk wrote (λ w. IfSome w.job P) → IfOk outcome (λ c. IfSome c.wrote.job P)
+job_of_answer s write P (Ok w) (Ok c) taken job = subst (λ (x : Wrote). IfSome x.job P) (sym taken.0) job
+job_of_answer s write P (Ok w) (Err reply) taken job = tt
+job_of_answer s write P (Err refusal) (Ok c) taken job = absurd taken
+job_of_answer s write P (Err refusal) (Err reply) taken job = tt
+
+pub commits_done : (tells : Bool) (s : Settings) (leader : NodeName) (p q : Plan) (old new : Posting) (wrote : Result Wrote Reply)
+    (outcome : Result Committed Reply) → IsTakenAs s p.write wrote outcome → IfOk wrote (λ w. CanBeApplied (call_by p) w new.scene.fleet.masters)
+    → IfOk wrote (λ w. IsCommitted tells s (way_by leader p) (call_by p) w old new)
+    → IfErr wrote (λ reply. RefusesCommit tells s (way_by leader p) (call_by p) reply old new)
+    → q ≡ after_stage p (came.Commit outcome) (hops_between old.scene.link new.scene.link) → DoesWriteStage tells s leader Commit p old q new
+commits_done tells s leader p q old new (Ok w) (Ok c) taken apply commits refuses then = inl (record {
+  committed = c;
+  commits = subst (λ x. IsCommitted tells s (way_by leader p) (call_by p) x old new) (sym taken.0) commits;
+  answer = answer_of s new.scene.fleet.masters p (Ok w) (Ok c) taken apply;
+  then = then;
+})
+commits_done tells s leader p q old new (Err refusal) (Err reply) taken apply commits refuses then = inr (record {
+  reply = reply;
+  refuses = subst (λ r. RefusesCommit tells s (way_by leader p) (call_by p) r old new) (sym taken) refuses;
+  then = then;
+})
+commits_done tells s leader p q old new (Ok w) (Err reply) taken apply commits refuses then = absurd taken
+commits_done tells s leader p q old new (Err refusal) (Ok c) taken apply commits refuses then = absurd taken
+
+pub committed_on : (tells : Bool) (s : Settings) (tables : Tables) (f : Fleet) (p : Plan) (wrote : Result Wrote Reply) (outcome : Result Committed Reply)
+    (hops : ℕ) → IsWriteUnderWay tells s tables f p → next_of p ≡ Commit → IsTakenAs s p.write wrote outcome
+    → IfOk wrote (λ w. CanBeApplied (call_by p) w f.masters) → IfOk wrote (λ w. IfSome w.job (λ j. CanBeMerged tells s tables (job_by p j)))
+    → IsWriteUnderWay tells s tables f (after_stage p (came.Commit outcome) hops)
+committed_on tells s tables f p wrote outcome hops is at taken apply job =
+    committed_still tells s tables f p is outcome hops (before_commit p at) (answer_of s f.masters p wrote outcome taken apply)
+    (job_of_answer s p.write (λ j. CanBeMerged tells s tables (job_by p j)) wrote outcome taken job)
+
+-- ---- its job
+
+pub no_job : (p : Plan) → IsSome (answered_job p) → answered_job p ≡ None → ⊥
+no_job p some none =
+    let gone : IsSome {T = Job} None = subst IsSome none some in
+    absurd (cc)
+
+module _ (P : ShardJob → Type 0) (p : Plan) (job : Job) (shard : ℕ) (shard_is : shard ≡ write_shard p.write) where
+  pub of_job : answered_job p ≡ Some job → IfSome (answered_job p) (λ j. P (job_by p j)) → P (job_on shard job)
+  of_job at is = subst (λ n. P (job_on n job)) (sym shard_is) (subst (λ o. IfSome o (λ j. P (job_by p j))) at is)
+
+  pub to_job : P (job_on shard job) → P (job_by p job)
+  to_job is = subst (λ n. P (job_on n job)) shard_is is
+
+-- what the keepers' calls don't see
+abbrev pub no_carries : LinkShown
+no_carries = record { cuts = None; carries = 0; faults = 0; failed = None }
+
+pub ended_on : (tells : Bool) (s : Settings) (tables : Tables) (f : Fleet) (p : Plan) (job : Job) (result : Result ⊤ Late) (old new : Posting)
+    → IsWriteUnderWay tells s tables f p → answered_job p ≡ Some job → EndsOver tells s (job_by p job) result old new
+    → IsWriteUnderWay tells s tables f (after_stage p (came.End result) 0)
+ended_on tells s tables f p job result old new is at ends =
+    ended_still tells s tables f p is job at result 0 (end_writes_none tells s (job_by p job) result old new ends)

@@ -1,0 +1,33 @@
+use Rattle.std.proofs.Common.{◌≡◌, ◌∙◌, ap, subst, sym}
+use Rattle.core_model.specs.Consistent.{GoesOn}
+use Rattle.core_model.specs.Fleet.{Fleet}
+use Rattle.core_nodes.proofs.FleetLemmas.{goes_self}
+use Rattle.core_plans.proofs.HeldWriteStages.{applied_still, taken_on}
+use Rattle.core_plans.proofs.WritesGoOn.{same_masters}
+use Rattle.core_plans.proofs.writes.apply_stage.Goals as goal
+use Rattle.core_plans.proofs.writes.apply_stage.Goals.{in-Ok, in-Err}
+use Rattle.write_plan.specs.Plans.{Plan, after_stage, next_of}
+use Rattle.write_plan.specs.declared.results.WriteResult.TheVariants as came
+
+pub returns-clause-goes : goal.returns-clause-goes
+returns-clause-goes g c = elim c.match-answer_note.branch [
+  | in-Ok w ↦ subst (GoesOn c.args.fleet.now) (sym w.fleet-is) w.carry_back-outcome.ensures.goes
+  | in-Err w ↦ subst (GoesOn c.args.fleet.now) (sym w.fleet-is) (goes_self c.args.fleet.now)
+]
+
+pub returns-clause-write : goal.returns-clause-write
+returns-clause-write g c tells tables is =
+    let s = c.args.config.now in
+    let before = c.args.fleet.now in
+    let after : Fleet = c.match-answer_note.fleet in
+    let outcome = c.match-answer_note.outcome in
+    let hops = c.saturating_sub-hops.result in
+    let same = c.answer_note.ensures.same in
+    let masters : after.masters ≡ before.masters = elim c.match-answer_note.branch [
+      | in-Ok w ↦ ap (λ (f : Fleet). f.masters) w.fleet-is ∙ ap (λ (f : Fleet). f.masters) w.carry_back-outcome.ensures.rest
+      | in-Err w ↦ ap (λ (f : Fleet). f.masters) w.fleet-is
+    ] in
+    let then = c.take.ensures.next (sym (ap next_of same ∙ c.requires.stage)) ∙ ap (λ (p : Plan). after_stage p (came.Apply outcome) hops) same in
+    taken_on tells s tables after c.args.plan.now c.take.new.self (came.Apply outcome) hops then
+    (same_masters tells s tables before after (after_stage c.args.plan.now (came.Apply outcome) hops) masters
+    (applied_still tells s tables before c.args.plan.now is outcome hops))

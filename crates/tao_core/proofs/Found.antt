@@ -1,9 +1,13 @@
 -- Sessions that are open are found, and the other way round.
-use Rattle.std.proofs.Common.{◌≡◌, ℕ, true, List, [], ◌∷◌, Option, Some, None, refl, inl, inr}
+use Rattle.std.proofs.Common.{◌≡◌, ℕ, Bool, true, List, [], ◌∷◌, Option, Some, None, refl, subst, inl, inr}
 use Rattle.std.proofs.lemmas.Bool.{cases_Bool}
+use Rattle.std.proofs.lemmas.List.Elements.{recursion_from_All}
+use Rattle.std.specs.List.{AllByRecursion}
 use Rattle.std.specs.Option.{option_map}
-use Rattle.std.specs.Prelude.{◌==◌, IsSomeAnd}
-use Rattle.core_sessions.specs.Sessions.{Session, is_open, session_at}
+use Rattle.std.specs.Prelude.{◌==◌, All, IsSomeAnd, find}
+use Rattle.core_model.proofs.Places.{one_some}
+use Rattle.core_sessions.specs.Sessions.{Session, is_open, place_of, session_at}
+use Rattle.core_sessions.specs.declared.sessions.OpenSession.{OpenSession}
 
 pub found_open : (sessions : List Session) (number : ℕ) → is_open sessions number ≡ true → (session : Session) × (session_at sessions number ≡ Some session)
 found_open [] number is = absurd (cc)
@@ -22,10 +26,35 @@ open_found (x ∷ xs) number session is = elim (cases_Bool (x.session == number)
   | inr differs ↦ rw differs (open_found xs number session (rw differs at is))
 ]
 
+-- what holds of each is true of the one that is found
+found_too : {X : Type 0} (P : X → Type 0) (test : X → Bool) (xs : List X) (x : X) → AllByRecursion P xs → find test xs ≡ Some x → P x
+found_too P test [] x all h = absurd (cc)
+found_too P test (y ∷ ys) x all h = elim (cases_Bool (test y)) [
+  | inl passes ↦ subst P (one_some y x (rw passes at h)) all.0
+  | inr fails ↦ found_too P test ys x all.1 (rw fails at h)
+]
+
+pub session_is : (P : Session → Type 0) (sessions : List Session) (number : ℕ) (session : Session) → All P sessions
+    → session_at sessions number ≡ Some session → P session
+session_is P sessions number session all h = found_too P (λ o. o.session == number) sessions session (recursion_from_All P sessions all) h
+
+-- ---- what was looked up
+
 pub mapped_there : {X : Type 0} (f : X → ℕ) (o : Option X) (x : X) → o ≡ Some x → option_map f o ≡ None → ⊥
 mapped_there f None x is none = absurd (cc)
 mapped_there f (Some y) x is none = absurd (cc)
 
-pub some_there : {X : Type 0} (P : X → Type 0) (o : Option X) → IsSomeAnd o P → (x : X) × (o ≡ Some x) × P x
+some_there : {X : Type 0} (P : X → Type 0) (o : Option X) → IsSomeAnd o P → (x : X) × (o ≡ Some x) × P x
 some_there P None h = absurd h
 some_there P (Some x) h = (x, refl, h)
+
+-- the session of a place that was found
+pub record FoundAt (sessions : List Session) (number : ℕ) (place : OpenSession) : Type 0 where
+  pub session : Session
+  pub at : session_at sessions number ≡ Some session
+  pub is : place ≡ place_of session
+
+pub found_at : (sessions : List Session) (number : ℕ) (place : OpenSession)
+    → IsSomeAnd (session_at sessions number) (λ s. place ≡ place_of s) → FoundAt sessions number place
+found_at sessions number place found =
+    let one = some_there (λ s. place ≡ place_of s) (session_at sessions number) found in record { session = one.0; at = one.1; is = one.2 }

@@ -11,7 +11,8 @@ use Rattle.graph_model.specs.Log.{version}
 use Rattle.session_pass.specs.Floors.{floor_at}
 use Rattle.core_sessions.specs.Sessions.{Session, session_at}
 use Rattle.core_steps.specs.Routes.{Scene, scene}
-use Rattle.core_steps.specs.Writes.{ClientWrite, Posting, WritesAlong, posting}
+use Rattle.core_steps.specs.Posting.{Posting, posting}
+use Rattle.core_steps.specs.Writes.{ClientWrite, WritesAlong}
 use Rattle.core_steps.specs.declared.routes.Route.{Route}
 use Rattle.core_steps.specs.declared.writes.CarriedOut.{CarriedOut}
 use Rattle.replies.specs.declared.refusals.NodeRefused.TheVariants.{NoServer}
@@ -27,11 +28,11 @@ use Rattle.tao_keeper.specs.KeeperState.{KeeperState, KeepsTables}
 use Rattle.tao_link.specs.Shown.{LinkShown}
 use Rattle.topology.specs.Config.{Settings}
 use Rattle.topology.specs.Choices.{chosen_follower, master_region, preferred_leader}
-use Rattle.tao_core.specs.Calls.{AnswersRead, AnswersWrite, IsRoute, Learns, ReadGoes, ReadsBy, RepliesToRead, RepliesToWrite, WriteGoes, client_write_of, entry_of, posting_of}
+use Rattle.tao_core.specs.Calls.{AnswersRead, AnswersWrite, IsRoute, LearnsOutcome, ReadGoes, ReadsBy, RepliesToRead, RepliesToWrite, WriteGoes, client_write_of, posting_of}
 use Rattle.tao_core.specs.Calls.{scene_of, wanted_in, written_as}
 use Rattle.tao_core.specs.Core.{CoreState, IsConsistentCore, IsSessionOf, Moment, moment}
 use Rattle.tao_core.proofs.Reaching.{kept_reaches_by}
-use Rattle.tao_core.proofs.Ways.{session_is}
+use Rattle.tao_core.proofs.Found.{session_is}
 
 -- a call that went isn't answered that none could serve it
 read_served : (critical tells : Bool) (s : Settings) (route : Route) (read : Wanted) (region : ℕ) (old new : Scene)
@@ -101,7 +102,7 @@ module _ (tells : Bool) (core : CoreState) (after : Fleet) (session : Session) (
       → route.leader ≡ preferred_leader core.states region shard → reply ≡ written_as outcome
       → WritesAlong tells core.settings route (client_write_of call) outcome (posting (scene core.fleet before from) core.mail core.states)
       (posting (scene after now to) mail core.states)
-      → Learns call.session (write_shard call.write) (entry_of outcome) core.sessions sessions
+      → LearnsOutcome call.session (write_shard call.write) outcome core.sessions sessions
       → AnswersWrite tells (moment core before from) call reply (moment (record core { fleet = after; mail = mail; sessions = sessions }) now to)
   answers_write call region shard mail sessions outcome found is master chosen preferred reply_is writes learns =
       let asked = write_shard call.write in

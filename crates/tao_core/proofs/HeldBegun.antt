@@ -17,7 +17,8 @@ use Rattle.core_steps.proofs.GrowingLemmas.{stays_masters}
 use Rattle.core_sessions.specs.Sessions.{Session, is_open, place_of, session_at}
 use Rattle.core_sessions.specs.declared.sessions.OpenSession.{OpenSession}
 use Rattle.core_steps.specs.Routes.{Scene}
-use Rattle.core_steps.specs.Writes.{Posting, RefusesCommit}
+use Rattle.core_steps.specs.Posting.{Posting}
+use Rattle.core_steps.specs.Writes.{RefusesCommit}
 use Rattle.follower_cache.specs.Seen.{FollowerState}
 use Rattle.node_name.specs.declared.NodeName.{NodeName}
 use Rattle.read_plan.specs.Ends.{EndsAt, EndsWith}
@@ -46,9 +47,9 @@ use Rattle.tao_core.specs.Calls.{posting_of}
 use Rattle.tao_core.specs.Core.{CoreState, IsCoreOf, IsOfSession, IsSessionOf, Moment, moment}
 use Rattle.tao_core.specs.HeldCalls.{AnswersHold, Held, HoldGoes, Leaves, begun_plan, call_floor, call_session, call_shard, held_in, plan_leader, told_by}
 use Rattle.tao_core.proofs.HeldKeeping.{plans_set, set_each, set_here, with_plans}
-use Rattle.tao_core.proofs.Found.{open_found, some_there}
+use Rattle.tao_core.proofs.Found.{found_at, open_found, session_is}
 use Rattle.tao_core.proofs.HeldSteps.{MayHold, StepsAsks, holds_none}
-use Rattle.tao_core.proofs.Ways.{follower_for, session_is}
+use Rattle.tao_core.proofs.Ways.{follower_for}
 
 -- ---- the plan of a call
 
@@ -58,7 +59,7 @@ begun_asks s session follower (call.Write write) name number h = h
 begun_asks s session follower (call.Read read) name number h = (let it = h.1 in absurd (cc))
 
 begun_may : (s : Settings) (session : Session) (follower : NodeName) (asked : CheckedCall) → MayHold (Some (begun_plan s session follower asked))
-begun_may s session follower (call.Write write) = λ is. refl
+begun_may s session follower (call.Write write) = tt
 begun_may s session follower (call.Read read) = refl
 
 begun_goes : (s : Settings) (session : Session) (follower : NodeName) (asked : CheckedCall) → IsSome (next_stage (begun_plan s session follower asked))
@@ -85,9 +86,11 @@ begun_under_way tells keepers core session follower (call.Write write) of is cho
   region = is.region;
   changes = can.0.changes;
   client = refl;
+  begun = λ none. (refl, refl);
   committed = tt;
-  job = refl;
-  other = refl;
+  job = tt;
+  merged = λ is. tt;
+  other = tt;
 }
 begun_under_way tells keepers core session follower (call.Read read) of is chosen can = record {
   follower = follower_for tells keepers.told core of.is_consistent session.region session.tier (query_shard read.query) (query_shard read.query) follower refl
@@ -120,7 +123,7 @@ module _ (tells : Bool) (keepers : KeeperState) (core : CoreState) (of : IsCoreO
         is_consistent = with_plans tells keepers.told core added of.is_consistent;
         plans = plans_set tells core.settings keepers.told keepers.told core.fleet core.fleet number None (Some plan) core.plans added of.plans free adds.sets
             (begun_steps core.settings session follower asked core.fleet.followers) (goes_self core.fleet)
-            (stays_masters tells core.settings keepers keepers (λ told at. refl))
+            (stays_masters tells core.settings keepers keepers (λ told at. refl)) of.is_consistent.consistent
             (λ other same.
             subst (λ x. IsUnderWay tells core.settings keepers.told core.fleet x × IsSome (next_stage x)) (one_some plan other same)
             (under, begun_goes core.settings session follower asked));
@@ -206,21 +209,16 @@ pub record IsFound (sessions : List Session) (asked : CheckedCall) (place : Open
   pub place_is : place ≡ place_of session
   pub floor_is : floor ≡ call_floor session asked
 
-some_at : {X : Type 0} (P : X → Type 0) (o : Option X) (x : X) → IsSomeAnd o P → o ≡ Some x → P x
-some_at P None x h at = absurd h
-some_at P (Some y) x h at = subst P (one_some y x at) h
-
 pub found_for : (sessions : List Session) (number : ℕ) (asked : CheckedCall) (place : OpenSession) (floor : ℕ) → number ≡ call_session asked
     → IsSomeAnd (session_at sessions number) (λ s. place ≡ place_of s)
     → IsSomeAnd (session_at sessions (call_session asked)) (λ s. floor ≡ call_floor s asked) → IsFound sessions asked place floor
 found_for sessions number asked place floor same at_place at_floor =
-    let one = some_there (λ s. place ≡ place_of s) (session_at sessions number) at_place in
-    let found : session_at sessions (call_session asked) ≡ Some one.0 = subst (λ n. session_at sessions n ≡ Some one.0) same one.1 in
+    let one = found_at sessions (call_session asked) place (subst (λ n. IsSomeAnd (session_at sessions n) (λ s. place ≡ place_of s)) same at_place) in
     record {
-      session = one.0;
-      found = found;
-      place_is = one.2;
-      floor_is = some_at (λ s. floor ≡ call_floor s asked) (session_at sessions (call_session asked)) one.0 at_floor found;
+      session = one.session;
+      found = one.at;
+      place_is = one.is;
+      floor_is = subst (λ o. IsSomeAnd o (λ (s : Session). floor ≡ call_floor s asked)) one.at at_floor;
     }
 
 -- who is chosen for its place
@@ -237,12 +235,12 @@ pub none_found : (tells : Bool) (number : ℕ) (old : Moment) (asked : CheckedCa
     → None ≡ chosen_follower old.core.states place.region place.tier shard
     → AnswersHold tells number asked old (Refused (Node (NoServer place.region))) old
 none_found tells number old asked place called shard same at_place at none =
-    let one = some_there (λ s. place ≡ place_of s) (session_at old.core.sessions called) at_place in
+    let one = found_at old.core.sessions called place at_place in
     record {
-      session = one.0;
-      found = subst (λ n. session_at old.core.sessions n ≡ Some one.0) same one.1;
-      region_is = ap (λ (o : OpenSession). o.region) one.2;
-      none = sym (chosen_for old.core asked place one.0 None shard one.2 at none);
+      session = one.session;
+      found = subst (λ n. session_at old.core.sessions n ≡ Some one.session) same one.at;
+      region_is = ap (λ (o : OpenSession). o.region) one.is;
+      none = sym (chosen_for old.core asked place one.session None shard one.is at none);
       same = refl;
     }
 

@@ -32,8 +32,9 @@ use Rattle.core_plans.specs.Held.{
 use Rattle.core_plans.specs.declared.held.HeldPlan.{HeldPlan}
 use Rattle.core_plans.specs.declared.held.HeldPlan.TheVariants.{Read, Write}
 use Rattle.core_sessions.specs.Sessions.{Session}
+use Rattle.core_plans.proofs.WritesGoOn.{plan_later}
 use Rattle.core_steps.specs.Routes.{scene}
-use Rattle.core_steps.specs.Writes.{posting}
+use Rattle.core_steps.specs.Posting.{posting}
 use Rattle.graph_model.proofs.Members.{if_some_at}
 use Rattle.node_name.specs.declared.NodeName.{NodeName}
 use Rattle.replies.specs.declared.plans.Stage.{Stage}
@@ -52,7 +53,6 @@ use Rattle.tao_core.specs.Calls.{posting_of}
 use Rattle.tao_core.specs.Core.{CoreState, IsConsistentCore, IsCoreOf, IsOfSession, IsSessionOf, Moment, moment}
 use Rattle.tao_core.specs.HeldCalls.{DoesStage, EndsPlan, IsOfRegion, Leaves, LearnsOf, StepsAt, held, held_in, next_at, plan_leader}
 use Rattle.tao_core.proofs.HeldLearning.{author_stays, learns_ours, of_session_still}
-use Rattle.tao_core.proofs.HeldOn.{plan_later}
 use Rattle.tao_core.proofs.HeldSteps.{MayHold, StepsAsks, held_after, kept, steps_asks}
 use Rattle.tao_core.proofs.Reaching.{held_reaches}
 use Rattle.tao_core.proofs.NamesOnce.{stand_alone}
@@ -139,11 +139,11 @@ module _ (tells : Bool) (s : Settings) (before later : Tables) (f g : Fleet) (nu
     may_first : (plan : HeldPlan) → held ≡ Some plan → OpensFirst plan
     may_first plan is = subst MayHold is steps.may
 
-    pub plans_set : GoesOn f g → MastersGrow tells s before later
+    pub plans_set : GoesOn f g → MastersGrow tells s before later → IsConsistent tells s later g
         → ((plan : HeldPlan) → held ≡ Some plan → IsUnderWay tells s later g plan × IsSome (next_stage plan)) → ArePlansOf tells s later g new
-    plans_set goes grows can = record {
+    plans_set goes grows consistent can = record {
       under_way = each (IsUnderWay tells s later g) (λ plan is. (can plan is).0)
-          (λ other plan there. plan_later tells s before later f g plan goes grows (are.under_way other plan there));
+          (λ other plan there. plan_later tells s before later f g plan consistent goes grows (are.under_way other plan there));
       goes_on = each (λ plan. IsSome (next_stage plan)) (λ plan is. (can plan is).1) are.goes_on;
       begun = each OpensFirst may_first are.begun;
       asks = record { held = still_held; one = one_held };
@@ -180,7 +180,6 @@ with_plans tells tables core plans of = record {
   mail = of.mail;
   up = of.up;
   sessions = of.sessions;
-  no_inverse = of.no_inverse;
 }
 
 -- and with other sessions, each of which is one of the core
@@ -192,7 +191,6 @@ with_sessions tells tables core plans sessions of all = record {
   mail = of.mail;
   up = of.up;
   sessions = all;
-  no_inverse = of.no_inverse;
 }
 
 -- and after a step of one of them
@@ -206,7 +204,6 @@ stepped_core tells tables later core fleet mail plans of consistent inboxes goes
   up = of.up;
   sessions = sessions_later tells core.settings tables later (pens_of core.fleet.masters) (pens_of fleet.masters) core.sessions grows.logs goes.rise
       of.sessions;
-  no_inverse = of.no_inverse;
 }
 
 -- ---- a plan did a stage
@@ -217,6 +214,10 @@ module _ (tells : Bool) (number : ℕ) (old mid : Moment) (does : DoesStage tell
 
   at_after : plan_at mid.core.plans number ≡ Some After
   at_after = set_here number (Some After) old.core.plans mid.core.plans does.steps.changes.sets
+
+  consistent_here : IsConsistentCore tells mid.keepers.told mid.core → mid.core.settings ≡ old.core.settings
+      → IsConsistent tells old.core.settings mid.keepers.told mid.core.fleet
+  consistent_here is own = subst (λ s. IsConsistent tells s mid.keepers.told mid.core.fleet) own is.consistent
 
   next_is : next_at mid.core.plans number ≡ next_stage After
   next_is = ap (option_and_then next_stage) at_after
@@ -242,12 +243,13 @@ module _ (tells : Bool) (number : ℕ) (old mid : Moment) (does : DoesStage tell
     -- what is held then, where the plan stays or goes
     pub held_then : (next : Option Stage) (plans : Plans) (later : Tables) → next_stage After ≡ next → SetsPlan number (kept next After) old.core.plans plans
         → GoesOn old.core.fleet mid.core.fleet → MastersGrow tells old.core.settings old.keepers.told later
+        → IsConsistent tells old.core.settings later mid.core.fleet
         → IfSome (plan_at mid.core.plans number) (IsUnderWay tells old.core.settings later mid.core.fleet)
         → ArePlansOf tells old.core.settings later mid.core.fleet plans
-    held_then next plans later is sets goes grows under =
+    held_then next plans later is sets goes grows consistent under =
         plans_set tells old.core.settings old.keepers.told later old.core.fleet mid.core.fleet number (Some does.steps.before) (kept next After)
         old.core.plans plans of.plans does.steps.stands sets
-        (subst (λ n. StepsAsks (Some does.steps.before) (kept n After) old.core.fleet.followers mid.core.fleet.followers) is asks_of) goes grows
+        (subst (λ n. StepsAsks (Some does.steps.before) (kept n After) old.core.fleet.followers mid.core.fleet.followers) is asks_of) goes grows consistent
         (can_after next later is under)
 
     author_after : IsOfSession old.core.sessions After
@@ -271,7 +273,7 @@ module _ (tells : Bool) (number : ℕ) (old mid : Moment) (does : DoesStage tell
     next_core stage next is own same goes grows under = record {
       is_consistent = is;
       plans = subst (λ s. ArePlansOf tells s mid.keepers.told mid.core.fleet mid.core.plans) (sym own)
-          (held_then (Some stage) mid.core.plans mid.keepers.told (sym next_is ∙ next) does.steps.changes.sets goes grows under);
+          (held_then (Some stage) mid.core.plans mid.keepers.told (sym next_is ∙ next) does.steps.changes.sets goes grows (consistent_here is own) under);
       authors = author_held mid.core.sessions (sym same);
     }
 
@@ -315,7 +317,7 @@ module _ (tells : Bool) (number : ℕ) (old mid : Moment) (does : DoesStage tell
               (subst (λ s. IsUnderWay tells s mid.keepers.told mid.core.fleet After) (sym own) here)
               (subst (λ xs. LearnsOf After (told_with ends_after.ended After) xs sessions) (sym same) ends_after.learns) is.sessions);
           plans = subst (λ s. ArePlansOf tells s mid.keepers.told mid.core.fleet later) (sym own)
-              (held_then of None later mid.keepers.told is_over gone goes grows under);
+              (held_then of None later mid.keepers.told is_over gone goes grows (consistent_here is own) under);
           authors = set_each number None mid.core.plans later (IsOfSession sessions) ends_after.takes.sets (λ one is. absurd (cc))
               (λ other plan there. of_session_still After (told_with ends_after.ended After) old.core.sessions sessions plan ends_after.learns
               (author_held of old.core.sessions refl other plan there));

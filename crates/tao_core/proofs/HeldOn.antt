@@ -1,95 +1,36 @@
 -- What is held goes on, whatever else is done.
-use Rattle.std.proofs.Common.{◌≡◌, ℕ, Bool, List, Option, Some, None, refl, ap, sym, ◌∙◌, subst}
-use Rattle.std.specs.Prelude.{IfSome}
-use Rattle.cache_items.specs.Node.{Node}
-use Rattle.core_model.specs.Consistent.{GoesOn}
+use Rattle.std.proofs.Common.{◌≡◌, ℕ, Bool, List, Option, Some, refl, ap, sym, subst}
+use Rattle.core_model.specs.Consistent.{IsConsistent}
 use Rattle.core_model.specs.Evictions.{ChangesCache, Evicts}
 use Rattle.core_model.specs.Fleet.{Fleet}
 use Rattle.core_model.specs.Growing.{MastersGrow}
 use Rattle.core_model.specs.Messages.{DeliversAt}
-use Rattle.core_model.specs.Pens.{Rise, pens_of}
 use Rattle.core_nodes.proofs.FleetLemmas.{goes_self}
-use Rattle.core_plans.specs.Held.{ArePlansOf, AsksAreHeld, IsUnderWay, OpensNone, Plans, plan_at}
-use Rattle.core_plans.specs.HeldWrites.{IsAnswerTo, IsWriteUnderWay, call_by}
+use Rattle.core_plans.specs.Held.{ArePlansOf, OpensNone, Plans, plan_at}
 use Rattle.core_plans.specs.declared.held.HeldPlan.{HeldPlan}
 use Rattle.core_plans.specs.declared.held.HeldPlan.TheVariants.{Read, Write}
 use Rattle.core_plans.proofs.AsksHeld.{asks_still_held, deliver_opens_none, evict_opens_none, same_opens_none, opens_none_on}
-use Rattle.core_plans.proofs.Standing.{under_way_later}
+use Rattle.core_plans.proofs.WritesGoOn.{plan_later}
 use Rattle.core_steps.proofs.GrowingLemmas.{stays_masters}
 use Rattle.core_steps.proofs.ReadLemmas.{goes_trans}
-use Rattle.core_model.specs.Writes.{IsSeenEntry}
-use Rattle.core_steps.specs.Writes.{CanBeApplied, ClientWrite}
 use Rattle.maint_msg.specs.Maints.{SeenMaint}
 use Rattle.node_name.specs.declared.NodeName.{NodeName}
 use Rattle.node_name.specs.declared.NodeName.TheVariants.{Store as StoreName_, Leader, Follower}
-use Rattle.shard_log.proofs.GrowthLemmas.{grows-trans}
-use Rattle.shard_log.specs.View.{View}
-use Rattle.shard_tables.specs.StoreView.{Store}
-use Rattle.shard_tables.specs.declared.writes.Wrote.{Wrote}
 use Rattle.tao_base.specs.EdgeTypes.{EdgeTypes}
-use Rattle.tao_base.specs.Writes.{write_shard}
-use Rattle.tao_base.specs.declared.entry.Entry.{Entry}
 use Rattle.tao_base.specs.declared.id.Key.{Key}
 use Rattle.tao_keeper.specs.KeeperState.{KeeperState, KeepsTables}
 use Rattle.tao_keeper.specs.Table.{Tables}
 use Rattle.topology.specs.Config.{Settings}
-use Rattle.write_plan.specs.Plans.{Plan}
-use Rattle.write_plan.specs.declared.committed.Committed.{Committed}
 use Rattle.tao_core.specs.Core.{CoreState, IsConsistentCore, IsCoreOf, IsOfSession, StaysHeld, author}
 use Rattle.tao_core.proofs.StayOpen.{StayOpen, same_open}
 use Rattle.core_sessions.specs.Sessions.{Session}
 
--- ---- a write that is held
-
-seen_later : (shard : ℕ) (note : View) (entry : Option Entry) (old new : List Store) → Rise (pens_of old) (pens_of new)
-    → IfSome entry (IsSeenEntry (pens_of old) shard note) → IfSome entry (IsSeenEntry (pens_of new) shard note)
-seen_later shard note None old new rise is = tt
-seen_later shard note (Some e) old new rise is =
-    record { seen = grows-trans note (pens_of old shard) (pens_of new shard) is.seen (rise shard); stands = is.stands }
-
-applied_later : (call : ClientWrite) (wrote : Wrote) (old new : List Store) → Rise (pens_of old) (pens_of new) → CanBeApplied call wrote old
-    → CanBeApplied call wrote new
-applied_later call wrote old new rise can = record {
-  fits = can.fits;
-  has = can.has;
-  seen = seen_later (write_shard call.write) wrote.note wrote.entry old new rise can.seen;
-  here = can.here;
-}
-
-answer_later : (p : Plan) (answer : Option Committed) (old new : List Store) → Rise (pens_of old) (pens_of new) → IfSome answer (IsAnswerTo old p)
-    → IfSome answer (IsAnswerTo new p)
-answer_later p None old new rise is = tt
-answer_later p (Some c) old new rise is = record {
-  apply = applied_later (call_by p) c.wrote old new rise is.apply;
-  kind = is.kind;
-  job = is.job;
-  passed = is.passed;
-  paired = is.paired;
-}
-
--- it can go on
-pub write_later : (s : Settings) (f g : Fleet) (p : Plan) → IsWriteUnderWay s f p → GoesOn f g → IsWriteUnderWay s g p
-write_later s f g p is goes = record {
-  follower = is.follower;
-  region = is.region;
-  changes = is.changes;
-  client = is.client;
-  committed = answer_later p p.committed f.masters g.masters goes.rise is.committed;
-  job = is.job;
-  other = is.other;
-}
-
 -- ---- what is held
 
-pub plan_later : (tells : Bool) (s : Settings) (before later : Tables) (f g : Fleet) (plan : HeldPlan) → GoesOn f g → MastersGrow tells s before later
-    → IsUnderWay tells s before f plan → IsUnderWay tells s later g plan
-plan_later tells s before later f g (Read p) goes grows is = under_way_later tells s before later f g p is goes grows
-plan_later tells s before later f g (Write p) goes grows is = write_later s f g p is goes
-
 plans_later : (tells : Bool) (s : Settings) (before later : Tables) (f g : Fleet) (plans : Plans) → StaysHeld f g → MastersGrow tells s before later
-    → ArePlansOf tells s before f plans → ArePlansOf tells s later g plans
-plans_later tells s before later f g plans on grows are = record {
-  under_way = λ number plan at. plan_later tells s before later f g plan on.goes grows (are.under_way number plan at);
+    → IsConsistent tells s later g → ArePlansOf tells s before f plans → ArePlansOf tells s later g plans
+plans_later tells s before later f g plans on grows consistent are = record {
+  under_way = λ number plan at. plan_later tells s before later f g plan consistent on.goes grows (are.under_way number plan at);
   goes_on = are.goes_on;
   begun = are.begun;
   asks = asks_still_held plans f.followers g.followers on.opens are.asks;
@@ -108,7 +49,8 @@ core_goes_on tells before later old new of is on grows own same stay = record {
   is_consistent = is;
   plans = subst (λ s. ArePlansOf tells s later new.fleet new.plans) (sym own)
       (subst (ArePlansOf tells old.settings later new.fleet) (sym same)
-      (plans_later tells old.settings before later old.fleet new.fleet old.plans on grows of.plans));
+      (plans_later tells old.settings before later old.fleet new.fleet old.plans on grows
+      (subst (λ s. IsConsistent tells s later new.fleet) own is.consistent) of.plans));
   authors = λ number plan at. still_of old.sessions new.sessions plan stay
       (of.authors number plan (subst (λ plans. plan_at plans number ≡ Some plan) same at));
 }

@@ -8,9 +8,9 @@ use Rattle.core_model.specs.Growing.{MastersGrow}
 use Rattle.core_model.specs.Pens.{pens_of}
 use Rattle.core_plans.specs.Held.{CanStep, ChangesPlan, IsUnderWay, OpensFirst, Plans, StepsPlan, learner, plan_at}
 use Rattle.core_plans.specs.declared.held.HeldPlan.{HeldPlan}
-use Rattle.core_sessions.specs.Sessions.{HasRoom, Session, sessions_of}
+use Rattle.core_sessions.specs.Sessions.{HasRoomForBoth, Session, sessions_of}
 use Rattle.core_steps.specs.Routes.{Scene, scene}
-use Rattle.core_steps.specs.Writes.{Posting, posting}
+use Rattle.core_steps.specs.Posting.{Posting, posting}
 use Rattle.graph_model.proofs.Members.{if_some, if_some_at}
 use Rattle.node_name.specs.declared.NodeName.{NodeName}
 use Rattle.replies.specs.declared.plans.Stage.{Stage}
@@ -46,12 +46,12 @@ module _ (tells : Bool) (s : Settings) (leader : NodeName) (number : ℕ) (plans
 
   pub room_stepped : (tables : Tables) (f : Fleet) (old new : Posting) → StepsPlan tells s leader number plans old later new
       → CanStep tells s tables f leader (plan_at plans number) → IfSome (plan_at plans number) OpensFirst
-      → IfSome (option_and_then learner (plan_at plans number)) (λ n. HasRoom n passes) → IfSome (plan_at later number) (λ one. HasRoomFor one passes)
+      → IfSome (option_and_then learner (plan_at plans number)) (λ n. HasRoomForBoth n passes) → IfSome (plan_at later number) (λ one. HasRoomFor one passes)
   room_stepped tables f old new steps can first room = room_there steps.after steps.changes
       (room_after tells s tables f leader steps.before steps.after old new passes
       (if_some_at OpensFirst (plan_at plans number) steps.before first steps.stands)
       (if_some_at (IsUnderWay tells s tables f) (plan_at plans number) steps.before (can_under tells s tables f leader (plan_at plans number) can) steps.stands)
-      steps.steps (subst (λ o. IfSome (option_and_then learner o) (λ n. HasRoom n passes)) steps.stands room))
+      steps.steps (subst (λ o. IfSome (option_and_then learner o) (λ n. HasRoomForBoth n passes)) steps.stands room))
 
   pub room_given : (scene : Scene) (inboxes : Inboxes) (states : NodeStates)
       → StepsPlan tells s leader number plans (posting (record scene { link = fresh_link }) inboxes states) later

@@ -1,6 +1,6 @@
 -- What the stage of a held plan does to the asks that are open.
 use Rattle.std.proofs.Common.{◌≡◌, ◌⊎◌, ℕ, Bool, true, false, List, Option, Some, None, Ok, refl, ap, sym, ◌∙◌, subst, inl, inr, arith}
-use Rattle.std.specs.Prelude.{⊤, option_and_then, slice_get, slice_set, unwrap_or}
+use Rattle.std.specs.Prelude.{⊤, slice_get, slice_set}
 use Rattle.cache_items.specs.declared.look.Look.{Look}
 use Rattle.cache_items.specs.declared.look.Look.TheVariants.{Hit, Miss}
 use Rattle.cache_items.specs.Node.{Node}
@@ -8,15 +8,23 @@ use Rattle.core_model.specs.Fleet.{ChangesNode, Fleet, HasAsk, named}
 use Rattle.core_model.specs.Reads.{AfterLook, AsksAtOnce, EndsAsk, KeepsFill, LooksFirst}
 use Rattle.core_model.specs.declared.named.Named.{Named}
 use Rattle.core_model.proofs.Places.{get_set, one_some}
-use Rattle.core_plans.specs.Held.{HasNoneAt, HoldsAsk, IsOpenAt, OpensFirst, OpensNone, StepsHeld, is_open_ask, next_stage}
+use Rattle.core_plans.specs.Held.{HasNoneAt, HoldsAsk, IsBefore, IsOpenAt, OpensFirst, OpensNone, StepsHeld, is_open_ask, next_stage}
 use Rattle.core_plans.specs.HeldReads.{DoesLook, DoesReadStage, KeepsGiven, wanted_by}
-use Rattle.core_plans.specs.HeldWrites.{DoesWriteStage, call_by, way_by}
+use Rattle.core_plans.specs.HeldWrites.{DoesWriteStage}
 use Rattle.core_plans.specs.declared.held.HeldPlan.{HeldPlan}
 use Rattle.core_plans.specs.declared.held.HeldPlan.TheVariants.{Read, Write}
-use Rattle.core_plans.proofs.AsksHeld.{EndsOpen, apply_opens_none, change_opens_none, ends_open, hit_opens_none, keeps_open, misses_open, same_opens_none}
+use Rattle.core_plans.proofs.AsksHeld.{
+  EndsOpen,
+  change_opens_none,
+  ends_open,
+  hit_opens_none,
+  keeps_open,
+  misses_open,
+  same_opens_none,
+  stage_opens_none,
+}
 use Rattle.core_steps.specs.Routes.{Scene}
-use Rattle.core_steps.specs.Writes.{ChangesNoNode, ClientWrite, FollowerTakes, NotCommitted, Posting, RefusesCommit}
-use Rattle.core_steps.specs.declared.routes.Route.{Route}
+use Rattle.core_steps.specs.Posting.{Posting}
 use Rattle.follower_cache.specs.Seen.{FollowerState}
 use Rattle.node_name.specs.declared.NodeName.{NodeName}
 use Rattle.read_plan.specs.Readings.{Reading, taken}
@@ -27,32 +35,20 @@ use Rattle.read_plan.specs.declared.standing.Given.TheVariants.{Fill, HandedOut,
 use Rattle.read_plan.specs.declared.standing.Standing.{Standing}
 use Rattle.read_plan.specs.declared.standing.Standing.TheVariants.{Looking, Asking, Mastering, Keeping, Ended}
 use Rattle.replies.specs.declared.plans.Stage.{Stage}
-use Rattle.replies.specs.declared.refusals.Refusal.TheVariants.{Store, Memory}
-use Rattle.replies.specs.declared.refusals.StoreRefused.{StoreRefused}
-use Rattle.replies.specs.declared.refusals.StoreRefused.TheVariants.{SeqReused, ShardFull, StampFull, LogFull, KeeperFault, LinkFault, Unsettled}
-use Rattle.replies.specs.declared.reply.Reply.{Reply}
-use Rattle.replies.specs.declared.reply.Reply.TheVariants.{Refused}
 use Rattle.shard_tables.specs.declared.leader_answer.LeaderAnswer.{LeaderAnswer}
 use Rattle.shard_tables.specs.declared.leader_answer.LeaderAnswer.TheVariants as leader
 use Rattle.shard_tables.specs.declared.read_out.ReadOut.{ReadOut}
 use Rattle.shard_tables.specs.declared.read_out.ReadOut.TheVariants as store
 use Rattle.tao_base.specs.EdgeTypes.{EdgeTypes}
 use Rattle.tao_base.specs.Queries.{query_key}
-use Rattle.tao_base.specs.Writes.{write_shard}
-use Rattle.tao_base.specs.declared.entry.Entry.{Entry}
 use Rattle.tao_base.specs.declared.id.Key.{Key}
-use Rattle.tao_keeper.specs.declared.jobs.Job.{Job}
 use Rattle.tao_schema.specs.Schema.{types_of}
 use Rattle.topology.specs.Config.{Settings}
-use Rattle.write_plan.specs.Plans.{Plan, back_stage, job_stage, next_of, next_stage as stage_by}
-use Rattle.write_plan.specs.declared.committed.Committed.{Committed}
-use Rattle.write_plan.specs.declared.progress.OtherEnd.{OtherEnd}
-use Rattle.write_plan.specs.declared.progress.OtherEnd.TheVariants.{Due, Merged, Ended as JobEnded, Open}
-use Rattle.write_plan.specs.declared.progress.WayBack.{WayBack}
-use Rattle.write_plan.specs.declared.progress.WayBack.TheVariants.{Ahead, Relayed, Applied}
+use Rattle.write_plan.specs.Plans.{Plan, next_of}
 use Rattle.write_plan.specs.declared.stage.WriteStage.{WriteStage}
 use Rattle.write_plan.specs.declared.stage.WriteStage.TheVariants.{Commit, Inverse, End, Relay, Apply, Done}
 use Rattle.tao_core.proofs.NamesOnce.{StandAlone}
+use Rattle.tao_core.proofs.WriteStages.{applied_over, end_keeps, inverse_keeps}
 
 abbrev Followers : Type 0
 Followers = List (Named FollowerState)
@@ -293,87 +289,22 @@ module _ (tells : Bool) (s : Settings) (by : NodeName) (p q : Reading) (old new 
 
 -- ---- the stages of a write
 
-follower_takes : (types : EdgeTypes) (route : Route) (shard : ℕ) (entry : Option Entry) (old new : Fleet)
-    → FollowerTakes types route shard entry old new → OpensNone old.followers new.followers
-follower_takes types route shard None old new same = same_opens_none old.followers new.followers same
-follower_takes types route shard (Some e) old new takes = apply_opens_none route.follower old.followers new.followers types shard e takes.0 takes.1
+-- one that is held on has its way back before it
+same_back : (p q : Plan) → q.back ≡ p.back → IsBefore p.back → MayHold (held_after (Write q))
+same_back p q same before = kept_may (next_stage (Write q)) (Write q) (subst IsBefore (sym same) before)
 
-no_node : (tells : Bool) (old new : Posting) → ChangesNoNode tells old new → OpensNone old.scene.fleet.followers new.scene.fleet.followers
-no_node tells old new rests = same_opens_none old.scene.fleet.followers new.scene.fleet.followers (ap (λ (f : Fleet). f.followers) rests.fleet)
-
-module _ (tells : Bool) (s : Settings) (route : Route) (call : ClientWrite) (old new : Posting) where
-  store_no_node : (refused : StoreRefused) → NotCommitted tells s route call refused old new → ChangesNoNode tells old new
-  store_no_node (LinkFault count when) is = is.1.same
-  store_no_node (SeqReused position) is = is.1
-  store_no_node (ShardFull serial) is = is.1
-  store_no_node (StampFull number) is = is.1
-  store_no_node (LogFull count) is = is.1
-  store_no_node (KeeperFault count) is = is.1
-  store_no_node (Unsettled at why) is = is.1
-
-  refused_no_node : (reply : Reply) → RefusesCommit tells s route call reply old new → ChangesNoNode tells old new
-  refused_no_node (Refused (Store refused)) is = store_no_node refused is
-  refused_no_node (Refused (Memory position)) is = is.1
-  refused_no_node reply is = absurd is
-
-write_opens : (tells : Bool) (s : Settings) (by : NodeName) (at : WriteStage) (p q : Plan) (old new : Posting) → DoesWriteStage tells s by at p old q new
-    → OpensNone old.scene.fleet.followers new.scene.fleet.followers
-write_opens tells s by Commit p q old new (inl commits) =
-    same_opens_none old.scene.fleet.followers new.scene.fleet.followers commits.commits.followers
-write_opens tells s by Commit p q old new (inr refuses) =
-    no_node tells old new (refused_no_node tells s (way_by by p) (call_by p) old new refuses.reply refuses.refuses)
-write_opens tells s by Apply p q old new (inl applies) =
-    follower_takes (types_of s.schema) (way_by by p) (write_shard p.write) applies.committed.wrote.entry old.scene.fleet new.scene.fleet applies.takes
-write_opens tells s by Apply p q old new (inr (inl loses)) =
-    same_opens_none old.scene.fleet.followers new.scene.fleet.followers (ap (λ (f : Fleet). f.followers) loses.fleet)
-write_opens tells s by Apply p q old new (inr (inr vain)) =
-    same_opens_none old.scene.fleet.followers new.scene.fleet.followers (ap (λ (x : Posting). x.scene.fleet.followers) vain.same)
-write_opens tells s by Inverse p q old new does = absurd does
-write_opens tells s by End p q old new does = absurd does
-write_opens tells s by Relay p q old new does = absurd does
-write_opens tells s by Done p q old new does = absurd does
-
--- one that did a stage is past its commit, or over
-back_not : (passed : Option NodeName) (back : WayBack) → back_stage passed back ≡ Commit → ⊥
-back_not None Ahead h = absurd (cc)
-back_not (Some leader) Ahead h = absurd (cc)
-back_not None Relayed h = absurd (cc)
-back_not (Some leader) Relayed h = absurd (cc)
-back_not None Applied h = absurd (cc)
-back_not (Some leader) Applied h = absurd (cc)
-
-after_not : (o : Option Job) (passed : Option NodeName) (job : OtherEnd) (back : WayBack)
-    → unwrap_or (option_and_then (λ _. job_stage job) o) (back_stage passed back) ≡ Commit → ⊥
-after_not None passed job back h = back_not passed back h
-after_not (Some j) passed Due back h = absurd (cc)
-after_not (Some j) passed Merged back h = absurd (cc)
-after_not (Some j) passed JobEnded back h = back_not passed back h
-after_not (Some j) passed (Open why) back h = back_not passed back h
-
-committed_not : (refused : Option Reply) (c : Committed) (job : OtherEnd) (back : WayBack) → stage_by refused (Some c) job back ≡ Commit → ⊥
-committed_not (Some reply) c job back h = absurd (cc)
-committed_not None c job back h = after_not c.wrote.job c.passed job back h
-
-refused_not : (q : Plan) (reply : Reply) → q.refused ≡ Some reply → next_of q ≡ Commit → ⊥
-refused_not q reply is h =
-    let over : Done ≡ Commit = subst (λ r. stage_by r q.committed q.job q.back ≡ Commit) is h in
-    absurd (cc)
-
-has_not : (q : Plan) (c : Committed) → q.committed ≡ Some c → next_of q ≡ Commit → ⊥
-has_not q c is h = committed_not q.refused c q.job q.back (subst (λ o. stage_by q.refused o q.job q.back ≡ Commit) is h)
-
-pub past_commit : (tells : Bool) (s : Settings) (by : NodeName) (at : WriteStage) (p q : Plan) (old new : Posting) → DoesWriteStage tells s by at p old q new
-    → next_of q ≡ Commit → ⊥
-past_commit tells s by Commit p q old new (inl commits) h = has_not q commits.committed (ap (λ (x : Plan). x.committed) commits.then) h
-past_commit tells s by Commit p q old new (inr refuses) h = refused_not q refuses.reply (ap (λ (x : Plan). x.refused) refuses.then) h
-past_commit tells s by Apply p q old new (inl applies) h =
-    has_not q applies.committed (ap (λ (x : Plan). x.committed) applies.then ∙ applies.answered) h
-past_commit tells s by Apply p q old new (inr (inl loses)) h = refused_not q _ (ap (λ (x : Plan). x.refused) loses.then) h
-past_commit tells s by Apply p q old new (inr (inr vain)) h = refused_not q _ (ap (λ (x : Plan). x.refused) vain.then) h
-past_commit tells s by Inverse p q old new does h = absurd does
-past_commit tells s by End p q old new does h = absurd does
-past_commit tells s by Relay p q old new does h = absurd does
-past_commit tells s by Done p q old new does h = absurd does
+write_may : (tells : Bool) (s : Settings) (by : NodeName) (at : WriteStage) (p q : Plan) (old new : Posting) → next_of p ≡ at → IsBefore p.back
+    → DoesWriteStage tells s by at p old q new → MayHold (held_after (Write q))
+write_may tells s by Commit p q old new is before (inl commits) = same_back p q (ap (λ (x : Plan). x.back) commits.then) before
+write_may tells s by Commit p q old new is before (inr refuses) = same_back p q (ap (λ (x : Plan). x.back) refuses.then) before
+write_may tells s by Apply p q old new is before (inl applies) =
+    subst (λ n. MayHold (kept n (Write q))) (sym (applied_over p q _ is applies.then)) tt
+write_may tells s by Apply p q old new is before (inr (inl loses)) = same_back p q (ap (λ (x : Plan). x.back) loses.then) before
+write_may tells s by Apply p q old new is before (inr (inr vain)) = same_back p q (ap (λ (x : Plan). x.back) vain.then) before
+write_may tells s by Inverse p q old new is before does = same_back p q (inverse_keeps tells s by p q old new does).keeps.back before
+write_may tells s by End p q old new is before does = same_back p q (end_keeps tells s p q old new does).keeps.back before
+write_may tells s by Relay p q old new is before does = absurd does
+write_may tells s by Done p q old new is before does = absurd does
 
 -- ---- the stage of a plan
 
@@ -383,8 +314,8 @@ pub steps_asks : (tells : Bool) (s : Settings) (by : NodeName) (before after : H
 steps_asks tells s by (Read p) (Read q) old new alone first steps = read_asks tells s by p q old.scene new.scene alone p.at refl first steps.steps.does
 steps_asks tells s by (Write p) (Write q) old new alone first steps =
     holds_none (Some (Write p)) (held_after (Write q)) old.scene.fleet.followers new.scene.fleet.followers
-    (write_opens tells s by (next_of p) p q old new steps) (λ name number h. h)
+    (stage_opens_none tells s by p q old new (next_of p) steps) (λ name number h. h)
     (λ name number h. kept_holds (next_stage (Write q)) (Write q) name number h)
-    (kept_may (next_stage (Write q)) (Write q) (λ is. absurd (past_commit tells s by (next_of p) p q old new steps is)))
+    (write_may tells s by (next_of p) p q old new refl first steps)
 steps_asks tells s by (Read p) (Write q) old new alone first steps = absurd steps
 steps_asks tells s by (Write p) (Read q) old new alone first steps = absurd steps

@@ -10,7 +10,7 @@ use Rattle.core_model.specs.Fleet.{Fleet}
 use Rattle.core_model.specs.Pens.{AreNotesOf, pens_of}
 use Rattle.core_model.specs.Stores.{AreStoresOf}
 use Rattle.core_nodes.proofs.FleetLemmas.{goes_self}
-use Rattle.core_nodes.proofs.StoreLemmas.{seen_stay, sound_same}
+use Rattle.core_nodes.proofs.AskLemmas.{stores_here}
 use Rattle.core_sessions.specs.Sessions.{Session, new_session, with_session}
 use Rattle.core_sessions.specs.declared.sessions.OpenSession.{OpenSession}
 use Rattle.graph_model.specs.Told.{WhereTold}
@@ -45,7 +45,6 @@ opened_core tells tables core opened notes next of within are is = record {
   sessions = subst (All (IsSessionOf tells core.settings tables (pens_of core.fleet.masters))) (sym is)
       (with_session_too (IsSessionOf tells core.settings tables (pens_of core.fleet.masters)) core.sessions (new_session opened notes) of.sessions
       (record { region = within; notes = are; floors = λ told key. omega arith }));
-  no_inverse = of.no_inverse;
 }
 
 -- none was opened
@@ -66,7 +65,6 @@ module _ (tells : Bool) (tables : Tables) (core : CoreState) (of : IsConsistentC
     mail = subst (λ ms. AreInboxesOf core.settings (pens_of ms) mail) (sym masters) inboxes;
     up = of.up;
     sessions = subst (λ ms. All (IsSessionOf tells core.settings tables (pens_of ms)) core.sessions) (sym masters) of.sessions;
-    no_inverse = of.no_inverse;
   }
 
   -- the logs go on, and what waits stays
@@ -77,7 +75,6 @@ module _ (tells : Bool) (tables : Tables) (core : CoreState) (of : IsConsistentC
     mail = (inboxes_stay core.settings (pens_of core.fleet.masters) core.mail).rises (pens_of fleet.masters) goes.rise of.mail;
     up = of.up;
     sessions = sessions_later tells core.settings tables later (pens_of core.fleet.masters) (pens_of fleet.masters) core.sessions grows goes.rise of.sessions;
-    no_inverse = of.no_inverse;
   }
 
   -- messages were sent
@@ -89,7 +86,6 @@ module _ (tells : Bool) (tables : Tables) (core : CoreState) (of : IsConsistentC
     mail = inboxes;
     up = of.up;
     sessions = sessions_later tells core.settings tables later (pens_of core.fleet.masters) (pens_of fleet.masters) core.sessions grows goes.rise of.sessions;
-    no_inverse = of.no_inverse;
   }
 
 -- a message was processed, or lost
@@ -142,16 +138,11 @@ evicted_core tells tables node key old new reply of answers fleet rest =
 pub core_stays : (tells : Bool) (old new : Tables) (core : CoreState) → IsConsistentCore tells old core → WhereTold tells (Stays old new) → IsConsistentCore tells new core
 core_stays tells old new core of stays = record {
   consistent = record {
-    stores = record {
-      masters = of.consistent.stores.masters;
-      sound = λ told. sound_same core.settings old new (of.consistent.stores.sound told) (stays told);
-      seen = seen_stay tells old new core.fleet.masters of.consistent.stores.seen stays;
-    };
+    stores = stores_here tells core.settings old new core.fleet.masters of.consistent.stores stays;
     fleet = of.consistent.fleet;
   };
   mail = of.mail;
   up = of.up;
   sessions = sessions_later tells core.settings old new (pens_of core.fleet.masters) (pens_of core.fleet.masters) core.sessions
       (growing_laws.stays tells old new stays) (goes_self core.fleet).rise of.sessions;
-  no_inverse = of.no_inverse;
 }

@@ -1,12 +1,13 @@
 -- What a session learns of an entry: each key has come to its floors still, and its notes have seen beginnings of the logs.
 use Rattle.std.proofs.Common.{◌≡◌, ℕ, zero, suc, ◌<◌, ◌≤◌, ◌+◌, Bool, true, false, cond, List, [], ◌∷◌, Some, length, max, take}
 use Rattle.std.proofs.Common.{refl, ap, sym, subst, ◌∙◌, inl, inr, arith}
-use Rattle.std.specs.Prelude.{◌==◌, ◌||◌, All, find, if◌then◌else◌, slice_get, slice_index_or, slice_set}
+use Rattle.std.specs.Prelude.{◌==◌, ◌||◌, All, if◌then◌else◌, slice_get, slice_index_or, slice_set}
 use Rattle.std.specs.List.{AllByRecursion}
 use Rattle.std.proofs.lemmas.Bool.{cases_Bool, cases_eq, eqb-true}
 use Rattle.std.proofs.lemmas.List.Elements.{All-from_recursion, recursion_from_All}
 use Rattle.core_model.proofs.Places.{at_index, get_set}
 use Rattle.core_model.specs.Pens.{AreNotesOf, IsSeen, Pens, pens_of}
+use Rattle.core_model.proofs.KeptStores.{sound_logs}
 use Rattle.core_model.specs.Stores.{AreStoresOf, master_log}
 use Rattle.core_sessions.specs.Sessions.{LearnsWith, Session, SessionLearns, is_open, with_changed}
 use Rattle.graph_model.proofs.Exact.{version_take}
@@ -29,6 +30,7 @@ use Rattle.tao_keeper.specs.Table.{Tables}
 use Rattle.topology.specs.Config.{Settings}
 use Rattle.tao_core.specs.Core.{IsSessionOf}
 use Rattle.tao_core.proofs.Exact.{log_is}
+use Rattle.tao_core.proofs.Found.{session_is}
 
 -- ---- what the touches of an entry tell is reached where it stands
 
@@ -57,23 +59,12 @@ told_reached log (suc n) e key sound at =
 
 -- ---- sessions by their numbers
 
--- what holds of each holds of the one that is found
-found_so : {X : Type 0} (P : X → Type 0) (test : X → Bool) (xs : List X) (x : X) → AllByRecursion P xs → find test xs ≡ Some x → P x
-found_so P test [] x all h = absurd (cc)
-found_so P test (y ∷ ys) x all h = elim (cases_Bool (test y)) [
-  | inl passes ↦ (
-      let e : Some y ≡ Some x = rw passes at h in
-      let same : y ≡ x = cc in
-      subst P same all.0)
-  | inr fails ↦ found_so P test ys x all.1 (rw fails at h)
-]
-
 changed_so : (P : Session → Type 0) (to : Session) (xs : List Session) → P to → AllByRecursion P xs → AllByRecursion P (with_changed to xs)
 changed_so P to [] one all = tt
 changed_so P to (x ∷ xs) one all =
     (elim (cases_Bool (x.session == to.session)) [ inl e ↦ rw e one | inr e ↦ rw e all.0 ], changed_so P to xs one all.1)
 
-same_number : (to x : Session) → (if x.session == to.session then to else x).session ≡ x.session
+pub same_number : (to x : Session) → (if x.session == to.session then to else x).session ≡ x.session
 same_number to x = elim (cases_Bool (x.session == to.session)) [ inl e ↦ rw e (sym (eqb-true x.session to.session e)) | inr e ↦ rw e refl ]
 
 changed_open : (to : Session) (xs : List Session) (n : ℕ) → is_open (with_changed to xs) n ≡ is_open xs n
@@ -122,7 +113,7 @@ module _ (tells : Bool) (s : Settings) (tables : Tables) (masters : List Store) 
       let log = log_is tells s tables masters shard stores here in
       let own : note.log.told ≡ true = ap (λ l. l.told) (sym seen.log_is) ∙ log.told_is ∙ told in
       let at = entry_stays note (pens_of masters shard) entry.position entry seen (stands own) in
-      told_reached (master_log s tables shard) entry.position entry key (stores.sound told shard here).sound
+      told_reached (master_log s tables shard) entry.position entry key (sound_logs s tables (stores.kept told) shard here).sound
       (subst (λ es. entry_at es entry.position ≡ Some entry) (log.entries_is told) at)
 
   floor_now : (old new : Session) (key : Key) → LearnsWith shard entry note old new → IsOne old → tells ≡ true
@@ -146,5 +137,5 @@ module _ (tells : Bool) (s : Settings) (tables : Tables) (masters : List Store) 
   pub learnt_sessions : (old new : List Session) → SessionLearns number shard entry note old new → All IsOne old → All IsOne new
   learnt_sessions old new learns all =
       let each = recursion_from_All IsOne old all in
-      let to = session_learns learns.from learns.to learns.learns (found_so IsOne (λ o. o.session == number) old learns.from each learns.found) in
+      let to = session_learns learns.from learns.to learns.learns (session_is IsOne old number learns.from all learns.found) in
       subst (All IsOne) (sym learns.is) (All-from_recursion IsOne (with_changed learns.to old) (changed_so IsOne learns.to old to each))

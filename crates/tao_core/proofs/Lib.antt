@@ -18,5 +18,7 @@ pub mod NamesOnce
 pub mod StayOpen
 pub mod Told
 pub mod Learning
+pub mod LearningBoth
 pub mod Ways
+pub mod WriteStages
 pub mod Written

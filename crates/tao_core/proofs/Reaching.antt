@@ -20,7 +20,7 @@ use Rattle.core_plans.specs.declared.held.HeldPlan.{HeldPlan}
 use Rattle.core_plans.specs.declared.held.HeldPlan.TheVariants as held
 use Rattle.core_steps.specs.CriticalReads.{ReadsCritical}
 use Rattle.core_steps.specs.Reads.{ReadsAlong}
-use Rattle.core_steps.specs.Writes.{Posting}
+use Rattle.core_steps.specs.Posting.{Posting}
 use Rattle.core_steps.specs.Routes.{Scene}
 use Rattle.core_steps.specs.declared.routes.Route.{Route}
 use Rattle.follower_cache.specs.Seen.{FollowerState}

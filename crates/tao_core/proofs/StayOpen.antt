@@ -1,11 +1,12 @@
 -- Sessions that are open stay so.
-use Rattle.std.proofs.Common.{◌≡◌, ◌<◌, ◌∙◌, ℕ, Bool, true, false, List, [], ◌∷◌, Option, Some, None, ap, refl, subst, sym, inl, inr, arith}
+use Rattle.std.proofs.Common.{◌≡◌, ◌<◌, ◌∙◌, ℕ, Bool, true, false, List, [], ◌∷◌, Result, Ok, Err, ap, refl, subst, sym, inl, inr, arith}
 use Rattle.std.specs.Prelude.{◌==◌, ◌||◌, ◌++◌, filter, nat_lt}
 use Rattle.std.proofs.lemmas.Bool.{cases_Bool, eqb-true, false≢true}
 use Rattle.std.proofs.lemmas.Bool.Decides.{nat_tests}
 use Rattle.std.proofs.lemmas.List.Folds.{list_any-append}
 use Rattle.core_sessions.specs.Sessions.{Session, is_open, new_session, with_session}
 use Rattle.core_sessions.specs.declared.sessions.OpenSession.{OpenSession}
+use Rattle.core_steps.specs.declared.writes.CarriedOut.{CarriedOut}
 use Rattle.replies.specs.declared.refusals.NodeRefused.TheVariants.{NoServer}
 use Rattle.replies.specs.declared.refusals.Refusal.TheVariants.{Memory, Node}
 use Rattle.replies.specs.declared.reply.Reply.{Reply}
@@ -13,11 +14,10 @@ use Rattle.replies.specs.declared.reply.Reply.TheVariants.{Opened, Refused}
 use Rattle.request_check.specs.declared.checked.CheckedWrite.{CheckedWrite}
 use Rattle.shard_log.specs.View.{View}
 use Rattle.tao_base.specs.Writes.{write_shard}
-use Rattle.tao_base.specs.declared.entry.Entry.{Entry}
-use Rattle.tao_core.specs.Calls.{LearnsSeeing, RepliesToWrite, entry_of}
+use Rattle.tao_core.specs.Calls.{LearnsOutcome, RepliesToWrite, told_both}
 use Rattle.tao_core.specs.Core.{Moment}
 use Rattle.tao_core.specs.Replies.{AnswersOpen}
-use Rattle.tao_core.proofs.Learning.{learnt_open}
+use Rattle.tao_core.proofs.LearningBoth.{both_open}
 
 -- each session that was open is open
 pub record StayOpen (old new : List Session) : Type 0 where
@@ -84,11 +84,10 @@ opens_stay place old (Refused (Memory position)) new closed answers = same_open 
 opens_stay place old reply new closed answers = absurd answers
 
 -- so does what is learnt
-learns_stay : (number shard : ℕ) (entry : Option Entry) (note : View) (old new : List Session) → LearnsSeeing note number shard entry old new
-    → StayOpen old new
-learns_stay number shard None note old new learns = same_open old new learns
-learns_stay number shard (Some entry) note old new learns =
-    record { stays = λ n there. learnt_open number shard entry note old new learns n ∙ there }
+learns_stay : (number shard : ℕ) (outcome : Result CarriedOut Reply) (old new : List Session) → LearnsOutcome number shard outcome old new → StayOpen old new
+learns_stay number shard (Ok done) old new learns =
+    record { stays = λ n there. both_open number (told_both shard learns.0 done) old new learns.1 n ∙ there }
+learns_stay number shard (Err reply) old new learns = same_open old new learns
 
 -- and so a write
 pub writes_stay : (tells : Bool) (old : Moment) (call : CheckedWrite) (reply : Reply) (new : Moment) → RepliesToWrite tells old call reply new
@@ -96,4 +95,4 @@ pub writes_stay : (tells : Bool) (old : Moment) (call : CheckedWrite) (reply : R
 writes_stay tells old call (Refused (Node (NoServer region))) new goes =
     same_open old.core.sessions new.core.sessions (ap (λ (m : Moment). m.core.sessions) goes.same)
 writes_stay tells old call reply new goes =
-    learns_stay call.session (write_shard call.write) (entry_of goes.outcome) goes.learns.0 old.core.sessions new.core.sessions goes.learns.1
+    learns_stay call.session (write_shard call.write) goes.outcome old.core.sessions new.core.sessions goes.learns

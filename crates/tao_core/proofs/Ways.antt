@@ -1,16 +1,13 @@
 -- The way of a session's call through a core: its follower and its leader may be asked about the shard.
-use Rattle.std.proofs.Common.{◌≡◌, ℕ, ◌<◌, Bool, List, [], ◌∷◌, length, Option, Some, None, refl, ap, sym, subst, inl, inr, ◌∙◌}
-use Rattle.std.specs.Prelude.{All, IsSomeAnd, find, IsTrue, nat_lt, filter, ◌==◌}
-use Rattle.std.specs.List.{AllByRecursion}
-use Rattle.std.proofs.lemmas.Bool.{cases_Bool}
+use Rattle.std.proofs.Common.{◌≡◌, ℕ, ◌<◌, Bool, List, ◌∷◌, length, Option, Some, ap, sym, subst, ◌∙◌}
+use Rattle.std.specs.Prelude.{All, IsTrue, nat_lt, filter}
 use Rattle.std.proofs.lemmas.List.{length-map}
 use Rattle.std.proofs.lemmas.List.Elements.{All-append, All-filter, All-from_recursion, recursion_from_All}
 use Rattle.core_model.proofs.Turns.{choices_serve}
 use Rattle.core_model.specs.Fleet.{regions_of}
 use Rattle.core_model.specs.Pens.{Pens, pens_of}
 use Rattle.core_model.specs.Serving.{IsFollowerFor, IsLeaderFor}
-use Rattle.core_sessions.specs.Sessions.{Session, place_of, session_at, with_session}
-use Rattle.core_sessions.specs.declared.sessions.OpenSession.{OpenSession}
+use Rattle.core_sessions.specs.Sessions.{Session, session_at, with_session}
 use Rattle.session_pass.specs.Floors.{floor_at}
 use Rattle.std.specs.Option.{option_map}
 use Rattle.tao_base.specs.declared.id.Key.{Key}
@@ -21,23 +18,9 @@ use Rattle.topology.specs.Counts.{counts_of}
 use Rattle.topology.specs.Config.{Settings}
 use Rattle.topology.specs.States.{NodeStates, is_cache}
 use Rattle.tao_core.specs.Core.{CoreState, IsConsistentCore, IsSessionOf}
+use Rattle.tao_core.proofs.Found.{session_is}
 
 -- ---- sessions
-
--- what holds of each is true of the one that is found
-found_too : {X : Type 0} (P : X → Type 0) (test : X → Bool) (xs : List X) (x : X) → AllByRecursion P xs → find test xs ≡ Some x → P x
-found_too P test [] x all h = absurd (cc)
-found_too P test (y ∷ ys) x all h = elim (cases_Bool (test y)) [
-  | inl passes ↦ (
-      let e : Some y ≡ Some x = rw passes at h in
-      let same : y ≡ x = cc in
-      subst P same all.0)
-  | inr fails ↦ found_too P test ys x all.1 (rw fails at h)
-]
-
-pub session_is : (P : Session → Type 0) (sessions : List Session) (number : ℕ) (session : Session) → All P sessions
-    → session_at sessions number ≡ Some session → P session
-session_is P sessions number session all h = found_too P (λ o. o.session == number) sessions session (recursion_from_All P sessions all) h
 
 pub session_placed : (tells : Bool) (s : Settings) (tables : Tables) (pens : Pens) (sessions : List Session) (number : ℕ) (session : Session)
     → All (IsSessionOf tells s tables pens) sessions → session_at sessions number ≡ Some session → session.region < length s.regions
@@ -53,21 +36,7 @@ with_session_too P sessions new all is =
     (All-from_recursion P (new ∷ filter (λ o. nat_lt new.session o.session) sessions)
     (is, recursion_from_All P (filter (λ o. nat_lt new.session o.session) sessions) behind))
 
--- the session of a place that was found
-pub record FoundAt (sessions : List Session) (number : ℕ) (place : OpenSession) : Type 0 where
-  pub session : Session
-  pub at : session_at sessions number ≡ Some session
-  pub is : place ≡ place_of session
-
-pub found_at : (sessions : List Session) (number : ℕ) (place : OpenSession)
-    → IsSomeAnd (session_at sessions number) (λ s. place ≡ place_of s) → FoundAt sessions number place
-found_at sessions number place found = by (session_at sessions number) refl found
-  where
-    by : (o : Option Session) → session_at sessions number ≡ o → IsSomeAnd o (λ s. place ≡ place_of s) → FoundAt sessions number place
-    by None at found = absurd found
-    by (Some session) at found = record { session = session; at = at; is = found }
-
--- its floor
+-- the floor of one that was found
 pub floor_of : (sessions : List Session) (number : ℕ) (session : Session) (key : Key) (floor : ℕ) → session_at sessions number ≡ Some session
     → Some floor ≡ option_map (λ s. floor_at s.floors key) (session_at sessions number) → floor ≡ floor_at session.floors key
 floor_of sessions number session key floor at is =
@@ -105,6 +74,5 @@ module _ (tells : Bool) (tables : Tables) (core : CoreState) (of : IsConsistentC
   -- the region of a session is one of the states
   pub region_there : (number : ℕ) (session : Session) → session_at core.sessions number ≡ Some session → session.region < length core.states.regions
   region_there number session found =
-      let within = session_placed tells core.settings tables (pens_of core.fleet.masters) core.sessions number session of.sessions found in
-      subst (λ xs. session.region < length xs) (sym regions_are)
-      (subst (λ n. session.region < n) (sym (length-map core.settings.regions counts_of)) within)
+      region_within session.region
+      (session_placed tells core.settings tables (pens_of core.fleet.masters) core.sessions number session of.sessions found)

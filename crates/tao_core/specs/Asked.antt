@@ -87,8 +87,8 @@ abbrev pub open_session : List Session → ℕ → Result ⊤ Refusal
 open_session sessions session = refused_unless (refused.Session (NoSession session)) (is_open sessions session)
 
 -- a session that is to be opened isn't open yet, and there is room for one
-abbrev pub new_session : List Session → ℕ → Result ⊤ Refusal
-new_session sessions session = do
+abbrev pub may_open : List Session → ℕ → Result ⊤ Refusal
+may_open sessions session = do
   new ← refused_unless (refused.Session (SessionThere session)) (not (is_open sessions session))
   refused_unless (refused.Session (SessionFull (length sessions))) (nat_lt (length sessions) most_sessions)
 
@@ -96,7 +96,7 @@ new_session sessions session = do
 abbrev pub session_for : List Session → Request → Result ⊤ Refusal
 session_for sessions (request.Call asked) = open_session sessions (session_of asked)
 session_for sessions (request.Hold plan asked) = open_session sessions (session_of asked)
-session_for sessions (request.Open opening) = new_session sessions opening.session
+session_for sessions (request.Open opening) = may_open sessions opening.session
 session_for sessions other = Ok tt
 
 -- ---- requests

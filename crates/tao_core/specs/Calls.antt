@@ -1,13 +1,17 @@
 -- What the reply to a session's call says.
 use Rattle.std.specs.Prelude.{ℕ, ◌≡◌, ◌≤◌, ⊤, Bool, true, false, List, Option, Some, None, Result, Ok, Err, slice_get, take}
+use Rattle.std.specs.Option.{option_map}
 use Rattle.core_model.specs.Fleet.{IsFirstAt, named}
 use Rattle.core_model.specs.Reads.{Wanted, wanted}
 use Rattle.core_model.specs.Stores.{master_log}
+use Rattle.core_plans.specs.declared.held.ToldEntries.{ToldEntries}
 use Rattle.core_sessions.specs.Sessions.{Session, SessionLearns, session_at}
 use Rattle.core_steps.specs.CriticalReads.{ReadsCritical}
 use Rattle.core_steps.specs.Reads.{ReadsAlong}
 use Rattle.core_steps.specs.Routes.{Scene, scene}
-use Rattle.core_steps.specs.Writes.{ClientWrite, Posting, WritesAlong, client_call, posting}
+use Rattle.core_steps.specs.Posting.{Posting, posting}
+use Rattle.core_steps.specs.Writes.{ClientWrite, WritesAlong, client_call}
+use Rattle.core_steps.specs.declared.jobs.ToldEntry.{ToldEntry}
 use Rattle.core_steps.specs.declared.routes.Route.{Route}
 use Rattle.core_steps.specs.declared.writes.CarriedOut.{CarriedOut}
 use Rattle.follower_cache.specs.Seen.{FollowerState}
@@ -105,18 +109,29 @@ pub record AnswersRead (tells : Bool) (old : Moment) (call : CheckedRead) (reply
 abbrev pub client_write_of : CheckedWrite → ClientWrite
 client_write_of call = client_call (Client call.session call.seq) call.write
 
--- the session of that number learns an entry of the shard's log, where there is one, with a note, and nothing else is learnt
-abbrev pub LearnsSeeing : View → ℕ → ℕ → Option Entry → List Session → List Session → Type 0
-LearnsSeeing note number shard None old new = new ≡ old
-LearnsSeeing note number shard (Some entry) old new = SessionLearns number shard entry note old new
+-- the session of that number learns the entry of a shard's log that it is told, where there is one, and nothing else is learnt
+abbrev pub LearnsTold : ℕ → Option ToldEntry → List Session → List Session → Type 0
+LearnsTold number None old new = new ≡ old
+LearnsTold number (Some t) old new = SessionLearns number t.shard t.entry t.note old new
 
-abbrev pub Learns : ℕ → ℕ → Option Entry → List Session → List Session → Type 0
-Learns number shard entry old new = (note : View) × LearnsSeeing note number shard entry old new
+-- it learns what a write wrote: first the entry of the write, and then the one at the other end
+pub record LearnsBoth (number : ℕ) (told : ToldEntries) (old new : List Session) : Type 0 where
+  pub between : List Session
+  pub here : LearnsTold number told.here old between
+  pub other : LearnsTold number told.other between new
 
--- the entry of a write that was carried out
-abbrev pub entry_of : Result CarriedOut Reply → Option Entry
-entry_of (Ok done) = done.entry
-entry_of (Err reply) = None
+-- an entry of a shard's log, as it is told by a note
+abbrev pub told_by_note : ℕ → View → Option Entry → Option ToldEntry
+told_by_note shard note entry = option_map (λ e. record { shard = shard; entry = e; note = note }) entry
+
+-- what a session is told of a write of the shard that was carried out: its own entry, and the one at the other end
+abbrev pub told_both : ℕ → View → CarriedOut → ToldEntries
+told_both shard note done = record { here = told_by_note shard note done.entry; other = done.other }
+
+-- the session learns what a write that was carried out wrote; of one that was refused it learns nothing
+abbrev pub LearnsOutcome : ℕ → ℕ → Result CarriedOut Reply → List Session → List Session → Type 0
+LearnsOutcome number shard (Ok done) old new = (note : View) × LearnsBoth number (told_both shard note done) old new
+LearnsOutcome number shard (Err reply) old new = new ≡ old
 
 -- how what came of a write is replied
 abbrev pub written_as : Result CarriedOut Reply → Reply
@@ -132,7 +147,7 @@ pub record WriteGoes (tells : Bool) (old : Moment) (call : CheckedWrite) (reply 
   pub outcome : Result CarriedOut Reply
   pub reply_is : reply ≡ written_as outcome
   pub writes : WritesAlong tells old.core.settings route (client_write_of call) outcome (posting_of old) (posting_of new)
-  pub learns : Learns call.session (write_shard call.write) (entry_of outcome) old.core.sessions new.core.sessions
+  pub learns : LearnsOutcome call.session (write_shard call.write) outcome old.core.sessions new.core.sessions
 
 abbrev pub RepliesToWrite : Bool → Moment → CheckedWrite → Reply → Moment → Type 0
 RepliesToWrite tells old call (Refused (Node (NoServer region))) new = FindsNoServer old call.session (write_shard call.write) region new

@@ -1,6 +1,5 @@
 -- What contracts see of a core.
 use Rattle.std.specs.Prelude.{ℕ, ◌≡◌, ◌<◌, ◌≤◌, ⊤, List, [], Bool, true, All, Some, length}
-use Rattle.config_json.specs.Stage.{IsWithoutInverses}
 use Rattle.core_mail.specs.Inboxes.{AreEmpty, AreInboxesOf, Inboxes}
 use Rattle.core_model.specs.Consistent.{GoesOn, IsConsistent}
 use Rattle.core_model.specs.Fleet.{Fleet}
@@ -58,13 +57,12 @@ pub record IsSessionOf (tells : Bool) (s : Settings) (tables : Tables) (pens : P
   pub floors : WhereTold tells ((key : Key) → floor_at session.floors key ≤ version (master_log s tables (key_shard key)) key)
 
 -- the nodes are consistent with keepers that tell these tables, each message names an entry of its shard's log, and each key has come to the floors
--- of the sessions. Each node is up, and no type of its configuration has an inverse
+-- of the sessions. Each node is up
 pub record IsConsistentCore (tells : Bool) (tables : Tables) (core : CoreState) : Type 0 where
   pub consistent : IsConsistent tells core.settings tables core.fleet
   pub mail : AreInboxesOf core.settings (pens_of core.fleet.masters) core.mail
   pub up : core.states ≡ all_up core.settings
   pub sessions : All (IsSessionOf tells core.settings tables (pens_of core.fleet.masters)) core.sessions
-  pub no_inverse : IsWithoutInverses core.settings
 
 -- the session of a client's write
 abbrev pub author : Origin → ℕ

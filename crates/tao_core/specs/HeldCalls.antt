@@ -3,15 +3,17 @@ use Rattle.std.specs.Prelude.{ℕ, ◌≡◌, ◌<◌, ◌⊎◌, ⊤, Bool, tru
 use Rattle.session_pass.specs.Passes.{IsNoteOf, SeenPass}
 use Rattle.graph_model.specs.Log.{entry_at}
 use Rattle.graph_model.specs.Told.{WhereTold}
-use Rattle.core_plans.specs.Held.{AddsPlan, ChangesPlan, IsOver, Plans, StepsHeld, StepsPlan, TakesPlan, next_stage, plan_at, told_with, written_entry}
+use Rattle.core_plans.specs.Held.{AddsPlan, ChangesPlan, IsOver, Plans, StepsHeld, StepsPlan, TakesPlan, next_stage, plan_at, told_of_write, told_with}
 use Rattle.core_plans.specs.HeldReads.{begun_read}
 use Rattle.core_plans.specs.declared.held.HeldPlan.{HeldPlan}
 use Rattle.core_plans.specs.declared.held.HeldPlan.TheVariants as of
-use Rattle.core_plans.specs.declared.held.ToldEntry.{ToldEntry}
-use Rattle.core_sessions.specs.Sessions.{HasRoom, Session, SessionLearns, is_open, session_at, sessions_of}
+use Rattle.core_plans.specs.declared.held.ToldEntries.{ToldEntries}
+use Rattle.core_sessions.specs.Sessions.{HasRoom, HasRoomForBoth, Session, is_open, session_at, sessions_of}
 use Rattle.core_steps.specs.Routes.{Scene}
+use Rattle.core_steps.specs.declared.jobs.ToldEntry.{ToldEntry}
 use Rattle.node_name.specs.declared.NodeName.{NodeName}
 use Rattle.read_plan.specs.Ends.{EndsWith}
+use Rattle.replies.specs.declared.calls.CallReply.{CallReply}
 use Rattle.replies.specs.declared.calls.CallReply.TheVariants as called
 use Rattle.replies.specs.declared.calls.ReadReply.{ReadReply}
 use Rattle.replies.specs.declared.plans.PlanReply.TheVariants.{Next, Ended}
@@ -33,7 +35,7 @@ use Rattle.topology.specs.States.{NodeStates}
 use Rattle.words.specs.declared.PlanWord.{PlanWord}
 use Rattle.words.specs.declared.PlanWord.TheVariants as word
 use Rattle.write_plan.specs.Plans.{Plan, new_plan, reply_of}
-use Rattle.tao_core.specs.Calls.{FindsNoServer, KeptReaches, posting_of, scene_of}
+use Rattle.tao_core.specs.Calls.{FindsNoServer, KeptReaches, LearnsBoth, posting_of, scene_of}
 use Rattle.tao_core.specs.Core.{CoreState, Moment, author}
 
 -- ---- one stage
@@ -64,51 +66,56 @@ abbrev pub told_by : ℕ → Reply → Reply
 told_by number (Called reply) = replied.Plan (Ended number reply)
 told_by number reply = reply
 
--- the session of that number learns the entry of the shard's log that it is told, where there is one, and nothing else is learnt
-abbrev pub LearnsTold : ℕ → ℕ → Option ToldEntry → List Session → List Session → Type 0
-LearnsTold number shard None old new = new ≡ old
-LearnsTold number shard (Some t) old new = SessionLearns number shard t.entry t.note old new
-
 -- the session of a write learns what is told with its reply
-abbrev pub LearnsOf : HeldPlan → Option ToldEntry → List Session → List Session → Type 0
-LearnsOf (of.Write p) told old new = LearnsTold (author p.origin) (write_shard p.write) told old new
+abbrev pub LearnsOf : HeldPlan → ToldEntries → List Session → List Session → Type 0
+LearnsOf (of.Write p) told old new = LearnsBoth (author p.origin) told old new
 LearnsOf (of.Read p) told old new = new ≡ old
 
--- there is room for what the session of a write is told with its reply, once it is over
+-- there is room for what the session of a write is told with its reply, once it is over with an Ok reply
 abbrev pub HasRoomFor : HeldPlan → List SeenPass → Type 0
-HasRoomFor (of.Write p) passes = next_stage (of.Write p) ≡ None → (reply : Reply) → reply_of p ≡ Some reply
-    → IfSome (told_with reply (of.Write p)) (λ _. HasRoom (author p.origin) passes)
+HasRoomFor (of.Write p) passes = next_stage (of.Write p) ≡ None → (reply : CallReply) → reply_of p ≡ Some (Called reply)
+    → HasRoomForBoth (author p.origin) passes
 HasRoomFor (of.Read p) passes = ⊤
 
 -- what is told of a shard's log stands in what was seen of that, and the session of that number may learn it
-pub record MayLearnTold (told : ToldEntry) (number shard : ℕ) (sessions : List Session) : Type 0 where
-  pub note : IfSome (session_at sessions number) (λ s. IsNoteOf shard told.note s.notes)
+pub record MayLearnTold (told : ToldEntry) (number : ℕ) (sessions : List Session) : Type 0 where
+  pub note : IfSome (session_at sessions number) (λ s. IsNoteOf told.shard told.note s.notes)
   pub stands : WhereTold told.note.log.told (entry_at told.note.entries told.entry.position ≡ Some told.entry)
+
+-- so each of what a write tells
+pub record MayLearnBoth (told : ToldEntries) (number : ℕ) (sessions : List Session) : Type 0 where
+  pub here : IfSome told.here (λ t. MayLearnTold t number sessions)
+  pub other : IfSome told.other (λ t. MayLearnTold t number sessions)
+
+-- where anything is told, it is so
+abbrev pub IfTold : ToldEntries → Type 0 → Type 0
+IfTold told P = IfSome told.here (λ _. P) × IfSome told.other (λ _. P)
+
+-- the session of that number is open, and has room for an entry that it may learn
+pub record MayLearnOne (number : ℕ) (told : ToldEntry) (passes : List SeenPass) : Type 0 where
+  pub author_is : is_open (sessions_of passes) number ≡ true
+  pub room : HasRoom number passes
+  pub may : MayLearnTold told number (sessions_of passes)
+
+-- or for both that a write tells, where it tells any
+pub record MayLearnNow (number : ℕ) (told : ToldEntries) (passes : List SeenPass) : Type 0 where
+  pub ready : IfTold told ((is_open (sessions_of passes) number ≡ true) × HasRoomForBoth number passes)
+  pub may : MayLearnBoth told number (sessions_of passes)
 
 -- the session of a write is open, and has room for what it is told, which it may learn
 pub record MayLearnOf (p : Plan) (passes : List SeenPass) : Type 0 where
   pub author_is : is_open (sessions_of passes) (author p.origin) ≡ true
   pub room : HasRoomFor (of.Write p) passes
-  pub told : IfSome (written_entry p.committed) (λ t. MayLearnTold t (author p.origin) (write_shard p.write) (sessions_of passes))
+  pub told : MayLearnBoth (told_of_write p) (author p.origin) (sessions_of passes)
 
 abbrev pub MayLearn : HeldPlan → List SeenPass → Type 0
 MayLearn (of.Read p) passes = ⊤
 MayLearn (of.Write p) passes = MayLearnOf p passes
 
--- the session of that number is open, and has room for what it is told of the shard's log, which it may learn
-pub record MayLearnNow (number shard : ℕ) (told : ToldEntry) (passes : List SeenPass) : Type 0 where
-  pub author_is : is_open (sessions_of passes) number ≡ true
-  pub room : HasRoom number passes
-  pub may : MayLearnTold told number shard (sessions_of passes)
-
--- whose session learns what is told with the reply of a plan, and of which shard
+-- whose session learns what is told with the reply of a plan
 abbrev pub learns_of : HeldPlan → ℕ
 learns_of (of.Write p) = author p.origin
 learns_of (of.Read p) = 0
-
-abbrev pub shard_of_plan : HeldPlan → ℕ
-shard_of_plan (of.Write p) = write_shard p.write
-shard_of_plan (of.Read p) = query_shard p.query
 
 -- a plan that is over is told and taken out, and its session learns what it wrote
 pub record EndsPlan (number : ℕ) (plan : HeldPlan) (old : Held) (reply : Reply) (new : Held) : Type 0 where

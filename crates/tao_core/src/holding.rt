@@ -5,21 +5,22 @@ ghost use Rattle.core_model.specs.Consistent.{GoesOn, IsConsistent};
 ghost use Rattle.core_model.specs.Growing.{MastersGrow};
 ghost use Rattle.core_model.specs.Pens.{pens_of};
 ghost use Rattle.core_plans.specs.Held.{CanStep, IsOver, IsUnderWay, OpensFirst, StepsPlan, learner, next_stage, plan_at, told_with};
-ghost use Rattle.core_sessions.specs.Sessions.{HasRoom, Session, is_open, place_of, session_at, sessions_of};
+ghost use Rattle.core_sessions.specs.Sessions.{HasRoomForBoth, Session, is_open, place_of, session_at, sessions_of};
 ghost use Rattle.core_steps.specs.Routes.{scene};
-ghost use Rattle.core_steps.specs.Writes.{posting};
+ghost use Rattle.core_steps.specs.Posting.{posting};
 ghost use Rattle.tao_core.specs.Asked.{CallCanBeDone};
 ghost use Rattle.tao_core.specs.Core.{IsCoreOf, IsOfSession, author, moment};
-ghost use Rattle.tao_core.specs.HeldCalls.{AnswersHold, EndsPlan, HasRoomFor, IsOfRegion, LearnsOf, LearnsTold, MayLearn, MayLearnNow, StepsAt};
-ghost use Rattle.tao_core.specs.HeldCalls.{begun_plan, call_floor, call_session, call_shard, held, learns_of, next_at, plan_leader, shard_of_plan, told_by};
+ghost use Rattle.tao_core.specs.HeldCalls.{AnswersHold, EndsPlan, HasRoomFor, IsOfRegion, LearnsOf, MayLearn, StepsAt};
+ghost use Rattle.tao_core.specs.HeldCalls.{begun_plan, call_floor, call_session, call_shard, held, learns_of, next_at, plan_leader, told_by};
 ghost use Rattle.tao_keeper.specs.KeeperState.{IsLater};
 ghost use Rattle.topology.specs.States.{all_up, is_cache};
 
 use crate::refusals::no_server;
-use crate::serving::Core;
+use crate::serving::{Core, client_of};
+use crate::teaching::learn_both;
 use core_mail::Mail;
 use core_nodes::Fleet;
-use core_plans::{EndedPlan, HeldPlan, HeldPlans, ToldEntry, begin_read};
+use core_plans::{EndedPlan, HeldPlan, HeldPlans, begin_read};
 use core_sessions::{OpenSession, Sessions};
 use core_steps::out_of_memory;
 use node_name::NodeName;
@@ -95,10 +96,7 @@ fn begun_plan(
     let OpenSession { region, tier, .. } = place;
     match call {
         CheckedCall::Write(call) => {
-            let origin = Origin::Client {
-                session: call.session,
-                seq: call.seq,
-            };
+            let origin = client_of(call);
             let write = copied_write(&call.write)?;
             Ok(HeldPlan::Write(WritePlan::begin(write, origin, region, tier, follower)))
         }
@@ -161,27 +159,6 @@ fn learns_of(plan: &HeldPlan) -> u32
     }
 }
 
-/// The shard of a plan.
-fn shard_of_plan(plan: &HeldPlan) -> u16
-    ensures { result ≡ shard_of_plan plan.now }
-{
-    match plan {
-        HeldPlan::Write(plan) => plan.write().shard(),
-        HeldPlan::Read(plan) => plan.query().shard(),
-    }
-}
-
-/// A session learns the entry of a shard's log that it is told, where there is one.
-fn learn_told(sessions: &mut Sessions, session: u32, shard: u16, told: Option<ToldEntry>)
-    requires { IfSome told (λ t. MayLearnNow session shard t sessions.old) }
-    ensures { LearnsTold session shard told (sessions_of sessions.old) (sessions_of sessions.new) }
-{
-    match told {
-        Some(ToldEntry { entry, note }) => sessions.learn(session, shard, &entry, note),
-        None => (),
-    }
-}
-
 /// The reply of a plan that is over. Its session learns what is told with it.
 #[tactic(auto, using(crate::proofs::HeldLearning::learns_now, crate::proofs::HeldLearning::learnt_of))]
 fn finish_plan(sessions: &mut Sessions, plan: HeldPlan) -> Reply
@@ -191,9 +168,8 @@ fn finish_plan(sessions: &mut Sessions, plan: HeldPlan) -> Reply
     ensures learns { LearnsOf plan (told_with result plan) (sessions_of sessions.old) (sessions_of sessions.new) }
 {
     let session = learns_of(&plan);
-    let shard = shard_of_plan(&plan);
     let EndedPlan { reply, told } = plan.finish();
-    learn_told(sessions, session, shard, told);
+    learn_both(sessions, session, told);
     reply
 }
 
@@ -223,7 +199,7 @@ fn learner_at(plans: &HeldPlans, number: u32) -> Option<u32>
 fn room_for_last(plans: &HeldPlans, sessions: &mut Sessions, number: u32) -> Result<(), OutOfMemory>
     requires author { IfSome (plan_at plans.now number) (IsOfSession (sessions_of sessions.old)) }
     ensures same { sessions_of sessions.new ≡ sessions_of sessions.old }
-    ensures room { OnOk result (IfSome (option_and_then learner (plan_at plans.now number)) (λ session. HasRoom session sessions.new)) }
+    ensures room { OnOk result (IfSome (option_and_then learner (plan_at plans.now number)) (λ session. HasRoomForBoth session sessions.new)) }
     ensures learner { OnErr result (IsSome (option_and_then learner (plan_at plans.now number))) }
 {
     match learner_at(plans, number) {

@@ -7,6 +7,7 @@ mod holding;
 mod refusals;
 mod resolving;
 mod serving;
+mod teaching;
 
 pub use core_sessions::OpenSession;
 pub use serving::Core;

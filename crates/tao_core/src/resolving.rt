@@ -3,7 +3,7 @@ ghost use Rattle.std.specs.Prelude.{◌≡◌, IfOk};
 ghost use Rattle.core_sessions.specs.Sessions.{sessions_of};
 ghost use Rattle.outcomes.specs.Results.{Gives};
 ghost use Rattle.request_check.specs.Refusal.{replied, reply_unless_memory};
-ghost use Rattle.tao_core.specs.Asked.{CanBeDone, admitted, asked_of, held_plan, is_built, new_plan, new_session, not_built, open_session, plan_for, session_for, session_of};
+ghost use Rattle.tao_core.specs.Asked.{CanBeDone, admitted, asked_of, held_plan, is_built, may_open, new_plan, not_built, open_session, plan_for, session_for, session_of};
 
 use core_plans::HeldPlans;
 use core_sessions::Sessions;
@@ -144,8 +144,8 @@ fn open_session(sessions: &Sessions, session: u32) -> Result<(), Refusal>
 }
 
 /// Refuses a session that can't be opened.
-fn new_session(sessions: &Sessions, session: u32) -> Result<(), Refusal>
-    ensures { result ≡ new_session (sessions_of sessions.now) session }
+fn may_open(sessions: &Sessions, session: u32) -> Result<(), Refusal>
+    ensures { result ≡ may_open (sessions_of sessions.now) session }
 {
     if sessions.is_open(session) {
         return Err(Refusal::Session(SessionRefused::SessionThere { session }));
@@ -165,7 +165,7 @@ fn session_for(sessions: &Sessions, request: &Request) -> Result<(), Refusal>
     match request {
         Request::Call(call) => open_session(sessions, session_of(call)),
         Request::Hold { call, .. } => open_session(sessions, session_of(call)),
-        Request::Open(opening) => new_session(sessions, opening.session),
+        Request::Open(opening) => may_open(sessions, opening.session),
         _ => Ok(()),
     }
 }

@@ -1,16 +1,16 @@
 //! The core.
 ghost use Rattle.std.specs.Prelude.{◌≡◌, ◌<◌, Bool, Ok, IfOk, IfErr, IfSome, OnOk, Some, false, length, option_copied, slice_get, true};
-ghost use Rattle.config_json.specs.Stage.{IsWithoutInverses};
 ghost use Rattle.core_nodes.specs.Shown.{IsHeldAt, IsMarkAt};
 ghost use Rattle.core_nodes.specs.Opening.{IsOpened, MayOpen, RefusesOpening};
 ghost use Rattle.graph_model.specs.Told.{WhereTold};
 ghost use Rattle.request_check.specs.Placed.{IsPlacedKey, IsPlacedWrite};
 ghost use Rattle.tao_base.specs.Queries.{query_key, query_shard};
+ghost use Rattle.tao_base.specs.declared.entry.Origin.TheVariants.{Client};
 ghost use Rattle.tao_core.specs.Asked.{CanBeDone, CallCanBeDone, reply_as};
 ghost use Rattle.tao_core.specs.Core.{CoreState, IsConsistentCore, IsCoreOf, IsNewCore, StaysHeld, moment};
 ghost use Rattle.core_model.specs.Growing.{MastersGrow};
 ghost use Rattle.core_model.specs.Stores.{AreStores};
-ghost use Rattle.tao_core.specs.Calls.{AnswersRead, AnswersWrite, LearnsSeeing, ReadsBy};
+ghost use Rattle.tao_core.specs.Calls.{AnswersRead, AnswersWrite, ReadsBy};
 ghost use Rattle.core_model.specs.Consistent.{IsConsistent, IsFleetOf};
 ghost use Rattle.core_model.specs.Reads.{wanted};
 ghost use Rattle.core_model.specs.Serving.{IsFollowerFor, IsLeaderFor};
@@ -20,12 +20,9 @@ ghost use Rattle.core_model.specs.Evictions.{IsCacheOf};
 ghost use Rattle.tao_core.specs.Replies.{AnswersAsked, AnswersEvict, AnswersOpen, AnswersRequest, AnswersSwitch};
 ghost use Rattle.tao_keeper.specs.KeeperState.{KeeperState};
 ghost use Rattle.tao_link.specs.Shown.{LinkShown};
-ghost use Rattle.core_sessions.specs.Sessions.{HasRoom, is_open, session_at, sessions_of};
+ghost use Rattle.core_sessions.specs.Sessions.{HasRoomForBoth, is_open, session_at, sessions_of};
 ghost use Rattle.core_model.specs.Pens.{pens_of};
 ghost use Rattle.session_pass.specs.Floors.{floor_at};
-ghost use Rattle.session_pass.specs.Passes.{IsNoteOf};
-ghost use Rattle.shard_log.specs.View.{as_note};
-ghost use Rattle.shard_tables.specs.Written.{StandsIn};
 ghost use Rattle.std.specs.Option.{option_map};
 ghost use Rattle.tao_keeper.specs.Growing.{LogsGrow};
 ghost use Rattle.tao_keeper.specs.Table.{Tables};
@@ -34,20 +31,21 @@ ghost use Rattle.tao_keeper.specs.KeeperState.{IsLater, KeepsTables};
 use crate::audits::audit;
 use crate::refusals::no_server;
 use crate::resolving::{not_built, resolve};
+use crate::teaching::learn_written;
 use cache_items::Item;
 use core_mail::Mail;
 use core_nodes::Fleet;
 use core_plans::HeldPlans;
 use core_sessions::{OpenSession, Sessions};
-use core_steps::{CarriedOut, Route, out_of_memory, read_along, read_critical, write_along};
+use core_steps::{Route, out_of_memory, read_along, read_critical, write_along};
 use node_name::NodeName;
-use replies::{CacheReply, CallReply, NodeReply, OpenRefusal, Reply};
+use replies::{CacheReply, NodeReply, OpenRefusal, Reply};
 use request_check::{CheckRefusal, Checked, CheckedCall, CheckedRead, CheckedWrite, LinkPlace};
 use requests::Request;
 use shard_log::Note;
 use std::alloc::Global;
 use std::marker::Model;
-use tao_base::{Entry, Key, Origin, OutOfMemory};
+use tao_base::{Key, Origin, OutOfMemory};
 use tao_keeper::Keeper;
 use tao_link::Link;
 use topology::{Config, Topology};
@@ -76,8 +74,8 @@ impl<'c> Model for Core<'c> {
 
 impl<'c> Core<'c> {
     /// Opens the store of each shard with the configuration's line, the shards in order, and makes the nodes before them, which
-    /// hold nothing yet, and for which no message waits. No session is open then. The configuration is one without inverses, as each
-    /// that `read_config` takes: the far ends of edges aren't written yet. Logs only grow.
+    /// hold nothing yet, and for which no message waits. No session is open then. Where every store takes the line, the logs are sound, and
+    /// what is missing at the other end of an edge is owed by an open job. Logs only grow.
     ///
     /// `OtherLine` comes exactly where a store was first opened with another line: the stores before it
     /// are open then. `KeeperFault` comes only where the keepers' count of faults rose, and
@@ -90,8 +88,7 @@ impl<'c> Core<'c> {
         line: &[u8],
         keepers: &mut K,
     ) -> Result<Core<'c>, OpenRefusal>
-        requires sound { WhereTold K.TELLS (MayOpen config.now line.now (K.state keepers.old).told) }
-        requires no_inverse { IsWithoutInverses config.now }
+        requires kept { WhereTold K.TELLS (MayOpen config.now line.now (K.state keepers.old).told) }
         ensures settings { IfOk result (λ core. core.settings ≡ config.now) }
         ensures begun { IfOk result IsNewCore }
         ensures opened { IfOk result (λ core. WhereTold K.TELLS (IsOpened config.now line.now (K.state keepers.old).told (K.state keepers.new).told)) }
@@ -238,7 +235,7 @@ impl<'c> Core<'c> {
     }
 
     /// Makes a session's write, at the leader that the shard's master region prefers, and then at the follower that is chosen for the
-    /// session.
+    /// session, which learns what was written there and at the other end.
     fn write<K: Keeper, L: Link>(
         &mut self,
         alloc: Global,
@@ -269,10 +266,6 @@ impl<'c> Core<'c> {
             follower,
             leader: self.topology.preferred(master, shard),
         };
-        let origin = Origin::Client {
-            session: call.session,
-            seq: call.seq,
-        };
         match write_along(
             alloc,
             &mut self.fleet,
@@ -282,21 +275,18 @@ impl<'c> Core<'c> {
             keepers,
             link,
             route,
-            origin,
+            client_of(call),
             &call.write,
         ) {
-            Ok(CarriedOut { reply, entry }) => {
-                learn(
-                    &mut self.sessions,
-                    &mut self.fleet,
-                    self.config,
-                    call.session,
-                    shard,
-                    entry,
-                    note,
-                );
-                Reply::Called(CallReply::Write(reply))
-            }
+            Ok(done) => learn_written(
+                &mut self.sessions,
+                &mut self.fleet,
+                self.config,
+                call.session,
+                shard,
+                done,
+                note,
+            ),
             Err(reply) => reply,
         }
     }
@@ -398,42 +388,26 @@ fn unasked(refusal: CheckRefusal) -> Reply
     }
 }
 
+/// Whose write a call is: that of its session, under its number.
+pub(crate) fn client_of(call: &CheckedWrite) -> Origin
+    ensures { result ≡ Client call.now.session call.now.seq }
+{
+    Origin::Client {
+        session: call.session,
+        seq: call.seq,
+    }
+}
+
 /// Makes room for what a session is to learn, and takes a note of the shard's log for it. The one error is want of memory.
 fn ready(sessions: &mut Sessions, session: u32, shard: u16) -> Result<Note, OutOfMemory>
     requires open { is_open (sessions_of sessions.old) session ≡ true }
     requires shard { IfSome (session_at (sessions_of sessions.old) session) (λ s. shard < length s.notes) }
     ensures same { sessions_of sessions.new ≡ sessions_of sessions.old }
-    ensures room { OnOk result (HasRoom session sessions.new) }
+    ensures room { OnOk result (HasRoomForBoth session sessions.new) }
     ensures note { IfOk result (λ note. IfSome (session_at (sessions_of sessions.old) session) (λ s. slice_get s.notes shard ≡ Some note)) }
 {
     sessions.reserve(session)?;
     sessions.note(session, shard)
-}
-
-/// The session learns what was written to the shard's log, where there is an entry. The note was taken before, and sees the entry now.
-fn learn(
-    sessions: &mut Sessions,
-    fleet: &mut Fleet,
-    config: &Config,
-    session: u32,
-    shard: u16,
-    entry: Option<Entry>,
-    note: Note,
-)
-    requires stores { AreStores config.now config.now.shards fleet.old.masters }
-    requires here { shard < config.now.shards }
-    requires one_log { (pens_of fleet.old.masters shard).log ≡ note.log }
-    requires open { is_open (sessions_of sessions.old) session ≡ true }
-    requires room { HasRoom session sessions.old }
-    requires seen { IfSome (session_at (sessions_of sessions.old) session) (λ s. IsNoteOf shard (as_note (pens_of fleet.old.masters shard)) s.notes) }
-    requires stands { IfSome entry (StandsIn (pens_of fleet.old.masters shard)) }
-    ensures learns { LearnsSeeing (as_note (pens_of fleet.old.masters shard)) session shard entry (sessions_of sessions.old) (sessions_of sessions.new) }
-    ensures same { fleet.new ≡ fleet.old }
-{
-    if let Some(entry) = entry {
-        let note = fleet.renew(config, shard, note);
-        sessions.learn(session, shard, &entry, note);
-    }
 }
 
 /// Asks a link to cut one direction between two nodes, or to mend it.

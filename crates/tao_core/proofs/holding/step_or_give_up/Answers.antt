@@ -3,7 +3,7 @@ use Rattle.core_nodes.proofs.FleetLemmas.{goes_self}
 use Rattle.core_plans.specs.Held.{plan_at}
 use Rattle.core_steps.proofs.GrowingLemmas.{stays_masters}
 use Rattle.core_steps.specs.Routes.{scene}
-use Rattle.core_steps.specs.Writes.{posting}
+use Rattle.core_steps.specs.Posting.{posting}
 use Rattle.tao_core.proofs.HeldStages.{can_under, fresh_link, room_given, room_stepped}
 use Rattle.tao_core.proofs.holding.step_or_give_up.Goals as goal
 

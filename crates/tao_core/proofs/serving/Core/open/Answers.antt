@@ -17,7 +17,6 @@ returns-in-Ok-open-clause-keepers g c =
         up = c.in-Ok.ensures.made;
         sessions = subst (All (IsSessionOf g.K.Keeper.TELLS s tables (pens_of c.in_ok-fleet.fleet.masters))) (sym c.new.ensures)
             (All-from_recursion (IsSessionOf g.K.Keeper.TELLS s tables (pens_of c.in_ok-fleet.fleet.masters)) [] tt);
-        no_inverse = c.requires.no_inverse;
       };
       authors = λ number plan at. absurd (no_plan c.new-in-Ok-open.result number plan c.new-in-Ok-open.ensures.none at);
       plans = none_held g.K.Keeper.TELLS s _ c.in_ok-fleet.fleet c.new-in-Ok-open.result c.new-in-Ok-open.ensures.none c.in_ok-fleet.ensures.empty;

@@ -14,7 +14,8 @@ use Rattle.tao_core.specs.Calls.{AnswersRead, ReadsBy}
 use Rattle.tao_core.specs.Core.{CoreState, IsConsistentCore, StaysHeld, core_state, moment}
 use Rattle.tao_core.proofs.Going.{answers_read, read_reached}
 use Rattle.tao_core.proofs.Keeping.{going_core}
-use Rattle.tao_core.proofs.Ways.{floor_of, follower_for, found_at, leader_for, region_there}
+use Rattle.tao_core.proofs.Found.{found_at}
+use Rattle.tao_core.proofs.Ways.{floor_of, follower_for, leader_for, region_there}
 use Rattle.tao_keeper.proofs.Growing.{growing_laws}
 use Rattle.tao_core.proofs.serving.Core.read.Goals as goal
 

@@ -1,0 +1,185 @@
+-- What a session learns of a write, of which it is told two entries: that it may, and that it is one of the core then.
+use Rattle.std.proofs.Common.{◌≡◌, ◌<◌, ◌∙◌, ℕ, zero, suc, Bool, true, false, List, [], ◌∷◌, Option, Some, None, ap, refl, subst, sym, inl, inr, arith}
+use Rattle.std.specs.Prelude.{◌==◌, ◌≤◌, All, IfSome, IsSomeAnd, find, if◌then◌else◌, slice_get, slice_index_or}
+use Rattle.std.proofs.lemmas.Bool.{cases_Bool, eq-eqb}
+use Rattle.core_model.proofs.Places.{at_index, one_some, some_and}
+use Rattle.core_model.specs.Pens.{AreNotesOf, IsSeen, Pens, pens_of}
+use Rattle.core_model.specs.Stores.{AreStoresOf}
+use Rattle.core_model.specs.Writes.{IsSeenEntry}
+use Rattle.core_plans.specs.declared.held.ToldEntries.{ToldEntries}
+use Rattle.core_sessions.specs.Sessions.{HasRoom, HasRoomForBoth, Session, SessionLearns, is_open, session_at, sessions_of, with_changed}
+use Rattle.core_steps.specs.declared.jobs.ToldEntry.{ToldEntry}
+use Rattle.core_steps.specs.declared.writes.CarriedOut.{CarriedOut}
+use Rattle.graph_model.proofs.Members.{if_some, if_some_at}
+use Rattle.session_pass.specs.Passes.{IsNoteOf, SeenPass, after_meeting}
+use Rattle.shard_log.proofs.GrowthLemmas.{grows-self}
+use Rattle.shard_log.specs.View.{Grows, View, as_note}
+use Rattle.shard_tables.specs.StoreView.{Store}
+use Rattle.shard_tables.specs.Written.{StandsIn}
+use Rattle.tao_base.specs.declared.entry.Entry.{Entry}
+use Rattle.tao_keeper.specs.Table.{Tables}
+use Rattle.topology.specs.Config.{Settings}
+use Rattle.tao_core.specs.Calls.{LearnsBoth, LearnsTold, told_both, told_by_note}
+use Rattle.tao_core.specs.Core.{IsSessionOf}
+use Rattle.tao_core.specs.HeldCalls.{IfTold, MayLearnBoth, MayLearnNow, MayLearnOne, MayLearnTold}
+use Rattle.tao_core.proofs.Learning.{learnt_open, learnt_sessions, same_number}
+use Rattle.tao_core.proofs.Found.{session_is}
+
+-- ---- one entry is learnt, and what may be learnt after it
+
+-- room for both is room for one
+pub room_of_both : (number : ℕ) (passes : List SeenPass) → HasRoomForBoth number passes → HasRoom number passes
+room_of_both number passes room = by (find (λ p. p.session == number) passes) room
+  where
+    by : (o : Option SeenPass) → IfSome o (λ p. 16 ≤ p.spare) → IfSome o (λ p. 8 ≤ p.spare)
+    by None room = tt
+    by (Some p) room = omega (arith, room)
+
+-- no note becomes one of another log
+met_there : (notes : List View) (k : ℕ) (note : View) (n : ℕ) (other : View) → IsNoteOf n other notes → IsNoteOf n other (after_meeting k note notes)
+met_there [] k note n other is = absurd is
+met_there (x ∷ xs) zero note zero other is = is
+met_there (x ∷ xs) zero note (suc n) other is = is
+met_there (x ∷ xs) (suc k) note zero other is = is
+met_there (x ∷ xs) (suc k) note (suc n) other is = met_there xs k note n other is
+
+-- who was found and changed is found
+changed_found : (number : ℕ) (from to : Session) (xs : List Session) → to.session ≡ from.session → session_at xs number ≡ Some from
+    → session_at (with_changed to xs) number ≡ Some to
+changed_found number from to [] same found = absurd (cc)
+changed_found number from to (x ∷ xs) same found = elim (cases_Bool (x.session == number)) [
+  | inl is ↦
+      let one : x ≡ from = one_some x from (rw is at found) in
+      let own : (x.session == to.session) ≡ true = eq-eqb x.session to.session (ap (λ (s : Session). s.session) one ∙ sym same) in
+      let there : (to.session == number) ≡ true = ap (λ n. n == number) (same ∙ sym (ap (λ (s : Session). s.session) one)) ∙ is in
+      rw own (rw there refl)
+  | inr isnt ↦
+      let kept : ((if x.session == to.session then to else x).session == number) ≡ false = ap (λ n. n == number) (same_number to x) ∙ isnt in
+      rw kept (changed_found number from to xs same (rw isnt at found))
+]
+
+note_still : (number shard : ℕ) (entry : Entry) (note : View) (old new : List Session) (n : ℕ) (other : View)
+    → SessionLearns number shard entry note old new → IfSome (session_at old number) (λ s. IsNoteOf n other s.notes)
+    → IfSome (session_at new number) (λ s. IsNoteOf n other s.notes)
+note_still number shard entry note old new n other learns is =
+    let own = if_some_at (λ (s : Session). IsNoteOf n other s.notes) (session_at old number) learns.from is learns.found in
+    let met = met_there learns.from.notes shard note n other own in
+    let found = changed_found number learns.from learns.to old (ap (λ (s : Session). s.session) learns.learns.rest) learns.found in
+    subst (λ o. IfSome o (λ (s : Session). IsNoteOf n other s.notes)) (sym (ap (λ xs. session_at xs number) learns.is ∙ found))
+    (subst (λ (s : Session). IsNoteOf n other s.notes) (sym learns.learns.rest) met)
+
+told_still : (number : ℕ) (told : Option ToldEntry) (old new : List Session) (t : ToldEntry) → LearnsTold number told old new
+    → MayLearnTold t number old → MayLearnTold t number new
+told_still number None old new t learns may = subst (MayLearnTold t number) (sym learns) may
+told_still number (Some one) old new t learns may = record {
+  note = note_still number one.shard one.entry one.note old new t.shard t.note learns may.note;
+  stands = may.stands;
+}
+
+-- each session that is open stays so, and no other is open
+pub told_open : (number : ℕ) (told : Option ToldEntry) (old new : List Session) → LearnsTold number told old new → (n : ℕ) → is_open new n ≡ is_open old n
+told_open number None old new learns n = ap (λ xs. is_open xs n) learns
+told_open number (Some t) old new learns n = learnt_open number t.shard t.entry t.note old new learns n
+
+pub both_open : (number : ℕ) (told : ToldEntries) (old new : List Session) → LearnsBoth number told old new → (n : ℕ) → is_open new n ≡ is_open old n
+both_open number told old new learns n =
+    told_open number told.other learns.between new learns.other n ∙ told_open number told.here old learns.between learns.here n
+
+-- ---- both are learnt
+
+-- the second may be learnt after the first
+module _ (number : ℕ) (told : ToldEntries) (passes : List SeenPass) (now : MayLearnNow number told passes) where
+  pub learns_then : (between : List SeenPass) → LearnsTold number told.here (sessions_of passes) (sessions_of between)
+      → (HasRoomForBoth number passes → HasRoom number between) → IfSome told.other (λ t. MayLearnOne number t between)
+  learns_then between learns more = if_some (λ t. MayLearnOne number t between) told.other (λ t is.
+      let ready = if_some_at _ told.other t now.ready.1 is in record {
+        author_is = told_open number told.here (sessions_of passes) (sessions_of between) learns number ∙ ready.0;
+        room = more ready.1;
+        may = told_still number told.here (sessions_of passes) (sessions_of between) t learns
+            (if_some_at (λ one. MayLearnTold one number (sessions_of passes)) told.other t now.may.other is);
+      })
+
+any_some : {X : Type 0} (o : Option X) (P : Type 0) → P → IfSome o (λ _. P)
+any_some None P h = tt
+any_some (Some x) P h = h
+
+-- a session that is open and has room may learn what it may be told
+pub now_ready : (number : ℕ) (told : ToldEntries) (passes : List SeenPass) → is_open (sessions_of passes) number ≡ true → HasRoomForBoth number passes
+    → MayLearnBoth told number (sessions_of passes) → MayLearnNow number told passes
+now_ready number told passes found room may = record {
+  ready = (any_some told.here _ (found, room), any_some told.other _ (found, room));
+  may = may;
+}
+
+-- ---- what is told was seen
+
+-- the entry stands in what was seen of the log of a configured shard
+abbrev pub IsToldOf : Settings → List Store → ToldEntry → Type 0
+IsToldOf s masters t = (t.shard < s.shards) × IsSeenEntry (pens_of masters) t.shard t.note t.entry
+
+pub record AreToldOf (s : Settings) (masters : List Store) (told : ToldEntries) : Type 0 where
+  pub here : IfSome told.here (IsToldOf s masters)
+  pub other : IfSome told.other (IsToldOf s masters)
+
+-- a note that saw the whole log has seen a beginning of it
+seen_whole : (v : View) → Grows (as_note v) v
+seen_whole v = record { log_is = refl; begins = (grows-self v).begins }
+
+-- so is what a write that was carried out wrote
+pub told_carried : (s : Settings) (masters : List Store) (shard : ℕ) (done : CarriedOut) → shard < s.shards
+    → IfSome done.entry (StandsIn (pens_of masters shard)) → IfSome done.other (IsToldOf s masters)
+    → AreToldOf s masters (told_both shard (as_note (pens_of masters shard)) done)
+told_carried s masters shard done here stands other = record { here = by done.entry stands; other = other }
+  where
+    by : (entry : Option Entry) → IfSome entry (StandsIn (pens_of masters shard))
+        → IfSome (told_by_note shard (as_note (pens_of masters shard)) entry) (IsToldOf s masters)
+    by None stands = tt
+    by (Some e) stands = (here, record { seen = seen_whole (pens_of masters shard); stands = stands })
+
+own_note : (pens : Pens) (count shard : ℕ) (note : View) (notes : List View) → shard < count → AreNotesOf pens count notes → IsSeen pens shard note
+    → IsNoteOf shard note notes
+own_note pens count shard note notes here are seen =
+    let long = are.long in
+    let own : View = slice_index_or notes shard note in
+    let at : slice_get notes shard ≡ Some own = at_index notes shard shard note refl (omega (arith, here, long)) in
+    some_and (slice_get notes shard) own (λ o. o.log ≡ note.log) at (sym (are.seen shard own at).log_is ∙ seen.log_is)
+
+module _ (tells : Bool) (s : Settings) (tables : Tables) (masters : List Store) where
+  abbrev pub AreOurs : List Session → Type 0
+  AreOurs sessions = All (IsSessionOf tells s tables (pens_of masters)) sessions
+
+  -- ---- the session may learn it
+
+  may_told : (sessions : List Session) (number : ℕ) (t : ToldEntry) → AreOurs sessions → IsToldOf s masters t → MayLearnTold t number sessions
+  may_told sessions number t all is = record {
+    note = if_some (λ (o : Session). IsNoteOf t.shard t.note o.notes) (session_at sessions number) (λ session found.
+        own_note (pens_of masters) s.shards t.shard t.note session.notes is.0
+        (session_is (IsSessionOf tells s tables (pens_of masters)) sessions number session all found).notes is.1.seen);
+    stands = is.1.stands;
+  }
+
+  may_any : (sessions : List Session) (number : ℕ) (told : Option ToldEntry) → AreOurs sessions → IfSome told (IsToldOf s masters)
+      → IfSome told (λ t. MayLearnTold t number sessions)
+  may_any sessions number told all are = if_some (λ t. MayLearnTold t number sessions) told
+      (λ t is. may_told sessions number t all (if_some_at (IsToldOf s masters) told t are is))
+
+  pub may_both : (sessions : List Session) (number : ℕ) (told : ToldEntries) → AreOurs sessions → AreToldOf s masters told
+      → MayLearnBoth told number sessions
+  may_both sessions number told all are = record {
+    here = may_any sessions number told.here all are.here;
+    other = may_any sessions number told.other all are.other;
+  }
+
+  -- ---- it is one of the core then
+
+  told_ours : (number : ℕ) (told : Option ToldEntry) (old new : List Session) → AreStoresOf tells s tables masters → IfSome told (IsToldOf s masters)
+      → LearnsTold number told old new → AreOurs old → AreOurs new
+  told_ours number None old new stores are learns all = subst AreOurs (sym learns) all
+  told_ours number (Some t) old new stores are learns all =
+      learnt_sessions tells s tables masters number t.shard t.entry t.note stores are.0 are.1.seen are.1.stands old new learns all
+
+  pub both_ours : (number : ℕ) (told : ToldEntries) (old new : List Session) → AreStoresOf tells s tables masters → AreToldOf s masters told
+      → LearnsBoth number told old new → AreOurs old → AreOurs new
+  both_ours number told old new stores are learns all =
+      told_ours number told.other learns.between new stores are.other learns.other
+      (told_ours number told.here old learns.between stores are.here learns.here all)

@@ -1,0 +1,142 @@
+-- What the stages of a held write leave of its plan, and which stages are left.
+use Rattle.std.proofs.Common.{◌≡◌, ℕ, Bool, Option, Some, None, Result, Ok, Err, ap, refl, subst, sym, ◌∙◌}
+use Rattle.std.specs.Prelude.{⊤, IsSome, option_and_then, unwrap_or}
+use Rattle.core_model.specs.Jobs.{ShardJob}
+use Rattle.core_plans.specs.Held.{IsBefore, next_stage}
+use Rattle.core_plans.specs.HeldWrites.{EndsHeld, MergesHeld, job_by}
+use Rattle.core_plans.specs.declared.held.HeldPlan.TheVariants.{Write}
+use Rattle.core_steps.specs.OtherEnds.{EndsOver, JobWay, MergesOver, job_way}
+use Rattle.core_steps.specs.Posting.{Posting}
+use Rattle.node_name.specs.declared.NodeName.{NodeName}
+use Rattle.replies.specs.declared.reply.Reply.{Reply}
+use Rattle.shard_tables.specs.declared.writes.Wrote.{Wrote}
+use Rattle.tao_keeper.specs.declared.jobs.Job.{Job}
+use Rattle.topology.specs.Config.{Settings}
+use Rattle.write_plan.specs.Plans.{Plan, after_stage, back_stage, job_stage, next_of, next_stage as stage_by}
+use Rattle.write_plan.specs.Stages.{told_stage}
+use Rattle.write_plan.specs.declared.committed.Committed.{Committed}
+use Rattle.write_plan.specs.declared.progress.OtherEnd.{OtherEnd}
+use Rattle.write_plan.specs.declared.progress.OtherEnd.TheVariants.{Due, Merged, Ended, Open}
+use Rattle.write_plan.specs.declared.progress.WayBack.{WayBack}
+use Rattle.write_plan.specs.declared.progress.WayBack.TheVariants.{Ahead, Relayed, Applied}
+use Rattle.write_plan.specs.declared.results.Late.{Late}
+use Rattle.write_plan.specs.declared.results.Late.TheVariants.{Scheduled, Refused}
+use Rattle.write_plan.specs.declared.results.WriteResult.TheVariants as came
+use Rattle.write_plan.specs.declared.stage.WriteStage.TheVariants.{Apply}
+
+-- ---- the stages of the other end
+
+-- a stage of the other end leaves who asked, what the commit answered, and how far the way back has come
+pub record KeepsAnswer (p q : Plan) : Type 0 where
+  pub origin : q.origin ≡ p.origin
+  pub refused : q.refused ≡ p.refused
+  pub committed : q.committed ≡ p.committed
+  pub back : q.back ≡ p.back
+
+module _ (tells : Bool) (s : Settings) (old new : Posting) (p q : Plan) (hops : ℕ) where
+  merged_keeps : (way : JobWay) (result : Result Wrote Late) → MergesOver tells s way result old new → q ≡ after_stage p (came.Inverse result) hops
+      → KeepsAnswer p q
+  merged_keeps way (Ok wrote) merges is = record {
+    origin = ap (λ (x : Plan). x.origin) is;
+    refused = ap (λ (x : Plan). x.refused) is;
+    committed = ap (λ (x : Plan). x.committed) is;
+    back = ap (λ (x : Plan). x.back) is;
+  }
+  merged_keeps way (Err (Scheduled why wrote)) merges is = record {
+    origin = ap (λ (x : Plan). x.origin) is;
+    refused = ap (λ (x : Plan). x.refused) is;
+    committed = ap (λ (x : Plan). x.committed) is;
+    back = ap (λ (x : Plan). x.back) is;
+  }
+  merged_keeps way (Err (Refused reply)) merges is = absurd merges
+
+  ended_keeps : (j : ShardJob) (result : Result ⊤ Late) → EndsOver tells s j result old new → q ≡ after_stage p (came.End result) hops → KeepsAnswer p q
+  ended_keeps j (Ok done) ends is = record {
+    origin = ap (λ (x : Plan). x.origin) is;
+    refused = ap (λ (x : Plan). x.refused) is;
+    committed = ap (λ (x : Plan). x.committed) is;
+    back = ap (λ (x : Plan). x.back) is;
+  }
+  ended_keeps j (Err (Scheduled why wrote)) ends is = record {
+    origin = ap (λ (x : Plan). x.origin) is;
+    refused = ap (λ (x : Plan). x.refused) is;
+    committed = ap (λ (x : Plan). x.committed) is;
+    back = ap (λ (x : Plan). x.back) is;
+  }
+  ended_keeps j (Err (Refused reply)) ends is = absurd ends
+
+-- what a commit answered whose job it is
+answered : (committed : Option Committed) (job : Job) → option_and_then (λ c. c.wrote.job) committed ≡ Some job
+    → (c : Committed) × (committed ≡ Some c)
+answered None job is = absurd (cc)
+answered (Some c) job is = (c, refl)
+
+-- so does each of the two stages of a held write, whose commit was answered
+pub record KeepsOn (p q : Plan) : Type 0 where
+  pub keeps : KeepsAnswer p q
+  pub committed : Committed
+  pub answered : q.committed ≡ Some committed
+
+pub inverse_keeps : (tells : Bool) (s : Settings) (by : NodeName) (p q : Plan) (old new : Posting) → MergesHeld tells s by p old q new → KeepsOn p q
+inverse_keeps tells s by p q old new merges =
+    let keeps = merged_keeps tells s old new p q _ (job_way by (job_by p merges.job)) merges.result merges.merges merges.then in
+    let one = answered p.committed merges.job merges.answered in
+    record { keeps = keeps; committed = one.0; answered = keeps.committed ∙ one.1 }
+
+pub end_keeps : (tells : Bool) (s : Settings) (p q : Plan) (old new : Posting) → EndsHeld tells s p old q new → KeepsOn p q
+end_keeps tells s p q old new ends =
+    let keeps = ended_keeps tells s old new p q 0 (job_by p ends.job) ends.result ends.ends ends.then in
+    let one = answered p.committed ends.job ends.answered in
+    record { keeps = keeps; committed = one.0; answered = keeps.committed ∙ one.1 }
+
+-- ---- the stages that are left
+
+-- a plan with a stage left wasn't refused
+pub unrefused : (refused : Option Reply) (committed : Option Committed) (job : OtherEnd) (back : WayBack)
+    → IsSome (told_stage (stage_by refused committed job back)) → refused ≡ None
+unrefused None committed job back some = refl
+unrefused (Some reply) committed job back some = absurd (cc)
+
+back_left : (passed : Option NodeName) (back : WayBack) → IsBefore back → IsSome (told_stage (back_stage passed back))
+back_left None Ahead before = refl
+back_left (Some leader) Ahead before = refl
+back_left None Relayed before = refl
+back_left (Some leader) Relayed before = refl
+back_left passed Applied before = absurd before
+
+job_left : (o : Option Job) (passed : Option NodeName) (job : OtherEnd) (back : WayBack) → IsBefore back
+    → IsSome (told_stage (unwrap_or (option_and_then (λ _. job_stage job) o) (back_stage passed back)))
+job_left None passed job back before = back_left passed back before
+job_left (Some j) passed Due back before = refl
+job_left (Some j) passed Merged back before = refl
+job_left (Some j) passed Ended back before = back_left passed back before
+job_left (Some j) passed (Open why) back before = back_left passed back before
+
+-- one whose commit was answered has a stage left, until its way back is done
+pub stage_left : (q : Plan) (c : Committed) → q.refused ≡ None → q.committed ≡ Some c → IsBefore q.back → IsSome (next_stage (Write q))
+stage_left q c none is before =
+    subst (λ r. IsSome (told_stage (stage_by r q.committed q.job q.back))) (sym none)
+    (subst (λ o. IsSome (told_stage (stage_by None o q.job q.back))) (sym is) (job_left c.wrote.job c.passed q.job q.back before))
+
+back_over : (passed : Option NodeName) → told_stage (back_stage passed Applied) ≡ None
+back_over None = refl
+back_over (Some leader) = refl
+
+job_over : (o : Option Job) (passed : Option NodeName) (job : OtherEnd) (back : WayBack)
+    → unwrap_or (option_and_then (λ _. job_stage job) o) (back_stage passed back) ≡ Apply
+    → told_stage (unwrap_or (option_and_then (λ _. job_stage job) o) (back_stage passed Applied)) ≡ None
+job_over None passed job back at = back_over passed
+job_over (Some j) passed Due back at = absurd (cc)
+job_over (Some j) passed Merged back at = absurd (cc)
+job_over (Some j) passed Ended back at = back_over passed
+job_over (Some j) passed (Open why) back at = back_over passed
+
+over_by : (refused : Option Reply) (committed : Option Committed) (job : OtherEnd) (back : WayBack) → stage_by refused committed job back ≡ Apply
+    → told_stage (stage_by refused committed job Applied) ≡ None
+over_by (Some reply) committed job back at = refl
+over_by None None job back at = absurd (cc)
+over_by None (Some c) job back at = job_over c.wrote.job c.passed job back at
+
+-- and then none
+pub applied_over : (p q : Plan) (hops : ℕ) → next_of p ≡ Apply → q ≡ after_stage p (came.Apply (Ok tt)) hops → next_stage (Write q) ≡ None
+applied_over p q hops at is = subst (λ x. next_stage (Write x) ≡ None) (sym is) (over_by p.refused p.committed p.job p.back at)

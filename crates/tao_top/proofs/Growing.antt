@@ -1,18 +1,17 @@
 -- A core goes on serving after a request: lines stay, and only logs of the shards' stores grow.
-use Rattle.std.proofs.Common.{◌≡◌, ◌≢◌, ◌⊎◌, ℕ, ◌<◌, Bool, true, Some, Ok, unwrap_or, sym, ap, subst, ◌∙◌, inl, inr}
+use Rattle.std.proofs.Common.{◌≡◌, ◌≢◌, ◌⊎◌, ℕ, zero, suc, ◌<◌, Bool, true, Some, Ok, unwrap_or, sym, ap, subst, ◌∙◌, inl, inr, arith}
+use Rattle.std.proofs.lemmas.Bool.{cases_eq}
 use Rattle.config_json.specs.Config.{config_in}
-use Rattle.graph_model.specs.Soundness.{IsSoundOf}
 use Rattle.replies.specs.declared.reply.Reply.{Reply}
 use Rattle.requests.specs.declared.request.Request.{Request}
-use Rattle.tao_base.specs.declared.id.StoreName.{StoreName}
 use Rattle.core_nodes.proofs.StoreLemmas.{first_or_other}
 use Rattle.tao_core.specs.Core.{CoreState, IsCoreOf}
 use Rattle.core_model.specs.Growing.{MastersGrow}
 use Rattle.tao_core.specs.Replies.{AnswersRequest}
-use Rattle.core_model.specs.Stores.{HasSoundLogs, master_store}
+use Rattle.core_model.proofs.KeptStores.{kept_within}
+use Rattle.core_model.specs.Stores.{AreKeptIn, master_store}
 use Rattle.tao_keeper.specs.Table.{Tables, OpensAs}
 use Rattle.tao_keeper.specs.declared.keeper.Opened.TheVariants.{Ready}
-use Rattle.tao_schema.specs.Schema.{types_of}
 use Rattle.tao_top.specs.Kept.{AreOpenedWith, LeavesTables, MayServe, StillBegin}
 use Rattle.tao_top.specs.Outside.{Outside, moment_of}
 use Rattle.tao_top.specs.Step.{AnswersLine}
@@ -23,24 +22,49 @@ opened_grown tells s old new only told opened = λ shard within.
     let o = opened shard within in
     record { line = o.line; first = only.lines told (master_store s shard) ∙ o.first; configured = o.configured }
 
--- with tables of a core that serves, whose logs are sound, a run may begin as before
-still_grown : (tells : Bool) (s : Settings) (old new : Tables) → MastersGrow tells s old new → tells ≡ true → AreOpenedWith s old → HasSoundLogs s new → StillBegin old new
-still_grown tells s old new only told opened sound line may t configured shard within ready = by_store (first_or_other s s.shards (master_store t shard))
-  where
-    IsSoundAs : Settings → StoreName → Type 0
-    IsSoundAs u at = IsSoundOf (types_of u.schema) shard (new at).log
+-- a shard of which both configurations have the same store
+record SharesStore (s t : Settings) (count : ℕ) : Type 0 where
+  shard : ℕ
+  within : shard < count
+  configured : shard < s.shards
+  same : master_store t shard ≡ master_store s shard
 
-    by_store : ((shard < s.shards) × (master_store t shard ≡ master_store s shard)) ⊎ ((n : ℕ) → n < s.shards → master_store t shard ≢ master_store s n) → IsSoundAs t (master_store t shard)
-    by_store (inl first) =
-        let o = opened shard first.0 in
-        let now : (new (master_store t shard)).line ≡ Some o.line = ap (λ at. (new at).line) first.1 ∙ only.lines told (master_store s shard) ∙ o.first in
-        let same_line : o.line ≡ line = sym (ap (λ l. unwrap_or l line) now) ∙ ready in
-        let here : config_in line ≡ Ok s = subst (λ l. config_in l ≡ Ok s) same_line o.configured in
-        let same_settings : s ≡ t = cc (here, configured) in
-        subst (IsSoundAs t) (sym first.1) (subst (λ u. IsSoundAs u (master_store s shard)) same_settings (sound shard first.0))
-    by_store (inr none) =
-        let same = only.others told (master_store t shard) none in
-        subst (λ table. IsSoundOf (types_of t.schema) shard table.log) (sym same) (may t configured shard within (subst (λ table. OpensAs Ready table line) same ready))
+-- the first stores of one configuration are none of the other's
+abbrev AreApart : Settings → Settings → ℕ → Type 0
+AreApart s t count = (shard : ℕ) → shard < count → (n : ℕ) → n < s.shards → master_store t shard ≢ master_store s n
+
+shared_or_apart : (s t : Settings) (count : ℕ) → SharesStore s t count ⊎ AreApart s t count
+shared_or_apart s t zero = inr (λ shard within. absurd (omega arith))
+shared_or_apart s t (suc n) = elim (shared_or_apart s t n) [
+  | inl shares ↦ inl (record { shard = shares.shard; within = let lt = shares.within in omega (arith, lt); configured = shares.configured; same = shares.same })
+  | inr apart ↦ elim (first_or_other s s.shards (master_store t n)) [
+    | inl here ↦ inl (record { shard = n; within = omega arith; configured = here.0; same = here.1 })
+    | inr none ↦ inr (λ shard within. elim (cases_eq shard n) [
+      | inl is ↦ subst (λ k. (m : ℕ) → m < s.shards → master_store t k ≢ master_store s m) (sym is) none
+      | inr differ ↦ apart shard (omega (arith, within, differ))
+    ])
+  ]
+]
+
+-- with tables of a core that serves, which are kept, a run may begin as before: with the core's configuration, or with stores that didn't change
+still_grown : (tells : Bool) (s : Settings) (old new : Tables) → MastersGrow tells s old new → tells ≡ true → AreOpenedWith s old → AreKeptIn s new → StillBegin old new
+still_grown tells s old new only told opened kept line may t configured ready = elim (shared_or_apart s t t.shards) [
+  | inl shares ↦
+      let o = opened shares.shard shares.configured in
+      let now : (new (master_store t shares.shard)).line ≡ Some o.line =
+      ap (λ at. (new at).line) shares.same ∙ only.lines told (master_store s shares.shard) ∙ o.first in
+      let same_line : o.line ≡ line = sym (ap (λ l. unwrap_or l line) now) ∙ ready shares.shard shares.within in
+      let here : config_in line ≡ Ok s = subst (λ l. config_in l ≡ Ok s) same_line o.configured in
+      let same_settings : s ≡ t = cc (here, configured) in
+      subst (λ u. AreKeptIn u new) same_settings kept
+  | inr apart ↦
+      let same : (shard : ℕ) → shard < t.shards → new (master_store t shard) ≡ old (master_store t shard) =
+      λ shard within. only.others told (master_store t shard) (apart shard within) in
+      let before = may t configured (λ shard within. subst (λ table. OpensAs Ready table line) (same shard within) (ready shard within)) in
+      kept_within t old new
+      (record { logs = λ shard within. ap (λ table. table.log) (same shard within); jobs = λ shard within. ap (λ table. table.jobs) (same shard within) })
+      before
+]
 
 -- ---- a request that is answered, where the core stands within a value
 
@@ -64,5 +88,5 @@ module _ (tells : Bool) (core within next : CoreState) (old new : Outside) (is :
     call_leaves = record {
       histories = grows.logs;
       still = λ told.
-          still_grown tells within.settings old.keepers.told new.keepers.told grows told (opened told) (subst (λ s. HasSoundLogs s new.keepers.told) settings (of_core.is_consistent.consistent.stores.sound told));
+          still_grown tells within.settings old.keepers.told new.keepers.told grows told (opened told) (subst (λ s. AreKeptIn s new.keepers.told) settings (of_core.is_consistent.consistent.stores.kept told));
     }

@@ -1,17 +1,19 @@
 -- What the keepers' tables allow, they still allow once stores were opened.
-use Rattle.std.proofs.Common.{◌≡◌, ◌≢◌, ℕ, ◌+◌, ◌<◌, ◌⊎◌, Bool, List, [], Option, Some, None, Ok, unwrap_or, refl, sym, ap, subst, ◌∙◌, inl, inr}
+use Rattle.std.proofs.Common.{◌≡◌, ◌≢◌, ℕ, zero, suc, ◌+◌, ◌<◌, nat_lt, ◌⊎◌, Bool, true, false, List, [], Option, Some, None, Ok, unwrap_or, refl, sym, ap, subst, ◌∙◌, inl, inr}
 use Rattle.tao_keeper.specs.KeeperState.{KeeperState}
-use Rattle.std.proofs.lemmas.List.Elements.{All-nil}
+use Rattle.std.specs.Prelude.{if◌then◌else◌}
 use Rattle.config_json.specs.Config.{config_in}
-use Rattle.graph_model.specs.Soundness.{IsSoundOf, KeepsEnds}
+use Rattle.graph_model.specs.Soundness.{EdgeUpdate}
 use Rattle.graph_model.specs.Told.{WhereTold}
-use Rattle.tao_base.specs.EdgeTypes.{EdgeTypes}
+use Rattle.master_tables.specs.Masters.{each_shard}
 use Rattle.tao_base.specs.declared.entry.Entry.{Entry}
 use Rattle.tao_base.specs.declared.id.StoreName.{StoreName}
 use Rattle.tao_core.specs.Core.{CoreState, IsCoreOf}
 use Rattle.core_nodes.specs.Opening.{AreOpened, IsOpened, RefusesOpening}
+use Rattle.core_nodes.proofs.OpenedLogs.{opened_keep}
 use Rattle.core_nodes.proofs.StoreLemmas.{first_or_other}
-use Rattle.core_model.specs.Stores.{master_store}
+use Rattle.core_model.proofs.KeptStores.{kept_same}
+use Rattle.core_model.specs.Stores.{master_log, master_store, stores_in}
 use Rattle.tao_keeper.proofs.Growing.{grow_in_turn, stays_grow}
 use Rattle.tao_keeper.specs.Table.{Table, Tables, OpensAs, after_open, empty_table}
 use Rattle.tao_keeper.specs.declared.keeper.Opened.TheVariants.{Ready}
@@ -20,6 +22,8 @@ use Rattle.tao_top.specs.Kept.{AreOpenedWith, LeavesTables, MayBeginAny, MayServ
 use Rattle.replies.specs.declared.opening.OpenRefusal.{OpenRefusal}
 use Rattle.replies.specs.declared.opening.OpenRefusal.TheVariants as refusal
 use Rattle.topology.specs.Config.{Settings}
+use Rattle.write_model.proofs.CoverEmpty.{empty_stores_are_kept}
+use Rattle.write_model.specs.Merges.{log_of}
 
 -- ---- one table
 
@@ -31,30 +35,36 @@ ready_before table line other ready = by_line table.line refl
     by_line None none = ap (λ o. unwrap_or o other) none
     by_line (Some first) some = ap (λ o. unwrap_or o other) some ∙ sym (ap (λ o. unwrap_or o line) some) ∙ ready
 
-sound_nil : (types : EdgeTypes) (shard : ℕ) (log : List Entry) → log ≡ [] → IsSoundOf types shard log
-sound_nil types shard log is = subst (IsSoundOf types shard) (sym is) (record { sound = λ n e h. absurd (cc h); ends = All-nil (KeepsEnds types shard) })
-
 -- ---- all tables
+
+no_logs : (log : ℕ → List Entry) (from n shard : ℕ) → ((i : ℕ) → log i ≡ []) → log_of (each_shard log from n) shard ≡ []
+no_logs log from zero shard none = refl
+no_logs log from (suc n) zero none = none from
+no_logs log from (suc n) (suc shard) none = no_logs log (from + 1) n shard none
+
+no_job : (open_there : Bool) (job : Option (List EdgeUpdate)) → job ≡ None → (if open_there then job else None) ≡ None
+no_job true job none = none
+no_job false job none = refl
 
 -- with stores that were not opened yet a run may begin with any line
 pub empty_kept : (tables : Tables) → ((at : StoreName) → tables at ≡ empty_table) → MayBeginAny tables
-empty_kept tables empty line s configured shard within ready = sound_nil (types_of s.schema) shard (tables (master_store s shard)).log (ap (λ t. t.log) (empty (master_store s shard)))
+empty_kept tables empty line s configured ready =
+    empty_stores_are_kept.kept (types_of s.schema) (stores_in s tables)
+    (λ shard. no_logs (master_log s tables) 0 s.shards shard (λ i. ap (λ t. t.log) (empty (master_store s i))))
+    (λ shard position. no_job (nat_lt shard s.shards) ((tables (master_store s shard)).jobs position) (ap (λ t. t.jobs position) (empty (master_store s shard))))
 
 -- with stores that were opened a run may begin as before
 pub still_opened : (s : Settings) (line : List ℕ) (count : ℕ) (old new : Tables) → AreOpened s line count old new → StillBegin old new
-still_opened s line count old new opened other may t configured shard within ready = by_store (first_or_other s count (master_store t shard))
+still_opened s line count old new opened other may t configured ready =
+    kept_same t old new (opened_keep s line count old new opened)
+    (may t configured (λ shard within. ready_at (master_store t shard) (first_or_other s count (master_store t shard)) (ready shard within)))
   where
-    IsSoundHere : Table → Type 0
-    IsSoundHere table = IsSoundOf (types_of t.schema) shard table.log
-
-    kept : (table : Table) → new (master_store t shard) ≡ table → (OpensAs Ready table other → IsSoundHere table) → IsSoundHere (new (master_store t shard))
-    kept table is sound = subst IsSoundHere (sym is) (sound (subst (λ x. OpensAs Ready x other) is ready))
-
-    by_store : ((shard < count) × (master_store t shard ≡ master_store s shard)) ⊎ ((n : ℕ) → n < count → master_store t shard ≢ master_store s n) → IsSoundHere (new (master_store t shard))
-    by_store (inl first) =
-        let becomes : new (master_store t shard) ≡ after_open (old (master_store t shard)) line = subst (λ a. new a ≡ after_open (old a) line) (sym first.1) (opened.stores shard first.0) in
-        kept (after_open (old (master_store t shard)) line) becomes (λ now. may t configured shard within (ready_before (old (master_store t shard)) line other now))
-    by_store (inr none) = kept (old (master_store t shard)) (opened.others (master_store t shard) none) (λ before. may t configured shard within before)
+    ready_at : (at : StoreName) → ((at.shard < count) × (at ≡ master_store s at.shard)) ⊎ ((n : ℕ) → n < count → at ≢ master_store s n)
+        → OpensAs Ready (new at) other → OpensAs Ready (old at) other
+    ready_at at (inl first) ready =
+        let becomes : new at ≡ after_open (old at) line = subst (λ a. new a ≡ after_open (old a) line) (sym first.1) (opened.stores at.shard first.0) in
+        ready_before (old at) line other (subst (λ x. OpensAs Ready x other) becomes ready)
+    ready_at at (inr none) ready = subst (λ x. OpensAs Ready x other) (opened.others at none) ready
 
 -- nothing changes
 pub leaves_same : (tells : Bool) (keepers : KeeperState) → LeavesTables tells keepers keepers
@@ -62,9 +72,9 @@ leaves_same tells keepers = record { histories = stays_grow tells keepers.told k
 
 -- one thing after another
 pub leaves_then : (tells : Bool) (old mid new : KeeperState) → LeavesTables tells old mid → LeavesTables tells mid new → LeavesTables tells old new
-leaves_then tells old mid new first then = record {
-  histories = grow_in_turn tells old.told mid.told new.told first.histories then.histories;
-  still = λ told line may. then.still told line (first.still told line may);
+leaves_then tells old mid new first second = record {
+  histories = grow_in_turn tells old.told mid.told new.told first.histories second.histories;
+  still = λ told line may. second.still told line (first.still told line may);
 }
 
 -- so it may where the opening stopped

@@ -89,7 +89,7 @@ pub(crate) fn begin<'c, S: Sink, K: Keeper>(
     keepers: &mut K,
 ) -> Result<Serving<'c>, Stop>
     requires configured { config_in first.now.line.items ≡ Ok first.now.config }
-    requires sound { WhereTold K.TELLS (MayOpen first.now.config first.now.line.items (K.state keepers.old).told) }
+    requires kept { WhereTold K.TELLS (MayOpen first.now.config first.now.line.items (K.state keepers.old).told) }
     ensures ok { IfOk result (λ serving. (link : LinkShown) → Replies K.TELLS (start (outside (K.state keepers.old) link)) first.now.line.items
         (serves serving (outside (K.state keepers.new) link)) (Appends (S.taken output.old) (S.taken output.new))) }
     ensures serving { IfOk result (λ serving. MayServe K.TELLS serving (K.state keepers.new).told) }

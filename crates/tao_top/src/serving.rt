@@ -61,7 +61,7 @@ impl<'c> Serving<'c> {
         keepers: &mut K,
     ) -> Result<Serving<'c>, OpenRefusal>
         requires configured { config_in line.now ≡ Ok config.now }
-        requires sound { WhereTold K.TELLS (MayOpen config.now line.now (K.state keepers.old).told) }
+        requires kept { WhereTold K.TELLS (MayOpen config.now line.now (K.state keepers.old).told) }
         ensures settings { IfOk result (λ serving. serving.settings ≡ config.now) }
         ensures begun { IfOk result IsNewCore }
         ensures opened { IfOk result (λ serving. WhereTold K.TELLS (IsOpened config.now line.now (K.state keepers.old).told (K.state keepers.new).told)) }

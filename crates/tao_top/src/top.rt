@@ -32,7 +32,7 @@ fn go<R: Source, S: Sink, K: Keeper, L: Link>(
     keepers: &mut K,
     link: &mut L,
 ) -> Result<(), Stop>
-    requires sound { WhereTold K.TELLS (MayRun (R.left input.old) (K.state keepers.old).told) }
+    requires kept { WhereTold K.TELLS (MayRun (R.left input.old) (K.state keepers.old).told) }
     ensures tables { LeavesTables K.TELLS (K.state keepers.old) (K.state keepers.new) }
     ensures ok { OnOk result (Done K.TELLS
         (outside (K.state keepers.old) (L.shown link.old)) (outside (K.state keepers.new) (L.shown link.new)) (R.left input.old)
@@ -107,8 +107,8 @@ pub fn run<R: Source, S: Sink, K: Keeper, L: Link>(
     keepers: &mut K,
     link: &mut L,
 ) -> Status
-    // What the first line opens is sound with it. A later run may begin with each line with which this one might.
-    requires sound { WhereTold K.TELLS (MayRun (R.left input.old) (K.state keepers.old).told) }
+    // Where every store takes the first line, their logs are sound with it, and covered. A later run may begin with each line with which this one might.
+    requires kept { WhereTold K.TELLS (MayRun (R.left input.old) (K.state keepers.old).told) }
     ensures still { WhereTold K.TELLS (StillBegin (K.state keepers.old).told (K.state keepers.new).told) }
     ensures histories { LogsGrow K.TELLS (K.state keepers.old).told (K.state keepers.new).told }
 

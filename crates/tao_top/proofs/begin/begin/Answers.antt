@@ -37,5 +37,5 @@ returns-in-Err-OtherLine-clause-refused g c = λ e.
     let whole : c.refuse.result ≡ Configuration = cc e in
     λ link. refuses_other g.K.Keeper.TELLS (outside (keepers c.args.keepers.now) link) (outside (keepers c.open.new.keepers) link) c.args.first.now.line.items c.args.first.now.config c.requires.configured c.in-Err-OtherLine.ensures.later refl _ _ other (c.refuse.ensures.whole whole)
 
-pub open-requires-clause-sound : goal.open-requires-clause-sound
-open-requires-clause-sound g c = subst (λ l. WhereTold g.K.Keeper.TELLS (MayOpen c.args.first.now.config l (g.K.Keeper.state c.args.keepers.now).told)) (sym c.deref.ensures.value) c.requires.sound
+pub open-requires-clause-kept : goal.open-requires-clause-kept
+open-requires-clause-kept g c = subst (λ l. WhereTold g.K.Keeper.TELLS (MayOpen c.args.first.now.config l (g.K.Keeper.state c.args.keepers.now).told)) (sym c.deref.ensures.value) c.requires.kept

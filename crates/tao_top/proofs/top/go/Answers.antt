@@ -92,10 +92,10 @@ returns-clause-short g c =
     short_input (g.R.Source.left c.args.input.now) (g.R.Source.left c.serve.new.input) c.serve.new.reader.ahead _ _ c.in_ok-reader.ensures.taken
     (CountsTaken-trans _ _ _ _ _ _ c.read_first.ensures.counted c.serve.ensures.counted) c.in_ok-serve.ensures.end c.in_ok-serve.ensures.short
 
-pub begin-requires-clause-sound : goal.begin-requires-clause-sound
-begin-requires-clause-sound g c =
+pub begin-requires-clause-kept : goal.begin-requires-clause-kept
+begin-requires-clause-kept g c =
     may_open g.K.Keeper.TELLS (g.K.Keeper.state c.args.keepers.now).told _ _ _ c.in_ok-first.first.line.items c.in_ok-first.first.config (fresh c.in_ok-reader.reader _ c.in_ok-reader.ensures.ahead)
-    c.in_ok-first.ensures.line c.in_ok-first.ensures.configured c.requires.sound
+    c.in_ok-first.ensures.line c.in_ok-first.ensures.configured c.requires.kept
 
 pub returns-in_err-serving-clause-keepers : goal.returns-in_err-serving-clause-keepers
 returns-in_err-serving-clause-keepers g c = λ e.

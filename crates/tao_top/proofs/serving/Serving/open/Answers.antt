@@ -1,9 +1,5 @@
-use Rattle.config_json.proofs.Inverses.{without_inverses}
 use Rattle.tao_top.proofs.Keeping.{serves_opened, still_opened, still_refused}
 use Rattle.tao_top.proofs.serving.Serving.open.Goals as goal
-
-pub open-requires-clause-no_inverse : goal.open-requires-clause-no_inverse
-open-requires-clause-no_inverse g c = without_inverses c.args.line.now c.args.config.now c.requires.configured
 
 pub returns-in_err-core-clause-tables : goal.returns-in_err-core-clause-tables
 returns-in_err-core-clause-tables g c =

@@ -78,7 +78,6 @@ fn play_over(alloc: Global, keeper: &mut MapKeeper, run: &Run) -> Result<Option<
 }
 
 /// A keeper without tables, which fails as a script says.
-#[tactic(auto, using(tao_top::proofs::Keeping::empty_kept))]
 fn new_keeper(alloc: Global, script: &Script) -> Result<MapKeeper, AllocError>
     ensures { IfOk result (λ keeper. MayBeginAny (told_by keeper)) }
 {

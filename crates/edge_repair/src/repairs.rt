@@ -31,7 +31,7 @@ pub struct Repaired {
 }
 
 /// A refusal of a merge or of the end of a job, passed on.
-fn passed_on(refusal: StoreRefusal) -> RepairRefusal
+pub fn passed_on(refusal: StoreRefusal) -> RepairRefusal
     requires { IsOfMerges refusal }
     ensures { PassesOn refusal result }
 {

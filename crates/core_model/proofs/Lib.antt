@@ -3,6 +3,7 @@ pub mod NodesSeen
 pub mod Staying
 pub mod StayingJobs
 pub mod AskingOn
+pub mod MarkingOn
 pub mod Legal
 pub mod Turns
 pub mod FirstNamed

@@ -2,7 +2,7 @@
 use Rattle.std.proofs.Common.{◌≡◌, ℕ, zero, suc, List, [], ◌∷◌, Option, Some, IfOk, OnErr, Result, Ok, Err, refl, ap, sym, ◌∙◌, subst, inl, inr}
 use Rattle.std.specs.Prelude.{slice_get, slice_index_or, slice_set}
 use Rattle.node_name.specs.declared.NodeName.{NodeName}
-use Rattle.core_model.specs.Fleet.{ChangesNode, IsFirstAt, named, names_of}
+use Rattle.core_model.specs.Fleet.{ChangesNode, EachNode, IsFirstAt, named, names_of}
 use Rattle.core_model.specs.declared.named.Named.{Named}
 use Rattle.core_model.proofs.Places.{IsRead, get_set, one_some, read_at, set_same}
 
@@ -89,3 +89,25 @@ all_set Such nodes place name to all is other called node h = elim (get_set node
   | inl e ↦ all other called node e.1
   | inr e ↦ subst (λ n. Such n.name n.node) e.1 is
 ]
+
+-- each node stays
+pub each_stays : {N : Type 0} (By : N → N → Type 0) (nodes : List (Named N)) → ((node : N) → By node node) → EachNode (λ name. By) nodes nodes
+each_stays By nodes stays place name to at = (to, at, stays to)
+
+-- or one of them changes
+pub each_set : {N : Type 0} (By : N → N → Type 0) (nodes : List (Named N)) (place : ℕ) (name : NodeName) (from to : N) → ((node : N) → By node node)
+    → slice_get nodes place ≡ Some (named name from) → By from to → EachNode (λ called. By) nodes (slice_set nodes place (named name to))
+each_set By nodes place name from to stays stands by other called node h = elim (get_set nodes place (named name to) other (named called node) h) [
+  | inl e ↦ (node, e.1, stays node)
+  | inr e ↦
+      let there = ap (slice_get nodes) e.0 ∙ stands ∙ ap (λ n. Some (named n.name from)) e.1 in
+      (from, there, subst (λ n. By from n.node) e.1 by)
+]
+
+-- and one thing comes after another
+pub each_on : {N : Type 0} (By : N → N → Type 0) (old mid new : List (Named N)) → ((from between to : N) → By from between → By between to → By from to)
+    → EachNode (λ name. By) old mid → EachNode (λ name. By) mid new → EachNode (λ name. By) old new
+each_on By old mid new joins first second place name to at =
+    let between = second place name to at in
+    let from = first place name between.0 between.1 in
+    (from.0, from.1, joins from.0 between.0 to from.2 between.2)

@@ -1,17 +1,19 @@
 -- When the nodes of a core are consistent.
-use Rattle.std.specs.Prelude.{ℕ, ◌≡◌, Bool, List, Some, map, slice_get}
+use Rattle.std.specs.Prelude.{ℕ, ◌≡◌, ◌≤◌, Bool, List, [], Some, map, slice_get}
 use Rattle.std.specs.List.{AllByRecursion}
+use Rattle.std.specs.Option.{option_map_or}
 use Rattle.cache_items.specs.Node.{Node}
 use Rattle.cache_node.specs.True.{IsTrueNode}
 use Rattle.cache_node.specs.Within.{AreWithin}
 use Rattle.follower_cache.specs.Seen.{FollowerState}
+use Rattle.low_water.specs.Marks.{IsWindow, Marks, marks}
 use Rattle.node_name.specs.declared.NodeName.{NodeName}
-use Rattle.served_shards.specs.Served.{ServedShard}
+use Rattle.served_shards.specs.Served.{ServedShard, served_at}
 use Rattle.tao_keeper.specs.Table.{Tables}
 use Rattle.tao_schema.specs.Schema.{types_of}
 use Rattle.topology.specs.Config.{Settings}
 use Rattle.core_model.specs.Asks.{AsksGoOn}
-use Rattle.core_model.specs.Fleet.{Fleet, follower_names, leader_names, names_of, served_by}
+use Rattle.core_model.specs.Fleet.{EachNode, Fleet, follower_names, leader_names, names_of, served_by}
 use Rattle.core_model.specs.Messages.{AreRefillsFor}
 use Rattle.core_model.specs.Pens.{IsSeen, Pens, Rise, pens_of}
 use Rattle.core_model.specs.Stores.{AreStoresOf}
@@ -53,10 +55,28 @@ pub record IsConsistent (tells : Bool) (s : Settings) (tables : Tables) (f : Fle
   pub stores : AreStoresOf tells s tables f.masters
   pub fleet : IsFleetOf s f
 
--- what each step keeps, whatever it does: logs and the names of nodes, and asks go on
+-- the marks of a shard, none where it isn't served
+abbrev pub marks_at : ℕ → List ServedShard → Marks
+marks_at shard served = option_map_or (λ s. s.marks) (served_at shard served) (marks 0 [])
+
+-- the low-water mark doesn't fall, and those ahead of it stay in the window
+pub record MarksRise (old new : Marks) : Type 0 where
+  pub low : old.low ≤ new.low
+  pub window : IsWindow old → IsWindow new
+
+-- so do the marks of each shard
+abbrev pub MarksGoOn : Node → Node → Type 0
+MarksGoOn old new = (shard : ℕ) → MarksRise (marks_at shard old.served) (marks_at shard new.served)
+
+-- and those of each leader and follower
+pub record AllMarksGoOn (old new : Fleet) : Type 0 where
+  pub leaders : EachNode (λ name. MarksGoOn) old.leaders new.leaders
+  pub followers : EachNode (λ name from to. MarksGoOn from.node to.node) old.followers new.followers
+
+-- what each step keeps, whatever it does: logs and the names of nodes, asks go on, and no low-water mark falls
 pub record GoesOn (old new : Fleet) : Type 0 where
   pub rise : Rise (pens_of old.masters) (pens_of new.masters)
   pub leaders : names_of new.leaders ≡ names_of old.leaders
   pub followers : names_of new.followers ≡ names_of old.followers
-  pub asks : (place : ℕ) (name : NodeName) (to : FollowerState) → slice_get new.followers place ≡ Some (record { name = name; node = to })
-      → (from : FollowerState) × (slice_get old.followers place ≡ Some (record { name = name; node = from })) × AsksGoOn from.node.asks to.node.asks
+  pub asks : EachNode (λ name from to. AsksGoOn from.node.asks to.node.asks) old.followers new.followers
+  pub marks : AllMarksGoOn old new

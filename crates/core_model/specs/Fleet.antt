@@ -53,6 +53,11 @@ pub record ChangesNode {N : Type 0} (name : NodeName) (By : N → N → Type 0) 
   pub by : By from to
   pub is : new ≡ slice_set old place (named name to)
 
+-- each node stands where one of its name stood, and became what it is as is said
+abbrev pub EachNode : {N : Type 0} → (NodeName → N → N → Type 0) → List (Named N) → List (Named N) → Type 0
+EachNode {N} By old new = (place : ℕ) (name : NodeName) (to : N) → slice_get new place ≡ Some (named name to)
+    → (from : N) × (slice_get old place ≡ Some (named name from)) × By name from to
+
 -- the follower of that name has an ask of this number on the key, or had it
 abbrev pub HasAsk : NodeName → ℕ → Key → List (Named FollowerState) → Type 0
 HasAsk name number key followers = (place : ℕ) (f : FollowerState) → IsFirstAt name followers place → slice_get followers place ≡ Some (named name f)

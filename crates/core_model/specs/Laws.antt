@@ -1,5 +1,5 @@
 -- What stays so of the nodes of a core, whatever its stages do.
-use Rattle.std.specs.Prelude.{ℕ, ◌≡◌, ◌≤◌, ◌<◌, IfSome, IsSome, IsTrue, List, Option, Some, true}
+use Rattle.std.specs.Prelude.{ℕ, ◌≡◌, ◌≤◌, ◌<◌, Bool, IfSome, IsSome, IsTrue, List, Option, Some, true}
 use Rattle.std.specs.List.{IsDistinct}
 use Rattle.std.specs.Map.{keys_of as keys_held}
 use Rattle.cache_items.specs.Node.{Node, without, without_last}
@@ -34,7 +34,8 @@ use Rattle.topology.specs.Choices.{chosen_follower, preferred_leader}
 use Rattle.topology.specs.Config.{Settings}
 use Rattle.topology.specs.States.{NodeStates, is_cache}
 use Rattle.core_model.specs.Asks.{AsksGoOn}
-use Rattle.core_model.specs.Consistent.{AreSeen, IsFollowerOf, IsNodeOf}
+use Rattle.core_model.specs.Consistent.{AreSeen, IsFollowerOf, IsNodeOf, MarksGoOn}
+use Rattle.core_model.specs.Evictions.{Evicts}
 use Rattle.core_model.specs.Fleet.{regions_of, serves_in_turn}
 use Rattle.core_model.specs.Jobs.{IsMergedJob, IsOwedJob, ShardJob}
 use Rattle.core_model.specs.Messages.{Delivers, DeliversThere, IsMessageFor, IsRefillFor, Processes, TakesRefill}
@@ -134,6 +135,24 @@ pub record NodesAskOn : Type 0 where
   pub delivers : (m : SeenMaint) (dropped : ℕ) (old new : Node) → Delivers m dropped old new → AsksGoOn old.asks new.asks
   pub processes : (shard : ℕ) (entries : List Entry) (note : View) (old new : Node) → Processes shard entries note old new
       → AsksGoOn old.asks new.asks
+
+-- ---- no mark falls
+
+pub record NodesMarkOn : Type 0 where
+  pub looks : (types : EdgeTypes) (read : Wanted) (look : Look) (ask : Option ℕ) (old new : FollowerState) → LooksFirst types read look ask old new
+      → MarksGoOn old.node new.node
+  pub answers : (types : EdgeTypes) (read : Wanted) (given : LeaderAnswer) (masters : List Store) (before after : KeeperState) (old new : Node)
+      → LeaderAnswers types read given masters before after old new → MarksGoOn old new
+  pub keeps : (types : EdgeTypes) (read : Wanted) (ask : Option ℕ) (fill : SealedItem) (answer : Answer) (kept : Kept) (old new : FollowerState)
+      → KeepsFill types read.query ask fill answer kept old new → MarksGoOn old.node new.node
+  pub ends : (ask : Option ℕ) (old new : FollowerState) → EndsAsk ask old new → MarksGoOn old.node new.node
+  pub writes : (types : EdgeTypes) (shard : ℕ) (entry : Option Entry) (note : View) (old new : Node) → TakesWritten types shard entry note old new
+      → MarksGoOn old new
+  pub applies : (types : EdgeTypes) (shard : ℕ) (entry : Entry) (note : View) (old new : FollowerState) → AppliesTo types shard entry note old new
+      → MarksGoOn old.node new.node
+  pub evicts : (key : Option Key) (held : Bool) (old new : Node) → Evicts key held old new → MarksGoOn old new
+  pub delivers : (m : SeenMaint) (dropped : ℕ) (old new : Node) → Delivers m dropped old new → MarksGoOn old new
+  pub processes : (shard : ℕ) (entries : List Entry) (note : View) (old new : Node) → Processes shard entries note old new → MarksGoOn old new
 
 -- ---- reads are legal
 

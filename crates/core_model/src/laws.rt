@@ -2,7 +2,8 @@
 ghost use Rattle.std.specs.Prelude.{ℕ};
 ghost use Rattle.cache_items.specs.Node.{Node};
 ghost use Rattle.core_model.specs.Asks.{AsksStayOn};
-ghost use Rattle.core_model.specs.Laws.{ChoicesServe, FollowersStay, JobsStayOwed, MessagesStay, NodesAskOn, NodesStay, NodesStaySeen, ReadsAreLegal, ServesItsTurn};
+ghost use Rattle.core_model.specs.Laws.{ChoicesServe, FollowersStay, JobsStayOwed, MessagesStay, NodesAskOn, NodesMarkOn, NodesStay, NodesStaySeen};
+ghost use Rattle.core_model.specs.Laws.{ReadsAreLegal, ServesItsTurn};
 ghost use Rattle.core_model.specs.Pens.{Pens};
 ghost use Rattle.core_model.specs.Reads.{Wanted};
 ghost use Rattle.node_name.specs.declared.NodeName.{NodeName as AnyNode};
@@ -44,6 +45,12 @@ pub fn messages_stay()
 #[tactic(auto, using(crate::proofs::AskingOn::nodes_ask_on))]
 pub fn nodes_ask_on()
     ensures { NodesAskOn }
+{}
+
+/// No low-water mark of a node falls, whatever stage it does.
+#[tactic(auto, using(crate::proofs::MarkingOn::nodes_mark_on))]
+pub fn nodes_mark_on()
+    ensures { NodesMarkOn }
 {}
 
 /// A hit is legal in the shard's log, and so is what a note of it answers.

@@ -27,6 +27,7 @@ use Rattle.tao_schema.specs.Schema.{types_of}
 use Rattle.topology.specs.Config.{Settings}
 use Rattle.core_model.proofs.KeptStores.{kept_stays}
 use Rattle.core_model.proofs.Legal.{reads_are_legal}
+use Rattle.core_model.proofs.MarkingOn.{nodes_mark_on}
 use Rattle.core_model.proofs.NodesSeen.{nodes_stay_seen}
 use Rattle.core_model.proofs.Staying.{nodes_stay}
 use Rattle.core_model.proofs.Turns.{serves_its_turn}
@@ -140,7 +141,8 @@ ask_step tells s name read before after old ls (Ok given) is change legal err st
     let of_read = is_given types (pens_of old.masters) read given legal seen in
     let step = leader_step (LeaderDoes Does) s old name ls is.fleet change
     (λ from to by was.
-    (nodes_stay s (pens_of old.masters) name).answers read given old.masters before after from to by.does of_read by.apart by.truth was) in
+    (nodes_stay s (pens_of old.masters) name).answers read given old.masters before after from to by.does of_read by.apart by.truth was)
+    (λ from to by. nodes_mark_on.answers types read given old.masters before after from to by.does) in
     record {
       consistent = record { stores = stores_here tells s before.told after.told old.masters is.stores stays; fleet = step.fleet };
       goes = step.goes;

@@ -1,5 +1,5 @@
 -- A node that processes the rest of a log is still one of its core, and holds what it held of the last versions.
-use Rattle.std.proofs.Common.{◌≡◌, ℕ, zero, suc, ◌+◌, ◌<◌, ◌≤◌, Bool, true, false, List, [], ◌∷◌, drop, get_or, length, take, Option, Some, None, refl, ap, sym, ◌∙◌, subst, inl, inr, arith}
+use Rattle.std.proofs.Common.{◌≡◌, ℕ, suc, ◌+◌, ◌<◌, ◌≤◌, Bool, true, false, List, [], ◌∷◌, drop, length, take, Option, Some, None, refl, ap, sym, ◌∙◌, subst, inl, inr, arith}
 use Rattle.std.proofs.lemmas.Bool.{and_from, cases_Bool, eq-eqb, eqb-false, eqb-true, le-ltb, ltb-false}
 use Rattle.std.proofs.lemmas.List.{take_all}
 use Rattle.std.proofs.lemmas.List.Elements.{All-drop, All-weaker, recursion_from_All}
@@ -7,9 +7,11 @@ use Rattle.std.proofs.lemmas.List.FromFn.{get_or-map-range_with_len}
 use Rattle.std.proofs.lemmas.Option.{get_or_from_slice_get, slice_get_cases, slice_get_within, unwrap_or-slice_get}
 use Rattle.std.specs.List.{AllByRecursion, IsDistinct}
 use Rattle.std.specs.Map.{keys_of as keys_held}
-use Rattle.std.specs.Option.{option_map}
 use Rattle.std.specs.Prelude.{◌==◌, ◌&&◌, All, IfSome, IsSome, filter, map, nat_lt, slice_get}
-use Rattle.cache_items.specs.Node.{Node, caught_up, item_at, met, processed}
+use Rattle.ask_table.specs.Asks.{Asks, with_floor}
+use Rattle.ask_table.specs.Open.{raised_ask}
+use Rattle.ask_table.specs.declared.ask.Ask.{Ask}
+use Rattle.cache_items.specs.Node.{Node, caught_up, item_at, met, processed, raised_all}
 use Rattle.cache_items.specs.declared.item.Item.{Item}
 use Rattle.cache_node.proofs.Filling.{content_reached}
 use Rattle.cache_node.proofs.Marked.{items_reach_the_mark, low_is_marked}
@@ -27,7 +29,6 @@ use Rattle.maint_msg.specs.declared.key_versions.KeyVersion.{KeyVersion}
 use Rattle.node_name.specs.declared.NodeName.{NodeName}
 use Rattle.served_shards.specs.Served.{IsLowWater, ServedShard, log_at, low_at, served_at}
 use Rattle.shard_log.proofs.Beginnings.{begins-length, begins-self, begins-whole}
-use Rattle.shard_log.proofs.GrowthLemmas.{versions_stay}
 use Rattle.shard_log.specs.View.{Grows, View, as_note}
 use Rattle.shard_tables.specs.StoreView.{Store}
 use Rattle.shard_tables.specs.Stores.{HasSeen}
@@ -42,19 +43,20 @@ use Rattle.topology.specs.Config.{Settings}
 use Rattle.core_model.proofs.AskingOn.{nodes_ask_on}
 use Rattle.core_model.proofs.AsksOn.{asks_go_on, asks_stay}
 use Rattle.core_model.proofs.KeptStores.{sound_logs}
+use Rattle.core_model.proofs.MarkingOn.{marks_go_on, marks_stay, nodes_mark_on}
 use Rattle.core_model.proofs.NodesSeen.{served-at}
 use Rattle.core_model.proofs.Staying.{nodes_stay}
 use Rattle.core_model.proofs.Turns.{serves_its_turn, turn_of}
 use Rattle.core_model.specs.Consistent.{IsNodeOf}
-use Rattle.core_model.specs.Fleet.{regions_of, served_by, serves_in_turn}
+use Rattle.core_model.specs.Fleet.{regions_of, serves_in_turn}
 use Rattle.core_model.specs.Messages.{Processes}
 use Rattle.core_model.specs.Pens.{IsSeen, Pens, pens_of, view_or_none}
 use Rattle.core_model.specs.Stores.{AreStoresOf, master_log, master_store}
 use Rattle.core_model.specs.declared.named.Named.{Named}
 use Rattle.core_nodes.specs.Beginning.{length_at}
-use Rattle.core_nodes.specs.Settling.{CacheGoesOn, CatchesUp, IsAtFirstEnds, NodeGoesOn, ReachesEnd, is_last, lies_behind, log_lengths}
+use Rattle.core_nodes.specs.Settling.{CacheGoesOn, CatchesUp, IsAtFirstEnds, NodeGoesOn, ReachesEnd, is_last, lies_behind, log_lengths, open_numbers}
 use Rattle.core_nodes.specs.Stages.{LeaderDoes}
-use Rattle.core_nodes.proofs.CaughtMarks.{at_end, first_after, processes_elsewhere, processes_marks, reaches_end}
+use Rattle.core_nodes.proofs.CaughtMarks.{at_end, first_after, processes_elsewhere, reaches_end}
 use Rattle.core_nodes.proofs.KeptItems.{all_held, caught_filter, filter_all, filter_both, filter_same, is_fresh, keeps_by, keeps_through}
 use Rattle.core_nodes.proofs.ReadLemmas.{log_of_shard}
 use Rattle.core_nodes.proofs.ServedRising.{Rises, each_served, range_rises}
@@ -144,10 +146,26 @@ caught_most : (shard : ℕ) (es : List Entry) (n : Node) → (caught_up shard es
 caught_most shard [] n = refl
 caught_most shard (e ∷ es) n = caught_most shard es (processed shard e.position (keys_of e) n)
 
+raised_numbered : (key : Key) (version : ℕ) (asks : List Ask) → map (λ a. a.number) (map (raised_ask key version) asks) ≡ map (λ a. a.number) asks
+raised_numbered key version [] = refl
+raised_numbered key version (a ∷ asks) = elim (cases_Bool (same_key a.key key)) [
+  | inl same ↦ rw same (ap (λ numbers. a.number ∷ numbers) (raised_numbered key version asks))
+  | inr other ↦ rw other (ap (λ numbers. a.number ∷ numbers) (raised_numbered key version asks))
+]
+
+raised_numbers : (keys : List KeyVersion) (t : Asks) → map (λ a. a.number) (raised_all keys t).asks ≡ map (λ a. a.number) t.asks
+raised_numbers [] t = refl
+raised_numbers (k ∷ keys) t = raised_numbers keys (with_floor k.key k.version t) ∙ raised_numbered k.key k.version t.asks
+
+-- no ask begins or ends
+caught_numbers : (shard : ℕ) (es : List Entry) (n : Node) → open_numbers (caught_up shard es n) ≡ open_numbers n
+caught_numbers shard [] n = refl
+caught_numbers shard (e ∷ es) n = caught_numbers shard es (processed shard e.position (keys_of e) n) ∙ raised_numbers (keys_of e) n.asks
+
 some_is : (o : Option ServedShard) (t : ServedShard) → o ≡ Some t → IsSome o
 some_is o t h = rw h refl
 
-some_served : (served : List ServedShard) (shard : ℕ) → IsServed served shard → (t : ServedShard) × (served_at shard served ≡ Some t)
+pub some_served : (served : List ServedShard) (shard : ℕ) → IsServed served shard → (t : ServedShard) × (served_at shard served ≡ Some t)
 some_served served shard is = by_option (served_at shard served) refl is
   where
     by_option : (o : Option ServedShard) → served_at shard served ≡ o → IsSome o → (t : ServedShard) × (served_at shard served ≡ Some t)
@@ -169,7 +187,8 @@ module _ (tells : Bool) (s : Settings) (tables : Tables) (pens : Pens) (name : N
       keeps = λ held. true;
       items = sym (filter_all node.items);
       last = λ told held last. refl;
-      marks = λ shard. omega arith;
+      marks = marks_stay node;
+      asks = refl;
       most = refl;
     };
   }
@@ -184,7 +203,8 @@ module _ (tells : Bool) (s : Settings) (tables : Tables) (pens : Pens) (name : N
       items = second.on.items ∙ ap (filter second.on.keeps) first.on.items ∙ filter_both first.on.keeps second.on.keeps old.items;
       last = λ told held last.
           and_from (first.on.keeps held) (second.on.keeps held) (first.on.last told held last) (second.on.last told held last);
-      marks = λ shard. (let a = first.on.marks shard in let b = second.on.marks shard in omega arith);
+      marks = marks_go_on old mid new first.on.marks second.on.marks;
+      asks = second.on.asks ∙ first.on.asks;
       most = second.on.most ∙ first.on.most;
     };
   }
@@ -200,6 +220,7 @@ module _ (tells : Bool) (s : Settings) (tables : Tables) (pens : Pens) (name : N
       items = goes.on.items;
       last = λ told. so_before (λ t. (held : Key × Item) → is_last s t held ≡ true → goes.on.keeps held ≡ true) before tables (stays told) (goes.on.last told);
       marks = goes.on.marks;
+      asks = goes.on.asks;
       most = goes.on.most;
     };
   }
@@ -224,7 +245,8 @@ module _ (tells : Bool) (s : Settings) (tables : Tables) (masters : List Store) 
               last_through s tables shard es held
               (rest_known (types_of s.schema) (master_log s tables shard) shard (low_at shard old.served) es
               (sound_logs s tables (are.kept told) shard here) (rest told)) last;
-          marks = λ k. processes_marks shard k es note old new does.does;
+          marks = nodes_mark_on.processes shard es note old new does.does;
+          asks = ap open_numbers does.does ∙ caught_numbers shard es mid;
           most = ap (λ (n : Node). n.most) does.does ∙ caught_most shard es mid;
         };
       }
@@ -318,7 +340,7 @@ module _ (tells : Bool) (s : Settings) (tables : Tables) (masters : List Store) 
 
   -- ---- all its shards
 
-  last_held : (node : Node) (key : Key) (item : Item) → tells ≡ true → IsNodeOf s (pens_of masters) name node → IsAtFirstEnds s tables s.shards node
+  pub last_held : (node : Node) (key : Key) (item : Item) → tells ≡ true → IsNodeOf s (pens_of masters) name node → IsAtFirstEnds s tables s.shards node
       → item_at node.items key ≡ Some item → is_last s tables (key, item) ≡ true
   last_held node key item told is ends at =
       let some = some_served node.served (key_shard key) (is.truth.items_here key item at) in

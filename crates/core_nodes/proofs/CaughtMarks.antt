@@ -1,11 +1,11 @@
 -- The marks of a node that processes entries.
-use Rattle.std.proofs.Common.{◌≡◌, ℕ, zero, suc, ◌+◌, ◌-◌, ◌<◌, ◌≤◌, Bool, true, false, List, [], ◌∷◌, drop, length, take, Option, Some, None, refl, ap, sym, ◌∙◌, subst, inl, inr, arith}
-use Rattle.std.proofs.lemmas.Bool.{cases_Bool, eq-eqb, eqb-true, or_right}
+use Rattle.std.proofs.Common.{◌≡◌, ℕ, zero, suc, ◌+◌, ◌-◌, ◌≤◌, true, false, List, [], ◌∷◌, drop, length, Some, refl, ap, sym, ◌∙◌, subst, arith}
+use Rattle.std.proofs.lemmas.Bool.{eq-eqb, or_right}
 use Rattle.std.proofs.lemmas.List.{length-drop, length-take}
 use Rattle.std.proofs.lemmas.Option.{slice_get_within}
 use Rattle.std.specs.List.{list_any}
-use Rattle.std.specs.Option.{option_map, option_map_or}
-use Rattle.std.specs.Prelude.{◌==◌, ◌||◌, nat_le, slice_get}
+use Rattle.std.specs.Option.{option_map}
+use Rattle.std.specs.Prelude.{◌==◌, nat_le, slice_get}
 use Rattle.cache_items.specs.Node.{Node, caught_up, met, processed}
 use Rattle.cache_node.proofs.Marked.{low_is_marked}
 use Rattle.cache_node.proofs.Reaching.{catching_up_reaches}
@@ -14,9 +14,9 @@ use Rattle.cache_node.specs.Laws.{CaughtUp, FollowFrom}
 use Rattle.cache_node.specs.True.{IsTrueServed}
 use Rattle.graph_model.specs.Soundness.{IsSound}
 use Rattle.low_water.proofs.AddedMarks.{mark_adds}
-use Rattle.low_water.specs.Marks.{IsWindow, Marks, is_marked, marks}
+use Rattle.low_water.specs.Marks.{IsWindow, is_marked, marks}
 use Rattle.maint_msg.specs.KeyVersions.{keys_of}
-use Rattle.served_shards.specs.Served.{ServedShard, changed_at, low_at, marking, seeing, served_at}
+use Rattle.served_shards.specs.Served.{ServedShard, changed_at, marking, seeing, served_at}
 use Rattle.shard_log.specs.View.{Grows, View}
 use Rattle.tao_base.specs.Ids.{IsRising}
 use Rattle.tao_base.specs.declared.entry.Entry.{Entry}
@@ -39,53 +39,30 @@ processes_elsewhere shard other es note old new does apart =
 
 -- ---- the shard itself
 
--- what the node then has of it has no lower mark
-pub record RisesAt (shard : ℕ) (s : ServedShard) (served : List ServedShard) : Type 0 where
+-- what the node then has of it
+pub record StandsAt (shard : ℕ) (s : ServedShard) (served : List ServedShard) : Type 0 where
   pub after : ServedShard
   pub at : served_at shard served ≡ Some after
-  pub low : s.marks.low ≤ after.marks.low
   pub window : IsWindow s.marks → IsWindow after.marks
 
-there_rises : (shard : ℕ) (es : List Entry) (n : Node) (s : ServedShard) → served_at shard n.served ≡ Some s → RisesAt shard s (caught_up shard es n).served
-there_rises shard [] n s at = record { after = s; at = at; low = omega arith; window = λ w. w }
-there_rises shard (e ∷ es) n s at =
+there_stands : (shard : ℕ) (es : List Entry) (n : Node) (s : ServedShard) → served_at shard n.served ≡ Some s → StandsAt shard s (caught_up shard es n).served
+there_stands shard [] n s at = record { after = s; at = at; window = λ w. w }
+there_stands shard (e ∷ es) n s at =
     let adds = mark_adds s.marks e.position in
     let there : served_at shard (changed_at shard (marking e.position) n.served) ≡ Some (marking e.position s) =
     changed_there shard (marking e.position) (λ t. refl) n.served ∙ ap (option_map (marking e.position)) at in
-    let rest = there_rises shard es (processed shard e.position (keys_of e) n) (marking e.position s) there in
-    let up = adds.later in
-    let on = rest.low in
-    record { after = rest.after; at = rest.at; low = omega arith; window = λ w. rest.window (adds.window w) }
+    let rest = there_stands shard es (processed shard e.position (keys_of e) n) (marking e.position s) there in
+    record { after = rest.after; at = rest.at; window = λ w. rest.window (adds.window w) }
 
 met_there : (shard : ℕ) (note : View) (n : Node) (s : ServedShard) → served_at shard n.served ≡ Some s
     → served_at shard (met shard note n).served ≡ Some (seeing note s)
 met_there shard note n s at = changed_there shard (seeing note) (λ t. refl) n.served ∙ ap (option_map (seeing note)) at
 
 pub processes_there : (shard : ℕ) (es : List Entry) (note : View) (old new : Node) (s : ServedShard) → Processes shard es note old new
-    → served_at shard old.served ≡ Some s → RisesAt shard s new.served
+    → served_at shard old.served ≡ Some s → StandsAt shard s new.served
 processes_there shard es note old new s does at =
-    let rises = there_rises shard es (met shard note old) (seeing note s) (met_there shard note old s at) in
-    record { after = rises.after; at = ap (λ (n : Node). served_at shard n.served) does ∙ rises.at; low = rises.low; window = rises.window }
-
--- no mark falls
-low_rises : (shard : ℕ) (es : List Entry) (note : View) (old new : Node) (o : Option ServedShard) → Processes shard es note old new
-    → served_at shard old.served ≡ o → option_map_or (λ s. s.marks.low) o 0 ≤ low_at shard new.served
-low_rises shard es note old new None does at = omega arith
-low_rises shard es note old new (Some s) does at =
-    let rises = processes_there shard es note old new s does at in
-    let low = rises.low in
-    let there : low_at shard new.served ≡ rises.after.marks.low = ap (λ o. option_map_or (λ t. t.marks.low) o 0) rises.at in
-    omega arith
-
-pub processes_marks : (shard k : ℕ) (es : List Entry) (note : View) (old new : Node) → Processes shard es note old new → low_at k old.served ≤ low_at k new.served
-processes_marks shard k es note old new does = elim (cases_Bool (k == shard)) [
-  | inl here ↦ subst (λ i. low_at i old.served ≤ low_at i new.served) (sym (eqb-true k shard here))
-      (low_rises shard es note old new (served_at shard old.served) does refl)
-  | inr apart ↦ (
-      let same : low_at k new.served ≡ low_at k old.served =
-      ap (λ o. option_map_or (λ t. t.marks.low) o 0) (processes_elsewhere shard k es note old new does apart) in
-      omega arith)
-]
+    let rises = there_stands shard es (met shard note old) (seeing note s) (met_there shard note old s at) in
+    record { after = rises.after; at = ap (λ (n : Node). served_at shard n.served) does ∙ rises.at; window = rises.window }
 
 -- ---- up to the end of the log
 

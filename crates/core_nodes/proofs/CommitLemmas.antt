@@ -23,6 +23,7 @@ use Rattle.tao_schema.specs.Schema.{types_of}
 use Rattle.tao_schema.specs.declared.schema.Schema.{Schema}
 use Rattle.topology.specs.Config.{Settings}
 use Rattle.core_model.proofs.AskingOn.{nodes_ask_on}
+use Rattle.core_model.proofs.MarkingOn.{nodes_mark_on}
 use Rattle.core_model.proofs.Staying.{nodes_stay}
 use Rattle.core_model.specs.Consistent.{GoesOn, IsConsistent, IsFleetOf}
 use Rattle.core_model.specs.Fleet.{ChangesNode, Fleet, named}
@@ -80,7 +81,7 @@ pub rise_here : (xs : List Store) (place here : ℕ) (x y : Store) → here ≡ 
     → Rise (pens_of xs) (pens_of (slice_set xs here y))
 rise_here xs place here x y same at grows = rise_set xs here x y (ap (slice_get xs) same ∙ at) grows
 
-note_seen : (v : View) → Grows (as_note v) v
+pub note_seen : (v : View) → Grows (as_note v) v
 note_seen v = record { log_is = refl; begins = begins-self v.entries }
 
 -- ---- commit
@@ -140,13 +141,20 @@ module _ (tells : Bool) (s : Settings) (name : NodeName) (shard : ℕ) (after : 
   commit_step r fleet change rest stores rise note stands =
       let step = leader_step (Written s shard xs r) s (record old { masters = xs }) name ls (fleet_risen s old xs fleet rise) change
       (λ from to by was. (nodes_stay s (pens_of xs) name).writes shard (taken_entry true r) (as_note (pens_of xs shard)) from to by.does
-      (note_seen (pens_of xs shard)) by.apart by.truth was) in
+      (note_seen (pens_of xs shard)) by.apart by.truth was)
+      (λ from to by. nodes_mark_on.writes (types_of s.schema) shard (taken_entry true r) (as_note (pens_of xs shard)) from to by.does) in
       let seen = note_of_pen r note in
       record {
         node = wrote_node r change note;
         err = rests r change rest;
         consistent = record { stores = stores; fleet = step.fleet };
-        goes = record { rise = rise; leaders = step.goes.leaders; followers = refl; asks = λ place called to at. (to, at, (λ number key is. is)) };
+        goes = record {
+          rise = rise;
+          leaders = step.goes.leaders;
+          followers = refl;
+          asks = step.goes.asks;
+          marks = record { leaders = step.goes.marks.leaders; followers = step.goes.marks.followers };
+        };
         followers = refl;
         seen = seen;
         stands = stands_seen r seen stands;
@@ -190,7 +198,8 @@ apply_step s name shard entry note old fs fleet seen change = record {
       follower_step (FollowerDoes (AppliesTo (types_of s.schema) shard entry note)) s old name fs fleet change
       (λ from to by was. (nodes_stay s (pens_of old.masters) name).applies shard entry note from to by.does seen by.apart by.truth was)
       (λ from to by. by.does.refills)
-      (λ from to by. nodes_ask_on.applies (types_of s.schema) shard entry note from to by.does);
+      (λ from to by. nodes_ask_on.applies (types_of s.schema) shard entry note from to by.does)
+      (λ from to by. nodes_mark_on.applies (types_of s.schema) shard entry note from to by.does);
 }
 
 pub apply_lent : (s : Settings) (name : NodeName) (shard : ℕ) (entry : Entry) (note : View) (inside : Inside) (f : Fleet)

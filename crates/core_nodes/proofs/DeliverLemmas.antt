@@ -12,11 +12,12 @@ use Rattle.tao_schema.specs.Schema.{types_of}
 use Rattle.tao_schema.specs.declared.schema.Schema.{Schema}
 use Rattle.topology.specs.Config.{Settings}
 use Rattle.core_model.proofs.AskingOn.{nodes_ask_on}
+use Rattle.core_model.proofs.MarkingOn.{nodes_mark_on, served_stays}
 use Rattle.core_model.proofs.Refilling.{followers_stay}
 use Rattle.core_model.proofs.Staying.{nodes_stay}
 use Rattle.core_model.proofs.Turns.{serves_its_turn}
 use Rattle.core_model.specs.Asks.{AsksGoOn}
-use Rattle.core_model.specs.Consistent.{IsFleetOf, IsNodeOf}
+use Rattle.core_model.specs.Consistent.{IsFleetOf, IsNodeOf, MarksGoOn}
 use Rattle.core_model.specs.Fleet.{ChangesNode, Fleet}
 use Rattle.core_model.specs.Messages.{Delivers, DeliversAt, DeliversThere, IsMessageFor, IsRefillFor, TakesRefill}
 use Rattle.core_model.specs.Pens.{Pens, pens_of}
@@ -59,7 +60,8 @@ module _ (s : Settings) (m : SeenMaint) (dropped : ℕ) (inside : Inside) (old :
       let name = Leader region index in
       record {
         step = leader_step (LeaderDoes (Delivers m dropped)) s old name ls fleet change
-            (λ from to by is. (nodes_stay s (pens_of old.masters) name).delivers m dropped from to by.does for by.apart by.truth is);
+            (λ from to by is. (nodes_stay s (pens_of old.masters) name).delivers m dropped from to by.does for by.apart by.truth is)
+            (λ from to by. nodes_mark_on.delivers m dropped from to by.does);
         delivers = (changes_so (LeaderDoes (Delivers m dropped)) (Delivers m dropped) name old.leaders ls (λ from to by. by.does) change, refl);
       }
 
@@ -72,7 +74,8 @@ module _ (s : Settings) (m : SeenMaint) (dropped : ℕ) (inside : Inside) (old :
       record {
         step = refills_step (FollowerDoes Does) s old name fs fleet change
             (λ from to by is. (followers_stay s (pens_of old.masters) name).delivers m dropped from to by.does for by.apart by.truth is)
-            (λ from to by. nodes_ask_on.delivers m dropped from.node to.node by.does.node);
+            (λ from to by. nodes_ask_on.delivers m dropped from.node to.node by.does.node)
+            (λ from to by. nodes_mark_on.delivers m dropped from.node to.node by.does.node);
         delivers = (changes_so (FollowerDoes Does) Does name old.followers fs (λ from to by. by.does) change, refl);
       }
 
@@ -112,6 +115,10 @@ refill_asks : (refill : Option Refill) (from to : FollowerState) → TakesRefill
 refill_asks None from to takes = asks_same from.node.asks to.node.asks (ap (λ (f : FollowerState). f.node.asks) takes.1)
 refill_asks (Some refill) from to takes = asks_same from.node.asks to.node.asks (ap (λ (f : FollowerState). f.node.asks) takes.1)
 
+refill_marks : (refill : Option Refill) (from to : FollowerState) → TakesRefill refill from to → MarksGoOn from.node to.node
+refill_marks None from to takes = served_stays from.node to.node (ap (λ (f : FollowerState). f.node.served) takes.1)
+refill_marks (Some refill) from to takes = served_stays from.node to.node (ap (λ (f : FollowerState). f.node.served) takes.1)
+
 pub record RefillStep (s : Settings) (name : NodeName) (refill : Option Refill) (old new : Fleet) : Type 0 where
   pub step : FleetStep s old new
   pub takes : ChangesNode name (TakesRefill refill) old.followers new.followers
@@ -124,7 +131,8 @@ refill_step s name refill old fs fleet change =
     let stay = followers_stay s (pens_of old.masters) name in
     record {
       step = refills_step (FollowerDoes (TakesRefill refill)) s old name fs fleet change
-          (λ from to by is. (stay.takes refill from to by.does is).0) (λ from to by. refill_asks refill from to by.does);
+          (λ from to by is. (stay.takes refill from to by.does is).0) (λ from to by. refill_asks refill from to by.does)
+          (λ from to by. refill_marks refill from to by.does);
       takes = changes_so (FollowerDoes (TakesRefill refill)) (TakesRefill refill) name old.followers fs (λ from to by. by.does) change;
       rest = refl;
       here = (stay.takes refill change.from change.to change.by.does (fleet.followers change.place name change.from change.stands)).1;

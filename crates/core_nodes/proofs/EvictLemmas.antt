@@ -11,6 +11,7 @@ use Rattle.node_name.specs.declared.NodeName.TheVariants.{Follower}
 use Rattle.tao_base.specs.Keys.{same_key}
 use Rattle.tao_base.specs.declared.id.Key.{Key}
 use Rattle.topology.specs.Config.{Settings}
+use Rattle.core_model.proofs.MarkingOn.{nodes_mark_on}
 use Rattle.core_model.proofs.Staying.{nodes_stay}
 use Rattle.core_model.specs.Asks.{AsksGoOn, IsAskOn}
 use Rattle.core_model.specs.Consistent.{IsFleetOf, IsNodeOf}
@@ -41,6 +42,7 @@ pub leader_evicts : (s : Settings) (name : NodeName) (key : Option Key) (held : 
 leader_evicts s name key held old ls fleet change =
     leader_step (LeaderDoes (Evicts key held)) s old name ls fleet change
     (λ from to by is. evicted_stays s (pens_of old.masters) name key held from to by.does by.apart by.truth is)
+    (λ from to by. nodes_mark_on.evicts key held from to by.does)
 
 -- what is left where a follower drops an item: that alone has changed
 pub record DropStep (s : Settings) (name : NodeName) (key : Option Key) (held : Bool) (old new : Fleet) : Type 0 where
@@ -54,7 +56,8 @@ follower_evicts s name key held old fs fleet change = record {
   step = follower_step (FollowerDoes (EvictsThere key held)) s old name fs fleet change
       (λ from to by is. evicted_stays s (pens_of old.masters) name key held from.node to.node by.does.0 by.apart by.truth is)
       (λ from to by. by.does.1)
-      (λ from to by. evicted_asks key held from.node to.node by.does.0);
+      (λ from to by. evicted_asks key held from.node to.node by.does.0)
+      (λ from to by. nodes_mark_on.evicts key held from.node to.node by.does.0);
   evicts = changes_so (FollowerDoes (EvictsThere key held)) (EvictsThere key held) name old.followers fs (λ from to by. by.does) change;
   rest = refl;
 }

@@ -3,9 +3,11 @@ use Rattle.std.proofs.Common.{◌≡◌, ◌⊎◌, ◌≢◌, ℕ, ◌≤◌, �
 use Rattle.std.specs.Prelude.{All, IsSome, slice_set}
 use Rattle.std.proofs.lemmas.Option.{get_or_from_slice_get, slice_get_within}
 use Rattle.core_model.proofs.KeptStores.{kept_stays, sound_logs}
+use Rattle.core_model.specs.Growing.{MastersGrow}
 use Rattle.core_model.specs.Pens.{pens_of}
 use Rattle.core_model.specs.Jobs.{IsOwedJob, MergesOwed, ShardJob, far_shard}
 use Rattle.core_model.specs.Stores.{AreKeptIn, AreStoresOf, IsMasterOf, master_log, master_store}
+use Rattle.core_nodes.proofs.GrowingLemmas.{gains_masters, stays_masters}
 use Rattle.core_nodes.proofs.JobLemmas.{due, is_merged, may_be_merged, merge_keeps, merges_owed}
 use Rattle.core_nodes.proofs.StoreLemmas.{OthersStay, master_gained, others_stay, stores_changed}
 use Rattle.core_nodes.specs.Repairs.{ComesBack, FindsNoRoom, MayMerge, MergesThere, WritesDueEntry, carry_back, carry_there, outside}
@@ -29,6 +31,7 @@ use Rattle.tao_base.specs.Keys.{key_shard}
 use Rattle.tao_base.specs.declared.entry.Entry.{Entry}
 use Rattle.tao_base.specs.declared.id.StoreName.{StoreName}
 use Rattle.tao_keeper.specs.Given.{IsGivenJob}
+use Rattle.tao_keeper.specs.Growing.{LogsGrow}
 use Rattle.tao_keeper.specs.KeeperState.{KeeperState}
 use Rattle.tao_keeper.specs.Table.{Stays, Tables}
 use Rattle.tao_link.specs.Cuts.{between}
@@ -160,6 +163,20 @@ module _ (s : Settings) (j : ShardJob) (from : StoreName) (x : Store) (from_is :
   others old new (inr merges) other differs =
       others_stay old new (master_store s (far_shard j.job)) (due_entry taken old) None (gains_due old new merges) other differs
 
+  -- no log of another shard grows, and no line changes
+  grown_there : (tells : Bool) (old new : KeeperState) → far_shard j.job < s.shards → LogsGrow tells old.told new.told → (told : Bool) → tells ≡ told
+      → WhereTold tells (Stays old.told new.told ⊎ MergesDue taken old.told new.told) → MastersGrow tells s old.told new.told
+  grown_there tells old new far logs true heard ways = elim (ways heard) [
+    | inl stays ↦ stays_masters tells s old new (λ told. stays)
+    | inr merges ↦ gains_masters tells s old new (far_shard j.job) (due_entry taken old.told) None far
+        (λ told. gains_due old.told new.told merges)
+  ]
+  grown_there tells old new far logs false unheard ways = record {
+    logs = logs;
+    lines = λ told. absurd (cc);
+    others = λ told. absurd (cc);
+  }
+
   -- ---- what was answered
 
   module _ (tells : Bool) (old new : KeeperState) (far : far_shard j.job < s.shards) (owed : WhereTold tells (IsOwedJob s old.told j))
@@ -241,6 +258,7 @@ pub record FarMerged (tells : Bool) (s : Settings) (j : ShardJob) (old new : Kee
   pub stands : IfOk r (λ repaired. IfSome repaired.wrote (StandsIn (pens_of xs (far_shard j.job))))
   pub lies : IfOk r (λ repaired. IfSome repaired.wrote (LiesOn (pens_of xs (far_shard j.job)) (far_shard j.job)))
   pub stores : AreStoresOf tells s new.told xs
+  pub grows : MastersGrow tells s old.told new.told
 
 -- what the store was asked, and what it answered
 pub record TakesJob (tells : Bool) (b : JobBetween) (old new : KeeperState) (before after : LinkShown) (y : Store) (r : Result Repaired RepairRefusal)
@@ -249,6 +267,7 @@ pub record TakesJob (tells : Bool) (b : JobBetween) (old new : KeeperState) (bef
   pub to : GainsBy b.to y r
   pub keeper : IsStoreOf tells new.told y
   pub carries : CarriesBy b before after r
+  pub logs : LogsGrow tells old.told new.told
 
 pub far_merged : (tells : Bool) (s : Settings) (j : ShardJob) (from : StoreName) (xs : List Store) (place : ℕ) (x y : Store) (old new : KeeperState)
     (before after : LinkShown) (r : Result Repaired RepairRefusal)
@@ -271,4 +290,5 @@ far_merged tells s j from xs place x y old new before after r are at far from_is
       stores = stores_changed tells s old.told new.told xs place far_at y are at
           (gained tells s far_at new.told x y far is took.keeper kept r took.to) took.keeper
           (λ told. others s j from x from_is is old.told new.told (ways told)) kept;
+      grows = grown_there s j from x from_is is tells old new far took.logs tells refl ways;
     }

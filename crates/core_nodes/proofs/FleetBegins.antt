@@ -20,7 +20,7 @@ use Rattle.core_nodes.specs.Opening.{IsOpened, MayOpen}
 use Rattle.core_nodes.proofs.BeginLemmas.{ends_begun, seen_begun, served_within, shards_begun}
 use Rattle.core_nodes.proofs.OpenedLogs.{kept_opened}
 
-all_at : {X : Type 0} (P : X → Type 0) (xs : List X) (k : ℕ) (x : X) → All P xs → slice_get xs k ≡ Some x → P x
+pub all_at : {X : Type 0} (P : X → Type 0) (xs : List X) (k : ℕ) (x : X) → All P xs → slice_get xs k ≡ Some x → P x
 all_at P xs k x all h = subst P (get_or_from_slice_get xs k x x h) (all k x (slice_get_within xs k x h))
 
 -- a node that begins is one of its core

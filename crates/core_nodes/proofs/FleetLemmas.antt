@@ -1,5 +1,5 @@
 -- The nodes of a core, of which one changes.
-use Rattle.std.proofs.Common.{◌≡◌, ℕ, Contains, List, Some, refl, ap, sym, ◌∙◌, subst, inl, inr}
+use Rattle.std.proofs.Common.{◌≡◌, ℕ, Contains, List, Some, refl, sym, ◌∙◌, subst}
 use Rattle.std.specs.Prelude.{slice_get, slice_set}
 use Rattle.cache_items.specs.Node.{Node}
 use Rattle.follower_cache.specs.Seen.{FollowerState}
@@ -7,27 +7,48 @@ use Rattle.node_name.specs.declared.NodeName.{NodeName}
 use Rattle.shard_log.proofs.GrowthLemmas.{grows-self}
 use Rattle.shard_tables.specs.StoreView.{Store}
 use Rattle.topology.specs.Config.{Settings}
+use Rattle.core_model.proofs.AsksOn.{asks_stay}
+use Rattle.core_model.proofs.MarkingOn.{marks_stay}
 use Rattle.core_model.proofs.Refilling.{followers_stay}
 use Rattle.core_model.proofs.Staying.{nodes_stay}
 use Rattle.core_model.specs.Asks.{AsksGoOn}
-use Rattle.core_model.specs.Consistent.{GoesOn, IsFleetOf, IsFollowerOf, IsNodeOf}
-use Rattle.core_model.specs.Fleet.{ChangesNode, Fleet, HasNode, named}
+use Rattle.core_model.specs.Consistent.{GoesOn, IsFleetOf, IsFollowerOf, IsNodeOf, MarksGoOn}
+use Rattle.core_model.specs.Fleet.{ChangesNode, EachNode, Fleet, HasNode, named}
 use Rattle.core_model.specs.Pens.{Rise, pens_of}
 use Rattle.core_model.specs.Serving.{IsFollowerFor, IsLeaderFor}
 use Rattle.core_model.specs.declared.named.Named.{Named}
-use Rattle.core_model.proofs.NamedNodes.{all_set, names_set}
-use Rattle.core_model.proofs.Places.{get_set}
+use Rattle.core_model.proofs.NamedNodes.{all_set, each_set, each_stays, names_set}
 
 pub rise_self : (xs : List Store) → Rise (pens_of xs) (pens_of xs)
 rise_self xs shard = grows-self (pens_of xs shard)
+
+-- ---- nodes that stay
+
+abbrev AsksThere : FollowerState → FollowerState → Type 0
+AsksThere from to = AsksGoOn from.node.asks to.node.asks
+
+abbrev MarksThere : FollowerState → FollowerState → Type 0
+MarksThere from to = MarksGoOn from.node to.node
+
+pub leaders_marked : (leaders : List (Named Node)) → EachNode (λ name. MarksGoOn) leaders leaders
+leaders_marked leaders = each_stays MarksGoOn leaders marks_stay
+
+pub followers_marked : (followers : List (Named FollowerState)) → EachNode (λ name. MarksThere) followers followers
+followers_marked followers = each_stays MarksThere followers (λ f. marks_stay f.node)
+
+pub followers_asked : (followers : List (Named FollowerState)) → EachNode (λ name. AsksThere) followers followers
+followers_asked followers = each_stays AsksThere followers (λ f. asks_stay f.node.asks)
 
 pub goes_self : (f : Fleet) → GoesOn f f
 goes_self f = record {
   rise = rise_self f.masters;
   leaders = refl;
   followers = refl;
-  asks = λ place name to h. (to, h, (λ number key is. is));
+  asks = followers_asked f.followers;
+  marks = record { leaders = leaders_marked f.leaders; followers = followers_marked f.followers };
 }
+
+-- ---- one that changes
 
 -- what a stage leaves: the nodes are still those of the configuration, and go on
 pub record FleetStep (s : Settings) (old new : Fleet) : Type 0 where
@@ -39,25 +60,25 @@ abbrev pub StaysOf : {N : Type 0} → (NodeName → N → Type 0) → NodeName �
 StaysOf {N} Such name By = (from to : N) → By from to → Such name from → Such name to
 
 follower_goes : (f : Fleet) (name : NodeName) (place : ℕ) (from to : FollowerState) → slice_get f.followers place ≡ Some (named name from)
-    → AsksGoOn from.node.asks to.node.asks
+    → AsksGoOn from.node.asks to.node.asks → MarksGoOn from.node to.node
     → GoesOn f (record f { followers = slice_set f.followers place (named name to) })
-follower_goes f name place from to stands asks = record {
+follower_goes f name place from to stands asks marks = record {
   rise = rise_self f.masters;
   leaders = refl;
   followers = names_set f.followers place name from to stands;
-  asks = λ other called node h. elim (get_set f.followers place (named name to) other (named called node) h) [
-    | inl e ↦ (node, e.1, (λ number key is. is))
-    | inr e ↦
-        let there = ap (slice_get f.followers) e.0 ∙ stands ∙ ap (λ n. Some (named n.name from)) e.1 in
-        (from, there, subst (λ n. AsksGoOn from.node.asks n.node.node.asks) e.1 asks)
-  ];
+  asks = each_set AsksThere f.followers place name from to (λ n. asks_stay n.node.asks) stands asks;
+  marks = record {
+    leaders = leaders_marked f.leaders;
+    followers = each_set MarksThere f.followers place name from to (λ n. marks_stay n.node) stands marks;
+  };
 }
 
 -- a follower that changes stays one of its core, with its refills
 pub refills_step : (By : FollowerState → FollowerState → Type 0) (s : Settings) (old : Fleet) (name : NodeName) (fs : List (Named FollowerState))
     → IsFleetOf s old → ChangesNode name By old.followers fs → StaysOf (IsFollowerOf s (pens_of old.masters)) name By
-    → ((from to : FollowerState) → By from to → AsksGoOn from.node.asks to.node.asks) → FleetStep s old (record old { followers = fs })
-refills_step By s old name fs fleet change stays asks =
+    → ((from to : FollowerState) → By from to → AsksGoOn from.node.asks to.node.asks) → ((from to : FollowerState) → By from to → MarksGoOn from.node to.node)
+    → FleetStep s old (record old { followers = fs })
+refills_step By s old name fs fleet change stays asks marks =
     let was = fleet.followers change.place name change.from change.stands in
     let is = stays change.from change.to change.by was in
     let there : FleetStep s old (record old { followers = slice_set old.followers change.place (named name change.to) }) = record {
@@ -67,7 +88,8 @@ refills_step By s old name fs fleet change stays asks =
         leaders = fleet.leaders;
         followers = all_set (IsFollowerOf s (pens_of old.masters)) old.followers change.place name change.to fleet.followers is;
       };
-      goes = follower_goes old name change.place change.from change.to change.stands (asks change.from change.to change.by);
+      goes = follower_goes old name change.place change.from change.to change.stands (asks change.from change.to change.by)
+          (marks change.from change.to change.by);
     } in
     subst (λ l. FleetStep s old (record old { followers = l })) (sym change.is) there
 
@@ -76,15 +98,16 @@ pub follower_step : (By : FollowerState → FollowerState → Type 0) (s : Setti
     → IsFleetOf s old
     → ChangesNode name By old.followers fs → StaysOf (λ called node. IsNodeOf s (pens_of old.masters) called node.node) name By
     → ((from to : FollowerState) → By from to → to.refills ≡ from.refills)
-    → ((from to : FollowerState) → By from to → AsksGoOn from.node.asks to.node.asks) → FleetStep s old (record old { followers = fs })
-follower_step By s old name fs fleet change stays same asks =
+    → ((from to : FollowerState) → By from to → AsksGoOn from.node.asks to.node.asks) → ((from to : FollowerState) → By from to → MarksGoOn from.node to.node)
+    → FleetStep s old (record old { followers = fs })
+follower_step By s old name fs fleet change stays same asks marks =
     refills_step By s old name fs fleet change
-    (λ from to by is. (followers_stay s (pens_of old.masters) name).same from to (stays from to by is.node) (same from to by) is) asks
+    (λ from to by is. (followers_stay s (pens_of old.masters) name).same from to (stays from to by is.node) (same from to by) is) asks marks
 
 pub leader_step : (By : Node → Node → Type 0) (s : Settings) (old : Fleet) (name : NodeName) (ls : List (Named Node)) → IsFleetOf s old
     → ChangesNode name By old.leaders ls → StaysOf (λ called node. IsNodeOf s (pens_of old.masters) called node) name By
-    → FleetStep s old (record old { leaders = ls })
-leader_step By s old name ls fleet change stays =
+    → ((from to : Node) → By from to → MarksGoOn from to) → FleetStep s old (record old { leaders = ls })
+leader_step By s old name ls fleet change stays marks =
     let was = fleet.leaders change.place name change.from change.stands in
     let is = stays change.from change.to change.by was in
     let there : FleetStep s old (record old { leaders = slice_set old.leaders change.place (named name change.to) }) = record {
@@ -98,7 +121,12 @@ leader_step By s old name ls fleet change stays =
         rise = rise_self old.masters;
         leaders = names_set old.leaders change.place name change.from change.to change.stands;
         followers = refl;
-        asks = λ place called node h. (node, h, (λ number key is. is));
+        asks = followers_asked old.followers;
+        marks = record {
+          leaders = each_set MarksGoOn old.leaders change.place name change.from change.to marks_stay change.stands
+              (marks change.from change.to change.by);
+          followers = followers_marked old.followers;
+        };
       };
     } in
     subst (λ l. FleetStep s old (record old { leaders = l })) (sym change.is) there

@@ -20,14 +20,14 @@ use Rattle.topology.specs.Config.{Settings}
 use Rattle.core_model.proofs.Places.{one_some}
 use Rattle.core_model.proofs.Refilling.{followers_stay}
 use Rattle.core_model.specs.Asks.{AsksGoOn}
-use Rattle.core_model.specs.Consistent.{GoesOn, IsConsistent, IsFleetOf, IsFollowerOf, IsNodeOf}
-use Rattle.core_model.specs.Fleet.{Fleet, follower_names, leader_names, named, names_of}
+use Rattle.core_model.specs.Consistent.{GoesOn, IsConsistent, IsFleetOf, IsFollowerOf, IsNodeOf, MarksGoOn}
+use Rattle.core_model.specs.Fleet.{EachNode, Fleet, follower_names, leader_names, named, names_of}
 use Rattle.core_model.specs.Pens.{Pens, pens_of}
 use Rattle.core_model.specs.Stores.{HaveSeen, master_log}
 use Rattle.core_model.specs.declared.named.Named.{Named}
 use Rattle.core_nodes.specs.Beginning.{AreMeasured}
 use Rattle.core_nodes.specs.FleetView.{fleet_seen}
-use Rattle.core_nodes.specs.Settling.{AllCatchUp, AllProcessOn, AreCaches, ByNode, CacheGoesOn, CachesGoOn, CatchesUp, EachNode, HaveCaughtUp, ProcessesOn}
+use Rattle.core_nodes.specs.Settling.{AllCatchUp, AllProcessOn, AreCaches, ByNode, CacheGoesOn, CachesGoOn, CatchesUp, HaveCaughtUp, ProcessesOn}
 use Rattle.core_nodes.specs.Settling.{follower_node, follower_refills, is_last, leader_node, leader_refills, log_lengths}
 use Rattle.core_nodes.specs.declared.fleet.Fleet.TheInside.{Inside}
 use Rattle.core_nodes.proofs.AskLemmas.{stores_here}
@@ -108,6 +108,7 @@ module _ (tells : Bool) (s : Settings) (before tables : Tables) (old : Fleet) (l
     items = on.items;
     last = λ told. so_before (λ t. (held : Key × Item) → is_last s t held ≡ true → on.keeps held ≡ true) tables before (λ at. sym (stays told at)) (on.last told);
     marks = on.marks;
+    asks = on.asks;
     most = on.most;
   }
 
@@ -142,6 +143,12 @@ module _ (tells : Bool) (s : Settings) (before tables : Tables) (old : Fleet) (l
       followers = followers.names;
       asks = each_goes follower_node follower_refills tells s before (pens_of old.masters) (λ called from to. AsksGoOn from.node.asks to.node.asks)
           old.followers fs (λ called k from to stood there goes. goes.goes.asks) followers;
+      marks = record {
+        leaders = each_goes leader_node leader_refills tells s before (pens_of old.masters) (λ called. MarksGoOn) old.leaders ls
+            (λ called k from to stood there goes. goes.goes.on.marks) leaders;
+        followers = each_goes follower_node follower_refills tells s before (pens_of old.masters) (λ called from to. MarksGoOn from.node to.node)
+            old.followers fs (λ called k from to stood there goes. goes.goes.on.marks) followers;
+      };
     };
   }
 

@@ -11,6 +11,7 @@ pub mod FarMerges
 pub mod FleetBegins
 pub mod FleetLemmas
 pub mod FleetSettles
+pub mod GrowingLemmas
 pub mod JobCalls
 pub mod JobLemmas
 pub mod KeptCommits
@@ -27,5 +28,6 @@ pub mod RestLemmas
 pub mod ServedRising
 pub mod SettleLemmas
 pub mod ShownLemmas
+pub mod StayingAtEnds
 pub mod StoreLemmas
 pub mod ViewLemmas

@@ -10,7 +10,7 @@ use Rattle.core_model.specs.Pens.{Rise, pens_of}
 use Rattle.core_model.specs.Stores.{AreStoresOf}
 use Rattle.core_nodes.specs.FleetView.{fleet_seen}
 use Rattle.core_nodes.specs.declared.fleet.Fleet.TheInside.{Inside}
-use Rattle.core_nodes.proofs.FleetLemmas.{fleet_risen}
+use Rattle.core_nodes.proofs.FleetLemmas.{fleet_risen, followers_asked, followers_marked, leaders_marked}
 use Rattle.core_nodes.proofs.ViewLemmas.{LendsMasters, after_masters, masters_after}
 
 -- they were left as they were, over other tables
@@ -39,5 +39,11 @@ grown_lent tells s tables inside old lent ys view own long fleet are rise =
       masters_are = refl;
       rest = refl;
       consistent = record { stores = are; fleet = fleet_risen s old ys fleet risen };
-      goes = record { rise = risen; leaders = refl; followers = refl; asks = λ place called to at. (to, at, (λ number key same. same)) };
+      goes = record {
+        rise = risen;
+        leaders = refl;
+        followers = refl;
+        asks = followers_asked old.followers;
+        marks = record { leaders = leaders_marked old.leaders; followers = followers_marked old.followers };
+      };
     })

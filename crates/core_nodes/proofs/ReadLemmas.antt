@@ -33,6 +33,7 @@ use Rattle.topology.specs.Config.{Settings}
 use Rattle.core_model.proofs.AskingOn.{nodes_ask_on}
 use Rattle.core_model.proofs.AsksOn.{asks_stay_on}
 use Rattle.core_model.proofs.Legal.{reads_are_legal}
+use Rattle.core_model.proofs.MarkingOn.{nodes_mark_on}
 use Rattle.core_model.proofs.NodesSeen.{nodes_stay_seen}
 use Rattle.core_model.proofs.Staying.{nodes_stay}
 use Rattle.core_model.proofs.Turns.{serves_its_turn}
@@ -151,7 +152,8 @@ look_step s name query floor old fs (Ok first) fleet for change err =
       step = follower_step (FollowerDoes (LooksTrue types read first.look first.ask)) s old name fs fleet change
           (λ from to by is. (nodes_stay s (pens_of old.masters) name).looks read first.look first.ask from to by.does.looks by.apart by.truth is)
           (λ from to by. by.does.looks.refills)
-          (λ from to by. nodes_ask_on.looks types read first.look first.ask from to by.does.looks);
+          (λ from to by. nodes_ask_on.looks types read first.look first.ask from to by.does.looks)
+          (λ from to by. nodes_mark_on.looks types read first.look first.ask from to by.does.looks);
       looks = changes_so (FollowerDoes (LooksTrue types read first.look first.ask)) (LooksFirst types read first.look first.ask) name old.followers fs
           (λ from to by. by.does.looks) change;
       ask = looked_ask types read first.look first.ask name old.followers fs change;
@@ -220,7 +222,9 @@ at_once_step s name query ask old fs fleet change =
           (nodes_stay s (pens_of old.masters) name).looks (wanted query l.floor) Miss ask from to l.looks by.apart by.truth is))
           (λ from to by. by.does.refills)
           (λ from to by. (let l = looks_beyond types query ask from to by.does in
-          nodes_ask_on.looks types (wanted query l.floor) Miss ask from to l.looks));
+          nodes_ask_on.looks types (wanted query l.floor) Miss ask from to l.looks))
+          (λ from to by. (let l = looks_beyond types query ask from to by.does in
+          nodes_mark_on.looks types (wanted query l.floor) Miss ask from to l.looks));
       asks = changes_so (FollowerDoes Asks) Asks name old.followers fs (λ from to by. by.does) change;
       ask_is = asked_at_once query ask name old.followers fs change;
     }
@@ -244,7 +248,8 @@ end_step s name ask old fs fleet change = record {
   step = follower_step (FollowerDoes (EndsAsk ask)) s old name fs fleet change
       (λ from to by is. (nodes_stay s (pens_of old.masters) name).ends ask from to by.does by.truth is)
       (λ from to by. ap (λ (f : FollowerState). f.refills) by.does)
-      (λ from to by. nodes_ask_on.ends ask from to by.does);
+      (λ from to by. nodes_ask_on.ends ask from to by.does)
+      (λ from to by. nodes_mark_on.ends ask from to by.does);
   ends = changes_so (FollowerDoes (EndsAsk ask)) (EndsAsk ask) name old.followers fs (λ from to by. by.does) change;
 }
 
@@ -268,7 +273,8 @@ keep_step s name read ask fill old fs (Ok (answer, kept)) fleet given change err
       step = follower_step (FollowerDoes (KeepsFill types read.query ask fill answer kept)) s old name fs fleet change
           (λ from to by is. (nodes_stay s (pens_of old.masters) name).keeps read ask fill answer kept from to by.does given by.apart by.truth is)
           (λ from to by. ap (λ (f : FollowerState). f.refills) by.does.node_is)
-          (λ from to by. nodes_ask_on.keeps types read ask fill answer kept from to by.does);
+          (λ from to by. nodes_ask_on.keeps types read ask fill answer kept from to by.does)
+          (λ from to by. nodes_mark_on.keeps types read ask fill answer kept from to by.does);
       keeps = changes_so (FollowerDoes (KeepsFill types read.query ask fill answer kept))
           (KeepsFill types read.query ask fill answer kept) name old.followers fs (λ from to by. by.does) change;
       err = tt;

@@ -1,4 +1,5 @@
 pub mod Beginning
+pub mod Ends
 pub mod FleetView
 pub mod Opening
 pub mod Repairs

@@ -14,7 +14,7 @@ use Rattle.node_name.specs.declared.NodeName.TheVariants.{Store as StoreName_}
 use Rattle.replies.specs.declared.opening.OpenRefusal.{OpenRefusal}
 use Rattle.replies.specs.declared.opening.OpenRefusal.TheVariants as opening
 use Rattle.replies.specs.declared.refusals.UnsettledWhy.TheVariants.{KeeperFault, LinkFault, LogFull}
-use Rattle.served_shards.specs.Served.{ServedShard, low_at, served_at}
+use Rattle.served_shards.specs.Served.{ServedShard, served_at}
 use Rattle.shard_tables.specs.declared.refusal.StoreRefusal.{StoreRefusal}
 use Rattle.shard_tables.specs.declared.refusal.StoreRefusal.TheVariants as refused
 use Rattle.tao_base.specs.Keys.{key_shard}
@@ -26,8 +26,8 @@ use Rattle.tao_link.specs.Cuts.{between}
 use Rattle.tao_link.specs.Shown.{LinkShown, after_carry}
 use Rattle.topology.specs.Config.{Settings}
 use Rattle.core_model.specs.Asks.{AsksGoOn}
-use Rattle.core_model.specs.Consistent.{IsNodeOf}
-use Rattle.core_model.specs.Fleet.{Fleet, follower_names, leader_names, named, names_of, regions_of, serves_in_turn}
+use Rattle.core_model.specs.Consistent.{IsNodeOf, MarksGoOn}
+use Rattle.core_model.specs.Fleet.{EachNode, Fleet, follower_names, leader_names, names_of, regions_of, serves_in_turn}
 use Rattle.core_model.specs.Pens.{Pens}
 use Rattle.core_model.specs.Stores.{master_log, master_store}
 use Rattle.core_model.specs.declared.named.Named.{Named}
@@ -51,20 +51,21 @@ pub record CatchesUp (s : Settings) (tables : Tables) (old new : Node) : Type 0 
   pub items : new.items ≡ filter (is_last s tables) old.items
   pub ends : IsAtEnds s tables new
 
--- the node holds what it held, in the same order, but for some items; where the logs are told, none of the last versions is among these. No mark fell
+-- the numbers of the open asks, in the order in which they began
+abbrev pub open_numbers : Node → List ℕ
+open_numbers node = map (λ a. a.number) node.asks.asks
+
+-- the node holds what it held, in the same order, but for some items; where the logs are told, none of the last versions is among these. No mark fell,
+-- and the same asks are open
 pub record ProcessesOn (tells : Bool) (s : Settings) (tables : Tables) (old new : Node) : Type 0 where
   pub keeps : Key × Item → Bool
   pub items : new.items ≡ filter keeps old.items
   pub last : WhereTold tells ((held : Key × Item) → is_last s tables held ≡ true → keeps held ≡ true)
-  pub marks : (shard : ℕ) → low_at shard old.served ≤ low_at shard new.served
+  pub marks : MarksGoOn old new
+  pub asks : open_numbers new ≡ open_numbers old
   pub most : new.most ≡ old.most
 
 -- ---- all nodes
-
--- each node stands where one of its name stood, and became what it is as is said
-abbrev pub EachNode : {N : Type 0} → (NodeName → N → N → Type 0) → List (Named N) → List (Named N) → Type 0
-EachNode {N} By old new = (place : ℕ) (name : NodeName) (to : N) → slice_get new place ≡ Some (named name to)
-    → (from : N) × (slice_get old place ≡ Some (named name from)) × By name from to
 
 -- of a follower its node alone changes
 abbrev pub ByNode : (Node → Node → Type 0) → NodeName → FollowerState → FollowerState → Type 0

@@ -2,6 +2,7 @@
 ghost use Rattle.std.specs.Prelude.{◌≡◌, ◌<◌, IfErr, IfOk, IfSome, None, OnErr, OnOk, Some, false, slice_get, true};
 ghost use Rattle.core_model.specs.Consistent.{GoesOn, IsConsistent};
 ghost use Rattle.core_model.specs.Fleet.{ChangesNode, HasNode};
+ghost use Rattle.core_model.specs.Growing.{MastersGrow};
 ghost use Rattle.core_model.specs.Jobs.{EndsOwed, IsFirstJobOf, IsMergedJob, IsOwedJob, MergesOwed, far_shard, job_on};
 ghost use Rattle.core_model.specs.Pens.{IsSeen, Rise, pens_of};
 ghost use Rattle.core_model.specs.Serving.{IsLeaderFor};
@@ -194,7 +195,7 @@ fn merge_over<K: Keeper, L: Link>(
     ensures lies { IfOk result (λ repaired. IfSome repaired.wrote (LiesOn (pens_of masters.new (far_shard job.now)) (far_shard job.now))) }
     ensures stores { AreStoresOf K.TELLS config.now (K.state keepers.new).told masters.new }
     ensures rise { Rise (pens_of masters.old) (pens_of masters.new) }
-    ensures logs { LogsGrow K.TELLS (K.state keepers.old).told (K.state keepers.new).told }
+    ensures grows { MastersGrow K.TELLS config.now (K.state keepers.old).told (K.state keepers.new).told }
     ensures calls { CallsKeeper repair.KeeperFault (K.state keepers.old) (K.state keepers.new) result }
 {
     inverses_match(&config.schema);
@@ -329,7 +330,7 @@ impl Fleet {
         ensures rest { self.new ≡ record self.old { masters = self.new.masters } }
         ensures consistent { IsConsistent K.TELLS config.now (K.state keepers.new).told self.new }
         ensures goes { GoesOn self.old self.new }
-        ensures logs { LogsGrow K.TELLS (K.state keepers.old).told (K.state keepers.new).told }
+        ensures grows { MastersGrow K.TELLS config.now (K.state keepers.old).told (K.state keepers.new).told }
         ensures calls { CallsKeeper repair.KeeperFault (K.state keepers.old) (K.state keepers.new) result }
     {
         merge_over(alloc, &mut self.masters, keepers, link, config, from, job)

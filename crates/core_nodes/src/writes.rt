@@ -40,7 +40,7 @@ use tao_schema::Schema;
 use topology::Config;
 
 /// Each type of a schema is the inverse of its inverse, as the schema says with each inverse that it gives.
-pub(crate) fn inverses_match(schema: &Schema)
+pub fn inverses_match(schema: &Schema)
     ensures { InversesMatch (types_of schema.now) }
 {
     let _inverse = schema.inverse(AType(0));

@@ -46,6 +46,7 @@ returns g c =
       to = c.merge_there.ensures.to;
       keeper = c.merge_there.ensures.keeper;
       carries = c.merge_there.ensures.carries;
+      logs = c.merge_there.ensures.logs;
     } in
     let left = far_merged g.K.Keeper.TELLS s j c.master_store-from.result xs c.from-place.result store made before after (g.L.Link.shown c.args.link.now)
     (g.L.Link.shown c.merge_there.new.link) r c.requires.stores here c.requires.there c.master_store-from.ensures is pen match c.requires.owed
@@ -56,6 +57,6 @@ returns g c =
       lies = left.lies;
       stores = left.stores;
       rise = rise_here xs shard c.from-place.result store made here at c.merge_there.ensures.grows;
-      logs = c.merge_there.ensures.logs;
+      grows = left.grows;
       calls = c.merge_there.ensures.calls;
     }

@@ -28,6 +28,6 @@ returns g c =
       rest = done.rest;
       consistent = done.consistent;
       goes = done.goes;
-      logs = given.logs;
+      grows = given.grows;
       calls = given.calls;
     }

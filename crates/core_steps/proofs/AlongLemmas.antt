@@ -5,12 +5,13 @@ use Rattle.std.proofs.lemmas.Bool.Decides.{nat_tests}
 use Rattle.cache_items.specs.declared.look.Kept.{Kept as KeptWhy}
 use Rattle.cache_items.specs.declared.look.Look.{Look}
 use Rattle.cache_items.specs.declared.look.Look.TheVariants.{Hit, Miss}
-use Rattle.core_model.specs.Consistent.{GoesOn, IsFleetOf}
+use Rattle.core_model.specs.Consistent.{GoesOn, IsConsistent, IsFleetOf}
 use Rattle.core_model.specs.Fleet.{ChangesNode, Fleet}
 use Rattle.core_model.specs.Pens.{pens_of}
 use Rattle.core_model.specs.Reads.{EndsAsk, IsGivenAnswer, IsGivenFill, IsLegalLook, KeepsFill, LeaderAnswers, LooksFirst, StoreReads, Wanted, given_of}
 use Rattle.core_model.specs.Stores.{AreStoresOf, master_store}
 use Rattle.core_model.proofs.NamedNodes.{changes_so}
+use Rattle.core_nodes.proofs.FleetLemmas.{goes_self}
 use Rattle.core_nodes.proofs.NodesOfNames.{is_after}
 use Rattle.follower_cache.specs.Seen.{FollowerState}
 use Rattle.graph_model.specs.Log.{version}
@@ -38,7 +39,7 @@ use Rattle.tao_base.specs.EdgeTypes.{EdgeTypes}
 use Rattle.tao_base.specs.Queries.{query_key, query_shard}
 use Rattle.tao_base.specs.declared.query.Answer.{Answer}
 use Rattle.tao_base.specs.declared.query.Query.{Query}
-use Rattle.tao_keeper.specs.KeeperState.{KeeperState, KeepsTables}
+use Rattle.tao_keeper.specs.KeeperState.{IsLater, KeeperState, KeepsTables}
 use Rattle.tao_keeper.specs.Table.{Table}
 use Rattle.tao_link.specs.Shown.{LinkShown}
 use Rattle.tao_schema.specs.Schema.{key_bound, types_of}
@@ -369,6 +370,17 @@ past_ends s route read ask given answer version total note cost old new is legal
       again = λ told kept. not_past bound total (AnswersAgain types route.follower read.query reply new.followers) kept;
     } in
     subst (λ g. EndsRead s (missed_read route read ask) g (Called (called.Read reply)) old new) (sym is) past
+
+-- a step that leaves the nodes goes on
+pub on_same : (tells : Bool) (s : Settings) (old : Scene) (fleet : Fleet) (keepers : KeeperState) (link : LinkShown) → fleet ≡ old.fleet
+    → IsConsistent tells s keepers.told fleet → KeepsTables tells old.keepers keepers → IsLater old.keepers keepers
+    → ReadsOn tells s old (scene fleet keepers link)
+on_same tells s old fleet keepers link same consistent tables later = record {
+  consistent = consistent;
+  goes = subst (GoesOn old.fleet) (sym same) (goes_self old.fleet);
+  tables = tables;
+  later = later;
+}
 
 -- and the step goes on to there
 pub on_after : (tells : Bool) (s : Settings) (old mid : Scene) (end : Fleet) → ReadsOn tells s old mid → end ≡ record mid.fleet { followers = end.followers }

@@ -1,9 +1,11 @@
 pub mod AlongLemmas
-pub mod ReadLemmas
-pub mod Repeats
-pub mod GrowingLemmas
-pub mod StepLemmas
-pub mod WriteLemmas
 pub mod CriticalLemmas
-pub mod MergeLemmas
 pub mod InverseThere
+pub mod MergeLemmas
+pub mod ReadLemmas
+pub mod RepairLemmas
+pub mod Repeats
+pub mod RunLemmas
+pub mod StepLemmas
+pub mod WholeReads
+pub mod WriteLemmas

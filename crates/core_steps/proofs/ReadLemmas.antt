@@ -1,10 +1,15 @@
 -- What a read along its route comes to.
 use Rattle.std.proofs.Common.{◌≡◌, ℕ, zero, suc, [], ◌∷◌, ◌<◌, Bool, List, Option, Some, None, refl, ap, ◌∙◌, subst, arith}
 use Rattle.std.specs.Prelude.{IsSome, slice_get, length}
-use Rattle.core_model.specs.Consistent.{GoesOn}
+use Rattle.core_model.proofs.AsksOn.{asks_go_on}
+use Rattle.core_model.proofs.MarkingOn.{marks_go_on}
+use Rattle.core_model.proofs.NamedNodes.{each_on}
+use Rattle.core_model.specs.Asks.{AsksGoOn}
+use Rattle.core_model.specs.Consistent.{GoesOn, MarksGoOn}
 use Rattle.core_model.specs.Fleet.{Fleet}
 use Rattle.core_model.specs.Pens.{pens_of, view_or_none}
 use Rattle.core_model.specs.Stores.{AreStoresOf, master_log}
+use Rattle.follower_cache.specs.Seen.{FollowerState}
 use Rattle.graph_model.specs.Legal.{IsLegal}
 use Rattle.graph_model.specs.Told.{WhereTold}
 use Rattle.shard_log.proofs.GrowthLemmas.{grows-trans}
@@ -26,10 +31,13 @@ goes_trans a b c p q = record {
   rise = λ shard. grows-trans (pens_of a.masters shard) (pens_of b.masters shard) (pens_of c.masters shard) (p.rise shard) (q.rise shard);
   leaders = q.leaders ∙ p.leaders;
   followers = q.followers ∙ p.followers;
-  asks = λ place name to h.
-      let mid = q.asks place name to h in
-      let was = p.asks place name mid.0 mid.1 in
-      (was.0, was.1, (λ number key is. mid.2 number key (was.2 number key is)));
+  asks = each_on (λ (from to : FollowerState). AsksGoOn from.node.asks to.node.asks) a.followers b.followers c.followers
+      (λ from mid to. asks_go_on from.node.asks mid.node.asks to.node.asks) p.asks q.asks;
+  marks = record {
+    leaders = each_on MarksGoOn a.leaders b.leaders c.leaders marks_go_on p.marks.leaders q.marks.leaders;
+    followers = each_on (λ (from to : FollowerState). MarksGoOn from.node to.node) a.followers b.followers c.followers
+        (λ from mid to. marks_go_on from.node mid.node to.node) p.marks.followers q.marks.followers;
+  };
 }
 
 -- ---- the log of a shard is what its pen has seen

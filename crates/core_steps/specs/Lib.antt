@@ -6,6 +6,7 @@ pub mod OtherEnds
 pub mod Posting
 pub mod ReadSteps
 pub mod Reads
+pub mod Repairs
 pub mod Replies
 pub mod Routes
 pub mod Writes

@@ -3,7 +3,7 @@ use Rattle.shard_tables.specs.Written.{added_entry}
 use Rattle.core_mail.proofs.InboxLemmas.{inboxes_stay}
 use Rattle.core_model.specs.Jobs.{far_shard}
 use Rattle.core_model.specs.Pens.{IsSeen, pens_of}
-use Rattle.core_steps.proofs.GrowingLemmas.{gains_masters}
+use Rattle.core_nodes.proofs.GrowingLemmas.{gains_masters}
 use Rattle.core_steps.proofs.jobs.merge_at.Goals as goal
 
 pub returns-clause-inboxes : goal.returns-clause-inboxes

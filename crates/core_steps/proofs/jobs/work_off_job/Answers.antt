@@ -3,7 +3,7 @@ use Rattle.core_model.specs.Jobs.{job_on}
 use Rattle.core_steps.specs.OtherEnds.{job_way}
 use Rattle.core_steps.specs.Posting.{posting}
 use Rattle.core_steps.specs.Routes.{scene}
-use Rattle.core_steps.proofs.GrowingLemmas.{masters_in_turn}
+use Rattle.core_nodes.proofs.GrowingLemmas.{masters_in_turn}
 use Rattle.core_steps.proofs.MergeLemmas.{ends_scheduled, works_off}
 use Rattle.core_steps.proofs.jobs.work_off_job.Goals as goal
 

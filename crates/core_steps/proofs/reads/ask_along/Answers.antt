@@ -31,3 +31,10 @@ returns-in-Err-clause-asks g c =
     let mid : Scene = scene c.given_along.new.fleet (g.K.Keeper.state c.given_along.new.keepers) (g.L.Link.shown c.given_along.new.link) in
     vain_ends g.K.Keeper.TELLS c.args.config.now c.args.route (wanted c.args.query.now c.args.floor) c.args.ask c.in-Err.reply old mid c.end_ask.new.self
     c.in-Err.ensures.err c.end_ask.ensures.rest c.end_ask.ensures.ends
+
+pub returns-in-Err-clause-on : goal.returns-in-Err-clause-on
+returns-in-Err-clause-on g c =
+    let old : Scene = scene c.args.fleet.now (g.K.Keeper.state c.args.keepers.now) (g.L.Link.shown c.args.link.now) in
+    let mid : Scene = scene c.given_along.new.fleet (g.K.Keeper.state c.given_along.new.keepers) (g.L.Link.shown c.given_along.new.link) in
+    on_after g.K.Keeper.TELLS c.args.config.now old mid c.end_ask.new.self c.in-Err.ensures.on c.end_ask.ensures.rest c.end_ask.ensures.fleet
+    c.end_ask.ensures.goes

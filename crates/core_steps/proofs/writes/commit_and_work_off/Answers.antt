@@ -9,7 +9,7 @@ use Rattle.core_steps.specs.OtherEnds.{WorksOffOf}
 use Rattle.core_steps.specs.Posting.{posting}
 use Rattle.core_steps.specs.Routes.{scene}
 use Rattle.core_steps.specs.Writes.{CanBeApplied, IsCommitted, client_call}
-use Rattle.core_steps.proofs.GrowingLemmas.{masters_in_turn}
+use Rattle.core_nodes.proofs.GrowingLemmas.{masters_in_turn}
 use Rattle.core_steps.proofs.ReadLemmas.{goes_trans}
 use Rattle.core_steps.proofs.WriteLemmas.{applied_later}
 use Rattle.core_steps.proofs.writes.commit_and_work_off.Goals as goal

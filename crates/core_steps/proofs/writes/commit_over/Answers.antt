@@ -12,7 +12,7 @@ use Rattle.core_steps.specs.Replies.{refused_as}
 use Rattle.core_steps.specs.Routes.{scene}
 use Rattle.core_steps.specs.Posting.{TellsOfNew, posting}
 use Rattle.core_steps.specs.Writes.{CanBeApplied, IsCommitted, RefusesCommit, client_call, new_entry}
-use Rattle.core_steps.proofs.GrowingLemmas.{gains_masters}
+use Rattle.core_nodes.proofs.GrowingLemmas.{gains_masters}
 use Rattle.core_steps.proofs.MergeLemmas.{can_merge}
 use Rattle.core_steps.proofs.StepLemmas.{commits}
 use Rattle.core_steps.proofs.WriteLemmas.{refused, stands_there}

@@ -1,0 +1,450 @@
+-- What jobs that are run, one after another, come to: a settle.
+use Rattle.std.proofs.Common.{◌≡◌, ℕ, ◌≤◌, ◌<◌, ◌+◌, ◌⊎◌, Bool, true, List, [], ◌∷◌, ◌++◌, Some, None, Result, Ok, Err}
+use Rattle.std.proofs.Common.{refl, sym, ap, ◌∙◌, subst, inl, inr, arith}
+use Rattle.std.proofs.lemmas.Bool.{cases_lt}
+use Rattle.std.proofs.lemmas.Option.{same_Some}
+use Rattle.std.specs.Prelude.{Option}
+use Rattle.counts.proofs.Rises.{Rose-earlier, Rose-le}
+use Rattle.edge_repair.specs.Carries.{FailsAt}
+use Rattle.edge_repair.specs.declared.refusal.RepairRefusal.{RepairRefusal}
+use Rattle.edge_repair.specs.declared.refusal.RepairRefusal.TheVariants.{KeeperFault, LinkFault, LogFull, OutOfMemory}
+use Rattle.graph_model.specs.Log.{entry_at}
+use Rattle.graph_model.specs.Soundness.{EdgeUpdate}
+use Rattle.graph_model.specs.Told.{WhereTold}
+use Rattle.master_tables.proofs.Calls.{tables_are_stores}
+use Rattle.master_tables.proofs.Each.{each_length}
+use Rattle.tao_base.specs.EdgeTypes.{InversesMatch}
+use Rattle.tao_keeper.specs.KeeperState.{IsLater}
+use Rattle.tao_keeper.specs.Table.{Tables}
+use Rattle.tao_keeper.specs.declared.jobs.Job.{Job}
+use Rattle.tao_link.specs.Shown.{LinkShown, after_carry}
+use Rattle.tao_link.specs.declared.link.Carry.{Carry}
+use Rattle.tao_schema.specs.Schema.{types_of}
+use Rattle.topology.specs.Config.{Settings}
+use Rattle.write_model.proofs.CoverMerges.{merges_keep}
+use Rattle.write_model.proofs.Settled.{settles_in_order}
+use Rattle.write_model.specs.Machine.{IsFirstJob, Owed}
+use Rattle.write_model.specs.Merges.{Stores, log_of}
+use Rattle.write_model.specs.Steps.{EndsJob, IsNextJob, IsOwed, MergesJob}
+use Rattle.core_model.specs.Fleet.{Fleet}
+use Rattle.core_model.specs.Jobs.{EndsOwed, IsFirstJobOf, IsJobOf, MergesOwed, ShardJob, job_on}
+use Rattle.core_model.specs.Stores.{AreKeptIn, master_log, masters_of, stores_in}
+use Rattle.core_nodes.specs.Repairs.{ComesBack, carry_back, carry_there}
+use Rattle.core_nodes.specs.Settling.{IsLaterLink}
+use Rattle.core_nodes.specs.declared.settling.SettleStop.{SettleStop}
+use Rattle.core_steps.specs.Posting.{Posting}
+use Rattle.core_steps.specs.Repairs.{AreSettling, FailsToEnd, FailsToMerge, FindsNoJob, FailureHasCause, HasNoneUpTo, HaveNoneBelow, HaveRun}
+use Rattle.core_steps.specs.Repairs.{IsNotRepaired, IsRepaired, OnlyAsks, RanOn, RepairsFirst, RunsAll, RunsTo, SettlesLogs}
+use Rattle.core_steps.specs.Repairs.{StopsRepair, StopsRun, ran_on, stop_of}
+use Rattle.core_steps.specs.declared.repairs.Ran.{Ran}
+use Rattle.core_steps.specs.declared.repairs.RepairFailed.{RepairFailed}
+use Rattle.core_steps.specs.declared.repairs.RepairFailed.TheVariants.{NoServer, Refused}
+
+-- ---- keepers that were only asked
+
+asks_trans : (tells : Bool) (a b c : Posting) → OnlyAsks tells a b → OnlyAsks tells b c → OnlyAsks tells a c
+asks_trans tells a b c p q = record {
+  nodes = record {
+    fleet = q.nodes.fleet ∙ p.nodes.fleet;
+    inboxes = q.nodes.inboxes ∙ p.nodes.inboxes;
+    tables = λ told at. q.nodes.tables told at ∙ p.nodes.tables told at;
+  };
+  link = q.link ∙ p.link;
+  states = q.states ∙ p.states;
+}
+
+asks_nothing : (tells : Bool) (a : Posting) → OnlyAsks tells a a
+asks_nothing tells a = record { nodes = record { fleet = refl; inboxes = refl; tables = λ told at. refl }; link = refl; states = refl }
+
+run_and_ask : (tells : Bool) (s : Settings) (jobs : List RanOn) (a b c : Posting) → HaveRun tells s jobs a b → OnlyAsks tells b c → HaveRun tells s jobs a c
+run_and_ask tells s [] a b c run asks = asks_trans tells a b c run asks
+run_and_ask tells s (r ∷ earlier) a b c run asks = (run.0, run.1, run.2, run.3, asks_trans tells run.1 b c run.4 asks)
+
+-- ---- the link
+
+pub link_trans : (a b c : LinkShown) → IsLaterLink a b → IsLaterLink b c → IsLaterLink a c
+link_trans a b c p q = record { carries = omega arith; faults = omega arith; cuts = q.cuts ∙ p.cuts }
+
+pub link_stays : (old new : LinkShown) → new ≡ old → IsLaterLink old new
+link_stays old new same = subst (IsLaterLink old) (sym same) (record { carries = omega arith; faults = omega arith; cuts = refl })
+
+carried_once : (link : LinkShown) → IsLaterLink link (after_carry link)
+carried_once link = record { carries = omega arith; faults = omega arith; cuts = refl }
+
+both_carries : (old new : LinkShown) → new ≡ after_carry (after_carry old) → IsLaterLink old new
+both_carries old new is =
+    subst (IsLaterLink old) (sym is) (link_trans old (after_carry old) (after_carry (after_carry old)) (carried_once old) (carried_once (after_carry old)))
+
+failed_carry : (at : Carry) (old new : LinkShown) → FailsAt at old new → IsLaterLink old new
+failed_carry at old new fails =
+    record { carries = let is = fails.counted in omega arith; faults = Rose-le old.faults new.faults fails.rose; cuts = fails.cuts }
+
+failed_back : (at : Carry) (old new : LinkShown) → FailsAt at (after_carry old) new → IsLaterLink old new
+failed_back at old new fails = link_trans old (after_carry old) new (carried_once old) (failed_carry at (after_carry old) new fails)
+
+link_back : (s : Settings) (j : ShardJob) (old new : LinkShown) → ComesBack s j old new → IsLaterLink old new
+link_back s j old new (inl whole) = both_carries old new whole
+link_back s j old new (inr fails) = failed_back (carry_back s j) old new fails
+
+-- ---- what a repair leaves, whatever came of it
+
+-- no count of the link fell, and only stores changed
+pub record ChangesStoresAlone (old new : Posting) : Type 0 where
+  pub link : IsLaterLink old.scene.link new.scene.link
+  pub fleet : new.scene.fleet ≡ record old.scene.fleet { masters = new.scene.fleet.masters }
+
+same_fleet : (old new : Fleet) → new ≡ old → new ≡ record old { masters = new.masters }
+same_fleet old new same = subst (λ (f : Fleet). f ≡ record old { masters = f.masters }) (sym same) refl
+
+asks_leave : (tells : Bool) (old new : Posting) → OnlyAsks tells old new → ChangesStoresAlone old new
+asks_leave tells old new asks = record {
+  link = link_stays old.scene.link new.scene.link asks.link;
+  fleet = same_fleet old.scene.fleet new.scene.fleet asks.nodes.fleet;
+}
+
+module _ (tells : Bool) (s : Settings) (shard : ℕ) (old new : Posting) where
+  link_by : (refusal : RepairRefusal) → FailsToMerge tells s shard refusal old new → IsLaterLink old.scene.link new.scene.link
+  link_by KeeperFault fails = link_back s (job_on shard fails.job) old.scene.link new.scene.link fails.merges.1
+  link_by (LogFull count) fails = link_back s (job_on shard fails.job) old.scene.link new.scene.link fails.merges.2
+  link_by OutOfMemory fails = link_back s (job_on shard fails.job) old.scene.link new.scene.link fails.merges.1
+  link_by LinkFault fails = elim fails.merges [
+    | inl there ↦ failed_carry (carry_there s (job_on shard fails.job)) old.scene.link new.scene.link there.0
+    | inr back ↦ failed_back (carry_back s (job_on shard fails.job)) old.scene.link new.scene.link back.0
+  ]
+
+  leaves_by : (refusal : RepairRefusal) → FailsToMerge tells s shard refusal old new → ChangesStoresAlone old new
+  leaves_by refusal fails = record { link = link_by refusal fails; fleet = fails.rest.caches.fleet }
+
+  ends_leave : FailsToEnd tells s shard old new → ChangesStoresAlone old new
+  ends_leave fails = record { link = both_carries old.scene.link new.scene.link fails.merges.1; fleet = fails.rest.caches.fleet }
+
+  stops_leave : (refusal : RepairRefusal) → StopsRepair tells s shard refusal old new → ChangesStoresAlone old new
+  stops_leave refusal (inl asks) = asks_leave tells old new asks
+  stops_leave refusal (inr (inl fails)) = leaves_by refusal fails
+  stops_leave refusal (inr (inr fails)) = ends_leave fails
+
+  pub not_repaired_leaves : (failed : RepairFailed) → IsNotRepaired tells s shard failed old new → ChangesStoresAlone old new
+  not_repaired_leaves NoServer is = asks_leave tells old new is.asks
+  not_repaired_leaves (Refused KeeperFault) is = stops_leave KeeperFault is.1
+  not_repaired_leaves (Refused LinkFault) is = leaves_by LinkFault is
+  not_repaired_leaves (Refused (LogFull count)) is = leaves_by (LogFull count) is
+  not_repaired_leaves (Refused OutOfMemory) is = stops_leave OutOfMemory is
+
+  pub repaired_leaves : (ran : Ran) → IsRepaired tells s shard ran old new → ChangesStoresAlone old new
+  repaired_leaves ran is = record { link = both_carries old.scene.link new.scene.link is.merges.1; fleet = is.caches.fleet }
+
+  pub none_leaves : FindsNoJob tells s shard old new → ChangesStoresAlone old new
+  none_leaves finds = asks_leave tells old new finds.asks
+
+  -- a fault is told only where its count rose
+  has_cause : (start : Posting) (failed : RepairFailed) → IsLaterLink start.scene.link old.scene.link → IsLater start.scene.keepers old.scene.keepers
+      → IsNotRepaired tells s shard failed old new → FailureHasCause failed start.scene new.scene
+  has_cause start NoServer link keepers is = tt
+  has_cause start (Refused KeeperFault) link keepers is =
+      Rose-earlier start.scene.keepers.faults old.scene.keepers.faults new.scene.keepers.faults keepers.faults is.0
+  has_cause start (Refused LinkFault) link keepers is = elim is.merges [
+    | inl there ↦ Rose-earlier start.scene.link.faults old.scene.link.faults new.scene.link.faults link.faults there.0.rose
+    | inr back ↦ Rose-earlier start.scene.link.faults old.scene.link.faults new.scene.link.faults link.faults back.0.rose
+  ]
+  has_cause start (Refused (LogFull count)) link keepers is = tt
+  has_cause start (Refused OutOfMemory) link keepers is = tt
+
+-- ---- one job, over the tables
+
+-- what owes a job is one
+same_owed : (s : Settings) (j : ShardJob) (tables : Tables) (a b : Owed) → IsJobOf s j a → IsJobOf s j b
+    → IsOwed (types_of s.schema) (stores_in s tables) a → IsOwed (types_of s.schema) (stores_in s tables) b → a ≡ b
+same_owed s j tables a b p q x y =
+    let logs = (stores_in s tables).logs in
+    let shard : a.shard ≡ b.shard = p.shard_is ∙ sym q.shard_is in
+    let position : a.entry.position ≡ b.entry.position = p.position_is ∙ sym q.position_is in
+    let other : a.other ≡ b.other = p.other_is ∙ sym q.other_is in
+    let there = subst (λ n. entry_at (log_of logs a.shard) n ≡ Some a.entry) position x.stands.stands in
+    let here = subst (λ n. entry_at (log_of logs n) b.entry.position ≡ Some a.entry) shard there in
+    let entry : a.entry ≡ b.entry = same_Some a.entry b.entry (sym here ∙ y.stands.stands) in
+    λ i. record { shard = shard i; entry = entry i; other = other i }
+
+-- the first job of its shard was merged and then ended
+record WorksOffFirst (s : Settings) (shard position : ℕ) (old new : Tables) : Type 0 where
+  owed : Owed
+  mid : Stores
+  first : IsFirstJob (types_of s.schema) (stores_in s old) owed
+  merges : MergesJob (types_of s.schema) (stores_in s old) mid owed
+  ends : EndsJob (types_of s.schema) mid (stores_in s new) owed
+  shard_is : owed.shard ≡ shard
+  position_is : owed.entry.position ≡ position
+
+is_done : (s : Settings) (j : ShardJob) (old mid new : Tables) → InversesMatch (types_of s.schema) → AreKeptIn s old → IsFirstJobOf s old j
+    → MergesOwed s old mid j → EndsOwed s mid new j → WorksOffFirst s j.shard j.job.position old new
+is_done s j old mid new match kept first merges ends =
+    let types = types_of s.schema in
+    let one = same_owed s j old merges.owed first.owed merges.of first.of merges.merges.owes first.owes in
+    let left = merges_keep.done types (stores_in s old) (stores_in s mid) merges.owed match kept merges.merges in
+    let two = same_owed s j mid ends.owed merges.owed ends.of merges.of ends.ends.owes left.0 in
+    record {
+      owed = first.owed;
+      mid = stores_in s mid;
+      first = first.first;
+      merges = subst (MergesJob types (stores_in s old) (stores_in s mid)) one merges.merges;
+      ends = subst (EndsJob types (stores_in s mid) (stores_in s new)) (two ∙ one) ends.ends;
+      shard_is = first.of.shard_is;
+      position_is = first.of.position_is;
+    }
+
+is_next : (s : Settings) (tables : Tables) (shard : ℕ) (owed : Owed) → owed.shard ≡ shard → IsFirstJob (types_of s.schema) (stores_in s tables) owed
+    → HaveNoneBelow s tables shard → IsNextJob (types_of s.schema) (stores_in s tables) owed
+is_next s tables shard owed is first none =
+    record { first = first; lower = λ lower position lt. none lower position (subst (λ n. lower < n) is lt) }
+
+module _ (s : Settings) (shard position : ℕ) (old new : Tables) (done : WorksOffFirst s shard position old new) where
+  settles_on : (start : Tables) → InversesMatch (types_of s.schema) → AreKeptIn s old → HaveNoneBelow s old shard → AreSettling s start old
+      → AreSettling s start new
+  settles_on start match kept none so = (
+    so.0 ++ done.owed ∷ [],
+    settles_in_order.goes_on (types_of s.schema) (stores_in s start) (stores_in s old) done.mid (stores_in s new) so.0 done.owed
+        match kept so.1 (is_next s old shard done.owed done.shard_is done.first none) done.merges done.ends,
+  )
+
+  none_below : HaveNoneBelow s old shard → HaveNoneBelow s new shard
+  none_below none lower p lt =
+      let at = done.shard_is in
+      done.ends.ends.others lower p (λ same. absurd (omega (arith, lt, same, at))) ∙ done.merges.jobs lower p ∙ none lower p lt
+
+  none_there : (p : ℕ) → p ≤ done.owed.entry.position → (stores_in s new).job done.owed.shard p ≡ None
+  none_there p le = elim (cases_lt p done.owed.entry.position) [
+    | inl lt ↦ done.ends.ends.others done.owed.shard p (λ same at. absurd (omega (arith, lt, at))) ∙ done.merges.jobs done.owed.shard p
+        ∙ done.first.first p lt
+    | inr ge ↦ (
+        let at : done.owed.entry.position ≡ p = omega (arith, le, ge) in
+        subst (λ n. (stores_in s new).job done.owed.shard n ≡ None) at done.ends.ends.here)
+  ]
+
+  none_up_to : HasNoneUpTo s new shard position
+  none_up_to p le =
+      let at = done.position_is in
+      subst (λ n. (stores_in s new).job n p ≡ None) done.shard_is (none_there p (omega (arith, le, at)))
+
+  not_before : (last : ℕ) → HasNoneUpTo s old shard last → position ≤ last → ⊥
+  not_before last none le =
+      let at = done.position_is in
+      let missing = subst (λ n. (stores_in s old).job n done.owed.entry.position ≡ None) (sym done.shard_is)
+      (none done.owed.entry.position (omega (arith, le, at))) in
+      let is = sym missing ∙ done.first.job.job_is in
+      absurd (cc)
+
+-- a settle that stops before a job, or once it was merged
+abbrev IsHalfway : Settings → ℕ → Tables → Tables → Type 0
+IsHalfway s shard old new = (new ≡ old) ⊎ ((job : Job) × IsFirstJobOf s old (job_on shard job) × MergesOwed s old new (job_on shard job))
+
+settles_to : (s : Settings) (shard : ℕ) (start old new : Tables) → HaveNoneBelow s old shard → AreSettling s start old → IsHalfway s shard old new
+    → SettlesLogs s start new
+settles_to s shard start old new none so (inl same) = subst (SettlesLogs s start) (sym same)
+    (settles_in_order.stops (types_of s.schema) (stores_in s start) (stores_in s old) so.0 so.1)
+settles_to s shard start old new none so (inr half) =
+    let types = types_of s.schema in
+    let j = job_on shard half.0 in
+    let first = half.1 in
+    let merges = half.2 in
+    let one = same_owed s j old merges.owed first.owed merges.of first.of merges.merges.owes first.owes in
+    settles_in_order.stops_within types (stores_in s start) (stores_in s old) (stores_in s new) so.0 first.owed so.1
+    (is_next s old shard first.owed first.of.shard_is first.first none)
+    (subst (MergesJob types (stores_in s old) (stores_in s new)) one merges.merges)
+
+-- ---- one job, over what is seen
+
+module _ (tells : Bool) (s : Settings) (shard : ℕ) (old new : Posting) (told : tells ≡ true) where
+  repaired_done : (ran : Ran) → InversesMatch (types_of s.schema) → AreKeptIn s old.scene.keepers.told → IsRepaired tells s shard ran old new
+      → WorksOffFirst s shard ran.job.position old.scene.keepers.told new.scene.keepers.told
+  repaired_done ran match kept is =
+      let j = job_on shard ran.job in
+      let same : is.found.told ≡ old.scene.keepers.told = λ i at. is.finds.tables told at i in
+      let first = subst (λ t. IsFirstJobOf s t j) same (is.finds.first told) in
+      let merges = subst (λ t. MergesOwed s t is.merged.told j) same (is.merges.0 told).merges in
+      is_done s j old.scene.keepers.told is.merged.told new.scene.keepers.told match kept first merges (is.ends told)
+
+  asks_half : OnlyAsks tells old new → IsHalfway s shard old.scene.keepers.told new.scene.keepers.told
+  asks_half asks = inl (λ i at. asks.nodes.tables told at i)
+
+  -- what was merged at tables that are these
+  half_from : (job : Job) (found : Tables) → found ≡ old.scene.keepers.told → IsFirstJobOf s found (job_on shard job)
+      → MergesOwed s found new.scene.keepers.told (job_on shard job) → IsHalfway s shard old.scene.keepers.told new.scene.keepers.told
+  half_from job found same first merges = inr (
+    job,
+    subst (λ t. IsFirstJobOf s t (job_on shard job)) same first,
+    subst (λ t. MergesOwed s t new.scene.keepers.told (job_on shard job)) same merges,
+  )
+
+  half_by : (refusal : RepairRefusal) → FailsToMerge tells s shard refusal old new → IsHalfway s shard old.scene.keepers.told new.scene.keepers.told
+  half_by KeeperFault fails =
+      let same : fails.found.told ≡ old.scene.keepers.told = λ i at. fails.finds.tables told at i in
+      elim fails.merges.0 [
+        | inl stays ↦ inl ((λ i at. stays told at i) ∙ same)
+        | inr merges ↦ half_from fails.job fails.found.told same (fails.finds.first told) (merges told)
+      ]
+  half_by OutOfMemory fails =
+      let same : fails.found.told ≡ old.scene.keepers.told = λ i at. fails.finds.tables told at i in
+      elim fails.merges.0 [
+        | inl stays ↦ inl ((λ i at. stays told at i) ∙ same)
+        | inr merges ↦ half_from fails.job fails.found.told same (fails.finds.first told) (merges told)
+      ]
+  half_by (LogFull count) fails =
+      let same : fails.found.told ≡ old.scene.keepers.told = λ i at. fails.finds.tables told at i in
+      let stays : new.scene.keepers.told ≡ fails.found.told = λ i at. fails.merges.1 told at i in
+      inl (stays ∙ same)
+  half_by LinkFault fails =
+      let same : fails.found.told ≡ old.scene.keepers.told = λ i at. fails.finds.tables told at i in
+      elim fails.merges [
+        | inl there ↦ inl ((λ i at. there.1 told at i) ∙ same)
+        | inr back ↦ half_from fails.job fails.found.told same (fails.finds.first told) (back.1 told)
+      ]
+
+  end_half : FailsToEnd tells s shard old new → IsHalfway s shard old.scene.keepers.told new.scene.keepers.told
+  end_half fails =
+      let same : fails.found.told ≡ old.scene.keepers.told = λ i at. fails.finds.tables told at i in
+      let stays : fails.merged.told ≡ new.scene.keepers.told = λ i at. sym (fails.stays told at) i in
+      half_from fails.ran.job fails.found.told same (fails.finds.first told)
+      (subst (λ t. MergesOwed s fails.found.told t (job_on shard fails.ran.job)) stays (fails.merges.0 told).merges)
+
+  stops_half : (refusal : RepairRefusal) → StopsRepair tells s shard refusal old new → IsHalfway s shard old.scene.keepers.told new.scene.keepers.told
+  stops_half refusal (inl asks) = asks_half asks
+  stops_half refusal (inr (inl fails)) = half_by refusal fails
+  stops_half refusal (inr (inr fails)) = end_half fails
+
+  halfway : (failed : RepairFailed) → IsNotRepaired tells s shard failed old new → IsHalfway s shard old.scene.keepers.told new.scene.keepers.told
+  halfway NoServer is = asks_half is.asks
+  halfway (Refused KeeperFault) is = stops_half KeeperFault is.1
+  halfway (Refused LinkFault) is = half_by LinkFault is
+  halfway (Refused (LogFull count)) is = half_by (LogFull count) is
+  halfway (Refused OutOfMemory) is = stops_half OutOfMemory is
+
+-- ---- a settle under way
+
+module _ (tells : Bool) (s : Settings) (shard : ℕ) (old new : Posting) where
+  -- one more job of the shard
+  module _ (ran : Ran) (match : InversesMatch (types_of s.schema)) (kept : WhereTold tells (AreKeptIn s old.scene.keepers.told))
+      (is : IsRepaired tells s shard ran old new) where
+    pub runs_one : IsLater old.scene.keepers new.scene.keepers → (start : Posting) → RunsTo tells s shard start old → RunsTo tells s shard start new
+    runs_one later start so = record {
+      jobs = ran_on shard ran ∷ so.jobs;
+      run = (old, new, so.run, is, asks_nothing tells new);
+      settling = λ told. settles_on s shard ran.job.position old.scene.keepers.told new.scene.keepers.told
+          (repaired_done tells s shard old new told ran match (kept told) is) start.scene.keepers.told match (kept told) (so.none told) (so.settling told);
+      none = λ told. none_below s shard ran.job.position old.scene.keepers.told new.scene.keepers.told
+          (repaired_done tells s shard old new told ran match (kept told) is) (so.none told);
+      link = link_trans start.scene.link old.scene.link new.scene.link so.link (repaired_leaves tells s shard old new ran is).link;
+      keepers = record { calls = let a = so.keepers in omega arith; faults = let a = so.keepers in omega arith };
+    }
+
+    pub none_left : WhereTold tells (HasNoneUpTo s new.scene.keepers.told shard ran.job.position)
+    none_left = λ told. none_up_to s shard ran.job.position old.scene.keepers.told new.scene.keepers.told
+        (repaired_done tells s shard old new told ran match (kept told) is)
+
+    pub not_again : (last : ℕ) → WhereTold tells (HasNoneUpTo s old.scene.keepers.told shard last) → ran.job.position ≤ last → tells ≡ true → ⊥
+    not_again last none le told = not_before s shard ran.job.position old.scene.keepers.told new.scene.keepers.told
+        (repaired_done tells s shard old new told ran match (kept told) is) last (none told) le
+
+  -- no more jobs of the shard
+  none_more : shard < s.shards → tells ≡ true → HaveNoneBelow s old.scene.keepers.told shard → FindsNoJob tells s shard old new
+      → HaveNoneBelow s new.scene.keepers.told (shard + 1)
+  none_more here told none finds =
+      let same : old.scene.keepers.told ≡ new.scene.keepers.told = λ i at. sym (finds.asks.nodes.tables told at) i in
+      subst (λ t. HaveNoneBelow s t (shard + 1)) same (λ lower position lt. elim (cases_lt lower shard) [
+        | inl below ↦ none lower position below
+        | inr past ↦ (
+            let at : shard ≡ lower = omega (arith, lt, past) in
+            subst (λ n. (stores_in s old.scene.keepers.told).job n position ≡ None) at
+            ((tables_are_stores (masters_of s) old.scene.keepers.told).job_is shard position here ∙ finds.none told position))
+      ])
+
+  pub no_more : shard < s.shards → FindsNoJob tells s shard old new → IsLater old.scene.keepers new.scene.keepers → (start : Posting)
+      → RunsTo tells s shard start old → RunsTo tells s (shard + 1) start new
+  no_more here finds later start so = record {
+    jobs = so.jobs;
+    run = run_and_ask tells s so.jobs start old new so.run finds.asks;
+    settling = λ told.
+        let same : old.scene.keepers.told ≡ new.scene.keepers.told = λ i at. sym (finds.asks.nodes.tables told at) i in
+        subst (AreSettling s start.scene.keepers.told) same (so.settling told);
+    none = λ told. none_more here told (so.none told) finds;
+    link = link_trans start.scene.link old.scene.link new.scene.link so.link (none_leaves tells s shard old new finds).link;
+    keepers = record { calls = let a = so.keepers in omega arith; faults = let a = so.keepers in omega arith };
+  }
+
+  -- one that isn't run stops it
+  pub stops_run : (failed : RepairFailed) (given : SettleStop) → shard < s.shards → given ≡ stop_of shard failed → IsNotRepaired tells s shard failed old new
+      → (start : Posting) → RunsTo tells s shard start old → StopsRun tells s given start new
+  stops_run failed given here is stops start so = record {
+    shard = shard;
+    failed = failed;
+    jobs = so.jobs;
+    between = old;
+    here = here;
+    given_is = is;
+    run = so.run;
+    stops = stops;
+    cause = has_cause tells s shard old new start failed so.link so.keepers stops;
+    settles = λ told. settles_to s shard start.scene.keepers.told old.scene.keepers.told new.scene.keepers.told (so.none told) (so.settling told)
+        (halfway tells s shard old new told failed stops);
+  }
+
+-- a keeper that tells its tables gives no job twice
+pub given_again : (tells : Bool) (s : Settings) (shard : ℕ) (start now : Posting) → (tells ≡ true → ⊥) → RunsTo tells s shard start now
+    → RunsTo tells s (shard + 1) start now
+given_again tells s shard start now untold so = record {
+  jobs = so.jobs;
+  run = so.run;
+  settling = so.settling;
+  none = λ told. absurd (untold told);
+  link = so.link;
+  keepers = so.keepers;
+}
+
+-- no position is 0
+pub none_at_zero : (tells : Bool) (s : Settings) (tables : Tables) (shard : ℕ) → WhereTold tells (AreKeptIn s tables)
+    → WhereTold tells (HasNoneUpTo s tables shard 0)
+none_at_zero tells s tables shard kept = λ told position le.
+    let at : 0 ≡ position = omega (arith, le) in
+    subst (λ n. (stores_in s tables).job shard n ≡ None) at (first_none ((stores_in s tables).job shard 0) refl told)
+  where
+    first_none : (found : Option (List EdgeUpdate)) → (stores_in s tables).job shard 0 ≡ found → tells ≡ true → (stores_in s tables).job shard 0 ≡ None
+    first_none None is told = is
+    first_none (Some us) is told =
+        let stands = ((kept told).covered.jobs shard 0 us is).stands.stands in
+        absurd (cc)
+
+-- it begins
+pub runs_none : (tells : Bool) (s : Settings) (start : Posting) → RunsTo tells s 0 start start
+runs_none tells s start = record {
+  jobs = [];
+  run = asks_nothing tells start;
+  settling = λ told. ([], settles_in_order.begins (types_of s.schema) (stores_in s start.scene.keepers.told));
+  none = λ told lower position lt. absurd (omega (arith, lt));
+  link = link_stays start.scene.link start.scene.link refl;
+  keepers = record { calls = omega arith; faults = omega arith };
+}
+
+-- and ends behind the last shard
+pub runs_all : (tells : Bool) (s : Settings) (start now : Posting) → WhereTold tells (AreKeptIn s now.scene.keepers.told)
+    → RunsTo tells s s.shards start now → RunsAll tells s start now
+runs_all tells s start now kept so = record {
+  jobs = so.jobs;
+  run = so.run;
+  settles = λ told.
+      let far = so.settling told in
+      settles_in_order.stops (types_of s.schema) (stores_in s start.scene.keepers.told) (stores_in s now.scene.keepers.told) far.0 far.1;
+  none = λ told.
+      let tables = now.scene.keepers.told in
+      let long = each_length (master_log s tables) 0 s.shards in
+      settles_in_order.ends (types_of s.schema) (stores_in s tables) (kept told) (λ shard position lt. so.none told shard position (omega (arith, lt, long)));
+}
+
+-- ---- one repair after another
+
+-- whatever came of a shard's first job, only stores changed, and no count of the link fell
+pub first_leaves : (tells : Bool) (s : Settings) (shard : ℕ) (old new : Posting) (result : Result (Option Ran) RepairFailed)
+    → RepairsFirst tells s shard result old new → ChangesStoresAlone old new
+first_leaves tells s shard old new (Ok None) is = none_leaves tells s shard old new is
+first_leaves tells s shard old new (Ok (Some ran)) is = repaired_leaves tells s shard old new ran is
+first_leaves tells s shard old new (Err failed) is = not_repaired_leaves tells s shard old new failed is
+
+pub rest_trans : (a b c : Fleet) → b ≡ record a { masters = b.masters } → c ≡ record b { masters = c.masters } → c ≡ record a { masters = c.masters }
+rest_trans a b c p q = q ∙ ap (λ (f : Fleet). record f { masters = c.masters }) p

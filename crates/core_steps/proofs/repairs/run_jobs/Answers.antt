@@ -1,0 +1,90 @@
+use Rattle.std.proofs.Common.{◌≡◌, refl, sym, ap, subst, arith}
+use Rattle.std.proofs.lemmas.Result.{err_from_is_err_and}
+use Rattle.topology.specs.Config.{Settings}
+use Rattle.core_nodes.proofs.FleetLemmas.{goes_self}
+use Rattle.core_nodes.proofs.GrowingLemmas.{masters_in_turn, stays_masters}
+use Rattle.core_steps.specs.Posting.{posting}
+use Rattle.core_steps.specs.Repairs.{RunsTo, StopsRun}
+use Rattle.core_steps.specs.Routes.{scene}
+use Rattle.core_steps.proofs.ReadLemmas.{goes_trans}
+use Rattle.core_steps.proofs.RunLemmas.{link_stays, link_trans, rest_trans, runs_all, runs_none}
+use Rattle.core_steps.proofs.repairs.run_jobs.Goals as goal
+
+pub loop-shard-init : goal.loop-shard-init
+loop-shard-init g c =
+    let state = g.K.Keeper.state in
+    let shown = g.L.Link.shown in
+    let start = posting (scene c.args.fleet.now (state c.args.keepers.now) (shown c.args.link.now)) c.args.mail.now c.args.topology.now in
+    record {
+      runs = runs_none g.K.Keeper.TELLS c.args.config.now start;
+      rest = refl;
+      consistent = c.requires.consistent;
+      inboxes = c.requires.inboxes;
+      goes = goes_self c.args.fleet.now;
+      grows = stays_masters g.K.Keeper.TELLS c.args.config.now (state c.args.keepers.now) (state c.args.keepers.now) (λ told at. refl);
+      link = link_stays (shown c.args.link.now) (shown c.args.link.now) refl;
+      later = record { calls = omega arith; faults = omega arith };
+    }
+
+pub loop-shard-preserved : goal.loop-shard-preserved
+loop-shard-preserved g c =
+    let tells = g.K.Keeper.TELLS in
+    let state = g.K.Keeper.state in
+    let shown = g.L.Link.shown in
+    let was = c.loop-shard.invariant in
+    let done = c.in_ok-run_shard.ensures in
+    let start = posting (scene c.args.fleet.now (state c.args.keepers.now) (shown c.args.link.now)) c.args.mail.now c.args.topology.now in
+    record {
+      runs = done.runs.on start was.runs;
+      rest = rest_trans c.args.fleet.now c.loop-shard.fleet c.run_shard.new.fleet was.rest done.rest;
+      consistent = done.consistent;
+      inboxes = done.inboxes;
+      goes = goes_trans c.args.fleet.now c.loop-shard.fleet c.run_shard.new.fleet was.goes done.goes;
+      grows =
+          masters_in_turn tells c.args.config.now (state c.args.keepers.now).told (state c.loop-shard.keepers).told (state c.run_shard.new.keepers).told
+          was.grows done.grows;
+      link = link_trans (shown c.args.link.now) (shown c.loop-shard.link) (shown c.run_shard.new.link) was.link done.link;
+      later = record { calls = omega arith; faults = omega arith };
+    }
+
+pub returns-in_err-run_shard-clause-runs : goal.returns-in_err-run_shard-clause-runs
+returns-in_err-run_shard-clause-runs g c =
+    let state = g.K.Keeper.state in
+    let shown = g.L.Link.shown in
+    let start = posting (scene c.args.fleet.now (state c.args.keepers.now) (shown c.args.link.now)) c.args.mail.now c.args.topology.now in
+    let new = posting (scene c.run_shard.new.fleet (state c.run_shard.new.keepers) (shown c.run_shard.new.link)) c.run_shard.new.mail c.args.topology.now in
+    let stop = c.in_err-run_shard.ensures.runs.on start c.loop-shard.invariant.runs in
+    let p = err_from_is_err_and c.from_residual.result c.from_residual.ensures.1 in
+    rw p.1 (subst (λ given. StopsRun g.K.Keeper.TELLS c.args.config.now given start new) (sym p.2) stop)
+
+pub returns-in_err-run_shard-clause-rest : goal.returns-in_err-run_shard-clause-rest
+returns-in_err-run_shard-clause-rest g c =
+    rest_trans c.args.fleet.now c.loop-shard.fleet c.run_shard.new.fleet c.loop-shard.invariant.rest c.run_shard.ensures.rest
+
+pub returns-in_err-run_shard-clause-goes : goal.returns-in_err-run_shard-clause-goes
+returns-in_err-run_shard-clause-goes g c =
+    goes_trans c.args.fleet.now c.loop-shard.fleet c.run_shard.new.fleet c.loop-shard.invariant.goes c.run_shard.ensures.goes
+
+pub returns-in_err-run_shard-clause-grows : goal.returns-in_err-run_shard-clause-grows
+returns-in_err-run_shard-clause-grows g c =
+    let state = g.K.Keeper.state in
+    masters_in_turn g.K.Keeper.TELLS c.args.config.now (state c.args.keepers.now).told (state c.loop-shard.keepers).told
+    (state c.run_shard.new.keepers).told c.loop-shard.invariant.grows c.run_shard.ensures.grows
+
+pub returns-in_err-run_shard-clause-link : goal.returns-in_err-run_shard-clause-link
+returns-in_err-run_shard-clause-link g c =
+    let shown = g.L.Link.shown in
+    link_trans (shown c.args.link.now) (shown c.loop-shard.link) (shown c.run_shard.new.link) c.loop-shard.invariant.link c.run_shard.ensures.link
+
+pub returns-clause-runs : goal.returns-clause-runs
+returns-clause-runs g c =
+    let tells = g.K.Keeper.TELLS in
+    let state = g.K.Keeper.state in
+    let shown = g.L.Link.shown in
+    let s = c.args.config.now in
+    let was = c.loop-shard.invariant in
+    let start = posting (scene c.args.fleet.now (state c.args.keepers.now) (shown c.args.link.now)) c.args.mail.now c.args.topology.now in
+    let now = posting (scene c.loop-shard.fleet (state c.loop-shard.keepers) (shown c.loop-shard.link)) c.loop-shard.mail c.args.topology.now in
+    let shards : c.config.inside.shards ≡ s.shards = ap (λ (x : Settings). x.shards) c.config.view_is in
+    let all : c.loop-shard.shard ≡ s.shards = omega (arith, shards, c.loop-shard-test.false) in
+    runs_all tells s start now was.consistent.stores.kept (subst (λ n. RunsTo tells s n start now) all was.runs)

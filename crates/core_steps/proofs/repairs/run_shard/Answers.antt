@@ -1,0 +1,126 @@
+use Rattle.std.proofs.Common.{Ok, refl, ap, subst, arith}
+use Rattle.tao_base.specs.EdgeTypes.{InversesMatch}
+use Rattle.tao_schema.specs.Schema.{types_of}
+use Rattle.core_nodes.proofs.FleetLemmas.{goes_self}
+use Rattle.core_nodes.proofs.GrowingLemmas.{masters_in_turn, stays_masters}
+use Rattle.core_steps.specs.Posting.{posting}
+use Rattle.core_steps.specs.Repairs.{FindsNoJob, IsRepaired, RepairsFirst}
+use Rattle.core_steps.specs.Routes.{scene}
+use Rattle.core_steps.proofs.ReadLemmas.{goes_trans}
+use Rattle.core_steps.proofs.RunLemmas.{first_leaves, given_again, link_stays, link_trans, no_more, none_at_zero, none_left, not_again}
+use Rattle.core_steps.proofs.RunLemmas.{rest_trans, runs_one, stops_run}
+use Rattle.core_steps.proofs.repairs.run_shard.Goals as goal
+
+pub loop-found-init : goal.loop-found-init
+loop-found-init g c =
+    let state = g.K.Keeper.state in
+    let shown = g.L.Link.shown in
+    record {
+      runs = record { more = λ begin so. so };
+      none =
+          none_at_zero g.K.Keeper.TELLS c.args.config.now (state c.args.keepers.now).told c.args.shard c.requires.consistent.stores.kept;
+      rest = refl;
+      consistent = c.requires.consistent;
+      inboxes = c.requires.inboxes;
+      goes = goes_self c.args.fleet.now;
+      grows = stays_masters g.K.Keeper.TELLS c.args.config.now (state c.args.keepers.now) (state c.args.keepers.now) (λ told at. refl);
+      link = link_stays (shown c.args.link.now) (shown c.args.link.now) refl;
+      later = record { calls = omega arith; faults = omega arith };
+    }
+
+pub loop-found-preserved : goal.loop-found-preserved
+loop-found-preserved g c =
+    let tells = g.K.Keeper.TELLS in
+    let state = g.K.Keeper.state in
+    let shown = g.L.Link.shown in
+    let s = c.args.config.now in
+    let shard = c.args.shard in
+    let was = c.loop-found.invariant in
+    let now = posting (scene c.loop-found.fleet (state c.loop-found.keepers) (shown c.loop-found.link)) c.loop-found.mail c.args.topology.now in
+    let new = posting (scene c.repair_first.new.fleet (state c.repair_first.new.keepers) (shown c.repair_first.new.link)) c.repair_first.new.mail
+    c.args.topology.now in
+    let ran = c.in-Some.ran in
+    let is : IsRepaired tells s shard ran now new =
+    subst (λ f. RepairsFirst tells s shard (Ok f) now new) c.in-Some.is c.in-Ok.ensures.repairs in
+    let match = subst (λ k. InversesMatch (types_of k)) (ap (λ s. s.schema) c.config.view_is) c.inverses_match.ensures in
+    let leaves = first_leaves tells s shard now new c.repair_first.result c.repair_first.ensures.repairs in
+    record {
+      runs = record {
+        more = λ begin so.
+            runs_one tells s shard now new ran match was.consistent.stores.kept is c.repair_first.ensures.later begin (was.runs.more begin so);
+      };
+      none = none_left tells s shard now new ran match was.consistent.stores.kept is;
+      rest = rest_trans c.args.fleet.now c.loop-found.fleet c.repair_first.new.fleet was.rest leaves.fleet;
+      consistent = c.repair_first.ensures.consistent;
+      inboxes = c.repair_first.ensures.inboxes;
+      goes = goes_trans c.args.fleet.now c.loop-found.fleet c.repair_first.new.fleet was.goes c.repair_first.ensures.goes;
+      grows =
+          masters_in_turn tells s (state c.args.keepers.now).told (state c.loop-found.keepers).told (state c.repair_first.new.keepers).told was.grows
+          c.repair_first.ensures.grows;
+      link = link_trans (shown c.args.link.now) (shown c.loop-found.link) (shown c.repair_first.new.link) was.link leaves.link;
+      later = record { calls = omega arith; faults = omega arith };
+    }
+
+pub returns-in-Err-clause-runs : goal.returns-in-Err-clause-runs
+returns-in-Err-clause-runs g c =
+    let state = g.K.Keeper.state in
+    let shown = g.L.Link.shown in
+    let now = posting (scene c.loop-found.fleet (state c.loop-found.keepers) (shown c.loop-found.link)) c.loop-found.mail c.args.topology.now in
+    let new = posting (scene c.repair_first.new.fleet (state c.repair_first.new.keepers) (shown c.repair_first.new.link)) c.repair_first.new.mail
+    c.args.topology.now in
+    record {
+      on = λ begin so.
+          stops_run g.K.Keeper.TELLS c.args.config.now c.args.shard now new c.in-Err.failed c.stop_of.result c.requires.here c.stop_of.ensures
+          c.in-Err.ensures.repairs begin (c.loop-found.invariant.runs.more begin so);
+    }
+
+pub returns-in-Err-clause-grows : goal.returns-in-Err-clause-grows
+returns-in-Err-clause-grows g c =
+    let state = g.K.Keeper.state in
+    masters_in_turn g.K.Keeper.TELLS c.args.config.now (state c.args.keepers.now).told (state c.loop-found.keepers).told
+    (state c.repair_first.new.keepers).told c.loop-found.invariant.grows c.repair_first.ensures.grows
+
+pub returns-in_default-clause-runs : goal.returns-in_default-clause-runs
+returns-in_default-clause-runs g c =
+    let tells = g.K.Keeper.TELLS in
+    let state = g.K.Keeper.state in
+    let shown = g.L.Link.shown in
+    let s = c.args.config.now in
+    let now = posting (scene c.loop-found.fleet (state c.loop-found.keepers) (shown c.loop-found.link)) c.loop-found.mail c.args.topology.now in
+    let new = posting (scene c.repair_first.new.fleet (state c.repair_first.new.keepers) (shown c.repair_first.new.link)) c.repair_first.new.mail
+    c.args.topology.now in
+    let finds : FindsNoJob tells s c.args.shard now new =
+    subst (λ f. RepairsFirst tells s c.args.shard (Ok f) now new) c.in_default.is c.in-Ok.ensures.repairs in
+    record {
+      on = λ begin so.
+          no_more tells s c.args.shard now new c.requires.here finds c.repair_first.ensures.later begin (c.loop-found.invariant.runs.more begin so);
+    }
+
+pub returns-then-position-last-clause-runs : goal.returns-then-position-last-clause-runs
+returns-then-position-last-clause-runs g c =
+    let tells = g.K.Keeper.TELLS in
+    let state = g.K.Keeper.state in
+    let shown = g.L.Link.shown in
+    let s = c.args.config.now in
+    let shard = c.args.shard in
+    let was = c.loop-found.invariant in
+    let now = posting (scene c.loop-found.fleet (state c.loop-found.keepers) (shown c.loop-found.link)) c.loop-found.mail c.args.topology.now in
+    let new = posting (scene c.repair_first.new.fleet (state c.repair_first.new.keepers) (shown c.repair_first.new.link)) c.repair_first.new.mail
+    c.args.topology.now in
+    let ran = c.in-Some.ran in
+    let is : IsRepaired tells s shard ran now new =
+    subst (λ f. RepairsFirst tells s shard (Ok f) now new) c.in-Some.is c.in-Ok.ensures.repairs in
+    let match = subst (λ k. InversesMatch (types_of k)) (ap (λ s. s.schema) c.config.view_is) c.inverses_match.ensures in
+    let kept = was.consistent.stores.kept in
+    let untold = not_again tells s shard now new ran match kept is c.loop-found.last was.none c.if-position-last.true in
+    record {
+      on = λ begin so.
+          given_again tells s shard begin new untold
+          (runs_one tells s shard now new ran match kept is c.repair_first.ensures.later begin (was.runs.more begin so));
+    }
+
+pub returns-then-position-last-clause-grows : goal.returns-then-position-last-clause-grows
+returns-then-position-last-clause-grows g c =
+    let state = g.K.Keeper.state in
+    masters_in_turn g.K.Keeper.TELLS c.args.config.now (state c.args.keepers.now).told (state c.loop-found.keepers).told
+    (state c.repair_first.new.keepers).told c.loop-found.invariant.grows c.repair_first.ensures.grows

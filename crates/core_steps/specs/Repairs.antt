@@ -1,0 +1,279 @@
+-- Repairs: what becomes of the first open job of a shard, and of all jobs in a settle.
+use Rattle.std.specs.Prelude.{ℕ, ◌≡◌, ◌≤◌, ◌<◌, ◌+◌, ◌⊎◌, ◌++◌, ⊤, Bool, List, [], ◌∷◌, Option, Some, None, Result, Ok, Err, filter}
+use Rattle.counts.specs.Count.{Rose}
+use Rattle.core_mail.specs.Inboxes.{Inboxes, Sends, message_of}
+use Rattle.core_model.specs.Jobs.{EndsOwed, IsFirstJobOf, ShardJob, far_shard, job_on}
+use Rattle.core_model.specs.Messages.{told_of}
+use Rattle.core_model.specs.Stores.{master_store, stores_in}
+use Rattle.core_nodes.specs.Repairs.{MergesThere, Outside, outside}
+use Rattle.core_nodes.specs.Settling.{IsLaterLink}
+use Rattle.core_nodes.specs.declared.settling.SettleStop.{SettleStop}
+use Rattle.core_nodes.specs.declared.settling.SettleStop.TheVariants as stop
+use Rattle.edge_repair.specs.declared.refusal.RepairRefusal.{RepairRefusal}
+use Rattle.edge_repair.specs.declared.refusal.RepairRefusal.TheVariants.{KeeperFault, LinkFault, LogFull, OutOfMemory}
+use Rattle.graph_model.specs.Told.{WhereTold}
+use Rattle.node_name.specs.declared.NodeName.{NodeName}
+use Rattle.replies.specs.declared.refusals.UnsettledWhy.TheVariants as why
+use Rattle.shard_log.specs.View.{View}
+use Rattle.shard_tables.specs.declared.refusal.StoreRefusal.{StoreRefusal}
+use Rattle.shard_tables.specs.declared.refusal.StoreRefusal.TheVariants as refusal
+use Rattle.tao_base.specs.declared.entry.Entry.{Entry}
+use Rattle.tao_keeper.specs.KeeperState.{IsLater, KeeperState, KeepsTables}
+use Rattle.tao_keeper.specs.Table.{IsLeastJob, Tables}
+use Rattle.tao_keeper.specs.declared.jobs.Job.{Job}
+use Rattle.tao_schema.specs.Schema.{types_of}
+use Rattle.topology.specs.Choices.{master_region}
+use Rattle.topology.specs.Config.{Settings}
+use Rattle.topology.specs.States.{NodeStates, is_up}
+use Rattle.write_model.specs.Machine.{Owed, Settles}
+use Rattle.write_model.specs.Steps.{HaveNoJobs, Settling}
+use Rattle.core_steps.specs.OtherEnds.{master_leader}
+use Rattle.core_steps.specs.Posting.{ChangesNoNode, Posting}
+use Rattle.core_steps.specs.Routes.{Scene}
+use Rattle.core_steps.specs.declared.repairs.Ran.{Ran}
+use Rattle.core_steps.specs.declared.repairs.RepairFailed.{RepairFailed}
+use Rattle.core_steps.specs.declared.repairs.RepairFailed.TheVariants.{NoServer, Refused}
+
+-- ---- who is told
+
+-- of an entry that a repair wrote on a shard: the followers of the master's region as of any other, and then the leader that it prefers, where that is up
+abbrev pub told_of_repair : NodeStates → ℕ → List NodeName
+told_of_repair states shard = told_of states (master_region states shard) shard ++ filter (is_up states) (master_leader states shard ∷ [])
+
+-- they are told of the entry, where there is one; without memory for a note of the log nobody is
+abbrev pub TellsOfRepair : NodeStates → ℕ → Option Entry → Inboxes → Inboxes → Type 0
+TellsOfRepair states shard None old new = new ≡ old
+TellsOfRepair states shard (Some e) old new =
+    (new ≡ old) ⊎ ((note : View) × Sends (told_of_repair states shard) (message_of shard e note) old new)
+
+-- ---- the first job of a shard
+
+-- what the keepers and the link show of a scene
+abbrev pub shown_of : Scene → Outside
+shown_of scene = outside scene.keepers scene.link
+
+-- no leader and no follower changed, nor which nodes are up
+pub record LeavesCaches (old new : Posting) : Type 0 where
+  pub fleet : new.scene.fleet ≡ record old.scene.fleet { masters = new.scene.fleet.masters }
+  pub states : new.states ≡ old.states
+
+-- nothing changed but that keepers were asked
+pub record OnlyAsks (tells : Bool) (old new : Posting) : Type 0 where
+  pub nodes : ChangesNoNode tells old new
+  pub link : new.scene.link ≡ old.scene.link
+  pub states : new.states ≡ old.states
+
+-- the shard has no open job
+pub record FindsNoJob (tells : Bool) (s : Settings) (shard : ℕ) (old new : Posting) : Type 0 where
+  pub none : WhereTold tells (IsLeastJob (old.scene.keepers.told (master_store s shard)).jobs None)
+  pub asks : OnlyAsks tells old new
+
+-- the job is the first open one of the shard, and finding it changed no table
+pub record FindsOpenJob (tells : Bool) (s : Settings) (shard : ℕ) (job : Job) (old new : KeeperState) : Type 0 where
+  pub first : WhereTold tells (IsFirstJobOf s new.told (job_on shard job))
+  pub tables : KeepsTables tells old new
+
+-- a shard's first job was run: it was merged and then ended, and those who see its records are told of what was written
+pub record IsRepaired (tells : Bool) (s : Settings) (shard : ℕ) (ran : Ran) (old new : Posting) : Type 0 where
+  pub found : KeeperState
+  pub merged : KeeperState
+  pub finds : FindsOpenJob tells s shard ran.job old.scene.keepers found
+  pub merges : MergesThere tells s (job_on shard ran.job) (Ok (record { wrote = ran.wrote })) (outside found old.scene.link) (outside merged new.scene.link)
+  pub ends : WhereTold tells (EndsOwed s merged.told new.scene.keepers.told (job_on shard ran.job))
+  pub told : TellsOfRepair old.states (far_shard ran.job) ran.wrote old.inboxes new.inboxes
+  pub caches : LeavesCaches old new
+
+-- ---- the stages of a repair
+
+-- why a job was not run which its store refused to give, or to end
+abbrev pub FailsAs : StoreRefusal → RepairFailed → Type 0
+FailsAs refusal.KeeperFault failed = failed ≡ Refused KeeperFault
+FailsAs refusal.OutOfMemory failed = failed ≡ Refused OutOfMemory
+FailsAs (refusal.LogFull count) failed = ⊥
+FailsAs (refusal.ShardFull serial) failed = ⊥
+FailsAs (refusal.StampFull number) failed = ⊥
+FailsAs (refusal.SeqReused position) failed = ⊥
+
+-- the first job is found, or none is, or its store refused to give it
+abbrev pub FindsFirst : Bool → Settings → ℕ → Result (Option Job) RepairFailed → KeeperState → KeeperState → Type 0
+FindsFirst tells s shard (Ok None) old new = WhereTold tells (IsLeastJob (old.told (master_store s shard)).jobs None) × KeepsTables tells old new
+FindsFirst tells s shard (Ok (Some job)) old new = FindsOpenJob tells s shard job old new
+FindsFirst tells s shard (Err (Refused KeeperFault)) old new = Rose old.faults new.faults × KeepsTables tells old new
+FindsFirst tells s shard (Err (Refused OutOfMemory)) old new = KeepsTables tells old new
+FindsFirst tells s shard (Err (Refused LinkFault)) old new = ⊥
+FindsFirst tells s shard (Err (Refused (LogFull count))) old new = ⊥
+FindsFirst tells s shard (Err NoServer) old new = ⊥
+
+-- the job was merged, and then ended
+pub record IsRun (tells : Bool) (s : Settings) (j : ShardJob) (wrote : Option Entry) (old new : Outside) : Type 0 where
+  pub merged : KeeperState
+  pub merges : MergesThere tells s j (Ok (record { wrote = wrote })) old (outside merged new.link)
+  pub ends : WhereTold tells (EndsOwed s merged.told new.keepers.told j)
+
+-- it was merged, and not ended
+pub record IsMergedAlone (tells : Bool) (s : Settings) (j : ShardJob) (old new : Outside) : Type 0 where
+  pub wrote : Option Entry
+  pub merged : KeeperState
+  pub merges : MergesThere tells s j (Ok (record { wrote = wrote })) old (outside merged new.link)
+  pub stays : KeepsTables tells merged new.keepers
+
+-- it was not merged, or not ended
+abbrev pub IsNotRun : Bool → Settings → ShardJob → RepairRefusal → Outside → Outside → Type 0
+IsNotRun tells s j refusal old new = MergesThere tells s j (Err refusal) old new ⊎ IsMergedAlone tells s j old new
+
+-- what came of both
+abbrev pub RunsJob : Bool → Settings → ShardJob → Result (Option Entry) RepairFailed → Outside → Outside → Type 0
+RunsJob tells s j (Ok wrote) old new = IsRun tells s j wrote old new
+RunsJob tells s j (Err (Refused KeeperFault)) old new = Rose old.keepers.faults new.keepers.faults × IsNotRun tells s j KeeperFault old new
+RunsJob tells s j (Err (Refused LinkFault)) old new = MergesThere tells s j (Err LinkFault) old new
+RunsJob tells s j (Err (Refused (LogFull count))) old new = MergesThere tells s j (Err (LogFull count)) old new
+RunsJob tells s j (Err (Refused OutOfMemory)) old new = IsNotRun tells s j OutOfMemory old new
+RunsJob tells s j (Err NoServer) old new = ⊥
+
+-- ---- why it was not run
+
+-- its records lie on no configured shard
+pub record LiesNowhere (tells : Bool) (s : Settings) (shard : ℕ) (old new : Posting) : Type 0 where
+  pub job : Job
+  pub finds : FindsOpenJob tells s shard job old.scene.keepers new.scene.keepers
+  pub nowhere : s.shards ≤ far_shard job
+  pub asks : OnlyAsks tells old new
+
+-- no leader, no follower and no message changed
+pub record LeavesRest (old new : Posting) : Type 0 where
+  pub caches : LeavesCaches old new
+  pub inboxes : new.inboxes ≡ old.inboxes
+
+-- it was not merged, or its answer was lost
+pub record FailsToMerge (tells : Bool) (s : Settings) (shard : ℕ) (refusal : RepairRefusal) (old new : Posting) : Type 0 where
+  pub job : Job
+  pub found : KeeperState
+  pub finds : FindsOpenJob tells s shard job old.scene.keepers found
+  pub merges : MergesThere tells s (job_on shard job) (Err refusal) (outside found old.scene.link) (shown_of new.scene)
+  pub rest : LeavesRest old new
+
+-- it was merged, and not ended
+pub record FailsToEnd (tells : Bool) (s : Settings) (shard : ℕ) (old new : Posting) : Type 0 where
+  pub ran : Ran
+  pub found : KeeperState
+  pub merged : KeeperState
+  pub finds : FindsOpenJob tells s shard ran.job old.scene.keepers found
+  pub merges : MergesThere tells s (job_on shard ran.job) (Ok (record { wrote = ran.wrote })) (outside found old.scene.link) (outside merged new.scene.link)
+  pub stays : KeepsTables tells merged new.scene.keepers
+  pub rest : LeavesRest old new
+
+-- it was not found, not merged, or not ended
+abbrev pub StopsRepair : Bool → Settings → ℕ → RepairRefusal → Posting → Posting → Type 0
+StopsRepair tells s shard refusal old new =
+    OnlyAsks tells old new ⊎ (FailsToMerge tells s shard refusal old new ⊎ FailsToEnd tells s shard old new)
+
+-- why a shard's first job was not run, and what was done all the same
+abbrev pub IsNotRepaired : Bool → Settings → ℕ → RepairFailed → Posting → Posting → Type 0
+IsNotRepaired tells s shard NoServer old new = LiesNowhere tells s shard old new
+IsNotRepaired tells s shard (Refused KeeperFault) old new =
+    Rose old.scene.keepers.faults new.scene.keepers.faults × StopsRepair tells s shard KeeperFault old new
+IsNotRepaired tells s shard (Refused LinkFault) old new = FailsToMerge tells s shard LinkFault old new
+IsNotRepaired tells s shard (Refused (LogFull count)) old new = FailsToMerge tells s shard (LogFull count) old new
+IsNotRepaired tells s shard (Refused OutOfMemory) old new = StopsRepair tells s shard OutOfMemory old new
+
+-- what came of the first job of a shard
+abbrev pub RepairsFirst : Bool → Settings → ℕ → Result (Option Ran) RepairFailed → Posting → Posting → Type 0
+RepairsFirst tells s shard (Ok None) old new = FindsNoJob tells s shard old new
+RepairsFirst tells s shard (Ok (Some ran)) old new = IsRepaired tells s shard ran old new
+RepairsFirst tells s shard (Err failed) old new = IsNotRepaired tells s shard failed old new
+
+-- ---- all jobs
+
+-- a job of a shard that was run
+pub record RanOn : Type 0 where
+  pub shard : ℕ
+  pub ran : Ran
+
+abbrev pub ran_on : ℕ → Ran → RanOn
+ran_on shard ran = record { shard = shard; ran = ran }
+
+-- these were run one after another, the last one first
+abbrev pub HaveRun : Bool → Settings → List RanOn → Posting → Posting → Type 0
+HaveRun tells s [] old new = OnlyAsks tells old new
+HaveRun tells s (r ∷ earlier) old new = (before after : Posting)
+    × HaveRun tells s earlier old before × IsRepaired tells s r.shard r.ran before after × OnlyAsks tells after new
+
+-- they were a step of the plain machine's settle: open jobs, shard by shard, each shard's in order of position
+abbrev pub SettlesLogs : Settings → Tables → Tables → Type 0
+SettlesLogs s old new = Settles (types_of s.schema) (stores_in s old) (stores_in s new).logs
+
+-- every open job was run
+pub record RunsAll (tells : Bool) (s : Settings) (old new : Posting) : Type 0 where
+  pub jobs : List RanOn
+  pub run : HaveRun tells s jobs old new
+  pub settles : WhereTold tells (SettlesLogs s old.scene.keepers.told new.scene.keepers.told)
+  pub none : WhereTold tells (HaveNoJobs (stores_in s new.scene.keepers.told))
+
+-- what a settle stops with at a shard
+abbrev pub stop_of : ℕ → RepairFailed → SettleStop
+stop_of shard NoServer = stop.NoServer shard
+stop_of shard (Refused KeeperFault) = stop.Unsettled shard why.KeeperFault
+stop_of shard (Refused LinkFault) = stop.Unsettled shard why.LinkFault
+stop_of shard (Refused (LogFull count)) = stop.Unsettled shard why.LogFull
+stop_of shard (Refused OutOfMemory) = stop.OutOfMemory
+
+-- a fault is told only where its count rose
+abbrev pub FailureHasCause : RepairFailed → Scene → Scene → Type 0
+FailureHasCause (Refused KeeperFault) old new = Rose old.keepers.faults new.keepers.faults
+FailureHasCause (Refused LinkFault) old new = Rose old.link.faults new.link.faults
+FailureHasCause (Refused (LogFull count)) old new = ⊤
+FailureHasCause (Refused OutOfMemory) old new = ⊤
+FailureHasCause NoServer old new = ⊤
+
+-- some jobs were run, and then one was not
+pub record StopsRun (tells : Bool) (s : Settings) (given : SettleStop) (old new : Posting) : Type 0 where
+  pub shard : ℕ
+  pub failed : RepairFailed
+  pub jobs : List RanOn
+  pub between : Posting
+  pub here : shard < s.shards
+  pub given_is : given ≡ stop_of shard failed
+  pub run : HaveRun tells s jobs old between
+  pub stops : IsNotRepaired tells s shard failed between new
+  pub cause : FailureHasCause failed old.scene new.scene
+  pub settles : WhereTold tells (SettlesLogs s old.scene.keepers.told new.scene.keepers.told)
+
+-- what came of all open jobs
+abbrev pub RunsJobs : Bool → Settings → Result ⊤ SettleStop → Posting → Posting → Type 0
+RunsJobs tells s (Ok done) old new = RunsAll tells s old new
+RunsJobs tells s (Err given) old new = StopsRun tells s given old new
+
+-- ---- a settle under way
+
+-- jobs were merged and ended, in order, and nothing else was done to the stores
+abbrev pub AreSettling : Settings → Tables → Tables → Type 0
+AreSettling s old new = (jobs : List Owed) × Settling (types_of s.schema) (stores_in s old) (stores_in s new) jobs
+
+-- no lower shard has an open job
+abbrev pub HaveNoneBelow : Settings → Tables → ℕ → Type 0
+HaveNoneBelow s tables shard = (lower position : ℕ) → lower < shard → (stores_in s tables).job lower position ≡ None
+
+-- nor has the shard one up to the position
+abbrev pub HasNoneUpTo : Settings → Tables → ℕ → ℕ → Type 0
+HasNoneUpTo s tables shard last = (position : ℕ) → position ≤ last → (stores_in s tables).job shard position ≡ None
+
+-- jobs were run, one after another, and no shard below has an open one
+pub record RunsTo (tells : Bool) (s : Settings) (shard : ℕ) (old new : Posting) : Type 0 where
+  pub jobs : List RanOn
+  pub run : HaveRun tells s jobs old new
+  pub settling : WhereTold tells (AreSettling s old.scene.keepers.told new.scene.keepers.told)
+  pub none : WhereTold tells (HaveNoneBelow s new.scene.keepers.told shard)
+  pub link : IsLaterLink old.scene.link new.scene.link
+  pub keepers : IsLater old.scene.keepers new.scene.keepers
+
+-- so with some more jobs of the shard
+pub record RunsMore (tells : Bool) (s : Settings) (shard : ℕ) (old new : Posting) : Type 0 where
+  pub more : (start : Posting) → RunsTo tells s shard start old → RunsTo tells s shard start new
+
+-- what came of the jobs of the shard, in a settle that came to it
+abbrev pub RunsOn : Bool → Settings → ℕ → Result ⊤ SettleStop → Posting → Posting → Type 0
+RunsOn tells s shard (Ok done) start new = RunsTo tells s (shard + 1) start new
+RunsOn tells s shard (Err given) start new = StopsRun tells s given start new
+
+pub record RunsShard (tells : Bool) (s : Settings) (shard : ℕ) (result : Result ⊤ SettleStop) (old new : Posting) : Type 0 where
+  pub on : (start : Posting) → RunsTo tells s shard start old → RunsOn tells s shard result start new

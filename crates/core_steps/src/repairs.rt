@@ -1,0 +1,281 @@
+//! Repairs: a shard's first open job is merged from store to store and then ended. A settle runs all jobs so.
+ghost use Rattle.std.specs.Prelude.{◌≡◌, ◌<◌, IfOk, IfSome};
+ghost use Rattle.core_mail.specs.Inboxes.{AreInboxesOf};
+ghost use Rattle.core_model.specs.Consistent.{GoesOn, IsConsistent};
+ghost use Rattle.core_model.specs.Growing.{MastersGrow};
+ghost use Rattle.core_model.specs.Jobs.{IsOwedJob, far_shard, job_on};
+ghost use Rattle.core_model.specs.Pens.{pens_of};
+ghost use Rattle.core_model.specs.Stores.{AreStores};
+ghost use Rattle.core_nodes.specs.Repairs.{outside};
+ghost use Rattle.core_nodes.specs.Settling.{IsLaterLink};
+ghost use Rattle.core_steps.specs.Posting.{posting};
+ghost use Rattle.core_steps.specs.Repairs.{FailsAs, FindsFirst, RepairsFirst, RunsJob, RunsJobs, RunsShard, TellsOfRepair, stop_of};
+ghost use Rattle.core_steps.specs.Routes.{scene};
+ghost use Rattle.graph_model.specs.Told.{WhereTold};
+ghost use Rattle.shard_tables.specs.Refusals.{IsOfReads};
+ghost use Rattle.shard_tables.specs.Written.{LiesOn, StandsIn};
+ghost use Rattle.tao_keeper.specs.Given.{IsGivenJob};
+ghost use Rattle.tao_keeper.specs.KeeperState.{IsLater};
+ghost use Rattle.topology.specs.States.{all_up};
+
+use core_mail::Mail;
+use core_model::far_shard;
+use core_nodes::{Fleet, SettleStop, inverses_match};
+use edge_repair::{RepairRefusal, passed_on};
+use replies::UnsettledWhy;
+use shard_tables::StoreRefusal;
+use std::alloc::Global;
+use tao_base::Entry;
+use tao_keeper::{Job, Keeper};
+use tao_link::Link;
+use topology::{Config, Topology};
+
+/// A job that was run, and the entry that merged it; none where all of its records were at the other end.
+#[derive(Drop)]
+pub struct Ran {
+    pub job: Job,
+    pub wrote: Option<Entry>,
+}
+
+/// Why the first job of a shard was not run. It is open as before, and at most merged.
+#[derive(Clone, Copy, Debug, PartialEq, Eq)]
+pub enum RepairFailed {
+    /// The shard on which the job's records lie isn't configured.
+    NoServer,
+    /// A keeper or the link failed, the other shard's log was full, or memory was wanting.
+    Refused(RepairRefusal),
+}
+
+impl From<RepairRefusal> for RepairFailed {
+    ghost use Rattle.std.specs.Prelude.{◌≡◌};
+    ghost use Rattle.core_steps.specs.declared.repairs.RepairFailed.TheVariants.{Refused};
+
+    ghost from_gives = { λ refusal failed. failed ≡ Refused refusal };
+
+    fn from(refusal: RepairRefusal) -> RepairFailed {
+        RepairFailed::Refused(refusal)
+    }
+}
+
+/// Tells those who see a shard's log of an entry that a repair wrote there. Without memory for a note of the log nobody is told.
+fn tell_of_repair(
+    alloc: Global,
+    fleet: &mut Fleet,
+    mail: &mut Mail,
+    config: &Config,
+    topology: &Topology,
+    shard: u16,
+    wrote: &Option<Entry>,
+)
+    requires here { shard < config.now.shards }
+    requires states { topology.now ≡ all_up config.now }
+    requires stores { AreStores config.now config.now.shards fleet.old.masters }
+    requires stands { IfSome wrote.now (StandsIn (pens_of fleet.old.masters shard)) }
+    requires lies { IfSome wrote.now (LiesOn (pens_of fleet.old.masters shard) shard) }
+    requires inboxes { AreInboxesOf config.now (pens_of fleet.old.masters) mail.old }
+    ensures told { TellsOfRepair topology.now shard wrote.now mail.old mail.new }
+    ensures inboxes { AreInboxesOf config.now (pens_of fleet.new.masters) mail.new }
+    ensures same { fleet.new ≡ fleet.old }
+{
+    let Some(entry) = wrote else { return };
+    let Ok(mut note) = fleet.note(config, shard) else {
+        return;
+    };
+    let region = topology.master(shard);
+    mail.send(alloc, config, topology, region, shard, entry, &mut note);
+    let leader = topology.preferred(region, shard);
+    if topology.is_up(leader) {
+        mail.tell(alloc, config, leader, shard, entry, &mut note);
+    }
+}
+
+/// Why a job was not run which its store refused to give, or to end.
+fn failed_for(refusal: StoreRefusal) -> RepairFailed
+    requires { IsOfReads refusal }
+    ensures { FailsAs refusal result }
+{
+    RepairFailed::Refused(passed_on(refusal))
+}
+
+/// The first open job of a shard, where one is open.
+fn find_job<K: Keeper>(
+    fleet: &mut Fleet,
+    config: &Config,
+    keepers: &mut K,
+    shard: u16,
+) -> Result<Option<Job>, RepairFailed>
+    requires consistent { IsConsistent K.TELLS config.now (K.state keepers.old).told fleet.old }
+    requires here { shard < config.now.shards }
+    ensures finds { FindsFirst K.TELLS config.now shard result (K.state keepers.old) (K.state keepers.new) }
+    ensures given { IfOk result (λ found. IfSome found IsGivenJob) }
+    ensures same { fleet.new ≡ fleet.old }
+    ensures consistent { IsConsistent K.TELLS config.now (K.state keepers.new).told fleet.new }
+    ensures later { IsLater (K.state keepers.old) (K.state keepers.new) }
+{
+    match fleet.first_job(config, keepers, shard) {
+        Ok(found) => Ok(found),
+        Err(refusal) => Err(failed_for(refusal)),
+    }
+}
+
+/// Merges a job at the store of the shard on which its records lie, over the link, and then ends it.
+fn merge_and_end<K: Keeper, L: Link>(
+    alloc: Global,
+    fleet: &mut Fleet,
+    config: &Config,
+    keepers: &mut K,
+    link: &mut L,
+    shard: u16,
+    job: &Job,
+) -> Result<Option<Entry>, RepairFailed>
+    requires consistent { IsConsistent K.TELLS config.now (K.state keepers.old).told fleet.old }
+    requires here { shard < config.now.shards }
+    requires there { far_shard job.now < config.now.shards }
+    requires given { IsGivenJob job.now }
+    requires owed { WhereTold K.TELLS (IsOwedJob config.now (K.state keepers.old).told (job_on shard job.now)) }
+    ensures runs { RunsJob K.TELLS config.now (job_on shard job.now) result
+        (outside (K.state keepers.old) (L.shown link.old)) (outside (K.state keepers.new) (L.shown link.new)) }
+    ensures stands { IfOk result (λ wrote. IfSome wrote (StandsIn (pens_of fleet.new.masters (far_shard job.now)))) }
+    ensures lies { IfOk result (λ wrote. IfSome wrote (LiesOn (pens_of fleet.new.masters (far_shard job.now)) (far_shard job.now))) }
+    ensures rest { fleet.new ≡ record fleet.old { masters = fleet.new.masters } }
+    ensures consistent { IsConsistent K.TELLS config.now (K.state keepers.new).told fleet.new }
+    ensures goes { GoesOn fleet.old fleet.new }
+    ensures grows { MastersGrow K.TELLS config.now (K.state keepers.old).told (K.state keepers.new).told }
+    ensures later { IsLater (K.state keepers.old) (K.state keepers.new) }
+{
+    let repaired = fleet.merge_there(alloc, config, keepers, link, shard, job)?;
+    match fleet.end_job(config, keepers, shard, job) {
+        Ok(()) => Ok(repaired.wrote),
+        Err(refusal) => Err(failed_for(refusal)),
+    }
+}
+
+/// Runs the first open job of a shard, where one is open: it is carried to the store of the shard on which its records lie, merged there, and ended
+/// once the answer came back. Of a new entry the followers of that shard's master region are told as after a write, and then the leader that the region
+/// prefers, where it is up. No leader takes part.
+///
+/// Whatever fails leaves the job open, and at most merged, and nobody is told. `Refused` tells `LinkFault` only where the link's count of faults rose,
+/// `KeeperFault` only where the keepers' did, and `LogFull` where the other shard's log has no room for the entry; `NoServer` comes where that
+/// shard isn't configured. Two carries, three calls of the keeper and what a merge costs.
+pub fn repair_first<K: Keeper, L: Link>(
+    alloc: Global,
+    fleet: &mut Fleet,
+    mail: &mut Mail,
+    config: &Config,
+    topology: &Topology,
+    keepers: &mut K,
+    link: &mut L,
+    shard: u16,
+) -> Result<Option<Ran>, RepairFailed>
+    requires consistent { IsConsistent K.TELLS config.now (K.state keepers.old).told fleet.old }
+    requires inboxes { AreInboxesOf config.now (pens_of fleet.old.masters) mail.old }
+    requires states { topology.now ≡ all_up config.now }
+    requires here { shard < config.now.shards }
+    ensures repairs { RepairsFirst K.TELLS config.now shard result
+        (posting (scene fleet.old (K.state keepers.old) (L.shown link.old)) mail.old topology.now)
+        (posting (scene fleet.new (K.state keepers.new) (L.shown link.new)) mail.new topology.now) }
+    ensures consistent { IsConsistent K.TELLS config.now (K.state keepers.new).told fleet.new }
+    ensures inboxes { AreInboxesOf config.now (pens_of fleet.new.masters) mail.new }
+    ensures goes { GoesOn fleet.old fleet.new }
+    ensures grows { MastersGrow K.TELLS config.now (K.state keepers.old).told (K.state keepers.new).told }
+    ensures later { IsLater (K.state keepers.old) (K.state keepers.new) }
+{
+    let found = find_job(fleet, config, keepers, shard)?;
+    let Some(job) = found else { return Ok(None) };
+    let far = far_shard(&job);
+    if far >= config.shards {
+        return Err(RepairFailed::NoServer);
+    }
+    let wrote = merge_and_end(alloc, fleet, config, keepers, link, shard, &job)?;
+    tell_of_repair(alloc, fleet, mail, config, topology, far, &wrote);
+    Ok(Some(Ran { job, wrote }))
+}
+
+/// What a settle stops with at a shard whose first job was not run.
+fn stop_of(shard: u16, failed: RepairFailed) -> SettleStop
+    ensures { result ≡ stop_of shard failed }
+{
+    let why = match failed {
+        RepairFailed::NoServer => return SettleStop::NoServer { shard },
+        RepairFailed::Refused(RepairRefusal::OutOfMemory) => return SettleStop::OutOfMemory,
+        RepairFailed::Refused(RepairRefusal::KeeperFault) => UnsettledWhy::KeeperFault,
+        RepairFailed::Refused(RepairRefusal::LinkFault) => UnsettledWhy::LinkFault,
+        RepairFailed::Refused(RepairRefusal::LogFull { .. }) => UnsettledWhy::LogFull,
+    };
+    SettleStop::Unsettled { shard, why }
+}
+
+/// Runs the open jobs of a shard, in order of position.
+fn run_shard<K: Keeper, L: Link>(
+    alloc: Global,
+    fleet: &mut Fleet,
+    mail: &mut Mail,
+    config: &Config,
+    topology: &Topology,
+    keepers: &mut K,
+    link: &mut L,
+    shard: u16,
+) -> Result<(), SettleStop>
+    requires consistent { IsConsistent K.TELLS config.now (K.state keepers.old).told fleet.old }
+    requires inboxes { AreInboxesOf config.now (pens_of fleet.old.masters) mail.old }
+    requires states { topology.now ≡ all_up config.now }
+    requires here { shard < config.now.shards }
+    ensures runs { RunsShard K.TELLS config.now shard result
+        (posting (scene fleet.old (K.state keepers.old) (L.shown link.old)) mail.old topology.now)
+        (posting (scene fleet.new (K.state keepers.new) (L.shown link.new)) mail.new topology.now) }
+    ensures rest { fleet.new ≡ record fleet.old { masters = fleet.new.masters } }
+    ensures consistent { IsConsistent K.TELLS config.now (K.state keepers.new).told fleet.new }
+    ensures inboxes { AreInboxesOf config.now (pens_of fleet.new.masters) mail.new }
+    ensures goes { GoesOn fleet.old fleet.new }
+    ensures grows { MastersGrow K.TELLS config.now (K.state keepers.old).told (K.state keepers.new).told }
+    ensures link { IsLaterLink (L.shown link.old) (L.shown link.new) }
+    ensures later { IsLater (K.state keepers.old) (K.state keepers.new) }
+{
+    inverses_match(&config.schema);
+    let mut last = 0;
+    loop {
+        let found = match repair_first(alloc, fleet, mail, config, topology, keepers, link, shard) {
+            Ok(found) => found,
+            Err(failed) => return Err(stop_of(shard, failed)),
+        };
+        let Some(ran) = found else { return Ok(()) };
+        let position = ran.job.position;
+        drop(ran);
+        // A keeper that tells its tables gives later jobs only; one that doesn't may give the same one for ever.
+        if position <= last {
+            return Ok(());
+        }
+        last = position;
+    }
+}
+
+/// Runs all open jobs, shard by shard, each shard's in order of position, as [`repair_first`] runs one. The first that can't be run ends it, and what was
+/// done stays. Costs what the jobs do, and one more call of the keeper for each shard.
+pub fn run_jobs<K: Keeper, L: Link>(
+    alloc: Global,
+    fleet: &mut Fleet,
+    mail: &mut Mail,
+    config: &Config,
+    topology: &Topology,
+    keepers: &mut K,
+    link: &mut L,
+) -> Result<(), SettleStop>
+    requires consistent { IsConsistent K.TELLS config.now (K.state keepers.old).told fleet.old }
+    requires inboxes { AreInboxesOf config.now (pens_of fleet.old.masters) mail.old }
+    requires states { topology.now ≡ all_up config.now }
+    ensures runs { RunsJobs K.TELLS config.now result
+        (posting (scene fleet.old (K.state keepers.old) (L.shown link.old)) mail.old topology.now)
+        (posting (scene fleet.new (K.state keepers.new) (L.shown link.new)) mail.new topology.now) }
+    ensures rest { fleet.new ≡ record fleet.old { masters = fleet.new.masters } }
+    ensures consistent { IsConsistent K.TELLS config.now (K.state keepers.new).told fleet.new }
+    ensures inboxes { AreInboxesOf config.now (pens_of fleet.new.masters) mail.new }
+    ensures goes { GoesOn fleet.old fleet.new }
+    ensures grows { MastersGrow K.TELLS config.now (K.state keepers.old).told (K.state keepers.new).told }
+    ensures link { IsLaterLink (L.shown link.old) (L.shown link.new) }
+    ensures later { IsLater (K.state keepers.old) (K.state keepers.new) }
+{
+    for shard in 0..config.shards {
+        run_shard(alloc, fleet, mail, config, topology, keepers, link, shard)?;
+    }
+    Ok(())
+}

@@ -5,5 +5,6 @@ pub mod HeldReadStages
 pub mod Missing
 mod PlanMaps
 pub mod Standing
+pub mod WholeStages
 pub mod WritesGoOn
 pub mod HeldWriteStages

@@ -1,15 +1,17 @@
 -- What stays so of the asks of held reads.
-use Rattle.std.specs.Prelude.{ℕ, ◌≡◌, ◌≤◌, Bool, List, Option, Result}
+use Rattle.std.specs.Prelude.{ℕ, ◌≡◌, ◌≤◌, Bool, List, Option, Result, true}
 use Rattle.cache_items.specs.declared.look.Kept.{Kept}
 use Rattle.cache_items.specs.declared.look.Look.TheVariants.{Hit, Miss}
+use Rattle.core_model.specs.Consistent.{IsConsistent}
 use Rattle.core_model.specs.Evictions.{Evicts}
 use Rattle.core_model.specs.Fleet.{ChangesNode}
 use Rattle.core_model.specs.Messages.{DeliversThere, TakesRefill}
 use Rattle.core_model.specs.Reads.{EndsAsk, KeepsFill, LooksFirst, Wanted}
 use Rattle.core_model.specs.Writes.{AppliesTo}
 use Rattle.core_model.specs.declared.named.Named.{Named}
+use Rattle.core_nodes.specs.Beginning.{AreAtEnds}
 use Rattle.core_plans.specs.Held.{AsksAreHeld, OpensNone, Plans}
-use Rattle.core_plans.specs.HeldReads.{MissesNone, version_now}
+use Rattle.core_plans.specs.HeldReads.{HasComeTo, MissesNone, StepsRead, version_now}
 use Rattle.core_plans.specs.HeldWrites.{DoesWriteStage}
 use Rattle.core_steps.specs.CriticalReads.{ReadsCritical}
 use Rattle.core_steps.specs.Reads.{ReadsAlong}
@@ -84,3 +86,10 @@ pub record NothingIsMissedLater : Type 0 where
   -- one that begins misses nothing that stands
   pub begun : (tells : Bool) (s : Settings) (least : ℕ) (p : Reading) (keepers : KeeperState) → p.at ≡ Looking
       → least ≤ version_now s p keepers → MissesNone tells s least p keepers
+
+-- nor does a stage of any read miss anything that the read didn't before, where the nodes have processed the whole logs: a hit of its look, and what its
+-- leader gives, have the last version
+pub record StagesMissNothing (s : Settings) (leader : NodeName) (p : Reading) (old : Scene) (q : Reading) (new : Scene) : Type 0 where
+  pub whole : StepsRead true s leader p old q new → IsConsistent true s old.keepers.told old.fleet → AreAtEnds s old.keepers.told old.fleet
+      → LogsGrow true old.keepers.told new.keepers.told
+      → (least : ℕ) → HasComeTo least (version_now s p old.keepers) p.at → HasComeTo least (version_now s q new.keepers) q.at

@@ -1,5 +1,6 @@
 use Rattle.std.proofs.Common.{refl}
 use Rattle.core_steps.specs.Routes.{Scene, scene}
+use Rattle.core_steps.proofs.AlongLemmas.{on_after}
 use Rattle.core_steps.proofs.ReadLemmas.{goes_trans}
 use Rattle.core_plans.proofs.HeldReadStages.{costs, masters_done, masters_lost}
 use Rattle.core_plans.proofs.reads.master_stage.Goals as goal
@@ -49,3 +50,10 @@ returns-in-Err-clause-read g c =
     c.requires.stage c.requires.read
     (record { follower_is = c.follower-follower.ensures; query_is = c.query-query.ensures; floor_is = refl })
     c.in-Err.ensures.err c.read_over.ensures.on c.end_ask_of.ensures.ends c.end_ask_of.ensures.rest goes c.take-in-Err.ensures cost.0 cost.1).read
+
+pub returns-in-Err-clause-on : goal.returns-in-Err-clause-on
+returns-in-Err-clause-on g c =
+    let old : Scene = scene c.args.fleet.now (g.K.Keeper.state c.args.keepers.now) (g.L.Link.shown c.args.link.now) in
+    let mid : Scene = scene c.read_over.new.fleet (g.K.Keeper.state c.read_over.new.keepers) (g.L.Link.shown c.read_over.new.link) in
+    on_after g.K.Keeper.TELLS c.args.config.now old mid c.end_ask_of.new.fleet c.read_over.ensures.on c.end_ask_of.ensures.rest
+    c.end_ask_of.ensures.fleet c.end_ask_of.ensures.goes

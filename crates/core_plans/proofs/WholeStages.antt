@@ -1,0 +1,104 @@
+-- A stage of a read, from nodes that have processed the whole logs, misses nothing that the read didn't miss before.
+use Rattle.std.proofs.Common.{◌≡◌, ℕ, ◌≤◌, Bool, true, false, Option, Some, None, refl, sym, subst, inl, inr, arith}
+use Rattle.cache_items.specs.declared.look.Look.{Look}
+use Rattle.cache_items.specs.declared.look.Look.TheVariants.{Hit, Miss}
+use Rattle.core_model.specs.Consistent.{IsConsistent}
+use Rattle.core_model.specs.Fleet.{ChangesNode}
+use Rattle.core_model.specs.Reads.{LooksFirst}
+use Rattle.core_nodes.specs.Beginning.{AreAtEnds}
+use Rattle.core_steps.specs.Routes.{Scene}
+use Rattle.core_steps.proofs.WholeReads.{GivesLast, given_last, hit_last}
+use Rattle.node_name.specs.declared.NodeName.{NodeName}
+use Rattle.read_plan.specs.Readings.{Reading}
+use Rattle.read_plan.specs.Standings.{after_ask, after_keep, after_look}
+use Rattle.read_plan.specs.declared.end.ReadEnd.TheVariants as ended
+use Rattle.read_plan.specs.declared.standing.Given.{Given}
+use Rattle.read_plan.specs.declared.standing.Given.TheVariants.{Fill, HandedOut, Past}
+use Rattle.read_plan.specs.declared.standing.Standing.{Standing}
+use Rattle.read_plan.specs.declared.standing.Standing.TheVariants.{Looking, Asking, Mastering, Keeping, Ended}
+use Rattle.shard_tables.specs.declared.leader_answer.LeaderAnswer.{LeaderAnswer}
+use Rattle.shard_tables.specs.declared.leader_answer.LeaderAnswer.TheVariants as leads
+use Rattle.tao_base.specs.Queries.{query_key, query_shard}
+use Rattle.tao_keeper.specs.Growing.{LogsGrow}
+use Rattle.tao_schema.specs.Schema.{types_of}
+use Rattle.topology.specs.Config.{Settings}
+use Rattle.core_plans.specs.HeldLaws.{StagesMissNothing}
+use Rattle.core_plans.specs.HeldReads.{DoesLook, DoesReadStage, HasComeTo, KeepsGiven, version_now, wanted_by}
+use Rattle.core_plans.proofs.Missing.{store_comes, version_later}
+
+given_comes : (floor last least now : ℕ) (given : LeaderAnswer) → GivesLast floor last given → least ≤ last → last ≤ now
+    → HasComeTo least now (after_ask given)
+given_comes floor last least now (leads.Filled fill) gives le on = omega (arith, gives, le)
+given_comes floor last least now (leads.Past answer version total note) gives le on = omega (arith, gives, le)
+given_comes floor last least now (leads.Behind version) gives le on = omega (arith, le, on)
+
+module _ (s : Settings) (leader : NodeName) (p q : Reading) (old new : Scene) (are : IsConsistent true s old.keepers.told old.fleet)
+    (ends : AreAtEnds s old.keepers.told old.fleet) (grows : LogsGrow true old.keepers.told new.keepers.told) (least : ℕ) where
+  abbrev last : ℕ
+  last = version_now s p old.keepers
+
+  abbrev now : ℕ
+  now = version_now s p new.keepers
+
+  on : last ≤ now
+  on = version_later true s old.keepers.told new.keepers.told (query_key p.query) (query_shard p.query) grows refl
+
+  abbrev Comes : Reading → Type 0
+  Comes r = HasComeTo least (version_now s r new.keepers) r.at
+
+  -- ---- look
+
+  look_comes : (look : Look) (ask : Option ℕ)
+      → ChangesNode p.follower (LooksFirst (types_of s.schema) (wanted_by p) look ask) old.fleet.followers new.fleet.followers
+      → least ≤ last → HasComeTo least now (after_look false look)
+  look_comes (Hit answer version) ask change le =
+      let is = hit_last s (wanted_by p) old.keepers old.fleet are ends p.follower answer version ask new.fleet.followers change in
+      omega (arith, is, le)
+  look_comes Miss ask change le = omega (arith, le, on)
+
+  looks_come : (critical : Bool) → p.critical ≡ critical → DoesLook s critical p old q new → least ≤ last → Comes q
+  looks_come true is looks le =
+      let past : HasComeTo least now (after_look true Miss) = omega (arith, le, on) in
+      subst Comes (sym looks.then) (subst (λ c. HasComeTo least now (after_look c Miss)) (sym is) past)
+  looks_come false is does le = elim does [
+    | inl looks ↦
+        subst Comes (sym looks.then)
+        (subst (λ c. HasComeTo least now (after_look c looks.look)) (sym is) (look_comes looks.look looks.ask looks.looks le))
+    | inr vain ↦ subst Comes (sym vain.then) tt
+  ]
+
+  -- ---- keep
+
+  keeps_come : (given : Given) → p.at ≡ Keeping given → KeepsGiven s p given old q new → HasComeTo least last (Keeping given) → Comes q
+  keeps_come (Fill fill) at does come = elim does [
+    | inl answers ↦
+        subst Comes (sym answers.then) (subst (λ a. HasComeTo least now (after_keep p.bound a (Some (answers.answer, answers.kept)))) (sym at) come)
+    | inr vain ↦ subst Comes (sym vain.then) tt
+  ]
+  keeps_come (Past answer version total seen) at hands come =
+      subst Comes (sym hands.then) (subst (λ a. HasComeTo least now (after_keep p.bound a None)) (sym at) come)
+  keeps_come (HandedOut version) at does come = absurd does
+
+  -- ---- each stage
+
+  stage_comes : (at : Standing) → p.at ≡ at → DoesReadStage true s leader at p old q new → HasComeTo least last at → Comes q
+  stage_comes Looking at does come = looks_come p.critical refl does come
+  stage_comes Asking at does come = elim does [
+    | inl asks ↦
+        let gave = given_last s (wanted_by p) old.keepers old.fleet are ends leader asks.given new.keepers new.fleet.leaders asks.over.gives.asks in
+        subst Comes (sym asks.then) (given_comes p.floor last least now asks.given gave come on)
+    | inr vain ↦ subst Comes (sym vain.then) tt
+  ]
+  stage_comes Mastering at does come = elim does [
+    | inl masters ↦
+        subst Comes (sym masters.then)
+        (store_comes true s p old.keepers new.keepers old.fleet.masters masters.out least now are.stores masters.over.reads refl come)
+    | inr vain ↦ subst Comes (sym vain.then) tt
+  ]
+  stage_comes (Keeping given) at does come = keeps_come given at does come
+  stage_comes (Ended end) at does come = absurd does
+
+pub stages_miss_nothing : (s : Settings) (leader : NodeName) (p q : Reading) (old new : Scene) → StagesMissNothing s leader p old q new
+stages_miss_nothing s leader p q old new = record {
+  whole = λ steps are ends grows least come. stage_comes s leader p q old new are ends grows least p.at refl steps.does come;
+}

@@ -24,7 +24,7 @@ use Rattle.requests.specs.declared.request.Request.TheVariants as request
 use Rattle.requests.specs.declared.request.WriteCall.{WriteCall}
 use Rattle.request_check.proofs.Placing.{whatever}
 use Rattle.request_check.specs.Calls.{checked_query, checked_write}
-use Rattle.request_check.specs.Names.{tier_named}
+use Rattle.request_check.specs.Names.{configured_shard, tier_named}
 use Rattle.request_check.specs.Placed.{IsPlaced, IsPlacedCall, IsPlacedFollower, IsPlacedNode}
 use Rattle.request_check.specs.Refusal.{named, replied, reply_unless_memory}
 use Rattle.request_check.specs.Requests.{checked_call, checked_of, checked_read_call, key_named, link_place, maybe_key_named, placed_as}
@@ -174,7 +174,9 @@ module _ (s : Settings) (sessions : List Session) (plans : Plans) where
   by_word (request.Inbox name) h = node_can checked.Inbox _ (λ node here. cache_there node here)
   by_word (request.Cut link) h = link_can checked.Cut (link_place s link) (λ place. tt)
   by_word (request.Mend link) h = link_can checked.Mend (link_place s link) (λ place. tt)
+  by_word (request.Repair shard) h = whatever _ (configured_shard s shard) _ (λ u here. here)
   by_word (request.Audit text) h = whatever _ (checked_read_call s text) _ (λ r here. here)
+  by_word request.Settle h = λ here. tt
   by_word asked h = absurd (cc)
 
 named_ok : (found : Result Checked NameRefused) (c : Checked) → replied (named found) ≡ Ok c → found ≡ Ok c

@@ -13,7 +13,7 @@ use Rattle.core_plans.specs.HeldWrites.{call_by, way_by}
 use Rattle.core_plans.specs.declared.held.HeldPlan.{HeldPlan}
 use Rattle.core_plans.specs.declared.held.HeldPlan.TheVariants as held
 use Rattle.core_plans.proofs.AsksHeld.{same_opens_none}
-use Rattle.core_steps.proofs.GrowingLemmas.{stays_masters}
+use Rattle.core_nodes.proofs.GrowingLemmas.{stays_masters}
 use Rattle.core_sessions.specs.Sessions.{Session, is_open, place_of, session_at}
 use Rattle.core_sessions.specs.declared.sessions.OpenSession.{OpenSession}
 use Rattle.core_steps.specs.Routes.{Scene}

@@ -11,7 +11,7 @@ use Rattle.core_plans.specs.declared.held.HeldPlan.{HeldPlan}
 use Rattle.core_plans.specs.declared.held.HeldPlan.TheVariants.{Read, Write}
 use Rattle.core_plans.proofs.AsksHeld.{asks_still_held, deliver_opens_none, evict_opens_none, same_opens_none, opens_none_on}
 use Rattle.core_plans.proofs.WritesGoOn.{plan_later}
-use Rattle.core_steps.proofs.GrowingLemmas.{stays_masters}
+use Rattle.core_nodes.proofs.GrowingLemmas.{stays_masters}
 use Rattle.core_steps.proofs.ReadLemmas.{goes_trans}
 use Rattle.maint_msg.specs.Maints.{SeenMaint}
 use Rattle.node_name.specs.declared.NodeName.{NodeName}

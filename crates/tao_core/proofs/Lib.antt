@@ -15,6 +15,8 @@ pub mod HeldSteps
 pub mod Keeping
 pub mod Reaching
 pub mod NamesOnce
+pub mod Settled
+pub mod SettledLaws
 pub mod StayOpen
 pub mod Told
 pub mod Learning

@@ -47,7 +47,9 @@ is_built (request.Show name key) = true
 is_built (request.Inbox node) = true
 is_built (request.Cut link) = true
 is_built (request.Mend link) = true
+is_built (request.Repair shard) = true
 is_built (request.Audit read) = true
+is_built request.Settle = true
 is_built other = false
 
 -- that a word isn't built yet
@@ -134,6 +136,8 @@ CanBeDone s sessions plans (checked.Show node key) = IsCacheOf s node
 CanBeDone s sessions plans (checked.Inbox node) = IsCacheOf s node
 CanBeDone s sessions plans (checked.Cut link) = ⊤
 CanBeDone s sessions plans (checked.Mend link) = ⊤
+CanBeDone s sessions plans (checked.Repair shard) = shard < s.shards
+CanBeDone s sessions plans checked.Settle = ⊤
 CanBeDone s sessions plans (checked.Audit asked) = IsPlacedKey s (query_key asked.query)
 CanBeDone s sessions plans other = ⊥
 

@@ -43,6 +43,7 @@ use Rattle.tao_core.specs.Core.{Moment}
 use Rattle.tao_core.specs.Calls.{AnswersRead, AnswersWrite}
 use Rattle.tao_core.specs.Deliveries.{AnswersDeliver, AnswersInbox, AnswersLoss, AnswersRefill, AnswersSecond, AnswersShow}
 use Rattle.tao_core.specs.HeldCalls.{AnswersAdvance, AnswersHold}
+use Rattle.tao_core.specs.Settling.{AnswersRepair, AnswersSettle}
 
 -- ---- refusals
 
@@ -135,6 +136,8 @@ AnswersAsked tells old (Ok (checked.Evict node key)) reply new =
     AnswersEvict node key old reply new × (new ≡ record old { core = record old.core { fleet = new.core.fleet } })
 AnswersAsked tells old (Ok (checked.Cut place)) reply new = AnswersSwitch link.Cut false place old reply new
 AnswersAsked tells old (Ok (checked.Mend place)) reply new = AnswersSwitch link.Mend true place old reply new
+AnswersAsked tells old (Ok (checked.Repair shard)) reply new = AnswersRepair tells shard old reply new
+AnswersAsked tells old (Ok checked.Settle) reply new = AnswersSettle tells old reply new
 AnswersAsked tells old (Ok (checked.Audit call)) reply new =
     AnswersAudit tells old.core.settings old.keepers call reply new.keepers × (new ≡ record old { keepers = new.keepers })
 AnswersAsked tells old (Ok other) reply new = ⊥

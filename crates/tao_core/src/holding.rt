@@ -281,6 +281,7 @@ impl<'c> Core<'c> {
         ensures steps { StepsAt K.TELLS word number (moment self.old (K.state keepers.old) (L.shown link.old)) result
             (moment self.new (K.state keepers.new) (L.shown link.new)) }
         ensures keepers { IsCoreOf K.TELLS (K.state keepers.new).told self.new }
+        ensures goes { GoesOn self.old.fleet self.new.fleet }
         ensures grows { MastersGrow K.TELLS self.old.settings (K.state keepers.old).told (K.state keepers.new).told }
         ensures later { IsLater (K.state keepers.old) (K.state keepers.new) }
     {
@@ -326,6 +327,7 @@ impl<'c> Core<'c> {
         ensures does { AnswersHold K.TELLS number call.now (moment self.old (K.state keepers.old) (L.shown link.old)) result
             (moment self.new (K.state keepers.new) (L.shown link.new)) }
         ensures keepers { IsCoreOf K.TELLS (K.state keepers.new).told self.new }
+        ensures goes { GoesOn self.old.fleet self.new.fleet }
         ensures grows { MastersGrow K.TELLS self.old.settings (K.state keepers.old).told (K.state keepers.new).told }
         ensures later { IsLater (K.state keepers.old) (K.state keepers.new) }
     {

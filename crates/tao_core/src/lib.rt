@@ -4,9 +4,11 @@
 mod audits;
 mod deliveries;
 mod holding;
+pub mod laws;
 mod refusals;
 mod resolving;
 mod serving;
+mod settling;
 mod teaching;
 
 pub use core_sessions::OpenSession;

@@ -68,7 +68,9 @@ fn is_built(request: &Request) -> bool
         | Request::Inbox { .. }
         | Request::Cut(_)
         | Request::Mend(_)
-        | Request::Audit(_) => true,
+        | Request::Repair { .. }
+        | Request::Audit(_)
+        | Request::Settle => true,
         _ => false,
     }
 }

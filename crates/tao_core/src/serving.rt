@@ -11,7 +11,7 @@ ghost use Rattle.tao_core.specs.Core.{CoreState, IsConsistentCore, IsCoreOf, IsN
 ghost use Rattle.core_model.specs.Growing.{MastersGrow};
 ghost use Rattle.core_model.specs.Stores.{AreStores};
 ghost use Rattle.tao_core.specs.Calls.{AnswersRead, AnswersWrite, ReadsBy};
-ghost use Rattle.core_model.specs.Consistent.{IsConsistent, IsFleetOf};
+ghost use Rattle.core_model.specs.Consistent.{GoesOn, IsConsistent, IsFleetOf};
 ghost use Rattle.core_model.specs.Reads.{wanted};
 ghost use Rattle.core_model.specs.Serving.{IsFollowerFor, IsLeaderFor};
 ghost use Rattle.core_steps.specs.ReadSteps.{IsReached};
@@ -115,12 +115,13 @@ impl<'c> Core<'c> {
     }
 
     /// Answers a request: opens a session, makes a write, answers a read or an audit, does a stage of a held call, delivers a message,
-    /// drops an item of a node, or cuts or mends a link; or refuses it. A write's one entry is committed before it is answered, and its
-    /// session learns it with the answer. After a refusal no log has changed, but where it tells the position of a write that stands.
-    /// Logs only grow.
+    /// drops an item of a node, cuts or mends a link, runs a job, or settles; or refuses it. A write's one entry is committed before it is
+    /// answered, and its session learns it with the answer. After a refusal no log has changed, but where it tells the position of a write
+    /// that stands, and but for the jobs that a repair or a settle had merged. Logs only grow.
     ///
     /// Costs what `request_check::check` does, a binary search among the open sessions, a look-up at the follower, and where that
-    /// holds nothing that answers, what its leader takes. An audit takes the whole log of its shard.
+    /// holds nothing that answers, what its leader takes. An audit takes the whole log of its shard; what a settle takes is said at
+    /// [`Core::settle`].
     pub fn call<K: Keeper, L: Link>(
         &mut self,
         alloc: Global,
@@ -133,6 +134,7 @@ impl<'c> Core<'c> {
             (moment self.new (K.state keepers.new) (L.shown link.new)) }
         ensures settings { self.new.settings ≡ self.old.settings }
         ensures keepers { IsCoreOf K.TELLS (K.state keepers.new).told self.new }
+        ensures goes { GoesOn self.old.fleet self.new.fleet }
         ensures grows { MastersGrow K.TELLS self.old.settings (K.state keepers.old).told (K.state keepers.new).told }
         ensures later { IsLater (K.state keepers.old) (K.state keepers.new) }
     {
@@ -157,6 +159,7 @@ impl<'c> Core<'c> {
             (moment self.new (K.state keepers.new) (L.shown link.new)) }
         ensures settings { self.new.settings ≡ self.old.settings }
         ensures keepers { IsCoreOf K.TELLS (K.state keepers.new).told self.new }
+        ensures goes { GoesOn self.old.fleet self.new.fleet }
         ensures grows { MastersGrow K.TELLS self.old.settings (K.state keepers.old).told (K.state keepers.new).told }
         ensures later { IsLater (K.state keepers.old) (K.state keepers.new) }
     {
@@ -188,7 +191,9 @@ impl<'c> Core<'c> {
             Checked::Evict { node, key } => self.evict(*node, *key),
             Checked::Show { node, key } => self.show(alloc, *node, *key),
             Checked::Inbox { node } => self.show_inbox(alloc, *node),
+            Checked::Repair { shard } => self.repair(alloc, keepers, link, *shard),
             Checked::Audit(call) => audit(alloc, self.config, keepers, call),
+            Checked::Settle => self.settle(alloc, keepers, link),
             _ => Reply::Refused(not_built(request)),
         }
     }

@@ -1,7 +1,7 @@
 use Rattle.std.proofs.Common.{refl, arith}
 use Rattle.core_nodes.proofs.FleetLemmas.{goes_self}
 use Rattle.core_plans.specs.Held.{plan_at}
-use Rattle.core_steps.proofs.GrowingLemmas.{stays_masters}
+use Rattle.core_nodes.proofs.GrowingLemmas.{stays_masters}
 use Rattle.core_steps.specs.Routes.{scene}
 use Rattle.core_steps.specs.Posting.{posting}
 use Rattle.tao_core.proofs.HeldStages.{can_under, fresh_link, room_given, room_stepped}

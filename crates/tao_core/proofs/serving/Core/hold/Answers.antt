@@ -1,4 +1,6 @@
 use Rattle.std.proofs.Common.{◌≡◌, None, Some, refl, subst, sym}
+use Rattle.core_model.specs.Consistent.{GoesOn}
+use Rattle.core_nodes.proofs.FleetLemmas.{goes_self}
 use Rattle.core_plans.specs.Held.{AddsPlan, plan_at}
 use Rattle.core_sessions.specs.Sessions.{sessions_of}
 use Rattle.words.specs.declared.PlanWord.TheVariants as word
@@ -95,3 +97,13 @@ returns-in-Err-clause-keepers g c =
     let base : CoreState = core_state c.self.inside in
     core_same g.K.Keeper.TELLS tables base (sessions_of c.make_room.new.sessions) c.add.new.self c.make_room.ensures c.in-Err.ensures.err
     (subst (IsCoreOf g.K.Keeper.TELLS tables) (sym c.self.view_is) c.requires.keepers)
+
+pub returns-in_default-make_room-clause-goes : goal.returns-in_default-make_room-clause-goes
+returns-in_default-make_room-clause-goes g c =
+    let same = c.self.inside.fleet in
+    subst (λ (x : CoreState). GoesOn x.fleet same) c.self.view_is (goes_self same)
+
+pub returns-in-Err-clause-goes : goal.returns-in-Err-clause-goes
+returns-in-Err-clause-goes g c =
+    let same = c.self.inside.fleet in
+    subst (λ (x : CoreState). GoesOn x.fleet same) c.self.view_is (goes_self same)

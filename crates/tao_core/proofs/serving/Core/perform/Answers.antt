@@ -3,9 +3,9 @@ use Rattle.tao_core.specs.Asked.{CanBeDone}
 use Rattle.tao_core.specs.Core.{CoreState, IsConsistentCore, IsCoreOf, moment}
 use Rattle.tao_core.specs.Replies.{AnswersAsked}
 use Rattle.core_sessions.specs.declared.sessions.OpenSession.{OpenSession}
-use Rattle.core_steps.proofs.GrowingLemmas.{stays_masters}
+use Rattle.core_nodes.proofs.GrowingLemmas.{stays_masters}
 use Rattle.tao_core.proofs.HeldOn.{core_held, core_goes_on, core_opened, fleet_stays, same_held}
-use Rattle.tao_core.proofs.StayOpen.{opens_stay, writes_stay}
+use Rattle.tao_core.proofs.StayOpen.{opens_stay, same_open, writes_stay}
 use Rattle.tao_core.proofs.Keeping.{core_stays, delivered_core, evicted_core, mail_only, nodes_only, only_mail, only_nodes}
 use Rattle.tao_core.proofs.serving.Core.perform.Goals as goal
 
@@ -91,6 +91,10 @@ returns-in-Drop-clause-keepers g c =
     (fleet_stays c.args.self.now.fleet c.lose.new.self.fleet (ap (λ (x : CoreState). x.fleet) c.lose.ensures.rest)) (λ told at. refl)
     rest
 
+pub returns-in-Drop-clause-goes : goal.returns-in-Drop-clause-goes
+returns-in-Drop-clause-goes g c =
+    (fleet_stays c.args.self.now.fleet c.lose.new.self.fleet (ap (λ (x : CoreState). x.fleet) c.lose.ensures.rest)).goes
+
 pub returns-in-Show-clause-does : goal.returns-in-Show-clause-does
 returns-in-Show-clause-does g c =
     let now = moment c.args.self.now (g.K.Keeper.state c.args.keepers.now) (g.L.Link.shown c.args.link.now) in
@@ -134,3 +138,12 @@ returns-in-Call-Read-clause-keepers g c =
     core_held g.K.Keeper.TELLS old new c.args.self.now c.read.new.self c.requires.keepers c.read.ensures.keepers c.read.ensures.on
     c.read.ensures.does.tables
     (only_nodes c.args.self.now c.read.new.self c.read.ensures.does.rest)
+
+pub returns-in-Repair-clause-keepers : goal.returns-in-Repair-clause-keepers
+returns-in-Repair-clause-keepers g c =
+    let done = c.repair in
+    let rest = done.ensures.does.rest in
+    core_goes_on g.K.Keeper.TELLS (g.K.Keeper.state c.args.keepers.now).told (g.K.Keeper.state done.new.keepers).told c.args.self.now done.new.self
+    c.requires.keepers done.ensures.keepers done.ensures.on done.ensures.grows (ap (λ (x : CoreState). x.settings) rest)
+    (ap (λ (x : CoreState). x.plans) rest)
+    (same_open c.args.self.now.sessions done.new.self.sessions (ap (λ (x : CoreState). x.sessions) rest))

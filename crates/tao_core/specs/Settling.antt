@@ -1,0 +1,118 @@
+-- What the replies to repairs and settles say.
+use Rattle.std.specs.Prelude.{ℕ, ◌≡◌, ◌⊎◌, ◌<◌, Bool, true, false, List, Option, Some, None, Result, Ok, Err, is_some}
+use Rattle.core_mail.specs.Inboxes.{AreEmpty}
+use Rattle.core_model.specs.Stores.{stores_in}
+use Rattle.core_nodes.specs.Repairs.{outside}
+use Rattle.core_nodes.specs.Settling.{AllCatchUp, AllProcessOn, IsLaterLink, OnlyReads, StopsCatchUp, StopsLengths, log_lengths}
+use Rattle.core_nodes.specs.declared.settling.SettleStop.{SettleStop}
+use Rattle.core_nodes.specs.declared.settling.SettleStop.TheVariants as stop
+use Rattle.core_steps.specs.Repairs.{RepairsFirst, RunsAll, StopsRun}
+use Rattle.core_steps.specs.declared.repairs.Ran.{Ran}
+use Rattle.core_steps.specs.declared.repairs.RepairFailed.{RepairFailed}
+use Rattle.core_steps.specs.declared.repairs.RepairFailed.TheVariants as repair
+use Rattle.edge_repair.specs.declared.refusal.RepairRefusal.TheVariants.{KeeperFault, LinkFault, LogFull, OutOfMemory}
+use Rattle.graph_model.specs.Told.{WhereTold}
+use Rattle.replies.specs.declared.nodes.NodeReply.TheVariants.{Repaired}
+use Rattle.replies.specs.declared.refusals.NodeRefused.TheVariants.{NoServer}
+use Rattle.replies.specs.declared.refusals.Refusal.TheVariants.{Memory, Node as OfNode, Store}
+use Rattle.replies.specs.declared.refusals.StoreRefused.TheVariants as refused
+use Rattle.replies.specs.declared.refusals.When.TheVariants.{Before}
+use Rattle.replies.specs.declared.reply.Reply.{Reply}
+use Rattle.replies.specs.declared.reply.Reply.TheVariants.{Node, Refused, Settled}
+use Rattle.tao_keeper.specs.KeeperState.{IsLater, KeepsTables}
+use Rattle.tao_schema.specs.Schema.{types_of}
+use Rattle.topology.specs.Choices.{master_region}
+use Rattle.topology.specs.States.{NodeStates}
+use Rattle.write_model.specs.Machine.{ArePaired}
+use Rattle.write_model.specs.Steps.{HaveNoJobs}
+use Rattle.tao_core.specs.Calls.{posting_of}
+use Rattle.tao_core.specs.Core.{Moment}
+
+-- ---- repairs
+
+-- how it is replied what came of a shard's first job, where its master's region is this, and the keepers and the link have counted so many faults
+abbrev pub repaired_as : ℕ → ℕ → ℕ → Result (Option Ran) RepairFailed → Reply
+repaired_as region keeper_faults link_faults (Ok None) = Node (Repaired (record { hops = 0; job = 0; wrote = false }))
+repaired_as region keeper_faults link_faults (Ok (Some ran)) = Node (Repaired (record { hops = 2; job = ran.job.position; wrote = is_some ran.wrote }))
+repaired_as region keeper_faults link_faults (Err repair.NoServer) = Refused (OfNode (NoServer region))
+repaired_as region keeper_faults link_faults (Err (repair.Refused KeeperFault)) = Refused (Store (refused.KeeperFault keeper_faults))
+repaired_as region keeper_faults link_faults (Err (repair.Refused LinkFault)) = Refused (Store (refused.LinkFault link_faults Before))
+repaired_as region keeper_faults link_faults (Err (repair.Refused (LogFull length))) = Refused (Store (refused.LogFull length))
+repaired_as region keeper_faults link_faults (Err (repair.Refused OutOfMemory)) = Refused (Memory 0)
+
+-- what the reply to a repair says: what came of the shard's first job. Nothing of the core but its stores and their messages changes
+pub record AnswersRepair (tells : Bool) (shard : ℕ) (old : Moment) (reply : Reply) (new : Moment) : Type 0 where
+  pub outcome : Result (Option Ran) RepairFailed
+  pub reply_is : reply ≡ repaired_as (master_region old.core.states shard) new.keepers.faults new.link.faults outcome
+  pub repairs : RepairsFirst tells old.core.settings shard outcome (posting_of old) (posting_of new)
+  pub rest : new.core ≡ record old.core { fleet = new.core.fleet; mail = new.core.mail }
+
+-- ---- settles
+
+-- all open jobs were run, which leaves no node but the stores changed
+pub record HasRunJobs (tells : Bool) (old ran : Moment) : Type 0 where
+  pub runs : RunsAll tells old.core.settings (posting_of old) (posting_of ran)
+  pub keepers : IsLater old.keepers ran.keepers
+  pub link : IsLaterLink old.link ran.link
+  pub caches : ran.core.fleet ≡ record old.core.fleet { masters = ran.core.fleet.masters }
+  pub rest : ran.core ≡ record old.core { fleet = ran.core.fleet; mail = ran.core.mail }
+
+-- what is settled: no job is open, each edge whose type has an inverse has it, and these are the lengths of the logs
+pub record LeavesSettled (logs : List ℕ) (new : Moment) : Type 0 where
+  pub none : HaveNoJobs (stores_in new.core.settings new.keepers.told)
+  pub paired : ArePaired (types_of new.core.settings.schema) (stores_in new.core.settings new.keepers.told).logs
+  pub lengths : logs ≡ log_lengths new.core.settings new.keepers.told
+
+-- all open jobs were run, then each node caught up with its logs, and then all messages were taken out; sessions and held calls stay
+pub record SettlesCore (tells : Bool) (logs : List ℕ) (old new : Moment) : Type 0 where
+  pub ran : Moment
+  pub jobs : HasRunJobs tells old ran
+  pub reads : OnlyReads tells (outside ran.keepers ran.link) (outside new.keepers new.link)
+  pub on : AllProcessOn tells new.core.settings new.keepers.told ran.core.fleet new.core.fleet
+  pub caught : WhereTold tells (AllCatchUp new.core.settings new.keepers.told ran.core.fleet new.core.fleet)
+  pub empty : AreEmpty new.core.mail
+  pub settled : WhereTold tells (LeavesSettled logs new)
+  pub rest : new.core ≡ record old.core { fleet = new.core.fleet; mail = new.core.mail }
+
+-- it stopped while the jobs were run
+pub record StopsAtJobs (tells : Bool) (given : SettleStop) (old new : Moment) : Type 0 where
+  pub stops : StopsRun tells old.core.settings given (posting_of old) (posting_of new)
+  pub rest : new.core ≡ record old.core { fleet = new.core.fleet; mail = new.core.mail }
+
+-- or once they had been, at the lengths of the logs
+pub record StopsAtLengths (tells : Bool) (given : SettleStop) (old new : Moment) : Type 0 where
+  pub ran : Moment
+  pub jobs : HasRunJobs tells old ran
+  pub stops : StopsLengths old.core.settings ran.keepers new.keepers given
+  pub tables : KeepsTables tells ran.keepers new.keepers
+  pub same : new ≡ record ran { keepers = new.keepers }
+
+-- or at a node that couldn't catch up: those before it have
+pub record StopsAtNode (tells : Bool) (given : SettleStop) (old new : Moment) : Type 0 where
+  pub ran : Moment
+  pub jobs : HasRunJobs tells old ran
+  pub asked : KeepsTables tells ran.keepers new.keepers
+  pub stops : StopsCatchUp old.core.settings (outside ran.keepers ran.link) (outside new.keepers new.link) given
+  pub on : AllProcessOn tells new.core.settings new.keepers.told ran.core.fleet new.core.fleet
+  pub rest : new.core ≡ record ran.core { fleet = new.core.fleet }
+
+-- why a settle came to no end, and what was done all the same
+abbrev pub IsUnsettled : Bool → SettleStop → Moment → Moment → Type 0
+IsUnsettled tells given old new = StopsAtJobs tells given old new ⊎ (StopsAtLengths tells given old new ⊎ StopsAtNode tells given old new)
+
+-- how that is replied, where the master's region of the shard at which it stopped is this
+abbrev pub unsettled_as : ℕ → SettleStop → Reply
+unsettled_as region (stop.Unsettled shard why) = Refused (Store (refused.Unsettled shard why))
+unsettled_as region (stop.NoServer shard) = Refused (OfNode (NoServer region))
+unsettled_as region stop.OutOfMemory = Refused (Memory 0)
+
+-- the master's region of the shard at which no server was found
+abbrev pub region_of_stop : NodeStates → SettleStop → ℕ
+region_of_stop states (stop.NoServer shard) = master_region states shard
+region_of_stop states given = 0
+
+-- what the reply to a settle says
+abbrev pub AnswersSettle : Bool → Moment → Reply → Moment → Type 0
+AnswersSettle tells old (Settled logs) new = SettlesCore tells logs old new
+AnswersSettle tells old reply new =
+    (given : SettleStop) × (reply ≡ unsettled_as (region_of_stop old.core.states given) given) × IsUnsettled tells given old new

@@ -6,6 +6,7 @@ use Rattle.replies.specs.declared.reply.Reply.{Reply}
 use Rattle.requests.specs.declared.request.Request.{Request}
 use Rattle.core_nodes.proofs.StoreLemmas.{first_or_other}
 use Rattle.tao_core.specs.Core.{CoreState, IsCoreOf}
+use Rattle.core_model.specs.Consistent.{GoesOn}
 use Rattle.core_model.specs.Growing.{MastersGrow}
 use Rattle.tao_core.specs.Replies.{AnswersRequest}
 use Rattle.core_model.proofs.KeptStores.{kept_within}
@@ -14,7 +15,7 @@ use Rattle.tao_keeper.specs.Table.{Tables, OpensAs}
 use Rattle.tao_keeper.specs.declared.keeper.Opened.TheVariants.{Ready}
 use Rattle.tao_top.specs.Kept.{AreOpenedWith, LeavesTables, MayServe, StillBegin}
 use Rattle.tao_top.specs.Outside.{Outside, moment_of}
-use Rattle.tao_top.specs.Step.{AnswersLine}
+use Rattle.tao_top.specs.Step.{AnswersLine, KeepsServing}
 use Rattle.topology.specs.Config.{Settings}
 
 opened_grown : (tells : Bool) (s : Settings) (old new : Tables) → MastersGrow tells s old new → tells ≡ true → AreOpenedWith s old → AreOpenedWith s new
@@ -70,9 +71,11 @@ still_grown tells s old new only told opened kept line may t configured ready = 
 
 module _ (tells : Bool) (core within next : CoreState) (old new : Outside) (is : within ≡ core) (settings : next.settings ≡ within.settings) where
   pub call_answers : (request : Request) (reply : Reply) → AnswersRequest tells (moment_of within old) request reply (moment_of next new)
+      → GoesOn within.fleet next.fleet → IsCoreOf tells new.keepers.told next
       → AnswersLine tells (moment_of core old) (Ok request) reply (moment_of next new)
-  call_answers request reply answers =
-      subst (λ c. AnswersRequest tells (moment_of c old) request reply (moment_of next new) × (next.settings ≡ c.settings)) is (answers, settings)
+  call_answers request reply answers goes of_core =
+      subst (λ c. AnswersRequest tells (moment_of c old) request reply (moment_of next new) × KeepsServing tells (moment_of c old) (moment_of next new)) is
+      (answers, record { settings = settings; goes = goes; of_core = of_core })
 
   module _ (serving : MayServe tells core old.keepers.told) (grows : MastersGrow tells within.settings old.keepers.told new.keepers.told) (of_core : IsCoreOf tells new.keepers.told next) where
     opened : tells ≡ true → AreOpenedWith within.settings old.keepers.told

@@ -2,6 +2,7 @@
 use Rattle.std.specs.Prelude.{◌≡◌, ◌⊎◌, ℕ, Bool, List, [], ◌∷◌, ◌++◌, Result, Ok, Err, codes}
 use Rattle.tao_keeper.specs.KeeperState.{IsLater}
 use Rattle.config_json.specs.Config.{config_in}
+use Rattle.core_model.specs.Consistent.{GoesOn}
 use Rattle.config_json.specs.declared.refusal.ConfigRefusal.TheVariants.{BadConfig}
 use Rattle.graph_model.specs.Told.{WhereTold}
 use Rattle.reply_json.specs.Reply.{reply_text}
@@ -13,7 +14,7 @@ use Rattle.request_json.specs.Requests.{request_in}
 use Rattle.request_json.specs.declared.refusal.LineRefusal.{LineRefusal}
 use Rattle.request_json.specs.declared.refusal.LineRefusal.TheVariants.{BadLine, TooLarge, OutOfMemory}
 use Rattle.requests.specs.declared.request.Request.{Request}
-use Rattle.tao_core.specs.Core.{CoreState, IsNewCore, Moment}
+use Rattle.tao_core.specs.Core.{CoreState, IsCoreOf, IsNewCore, Moment}
 use Rattle.core_nodes.specs.Opening.{IsOpened, IsOtherLine}
 use Rattle.tao_core.specs.Replies.{AnswersRequest}
 use Rattle.tao_top.specs.Outside.{Outside, moment_of}
@@ -84,10 +85,16 @@ AnswersNoRequest (BadLine field) reply = reply ≡ Refused (Line (line.BadLine f
 AnswersNoRequest (TooLarge bytes pairs) reply = reply ≡ Refused (Line (line.TooLarge bytes pairs))
 AnswersNoRequest OutOfMemory reply = ⊥
 
--- what the reply to what a line asks says. The configuration stays
+-- what each request keeps: the configuration stays, the nodes go on, and the core may be used with the keepers' tables as they are then
+pub record KeepsServing (tells : Bool) (old new : Moment) : Type 0 where
+  pub settings : new.core.settings ≡ old.core.settings
+  pub goes : GoesOn old.core.fleet new.core.fleet
+  pub of_core : IsCoreOf tells new.keepers.told new.core
+
+-- what the reply to what a line asks says
 abbrev pub AnswersLine : Bool → Moment → Result Request LineRefusal → Reply → Moment → Type 0
 AnswersLine tells old (Err refused) reply new = AnswersNoRequest refused reply × (new ≡ old)
-AnswersLine tells old (Ok request) reply new = AnswersRequest tells old request reply new × (new.core.settings ≡ old.core.settings)
+AnswersLine tells old (Ok request) reply new = AnswersRequest tells old request reply new × KeepsServing tells old new
 
 -- ---- the run
 

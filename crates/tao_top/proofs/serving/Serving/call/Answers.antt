@@ -8,7 +8,7 @@ returns-clause-does g c =
     let shown = g.L.Link.shown in
     call_answers g.K.Keeper.TELLS c.args.self.now c.self.inside.core c.call.new.self
     (outside (state c.args.keepers.now) (shown c.args.link.now)) (outside (state c.call.new.keepers) (shown c.call.new.link)) c.self.view_is c.call.ensures.settings
-    c.args.request.now c.call.result c.call.ensures.does
+    c.args.request.now c.call.result c.call.ensures.does c.call.ensures.goes c.call.ensures.keepers
 
 pub returns-clause-serving : goal.returns-clause-serving
 returns-clause-serving g c =

@@ -24,9 +24,9 @@ abbrev pub words_in : List Text → Result Words WordsRefusal
 words_in words = unless_fault (faults_in words) (Run (file_in (subcommand_in words)))
 
 -- want of memory aside, the refusal
-abbrev pub unless_memory : WordsRefusal → Option WordsRefusal
-unless_memory Usage = Some Usage
-unless_memory OutOfMemory = None
+abbrev pub usage_unless_memory : WordsRefusal → Option WordsRefusal
+usage_unless_memory Usage = Some Usage
+usage_unless_memory OutOfMemory = None
 
 -- the refusal for a fault of a kind
 abbrev pub refusal_by : ErrorKind → WordsRefusal

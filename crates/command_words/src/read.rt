@@ -3,7 +3,7 @@ ghost use Rattle.std.specs.Prelude.{◌≡◌, IfOk, map, option_map, string_byt
 ghost use Rattle.clap.specs.Values.{kind_of};
 ghost use Rattle.clap.specs.Words.{subcommand_rows_of};
 ghost use Rattle.outcomes.specs.Results.{Gives};
-ghost use Rattle.command_words.specs.Read.{file_in, refusal_by, unless_memory, words_in};
+ghost use Rattle.command_words.specs.Read.{file_in, refusal_by, usage_unless_memory, words_in};
 
 use crate::command::parse;
 use clap::error::ErrorKind;
@@ -70,7 +70,7 @@ fn refusal(error: &Error) -> WordsRefusal
 /// Reads the words after the program's name. `Usage` exactly where they aren't those of a subcommand with its
 /// options, or ask for a text alone. Takes memory in proportion to the words.
 pub fn read_words(alloc: Global, words: &[String]) -> Result<Words, WordsRefusal>
-    ensures { Gives unless_memory result (words_in (map string_bytes words.now)) }
+    ensures { Gives usage_unless_memory result (words_in (map string_bytes words.now)) }
 {
     match parse(alloc, words) {
         Ok(matches) => Ok(Words::Run {

@@ -25,8 +25,8 @@ abbrev pub sessions_of : List SeenPass → List Session
 sessions_of passes = map session_of passes
 
 -- its number and its place
-abbrev pub place_of : Session → OpenSession
-place_of s = record { session = s.session; region = s.region; tier = s.tier }
+abbrev pub opening_of : Session → OpenSession
+opening_of s = record { session = s.session; region = s.region; tier = s.tier }
 
 -- the numbers rise
 abbrev pub HaveRisingNumbers : List SeenPass → Type 0

@@ -39,7 +39,7 @@ impl Model for Sessions {
 impl Sessions {
     ghost use Rattle.std.specs.Option.{option_map};
     ghost use Rattle.std.specs.Prelude.{◌≡◌, ◌<◌, [], length, true, false, IfOk, IfSome, IsSomeAnd, OnOk, OnErr, Some, slice_get};
-    ghost use Rattle.core_sessions.specs.Sessions.{HasRoom, HasRoomForBoth, SessionLearns, is_open, new_session, place_of, session_at, sessions_of, with_session};
+    ghost use Rattle.core_sessions.specs.Sessions.{HasRoom, HasRoomForBoth, SessionLearns, is_open, new_session, opening_of, session_at, sessions_of, with_session};
     ghost use Rattle.graph_model.specs.Log.{entry_at};
     ghost use Rattle.graph_model.specs.Told.{WhereTold};
     ghost use Rattle.session_pass.specs.Floors.{floor_at};
@@ -75,7 +75,7 @@ impl Sessions {
     /// The place of the session of that number, which is open, by a binary search.
     pub fn at(&self, session: u32) -> OpenSession
         requires { is_open (sessions_of self.now) session ≡ true }
-        ensures { IsSomeAnd (session_at (sessions_of self.now) session) (λ s. result ≡ place_of s) }
+        ensures { IsSomeAnd (session_at (sessions_of self.now) session) (λ s. result ≡ opening_of s) }
     {
         let pass = &self.passes[place_of(&self.passes, session)];
         OpenSession {

@@ -36,9 +36,9 @@ use Rattle.shard_tables.specs.declared.leader_answer.LeaderAnswer.TheVariants.{F
 use Rattle.shard_tables.specs.declared.refusal.StoreRefusal.{StoreRefusal}
 use Rattle.shard_tables.specs.declared.store.Role.{Role}
 use Rattle.shard_tables.specs.declared.store.Role.TheVariants.{Master, Slave}
-use Rattle.leader_tier.specs.LeaderReads.{AnswersRead, AskedRead, KeepsGiven}
+use Rattle.leader_tier.specs.LeaderReads.{GivesAnswer, AskedRead, KeepsGiven}
 use Rattle.leader_tier.specs.TakenWrites.{TakesWritten}
-use Rattle.leader_tests.specs.Led.{IsLed, ServesOne, name_of}
+use Rattle.leader_tests.specs.Led.{IsLed, ServesOne, store_named}
 
 kept_by : {X : Type 0} (g : ServedShard → X) (k : ℕ) (f : ServedShard → ServedShard) → ((s : ServedShard) → g (f s) ≡ g s) → (ss : List ServedShard) → map g (changed_at k f ss) ≡ map g ss
 kept_by g k f keeps [] = refl
@@ -100,7 +100,7 @@ module _ (shard : ℕ) (log : LogName) where
     given_kept (Behind version) same = after_same same
 
     pub after_answer : (asked : AskedRead) (store : Store) (before after : KeeperState) (r : Result LeaderAnswer StoreRefusal) → asked.node ≡ old
-        → IfOk r (λ given. AnswersRead asked store given new before after) → OnErr r (new ≡ old) → ServesOne shard log new
+        → IfOk r (λ given. GivesAnswer asked store given new before after) → OnErr r (new ≡ old) → ServesOne shard log new
     after_answer asked store before after (Ok given) node (inl own) same = one_as old new (ap (λ (n : Node). n.served) own.node_is ∙ ap (λ (n : Node). n.served) node) one
     after_answer asked store before after (Ok given) node (inr read) same = given_kept given (subst (λ n. KeepsGiven n given new) node read.keeps)
     after_answer asked store before after (Err e) node given same = after_same same
@@ -160,7 +160,7 @@ pub where_true : (b : Bool) (P : Type 0) → P → OnTrue b P
 where_true true P holds = holds
 where_true false P holds = tt
 
-pub named_log : (shard : ℕ) (store : Store) (n : Node) → store.name ≡ name_of shard → ServesOne shard store.view.log n → log_at store.name.shard n.served ≡ Some store.view.log
+pub named_log : (shard : ℕ) (store : Store) (n : Node) → store.name ≡ store_named shard → ServesOne shard store.view.log n → log_at store.name.shard n.served ≡ Some store.view.log
 named_log shard store n named one = subst (λ (at : StoreName). log_at at.shard n.served ≡ Some store.view.log) (sym named) (has_log shard store.view.log n one)
 
 pub led_log : (types : EdgeTypes) (tables : Tables) (store : Store) (n : Node) → IsLed types 0 tables store n → log_at store.name.shard n.served ≡ Some store.view.log
@@ -186,7 +186,7 @@ led_read types tables after store read n m led same stays keeper one = record {
   named = ap (λ (s : Store). s.name) same ∙ led.named;
   master = ap (λ (s : Store). s.role) same ∙ led.master;
   keeper = keeper;
-  sound = subst (λ t. IsSoundOf types 0 t.log) (sym (stays refl (name_of 0))) led.sound;
+  sound = subst (λ t. IsSoundOf types 0 t.log) (sym (stays refl (store_named 0))) led.sound;
   serves = subst (λ l. ServesOne 0 l m) (sym (ap (λ (s : Store). s.view.log) same)) one;
 }
 

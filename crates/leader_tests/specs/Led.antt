@@ -11,8 +11,8 @@ use Rattle.shard_tables.specs.Stores.{IsStoreOf}
 use Rattle.shard_tables.specs.declared.store.Role.TheVariants.{Master}
 
 -- the store of a shard in the first region
-abbrev pub name_of : ℕ → StoreName
-name_of shard = record { region = 0; shard = shard }
+abbrev pub store_named : ℕ → StoreName
+store_named shard = record { region = 0; shard = shard }
 
 -- the node serves this shard alone, of this log
 pub record ServesOne (shard : ℕ) (log : LogName) (n : Node) : Type 0 where
@@ -21,8 +21,8 @@ pub record ServesOne (shard : ℕ) (log : LogName) (n : Node) : Type 0 where
 
 -- the store is the master of the shard, over the tables of a keeper, of which the log is sound; and the node serves the shard alone
 pub record IsLed (types : EdgeTypes) (shard : ℕ) (tables : Tables) (store : Store) (n : Node) : Type 0 where
-  pub named : store.name ≡ name_of shard
+  pub named : store.name ≡ store_named shard
   pub master : store.role ≡ Master
   pub keeper : IsStoreOf true tables store
-  pub sound : IsSoundOf types shard (tables (name_of shard)).log
+  pub sound : IsSoundOf types shard (tables (store_named shard)).log
   pub serves : ServesOne shard store.view.log n

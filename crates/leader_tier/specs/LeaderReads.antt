@@ -64,8 +64,8 @@ pub record ReadsStore (asked : AskedRead) (store : Store) (given : LeaderAnswer)
   pub called : Rose before.calls after.calls
 
 -- a leader answers of an item of its own, or of its store
-abbrev pub AnswersRead : AskedRead → Store → LeaderAnswer → Node → KeeperState → KeeperState → Type 0
-AnswersRead asked store given new before after = HandsOnOwn asked given new before after ⊎ ReadsStore asked store given new before after
+abbrev pub GivesAnswer : AskedRead → Store → LeaderAnswer → Node → KeeperState → KeeperState → Type 0
+GivesAnswer asked store given new before after = HandsOnOwn asked given new before after ⊎ ReadsStore asked store given new before after
 
 -- the fill is of the query's key, decides the query by no more edges than the bound, and has the floor; what is read off it is true of what its note has seen
 pub record IsFillAt (types : EdgeTypes) (query : Query) (floor : ℕ) (fill : SealedItem) : Type 0 where

@@ -2,7 +2,7 @@
 ghost use Rattle.std.specs.Prelude.{◌≡◌, IfErr, IfOk, None, OnErr, Some};
 ghost use Rattle.tao_base.specs.Queries.{query_shard};
 ghost use Rattle.cache_items.specs.HandedOn.{HandsOn};
-ghost use Rattle.leader_tier.specs.LeaderReads.{AnswersRead, AreAnswersSeen, IsLegalAt, KeepsGiven, ReadsStore, asked_read, at_floor};
+ghost use Rattle.leader_tier.specs.LeaderReads.{GivesAnswer, AreAnswersSeen, IsLegalAt, KeepsGiven, ReadsStore, asked_read, at_floor};
 ghost use Rattle.served_shards.specs.Served.{log_at};
 ghost use Rattle.shard_tables.specs.ReadOuts.{IsFor, read_note};
 ghost use Rattle.shard_tables.specs.Refusals.{IsOfReads};
@@ -41,7 +41,7 @@ impl Leader {
     ) -> Result<LeaderAnswer, StoreRefusal>
         requires log { log_at (query_shard query.now) self.old.served ≡ Some store.old.view.log }
         requires keeper { IsStoreOf M.TELLS (M.state keeper.old).told store.old }
-        ensures given { IfOk result (λ given. AnswersRead (asked_read (types_of schema.now) self.old query.now floor) store.old given self.new
+        ensures given { IfOk result (λ given. GivesAnswer (asked_read (types_of schema.now) self.old query.now floor) store.old given self.new
             (M.state keeper.old) (M.state keeper.new)) }
         ensures legal { IfOk result (IsLegalAt (types_of schema.now) query.now floor) }
         ensures err { OnErr result (self.new ≡ self.old) }

@@ -12,7 +12,7 @@ use Rattle.shard_tables.specs.ReadOuts.{IsReadOutOf}
 use Rattle.shard_tables.specs.declared.read_out.ReadOut.TheVariants as store
 use Rattle.sealed_item.specs.Fills.{SealedItem, IsExactContent, IsSealed}
 use Rattle.shard_log.specs.GrowthLaws.{IsLegalIn}
-use Rattle.read_plan.specs.Held.{GivenIsLegal, IsGivenFill, ReadsAreGiven, ReadsGoOn}
+use Rattle.read_plan.specs.Held.{GivenIsLegal, IsHeldFill, ReadsAreGiven, ReadsGoOn}
 use Rattle.read_plan.specs.Readings.{Reading}
 
 pub reads_go_on : (types : EdgeTypes) (p : Reading) (hops : ℕ) (called : Bool) → ReadsGoOn types p hops called
@@ -23,7 +23,7 @@ reads_go_on types p hops called = record {
   behind = λ version. tt;
 }
 
-fill_legal : (types : EdgeTypes) (query : Query) (floor : ℕ) (fill : SealedItem) → IsSealed fill → IsGivenFill types query floor fill
+fill_legal : (types : EdgeTypes) (query : Query) (floor : ℕ) (fill : SealedItem) → IsSealed fill → IsHeldFill types query floor fill
     → IsLegalIn types fill.note query floor (content_answer types fill.content query) fill.version
 fill_legal types query floor fill sealed given told =
     let P : Key → Type 0 = λ k. IsExactContent fill.note.entries k fill.version fill.content in

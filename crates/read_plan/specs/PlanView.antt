@@ -2,8 +2,8 @@
 use Rattle.read_plan.specs.Readings.{Reading}
 use Rattle.read_plan.specs.declared.plan.ReadPlan.TheInside.{Inside}
 
-abbrev pub reading : Inside → Reading
-reading p = record {
+abbrev pub reading_seen : Inside → Reading
+reading_seen p = record {
   query = p.query;
   region = p.region;
   tier = p.tier;

@@ -25,14 +25,14 @@ pub record DoneStage : Type 0 where
   pub store : Bool
 
 -- what it came to is of the stage that follows, and the follower answered exactly where a fill was given
-pub record IsNext (p : Reading) (outcome : ReadResult) : Type 0 where
+pub record IsOfNextStage (p : Reading) (outcome : ReadResult) : Type 0 where
   pub stage : came_of outcome ≡ stage_of p.at
   pub answered : IsAnsweredFrom p.at outcome
 
 -- the last read is the first after these stages, each of which followed
 abbrev pub Goes : Reading → List DoneStage → Reading → Type 0
 Goes p [] q = q ≡ p
-Goes p (s ∷ rest) q = IsNext p s.came × Goes (taken s.came s.hops s.store p) rest q
+Goes p (s ∷ rest) q = IsOfNextStage p s.came × Goes (taken s.came s.hops s.store p) rest q
 
 abbrev pub hops_of : List DoneStage → ℕ
 hops_of [] = 0
@@ -75,10 +75,10 @@ ComesFrom at (came.Master given) answer version = ⊥
 -- each answer comes from what was found or given, at its version; of a critical read from what was given. Handing out the fill or the
 -- note changes nothing of how the read ends
 pub record AnswersAreGiven (p : Reading) (outcome : ReadResult) (hops : ℕ) (called : Bool) : Type 0 where
-  pub given : (answer : Answer) (version : ℕ) (kept : KeptOrNot) → IsNext p outcome → (taken outcome hops called p).at ≡ Ended (Answered answer version kept)
-      → ComesFrom p.at outcome answer version
+  pub given : (answer : Answer) (version : ℕ) (kept : KeptOrNot) → IsOfNextStage p outcome
+      → (taken outcome hops called p).at ≡ Ended (Answered answer version kept) → ComesFrom p.at outcome answer version
   pub critical : (answer : Answer) (version : ℕ) (kept : KeptOrNot) → p.critical ≡ true
       → (taken outcome hops called p).at ≡ Ended (Answered answer version kept)
       → came_of outcome ≡ stage.Keep
-  pub fill_out : IsNext p outcome → taken outcome hops called (fill_handed p) ≡ taken outcome hops called p
-  pub note_out : IsNext p outcome → taken outcome hops called (note_handed p) ≡ taken outcome hops called p
+  pub fill_out : IsOfNextStage p outcome → taken outcome hops called (fill_handed p) ≡ taken outcome hops called p
+  pub note_out : IsOfNextStage p outcome → taken outcome hops called (note_handed p) ≡ taken outcome hops called p

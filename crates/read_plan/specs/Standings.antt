@@ -130,14 +130,14 @@ without_fill Mastering = Mastering
 without_fill (Ended end) = Ended end
 
 -- the note that is there to be handed out, of an answer past the bound
-abbrev pub note_of : Standing → Option View
-note_of (Keeping (Past answer version total seen)) = seen
-note_of (Keeping (Fill fill)) = None
-note_of (Keeping (HandedOut version)) = None
-note_of Looking = None
-note_of Asking = None
-note_of Mastering = None
-note_of (Ended end) = None
+abbrev pub standing_note : Standing → Option View
+standing_note (Keeping (Past answer version total seen)) = seen
+standing_note (Keeping (Fill fill)) = None
+standing_note (Keeping (HandedOut version)) = None
+standing_note Looking = None
+standing_note Asking = None
+standing_note Mastering = None
+standing_note (Ended end) = None
 
 abbrev pub without_note : Standing → Standing
 without_note (Keeping (Past answer version total seen)) = Keeping (Past answer version total None)

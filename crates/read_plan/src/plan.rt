@@ -35,12 +35,12 @@ pub struct ReadPlan {
 }
 
 impl Model for ReadPlan {
-    ghost use Rattle.read_plan.specs.PlanView.{reading};
+    ghost use Rattle.read_plan.specs.PlanView.{reading_seen};
     ghost use Rattle.read_plan.specs.Readings.{NeverAsks, Reading};
 
     ghost Value = { Reading };
 
-    ghost view = { reading };
+    ghost view = { reading_seen };
 
     ghost invariant = { λ p. NeverAsks p.critical p.at };
 }
@@ -48,7 +48,7 @@ impl Model for ReadPlan {
 impl ReadPlan {
     ghost use Rattle.read_plan.specs.Ends.{EndsWith};
     ghost use Rattle.read_plan.specs.Readings.{NeverAsks, fill_handed, new_reading, note_handed, taken};
-    ghost use Rattle.read_plan.specs.Standings.{IsAnsweredFrom, came_of, fill_of, has_fill, note_of, stage_of};
+    ghost use Rattle.read_plan.specs.Standings.{IsAnsweredFrom, came_of, fill_of, has_fill, standing_note, stage_of};
 
     /// A read that is begun: its query, the region and tier that it is asked from, by their places, its floor, whether it is
     /// critical, and its follower. No ask is open for it, and the bound of its type is to be set.
@@ -194,7 +194,7 @@ impl ReadPlan {
     /// Hands out the note of an answer that was given past the bound, in which it is right. None exactly where no such answer
     /// was given, or its note was handed out.
     pub fn note(&mut self) -> Option<Note>
-        ensures note { result ≡ note_of self.old.at }
+        ensures note { result ≡ standing_note self.old.at }
         ensures handed { self.new ≡ note_handed self.old }
         ensures left { has_fill self.new.at ≡ has_fill self.old.at }
         ensures stage { stage_of self.new.at ≡ stage_of self.old.at }

@@ -11,7 +11,7 @@ ghost use Rattle.read_plan.specs.Standings.{
   fill_of,
   has_fill,
   is_fill,
-  note_of,
+  standing_note,
   stage_of,
   standing_after,
   without_fill,
@@ -105,7 +105,7 @@ impl Standing {
 
     /// Hands out the note that is there.
     pub(crate) fn hand_note(&mut self) -> Option<Note>
-        ensures note { result ≡ note_of self.old }
+        ensures note { result ≡ standing_note self.old }
         ensures handed { self.new ≡ without_note self.old }
         ensures left { has_fill self.new ≡ has_fill self.old }
         ensures stage { stage_of self.new ≡ stage_of self.old }

@@ -22,8 +22,8 @@ reply_unless_memory (refusal.Refused reply) = Some reply
 reply_unless_memory refusal.OutOfMemory = None
 
 -- a refused name is a refusal
-abbrev pub named : {A : Type 0} → Result A NameRefused → Result A Refusal
-named found = with_refusal Name found
+abbrev pub for_name : {A : Type 0} → Result A NameRefused → Result A Refusal
+for_name found = with_refusal Name found
 
 -- a refusal is replied
 abbrev pub replied : {A : Type 0} → Result A Refusal → Result A Reply

@@ -3,7 +3,7 @@ ghost use Rattle.std.specs.Prelude.{IfOk};
 ghost use Rattle.request_check.specs.Names.{settings};
 ghost use Rattle.request_check.specs.Placed.{IsPlaced};
 ghost use Rattle.outcomes.specs.Results.{Gives};
-ghost use Rattle.request_check.specs.Refusal.{named, replied, reply_unless_memory, name_unless_memory};
+ghost use Rattle.request_check.specs.Refusal.{for_name, replied, reply_unless_memory, name_unless_memory};
 ghost use Rattle.request_check.specs.Requests.{checked_open, checked_write_call, checked_read_call, checked_call, checked_hold, checked_stream, checked_repair, checked_of};
 
 use crate::calls::{checked_query, checked_write};
@@ -25,7 +25,7 @@ use topology::Config;
 /// the type are kept. A call within another request counts as that request. Copies data and ids, and
 /// takes time in their length; a name of a region or tier is compared with each.
 pub fn check(alloc: Global, config: &Config, request: &Request) -> Result<Checked, CheckRefusal>
-    ensures checked { Gives reply_unless_memory result (replied (named (checked_of config.now request.now))) }
+    ensures checked { Gives reply_unless_memory result (replied (for_name (checked_of config.now request.now))) }
     // Each region, tier, cache node, shard and key that is named is configured, and a change of type is one.
     ensures placed { IfOk result (IsPlaced config.now) }
 {

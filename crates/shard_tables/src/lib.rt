@@ -26,4 +26,4 @@ pub use read_out::{ReadOut, answer_of_fill};
 pub use reads::Found;
 pub use refusal::StoreRefusal;
 pub use store::{Role, StoreNode};
-pub use writes::Wrote;
+pub use writes::{Wrote, inverses_match};

@@ -157,9 +157,8 @@ fn write_again<M: Keeper>(
     }
 }
 
-/// Each type of a schema is the inverse of its inverse, as the schema says with each inverse that it
-/// gives.
-fn inverses_match(schema: &Schema)
+/// Each type of a schema is the inverse of its inverse, as the schema says with each inverse that it gives.
+pub fn inverses_match(schema: &Schema)
     ensures { InversesMatch (types_of schema.now) }
 {
     let _inverse = schema.inverse(AType(0));

@@ -54,8 +54,8 @@ abbrev pub third : Message
 third = record { shard = 4; position = 3 }
 
 -- an edge was added, and its inverse is written
-abbrev pub added : CallReply
-added = Write (record { kind = AssocAdd; written = record { changed = true; inverse = Written; position = 1; retry = false }; hops = 4 })
+abbrev pub added_edge : CallReply
+added_edge = Write (record { kind = AssocAdd; written = record { changed = true; inverse = Written; position = 1; retry = false }; hops = 4 })
 
 -- an edge was deleted, and its inverse is to be written
 abbrev pub deleted : CallReply
@@ -83,7 +83,7 @@ counted = Read (record {
 -- of calls and plans, stores and streams
 pub record CallsByExample : Type 0 where
   pub bad_stores : reply_text west (BadStores west_store 7) ≡ codes "{\"bad\":\"stores\",\"position\":7,\"store\":\"west/store/0\"}"
-  pub written : reply_text west (Called added)
+  pub written : reply_text west (Called added_edge)
       ≡ codes "{\"changed\":true,\"hops\":4,\"inverse\":\"written\",\"ok\":\"assoc_add\",\"position\":1,\"retry\":false}"
   pub next : reply_text west (Plan (Next Hold 3 stage.Inverse)) ≡ codes "{\"next\":\"inverse\",\"ok\":\"hold\",\"plan\":3}"
   pub scheduled : reply_text west (Plan (Ended 3 deleted))

@@ -12,8 +12,8 @@ use Rattle.tao_base.specs.declared.entry.Entry.{Entry}
 use Rattle.tao_base.specs.declared.entry.Origin.{Origin}
 use Rattle.tao_base.specs.declared.write.Write.{Write}
 use Rattle.tao_keeper.specs.declared.jobs.Job.{Job}
-use Rattle.write_plan.specs.PlanLaws.{Applies, Came, CameBack, CameOfJob, EndsJob, EndsLate, IsAfter, IsCarriedOut, IsRefusedBy, MergesLate, PlanLaws, RefusesBy, Takes, came, carries_of}
-use Rattle.write_plan.specs.Plans.{Plan, after_result, after_stage, back_stage, has_other, inverse_told, job_stage, new_plan, next_of, reply_of, stage_after, written_by}
+use Rattle.write_plan.specs.PlanLaws.{Applies, Came, CameBack, CameOfJob, EndsInTime, EndsLate, IsPlanAfter, IsCarriedOut, IsRefusedBy, MergesLate, PlanLaws, RefusesBy, TakesResults, came, carries_of}
+use Rattle.write_plan.specs.Plans.{Writing, after_result, after_stage, back_stage, has_other, inverse_told, job_stage, begun_write, next_of, reply_of, stage_after, written_by}
 use Rattle.write_plan.specs.Stages.{result_stage}
 use Rattle.write_plan.specs.declared.committed.Committed.{Committed}
 use Rattle.write_plan.specs.declared.progress.OtherEnd.{OtherEnd}
@@ -28,7 +28,7 @@ use Rattle.write_plan.specs.declared.stage.WriteStage.TheVariants as stage
 
 -- ---- carries
 
-hops_stay : (p : Plan) (r : WriteResult) → (after_result p r).hops ≡ p.hops
+hops_stay : (p : Writing) (r : WriteResult) → (after_result p r).hops ≡ p.hops
 hops_stay p (Commit (Ok c)) = refl
 hops_stay p (Commit (Err reply)) = refl
 hops_stay p (Inverse (Ok wrote)) = refl
@@ -43,7 +43,7 @@ hops_stay p (Apply (Ok done)) = refl
 hops_stay p (Apply (Err reply)) = refl
 
 -- the plan has the carries of all that it took
-hops_sum : (p : Plan) (cs : List Came) (q : Plan) → p.hops ≤ most_hops → Takes p cs q → q.hops ≡ min (p.hops + carries_of cs) most_hops
+hops_sum : (p : Writing) (cs : List Came) (q : Writing) → p.hops ≤ most_hops → TakesResults p cs q → q.hops ≡ min (p.hops + carries_of cs) most_hops
 hops_sum p [] q low takes = let is : q.hops ≡ p.hops = ap (λ x. x.hops) takes in omega arith
 hops_sum p (c ∷ rest) q low takes =
     let now = after_stage p c.result c.hops in
@@ -61,21 +61,21 @@ never_done (Relay answer) is = cc
 never_done (Apply answer) is = cc
 
 -- a plan that is done takes nothing more
-no_more : (p : Plan) (cs : List Came) (q : Plan) → next_of p ≡ stage.Done → Takes p cs q → (cs ≡ []) × (q ≡ p)
+no_more : (p : Writing) (cs : List Came) (q : Writing) → next_of p ≡ stage.Done → TakesResults p cs q → (cs ≡ []) × (q ≡ p)
 no_more p [] q done takes = (refl, takes)
 no_more p (c ∷ rest) q done takes = absurd (never_done c.result (takes.0 ∙ done))
 
 -- a part of what a plan took: so many at most; where the plan is done, it was good, or the last refused it
-record Part (n : ℕ) (cs : List Came) (q : Plan) (Good : Type 0) : Type 0 where
+record Part (n : ℕ) (cs : List Came) (q : Writing) (Good : Type 0) : Type 0 where
   few : length cs ≤ n
   done : next_of q ≡ stage.Done → Good ⊎ IsRefusedBy cs q
 
-not_yet : {G : Type 0} (p q : Plan) (now : WriteStage) → (stage.Done ≡ now → ⊥) → next_of p ≡ now → q ≡ p → next_of q ≡ stage.Done → G
+not_yet : {G : Type 0} (p q : Writing) (now : WriteStage) → (stage.Done ≡ now → ⊥) → next_of p ≡ now → q ≡ p → next_of q ≡ stage.Done → G
 not_yet p q now differ next is done = absurd (differ (sym done ∙ ap next_of is ∙ next))
 
 -- a result that refuses the write is the last
-refused_here : (n : ℕ) (x : Came) (rest : List Came) (p q : Plan) (reply : Reply) (G : Type 0) → RefusesBy x.result reply → reply_of p ≡ Some reply
-    → next_of p ≡ stage.Done → Takes p rest q → Part (n + 1) (x ∷ rest) q G
+refused_here : (n : ℕ) (x : Came) (rest : List Came) (p q : Writing) (reply : Reply) (G : Type 0) → RefusesBy x.result reply → reply_of p ≡ Some reply
+    → next_of p ≡ stage.Done → TakesResults p rest q → Part (n + 1) (x ∷ rest) q G
 refused_here n x rest p q reply G refuses is done takes =
     let none = no_more p rest q done takes in
     let empty : length rest ≡ 0 = ap length none.0 in
@@ -92,7 +92,7 @@ refused_here n x rest p q reply G refuses is done takes =
     }
 
 -- what refuses a write after some results refuses it after one more before them
-refused_after : (x : Came) (cs : List Came) (q : Plan) → IsRefusedBy cs q → IsRefusedBy (x ∷ cs) q
+refused_after : (x : Came) (cs : List Came) (q : Writing) → IsRefusedBy cs q → IsRefusedBy (x ∷ cs) q
 refused_after x cs q r = record {
   reply = r.reply;
   reply_is = r.reply_is;
@@ -103,7 +103,7 @@ refused_after x cs q r = record {
 }
 
 -- one result before a part
-before_part : (n : ℕ) (x : Came) (cs : List Came) (q : Plan) (G H : Type 0) → (G → H) → Part n cs q G → Part (n + 1) (x ∷ cs) q H
+before_part : (n : ℕ) (x : Came) (cs : List Came) (q : Writing) (G H : Type 0) → (G → H) → Part n cs q G → Part (n + 1) (x ∷ cs) q H
 before_part n x cs q G H good part = record {
   few = let low : length cs ≤ n = part.few in omega arith;
   done = λ d. elim (part.done d) [ inl g ↦ inl (good g) | inr r ↦ inr (refused_after x cs q r) ];
@@ -112,10 +112,10 @@ before_part n x cs q G H good part = record {
 -- ---- the way back
 
 -- a plan after its commit, of which all else is that of another
-abbrev going : Plan → Committed → OtherEnd → Option Wrote → WayBack → ℕ → Plan
+abbrev going : Writing → Committed → OtherEnd → Option Wrote → WayBack → ℕ → Writing
 going b c j o k h = record b { committed = Some c; job = j; other = o; back = k; refused = None; hops = h }
 
-record AppliedFrom (b : Plan) (c : Committed) (j : OtherEnd) (o : Option Wrote) (cs : List Came) (q : Plan) : Type 0 where
+record AppliedFrom (b : Writing) (c : Committed) (j : OtherEnd) (o : Option Wrote) (cs : List Came) (q : Writing) : Type 0 where
   hops : ℕ
   way : Applies cs
   is : q ≡ going b c j o Applied hops
@@ -123,9 +123,9 @@ record AppliedFrom (b : Plan) (c : Committed) (j : OtherEnd) (o : Option Wrote) 
 done_apply : stage.Done ≡ stage.Apply → ⊥
 done_apply is = cc
 
-module _ (b : Plan) (c : Committed) (j : OtherEnd) (o : Option Wrote) where
-  apply_first : (k : WayBack) (h : ℕ) (r : WriteResult) (n : ℕ) (rest : List Came) (q : Plan) → next_of (going b c j o k h) ≡ stage.Apply
-      → next_of (going b c j o Applied h) ≡ stage.Done → Takes (going b c j o k h) (came r n ∷ rest) q
+module _ (b : Writing) (c : Committed) (j : OtherEnd) (o : Option Wrote) where
+  apply_first : (k : WayBack) (h : ℕ) (r : WriteResult) (n : ℕ) (rest : List Came) (q : Writing) → next_of (going b c j o k h) ≡ stage.Apply
+      → next_of (going b c j o Applied h) ≡ stage.Done → TakesResults (going b c j o k h) (came r n ∷ rest) q
       → Part 1 (came r n ∷ rest) q (AppliedFrom b c j o (came r n ∷ rest) q)
   apply_first k h (Apply (Ok done)) n rest q next last takes =
       let none = no_more (going b c j o Applied (hops_after h n)) rest q last takes.1 in
@@ -141,13 +141,13 @@ module _ (b : Plan) (c : Committed) (j : OtherEnd) (o : Option Wrote) where
   apply_first k h (End answer) n rest q next last takes = let is : stage.End ≡ stage.Apply = takes.0 ∙ next in cc
   apply_first k h (Relay answer) n rest q next last takes = let is : stage.Relay ≡ stage.Apply = takes.0 ∙ next in cc
 
-  apply_part : (k : WayBack) (h : ℕ) (cs : List Came) (q : Plan) → next_of (going b c j o k h) ≡ stage.Apply
-      → next_of (going b c j o Applied h) ≡ stage.Done → Takes (going b c j o k h) cs q → Part 1 cs q (AppliedFrom b c j o cs q)
+  apply_part : (k : WayBack) (h : ℕ) (cs : List Came) (q : Writing) → next_of (going b c j o k h) ≡ stage.Apply
+      → next_of (going b c j o Applied h) ≡ stage.Done → TakesResults (going b c j o k h) cs q → Part 1 cs q (AppliedFrom b c j o cs q)
   apply_part k h [] q next last takes =
       record { few = omega arith; done = λ d. not_yet (going b c j o k h) q stage.Apply done_apply next takes d }
   apply_part k h (x ∷ rest) q next last takes = apply_first k h x.result x.hops rest q next last takes
 
-record WentBack (b : Plan) (c : Committed) (j : OtherEnd) (o : Option Wrote) (cs : List Came) (q : Plan) : Type 0 where
+record WentBack (b : Writing) (c : Committed) (j : OtherEnd) (o : Option Wrote) (cs : List Came) (q : Writing) : Type 0 where
   hops : ℕ
   way : CameBack c.passed cs
   is : q ≡ going b c j o Applied hops
@@ -155,10 +155,10 @@ record WentBack (b : Plan) (c : Committed) (j : OtherEnd) (o : Option Wrote) (cs
 done_relay : stage.Done ≡ stage.Relay → ⊥
 done_relay is = cc
 
-module _ (b : Plan) (c : Committed) (j : OtherEnd) (o : Option Wrote) where
-  relay_first : (leader : NodeName) (h : ℕ) (r : WriteResult) (n : ℕ) (rest : List Came) (q : Plan) → c.passed ≡ Some leader
+module _ (b : Writing) (c : Committed) (j : OtherEnd) (o : Option Wrote) where
+  relay_first : (leader : NodeName) (h : ℕ) (r : WriteResult) (n : ℕ) (rest : List Came) (q : Writing) → c.passed ≡ Some leader
       → next_of (going b c j o Ahead h) ≡ stage.Relay → next_of (going b c j o Relayed h) ≡ stage.Apply → next_of (going b c j o Applied h) ≡ stage.Done
-      → Takes (going b c j o Ahead h) (came r n ∷ rest) q → Part 2 (came r n ∷ rest) q (WentBack b c j o (came r n ∷ rest) q)
+      → TakesResults (going b c j o Ahead h) (came r n ∷ rest) q → Part 2 (came r n ∷ rest) q (WentBack b c j o (came r n ∷ rest) q)
   relay_first leader h (Relay (Ok done)) n rest q passed next after last takes =
       before_part 1 (came (Relay (Ok done)) n) rest q (AppliedFrom b c j o rest q) _
       (λ a. record {
@@ -180,7 +180,7 @@ module _ (b : Plan) (c : Committed) (j : OtherEnd) (o : Option Wrote) where
     way_next : (k : WayBack) (passed : Option NodeName) → c.passed ≡ passed → stage_after c j k ≡ back_stage passed k
     way_next k passed e = ap (λ s. unwrap_or s (back_stage c.passed k)) left ∙ ap (λ p. back_stage p k) e
 
-    way_by : (passed : Option NodeName) → c.passed ≡ passed → (h : ℕ) (cs : List Came) (q : Plan) → Takes (going b c j o Ahead h) cs q
+    way_by : (passed : Option NodeName) → c.passed ≡ passed → (h : ℕ) (cs : List Came) (q : Writing) → TakesResults (going b c j o Ahead h) cs q
         → Part 2 cs q (WentBack b c j o cs q)
     way_by None e h cs q takes =
         let part = apply_part b c j o Ahead h cs q (way_next Ahead None e) (way_next Applied None e) takes in
@@ -196,12 +196,12 @@ module _ (b : Plan) (c : Committed) (j : OtherEnd) (o : Option Wrote) where
     way_by (Some leader) e h (x ∷ rest) q takes =
         relay_first leader h x.result x.hops rest q e (way_next Ahead (Some leader) e) (way_next Relayed (Some leader) e) (way_next Applied (Some leader) e) takes
 
-    way_part : (h : ℕ) (cs : List Came) (q : Plan) → Takes (going b c j o Ahead h) cs q → Part 2 cs q (WentBack b c j o cs q)
+    way_part : (h : ℕ) (cs : List Came) (q : Writing) → TakesResults (going b c j o Ahead h) cs q → Part 2 cs q (WentBack b c j o cs q)
     way_part h cs q takes = way_by c.passed refl h cs q takes
 
 -- ---- the job
 
-record DidJob (b : Plan) (c : Committed) (cs : List Came) (q : Plan) : Type 0 where
+record DidJob (b : Writing) (c : Committed) (cs : List Came) (q : Writing) : Type 0 where
   job : OtherEnd
   other : Option Wrote
   hops : ℕ
@@ -222,9 +222,9 @@ done_inverse is = cc
 done_end : stage.Done ≡ stage.End → ⊥
 done_end is = cc
 
-module _ (b : Plan) (c : Committed) where
+module _ (b : Writing) (c : Committed) where
   -- no job was answered
-  without_job : c.wrote.job ≡ None → (h : ℕ) (cs : List Came) (q : Plan) → Takes (going b c Due None Ahead h) cs q → Part 4 cs q (DidJob b c cs q)
+  without_job : c.wrote.job ≡ None → (h : ℕ) (cs : List Came) (q : Writing) → TakesResults (going b c Due None Ahead h) cs q → Part 4 cs q (DidJob b c cs q)
   without_job e h cs q takes =
       let part = way_part b c Due None (ap (option_and_then (λ _. job_stage Due)) e) h cs q takes in
       let has : has_other c ≡ c.paired = ap (λ f. is_some f || c.paired) e in
@@ -260,8 +260,8 @@ module _ (b : Plan) (c : Committed) where
     has_job = ap (λ f. is_some f || c.paired) e
 
     -- the job came to this, and then came the way back
-    did : (j : OtherEnd) (o : Option Wrote) (of_job cs whole : List Came) (q : Plan) → whole ≡ of_job ++ cs
-        → (EndsJob of_job o (inverse_told (has_other c) j) ⊎ (EndsLate of_job o (inverse_told (has_other c) j) ⊎ MergesLate of_job o (inverse_told (has_other c) j)))
+    did : (j : OtherEnd) (o : Option Wrote) (of_job cs whole : List Came) (q : Writing) → whole ≡ of_job ++ cs
+        → (EndsInTime of_job o (inverse_told (has_other c) j) ⊎ (EndsLate of_job o (inverse_told (has_other c) j) ⊎ MergesLate of_job o (inverse_told (has_other c) j)))
         → WentBack b c j o cs q → DidJob b c whole q
     did j o of_job cs whole q is told w = record {
       job = j;
@@ -275,8 +275,8 @@ module _ (b : Plan) (c : Committed) where
       is = w.is;
     }
 
-    end_first : (wrote : Wrote) (m h : ℕ) (r : WriteResult) (n : ℕ) (rest : List Came) (q : Plan)
-        → Takes (going b c Merged (Some wrote) Ahead h) (came r n ∷ rest) q
+    end_first : (wrote : Wrote) (m h : ℕ) (r : WriteResult) (n : ℕ) (rest : List Came) (q : Writing)
+        → TakesResults (going b c Merged (Some wrote) Ahead h) (came r n ∷ rest) q
         → Part 3 (came r n ∷ rest) q (DidJob b c (came (Inverse (Ok wrote)) m ∷ (came r n ∷ rest)) q)
     end_first wrote m h (End (Ok done)) n rest q takes =
         before_part 2 (came (End (Ok done)) n) rest q (WentBack b c Ended (Some wrote) rest q) _
@@ -296,13 +296,13 @@ module _ (b : Plan) (c : Committed) where
     end_first wrote m h (Relay answer) n rest q takes = let is : stage.Relay ≡ stage.End = takes.0 ∙ job_next Merged stage.End refl in cc
     end_first wrote m h (Apply answer) n rest q takes = let is : stage.Apply ≡ stage.End = takes.0 ∙ job_next Merged stage.End refl in cc
 
-    end_part : (wrote : Wrote) (m h : ℕ) (cs : List Came) (q : Plan) → Takes (going b c Merged (Some wrote) Ahead h) cs q
+    end_part : (wrote : Wrote) (m h : ℕ) (cs : List Came) (q : Writing) → TakesResults (going b c Merged (Some wrote) Ahead h) cs q
         → Part 3 cs q (DidJob b c (came (Inverse (Ok wrote)) m ∷ cs) q)
     end_part wrote m h [] q takes =
         record { few = omega arith; done = λ d. not_yet (going b c Merged (Some wrote) Ahead h) q stage.End done_end (job_next Merged stage.End refl) takes d }
     end_part wrote m h (x ∷ rest) q takes = end_first wrote m h x.result x.hops rest q takes
 
-    inverse_first : (h : ℕ) (r : WriteResult) (n : ℕ) (rest : List Came) (q : Plan) → Takes (going b c Due None Ahead h) (came r n ∷ rest) q
+    inverse_first : (h : ℕ) (r : WriteResult) (n : ℕ) (rest : List Came) (q : Writing) → TakesResults (going b c Due None Ahead h) (came r n ∷ rest) q
         → Part 4 (came r n ∷ rest) q (DidJob b c (came r n ∷ rest) q)
     inverse_first h (Inverse (Ok wrote)) n rest q takes =
         before_part 3 (came (Inverse (Ok wrote)) n) rest q (DidJob b c (came (Inverse (Ok wrote)) n ∷ rest) q) _ (λ g. g)
@@ -321,12 +321,12 @@ module _ (b : Plan) (c : Committed) where
     inverse_first h (Relay answer) n rest q takes = let is : stage.Relay ≡ stage.Inverse = takes.0 ∙ job_next Due stage.Inverse refl in cc
     inverse_first h (Apply answer) n rest q takes = let is : stage.Apply ≡ stage.Inverse = takes.0 ∙ job_next Due stage.Inverse refl in cc
 
-    with_job : (h : ℕ) (cs : List Came) (q : Plan) → Takes (going b c Due None Ahead h) cs q → Part 4 cs q (DidJob b c cs q)
+    with_job : (h : ℕ) (cs : List Came) (q : Writing) → TakesResults (going b c Due None Ahead h) cs q → Part 4 cs q (DidJob b c cs q)
     with_job h [] q takes =
         record { few = omega arith; done = λ d. not_yet (going b c Due None Ahead h) q stage.Inverse done_inverse (job_next Due stage.Inverse refl) takes d }
     with_job h (x ∷ rest) q takes = inverse_first h x.result x.hops rest q takes
 
-  job_by : (found : Option Job) → c.wrote.job ≡ found → (h : ℕ) (cs : List Came) (q : Plan) → Takes (going b c Due None Ahead h) cs q
+  job_by : (found : Option Job) → c.wrote.job ≡ found → (h : ℕ) (cs : List Came) (q : Writing) → TakesResults (going b c Due None Ahead h) cs q
       → Part 4 cs q (DidJob b c cs q)
   job_by None e h cs q takes = without_job e h cs q takes
   job_by (Some job) e h cs q takes = with_job job e h cs q takes
@@ -343,7 +343,7 @@ tells_by : (retry : Bool) (told : InverseEnd) (found : Option Entry)
 tells_by retry told (Some e) = ((refl, refl, refl), tt, refl)
 tells_by retry told None = (tt, (refl, refl, refl), refl)
 
-carried_out : (b : Plan) (c : Committed) (n : ℕ) (cs : List Came) (q : Plan) → q.hops ≡ min (n + carries_of cs) most_hops → DidJob b c cs q
+carried_out : (b : Writing) (c : Committed) (n : ℕ) (cs : List Came) (q : Writing) → q.hops ≡ min (n + carries_of cs) most_hops → DidJob b c cs q
     → IsCarriedOut (came (Commit (Ok c)) n ∷ cs) q
 carried_out b c n cs q sum g =
     let told = inverse_told (has_other c) g.job in
@@ -372,17 +372,17 @@ carried_out b c n cs q sum g =
     }
 
 module _ (write : Write) (origin : Origin) (region tier : ℕ) (follower : NodeName) where
-  all_hops : (cs : List Came) (q : Plan) → Takes (new_plan write origin region tier follower) cs q → q.hops ≡ min (carries_of cs) most_hops
-  all_hops cs q takes = hops_sum (new_plan write origin region tier follower) cs q (omega arith) takes ∙ ap (λ n. min n most_hops) (zero-add (carries_of cs))
+  all_hops : (cs : List Came) (q : Writing) → TakesResults (begun_write write origin region tier follower) cs q → q.hops ≡ min (carries_of cs) most_hops
+  all_hops cs q takes = hops_sum (begun_write write origin region tier follower) cs q (omega arith) takes ∙ ap (λ n. min n most_hops) (zero-add (carries_of cs))
 
-  commit_first : (r : WriteResult) (n : ℕ) (rest : List Came) (q : Plan) → Takes (new_plan write origin region tier follower) (came r n ∷ rest) q
+  commit_first : (r : WriteResult) (n : ℕ) (rest : List Came) (q : Writing) → TakesResults (begun_write write origin region tier follower) (came r n ∷ rest) q
       → Part 5 (came r n ∷ rest) q (IsCarriedOut (came r n ∷ rest) q)
   commit_first (Commit (Ok c)) n rest q takes =
-      before_part 4 (came (Commit (Ok c)) n) rest q (DidJob (new_plan write origin region tier follower) c rest q) _
-      (carried_out (new_plan write origin region tier follower) c n rest q (all_hops (came (Commit (Ok c)) n ∷ rest) q takes))
-      (job_by (new_plan write origin region tier follower) c c.wrote.job refl (hops_after 0 n) rest q takes.1)
+      before_part 4 (came (Commit (Ok c)) n) rest q (DidJob (begun_write write origin region tier follower) c rest q) _
+      (carried_out (begun_write write origin region tier follower) c n rest q (all_hops (came (Commit (Ok c)) n ∷ rest) q takes))
+      (job_by (begun_write write origin region tier follower) c c.wrote.job refl (hops_after 0 n) rest q takes.1)
   commit_first (Commit (Err reply)) n rest q takes =
-      refused_here 4 (came (Commit (Err reply)) n) rest (after_stage (new_plan write origin region tier follower) (Commit (Err reply)) n) q reply _
+      refused_here 4 (came (Commit (Err reply)) n) rest (after_stage (begun_write write origin region tier follower) (Commit (Err reply)) n) q reply _
       refl refl refl takes.1
   commit_first (Inverse answer) n rest q takes = let is : stage.Inverse ≡ stage.Commit = takes.0 in cc
   commit_first (End answer) n rest q takes = let is : stage.End ≡ stage.Commit = takes.0 in cc
@@ -392,12 +392,12 @@ module _ (write : Write) (origin : Origin) (region tier : ℕ) (follower : NodeN
 done_commit : stage.Done ≡ stage.Commit → ⊥
 done_commit is = cc
 
-after_all : (write : Write) (origin : Origin) (region tier : ℕ) (follower : NodeName) (cs : List Came) (q : Plan)
-    → Takes (new_plan write origin region tier follower) cs q → IsAfter cs q
+after_all : (write : Write) (origin : Origin) (region tier : ℕ) (follower : NodeName) (cs : List Came) (q : Writing)
+    → TakesResults (begun_write write origin region tier follower) cs q → IsPlanAfter cs q
 after_all write origin region tier follower [] q takes = record {
   few = omega arith;
   hops = all_hops write origin region tier follower [] q takes;
-  done = λ d. not_yet (new_plan write origin region tier follower) q stage.Commit done_commit refl takes d;
+  done = λ d. not_yet (begun_write write origin region tier follower) q stage.Commit done_commit refl takes d;
 }
 after_all write origin region tier follower (x ∷ rest) q takes =
     let part = commit_first write origin region tier follower x.result x.hops rest q takes in

@@ -13,7 +13,7 @@ use Rattle.shard_tables.specs.declared.writes.Wrote.{Wrote}
 use Rattle.tao_base.specs.declared.entry.Origin.{Origin}
 use Rattle.tao_base.specs.declared.write.Write.{Write}
 use Rattle.tao_keeper.specs.declared.jobs.Job.{Job}
-use Rattle.write_plan.specs.Plans.{Plan, after_stage, new_plan, next_of, reply_of}
+use Rattle.write_plan.specs.Plans.{Writing, after_stage, begun_write, next_of, reply_of}
 use Rattle.write_plan.specs.Stages.{result_stage}
 use Rattle.write_plan.specs.declared.committed.Committed.{Committed}
 use Rattle.write_plan.specs.declared.results.Late.TheVariants.{Scheduled, Refused}
@@ -30,9 +30,9 @@ abbrev pub came : WriteResult → ℕ → Came
 came result hops = record { result = result; hops = hops }
 
 -- a plan takes these in turn, each of the stage that is next, and becomes the other
-abbrev pub Takes : Plan → List Came → Plan → Type 0
-Takes p [] q = q ≡ p
-Takes p (c ∷ rest) q = (result_stage c.result ≡ next_of p) × Takes (after_stage p c.result c.hops) rest q
+abbrev pub TakesResults : Writing → List Came → Writing → Type 0
+TakesResults p [] q = q ≡ p
+TakesResults p (c ∷ rest) q = (result_stage c.result ≡ next_of p) × TakesResults (after_stage p c.result c.hops) rest q
 
 -- the carries of all of them
 abbrev pub carries_of : List Came → ℕ
@@ -42,7 +42,7 @@ carries_of (c ∷ rest) = c.hops + carries_of rest
 -- ---- a write that is carried out
 
 -- its job was merged and then removed: the inverse is written
-pub record EndsJob (cs : List Came) (other : Option Wrote) (told : InverseEnd) : Type 0 where
+pub record EndsInTime (cs : List Came) (other : Option Wrote) (told : InverseEnd) : Type 0 where
   pub wrote : Wrote
   pub merges : ℕ
   pub ends : ℕ
@@ -72,7 +72,7 @@ pub record MergesLate (cs : List Came) (other : Option Wrote) (told : InverseEnd
 -- there is no such stage, and the inverse is written where the write's type has one
 abbrev pub CameOfJob : Option Job → Bool → List Came → Option Wrote → InverseEnd → Type 0
 CameOfJob None paired cs other told = (cs ≡ []) × (other ≡ None) × (told ≡ (if paired then inverse.Written else inverse.None))
-CameOfJob (Some job) paired cs other told = EndsJob cs other told ⊎ (EndsLate cs other told ⊎ MergesLate cs other told)
+CameOfJob (Some job) paired cs other told = EndsInTime cs other told ⊎ (EndsLate cs other told ⊎ MergesLate cs other told)
 
 -- the follower took the changes
 pub record Applies (cs : List Came) : Type 0 where
@@ -108,7 +108,7 @@ pub record Tells (c : Committed) (told : InverseEnd) (hops : ℕ) (w : WriteRepl
   pub hops_is : w.hops ≡ hops
 
 -- the write was carried out: its stages came in order, and its reply tells what was committed, what became of the inverse, and all carries
-pub record IsCarriedOut (cs : List Came) (p : Plan) : Type 0 where
+pub record IsCarriedOut (cs : List Came) (p : Writing) : Type 0 where
   pub committed : Committed
   pub told : InverseEnd
   pub reply : WriteReply
@@ -135,7 +135,7 @@ RefusesBy (Relay (Ok answer)) reply = ⊥
 RefusesBy (Apply (Ok answer)) reply = ⊥
 
 -- its last result refused it, and is its reply
-pub record IsRefusedBy (cs : List Came) (p : Plan) : Type 0 where
+pub record IsRefusedBy (cs : List Came) (p : Writing) : Type 0 where
   pub reply : Reply
   pub reply_is : reply_of p ≡ Some reply
   pub before : List Came
@@ -146,12 +146,12 @@ pub record IsRefusedBy (cs : List Came) (p : Plan) : Type 0 where
 -- ---- laws
 
 -- what a plan is after these results
-pub record IsAfter (cs : List Came) (p : Plan) : Type 0 where
+pub record IsPlanAfter (cs : List Came) (p : Writing) : Type 0 where
   pub few : length cs ≤ 5
   pub hops : p.hops ≡ min (carries_of cs) most_hops
   pub done : next_of p ≡ Done → IsCarriedOut cs p ⊎ IsRefusedBy cs p
 
 -- a plan ends after five stages at most. Its write is then carried out, or refused by the last result
 pub record PlanLaws : Type 0 where
-  pub ends : (write : Write) (origin : Origin) (region tier : ℕ) (follower : NodeName) (cs : List Came) (p : Plan)
-      → Takes (new_plan write origin region tier follower) cs p → IsAfter cs p
+  pub ends : (write : Write) (origin : Origin) (region tier : ℕ) (follower : NodeName) (cs : List Came) (p : Writing)
+      → TakesResults (begun_write write origin region tier follower) cs p → IsPlanAfter cs p

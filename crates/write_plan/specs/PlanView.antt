@@ -1,8 +1,8 @@
 -- What contracts see of the plan of a write.
-use Rattle.write_plan.specs.Plans.{Plan}
+use Rattle.write_plan.specs.Plans.{Writing}
 use Rattle.write_plan.specs.declared.plan.WritePlan.TheInside.{Inside}
 
-abbrev pub plan_seen : Inside → Plan
+abbrev pub plan_seen : Inside → Writing
 plan_seen p = record {
   write = p.write;
   origin = p.origin;

@@ -29,7 +29,7 @@ use Rattle.write_plan.specs.declared.stage.WriteStage.TheVariants as stage
 
 -- a write, who asked for it, from which tier, and at which follower; what its commit answered; how far its job has come, and what was
 -- written at the other end; how far the way back has come; the reply that refuses it; and the carries so far
-pub record Plan : Type 0 where
+pub record Writing : Type 0 where
   pub write : Write
   pub origin : Origin
   pub region : ℕ
@@ -43,8 +43,8 @@ pub record Plan : Type 0 where
   pub hops : ℕ
 
 -- a plan of which nothing was done
-abbrev pub new_plan : Write → Origin → ℕ → ℕ → NodeName → Plan
-new_plan write origin region tier follower = record {
+abbrev pub begun_write : Write → Origin → ℕ → ℕ → NodeName → Writing
+begun_write write origin region tier follower = record {
   write = write;
   origin = origin;
   region = region;
@@ -79,18 +79,18 @@ abbrev pub stage_after : Committed → OtherEnd → WayBack → WriteStage
 stage_after c job back = unwrap_or (option_and_then (λ _. job_stage job) c.wrote.job) (back_stage c.passed back)
 
 -- the stage that is next: first the commit; none after a refusal
-abbrev pub next_stage : Option Reply → Option Committed → OtherEnd → WayBack → WriteStage
-next_stage (Some reply) committed job back = stage.Done
-next_stage None None job back = stage.Commit
-next_stage None (Some c) job back = stage_after c job back
+abbrev pub stage_from : Option Reply → Option Committed → OtherEnd → WayBack → WriteStage
+stage_from (Some reply) committed job back = stage.Done
+stage_from None None job back = stage.Commit
+stage_from None (Some c) job back = stage_after c job back
 
-abbrev pub next_of : Plan → WriteStage
-next_of p = next_stage p.refused p.committed p.job p.back
+abbrev pub next_of : Writing → WriteStage
+next_of p = stage_from p.refused p.committed p.job p.back
 
 -- ---- what is taken
 
 -- the plan ends with the reply
-abbrev pub refused_by : Plan → Reply → Plan
+abbrev pub refused_by : Writing → Reply → Writing
 refused_by p reply = record p { refused = Some reply }
 
 -- what was written at the other end: the first that was told
@@ -99,17 +99,17 @@ written_there (Some before) more = Some before
 written_there None more = more
 
 -- the job stays open, or the plan ends
-abbrev pub after_late : Plan → Late → Plan
+abbrev pub after_late : Writing → Late → Writing
 after_late p (Scheduled why wrote) = record p { job = Open why; other = written_there p.other wrote }
 after_late p (Refused reply) = refused_by p reply
 
 -- the way back has come so far, or the plan ends
-abbrev pub after_way : {T : Type 0} → Plan → Result T Reply → WayBack → Plan
+abbrev pub after_way : {T : Type 0} → Writing → Result T Reply → WayBack → Writing
 after_way p (Ok done) back = record p { back = back }
 after_way p (Err reply) back = refused_by p reply
 
 -- what the plan keeps of a result
-abbrev pub after_result : Plan → WriteResult → Plan
+abbrev pub after_result : Writing → WriteResult → Writing
 after_result p (came.Commit (Ok c)) = record p { committed = Some c }
 after_result p (came.Commit (Err reply)) = refused_by p reply
 after_result p (came.Inverse (Ok wrote)) = record p { job = Merged; other = written_there p.other (Some wrote) }
@@ -120,17 +120,17 @@ after_result p (came.Relay answer) = after_way p answer Relayed
 after_result p (came.Apply answer) = after_way p answer Applied
 
 -- the plan after a result with its carries
-abbrev pub after_stage : Plan → WriteResult → ℕ → Plan
+abbrev pub after_stage : Writing → WriteResult → ℕ → Writing
 after_stage p came hops = after_result (record p { hops = hops_after p.hops hops }) came
 
 -- ---- what is shown
 
 -- the entry that the commit answered
-abbrev pub answered_entry : Plan → Option Entry
+abbrev pub answered_entry : Writing → Option Entry
 answered_entry p = option_and_then (λ c. c.wrote.entry) p.committed
 
 -- the job that the commit answered
-abbrev pub answered_job : Plan → Option Job
+abbrev pub answered_job : Writing → Option Job
 answered_job p = option_and_then (λ c. c.wrote.job) p.committed
 
 -- whether a refusal comes after an entry stands, and where it does
@@ -169,5 +169,5 @@ reply_by (Some reply) committed job hops = Some reply
 reply_by None None job hops = None
 reply_by None (Some c) job hops = Some (reply_after c job hops)
 
-abbrev pub reply_of : Plan → Option Reply
+abbrev pub reply_of : Writing → Option Reply
 reply_of p = reply_by p.refused p.committed p.job p.hops

@@ -43,16 +43,16 @@ pub struct WritePlan {
 
 impl Model for WritePlan {
     ghost use Rattle.write_plan.specs.PlanView.{plan_seen};
-    ghost use Rattle.write_plan.specs.Plans.{Plan};
+    ghost use Rattle.write_plan.specs.Plans.{Writing};
 
-    ghost Value = { Plan };
+    ghost Value = { Writing };
 
     ghost view = { plan_seen };
 }
 
 impl WritePlan {
     ghost use Rattle.replies.specs.declared.reply.Reply.{Reply};
-    ghost use Rattle.write_plan.specs.Plans.{after_late, after_result, after_stage, after_way, answered_entry, answered_job, new_plan, next_of, refused_by, reply_of, when_of, written_there};
+    ghost use Rattle.write_plan.specs.Plans.{after_late, after_result, after_stage, after_way, answered_entry, answered_job, begun_write, next_of, refused_by, reply_of, when_of, written_there};
     ghost use Rattle.write_plan.specs.Stages.{result_stage};
     ghost use Rattle.write_plan.specs.declared.stage.WriteStage.TheVariants.{Done};
 
@@ -64,7 +64,7 @@ impl WritePlan {
         tier: u16,
         follower: NodeName,
     ) -> WritePlan
-        ensures { result ≡ new_plan write origin region tier follower }
+        ensures { result ≡ begun_write write origin region tier follower }
     {
         WritePlan {
             write,

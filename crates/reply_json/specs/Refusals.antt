@@ -80,14 +80,21 @@ link_fault count when =
     fields ((codes "count", whole count) ∷ (codes "no", text (codes "link_fault")) ∷ (codes "position", whole (when_position when))
     ∷ (codes "when", text (when_text when)) ∷ [])
 
+-- the region is the master of the shard
+abbrev pub is_master : List ℕ → ℕ → Data
+is_master region shard = fields ((codes "no", text (codes "is_master")) ∷ (codes "region", text region) ∷ (codes "shard", whole shard) ∷ [])
+
+-- a log of that length has no entry at the position
+abbrev pub no_such_entry : ℕ → ℕ → Data
+no_such_entry length position =
+    fields ((codes "length", whole length) ∷ (codes "no", text (codes "no_entry")) ∷ (codes "position", whole position) ∷ [])
+
 -- what a node could not do is told by the node, or by what was asked of it
 abbrev pub node_refused : Settings → NodeRefused → Data
 node_refused s (NoMessage message) = number_about (codes "message") message (codes "no_message")
 node_refused s (NoRefill node) = fields ((codes "no", text (codes "no_refill")) ∷ (codes "node", text (node_text s node)) ∷ [])
-node_refused s (IsMaster store) =
-    fields ((codes "no", text (codes "is_master")) ∷ (codes "region", text (region_name s.regions store.region)) ∷ (codes "shard", whole store.shard) ∷ [])
-node_refused s (NoEntry length position) =
-    fields ((codes "length", whole length) ∷ (codes "no", text (codes "no_entry")) ∷ (codes "position", whole position) ∷ [])
+node_refused s (IsMaster store) = is_master (region_name s.regions store.region) store.shard
+node_refused s (NoEntry length position) = no_such_entry length position
 node_refused s (NoServer region) = about_name (codes "no_server") (region_name s.regions region)
 node_refused s (NodeDown node when) = node_down (node_text s node) when
 

@@ -1,6 +1,6 @@
 //! Refusals: each is told by its name, and by what it is about.
 ghost use Rattle.std.specs.Prelude.{◌≡◌};
-ghost use Rattle.reply_json.specs.Refusals.{about_name, about_number, number_about, line_refused, link_fault, name_refused, node_down, node_refused, plan_refused, refusal_data, session_refused, store_refused, when_position};
+ghost use Rattle.reply_json.specs.Refusals.{about_name, about_number, is_master, line_refused, link_fault, name_refused, no_such_entry, node_down, node_refused, number_about, plan_refused, refusal_data, session_refused, store_refused, when_position};
 ghost use Rattle.reply_json.specs.Writing.{Puts};
 
 use crate::said::Said;
@@ -190,26 +190,9 @@ fn put_node_refused(
             )
         }
         NodeRefused::IsMaster { store } => {
-            let region = config.region_name(store.region);
-            put_members(
-                out,
-                &[
-                    ("no", Said::Text("is_master")),
-                    ("region", Said::Text(region)),
-                    ("shard", Said::Whole(store.shard as u64)),
-                ],
-            )
+            put_is_master(out, config.region_name(store.region), store.shard)
         }
-        NodeRefused::NoEntry { length, position } => {
-            put_members(
-                out,
-                &[
-                    ("length", Said::Whole(*length)),
-                    ("no", Said::Text("no_entry")),
-                    ("position", Said::Whole(*position)),
-                ],
-            )
-        }
+        NodeRefused::NoEntry { length, position } => put_no_entry(out, *length, *position),
         NodeRefused::NoServer { region } => {
             put_about_name(out, "no_server", config.region_name(*region))
         }
@@ -218,6 +201,32 @@ fn put_node_refused(
             put_node_down(out, name.as_str(), *when)
         }
     }
+}
+
+fn put_is_master(out: &mut Writer, region: &str, shard: u16) -> Result<(), AllocError>
+    ensures { Puts result out.old out.new (is_master region.now shard) }
+{
+    put_members(
+        out,
+        &[
+            ("no", Said::Text("is_master")),
+            ("region", Said::Text(region)),
+            ("shard", Said::Whole(shard as u64)),
+        ],
+    )
+}
+
+fn put_no_entry(out: &mut Writer, length: u64, position: u64) -> Result<(), AllocError>
+    ensures { Puts result out.old out.new (no_such_entry length position) }
+{
+    put_members(
+        out,
+        &[
+            ("length", Said::Whole(length)),
+            ("no", Said::Text("no_entry")),
+            ("position", Said::Whole(position)),
+        ],
+    )
 }
 
 fn put_node_down(out: &mut Writer, name: &str, when: When) -> Result<(), AllocError>

@@ -19,14 +19,14 @@ use Rattle.topology.specs.Config.{Settings}
 use Rattle.topology.specs.Counts.{NodeCounts, follower_count, tier_count}
 use Rattle.topology.specs.States.{NodeStates, is_up}
 use Rattle.core_model.specs.Evictions.{IsCacheOf}
-use Rattle.core_model.specs.Fleet.{ChangesNode, IsFirstAt, follower_names, leader_names, named, names_of, regions_of, serves_in_turn}
+use Rattle.core_model.specs.Fleet.{ChangesNode, IsFirstAt, follower_names, leader_names, named, node_names, regions_of, serves_in_turn}
 use Rattle.core_model.specs.Messages.{IsMessageFor, told_of}
 use Rattle.core_model.specs.Pens.{IsSeen, Pens}
 use Rattle.core_model.specs.declared.named.Named.{Named}
 use Rattle.core_model.proofs.NamedNodes.{all_set, named_stands, names_set}
 use Rattle.core_model.proofs.Places.{one_some}
 use Rattle.core_model.proofs.Staying.{messages_stay}
-use Rattle.core_mail.specs.Inboxes.{AreEmpty, AreInboxesOf, Inboxes, Sends, TakesOut, WaitsAt, cache_names, cleared, message_of, no_messages}
+use Rattle.core_mail.specs.Inboxes.{AreEmpty, AreInboxesOf, Inboxes, Sends, TakesOut, WaitsAt, cache_names, cleared, entry_message, no_messages}
 use Rattle.core_mail.specs.Laws.{InboxesStay}
 
 -- ---- each message of a list
@@ -49,8 +49,8 @@ all_of_image P f each (x ∷ xs) = (each x, all_of_image P f each xs)
 -- ---- an inbox changes
 
 pub names_kept : (By : List SeenMaint → List SeenMaint → Type 0) (name : NodeName) (old new : Inboxes) → ChangesNode name By old new
-    → names_of new ≡ names_of old
-names_kept By name old new change = ap names_of change.is ∙ names_set old change.place name change.from change.to change.stands
+    → node_names new ≡ node_names old
+names_kept By name old new change = ap node_names change.is ∙ names_set old change.place name change.from change.to change.stands
 
 module _ (s : Settings) (pens : Pens) where
   abbrev AreFor : NodeName → List SeenMaint → Type 0
@@ -117,17 +117,17 @@ module _ (s : Settings) (pens : Pens) where
   -- one node is told, which serves the shard
   pub tell_kept : (name : NodeName) (shard : ℕ) (entry : Entry) (note : View) (old new : Inboxes) → shard < s.shards
       → serves_in_turn (regions_of s) name shard ≡ true → StandsIn note entry → LiesOn note shard entry
-      → Sends (name ∷ []) (message_of shard entry note) old new → IsSeen pens shard note → AreInboxesOf s pens old → AreInboxesOf s pens new
+      → Sends (name ∷ []) (entry_message shard entry note) old new → IsSeen pens shard note → AreInboxesOf s pens old → AreInboxesOf s pens new
   tell_kept name shard entry note old new here serves stands lies sends seen is =
-      let for : IsMessageFor s pens name (message_of shard entry note) =
+      let for : IsMessageFor s pens name (entry_message shard entry note) =
       record { here = here; serves = serves; seen = seen; names = is_maint entry shard note stands lies } in
-      sends_kept (name ∷ []) (message_of shard entry note) old new (for, tt) sends is
+      sends_kept (name ∷ []) (entry_message shard entry note) old new (for, tt) sends is
 
   pub send_kept : (states : NodeStates) (region shard : ℕ) (entry : Entry) (note : View) (old new : Inboxes) → states.regions ≡ regions_of s
-      → shard < s.shards → StandsIn note entry → LiesOn note shard entry → Sends (told_of states region shard) (message_of shard entry note) old new
+      → shard < s.shards → StandsIn note entry → LiesOn note shard entry → Sends (told_of states region shard) (entry_message shard entry note) old new
       → IsSeen pens shard note → AreInboxesOf s pens old → AreInboxesOf s pens new
   send_kept states region shard entry note old new own here stands lies sends seen is =
-      let m = message_of shard entry note in
+      let m = entry_message shard entry note in
       sends_kept (told_of states region shard) m old new
       (told_serve states region shard m own refl
       (λ name serves. record { here = here; serves = serves; seen = seen; names = is_maint entry shard note stands lies })) sends is
@@ -170,7 +170,7 @@ inboxes_stay s pens inboxes = record {
 
 -- ---- empty inboxes
 
-names_empty : (names : List NodeName) → names_of (map no_messages names) ≡ names
+names_empty : (names : List NodeName) → node_names (map no_messages names) ≡ names
 names_empty [] = refl
 names_empty (name ∷ names) = ap (λ ns. name ∷ ns) (names_empty names)
 
@@ -200,7 +200,7 @@ clears_more xs ys place inbox left lt so_far is none =
     ap (λ (n : Named (List SeenMaint)). no_messages n.name) is ∙ ap (named (slice_index_or ys place inbox).name) (sym none) in
     ap (slice_set ys place) (sym next) ∙ map_over_more cleared xs ys place inbox lt so_far is
 
-names_cleared : (inboxes : Inboxes) → names_of (map cleared inboxes) ≡ names_of inboxes
+names_cleared : (inboxes : Inboxes) → node_names (map cleared inboxes) ≡ node_names inboxes
 names_cleared [] = refl
 names_cleared (inbox ∷ inboxes) = ap (λ names. inbox.name ∷ names) (names_cleared inboxes)
 
@@ -213,7 +213,7 @@ none_left (inbox ∷ inboxes) (suc place) name waiting stands = none_left inboxe
 -- what clearing leaves
 pub record IsCleared (old new : Inboxes) : Type 0 where
   pub empty : AreEmpty new
-  pub names : names_of new ≡ names_of old
+  pub names : node_names new ≡ node_names old
   pub of : (s : Settings) (pens : Pens) → AreInboxesOf s pens old → AreInboxesOf s pens new
 
 pub all_cleared : (old new : Inboxes) → new ≡ map cleared old → IsCleared old new

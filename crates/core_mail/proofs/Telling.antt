@@ -12,7 +12,7 @@ use Rattle.topology.specs.Choices.{serving_follower}
 use Rattle.topology.specs.Config.{Settings}
 use Rattle.topology.specs.Counts.{NodeCounts, tier_count}
 use Rattle.topology.specs.States.{NodeStates, is_cache, is_up}
-use Rattle.core_model.specs.Fleet.{ChangesNode, HasNode, follower_names, leader_names, names_of, regions_of}
+use Rattle.core_model.specs.Fleet.{ChangesNode, HasNode, follower_names, leader_names, node_names, regions_of}
 use Rattle.core_model.specs.Messages.{told_of}
 use Rattle.core_model.proofs.Turns.{named_follower}
 use Rattle.core_mail.specs.Inboxes.{Inboxes, Sends, cache_names}
@@ -74,7 +74,7 @@ module _ (states : NodeStates) (region shard : ℕ) (m : SeenMaint) where
 
 -- a follower that is up has an inbox
 pub told_there : (s : Settings) (states : NodeStates) (region tier shard : ℕ) (inboxes : Inboxes) → states.regions ≡ regions_of s
-    → names_of inboxes ≡ cache_names s → is_up states (serving_follower states.regions region tier shard) ≡ true
+    → node_names inboxes ≡ cache_names s → is_up states (serving_follower states.regions region tier shard) ≡ true
     → HasNode (serving_follower states.regions region tier shard) inboxes
 told_there s states region tier shard inboxes own names up =
     let name = serving_follower states.regions region tier shard in

@@ -9,7 +9,7 @@ use Rattle.replies.specs.declared.lists.Message.{Message}
 use Rattle.shard_log.specs.View.{View}
 use Rattle.tao_base.specs.declared.entry.Entry.{Entry}
 use Rattle.topology.specs.Config.{Settings}
-use Rattle.core_model.specs.Fleet.{ChangesNode, IsNodeOfName, follower_names, leader_names, named, names_of}
+use Rattle.core_model.specs.Fleet.{ChangesNode, IsNodeOfName, follower_names, leader_names, named, node_names}
 use Rattle.core_model.specs.Messages.{IsMessageFor}
 use Rattle.core_model.specs.Pens.{Pens}
 use Rattle.core_model.specs.declared.named.Named.{Named}
@@ -24,7 +24,7 @@ cache_names s = leader_names s ++ follower_names s
 
 -- each leader and follower has an inbox, and each message there is one for it
 pub record AreInboxesOf (s : Settings) (pens : Pens) (inboxes : Inboxes) : Type 0 where
-  pub names : names_of inboxes ≡ cache_names s
+  pub names : node_names inboxes ≡ cache_names s
   pub messages : (place : ℕ) (name : NodeName) (waiting : List SeenMaint) → slice_get inboxes place ≡ Some (named name waiting)
       → AllByRecursion (IsMessageFor s pens name) waiting
 
@@ -43,8 +43,8 @@ cleared inbox = no_messages inbox.name
 -- ---- messages that are sent
 
 -- the message of the entry of a shard's log, by what the note has seen of it
-abbrev pub message_of : ℕ → Entry → View → SeenMaint
-message_of shard entry note = seen_maint shard entry.position (keys_of entry) note
+abbrev pub entry_message : ℕ → Entry → View → SeenMaint
+entry_message shard entry note = seen_maint shard entry.position (keys_of entry) note
 
 -- one after another the nodes are sent the message
 abbrev pub Sends : List NodeName → SeenMaint → Inboxes → Inboxes → Type 0

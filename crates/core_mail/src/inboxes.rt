@@ -1,6 +1,6 @@
 //! What is done to the inbox of a node, which is found by its name.
 ghost use Rattle.std.specs.Prelude.{◌≡◌, IfOk, map};
-ghost use Rattle.core_mail.specs.Inboxes.{TakesOut, WaitsAt, cleared, message_of, no_messages, shown_message};
+ghost use Rattle.core_mail.specs.Inboxes.{TakesOut, WaitsAt, cleared, entry_message, no_messages, shown_message};
 ghost use Rattle.core_model.specs.Fleet.{ChangesNode, HasNode};
 ghost use Rattle.maint_msg.specs.Inbox.{IsSent};
 ghost use Rattle.shard_tables.specs.Written.{LiesOn, StandsIn};
@@ -40,7 +40,7 @@ fn message_of(
 ) -> Result<Maint, OutOfMemory>
     requires stands { StandsIn note.old entry.now }
     requires lies { LiesOn note.old shard entry.now }
-    ensures message { IfOk result (λ message. message ≡ message_of shard entry.now note.old) }
+    ensures message { IfOk result (λ message. message ≡ entry_message shard entry.now note.old) }
     ensures note { note.new ≡ note.old }
 {
     Maint::of(alloc, entry, shard, note.split()?)
@@ -49,7 +49,7 @@ fn message_of(
 fn send_to(inbox: &mut Inbox, alloc: Global, shard: u16, entry: &Entry, note: &mut Note)
     requires stands { StandsIn note.old entry.now }
     requires lies { LiesOn note.old shard entry.now }
-    ensures sends { IsSent (message_of shard entry.now note.old) inbox.old inbox.new }
+    ensures sends { IsSent (entry_message shard entry.now note.old) inbox.old inbox.new }
     ensures note { note.new ≡ note.old }
 {
     if let Ok(message) = message_of(alloc, shard, entry, note) {
@@ -69,7 +69,7 @@ pub(crate) fn send_at(
     requires there { HasNode name inboxes.old }
     requires stands { StandsIn note.old entry.now }
     requires lies { LiesOn note.old shard entry.now }
-    ensures sends { ChangesNode name (IsSent (message_of shard entry.now note.old)) inboxes.old inboxes.new }
+    ensures sends { ChangesNode name (IsSent (entry_message shard entry.now note.old)) inboxes.old inboxes.new }
     ensures note { note.new ≡ note.old }
 {
     let place = place_of(inboxes, name);

@@ -1,7 +1,7 @@
 //! `Mail`.
 ghost use Rattle.std.specs.Prelude.{◌≡◌, ◌<◌, ◌∷◌, [], IfOk, IfSome, IsTrue};
-ghost use Rattle.core_mail.specs.Inboxes.{AreEmpty, AreInboxesOf, Sends, ShowsInbox, TakesOut, WaitsAt, cache_names, message_of};
-ghost use Rattle.core_model.specs.Fleet.{ChangesNode, HasNode, names_of, regions_of, serves_in_turn};
+ghost use Rattle.core_mail.specs.Inboxes.{AreEmpty, AreInboxesOf, Sends, ShowsInbox, TakesOut, WaitsAt, cache_names, entry_message};
+ghost use Rattle.core_model.specs.Fleet.{ChangesNode, HasNode, node_names, regions_of, serves_in_turn};
 ghost use Rattle.core_model.specs.Messages.{IsMessageFor, told_of};
 ghost use Rattle.core_model.specs.Pens.{IsSeen, Pens};
 ghost use Rattle.shard_tables.specs.Written.{LiesOn, StandsIn};
@@ -47,10 +47,10 @@ fn send_each(
     note: &mut Note,
 )
     requires own { topology.now.regions ≡ regions_of config.now }
-    requires names { names_of inboxes.old ≡ cache_names config.now }
+    requires names { node_names inboxes.old ≡ cache_names config.now }
     requires stands { StandsIn note.old entry.now }
     requires lies { LiesOn note.old shard entry.now }
-    ensures sends { Sends (told_of topology.now region shard) (message_of shard entry.now note.old) inboxes.old inboxes.new }
+    ensures sends { Sends (told_of topology.now region shard) (entry_message shard entry.now note.old) inboxes.old inboxes.new }
     ensures note { note.new ≡ note.old }
 {
     for tier in 0..tier_count(config, region) {
@@ -90,11 +90,11 @@ impl Mail {
         note: &mut Note,
     )
         requires own { topology.now.regions ≡ regions_of config.now }
-        requires names { names_of self.old ≡ cache_names config.now }
+        requires names { node_names self.old ≡ cache_names config.now }
         requires here { shard < config.now.shards }
         requires stands { StandsIn note.old entry.now }
         requires lies { LiesOn note.old shard entry.now }
-        ensures sends { Sends (told_of topology.now region shard) (message_of shard entry.now note.old) self.old self.new }
+        ensures sends { Sends (told_of topology.now region shard) (entry_message shard entry.now note.old) self.old self.new }
         ensures note { note.new ≡ note.old }
         ensures of { (pens : Pens) → IsSeen pens shard note.old → AreInboxesOf config.now pens self.old → AreInboxesOf config.now pens self.new }
     {
@@ -129,7 +129,7 @@ impl Mail {
         requires serves { IsTrue (serves_in_turn (regions_of config.now) node shard) }
         requires stands { StandsIn note.old entry.now }
         requires lies { LiesOn note.old shard entry.now }
-        ensures sends { Sends (node ∷ []) (message_of shard entry.now note.old) self.old self.new }
+        ensures sends { Sends (node ∷ []) (entry_message shard entry.now note.old) self.old self.new }
         ensures note { note.new ≡ note.old }
         ensures of { (pens : Pens) → IsSeen pens shard note.old → AreInboxesOf config.now pens self.old → AreInboxesOf config.now pens self.new }
     {
@@ -140,7 +140,7 @@ impl Mail {
     /// Takes out all messages of every node. Takes no memory.
     pub fn clear(&mut self)
         ensures empty { AreEmpty self.new }
-        ensures names { names_of self.new ≡ names_of self.old }
+        ensures names { node_names self.new ≡ node_names self.old }
         ensures of { (s : Settings) (pens : Pens) → AreInboxesOf s pens self.old → AreInboxesOf s pens self.new }
     {
         clear_all(&mut self.inboxes);

@@ -11,22 +11,22 @@ use Rattle.ask_table.specs.declared.ask.Ask.{Ask}
 use Rattle.cache_items.specs.Kept.{ask_at}
 use Rattle.cache_items.specs.Node.{raised_all}
 use Rattle.maint_msg.specs.declared.key_versions.KeyVersion.{KeyVersion}
-use Rattle.core_model.specs.Asks.{AreOn, AsksGoOn, AsksStayOn, IsAskOn}
+use Rattle.core_model.specs.Asks.{AreAsksOn, AsksGoOn, AsksStayOn, IsAskOn}
 
-on_append : (number : ℕ) (key : Key) (xs : List Ask) (y : Ask) → AreOn number key xs → (y.number ≡ number → y.key ≡ key) → AreOn number key (xs ++ y ∷ [])
+on_append : (number : ℕ) (key : Key) (xs : List Ask) (y : Ask) → AreAsksOn number key xs → (y.number ≡ number → y.key ≡ key) → AreAsksOn number key (xs ++ y ∷ [])
 on_append number key [] y all last = (last, tt)
 on_append number key (x ∷ xs) y all last = (all.0, on_append number key xs y all.1 last)
 
 raised_number : (key : Key) (version : ℕ) (a : Ask) → ((raised_ask key version a).number ≡ a.number) × ((raised_ask key version a).key ≡ a.key)
 raised_number key version a = elim (cases_Bool (same_key a.key key)) [ inl h ↦ rw h (refl, refl) | inr h ↦ rw h (refl, refl) ]
 
-on_map : (number : ℕ) (key : Key) (other : Key) (version : ℕ) (xs : List Ask) → AreOn number key xs → AreOn number key (map (raised_ask other version) xs)
+on_map : (number : ℕ) (key : Key) (other : Key) (version : ℕ) (xs : List Ask) → AreAsksOn number key xs → AreAsksOn number key (map (raised_ask other version) xs)
 on_map number key other version [] all = tt
 on_map number key other version (x ∷ xs) all =
     let same = raised_number other version x in
     ((λ e. same.1 ∙ all.0 (sym same.0 ∙ e)), on_map number key other version xs all.1)
 
-on_filter : (number : ℕ) (key : Key) (q : Ask → Bool) (xs : List Ask) → AreOn number key xs → AreOn number key (filter q xs)
+on_filter : (number : ℕ) (key : Key) (q : Ask → Bool) (xs : List Ask) → AreAsksOn number key xs → AreAsksOn number key (filter q xs)
 on_filter number key q [] all = tt
 on_filter number key q (x ∷ xs) all = elim (cases_Bool (q x)) [
   | inl h ↦ rw h (all.0, on_filter number key q xs all.1)
@@ -58,7 +58,7 @@ pub ends : (t : Asks) (number : ℕ) → AsksGoOn t (without_ask number t)
 ends t number other key is = record { given = is.given; on = on_filter other key (λ a. not (is_numbered number a)) t.asks is.on }
 
 -- numbers that rise up to one are below it
-below : (n : ℕ) (key : Key) (xs : List Ask) → IsRising (map (λ a. a.number) xs ++ n ∷ []) → AreOn n key xs × ((y : Ask) (ys : List Ask) → xs ≡ y ∷ ys → y.number < n)
+below : (n : ℕ) (key : Key) (xs : List Ask) → IsRising (map (λ a. a.number) xs ++ n ∷ []) → AreAsksOn n key xs × ((y : Ask) (ys : List Ask) → xs ≡ y ∷ ys → y.number < n)
 below n key [] rising = (tt, λ y ys e. absurd (cc))
 below n key (x ∷ []) rising = (((λ e. let lt = rising.0 in absurd (omega arith)), tt), λ y ys e. (let same : x ≡ y = cc in subst (λ (z : Ask). z.number < n) same rising.0))
 below n key (x ∷ z ∷ zs) rising =
@@ -73,7 +73,7 @@ begun t key mark table = record {
   on = on_append (t.given + 1) key t.asks (fresh t key mark) (below (t.given + 1) key t.asks table.rising).0 (λ e. refl);
 }
 
-found_on : (number : ℕ) (key : Key) (xs : List Ask) → AreOn number key xs → IfSome (find (is_numbered number) xs) (λ a. a.key ≡ key)
+found_on : (number : ℕ) (key : Key) (xs : List Ask) → AreAsksOn number key xs → IfSome (find (is_numbered number) xs) (λ a. a.key ≡ key)
 found_on number key [] all = tt
 found_on number key (x ∷ xs) all = elim (cases_Bool (x.number == number)) [
   | inl h ↦ rw h (all.0 (let e : x.number ≡ number = grind arith in e))

@@ -3,7 +3,7 @@ use Rattle.std.proofs.Common.{◌≡◌, ◌≢◌, ℕ, zero, suc, ◌<◌, Lis
 use Rattle.std.specs.Prelude.{All, HoldsAt, IsSomeAnd, slice_get, slice_index_or}
 use Rattle.std.specs.List.{AllWithin}
 use Rattle.node_name.specs.declared.NodeName.{NodeName}
-use Rattle.core_model.specs.Fleet.{HasNode, IsFirstAt, names_of}
+use Rattle.core_model.specs.Fleet.{HasNode, IsFirstAt, node_names}
 use Rattle.core_model.specs.declared.named.Named.{Named}
 
 -- what holds at a place of the list holds of the element there
@@ -18,7 +18,7 @@ not_at_place P [] place fails h = h
 not_at_place P (x ∷ xs) zero fails h = fails x h
 not_at_place P (x ∷ xs) (suc place) fails h = not_at_place P xs place fails h
 
-not_named : {N : Type 0} (nodes : List (Named N)) (name : NodeName) (place : ℕ) → place < length (names_of nodes) → slice_index_or (names_of nodes) place name ≡ name
+not_named : {N : Type 0} (nodes : List (Named N)) (name : NodeName) (place : ℕ) → place < length (node_names nodes) → slice_index_or (node_names nodes) place name ≡ name
     → ((k : ℕ) (d : Named N) → k < length nodes → (slice_index_or nodes k d).name ≢ name) → ⊥
 not_named [] name place lt is fails = omega arith
 not_named (n ∷ ns) name zero lt is fails = fails 0 n (omega arith) is

@@ -34,7 +34,7 @@ use Rattle.core_model.specs.Consistent.{MarksGoOn, MarksRise, marks_at}
 use Rattle.core_model.specs.Evictions.{Evicts}
 use Rattle.core_model.specs.Laws.{NodesMarkOn}
 use Rattle.core_model.specs.Messages.{Processes}
-use Rattle.core_model.specs.Reads.{AfterLook, LeaderAnswers, Wanted}
+use Rattle.core_model.specs.Reads.{AfterLook, LeaderAnswers, Wanted, store_calls}
 
 -- ---- the shards that are served
 
@@ -142,7 +142,7 @@ keeps_given from to (leader.Past answer version total note) keeps = same_node fr
 keeps_given from to (leader.Behind version) keeps = same_node from to keeps
 
 answers_on : (types : EdgeTypes) (read : Wanted) (given : LeaderAnswer) (masters : List Store) (before after : KeeperState) (from to : Node)
-    → LeaderAnswers types read given masters before after from to → MarksGoOn from to
+    → LeaderAnswers types read given (store_calls masters before after) from to → MarksGoOn from to
 answers_on types read given masters before after from to does = elim does.answers [
   | inl own ↦ served_stays from to (ap (λ (n : Node). n.served) own.node_is)
   | inr reads ↦ keeps_given from to given reads.keeps

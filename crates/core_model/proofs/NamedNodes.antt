@@ -2,7 +2,7 @@
 use Rattle.std.proofs.Common.{◌≡◌, ℕ, zero, suc, List, [], ◌∷◌, Option, Some, IfOk, OnErr, Result, Ok, Err, refl, ap, sym, ◌∙◌, subst, inl, inr}
 use Rattle.std.specs.Prelude.{slice_get, slice_index_or, slice_set}
 use Rattle.node_name.specs.declared.NodeName.{NodeName}
-use Rattle.core_model.specs.Fleet.{ChangesNode, EachNode, IsFirstAt, named, names_of}
+use Rattle.core_model.specs.Fleet.{ChangesNode, EachNode, IsFirstAt, named, node_names}
 use Rattle.core_model.specs.declared.named.Named.{Named}
 use Rattle.core_model.proofs.Places.{IsRead, get_set, one_some, read_at, set_same}
 
@@ -76,9 +76,9 @@ changes_so By So name old new so change = record {
 
 -- the names stay
 pub names_set : {N : Type 0} (nodes : List (Named N)) (place : ℕ) (name : NodeName) (from to : N) → slice_get nodes place ≡ Some (named name from)
-    → names_of (slice_set nodes place (named name to)) ≡ names_of nodes
+    → node_names (slice_set nodes place (named name to)) ≡ node_names nodes
 names_set [] place name from to h = refl
-names_set (n ∷ ns) zero name from to h = (let e : n ≡ named name from = one_some n (named name from) h in ap (λ x. x ∷ names_of ns) (sym (ap (λ m. m.name) e)))
+names_set (n ∷ ns) zero name from to h = (let e : n ≡ named name from = one_some n (named name from) h in ap (λ x. x ∷ node_names ns) (sym (ap (λ m. m.name) e)))
 names_set (n ∷ ns) (suc place) name from to h = ap (λ xs. n.name ∷ xs) (names_set ns place name from to h)
 
 -- what is so of every node of a name stays so, where it is so of the one that changes

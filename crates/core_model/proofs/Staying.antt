@@ -43,7 +43,7 @@ use Rattle.topology.specs.Config.{Settings}
 use Rattle.core_model.specs.Consistent.{AreSeen, IsNodeOf}
 use Rattle.core_model.specs.Laws.{MessagesStay, NodesStay}
 use Rattle.core_model.specs.Pens.{IsSeen, Pens, Rise}
-use Rattle.core_model.specs.Reads.{AfterLook, IsGivenAnswer, IsGivenFill, LeaderAnswers, Wanted}
+use Rattle.core_model.specs.Reads.{AfterLook, IsGivenAnswer, IsGivenFill, LeaderAnswers, Wanted, store_calls}
 use Rattle.core_model.proofs.NodesSeen.{seen-rises, served-forgets, served-marks, served-meets, served-rises}
 
 -- ---- the shards that are served
@@ -161,7 +161,7 @@ module _ (s : Settings) (pens : Pens) (name : NodeName) where
   gives_node read (leader.Behind version) from to keeps is_given distinct truth is = subst (IsNodeOf s pens name) (sym keeps) is
 
   pub answers_node : (read : Wanted) (given : LeaderAnswer) (masters : List Store) (before after : KeeperState) (from to : Node)
-      → LeaderAnswers (types_of s.schema) read given masters before after from to → IsGivenAnswer (types_of s.schema) pens read given
+      → LeaderAnswers (types_of s.schema) read given (store_calls masters before after) from to → IsGivenAnswer (types_of s.schema) pens read given
       → IsDistinct same_key (keys_held from.items) → IsTrueNode to → IsNodeOf s pens name from → IsNodeOf s pens name to
   answers_node read given masters before after from to answers is_given distinct truth is = elim answers.answers [
     | inl own ↦

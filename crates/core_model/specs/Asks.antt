@@ -9,13 +9,13 @@ use Rattle.maint_msg.specs.declared.key_versions.KeyVersion.{KeyVersion}
 use Rattle.tao_base.specs.declared.id.Key.{Key}
 
 -- each open ask of that number is on the key
-abbrev pub AreOn : ℕ → Key → List Ask → Type 0
-AreOn number key asks = AllByRecursion (λ a. a.number ≡ number → a.key ≡ key) asks
+abbrev pub AreAsksOn : ℕ → Key → List Ask → Type 0
+AreAsksOn number key asks = AllByRecursion (λ a. a.number ≡ number → a.key ≡ key) asks
 
 -- an ask of this number was given, and where it is still open, it is on the key
 pub record IsAskOn (t : Asks) (number : ℕ) (key : Key) : Type 0 where
   pub given : number ≤ t.given
-  pub on : AreOn number key t.asks
+  pub on : AreAsksOn number key t.asks
 
 -- numbers of asks go on: none is given again, and one that is still open is on its key
 abbrev pub AsksGoOn : Asks → Asks → Type 0

@@ -13,7 +13,7 @@ use Rattle.tao_keeper.specs.Table.{Tables}
 use Rattle.tao_schema.specs.Schema.{types_of}
 use Rattle.topology.specs.Config.{Settings}
 use Rattle.core_model.specs.Asks.{AsksGoOn}
-use Rattle.core_model.specs.Fleet.{EachNode, Fleet, follower_names, leader_names, names_of, served_by}
+use Rattle.core_model.specs.Fleet.{EachNode, Fleet, follower_names, leader_names, node_names, served_by}
 use Rattle.core_model.specs.Messages.{AreRefillsFor}
 use Rattle.core_model.specs.Pens.{IsSeen, Pens, Rise, pens_of}
 use Rattle.core_model.specs.Stores.{AreStoresOf}
@@ -45,8 +45,8 @@ AreFollowersOf s pens followers =
 
 -- the nodes are those of the configuration, and each is one that it should be
 pub record IsFleetOf (s : Settings) (f : Fleet) : Type 0 where
-  pub leader_names : names_of f.leaders ≡ leader_names s
-  pub follower_names : names_of f.followers ≡ follower_names s
+  pub leader_names : node_names f.leaders ≡ leader_names s
+  pub follower_names : node_names f.followers ≡ follower_names s
   pub leaders : AreLeadersOf s (pens_of f.masters) f.leaders
   pub followers : AreFollowersOf s (pens_of f.masters) f.followers
 
@@ -76,7 +76,7 @@ pub record AllMarksGoOn (old new : Fleet) : Type 0 where
 -- what each step keeps, whatever it does: logs and the names of nodes, asks go on, and no low-water mark falls
 pub record GoesOn (old new : Fleet) : Type 0 where
   pub rise : Rise (pens_of old.masters) (pens_of new.masters)
-  pub leaders : names_of new.leaders ≡ names_of old.leaders
-  pub followers : names_of new.followers ≡ names_of old.followers
+  pub leaders : node_names new.leaders ≡ node_names old.leaders
+  pub followers : node_names new.followers ≡ node_names old.followers
   pub asks : EachNode (λ name from to. AsksGoOn from.node.asks to.node.asks) old.followers new.followers
   pub marks : AllMarksGoOn old new

@@ -22,12 +22,12 @@ pub record Fleet : Type 0 where
 abbrev pub named : {N : Type 0} → NodeName → N → Named N
 named name node = record { name = name; node = node }
 
-abbrev pub names_of : {N : Type 0} → List (Named N) → List NodeName
-names_of nodes = map (λ n. n.name) nodes
+abbrev pub node_names : {N : Type 0} → List (Named N) → List NodeName
+node_names nodes = map (λ n. n.name) nodes
 
 -- one of the nodes has the name
 abbrev pub HasNode : {N : Type 0} → NodeName → List (Named N) → Type 0
-HasNode name nodes = Contains (names_of nodes) name
+HasNode name nodes = Contains (node_names nodes) name
 
 -- the node at the place has the name
 abbrev pub IsNodeAt : {N : Type 0} → NodeName → List (Named N) → ℕ → Type 0

@@ -26,7 +26,7 @@ abbrev pub job_on : ℕ → Job → ShardJob
 job_on shard job = record { shard = shard; job = job }
 
 -- the job is what the entry of its shard owes to the shard on which its records lie
-pub record IsJobOf (s : Settings) (j : ShardJob) (owed : Owed) : Type 0 where
+pub record OwesShardJob (s : Settings) (j : ShardJob) (owed : Owed) : Type 0 where
   pub shard_is : owed.shard ≡ j.shard
   pub other_is : owed.other ≡ far_shard j.job
   pub position_is : owed.entry.position ≡ j.job.position
@@ -35,7 +35,7 @@ pub record IsJobOf (s : Settings) (j : ShardJob) (owed : Owed) : Type 0 where
 -- an entry stands whose job it is, open or not
 pub record IsOwedJob (s : Settings) (tables : Tables) (j : ShardJob) : Type 0 where
   pub owed : Owed
-  pub of : IsJobOf s j owed
+  pub of : OwesShardJob s j owed
   pub owes : IsOwed (types_of s.schema) (stores_in s tables) owed
 
 -- it may be merged: a keeper gave it, and where the tables are told it is owed
@@ -46,25 +46,25 @@ pub record CanBeMerged (tells : Bool) (s : Settings) (tables : Tables) (j : Shar
 -- it is the first open job of its shard
 pub record IsFirstJobOf (s : Settings) (tables : Tables) (j : ShardJob) : Type 0 where
   pub owed : Owed
-  pub of : IsJobOf s j owed
+  pub of : OwesShardJob s j owed
   pub owes : IsOwed (types_of s.schema) (stores_in s tables) owed
   pub first : IsFirstJob (types_of s.schema) (stores_in s tables) owed
 
 -- all of its records, or later ones, are where they are owed
 pub record IsMergedJob (s : Settings) (tables : Tables) (j : ShardJob) : Type 0 where
   pub owed : Owed
-  pub of : IsJobOf s j owed
+  pub of : OwesShardJob s j owed
   pub owes : IsOwed (types_of s.schema) (stores_in s tables) owed
   pub done : HasJob (types_of s.schema) (log_of (stores_in s tables).logs owed.other) owed.entry
 
 -- the step of the plain machine that merges it
 pub record MergesOwed (s : Settings) (old new : Tables) (j : ShardJob) : Type 0 where
   pub owed : Owed
-  pub of : IsJobOf s j owed
+  pub of : OwesShardJob s j owed
   pub merges : MergesJob (types_of s.schema) (stores_in s old) (stores_in s new) owed
 
 -- and the one that ends it
 pub record EndsOwed (s : Settings) (old new : Tables) (j : ShardJob) : Type 0 where
   pub owed : Owed
-  pub of : IsJobOf s j owed
+  pub of : OwesShardJob s j owed
   pub ends : EndsJob (types_of s.schema) (stores_in s old) (stores_in s new) owed

@@ -40,7 +40,7 @@ use Rattle.core_model.specs.Fleet.{regions_of, serves_in_turn}
 use Rattle.core_model.specs.Jobs.{IsMergedJob, IsOwedJob, ShardJob}
 use Rattle.core_model.specs.Messages.{Delivers, DeliversThere, IsMessageFor, IsRefillFor, Processes, TakesRefill}
 use Rattle.core_model.specs.Pens.{IsSeen, Pens, Rise}
-use Rattle.core_model.specs.Reads.{EndsAsk, IsGivenAnswer, IsGivenFill, IsLegalLook, KeepsFill, LeaderAnswers, LooksFirst, Wanted}
+use Rattle.core_model.specs.Reads.{EndsAsk, IsGivenAnswer, IsGivenFill, IsLegalLook, KeepsFill, LeaderAnswers, LooksFirst, Wanted, store_calls, taken_fill}
 use Rattle.core_model.specs.Serving.{IsFollowerFor, IsLeaderFor}
 use Rattle.core_model.specs.Stores.{AreKeptIn}
 use Rattle.core_model.specs.Writes.{AppliesTo}
@@ -70,11 +70,11 @@ pub record NodesStay (s : Settings) (pens : Pens) (name : NodeName) : Type 0 whe
       → IsDistinct same_key (keys_held old.node.items) → IsTrueNode new.node → IsNodeOf s pens name old.node → IsNodeOf s pens name new.node
   -- a leader's answer, which is for the read
   pub answers : (read : Wanted) (given : LeaderAnswer) (masters : List Store) (before after : KeeperState) (old new : Node)
-      → LeaderAnswers (types_of s.schema) read given masters before after old new → IsGivenAnswer (types_of s.schema) pens read given
+      → LeaderAnswers (types_of s.schema) read given (store_calls masters before after) old new → IsGivenAnswer (types_of s.schema) pens read given
       → IsDistinct same_key (keys_held old.items) → IsTrueNode new → IsNodeOf s pens name old → IsNodeOf s pens name new
   -- a fill that is kept, or not
   pub keeps : (read : Wanted) (ask : Option ℕ) (fill : SealedItem) (answer : Answer) (kept : Kept) (old new : FollowerState)
-      → KeepsFill (types_of s.schema) read.query ask fill answer kept old new → IsGivenFill (types_of s.schema) pens read fill
+      → KeepsFill (types_of s.schema) read.query (taken_fill ask fill answer kept) old new → IsGivenFill (types_of s.schema) pens read fill
       → IsDistinct same_key (keys_held old.node.items) → IsTrueNode new.node → IsNodeOf s pens name old.node → IsNodeOf s pens name new.node
   -- an ask that ends
   pub ends : (ask : Option ℕ) (old new : FollowerState) → EndsAsk ask old new → IsTrueNode new.node → IsNodeOf s pens name old.node
@@ -128,7 +128,7 @@ pub record NodesAskOn : Type 0 where
   pub looks : (types : EdgeTypes) (read : Wanted) (look : Look) (ask : Option ℕ) (old new : FollowerState) → LooksFirst types read look ask old new
       → AsksGoOn old.node.asks new.node.asks
   pub keeps : (types : EdgeTypes) (read : Wanted) (ask : Option ℕ) (fill : SealedItem) (answer : Answer) (kept : Kept) (old new : FollowerState)
-      → KeepsFill types read.query ask fill answer kept old new → AsksGoOn old.node.asks new.node.asks
+      → KeepsFill types read.query (taken_fill ask fill answer kept) old new → AsksGoOn old.node.asks new.node.asks
   pub ends : (ask : Option ℕ) (old new : FollowerState) → EndsAsk ask old new → AsksGoOn old.node.asks new.node.asks
   pub applies : (types : EdgeTypes) (shard : ℕ) (entry : Entry) (note : View) (old new : FollowerState) → AppliesTo types shard entry note old new
       → AsksGoOn old.node.asks new.node.asks
@@ -142,9 +142,9 @@ pub record NodesMarkOn : Type 0 where
   pub looks : (types : EdgeTypes) (read : Wanted) (look : Look) (ask : Option ℕ) (old new : FollowerState) → LooksFirst types read look ask old new
       → MarksGoOn old.node new.node
   pub answers : (types : EdgeTypes) (read : Wanted) (given : LeaderAnswer) (masters : List Store) (before after : KeeperState) (old new : Node)
-      → LeaderAnswers types read given masters before after old new → MarksGoOn old new
+      → LeaderAnswers types read given (store_calls masters before after) old new → MarksGoOn old new
   pub keeps : (types : EdgeTypes) (read : Wanted) (ask : Option ℕ) (fill : SealedItem) (answer : Answer) (kept : Kept) (old new : FollowerState)
-      → KeepsFill types read.query ask fill answer kept old new → MarksGoOn old.node new.node
+      → KeepsFill types read.query (taken_fill ask fill answer kept) old new → MarksGoOn old.node new.node
   pub ends : (ask : Option ℕ) (old new : FollowerState) → EndsAsk ask old new → MarksGoOn old.node new.node
   pub writes : (types : EdgeTypes) (shard : ℕ) (entry : Option Entry) (note : View) (old new : Node) → TakesWritten types shard entry note old new
       → MarksGoOn old new

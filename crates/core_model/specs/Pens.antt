@@ -33,6 +33,6 @@ abbrev pub pens_of : List Store → Pens
 pens_of masters shard = view_or_none (slice_get masters shard)
 
 -- the notes are of the first shards' logs, so many, in order, and have seen beginnings of these
-pub record AreNotesOf (pens : Pens) (count : ℕ) (notes : List View) : Type 0 where
+pub record AreFirstNotes (pens : Pens) (count : ℕ) (notes : List View) : Type 0 where
   pub long : length notes ≡ count
   pub seen : (shard : ℕ) (note : View) → slice_get notes shard ≡ Some note → IsSeen pens shard note

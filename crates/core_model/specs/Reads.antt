@@ -10,7 +10,7 @@ use Rattle.cache_items.specs.declared.look.Kept.{Kept}
 use Rattle.cache_items.specs.declared.look.Look.{Look}
 use Rattle.cache_items.specs.declared.look.Look.TheVariants.{Hit, Miss}
 use Rattle.follower_cache.specs.Seen.{FollowerState}
-use Rattle.leader_tier.specs.LeaderReads.{AnswersRead, asked_read}
+use Rattle.leader_tier.specs.LeaderReads.{GivesAnswer, asked_read}
 use Rattle.sealed_item.specs.Decided.{IsWithinBound, content_answer, content_decides}
 use Rattle.sealed_item.specs.Fills.{SealedItem}
 use Rattle.shard_log.specs.GrowthLaws.{IsLegalIn}
@@ -67,12 +67,20 @@ IsLegalLook types pens read Miss = ⊤
 
 -- ---- ask
 
+-- the masters' stores, and the keeper before and after their calls
+pub record StoreCalls : Type 0 where
+  pub masters : List Store
+  pub before : KeeperState
+  pub after : KeeperState
+
+abbrev pub store_calls : List Store → KeeperState → KeeperState → StoreCalls
+store_calls masters before after = record { masters = masters; before = before; after = after }
+
 -- a leader answers of an item of its own, or of the shard's store
-pub record LeaderAnswers (types : EdgeTypes) (read : Wanted) (given : LeaderAnswer) (masters : List Store)
-    (before after : KeeperState) (old new : Node) : Type 0 where
+pub record LeaderAnswers (types : EdgeTypes) (read : Wanted) (given : LeaderAnswer) (calls : StoreCalls) (old new : Node) : Type 0 where
   pub store : Store
-  pub stands : slice_get masters (query_shard read.query) ≡ Some store
-  pub answers : AnswersRead (asked_read types old read.query read.floor) store given new before after
+  pub stands : slice_get calls.masters (query_shard read.query) ≡ Some store
+  pub answers : GivesAnswer (asked_read types old read.query read.floor) store given new calls.before calls.after
 
 -- what was given is for the read, was seen of its shard's log, and is at its floor
 pub record IsGivenFill (types : EdgeTypes) (pens : Pens) (read : Wanted) (fill : SealedItem) : Type 0 where
@@ -105,12 +113,21 @@ pub record StoreReads (types : EdgeTypes) (query : Query) (read : ReadOut) (mast
 
 -- ---- keep
 
+-- a fill that came for an ask: what it answers, and whether it is kept
+pub record TakenFill : Type 0 where
+  pub ask : Option ℕ
+  pub fill : SealedItem
+  pub answer : Answer
+  pub kept : Kept
+
+abbrev pub taken_fill : Option ℕ → SealedItem → Answer → Kept → TakenFill
+taken_fill ask fill answer kept = record { ask = ask; fill = fill; answer = answer; kept = kept }
+
 -- the follower answers from the fill, and keeps it or not by the rule of its ask, which ends
-pub record KeepsFill (types : EdgeTypes) (query : Query) (ask : Option ℕ) (fill : SealedItem) (answer : Answer) (kept : Kept)
-    (old new : FollowerState) : Type 0 where
-  pub answer_is : answer ≡ content_answer types fill.content query
-  pub kept_is : GivesKept (kept_of ask old.node.asks fill.version fill.as_of) kept
-  pub node_is : new ≡ with_node (took fill kept (with_ended_ask ask old.node)) old
+pub record KeepsFill (types : EdgeTypes) (query : Query) (taken : TakenFill) (old new : FollowerState) : Type 0 where
+  pub answer_is : taken.answer ≡ content_answer types taken.fill.content query
+  pub kept_is : GivesKept (kept_of taken.ask old.node.asks taken.fill.version taken.fill.as_of) taken.kept
+  pub node_is : new ≡ with_node (took taken.fill taken.kept (with_ended_ask taken.ask old.node)) old
 
 -- the follower's ask has ended
 abbrev pub EndsAsk : Option ℕ → FollowerState → FollowerState → Type 0

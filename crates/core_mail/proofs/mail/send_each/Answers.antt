@@ -3,8 +3,8 @@ use Rattle.maint_msg.specs.Inbox.{IsSent}
 use Rattle.topology.specs.Choices.{serving_follower}
 use Rattle.topology.specs.Counts.{NodeCounts, tier_count}
 use Rattle.topology.specs.States.{is_up}
-use Rattle.core_model.specs.Fleet.{ChangesNode, HasNode, names_of}
-use Rattle.core_mail.specs.Inboxes.{message_of}
+use Rattle.core_model.specs.Fleet.{ChangesNode, HasNode, node_names}
+use Rattle.core_mail.specs.Inboxes.{entry_message}
 use Rattle.core_mail.proofs.InboxLemmas.{names_kept}
 use Rattle.core_mail.proofs.Telling.{SendsRest, all_told, one_down, one_told, told_there}
 use Rattle.core_mail.proofs.mail.send_each.Goals.{then-is_up, else-is_up}
@@ -24,7 +24,7 @@ loop-tier-preserved c =
     let states = c.args.topology.now in
     let tier = c.loop-tier.tier in
     let start = c.args.inboxes.now in
-    let m = message_of c.args.shard c.args.entry.now c.args.note.now in
+    let m = entry_message c.args.shard c.args.entry.now c.args.note.now in
     let name = c.serving_follower-follower.result in
     let many : c.tier_count-tier-end.result ≡ tier_count states.regions c.args.region =
     c.tier_count-tier-end.ensures ∙ ap (λ (rs : List NodeCounts). tier_count rs c.args.region) (sym c.requires.own) in
@@ -34,14 +34,14 @@ loop-tier-preserved c =
     elim c.if-is_up.branch [
       | then-is_up w ↦ (
           let change : ChangesNode name (IsSent m) c.loop-tier.inboxes w.send_at.new.inboxes =
-          subst (λ note. ChangesNode name (IsSent (message_of c.args.shard c.args.entry.now note)) c.loop-tier.inboxes w.send_at.new.inboxes)
+          subst (λ note. ChangesNode name (IsSent (entry_message c.args.shard c.args.entry.now note)) c.loop-tier.inboxes w.send_at.new.inboxes)
           c.loop-tier.invariant.same w.send_at.ensures.sends in
           record {
             sends =
                 subst (SendsRest states c.args.region c.args.shard m (tier + 1) start) (sym w.inboxes-is)
                 (one_told states c.args.region c.args.shard m tier start c.loop-tier.inboxes w.send_at.new.inboxes name within called
                 (sym c.is_up.ensures ∙ w.if-is_up.true) change c.loop-tier.invariant.sends);
-            names = ap names_of w.inboxes-is ∙ (names_kept (IsSent m) name c.loop-tier.inboxes w.send_at.new.inboxes change ∙ c.loop-tier.invariant.names);
+            names = ap node_names w.inboxes-is ∙ (names_kept (IsSent m) name c.loop-tier.inboxes w.send_at.new.inboxes change ∙ c.loop-tier.invariant.names);
             same = w.note-is ∙ (w.send_at.ensures.note ∙ c.loop-tier.invariant.same);
           })
       | else-is_up w ↦ record {
@@ -49,7 +49,7 @@ loop-tier-preserved c =
             subst (SendsRest states c.args.region c.args.shard m (tier + 1) start) (sym w.inboxes-is)
             (one_down states c.args.region c.args.shard m tier start c.loop-tier.inboxes name within called (sym c.is_up.ensures ∙ w.if-is_up.false)
             c.loop-tier.invariant.sends);
-        names = ap names_of w.inboxes-is ∙ c.loop-tier.invariant.names;
+        names = ap node_names w.inboxes-is ∙ c.loop-tier.invariant.names;
         same = w.note-is ∙ c.loop-tier.invariant.same;
       }
     ]
@@ -60,5 +60,5 @@ returns-clause-sends c =
     let many : c.tier_count-tier-end.result ≡ tier_count states.regions c.args.region =
     c.tier_count-tier-end.ensures ∙ ap (λ (rs : List NodeCounts). tier_count rs c.args.region) (sym c.requires.own) in
     let past : tier_count states.regions c.args.region ≤ c.loop-tier.tier = omega (arith, c.loop-tier-test.false, many) in
-    all_told states c.args.region c.args.shard (message_of c.args.shard c.args.entry.now c.args.note.now) c.loop-tier.tier c.args.inboxes.now
+    all_told states c.args.region c.args.shard (entry_message c.args.shard c.args.entry.now c.args.note.now) c.loop-tier.tier c.args.inboxes.now
     c.loop-tier.inboxes past c.loop-tier.invariant.sends

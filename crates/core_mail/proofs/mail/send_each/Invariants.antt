@@ -1,13 +1,13 @@
 use Rattle.std.proofs.Common.{◌≡◌}
-use Rattle.core_model.specs.Fleet.{names_of}
-use Rattle.core_mail.specs.Inboxes.{cache_names, message_of}
+use Rattle.core_model.specs.Fleet.{node_names}
+use Rattle.core_mail.specs.Inboxes.{cache_names, entry_message}
 use Rattle.core_mail.proofs.Telling.{SendsRest}
 use Rattle.core_mail.proofs.mail.send_each.Given as goal
 
 -- what was sent so far, with what is sent from here on, comes to the whole
 abbrev pub invariant-loop-tier : goal.invariant-loop-tier
 invariant-loop-tier l = record {
-  sends : SendsRest l.topology l.region l.shard (message_of l.shard l.entry l.fn.note) l.tier l.fn.inboxes l.inboxes;
-  names : names_of l.inboxes ≡ cache_names l.config;
+  sends : SendsRest l.topology l.region l.shard (entry_message l.shard l.entry l.fn.note) l.tier l.fn.inboxes l.inboxes;
+  names : node_names l.inboxes ≡ cache_names l.config;
   same : l.note ≡ l.fn.note;
 }

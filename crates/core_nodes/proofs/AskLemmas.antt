@@ -25,6 +25,7 @@ use Rattle.tao_keeper.specs.KeeperState.{KeeperState, KeepsTables}
 use Rattle.tao_keeper.specs.Table.{Stays, Tables}
 use Rattle.tao_schema.specs.Schema.{types_of}
 use Rattle.topology.specs.Config.{Settings}
+use Rattle.core_model.proofs.NamedNodes.{changes_so}
 use Rattle.core_model.proofs.KeptStores.{kept_stays}
 use Rattle.core_model.proofs.Legal.{reads_are_legal}
 use Rattle.core_model.proofs.MarkingOn.{nodes_mark_on}
@@ -34,7 +35,7 @@ use Rattle.core_model.proofs.Turns.{serves_its_turn}
 use Rattle.core_model.specs.Consistent.{GoesOn, IsConsistent, IsFleetOf, IsNodeOf}
 use Rattle.core_model.specs.Fleet.{ChangesNode, Fleet}
 use Rattle.core_model.specs.Pens.{IsSeen, Pens, pens_of, view_or_none}
-use Rattle.core_model.specs.Reads.{IsGivenAnswer, LeaderAnswers, Wanted}
+use Rattle.core_model.specs.Reads.{IsGivenAnswer, LeaderAnswers, Wanted, store_calls}
 use Rattle.core_model.specs.Serving.{IsLeaderFor}
 use Rattle.core_model.specs.Stores.{AreStoresOf}
 use Rattle.core_model.specs.declared.named.Named.{Named}
@@ -94,7 +95,7 @@ out_seen pens shard floor (out.Filled fill) seen = floor_seen pens shard (nat_lt
 out_seen pens shard floor (out.Past answer version total note) seen = floor_seen pens shard (nat_lt version floor) version (Past answer version total note) seen
 
 given_seen : (s : Settings) (name : NodeName) (read : Wanted) (given : LeaderAnswer) (stores : List Store) (before after : KeeperState) (from to : Node)
-    → LeaderAnswers (types_of s.schema) read given stores before after from to → IsNodeOf s (pens_of stores) name from
+    → LeaderAnswers (types_of s.schema) read given (store_calls stores before after) from to → IsNodeOf s (pens_of stores) name from
     → ((store : Store) → slice_get stores (query_shard read.query) ≡ Some store → store.role ≡ Master)
     → IsSeenAnswer (pens_of stores) (query_shard read.query) given
 given_seen s name read given stores before after from to does is roles =
@@ -123,6 +124,8 @@ is_given types pens read (Behind version) legal seen = legal
 
 pub record AskStep (tells : Bool) (s : Settings) (name : NodeName) (read : Wanted) (before after : KeeperState) (old new : Fleet)
     (r : Result LeaderAnswer StoreRefusal) : Type 0 where
+  pub answers : IfOk r (λ given. ChangesNode name (LeaderAnswers (types_of s.schema) read given (store_calls old.masters before after))
+      old.leaders new.leaders)
   pub consistent : IsConsistent tells s after.told new
   pub goes : GoesOn old new
   pub given : IfOk r (IsGivenAnswer (types_of s.schema) (pens_of new.masters) read)
@@ -130,12 +133,12 @@ pub record AskStep (tells : Bool) (s : Settings) (name : NodeName) (read : Wante
 pub ask_step : (tells : Bool) (s : Settings) (name : NodeName) (read : Wanted) (before after : KeeperState) (old : Fleet) (ls : List (Named Node))
     (r : Result LeaderAnswer StoreRefusal)
     → IsConsistent tells s before.told old
-    → IfOk r (λ given. ChangesNode name (LeaderDoes (LeaderAnswers (types_of s.schema) read given old.masters before after)) old.leaders ls)
+    → IfOk r (λ given. ChangesNode name (LeaderDoes (LeaderAnswers (types_of s.schema) read given (store_calls old.masters before after))) old.leaders ls)
     → IfOk r (IsLegalAt (types_of s.schema) read.query read.floor) → OnErr r (ls ≡ old.leaders) → KeepsTables tells before after
     → AskStep tells s name read before after old (record old { leaders = ls }) r
 ask_step tells s name read before after old ls (Ok given) is change legal err stays =
     let types = types_of s.schema in
-    let Does = LeaderAnswers types read given old.masters before after in
+    let Does = LeaderAnswers types read given (store_calls old.masters before after) in
     let seen = given_seen s name read given old.masters before after change.from change.to change.by.does
     (is.fleet.leaders change.place name change.from change.stands) (λ store at. (is.stores.masters.each (query_shard read.query) store at).role_is) in
     let of_read = is_given types (pens_of old.masters) read given legal seen in
@@ -144,12 +147,14 @@ ask_step tells s name read before after old ls (Ok given) is change legal err st
     (nodes_stay s (pens_of old.masters) name).answers read given old.masters before after from to by.does of_read by.apart by.truth was)
     (λ from to by. nodes_mark_on.answers types read given old.masters before after from to by.does) in
     record {
+      answers = changes_so (LeaderDoes Does) Does name old.leaders ls (λ from to by. by.does) change;
       consistent = record { stores = stores_here tells s before.told after.told old.masters is.stores stays; fleet = step.fleet };
       goes = step.goes;
       given = of_read;
     }
 ask_step tells s name read before after old ls (Err e) is change legal err stays =
     let there : AskStep tells s name read before after old old (Err e) = record {
+      answers = tt;
       consistent = record { stores = stores_here tells s before.told after.told old.masters is.stores stays; fleet = is.fleet };
       goes = goes_self old;
       given = tt;

@@ -23,7 +23,7 @@ use Rattle.tao_keeper.specs.Table.{Tables}
 use Rattle.topology.specs.Config.{Settings}
 use Rattle.core_model.specs.Consistent.{AreSeen}
 use Rattle.core_model.specs.Fleet.{served_by, serves_in_turn, regions_of}
-use Rattle.core_model.specs.Pens.{AreNotesOf, IsSeen, no_view, pens_of, view_or_none}
+use Rattle.core_model.specs.Pens.{AreFirstNotes, IsSeen, no_view, pens_of, view_or_none}
 use Rattle.core_model.specs.Stores.{AreStores, HaveSeen, master_log}
 use Rattle.core_nodes.specs.Beginning.{AreAlikeStores, AreLengths, AreMeasured, IsTurn, length_at, note_at, note_or_none}
 use Rattle.core_nodes.specs.declared.beginning.Turn.{Turn}
@@ -181,8 +181,8 @@ note_grows None = grows-self no_view
 note_grows (Some store) = role_grows store.role store.view
 
 -- one more note, of the next shard
-pub notes_more : (masters ys : List Store) (shard : ℕ) (note : View) (notes more : List View) → AreNotesOf (pens_of masters) shard notes → ys ≡ masters
-    → note ≡ note_at ys shard → more ≡ notes ++ note ∷ [] → AreNotesOf (pens_of masters) (shard + 1) more
+pub notes_more : (masters ys : List Store) (shard : ℕ) (note : View) (notes more : List View) → AreFirstNotes (pens_of masters) shard notes → ys ≡ masters
+    → note ≡ note_at ys shard → more ≡ notes ++ note ∷ [] → AreFirstNotes (pens_of masters) (shard + 1) more
 notes_more masters ys shard note notes more are same is pushed =
     let seen : IsSeen (pens_of masters) shard note =
     subst (IsSeen (pens_of masters) shard) (sym (is ∙ ap (λ ms. note_at ms shard) same)) (note_grows (slice_get masters shard)) in

@@ -11,16 +11,16 @@ use Rattle.topology.specs.Config.{Settings}
 use Rattle.core_model.proofs.NamedNodes.{names_set}
 use Rattle.core_model.proofs.Places.{get_set, one_some}
 use Rattle.core_model.specs.Consistent.{IsNodeOf}
-use Rattle.core_model.specs.Fleet.{named, names_of}
+use Rattle.core_model.specs.Fleet.{named, node_names}
 use Rattle.core_model.specs.Pens.{Pens}
 use Rattle.core_model.specs.declared.named.Named.{Named}
-use Rattle.core_nodes.specs.Settling.{AreCaches, CacheGoesOn, CachesGoOn, CatchesUp, HaveCaughtUp, IsConfiguredCache}
+use Rattle.core_nodes.specs.Settling.{AreCaches, CacheGoesOn, CachesGoOn, CatchesUp, HaveCaughtUp, IsConfiguredCache, seen_logs}
 use Rattle.core_nodes.proofs.CatchLemmas.{cache_before, goes_same}
 
 -- those so far have gone on, and where the logs are told they have caught up; the others stand as they stood
 pub record FirstGoOn {N : Type 0} (node : N → Node) (refills : N → List Refill) (tells : Bool) (s : Settings) (tables : Tables) (pens : Pens)
     (count : ℕ) (old now : List (Named N)) : Type 0 where
-  pub on : CachesGoOn node refills tells s tables pens old now
+  pub on : CachesGoOn node refills (seen_logs tells s tables pens) old now
   pub caught : WhereTold tells ((place : ℕ) (from to : Named N) → place < count → slice_get old place ≡ Some from → slice_get now place ≡ Some to
       → CatchesUp s tables (node from.node) (node to.node))
   pub rest : (place : ℕ) (cache : Named N) → count ≤ place → slice_get now place ≡ Some cache → slice_get old place ≡ Some cache
@@ -46,22 +46,22 @@ module _ {N : Type 0} (node : N → Node) (refills : N → List Refill) (tells :
 
   -- one more goes on
   pub one_goes_on : (count : ℕ) (old now : List (Named N)) (from to : Named N) → FirstGoOn node refills tells s tables pens count old now
-      → slice_get now count ≡ Some from → CacheGoesOn node refills tells s tables pens from to
-      → CachesGoOn node refills tells s tables pens old (slice_set now count to)
+      → slice_get now count ≡ Some from → CacheGoesOn node refills (seen_logs tells s tables pens) from to
+      → CachesGoOn node refills (seen_logs tells s tables pens) old (slice_set now count to)
   one_goes_on count old now from to was at goes = record {
-    names = ap (λ (n : NodeName). names_of (slice_set now count (named n to.node))) goes.name_is
+    names = ap (λ (n : NodeName). node_names (slice_set now count (named n to.node))) goes.name_is
         ∙ names_set now count from.name from.node to.node at ∙ was.on.names;
     each = λ place x h. elim (get_set now count to place x h) [
       | inl e ↦ was.on.each place x e.1
       | inr e ↦ (
           let stood : slice_get old place ≡ Some from = ap (slice_get old) e.0 ∙ was.rest count from (omega arith) at in
-          (from, stood, subst (CacheGoesOn node refills tells s tables pens from) e.1 goes))
+          (from, stood, subst (CacheGoesOn node refills (seen_logs tells s tables pens) from) e.1 goes))
     ];
   }
 
   -- and catches up
   pub one_more : (count : ℕ) (old now : List (Named N)) (from to : Named N) → FirstGoOn node refills tells s tables pens count old now
-      → slice_get now count ≡ Some from → CacheGoesOn node refills tells s tables pens from to → WhereTold tells (CatchesUp s tables (node from.node) (node to.node))
+      → slice_get now count ≡ Some from → CacheGoesOn node refills (seen_logs tells s tables pens) from to → WhereTold tells (CatchesUp s tables (node from.node) (node to.node))
       → FirstGoOn node refills tells s tables pens (count + 1) old (slice_set now count to)
   one_more count old now from to was at goes catches = record {
     on = one_goes_on count old now from to was at goes;
@@ -88,7 +88,7 @@ module _ {N : Type 0} (node : N → Node) (refills : N → List Refill) (tells :
 
   -- the tables were the same before
   pub on_before : (before : Tables) (old new : List (Named N)) → WhereTold tells (Stays before tables)
-      → CachesGoOn node refills tells s tables pens old new → CachesGoOn node refills tells s before pens old new
+      → CachesGoOn node refills (seen_logs tells s tables pens) old new → CachesGoOn node refills (seen_logs tells s before pens) old new
   on_before before old new stays on = record {
     names = on.names;
     each = λ place to at.
@@ -97,7 +97,7 @@ module _ {N : Type 0} (node : N → Node) (refills : N → List Refill) (tells :
   }
 
   -- they are still those of the configuration
-  pub still_caches : (old new : List (Named N)) → AreCaches node s pens old → CachesGoOn node refills tells s tables pens old new → AreCaches node s pens new
+  pub still_caches : (old new : List (Named N)) → AreCaches node s pens old → CachesGoOn node refills (seen_logs tells s tables pens) old new → AreCaches node s pens new
   still_caches old new are on = record {
     configured = λ place to at.
         let was = on.each place to at in

@@ -54,7 +54,7 @@ use Rattle.core_model.specs.Pens.{IsSeen, Pens, pens_of, view_or_none}
 use Rattle.core_model.specs.Stores.{AreStoresOf, master_log, master_store}
 use Rattle.core_model.specs.declared.named.Named.{Named}
 use Rattle.core_nodes.specs.Beginning.{length_at}
-use Rattle.core_nodes.specs.Settling.{CacheGoesOn, CatchesUp, IsAtFirstEnds, NodeGoesOn, ReachesEnd, is_last, lies_behind, log_lengths, open_numbers}
+use Rattle.core_nodes.specs.Settling.{CacheGoesOn, CatchesUp, IsAtFirstEnds, NodeGoesOn, ReachesEnd, is_last, lies_behind, log_lengths, open_numbers, seen_logs}
 use Rattle.core_nodes.specs.Stages.{LeaderDoes}
 use Rattle.core_nodes.proofs.CaughtMarks.{at_end, first_after, processes_elsewhere, reaches_end}
 use Rattle.core_nodes.proofs.KeptItems.{all_held, caught_filter, filter_all, filter_both, filter_same, is_fresh, keeps_by, keeps_through}
@@ -179,7 +179,7 @@ pub so_before : (P : Tables → Type 0) (before tables : Tables) → Stays befor
 so_before P before tables stays is = let same : tables ≡ before = λ i at. stays at i in subst P same is
 
 module _ (tells : Bool) (s : Settings) (tables : Tables) (pens : Pens) (name : NodeName) where
-  pub goes_same : (node : Node) → IsNodeOf s pens name node → NodeGoesOn tells s tables pens name node node
+  pub goes_same : (node : Node) → IsNodeOf s pens name node → NodeGoesOn (seen_logs tells s tables pens) name node node
   goes_same node is = record {
     node = is;
     asks = asks_stay node.asks;
@@ -193,8 +193,8 @@ module _ (tells : Bool) (s : Settings) (tables : Tables) (pens : Pens) (name : N
     };
   }
 
-  pub goes_on : (old mid new : Node) → NodeGoesOn tells s tables pens name old mid → NodeGoesOn tells s tables pens name mid new
-      → NodeGoesOn tells s tables pens name old new
+  pub goes_on : (old mid new : Node) → NodeGoesOn (seen_logs tells s tables pens) name old mid → NodeGoesOn (seen_logs tells s tables pens) name mid new
+      → NodeGoesOn (seen_logs tells s tables pens) name old new
   goes_on old mid new first second = record {
     node = second.node;
     asks = asks_go_on old.asks mid.asks new.asks first.asks second.asks;
@@ -210,8 +210,8 @@ module _ (tells : Bool) (s : Settings) (tables : Tables) (pens : Pens) (name : N
   }
 
   -- the tables were the same before
-  pub goes_before : (before : Tables) (old new : Node) → WhereTold tells (Stays before tables) → NodeGoesOn tells s tables pens name old new
-      → NodeGoesOn tells s before pens name old new
+  pub goes_before : (before : Tables) (old new : Node) → WhereTold tells (Stays before tables) → NodeGoesOn (seen_logs tells s tables pens) name old new
+      → NodeGoesOn (seen_logs tells s before pens) name old new
   goes_before before old new stays goes = record {
     node = goes.node;
     asks = goes.asks;
@@ -229,7 +229,7 @@ module _ (tells : Bool) (s : Settings) (tables : Tables) (masters : List Store) 
   -- it processes the rest of a log
   pub goes_processed : (shard : ℕ) (es : List Entry) (note : View) (old new : Node) → IsNodeOf s (pens_of masters) name old → shard < s.shards
       → note ≡ as_note (pens_of masters shard) → WhereTold tells (es ≡ drop (low_at shard old.served) (master_log s tables shard))
-      → LeaderDoes (Processes shard es note) old new → NodeGoesOn tells s tables (pens_of masters) name old new
+      → LeaderDoes (Processes shard es note) old new → NodeGoesOn (seen_logs tells s tables (pens_of masters)) name old new
   goes_processed shard es note old new is here noted rest does =
       let pens : Pens = pens_of masters in
       let whole : IsSeen pens shard (as_note (pens shard)) = record { log_is = refl; begins = begins-self (pens shard).entries } in
@@ -360,7 +360,7 @@ module _ (tells : Bool) (s : Settings) (tables : Tables) (masters : List Store) 
       subst (λ l. item.version ≤ version l key) view (content_reached t.view.entries key item.version item.content truth.exact) in
       eq-eqb item.version (version log key) (omega arith)
 
-  pub catches_up : (old new : Node) → tells ≡ true → IsDistinct same_key (keys_held new.items) → NodeGoesOn tells s tables (pens_of masters) name old new
+  pub catches_up : (old new : Node) → tells ≡ true → IsDistinct same_key (keys_held new.items) → NodeGoesOn (seen_logs tells s tables (pens_of masters)) name old new
       → IsAtFirstEnds s tables s.shards new → CatchesUp s tables old new
   catches_up old new told apart goes ends = record {
     items = goes.on.items ∙ filter_same goes.on.keeps (is_last s tables) old.items (goes.on.last told)
@@ -404,8 +404,8 @@ module _ (tells : Bool) (s : Settings) (tables : Tables) (masters : List Store) 
 
 -- a leader or a follower goes on, by tables that were the same before
 pub cache_before : {N : Type 0} (node : N → Node) (refills : N → List Refill) (tells : Bool) (s : Settings) (before tables : Tables) (pens : Pens)
-    (old new : Named N) → WhereTold tells (Stays before tables) → CacheGoesOn node refills tells s tables pens old new
-    → CacheGoesOn node refills tells s before pens old new
+    (old new : Named N) → WhereTold tells (Stays before tables) → CacheGoesOn node refills (seen_logs tells s tables pens) old new
+    → CacheGoesOn node refills (seen_logs tells s before pens) old new
 cache_before node refills tells s before tables pens old new stays goes = record {
   name_is = goes.name_is;
   goes = goes_before tells s tables pens old.name before (node old.node) (node new.node) stays goes.goes;
@@ -414,12 +414,12 @@ cache_before node refills tells s before tables pens old new stays goes = record
 
 -- and goes on
 pub cache_goes_on : {N : Type 0} (node : N → Node) (refills : N → List Refill) (tells : Bool) (s : Settings) (tables : Tables) (pens : Pens)
-    (start now new : Named N) → CacheGoesOn node refills tells s tables pens start now → CacheGoesOn node refills tells s tables pens now new
-    → CacheGoesOn node refills tells s tables pens start new
+    (start now new : Named N) → CacheGoesOn node refills (seen_logs tells s tables pens) start now → CacheGoesOn node refills (seen_logs tells s tables pens) now new
+    → CacheGoesOn node refills (seen_logs tells s tables pens) start new
 cache_goes_on node refills tells s tables pens start now new first second = record {
   name_is = second.name_is ∙ first.name_is;
   goes = goes_on tells s tables pens start.name (node start.node) (node now.node) (node new.node) first.goes
-      (subst (λ (n : NodeName). NodeGoesOn tells s tables pens n (node now.node) (node new.node)) first.name_is second.goes);
+      (subst (λ (n : NodeName). NodeGoesOn (seen_logs tells s tables pens) n (node now.node) (node new.node)) first.name_is second.goes);
   rest = second.rest ∙ first.rest;
 }
 

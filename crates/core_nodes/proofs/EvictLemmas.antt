@@ -7,7 +7,7 @@ use Rattle.cache_items.specs.Node.{Node}
 use Rattle.cache_node.specs.True.{IsTrueNode}
 use Rattle.follower_cache.specs.Seen.{FollowerState}
 use Rattle.node_name.specs.declared.NodeName.{NodeName}
-use Rattle.node_name.specs.declared.NodeName.TheVariants.{Follower}
+use Rattle.node_name.specs.declared.NodeName.TheVariants.{Follower, Leader}
 use Rattle.tao_base.specs.Keys.{same_key}
 use Rattle.tao_base.specs.declared.id.Key.{Key}
 use Rattle.topology.specs.Config.{Settings}
@@ -37,21 +37,37 @@ evicted_asks : (key : Option Key) (held : Bool) (old new : Node) → Evicts key 
 evicted_asks (Some key) held old new does = asks_same old.asks new.asks (ap (λ (n : Node). n.asks) does.1)
 evicted_asks None held old new does = asks_same old.asks new.asks (ap (λ (n : Node). n.asks) does.1)
 
+-- what is left where a leader drops an item: that alone has changed
+pub record LeaderDrops (s : Settings) (name : NodeName) (key : Option Key) (held : Bool) (old new : Fleet) : Type 0 where
+  pub step : FleetStep s old new
+  pub evicts : ChangesNode name (Evicts key held) old.leaders new.leaders
+  pub rest : new ≡ record old { leaders = new.leaders }
+
 pub leader_evicts : (s : Settings) (name : NodeName) (key : Option Key) (held : Bool) (old : Fleet) (ls : List (Named Node)) → IsFleetOf s old
-    → ChangesNode name (LeaderDoes (Evicts key held)) old.leaders ls → FleetStep s old (record old { leaders = ls })
-leader_evicts s name key held old ls fleet change =
-    leader_step (LeaderDoes (Evicts key held)) s old name ls fleet change
-    (λ from to by is. evicted_stays s (pens_of old.masters) name key held from to by.does by.apart by.truth is)
-    (λ from to by. nodes_mark_on.evicts key held from to by.does)
+    → ChangesNode name (LeaderDoes (Evicts key held)) old.leaders ls → LeaderDrops s name key held old (record old { leaders = ls })
+leader_evicts s name key held old ls fleet change = record {
+  step = leader_step (LeaderDoes (Evicts key held)) s old name ls fleet change
+      (λ from to by is. evicted_stays s (pens_of old.masters) name key held from to by.does by.apart by.truth is)
+      (λ from to by. nodes_mark_on.evicts key held from to by.does);
+  evicts = changes_so (LeaderDoes (Evicts key held)) (Evicts key held) name old.leaders ls (λ from to by. by.does) change;
+  rest = refl;
+}
+
+pub changes_leader : (s : Settings) (name : NodeName) (region index : ℕ) (key : Option Key) (held : Bool) (old new : Fleet)
+    → name ≡ Leader region index
+    → LeaderDrops s name key held old new → ChangesCache name (Evicts key held) old new
+changes_leader s name region index key held old new is drop =
+    let P : NodeName → Type 0 = λ n. LeaderDrops s n key held old new → ChangesCache n (Evicts key held) old new in
+    subst P (sym is) (λ step. (step.evicts, step.rest)) drop
 
 -- what is left where a follower drops an item: that alone has changed
-pub record DropStep (s : Settings) (name : NodeName) (key : Option Key) (held : Bool) (old new : Fleet) : Type 0 where
+pub record FollowerDrops (s : Settings) (name : NodeName) (key : Option Key) (held : Bool) (old new : Fleet) : Type 0 where
   pub step : FleetStep s old new
   pub evicts : ChangesNode name (EvictsThere key held) old.followers new.followers
   pub rest : new ≡ record old { followers = new.followers }
 
 pub follower_evicts : (s : Settings) (name : NodeName) (key : Option Key) (held : Bool) (old : Fleet) (fs : List (Named FollowerState)) → IsFleetOf s old
-    → ChangesNode name (FollowerDoes (EvictsThere key held)) old.followers fs → DropStep s name key held old (record old { followers = fs })
+    → ChangesNode name (FollowerDoes (EvictsThere key held)) old.followers fs → FollowerDrops s name key held old (record old { followers = fs })
 follower_evicts s name key held old fs fleet change = record {
   step = follower_step (FollowerDoes (EvictsThere key held)) s old name fs fleet change
       (λ from to by is. evicted_stays s (pens_of old.masters) name key held from.node to.node by.does.0 by.apart by.truth is)
@@ -64,7 +80,7 @@ follower_evicts s name key held old fs fleet change = record {
 
 pub changes_follower : (s : Settings) (name : NodeName) (region tier index : ℕ) (key : Option Key) (held : Bool) (old new : Fleet)
     → name ≡ Follower region tier index
-    → DropStep s name key held old new → ChangesCache name (Evicts key held) old new
+    → FollowerDrops s name key held old new → ChangesCache name (Evicts key held) old new
 changes_follower s name region tier index key held old new is drop =
-    let P : NodeName → Type 0 = λ n. DropStep s n key held old new → ChangesCache n (Evicts key held) old new in
+    let P : NodeName → Type 0 = λ n. FollowerDrops s n key held old new → ChangesCache n (Evicts key held) old new in
     subst P (sym is) (λ step. (step.evicts, step.rest)) drop

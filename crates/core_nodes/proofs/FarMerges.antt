@@ -10,7 +10,7 @@ use Rattle.core_model.specs.Stores.{AreKeptIn, AreStoresOf, IsMasterOf, master_l
 use Rattle.core_nodes.proofs.GrowingLemmas.{gains_masters, stays_masters}
 use Rattle.core_nodes.proofs.JobLemmas.{due, is_merged, may_be_merged, merge_keeps, merges_owed}
 use Rattle.core_nodes.proofs.StoreLemmas.{OthersStay, master_gained, others_stay, stores_changed}
-use Rattle.core_nodes.specs.Repairs.{ComesBack, FindsNoRoom, MayMerge, MergesThere, WritesDueEntry, carry_back, carry_there, outside}
+use Rattle.core_nodes.specs.Repairs.{ComesBack, FindsNoRoom, MergesOrRests, MergesThere, WritesDueEntry, carry_back, carry_there, outside}
 use Rattle.edge_repair.specs.Calls.{MayTakeJob}
 use Rattle.edge_repair.specs.Carries.{CarriesBack, CarriesBy, FailsAt}
 use Rattle.edge_repair.specs.JobBetween.{JobBetween, job_between, way_back, way_there}
@@ -211,7 +211,7 @@ module _ (s : Settings) (j : ShardJob) (from : StoreName) (x : Store) (from_is :
       count_is = lacks.count_is ∙ ap (λ at. length (old.told at).log) is.name_is;
     }
 
-    may_merge : (told : Bool) → tells ≡ told → WhereTold tells (Stays old.told new.told ⊎ MergesDue taken old.told new.told) → MayMerge tells s j old new
+    may_merge : (told : Bool) → tells ≡ told → WhereTold tells (Stays old.told new.told ⊎ MergesDue taken old.told new.told) → MergesOrRests tells s j old new
     may_merge true heard h = elim (h heard) [
       | inl stays ↦ inl (λ told. stays)
       | inr merges ↦ inr (λ told. step told merges)

@@ -21,13 +21,13 @@ use Rattle.core_model.proofs.Places.{one_some}
 use Rattle.core_model.proofs.Refilling.{followers_stay}
 use Rattle.core_model.specs.Asks.{AsksGoOn}
 use Rattle.core_model.specs.Consistent.{GoesOn, IsConsistent, IsFleetOf, IsFollowerOf, IsNodeOf, MarksGoOn}
-use Rattle.core_model.specs.Fleet.{EachNode, Fleet, follower_names, leader_names, named, names_of}
+use Rattle.core_model.specs.Fleet.{EachNode, Fleet, follower_names, leader_names, named, node_names}
 use Rattle.core_model.specs.Pens.{Pens, pens_of}
 use Rattle.core_model.specs.Stores.{HaveSeen, master_log}
 use Rattle.core_model.specs.declared.named.Named.{Named}
 use Rattle.core_nodes.specs.Beginning.{AreMeasured}
 use Rattle.core_nodes.specs.FleetView.{fleet_seen}
-use Rattle.core_nodes.specs.Settling.{AllCatchUp, AllProcessOn, AreCaches, ByNode, CacheGoesOn, CachesGoOn, CatchesUp, HaveCaughtUp, ProcessesOn}
+use Rattle.core_nodes.specs.Settling.{AllCatchUp, AllProcessOn, AreCaches, ByNode, CacheGoesOn, CachesGoOn, CatchesUp, HaveCaughtUp, ProcessesOn, seen_logs}
 use Rattle.core_nodes.specs.Settling.{follower_node, follower_refills, is_last, leader_node, leader_refills, log_lengths}
 use Rattle.core_nodes.specs.declared.fleet.Fleet.TheInside.{Inside}
 use Rattle.core_nodes.proofs.AskLemmas.{stores_here}
@@ -50,12 +50,12 @@ measured_lengths s tells tables masters lengths are seen told =
 
 -- ---- the nodes before
 
-named_in : {N : Type 0} (nodes : List (Named N)) (place : ℕ) (node : Named N) → slice_get nodes place ≡ Some node → IsIn node.name (names_of nodes)
+named_in : {N : Type 0} (nodes : List (Named N)) (place : ℕ) (node : Named N) → slice_get nodes place ≡ Some node → IsIn node.name (node_names nodes)
 named_in [] place node at = absurd (cc)
 named_in (n ∷ ns) zero node at = inl (ap (λ m. m.name) (one_some n node at))
 named_in (n ∷ ns) (suc place) node at = inr (named_in ns place node at)
 
-named_of : {N : Type 0} (names : List NodeName) (nodes : List (Named N)) (place : ℕ) (node : Named N) → names_of nodes ≡ names
+named_of : {N : Type 0} (names : List NodeName) (nodes : List (Named N)) (place : ℕ) (node : Named N) → node_names nodes ≡ names
     → slice_get nodes place ≡ Some node → Contains names node.name
 named_of names nodes place node are at = contains_from_in names node.name (subst (IsIn node.name) are (named_in nodes place node at))
 
@@ -80,13 +80,13 @@ followers_are s f is = record {
 each_goes : {N : Type 0} (node : N → Node) (refills : N → List Refill) (tells : Bool) (s : Settings) (tables : Tables) (pens : Pens)
     (By : NodeName → N → N → Type 0) (old new : List (Named N))
     → ((name : NodeName) (place : ℕ) (from to : N) → slice_get old place ≡ Some (named name from) → slice_get new place ≡ Some (named name to)
-    → CacheGoesOn node refills tells s tables pens (named name from) (named name to) → By name from to)
-    → CachesGoOn node refills tells s tables pens old new → EachNode By old new
+    → CacheGoesOn node refills (seen_logs tells s tables pens) (named name from) (named name to) → By name from to)
+    → CachesGoOn node refills (seen_logs tells s tables pens) old new → EachNode By old new
 each_goes {N} node refills tells s tables pens By old new so on place name to at =
     let was = on.each place (named name to) at in
     let stood : slice_get old place ≡ Some (named name was.0.node) = was.1 ∙ ap (λ (n : NodeName). Some (named n was.0.node)) (sym was.2.name_is) in
-    let goes : CacheGoesOn node refills tells s tables pens (named name was.0.node) (named name to) =
-    subst (λ (n : NodeName). CacheGoesOn node refills tells s tables pens (named n was.0.node) (named name to)) (sym was.2.name_is) was.2 in
+    let goes : CacheGoesOn node refills (seen_logs tells s tables pens) (named name was.0.node) (named name to) =
+    subst (λ (n : NodeName). CacheGoesOn node refills (seen_logs tells s tables pens) (named n was.0.node) (named name to)) (sym was.2.name_is) was.2 in
     (was.0.node, stood, so name place was.0.node to stood at goes)
 
 pub record SettleStep (tells : Bool) (s : Settings) (tables : Tables) (old new : Fleet) : Type 0 where
@@ -97,8 +97,8 @@ pub record SettleStep (tells : Bool) (s : Settings) (tables : Tables) (old new :
 
 module _ (tells : Bool) (s : Settings) (before tables : Tables) (old : Fleet) (ls : List (Named Node)) (fs : List (Named FollowerState))
     (is : IsConsistent tells s before old) (stays : WhereTold tells (Stays before tables))
-    (leaders : CachesGoOn leader_node leader_refills tells s before (pens_of old.masters) old.leaders ls)
-    (followers : CachesGoOn follower_node follower_refills tells s before (pens_of old.masters) old.followers fs) where
+    (leaders : CachesGoOn leader_node leader_refills (seen_logs tells s before (pens_of old.masters)) old.leaders ls)
+    (followers : CachesGoOn follower_node follower_refills (seen_logs tells s before (pens_of old.masters)) old.followers fs) where
   abbrev after : Fleet
   after = record old { leaders = ls; followers = fs }
 

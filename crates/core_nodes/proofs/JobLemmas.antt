@@ -20,7 +20,7 @@ use Rattle.write_model.specs.Machine.{Owed}
 use Rattle.write_model.specs.MergeLaws.{MayBeMerged}
 use Rattle.write_model.specs.Merges.{job_of, log_of, merge_of}
 use Rattle.core_model.proofs.OwedJobs.{first_record}
-use Rattle.core_model.specs.Jobs.{EndsOwed, IsFirstJobOf, IsJobOf, IsMergedJob, IsOwedJob, MergesOwed, ShardJob, far_shard, job_on}
+use Rattle.core_model.specs.Jobs.{EndsOwed, IsFirstJobOf, OwesShardJob, IsMergedJob, IsOwedJob, MergesOwed, ShardJob, far_shard, job_on}
 use Rattle.core_model.specs.Stores.{AreKeptIn, master_log, master_store, masters_of, stores_in}
 
 -- what is so of a job: of the shard where it is owed, its own shard, its position and its records
@@ -28,7 +28,7 @@ abbrev OfJob : Type 1
 OfJob = ℕ → ℕ → ℕ → List EdgeUpdate → Type 0
 
 -- what is so of an entry that owes is so of its job, and the other way round
-pub of_job : (s : Settings) (j : ShardJob) (owed : Owed) (P : OfJob) → IsJobOf s j owed
+pub of_job : (s : Settings) (j : ShardJob) (owed : Owed) (P : OfJob) → OwesShardJob s j owed
     → P owed.other owed.shard owed.entry.position (job_of (types_of s.schema) owed.entry) → P (far_shard j.job) j.shard j.job.position j.job.edges
 of_job s j owed P is p =
     let us = job_of (types_of s.schema) owed.entry in
@@ -37,7 +37,7 @@ of_job s j owed P is p =
     let position = subst (λ k. P (far_shard j.job) j.shard k us) is.position_is shard in
     subst (P (far_shard j.job) j.shard j.job.position) (sym is.records_are) position
 
-pub of_owed : (s : Settings) (j : ShardJob) (owed : Owed) (P : OfJob) → IsJobOf s j owed → P (far_shard j.job) j.shard j.job.position j.job.edges
+pub of_owed : (s : Settings) (j : ShardJob) (owed : Owed) (P : OfJob) → OwesShardJob s j owed → P (far_shard j.job) j.shard j.job.position j.job.edges
     → P owed.other owed.shard owed.entry.position (job_of (types_of s.schema) owed.entry)
 of_owed s j owed P is p =
     let us = job_of (types_of s.schema) owed.entry in

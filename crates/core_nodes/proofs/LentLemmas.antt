@@ -23,15 +23,14 @@ use Rattle.core_model.specs.Consistent.{IsConsistent, IsFleetOf}
 use Rattle.core_model.specs.Evictions.{Evicts}
 use Rattle.core_model.specs.Fleet.{ChangesNode, Fleet}
 use Rattle.core_model.specs.Pens.{pens_of}
-use Rattle.core_model.specs.Reads.{AsksAtOnce, EndsAsk, IsGivenFill, KeepsFill, LeaderAnswers, Wanted, wanted}
+use Rattle.core_model.specs.Reads.{AsksAtOnce, EndsAsk, IsGivenFill, KeepsFill, LeaderAnswers, Wanted, store_calls, taken_fill, wanted}
 use Rattle.core_model.specs.Serving.{IsFollowerFor}
 use Rattle.core_model.specs.declared.named.Named.{Named}
 use Rattle.core_nodes.specs.Stages.{EvictsThere, FollowerDoes, LeaderDoes, LooksTrue}
 use Rattle.core_nodes.specs.declared.fleet.Fleet.TheInside.{Inside}
 use Rattle.core_nodes.specs.declared.reads.FirstLook.{FirstLook}
 use Rattle.core_nodes.proofs.AskLemmas.{AskStep, ask_step}
-use Rattle.core_nodes.proofs.EvictLemmas.{DropStep, follower_evicts, leader_evicts}
-use Rattle.core_nodes.proofs.FleetLemmas.{FleetStep}
+use Rattle.core_nodes.proofs.EvictLemmas.{FollowerDrops, LeaderDrops, follower_evicts, leader_evicts}
 use Rattle.core_nodes.proofs.ReadLemmas.{AtOnceStep, EndStep, KeepStep, LookStep, at_once_step, end_step, keep_step, look_step}
 use Rattle.core_nodes.proofs.ViewLemmas.{LendsBoth, LendsFollowers, LendsLeaders, after_both, after_followers, after_leaders, both_after, followers_after, leaders_after}
 
@@ -52,12 +51,12 @@ pub ask_lent : (tells : Bool) (s : Settings) (schema : Schema) (name : NodeName)
     (lent left : List (Named Node))
     (stores same : List Store) (r : Result LeaderAnswer StoreRefusal) → LendsBoth inside old lent left stores same → schema ≡ s.schema
     → IsConsistent tells s before.told old
-    → IfOk r (λ given. ChangesNode name (LeaderDoes (LeaderAnswers (types_of schema) read given stores before after)) lent left)
+    → IfOk r (λ given. ChangesNode name (LeaderDoes (LeaderAnswers (types_of schema) read given (store_calls stores before after))) lent left)
     → IfOk r (IsLegalAt (types_of schema) read.query read.floor) → OnErr r (left ≡ lent) → KeepsTables tells before after
     → AskStep tells s name read before after old (after_both inside left same) r
 ask_lent tells s schema name read before after inside old lent left stores same r lends of is change legal err stays =
     let Gives : Schema → List Store → List (Named Node) → Type 0 =
-    λ k ms xs. IfOk r (λ given. ChangesNode name (LeaderDoes (LeaderAnswers (types_of k) read given ms before after)) xs left) in
+    λ k ms xs. IfOk r (λ given. ChangesNode name (LeaderDoes (LeaderAnswers (types_of k) read given (store_calls ms before after))) xs left) in
     let gives = subst (λ k. Gives k old.masters old.leaders) of
     (subst (λ ms. Gives schema ms old.leaders) lends.own (subst (Gives schema stores) lends.leaders.own change)) in
     subst (λ n. AskStep tells s name read before after old n r) (sym (both_after inside old lent left stores same lends))
@@ -68,12 +67,12 @@ pub keep_lent : (s : Settings) (schema : Schema) (name : NodeName) (read : Wante
     (lent left : List (Named FollowerState))
     (r : Result (Answer × Kept) OutOfMemory) → LendsFollowers inside old lent left → schema ≡ s.schema → IsFleetOf s old
     → IsGivenFill (types_of s.schema) (pens_of old.masters) read fill
-    → IfOk r (λ a. ChangesNode name (FollowerDoes (KeepsFill (types_of schema) read.query ask fill a.0 a.1)) lent left)
+    → IfOk r (λ a. ChangesNode name (FollowerDoes (KeepsFill (types_of schema) read.query (taken_fill ask fill a.0 a.1))) lent left)
     → OnErr r (ChangesNode name (FollowerDoes (EndsAsk ask)) lent left) → IfOk r (λ a. ViewAnswers (types_of schema) fill.note read.query a.0 fill.version)
     → KeepStep s name read ask fill old (after_followers inside left) r
 keep_lent s schema name read ask fill inside old lent left r lends of fleet given change err answers =
     let Keeps : Schema → List (Named FollowerState) → Type 0 =
-    λ k xs. IfOk r (λ a. ChangesNode name (FollowerDoes (KeepsFill (types_of k) read.query ask fill a.0 a.1)) xs left) in
+    λ k xs. IfOk r (λ a. ChangesNode name (FollowerDoes (KeepsFill (types_of k) read.query (taken_fill ask fill a.0 a.1))) xs left) in
     let keeps = subst (λ k. Keeps k old.followers) of (subst (Keeps schema) lends.own change) in
     subst (λ n. KeepStep s name read ask fill old n r) (sym (followers_after inside old lent left lends))
     (keep_step s name read ask fill old left r fleet given keeps (subst (λ xs. OnErr r (ChangesNode name (FollowerDoes (EndsAsk ask)) xs left)) lends.own err)
@@ -95,15 +94,15 @@ at_once_lent s name query ask inside old lent left lends fleet change =
 
 pub evict_leader_lent : (s : Settings) (name : NodeName) (key : Option Key) (held : Bool) (inside : Inside) (old : Fleet) (lent left : List (Named Node))
     → LendsLeaders inside old lent left
-    → IsFleetOf s old → ChangesNode name (LeaderDoes (Evicts key held)) lent left → FleetStep s old (after_leaders inside left)
+    → IsFleetOf s old → ChangesNode name (LeaderDoes (Evicts key held)) lent left → LeaderDrops s name key held old (after_leaders inside left)
 evict_leader_lent s name key held inside old lent left lends fleet change =
-    subst (FleetStep s old) (sym (leaders_after inside old lent left lends))
+    subst (LeaderDrops s name key held old) (sym (leaders_after inside old lent left lends))
     (leader_evicts s name key held old left fleet (subst (λ xs. ChangesNode name (LeaderDoes (Evicts key held)) xs left) lends.own change))
 
 pub evict_follower_lent : (s : Settings) (name : NodeName) (key : Option Key) (held : Bool) (inside : Inside) (old : Fleet)
     (lent left : List (Named FollowerState))
     → LendsFollowers inside old lent left → IsFleetOf s old → ChangesNode name (FollowerDoes (EvictsThere key held)) lent left
-    → DropStep s name key held old (after_followers inside left)
+    → FollowerDrops s name key held old (after_followers inside left)
 evict_follower_lent s name key held inside old lent left lends fleet change =
-    subst (DropStep s name key held old) (sym (followers_after inside old lent left lends))
+    subst (FollowerDrops s name key held old) (sym (followers_after inside old lent left lends))
     (follower_evicts s name key held old left fleet (subst (λ xs. ChangesNode name (FollowerDoes (EvictsThere key held)) xs left) lends.own change))

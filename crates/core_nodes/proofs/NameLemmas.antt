@@ -5,16 +5,16 @@ use Rattle.std.proofs.lemmas.List.Elements.{All-push, All-same}
 use Rattle.std.proofs.lemmas.List.{map-append, take_more}
 use Rattle.node_name.specs.declared.NodeName.{NodeName}
 use Rattle.shard_tables.specs.StoreView.{Store}
-use Rattle.core_model.specs.Fleet.{named, names_of}
+use Rattle.core_model.specs.Fleet.{named, node_names}
 use Rattle.core_model.specs.declared.named.Named.{Named}
 
 -- one more node, of the next name
 pub names_next : {N : Type 0} (names : List NodeName) (nodes more : List (Named N)) (place : ℕ) (d : NodeName) (node : N)
-    → names_of nodes ≡ take place names → place < length names
-    → more ≡ nodes ++ named (get_or names place d) node ∷ [] → names_of more ≡ take (place + 1) names
+    → node_names nodes ≡ take place names → place < length names
+    → more ≡ nodes ++ named (get_or names place d) node ∷ [] → node_names more ≡ take (place + 1) names
 names_next names nodes more place d node so_far lt pushed =
     let name = get_or names place d in
-    ap names_of pushed ∙ (map-append (λ n. n.name) nodes (named name node ∷ []) ∙ (ap (λ l. l ++ name ∷ []) so_far ∙ sym (take_more names place d lt)))
+    ap node_names pushed ∙ (map-append (λ n. n.name) nodes (named name node ∷ []) ∙ (ap (λ l. l ++ name ∷ []) so_far ∙ sym (take_more names place d lt)))
 
 -- what is so of each node so far and of the next one
 pub each_next : {N : Type 0} (Such : List Store → Named N → Type 0) (xs ys : List Store) (nodes more : List (Named N)) (n : Named N) → xs ≡ ys

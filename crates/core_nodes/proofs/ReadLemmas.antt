@@ -41,7 +41,7 @@ use Rattle.core_model.specs.Asks.{IsAskOn}
 use Rattle.core_model.specs.Consistent.{IsFleetOf, IsNodeOf}
 use Rattle.core_model.specs.Fleet.{ChangesNode, Fleet, HasAsk}
 use Rattle.core_model.specs.Pens.{IsSeen, Pens, pens_of}
-use Rattle.core_model.specs.Reads.{AfterLook, AsksAtOnce, EndsAsk, IsGivenFill, IsLegalLook, KeepsFill, LooksFirst, Wanted, wanted}
+use Rattle.core_model.specs.Reads.{AfterLook, AsksAtOnce, EndsAsk, IsGivenFill, IsLegalLook, KeepsFill, LooksFirst, Wanted, taken_fill, wanted}
 use Rattle.core_model.specs.Serving.{IsFollowerFor}
 use Rattle.core_model.specs.declared.named.Named.{Named}
 use Rattle.core_nodes.specs.Stages.{FollowerDoes, LooksTrue, NodeIs}
@@ -256,27 +256,27 @@ end_step s name ask old fs fleet change = record {
 pub record KeepStep (s : Settings) (name : NodeName) (read : Wanted) (ask : Option ℕ) (fill : SealedItem) (old new : Fleet)
     (r : Result (Answer × Kept) OutOfMemory) : Type 0 where
   pub step : FleetStep s old new
-  pub keeps : IfOk r (λ a. ChangesNode name (KeepsFill (types_of s.schema) read.query ask fill a.0 a.1) old.followers new.followers)
+  pub keeps : IfOk r (λ a. ChangesNode name (KeepsFill (types_of s.schema) read.query (taken_fill ask fill a.0 a.1)) old.followers new.followers)
   pub err : OnErr r (ChangesNode name (EndsAsk ask) old.followers new.followers)
   pub legal : IfOk r (λ a. IsLegalIn (types_of s.schema) (pens_of new.masters (query_shard read.query)) read.query read.floor a.0 fill.version)
 
 pub keep_step : (s : Settings) (name : NodeName) (read : Wanted) (ask : Option ℕ) (fill : SealedItem) (old : Fleet) (fs : List (Named FollowerState))
     (r : Result (Answer × Kept) OutOfMemory)
     → IsFleetOf s old → IsGivenFill (types_of s.schema) (pens_of old.masters) read fill
-    → IfOk r (λ a. ChangesNode name (FollowerDoes (KeepsFill (types_of s.schema) read.query ask fill a.0 a.1)) old.followers fs)
+    → IfOk r (λ a. ChangesNode name (FollowerDoes (KeepsFill (types_of s.schema) read.query (taken_fill ask fill a.0 a.1))) old.followers fs)
     → OnErr r (ChangesNode name (FollowerDoes (EndsAsk ask)) old.followers fs)
     → IfOk r (λ a. ViewAnswers (types_of s.schema) fill.note read.query a.0 fill.version)
     → KeepStep s name read ask fill old (record old { followers = fs }) r
 keep_step s name read ask fill old fs (Ok (answer, kept)) fleet given change err answers =
     let types = types_of s.schema in
     record {
-      step = follower_step (FollowerDoes (KeepsFill types read.query ask fill answer kept)) s old name fs fleet change
+      step = follower_step (FollowerDoes (KeepsFill types read.query (taken_fill ask fill answer kept))) s old name fs fleet change
           (λ from to by is. (nodes_stay s (pens_of old.masters) name).keeps read ask fill answer kept from to by.does given by.apart by.truth is)
           (λ from to by. ap (λ (f : FollowerState). f.refills) by.does.node_is)
           (λ from to by. nodes_ask_on.keeps types read ask fill answer kept from to by.does)
           (λ from to by. nodes_mark_on.keeps types read ask fill answer kept from to by.does);
-      keeps = changes_so (FollowerDoes (KeepsFill types read.query ask fill answer kept))
-          (KeepsFill types read.query ask fill answer kept) name old.followers fs (λ from to by. by.does) change;
+      keeps = changes_so (FollowerDoes (KeepsFill types read.query (taken_fill ask fill answer kept)))
+          (KeepsFill types read.query (taken_fill ask fill answer kept)) name old.followers fs (λ from to by. by.does) change;
       err = tt;
       legal = (reads_are_legal types (pens_of old.masters) read).given fill.note answer fill.version answers given.reaches given.seen;
     }

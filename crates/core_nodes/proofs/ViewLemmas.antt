@@ -1,5 +1,5 @@
 -- The nodes of a core after some were lent as slices.
-use Rattle.std.proofs.Common.{◌≡◌, List, length, ap, ◌∙◌}
+use Rattle.std.proofs.Common.{◌≡◌, List, length, ap, sym, ◌∙◌}
 use Rattle.std.specs.Vec.{with_items}
 use Rattle.std.proofs.lemmas.List.{with_items_is}
 use Rattle.cache_items.specs.Node.{Node}
@@ -54,6 +54,17 @@ followers_after inside old lent left lends =
     ap (λ items. record (fleet_seen inside) { followers = items }) (with_items_is inside.followers left lends.long)
     ∙ ap (λ (g : Fleet). record g { followers = left }) lends.view
 
+-- nothing but the followers changed
+pub followers_rest : (inside : Inside) (old : Fleet) (lent left : List (Named FollowerState)) → LendsFollowers inside old lent left
+    → after_followers inside left ≡ record old { followers = (after_followers inside left).followers }
+followers_rest inside old lent left lends = ap (λ (g : Fleet). record g { followers = (with_items inside.followers left).items }) lends.view
+
+-- followers that are as they were lent leave all as it was
+pub followers_back : (inside : Inside) (old : Fleet) (lent left : List (Named FollowerState)) → LendsFollowers inside old lent left → left ≡ lent
+    → after_followers inside left ≡ old
+followers_back inside old lent left lends same =
+    followers_after inside old lent left lends ∙ ap (λ items. record old { followers = items }) (same ∙ lends.own)
+
 pub leaders_after : (inside : Inside) (old : Fleet) (lent left : List (Named Node)) → LendsLeaders inside old lent left
     → after_leaders inside left ≡ record old { leaders = left }
 leaders_after inside old lent left lends =
@@ -72,3 +83,16 @@ pub masters_after : (inside : Inside) (old : Fleet) (lent same : List Store) →
 masters_after inside old lent same lends =
     ap (λ items. record (fleet_seen inside) { masters = items }) (with_items_is inside.masters same lends.long ∙ lends.is ∙ lends.own)
     ∙ ap (λ (g : Fleet). record g { masters = old.masters }) lends.view
+
+-- nothing but the leaders changed
+pub both_rest : (inside : Inside) (old : Fleet) (lent left : List (Named Node)) (stores same : List Store) → LendsBoth inside old lent left stores same
+    → after_both inside left same ≡ record old { leaders = (after_both inside left same).leaders }
+both_rest inside old lent left stores same lends =
+    both_after inside old lent left stores same lends
+    ∙ ap (λ items. record old { leaders = items }) (sym (with_items_is inside.leaders left lends.leaders.long))
+
+-- leaders that are as they were lent leave all as it was
+pub both_back : (inside : Inside) (old : Fleet) (lent left : List (Named Node)) (stores same : List Store) → LendsBoth inside old lent left stores same
+    → left ≡ lent → after_both inside left same ≡ old
+both_back inside old lent left stores same lends rests =
+    both_after inside old lent left stores same lends ∙ ap (λ items. record old { leaders = items }) (rests ∙ lends.leaders.own)

@@ -13,7 +13,7 @@ use Rattle.shard_tables.specs.StoreView.{Store}
 use Rattle.shard_tables.specs.Stores.{note_of}
 use Rattle.tao_keeper.specs.Table.{Tables}
 use Rattle.topology.specs.Config.{Settings}
-use Rattle.core_model.specs.Fleet.{Fleet, follower_names, leader_names, names_of, served_by}
+use Rattle.core_model.specs.Fleet.{Fleet, follower_names, leader_names, node_names, served_by}
 use Rattle.core_model.specs.Pens.{no_view}
 use Rattle.core_model.specs.Stores.{AreStores, master_log}
 use Rattle.core_model.specs.declared.named.Named.{Named}
@@ -79,8 +79,8 @@ pub record IsBegunFollower (s : Settings) (masters : List Store) (lengths : List
 -- the leaders and followers are those of the configuration, and each holds nothing
 pub record AreBegun (s : Settings) (masters : List Store) (lengths : List ℕ) (leaders : List (Named Node)) (followers : List (Named FollowerState))
     : Type 0 where
-  pub leader_names : names_of leaders ≡ leader_names s
-  pub follower_names : names_of followers ≡ follower_names s
+  pub leader_names : node_names leaders ≡ leader_names s
+  pub follower_names : node_names followers ≡ follower_names s
   pub each_leader : All (IsBegunLeader s masters lengths) leaders
   pub each_follower : All (IsBegunFollower s masters lengths) followers
 

@@ -36,25 +36,25 @@ abbrev pub ComesBack : Settings → ShardJob → LinkShown → LinkShown → Typ
 ComesBack s j old new = (new ≡ after_carry (after_carry old)) ⊎ FailsAt (carry_back s j) (after_carry old) new
 
 -- the entry that merges a job where it is owed; none where all of its records are there
-abbrev pub due_entry : Settings → KeeperState → ShardJob → Option Entry
-due_entry s keepers j = merge_of (master_log s keepers.told (far_shard j.job)) j.shard j.job.position j.job.edges
+abbrev pub owed_entry : Settings → KeeperState → ShardJob → Option Entry
+owed_entry s keepers j = merge_of (master_log s keepers.told (far_shard j.job)) j.shard j.job.position j.job.edges
 
 -- the job was merged: that entry was written, and had room
 pub record WritesDueEntry (s : Settings) (j : ShardJob) (wrote : Option Entry) (old new : KeeperState) : Type 0 where
-  pub wrote_is : wrote ≡ due_entry s old j
+  pub wrote_is : wrote ≡ owed_entry s old j
   pub room : IfSome wrote (λ e. length (master_log s old.told (far_shard j.job)) < s.log_max)
   pub merges : MergesOwed s old.told new.told j
   pub merged : IsMergedJob s new.told j
 
 -- the log where it is owed has no room for the entry: it has so many, and nothing changes
 pub record FindsNoRoom (s : Settings) (j : ShardJob) (count : ℕ) (keepers : KeeperState) : Type 0 where
-  pub due : IsSome (due_entry s keepers j)
+  pub due : IsSome (owed_entry s keepers j)
   pub full : s.log_max ≤ length (master_log s keepers.told (far_shard j.job))
   pub count_is : count ≡ length (master_log s keepers.told (far_shard j.job))
 
 -- the job was merged, or nothing changed
-abbrev pub MayMerge : Bool → Settings → ShardJob → KeeperState → KeeperState → Type 0
-MayMerge tells s j old new = KeepsTables tells old new ⊎ WhereTold tells (MergesOwed s old.told new.told j)
+abbrev pub MergesOrRests : Bool → Settings → ShardJob → KeeperState → KeeperState → Type 0
+MergesOrRests tells s j old new = KeepsTables tells old new ⊎ WhereTold tells (MergesOwed s old.told new.told j)
 
 -- what the merge of a job from store to store is answered
 abbrev pub MergesThere : Bool → Settings → ShardJob → Result Repaired RepairRefusal → Outside → Outside → Type 0
@@ -64,5 +64,5 @@ MergesThere tells s j (Err (LogFull count)) old new =
     WhereTold tells (FindsNoRoom s j count old.keepers) × KeepsTables tells old.keepers new.keepers × ComesBack s j old.link new.link
 MergesThere tells s j (Err LinkFault) old new = (FailsAt (carry_there s j) old.link new.link × KeepsTables tells old.keepers new.keepers)
     ⊎ (FailsAt (carry_back s j) (after_carry old.link) new.link × WhereTold tells (MergesOwed s old.keepers.told new.keepers.told j))
-MergesThere tells s j (Err KeeperFault) old new = MayMerge tells s j old.keepers new.keepers × ComesBack s j old.link new.link
-MergesThere tells s j (Err OutOfMemory) old new = MayMerge tells s j old.keepers new.keepers × ComesBack s j old.link new.link
+MergesThere tells s j (Err KeeperFault) old new = MergesOrRests tells s j old.keepers new.keepers × ComesBack s j old.link new.link
+MergesThere tells s j (Err OutOfMemory) old new = MergesOrRests tells s j old.keepers new.keepers × ComesBack s j old.link new.link

@@ -27,7 +27,7 @@ use Rattle.tao_link.specs.Shown.{LinkShown, after_carry}
 use Rattle.topology.specs.Config.{Settings}
 use Rattle.core_model.specs.Asks.{AsksGoOn}
 use Rattle.core_model.specs.Consistent.{IsNodeOf, MarksGoOn}
-use Rattle.core_model.specs.Fleet.{EachNode, Fleet, follower_names, leader_names, names_of, regions_of, serves_in_turn}
+use Rattle.core_model.specs.Fleet.{EachNode, Fleet, follower_names, leader_names, node_names, regions_of, serves_in_turn}
 use Rattle.core_model.specs.Pens.{Pens}
 use Rattle.core_model.specs.Stores.{master_log, master_store}
 use Rattle.core_model.specs.declared.named.Named.{Named}
@@ -159,17 +159,26 @@ lies_behind s name shard low until = serves_in_turn (regions_of s) name shard &&
 abbrev pub carried : Bool → LinkShown → LinkShown
 carried needed link = if needed then after_carry link else link
 
+-- the shards' logs of a configuration: in the tables, which the keeper tells or not, and as the pens have seen them
+pub record SeenLogs : Type 0 where
+  pub tells : Bool
+  pub settings : Settings
+  pub tables : Tables
+  pub pens : Pens
+
+abbrev pub seen_logs : Bool → Settings → Tables → Pens → SeenLogs
+seen_logs tells s tables pens = record { tells = tells; settings = s; tables = tables; pens = pens }
+
 -- the node is still the one of that name, its asks go on, and it has processed some more
-pub record NodeGoesOn (tells : Bool) (s : Settings) (tables : Tables) (pens : Pens) (name : NodeName) (old new : Node) : Type 0 where
-  pub node : IsNodeOf s pens name new
+pub record NodeGoesOn (logs : SeenLogs) (name : NodeName) (old new : Node) : Type 0 where
+  pub node : IsNodeOf logs.settings logs.pens name new
   pub asks : AsksGoOn old.asks new.asks
-  pub on : ProcessesOn tells s tables old new
+  pub on : ProcessesOn logs.tells logs.settings logs.tables old new
 
 -- the same of a leader or a follower, whose node and refills are seen so: its name and its refills stay
-pub record CacheGoesOn {N : Type 0} (node : N → Node) (refills : N → List Refill) (tells : Bool) (s : Settings) (tables : Tables) (pens : Pens)
-    (old new : Named N) : Type 0 where
+pub record CacheGoesOn {N : Type 0} (node : N → Node) (refills : N → List Refill) (logs : SeenLogs) (old new : Named N) : Type 0 where
   pub name_is : new.name ≡ old.name
-  pub goes : NodeGoesOn tells s tables pens old.name (node old.node) (node new.node)
+  pub goes : NodeGoesOn logs old.name (node old.node) (node new.node)
   pub rest : refills new.node ≡ refills old.node
 
 -- the node has processed the whole logs of those that it serves of the first shards, so many, and nothing ahead
@@ -202,11 +211,10 @@ pub record AreCaches {N : Type 0} (node : N → Node) (s : Settings) (pens : Pen
   pub each : (place : ℕ) (cache : Named N) → slice_get caches place ≡ Some cache → IsNodeOf s pens cache.name (node cache.node)
 
 -- each stands where it stood, and has gone on
-pub record CachesGoOn {N : Type 0} (node : N → Node) (refills : N → List Refill) (tells : Bool) (s : Settings) (tables : Tables) (pens : Pens)
-    (old new : List (Named N)) : Type 0 where
-  pub names : names_of new ≡ names_of old
+pub record CachesGoOn {N : Type 0} (node : N → Node) (refills : N → List Refill) (logs : SeenLogs) (old new : List (Named N)) : Type 0 where
+  pub names : node_names new ≡ node_names old
   pub each : (place : ℕ) (to : Named N) → slice_get new place ≡ Some to
-      → (from : Named N) × (slice_get old place ≡ Some from) × CacheGoesOn node refills tells s tables pens from to
+      → (from : Named N) × (slice_get old place ≡ Some from) × CacheGoesOn node refills logs from to
 
 -- each has caught up
 pub record HaveCaughtUp {N : Type 0} (node : N → Node) (s : Settings) (tables : Tables) (old new : List (Named N)) : Type 0 where

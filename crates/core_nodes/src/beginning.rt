@@ -1,7 +1,7 @@
 //! The nodes that a core begins with, before its stores.
 ghost use Rattle.std.specs.Prelude.{◌≡◌, ◌<◌, All, IfErr, IfOk, length, map};
 ghost use Rattle.cache_node.specs.True.{IsTrueNode};
-ghost use Rattle.core_model.specs.Fleet.{named, names_of};
+ghost use Rattle.core_model.specs.Fleet.{named, node_names};
 ghost use Rattle.core_model.specs.Stores.{AreStores, HaveSeen, IsMasterOf};
 ghost use Rattle.core_nodes.specs.Beginning.{AreBegun, AreLengths, IsBegunFollower, IsBegunLeader, IsTurn, AreMeasured, MayStand, length_at, note_at};
 ghost use Rattle.core_nodes.specs.Opening.{IsUnmade};
@@ -220,7 +220,7 @@ fn make_leaders(
     names: &[NodeName],
 ) -> Result<Vec<Named<Leader>>, OutOfMemory>
     requires may { AreMeasured config.now masters.old lengths.now }
-    ensures names { IfOk result (λ leaders. names_of leaders.items ≡ names.now) }
+    ensures names { IfOk result (λ leaders. node_names leaders.items ≡ names.now) }
     ensures begun { IfOk result (λ leaders. All (IsBegunLeader config.now masters.old lengths.now) leaders.items) }
     ensures same { masters.new ≡ masters.old }
 {
@@ -241,7 +241,7 @@ fn make_followers(
     names: &[NodeName],
 ) -> Result<Vec<Named<Follower>>, OutOfMemory>
     requires may { AreMeasured config.now masters.old lengths.now }
-    ensures names { IfOk result (λ followers. names_of followers.items ≡ names.now) }
+    ensures names { IfOk result (λ followers. node_names followers.items ≡ names.now) }
     ensures begun { IfOk result (λ followers. All (IsBegunFollower config.now masters.old lengths.now) followers.items) }
     ensures same { masters.new ≡ masters.old }
 {

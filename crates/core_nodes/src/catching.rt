@@ -7,7 +7,7 @@ ghost use Rattle.core_model.specs.Messages.{Processes};
 ghost use Rattle.core_model.specs.Pens.{pens_of};
 ghost use Rattle.core_model.specs.Stores.{AreStoresOf, master_log};
 ghost use Rattle.core_nodes.specs.Repairs.{outside};
-ghost use Rattle.core_nodes.specs.Settling.{AreCaches, CacheGoesOn, CachesGoOn, CatchesUp, HaveCaughtUp, IsConfiguredCache, IsLaterLink, OnlyReads, ReachesEnd};
+ghost use Rattle.core_nodes.specs.Settling.{AreCaches, CacheGoesOn, CachesGoOn, CatchesUp, HaveCaughtUp, IsConfiguredCache, IsLaterLink, OnlyReads, ReachesEnd, seen_logs};
 ghost use Rattle.core_nodes.specs.Settling.{StopsCarry, StopsCatchUp, StopsReads, carried, lies_behind, log_lengths};
 ghost use Rattle.core_nodes.specs.Settling.{follower_node, follower_refills, leader_node, leader_refills};
 ghost use Rattle.core_nodes.specs.Stages.{LeaderDoes};
@@ -255,7 +255,7 @@ fn catch_up_at<C: Cache, K: Keeper, L: Link>(
     requires node { IsNodeOf config.now (pens_of masters.old) cache.old.name (C.node cache.old.node) }
     requires here { shard < config.now.shards }
     requires all { WhereTold K.TELLS (until ≡ length (master_log config.now (K.state keepers.old).told shard)) }
-    ensures goes { CacheGoesOn C.node C.refills K.TELLS config.now (K.state keepers.old).told (pens_of masters.old) cache.old cache.new }
+    ensures goes { CacheGoesOn C.node C.refills (seen_logs K.TELLS config.now (K.state keepers.old).told (pens_of masters.old)) cache.old cache.new }
     ensures reaches { WhereTold K.TELLS (OnOk result
         (ReachesEnd config.now (K.state keepers.old).told shard (C.node cache.old.node) (C.node cache.new.node))) }
     ensures link { OnOk result (L.shown link.new
@@ -291,7 +291,7 @@ fn catch_up_node<C: Cache, K: Keeper, L: Link>(
     requires cache { IsConfiguredCache config.now cache.old.name }
     requires node { IsNodeOf config.now (pens_of masters.old) cache.old.name (C.node cache.old.node) }
     requires lengths { WhereTold K.TELLS (lengths.now ≡ log_lengths config.now (K.state keepers.old).told) }
-    ensures goes { CacheGoesOn C.node C.refills K.TELLS config.now (K.state keepers.old).told (pens_of masters.old) cache.old cache.new }
+    ensures goes { CacheGoesOn C.node C.refills (seen_logs K.TELLS config.now (K.state keepers.old).told (pens_of masters.old)) cache.old cache.new }
     ensures caught { WhereTold K.TELLS (OnOk result
         (CatchesUp config.now (K.state keepers.old).told (C.node cache.old.node) (C.node cache.new.node))) }
     ensures same { masters.new ≡ masters.old }
@@ -320,7 +320,7 @@ fn catch_up_all<C: Cache, K: Keeper, L: Link>(
     requires stores { AreStoresOf K.TELLS config.now (K.state keepers.old).told masters.old }
     requires caches { AreCaches C.node config.now (pens_of masters.old) caches.old }
     requires lengths { WhereTold K.TELLS (lengths.now ≡ log_lengths config.now (K.state keepers.old).told) }
-    ensures on { CachesGoOn C.node C.refills K.TELLS config.now (K.state keepers.old).told (pens_of masters.old) caches.old caches.new }
+    ensures on { CachesGoOn C.node C.refills (seen_logs K.TELLS config.now (K.state keepers.old).told (pens_of masters.old)) caches.old caches.new }
     ensures caught { WhereTold K.TELLS (OnOk result (HaveCaughtUp C.node config.now (K.state keepers.old).told caches.old caches.new)) }
     ensures same { masters.new ≡ masters.old }
     ensures stop { IfErr result (StopsCatchUp config.now
@@ -348,8 +348,9 @@ pub(crate) fn catch_up_caches<K: Keeper, L: Link>(
     requires leaders { AreCaches leader_node config.now (pens_of masters.old) leaders.old }
     requires followers { AreCaches follower_node config.now (pens_of masters.old) followers.old }
     requires lengths { WhereTold K.TELLS (lengths.now ≡ log_lengths config.now (K.state keepers.old).told) }
-    ensures leaders { CachesGoOn leader_node leader_refills K.TELLS config.now (K.state keepers.old).told (pens_of masters.old) leaders.old leaders.new }
-    ensures followers { CachesGoOn follower_node follower_refills K.TELLS config.now (K.state keepers.old).told (pens_of masters.old)
+    ensures leaders { CachesGoOn leader_node leader_refills (seen_logs K.TELLS config.now (K.state keepers.old).told (pens_of masters.old))
+        leaders.old leaders.new }
+    ensures followers { CachesGoOn follower_node follower_refills (seen_logs K.TELLS config.now (K.state keepers.old).told (pens_of masters.old))
         followers.old followers.new }
     ensures caught { WhereTold K.TELLS (OnOk result (HaveCaughtUp leader_node config.now (K.state keepers.old).told leaders.old leaders.new)) }
     ensures also { WhereTold K.TELLS (OnOk result (HaveCaughtUp follower_node config.now (K.state keepers.old).told followers.old followers.new)) }

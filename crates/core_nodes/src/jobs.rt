@@ -30,12 +30,11 @@ ghost use Rattle.write_model.specs.MergeLaws.{MayBeMerged};
 
 use crate::fleet::Fleet;
 use crate::opening::master_store;
-use crate::writes::inverses_match;
 use core_model::{Named, far_shard, place_of};
 use edge_repair::{RepairRefusal, Repaired, merge_there};
 use leader_tier::{Leader, leaders_are_true};
 use node_name::NodeName;
-use shard_tables::{StoreNode, StoreRefusal, Wrote};
+use shard_tables::{StoreNode, StoreRefusal, Wrote, inverses_match};
 use std::alloc::Global;
 use tao_keeper::{Job, Keeper};
 use tao_link::Link;

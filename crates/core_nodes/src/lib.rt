@@ -23,4 +23,3 @@ pub use fleet::Fleet;
 pub use opening::{master_store, open_stores};
 pub use reads::FirstLook;
 pub use settling::SettleStop;
-pub use writes::inverses_match;

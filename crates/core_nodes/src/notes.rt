@@ -1,6 +1,6 @@
 //! Notes of the shards' logs, for those who are to see what was written.
 ghost use Rattle.std.specs.Prelude.{◌≡◌, ◌<◌, IfOk, Some, length, slice_get};
-ghost use Rattle.core_model.specs.Pens.{AreNotesOf, pens_of};
+ghost use Rattle.core_model.specs.Pens.{AreFirstNotes, pens_of};
 ghost use Rattle.core_model.specs.Stores.{AreStores};
 ghost use Rattle.shard_log.specs.View.{as_note};
 ghost use Rattle.shard_tables.specs.StoreView.{Store};
@@ -21,7 +21,7 @@ fn all_notes(
     shards: u16,
 ) -> Result<Vec<Note>, OutOfMemory>
     requires all { length masters.old ≡ shards }
-    ensures notes { IfOk result (λ notes. AreNotesOf (pens_of masters.old) shards notes.items) }
+    ensures notes { IfOk result (λ notes. AreFirstNotes (pens_of masters.old) shards notes.items) }
     ensures same { masters.new ≡ masters.old }
 {
     let mut notes = Vec::new(alloc);
@@ -48,7 +48,7 @@ impl Fleet {
     /// A note of each shard's log, in order, which has seen all of it. The one error is want of memory.
     pub fn notes(&mut self, alloc: Global, config: &Config) -> Result<Vec<Note>, OutOfMemory>
         requires stores { AreStores config.now config.now.shards self.old.masters }
-        ensures notes { IfOk result (λ notes. AreNotesOf (pens_of self.old.masters) config.now.shards notes.items) }
+        ensures notes { IfOk result (λ notes. AreFirstNotes (pens_of self.old.masters) config.now.shards notes.items) }
         ensures same { self.new ≡ self.old }
     {
         all_notes(alloc, &mut self.masters, config.shards)

@@ -5,11 +5,11 @@ ghost use Rattle.cache_node.specs.Answered.{ViewAnswers};
 ghost use Rattle.core_model.specs.Consistent.{GoesOn, IsConsistent, IsFleetOf};
 ghost use Rattle.core_model.specs.Fleet.{ChangesNode, HasAsk, HasNode};
 ghost use Rattle.core_model.specs.Pens.{pens_of};
-ghost use Rattle.core_model.specs.Reads.{AsksAtOnce, EndsAsk, IsGivenAnswer, IsGivenFill, IsLegalLook, KeepsFill, LeaderAnswers, LooksFirst, wanted};
+ghost use Rattle.core_model.specs.Reads.{AsksAtOnce, EndsAsk, IsGivenAnswer, IsGivenFill, IsLegalLook, KeepsFill, LeaderAnswers, LooksFirst, store_calls, taken_fill, wanted};
 ghost use Rattle.core_model.specs.Serving.{IsFollowerFor, IsLeaderFor};
 ghost use Rattle.core_model.specs.Stores.{HaveSeen};
 ghost use Rattle.core_nodes.specs.Stages.{FollowerDoes, NodeIs, LeaderDoes, LooksTrue, OpensAsk};
-ghost use Rattle.leader_tier.specs.LeaderReads.{AnswersRead, IsLegalAt, asked_read};
+ghost use Rattle.leader_tier.specs.LeaderReads.{GivesAnswer, IsLegalAt, asked_read};
 ghost use Rattle.sealed_item.specs.Decided.{content_decides};
 ghost use Rattle.served_shards.specs.Served.{log_at, served_at};
 ghost use Rattle.shard_log.specs.GrowthLaws.{IsLegalIn};
@@ -146,7 +146,7 @@ fn ask_leader<K: Keeper>(
 ) -> Result<LeaderAnswer, StoreRefusal>
     requires log { log_at (query_shard query.now) leader.old.served ≡ Some store.old.view.log }
     requires keeper { IsStoreOf K.TELLS (K.state keepers.old).told store.old }
-    ensures given { IfOk result (λ given. LeaderDoes (λ from to. AnswersRead (asked_read (types_of schema.now) from query.now floor) store.old given to
+    ensures given { IfOk result (λ given. LeaderDoes (λ from to. GivesAnswer (asked_read (types_of schema.now) from query.now floor) store.old given to
         (K.state keepers.old) (K.state keepers.new)) leader.old leader.new) }
     ensures legal { IfOk result (IsLegalAt (types_of schema.now) query.now floor) }
     ensures err { OnErr result (leader.new ≡ leader.old) }
@@ -178,7 +178,7 @@ fn ask_at<K: Keeper>(
         → log_at (query_shard query.now) node.served ≡ Some store.view.log) leaders.old }
     requires keeper { HaveSeen K.TELLS (K.state keepers.old).told masters.old }
     ensures given { IfOk result (λ given. ChangesNode name (LeaderDoes
-        (LeaderAnswers (types_of schema.now) (wanted query.now floor) given masters.old (K.state keepers.old) (K.state keepers.new)))
+        (LeaderAnswers (types_of schema.now) (wanted query.now floor) given (store_calls masters.old (K.state keepers.old) (K.state keepers.new))))
         leaders.old leaders.new) }
     ensures legal { IfOk result (IsLegalAt (types_of schema.now) query.now floor) }
     ensures err { OnErr result (leaders.new ≡ leaders.old) }
@@ -206,7 +206,7 @@ fn keep_fill(
     requires decides { content_decides (types_of schema.now) fill.content query.now ≡ true }
     requires log { log_at (query_shard query.now) follower.old.node.served ≡ Some fill.note.log }
     requires ask { IfSome ask (λ number. IfSome (open_ask_at number follower.old.node.asks) (λ a. a.key ≡ query_key query.now)) }
-    ensures keeps { IfOk result (λ r. FollowerDoes (KeepsFill (types_of schema.now) query.now ask fill r.0 r.1) follower.old follower.new) }
+    ensures keeps { IfOk result (λ r. FollowerDoes (KeepsFill (types_of schema.now) query.now (taken_fill ask fill r.0 r.1)) follower.old follower.new) }
     ensures err { OnErr result (FollowerDoes (EndsAsk ask) follower.old follower.new) }
     ensures legal { IfOk result (λ r. ViewAnswers (types_of schema.now) fill.note query.now r.0 fill.version) }
 {
@@ -230,7 +230,7 @@ fn keep_at(
     requires log { NodeIs name (λ f. log_at (query_shard query.now) f.node.served ≡ Some fill.note.log) followers.old }
     requires ask { NodeIs name (λ f. IfSome ask (λ number. IfSome (open_ask_at number f.node.asks) (λ a. a.key ≡ query_key query.now))) followers.old }
     ensures keeps { IfOk result (λ r. ChangesNode name
-        (FollowerDoes (KeepsFill (types_of schema.now) query.now ask fill r.0 r.1)) followers.old followers.new) }
+        (FollowerDoes (KeepsFill (types_of schema.now) query.now (taken_fill ask fill r.0 r.1))) followers.old followers.new) }
     ensures err { OnErr result (ChangesNode name (FollowerDoes (EndsAsk ask)) followers.old followers.new) }
     ensures legal { IfOk result (λ r. ViewAnswers (types_of schema.now) fill.note query.now r.0 fill.version) }
 {
@@ -326,8 +326,8 @@ impl Fleet {
         requires consistent { IsConsistent K.TELLS config.now (K.state keepers.old).told self.old }
         requires leader { IsLeaderFor config.now (query_shard query.now) leader }
         ensures answers { IfOk result (λ given. ChangesNode leader
-            (LeaderAnswers (types_of config.now.schema) (wanted query.now floor) given self.old.masters (K.state keepers.old) (K.state keepers.new))
-            self.old.leaders self.new.leaders) }
+            (LeaderAnswers (types_of config.now.schema) (wanted query.now floor) given
+            (store_calls self.old.masters (K.state keepers.old) (K.state keepers.new))) self.old.leaders self.new.leaders) }
         ensures rest { self.new ≡ record self.old { leaders = self.new.leaders } }
         ensures err { OnErr result (self.new ≡ self.old) }
         ensures consistent { IsConsistent K.TELLS config.now (K.state keepers.new).told self.new }
@@ -368,7 +368,7 @@ impl Fleet {
         requires given { IsGivenFill (types_of config.now.schema) (pens_of self.old.masters) (wanted query.now floor) fill }
         requires ask { IfSome ask (λ number. HasAsk follower number (query_key query.now) self.old.followers) }
         ensures keeps { IfOk result (λ r. ChangesNode follower
-            (KeepsFill (types_of config.now.schema) query.now ask fill r.0 r.1) self.old.followers self.new.followers) }
+            (KeepsFill (types_of config.now.schema) query.now (taken_fill ask fill r.0 r.1)) self.old.followers self.new.followers) }
         ensures err { OnErr result (ChangesNode follower (EndsAsk ask) self.old.followers self.new.followers) }
         ensures rest { self.new ≡ record self.old { followers = self.new.followers } }
         ensures fleet { IsFleetOf config.now self.new }

@@ -18,7 +18,6 @@ ghost use Rattle.shard_tables.specs.Stores.{IsStoreOf, store_with};
 ghost use Rattle.shard_tables.specs.StoreView.{Store as StoreSeen};
 ghost use Rattle.shard_tables.specs.Written.{HasEntry, LiesOn, StandsIn, TableGains, WriteAnswers, added_entry, asked_write};
 ghost use Rattle.shard_tables.specs.declared.store.Role.TheVariants.{Master};
-ghost use Rattle.tao_base.specs.EdgeTypes.{InversesMatch};
 ghost use Rattle.tao_base.specs.Writes.{ChangesType, write_shard};
 ghost use Rattle.tao_keeper.specs.Given.{IsGivenJob};
 ghost use Rattle.tao_keeper.specs.Growing.{LogsGrow};
@@ -32,19 +31,12 @@ use follower_cache::{Follower, followers_are_true};
 use leader_tier::{Leader, leaders_are_true};
 use node_name::NodeName;
 use shard_log::Note;
-use shard_tables::{StoreNode, StoreRefusal, Wrote};
+use shard_tables::{StoreNode, StoreRefusal, Wrote, inverses_match};
 use std::alloc::Global;
-use tao_base::{AType, Entry, Origin, Write};
+use tao_base::{Entry, Origin, Write};
 use tao_keeper::Keeper;
 use tao_schema::Schema;
 use topology::Config;
-
-/// Each type of a schema is the inverse of its inverse, as the schema says with each inverse that it gives.
-pub fn inverses_match(schema: &Schema)
-    ensures { InversesMatch (types_of schema.now) }
-{
-    let _inverse = schema.inverse(AType(0));
-}
 
 /// Makes the write at the leader and its store.
 fn commit_of<K: Keeper>(

@@ -7,7 +7,7 @@ use Rattle.core_model.specs.Consistent.{IsNodeOf}
 use Rattle.core_model.specs.Pens.{pens_of}
 use Rattle.core_model.specs.Stores.{AreStoresOf}
 use Rattle.core_nodes.specs.Repairs.{outside}
-use Rattle.core_nodes.specs.Settling.{CacheGoesOn, CatchesUp, StopsCatchUp, log_lengths}
+use Rattle.core_nodes.specs.Settling.{CacheGoesOn, CatchesUp, StopsCatchUp, log_lengths, seen_logs}
 use Rattle.core_nodes.proofs.AskLemmas.{stores_here}
 use Rattle.core_nodes.proofs.CachesLemmas.{all_caught, first_none, one_goes_on, one_more, still_caches}
 use Rattle.core_nodes.proofs.CatchLemmas.{cache_before, so_before}
@@ -59,7 +59,7 @@ loop-cache-preserved g c =
     let cache = slice_index_or c.loop-cache.caches c.loop-cache.cache-index c.cache-item.result in
     let goes = cache_before g.C.Cache.node g.C.Cache.refills g.K.Keeper.TELLS s start (state c.loop-cache.keepers).told pens cache c.catch_up_node.new.cache
     was.reads.tables
-    (subst (λ (xs : List Store). CacheGoesOn g.C.Cache.node g.C.Cache.refills g.K.Keeper.TELLS s (state c.loop-cache.keepers).told (pens_of xs) cache
+    (subst (λ (xs : List Store). CacheGoesOn g.C.Cache.node g.C.Cache.refills (seen_logs g.K.Keeper.TELLS s (state c.loop-cache.keepers).told (pens_of xs)) cache
     c.catch_up_node.new.cache) was.same done.goes) in
     record {
       first =
@@ -85,7 +85,7 @@ returns-in_err-catch_up_node-clause-on g c =
     let cache = slice_index_or c.loop-cache.caches c.loop-cache.cache-index c.cache-item.result in
     let goes = cache_before g.C.Cache.node g.C.Cache.refills g.K.Keeper.TELLS s start (state c.loop-cache.keepers).told pens cache c.catch_up_node.new.cache
     was.reads.tables
-    (subst (λ (xs : List Store). CacheGoesOn g.C.Cache.node g.C.Cache.refills g.K.Keeper.TELLS s (state c.loop-cache.keepers).told (pens_of xs) cache
+    (subst (λ (xs : List Store). CacheGoesOn g.C.Cache.node g.C.Cache.refills (seen_logs g.K.Keeper.TELLS s (state c.loop-cache.keepers).told (pens_of xs)) cache
     c.catch_up_node.new.cache) was.same c.in_err-catch_up_node.ensures.goes) in
     one_goes_on g.C.Cache.node g.C.Cache.refills g.K.Keeper.TELLS s start pens c.loop-cache.cache-index c.args.caches.now c.loop-cache.caches cache
     c.catch_up_node.new.cache was.first at goes

@@ -8,7 +8,7 @@ use Rattle.core_model.specs.Pens.{pens_of}
 use Rattle.core_model.specs.Stores.{AreStoresOf}
 use Rattle.core_nodes.specs.Beginning.{length_at}
 use Rattle.core_nodes.specs.Repairs.{outside}
-use Rattle.core_nodes.specs.Settling.{CacheGoesOn, IsAtFirstEnds, IsConfiguredCache, StopsCatchUp}
+use Rattle.core_nodes.specs.Settling.{CacheGoesOn, IsAtFirstEnds, IsConfiguredCache, StopsCatchUp, seen_logs}
 use Rattle.core_nodes.proofs.AskLemmas.{stores_here}
 use Rattle.core_nodes.proofs.CatchLemmas.{cache_before, cache_goes_on, catches_up, ends_on, goes_same, length_here}
 use Rattle.core_nodes.proofs.SettleLemmas.{reads_none, reads_on, stops_later}
@@ -61,7 +61,7 @@ loop-shard-preserved g c =
           c.args.cache.now c.loop-shard.cache c.catch_up_at.new.cache was.goes
           (cache_before g.C.Cache.node g.C.Cache.refills g.K.Keeper.TELLS s (state c.args.keepers.now).told (state c.loop-shard.keepers).told
           (pens_of c.args.masters.now) c.loop-shard.cache c.catch_up_at.new.cache was.reads.tables
-          (subst (λ (xs : List Store). CacheGoesOn g.C.Cache.node g.C.Cache.refills g.K.Keeper.TELLS s (state c.loop-shard.keepers).told (pens_of xs)
+          (subst (λ (xs : List Store). CacheGoesOn g.C.Cache.node g.C.Cache.refills (seen_logs g.K.Keeper.TELLS s (state c.loop-shard.keepers).told (pens_of xs))
           c.loop-shard.cache c.catch_up_at.new.cache) was.same done.goes));
       ends =
           ends_on g.K.Keeper.TELLS s (state c.args.keepers.now).told (state c.loop-shard.keepers).told c.loop-shard.shard
@@ -80,8 +80,8 @@ returns-in_err-catch_up_at-clause-goes g c =
     c.args.cache.now c.loop-shard.cache c.catch_up_at.new.cache was.goes
     (cache_before g.C.Cache.node g.C.Cache.refills g.K.Keeper.TELLS c.args.config.now (state c.args.keepers.now).told (state c.loop-shard.keepers).told
     (pens_of c.args.masters.now) c.loop-shard.cache c.catch_up_at.new.cache was.reads.tables
-    (subst (λ (xs : List Store). CacheGoesOn g.C.Cache.node g.C.Cache.refills g.K.Keeper.TELLS c.args.config.now (state c.loop-shard.keepers).told
-    (pens_of xs) c.loop-shard.cache c.catch_up_at.new.cache) was.same c.in_err-catch_up_at.ensures.goes))
+    (subst (λ (xs : List Store). CacheGoesOn g.C.Cache.node g.C.Cache.refills (seen_logs g.K.Keeper.TELLS c.args.config.now (state c.loop-shard.keepers).told
+    (pens_of xs)) c.loop-shard.cache c.catch_up_at.new.cache) was.same c.in_err-catch_up_at.ensures.goes))
 
 pub returns-in_err-catch_up_at-clause-stop : goal.returns-in_err-catch_up_at-clause-stop
 returns-in_err-catch_up_at-clause-stop g c =

@@ -1,10 +1,10 @@
 use Rattle.std.proofs.Common.{◌≡◌}
-use Rattle.core_model.specs.Pens.{AreNotesOf, pens_of}
+use Rattle.core_model.specs.Pens.{AreFirstNotes, pens_of}
 use Rattle.core_nodes.proofs.notes.all_notes.Given as goal
 
 -- the notes so far are those of the first shards
 abbrev pub invariant-loop-shard : goal.invariant-loop-shard
 invariant-loop-shard l = record {
-  notes : AreNotesOf (pens_of l.fn.masters) l.shard l.notes.items;
+  notes : AreFirstNotes (pens_of l.fn.masters) l.shard l.notes.items;
   same : l.masters ≡ l.fn.masters;
 }

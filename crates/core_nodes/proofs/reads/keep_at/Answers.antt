@@ -6,7 +6,7 @@ use Rattle.served_shards.specs.Served.{log_at}
 use Rattle.tao_base.specs.Queries.{query_key, query_shard}
 use Rattle.tao_base.specs.declared.query.Answer.{Answer}
 use Rattle.tao_schema.specs.Schema.{types_of}
-use Rattle.core_model.specs.Reads.{EndsAsk, KeepsFill}
+use Rattle.core_model.specs.Reads.{EndsAsk, KeepsFill, taken_fill}
 use Rattle.core_nodes.specs.Stages.{FollowerDoes}
 use Rattle.core_model.proofs.NamedNodes.{changes_err, changes_ok}
 use Rattle.core_nodes.proofs.NodesOfNames.{holds_at}
@@ -26,7 +26,7 @@ keep_fill-requires-clause-ask c =
 
 pub returns-clause-keeps : goal.returns-clause-keeps
 returns-clause-keeps c =
-    changes_ok (λ (r : Answer × Kept). FollowerDoes (KeepsFill (types_of c.args.schema.now) c.args.query.now c.args.ask c.args.fill r.0 r.1))
+    changes_ok (λ (r : Answer × Kept). FollowerDoes (KeepsFill (types_of c.args.schema.now) c.args.query.now (taken_fill c.args.ask c.args.fill r.0 r.1)))
     c.args.followers.now c.args.name
     c.place_of-place.result c.index-followers-place.result c.keep_fill.new.follower c.keep_fill.result c.place_of-place.ensures c.keep_fill.ensures.keeps
 

@@ -11,7 +11,8 @@ use Rattle.core_model.specs.declared.named.Named.{Named}
 use Rattle.core_nodes.specs.Stages.{NodeIs}
 use Rattle.core_nodes.proofs.AskLemmas.{leader_log}
 use Rattle.core_nodes.proofs.LentLemmas.{ask_lent}
-use Rattle.core_nodes.proofs.ViewLemmas.{LendsBoth}
+use Rattle.core_nodes.proofs.ViewLemmas.{LendsBoth, both_back, both_rest}
+use Rattle.std.proofs.lemmas.Result.{on_err_weaker}
 use Rattle.core_nodes.proofs.fleet.Fleet.ask.Goals as goal
 
 pub ask_at-requires-clause-logs : goal.ask_at-requires-clause-logs
@@ -29,41 +30,30 @@ ask_at-requires-clause-keeper g c =
     let own = c.deref_mut-2.ensures.value ∙ ap (λ (f : Fleet). f.masters) c.self.view_is in
     subst (HaveSeen g.K.Keeper.TELLS (g.K.Keeper.state c.args.keepers.now).told) (sym own) c.requires.consistent.stores.seen
 
-pub returns-clause-consistent : goal.returns-clause-consistent
-returns-clause-consistent g c =
+pub returns : goal.returns
+returns g c =
     let state = g.K.Keeper.state in
+    let given = c.ask_at.ensures in
     let own = c.deref_mut.ensures.value ∙ ap (λ (f : Fleet). f.leaders) c.self.view_is in
     let stores = c.deref_mut-2.ensures.value ∙ ap (λ (f : Fleet). f.masters) c.self.view_is in
     let lends : LendsBoth c.self.inside c.args.self.now c.deref_mut.result.now c.ask_at.new.leaders c.deref_mut-2.result.now c.ask_at.new.masters =
-    record { leaders = record { view = c.self.view_is; own = own; long = omega arith }; own = stores; long = omega arith; is = c.ask_at.ensures.same } in
-    (ask_lent g.K.Keeper.TELLS c.args.config.now c.config.inside.schema c.args.leader (wanted c.args.query.now c.args.floor) (state c.args.keepers.now)
-    (state c.ask_at.new.keepers) c.self.inside c.args.self.now
-    c.deref_mut.result.now c.ask_at.new.leaders c.deref_mut-2.result.now c.ask_at.new.masters c.ask_at.result lends
-    (ap (λ (s : Settings). s.schema) c.config.view_is) c.requires.consistent
-    c.ask_at.ensures.given c.ask_at.ensures.legal c.ask_at.ensures.err c.ask_at.ensures.tables).consistent
-
-pub returns-clause-goes : goal.returns-clause-goes
-returns-clause-goes g c =
-    let state = g.K.Keeper.state in
-    let own = c.deref_mut.ensures.value ∙ ap (λ (f : Fleet). f.leaders) c.self.view_is in
-    let stores = c.deref_mut-2.ensures.value ∙ ap (λ (f : Fleet). f.masters) c.self.view_is in
-    let lends : LendsBoth c.self.inside c.args.self.now c.deref_mut.result.now c.ask_at.new.leaders c.deref_mut-2.result.now c.ask_at.new.masters =
-    record { leaders = record { view = c.self.view_is; own = own; long = omega arith }; own = stores; long = omega arith; is = c.ask_at.ensures.same } in
-    (ask_lent g.K.Keeper.TELLS c.args.config.now c.config.inside.schema c.args.leader (wanted c.args.query.now c.args.floor) (state c.args.keepers.now)
-    (state c.ask_at.new.keepers) c.self.inside c.args.self.now
-    c.deref_mut.result.now c.ask_at.new.leaders c.deref_mut-2.result.now c.ask_at.new.masters c.ask_at.result lends
-    (ap (λ (s : Settings). s.schema) c.config.view_is) c.requires.consistent
-    c.ask_at.ensures.given c.ask_at.ensures.legal c.ask_at.ensures.err c.ask_at.ensures.tables).goes
-
-pub returns-clause-given : goal.returns-clause-given
-returns-clause-given g c =
-    let state = g.K.Keeper.state in
-    let own = c.deref_mut.ensures.value ∙ ap (λ (f : Fleet). f.leaders) c.self.view_is in
-    let stores = c.deref_mut-2.ensures.value ∙ ap (λ (f : Fleet). f.masters) c.self.view_is in
-    let lends : LendsBoth c.self.inside c.args.self.now c.deref_mut.result.now c.ask_at.new.leaders c.deref_mut-2.result.now c.ask_at.new.masters =
-    record { leaders = record { view = c.self.view_is; own = own; long = omega arith }; own = stores; long = omega arith; is = c.ask_at.ensures.same } in
-    (ask_lent g.K.Keeper.TELLS c.args.config.now c.config.inside.schema c.args.leader (wanted c.args.query.now c.args.floor) (state c.args.keepers.now)
-    (state c.ask_at.new.keepers) c.self.inside c.args.self.now
-    c.deref_mut.result.now c.ask_at.new.leaders c.deref_mut-2.result.now c.ask_at.new.masters c.ask_at.result lends
-    (ap (λ (s : Settings). s.schema) c.config.view_is) c.requires.consistent
-    c.ask_at.ensures.given c.ask_at.ensures.legal c.ask_at.ensures.err c.ask_at.ensures.tables).given
+    record { leaders = record { view = c.self.view_is; own = own; long = omega arith }; own = stores; long = omega arith; is = given.same } in
+    let done =
+    ask_lent g.K.Keeper.TELLS c.args.config.now c.config.inside.schema c.args.leader (wanted c.args.query.now c.args.floor) (state c.args.keepers.now)
+    (state c.ask_at.new.keepers) c.self.inside c.args.self.now c.deref_mut.result.now c.ask_at.new.leaders c.deref_mut-2.result.now
+    c.ask_at.new.masters c.ask_at.result lends (ap (λ (s : Settings). s.schema) c.config.view_is) c.requires.consistent given.given given.legal
+    given.err given.tables in
+    record {
+      answers = done.answers;
+      rest = both_rest c.self.inside c.args.self.now c.deref_mut.result.now c.ask_at.new.leaders c.deref_mut-2.result.now c.ask_at.new.masters lends;
+      err = on_err_weaker c.ask_at.result
+          (both_back c.self.inside c.args.self.now c.deref_mut.result.now c.ask_at.new.leaders c.deref_mut-2.result.now c.ask_at.new.masters lends)
+          given.err;
+      consistent = done.consistent;
+      goes = done.goes;
+      given = done.given;
+      refused = given.refused;
+      tables = given.tables;
+      logs = given.logs;
+      calls = given.calls;
+    }

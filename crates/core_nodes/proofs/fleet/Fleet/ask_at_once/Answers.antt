@@ -6,7 +6,7 @@ use Rattle.core_model.specs.Fleet.{Fleet}
 use Rattle.core_nodes.specs.Stages.{NodeIs}
 use Rattle.core_nodes.proofs.LentLemmas.{at_once_lent}
 use Rattle.core_nodes.proofs.ReadLemmas.{follower_serves}
-use Rattle.core_nodes.proofs.ViewLemmas.{LendsFollowers}
+use Rattle.core_nodes.proofs.ViewLemmas.{LendsFollowers, followers_rest}
 use Rattle.core_nodes.proofs.fleet.Fleet.ask_at_once.Goals as goal
 
 pub open_at-requires-clause-serves : goal.open_at-requires-clause-serves
@@ -15,34 +15,18 @@ open_at-requires-clause-serves c =
     subst (NodeIs c.args.follower (λ (f : FollowerState). IsSome (served_at (query_shard c.args.query.now) f.node.served))) (sym own)
     (follower_serves c.args.config.now c.args.self.now (query_shard c.args.query.now) c.args.follower c.requires.fleet c.requires.follower)
 
-pub returns-clause-asks : goal.returns-clause-asks
-returns-clause-asks c =
+pub returns : goal.returns
+returns c =
     let own = c.deref_mut.ensures.value ∙ ap (λ (f : Fleet). f.followers) c.self.view_is in
     let lends : LendsFollowers c.self.inside c.args.self.now c.deref_mut.result.now c.open_at.new.followers =
     record { view = c.self.view_is; own = own; long = omega arith } in
-    (at_once_lent c.args.config.now c.args.follower c.args.query.now c.open_at.result c.self.inside c.args.self.now c.deref_mut.result.now
-    c.open_at.new.followers lends c.requires.fleet c.open_at.ensures).asks
-
-pub returns-clause-fleet : goal.returns-clause-fleet
-returns-clause-fleet c =
-    let own = c.deref_mut.ensures.value ∙ ap (λ (f : Fleet). f.followers) c.self.view_is in
-    let lends : LendsFollowers c.self.inside c.args.self.now c.deref_mut.result.now c.open_at.new.followers =
-    record { view = c.self.view_is; own = own; long = omega arith } in
-    (at_once_lent c.args.config.now c.args.follower c.args.query.now c.open_at.result c.self.inside c.args.self.now c.deref_mut.result.now
-    c.open_at.new.followers lends c.requires.fleet c.open_at.ensures).step.fleet
-
-pub returns-clause-goes : goal.returns-clause-goes
-returns-clause-goes c =
-    let own = c.deref_mut.ensures.value ∙ ap (λ (f : Fleet). f.followers) c.self.view_is in
-    let lends : LendsFollowers c.self.inside c.args.self.now c.deref_mut.result.now c.open_at.new.followers =
-    record { view = c.self.view_is; own = own; long = omega arith } in
-    (at_once_lent c.args.config.now c.args.follower c.args.query.now c.open_at.result c.self.inside c.args.self.now c.deref_mut.result.now
-    c.open_at.new.followers lends c.requires.fleet c.open_at.ensures).step.goes
-
-pub returns-clause-ask : goal.returns-clause-ask
-returns-clause-ask c =
-    let own = c.deref_mut.ensures.value ∙ ap (λ (f : Fleet). f.followers) c.self.view_is in
-    let lends : LendsFollowers c.self.inside c.args.self.now c.deref_mut.result.now c.open_at.new.followers =
-    record { view = c.self.view_is; own = own; long = omega arith } in
-    (at_once_lent c.args.config.now c.args.follower c.args.query.now c.open_at.result c.self.inside c.args.self.now c.deref_mut.result.now
-    c.open_at.new.followers lends c.requires.fleet c.open_at.ensures).ask_is
+    let done =
+    at_once_lent c.args.config.now c.args.follower c.args.query.now c.open_at.result c.self.inside c.args.self.now c.deref_mut.result.now
+    c.open_at.new.followers lends c.requires.fleet c.open_at.ensures in
+    record {
+      asks = done.asks;
+      rest = followers_rest c.self.inside c.args.self.now c.deref_mut.result.now c.open_at.new.followers lends;
+      fleet = done.step.fleet;
+      goes = done.step.goes;
+      ask = done.ask_is;
+    }

@@ -7,7 +7,7 @@ use Rattle.core_model.specs.Fleet.{Fleet}
 use Rattle.core_model.specs.Pens.{pens_of}
 use Rattle.core_model.specs.Stores.{AreStoresOf}
 use Rattle.core_model.specs.declared.named.Named.{Named}
-use Rattle.core_nodes.specs.Settling.{AllCatchUp, AreCaches, CachesGoOn, HaveCaughtUp, follower_node, follower_refills, leader_node, leader_refills}
+use Rattle.core_nodes.specs.Settling.{AllCatchUp, AreCaches, CachesGoOn, HaveCaughtUp, follower_node, follower_refills, leader_node, leader_refills, seen_logs}
 use Rattle.core_nodes.proofs.FleetSettles.{LendsAll, SettleStep, after_both_ok, all_after, followers_are, leaders_are, settle_catches, settle_step}
 use Rattle.core_nodes.proofs.fleet.Fleet.catch_up.Goals as goal
 
@@ -46,11 +46,11 @@ returns g c =
     record { view = c.self.view_is; long_leaders = omega arith; long_followers = omega arith; long = omega arith; own = masters; is = given.same } in
     let is = all_after c.self.inside old ls fs c.deref_mut-3.result.now c.catch_up_caches.new.masters lends in
     let on_leaders =
-    subst (λ (xs : List (Named Node)). CachesGoOn leader_node leader_refills tells s before (pens_of old.masters) xs ls) leaders
-    (subst (λ (ms : List Store). CachesGoOn leader_node leader_refills tells s before (pens_of ms) c.deref_mut.result.now ls) masters given.leaders) in
+    subst (λ (xs : List (Named Node)). CachesGoOn leader_node leader_refills (seen_logs tells s before (pens_of old.masters)) xs ls) leaders
+    (subst (λ (ms : List Store). CachesGoOn leader_node leader_refills (seen_logs tells s before (pens_of ms)) c.deref_mut.result.now ls) masters given.leaders) in
     let on_followers =
-    subst (λ (xs : List (Named FollowerState)). CachesGoOn follower_node follower_refills tells s before (pens_of old.masters) xs fs) followers
-    (subst (λ (ms : List Store). CachesGoOn follower_node follower_refills tells s before (pens_of ms) c.deref_mut-2.result.now fs) masters
+    subst (λ (xs : List (Named FollowerState)). CachesGoOn follower_node follower_refills (seen_logs tells s before (pens_of old.masters)) xs fs) followers
+    (subst (λ (ms : List Store). CachesGoOn follower_node follower_refills (seen_logs tells s before (pens_of ms)) c.deref_mut-2.result.now fs) masters
     given.followers) in
     let step = subst (SettleStep tells s tables old) (sym is)
     (settle_step tells s before tables old ls fs c.requires.consistent given.reads.tables on_leaders on_followers) in

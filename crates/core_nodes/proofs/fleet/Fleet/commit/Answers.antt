@@ -34,86 +34,34 @@ commit_at-requires-clause-stores g c =
     let masters = c.deref_mut-2.ensures.value ∙ ap (λ (f : Fleet). f.masters) c.self.view_is in
     subst (AreStoresOf g.K.Keeper.TELLS c.args.config.now (g.K.Keeper.state c.args.keepers.now).told) (sym masters) c.requires.consistent.stores
 
-pub returns-clause-node : goal.returns-clause-node
-returns-clause-node g c =
+pub returns : goal.returns
+returns g c =
+    let given = c.commit_at.ensures in
     let leaders = c.deref_mut.ensures.value ∙ ap (λ (f : Fleet). f.leaders) c.self.view_is in
     let masters = c.deref_mut-2.ensures.value ∙ ap (λ (f : Fleet). f.masters) c.self.view_is in
     let long : length c.commit_at.new.leaders ≡ c.self.inside.leaders.len = omega arith in
     let many : length c.commit_at.new.masters ≡ c.self.inside.masters.len = omega arith in
-    (commit_lent g.K.Keeper.TELLS c.args.config.now c.args.leader (write_shard c.args.write.now) (g.K.Keeper.state c.commit_at.new.keepers).told
-    c.self.inside c.args.self.now c.deref_mut.result.now
-    c.commit_at.new.leaders c.deref_mut-2.result.now c.commit_at.new.masters c.commit_at.result c.self.view_is long many leaders masters
-    c.requires.consistent.fleet c.commit_at.ensures.node
-    c.commit_at.ensures.rest c.commit_at.ensures.stores c.commit_at.ensures.rise c.commit_at.ensures.note c.commit_at.ensures.stands).node
-
-pub returns-clause-err : goal.returns-clause-err
-returns-clause-err g c =
-    let leaders = c.deref_mut.ensures.value ∙ ap (λ (f : Fleet). f.leaders) c.self.view_is in
-    let masters = c.deref_mut-2.ensures.value ∙ ap (λ (f : Fleet). f.masters) c.self.view_is in
-    let long : length c.commit_at.new.leaders ≡ c.self.inside.leaders.len = omega arith in
-    let many : length c.commit_at.new.masters ≡ c.self.inside.masters.len = omega arith in
-    (commit_lent g.K.Keeper.TELLS c.args.config.now c.args.leader (write_shard c.args.write.now) (g.K.Keeper.state c.commit_at.new.keepers).told
-    c.self.inside c.args.self.now c.deref_mut.result.now
-    c.commit_at.new.leaders c.deref_mut-2.result.now c.commit_at.new.masters c.commit_at.result c.self.view_is long many leaders masters
-    c.requires.consistent.fleet c.commit_at.ensures.node
-    c.commit_at.ensures.rest c.commit_at.ensures.stores c.commit_at.ensures.rise c.commit_at.ensures.note c.commit_at.ensures.stands).err
-
-pub returns-clause-consistent : goal.returns-clause-consistent
-returns-clause-consistent g c =
-    let leaders = c.deref_mut.ensures.value ∙ ap (λ (f : Fleet). f.leaders) c.self.view_is in
-    let masters = c.deref_mut-2.ensures.value ∙ ap (λ (f : Fleet). f.masters) c.self.view_is in
-    let long : length c.commit_at.new.leaders ≡ c.self.inside.leaders.len = omega arith in
-    let many : length c.commit_at.new.masters ≡ c.self.inside.masters.len = omega arith in
-    (commit_lent g.K.Keeper.TELLS c.args.config.now c.args.leader (write_shard c.args.write.now) (g.K.Keeper.state c.commit_at.new.keepers).told
-    c.self.inside c.args.self.now c.deref_mut.result.now
-    c.commit_at.new.leaders c.deref_mut-2.result.now c.commit_at.new.masters c.commit_at.result c.self.view_is long many leaders masters
-    c.requires.consistent.fleet c.commit_at.ensures.node
-    c.commit_at.ensures.rest c.commit_at.ensures.stores c.commit_at.ensures.rise c.commit_at.ensures.note c.commit_at.ensures.stands).consistent
-
-pub returns-clause-goes : goal.returns-clause-goes
-returns-clause-goes g c =
-    let leaders = c.deref_mut.ensures.value ∙ ap (λ (f : Fleet). f.leaders) c.self.view_is in
-    let masters = c.deref_mut-2.ensures.value ∙ ap (λ (f : Fleet). f.masters) c.self.view_is in
-    let long : length c.commit_at.new.leaders ≡ c.self.inside.leaders.len = omega arith in
-    let many : length c.commit_at.new.masters ≡ c.self.inside.masters.len = omega arith in
-    (commit_lent g.K.Keeper.TELLS c.args.config.now c.args.leader (write_shard c.args.write.now) (g.K.Keeper.state c.commit_at.new.keepers).told
-    c.self.inside c.args.self.now c.deref_mut.result.now
-    c.commit_at.new.leaders c.deref_mut-2.result.now c.commit_at.new.masters c.commit_at.result c.self.view_is long many leaders masters
-    c.requires.consistent.fleet c.commit_at.ensures.node
-    c.commit_at.ensures.rest c.commit_at.ensures.stores c.commit_at.ensures.rise c.commit_at.ensures.note c.commit_at.ensures.stands).goes
-
-pub returns-clause-followers : goal.returns-clause-followers
-returns-clause-followers g c =
-    let leaders = c.deref_mut.ensures.value ∙ ap (λ (f : Fleet). f.leaders) c.self.view_is in
-    let masters = c.deref_mut-2.ensures.value ∙ ap (λ (f : Fleet). f.masters) c.self.view_is in
-    let long : length c.commit_at.new.leaders ≡ c.self.inside.leaders.len = omega arith in
-    let many : length c.commit_at.new.masters ≡ c.self.inside.masters.len = omega arith in
-    (commit_lent g.K.Keeper.TELLS c.args.config.now c.args.leader (write_shard c.args.write.now) (g.K.Keeper.state c.commit_at.new.keepers).told
-    c.self.inside c.args.self.now c.deref_mut.result.now
-    c.commit_at.new.leaders c.deref_mut-2.result.now c.commit_at.new.masters c.commit_at.result c.self.view_is long many leaders masters
-    c.requires.consistent.fleet c.commit_at.ensures.node
-    c.commit_at.ensures.rest c.commit_at.ensures.stores c.commit_at.ensures.rise c.commit_at.ensures.note c.commit_at.ensures.stands).followers
-
-pub returns-clause-seen : goal.returns-clause-seen
-returns-clause-seen g c =
-    let leaders = c.deref_mut.ensures.value ∙ ap (λ (f : Fleet). f.leaders) c.self.view_is in
-    let masters = c.deref_mut-2.ensures.value ∙ ap (λ (f : Fleet). f.masters) c.self.view_is in
-    let long : length c.commit_at.new.leaders ≡ c.self.inside.leaders.len = omega arith in
-    let many : length c.commit_at.new.masters ≡ c.self.inside.masters.len = omega arith in
-    (commit_lent g.K.Keeper.TELLS c.args.config.now c.args.leader (write_shard c.args.write.now) (g.K.Keeper.state c.commit_at.new.keepers).told
-    c.self.inside c.args.self.now c.deref_mut.result.now
-    c.commit_at.new.leaders c.deref_mut-2.result.now c.commit_at.new.masters c.commit_at.result c.self.view_is long many leaders masters
-    c.requires.consistent.fleet c.commit_at.ensures.node
-    c.commit_at.ensures.rest c.commit_at.ensures.stores c.commit_at.ensures.rise c.commit_at.ensures.note c.commit_at.ensures.stands).seen
-
-pub returns-clause-stands : goal.returns-clause-stands
-returns-clause-stands g c =
-    let leaders = c.deref_mut.ensures.value ∙ ap (λ (f : Fleet). f.leaders) c.self.view_is in
-    let masters = c.deref_mut-2.ensures.value ∙ ap (λ (f : Fleet). f.masters) c.self.view_is in
-    let long : length c.commit_at.new.leaders ≡ c.self.inside.leaders.len = omega arith in
-    let many : length c.commit_at.new.masters ≡ c.self.inside.masters.len = omega arith in
-    (commit_lent g.K.Keeper.TELLS c.args.config.now c.args.leader (write_shard c.args.write.now) (g.K.Keeper.state c.commit_at.new.keepers).told
-    c.self.inside c.args.self.now c.deref_mut.result.now
-    c.commit_at.new.leaders c.deref_mut-2.result.now c.commit_at.new.masters c.commit_at.result c.self.view_is long many leaders masters
-    c.requires.consistent.fleet c.commit_at.ensures.node
-    c.commit_at.ensures.rest c.commit_at.ensures.stores c.commit_at.ensures.rise c.commit_at.ensures.note c.commit_at.ensures.stands).stands
+    let done =
+    commit_lent g.K.Keeper.TELLS c.args.config.now c.args.leader (write_shard c.args.write.now) (g.K.Keeper.state c.commit_at.new.keepers).told
+    c.self.inside c.args.self.now c.deref_mut.result.now c.commit_at.new.leaders c.deref_mut-2.result.now c.commit_at.new.masters c.commit_at.result
+    c.self.view_is long many leaders masters c.requires.consistent.fleet given.node given.rest given.stores given.rise given.note given.stands in
+    record {
+      node = done.node;
+      err = done.err;
+      consistent = done.consistent;
+      goes = done.goes;
+      followers = done.followers;
+      answer = given.answer;
+      fits = given.fits;
+      entry = given.entry;
+      job = given.job;
+      found = given.found;
+      given = given.given;
+      owes = given.owes;
+      tables = given.tables;
+      logs = given.logs;
+      seen = done.seen;
+      stands = done.stands;
+      here = given.lies;
+      calls = given.calls;
+    }

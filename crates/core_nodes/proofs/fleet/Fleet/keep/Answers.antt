@@ -9,7 +9,7 @@ use Rattle.core_model.specs.Reads.{wanted}
 use Rattle.core_nodes.specs.Stages.{NodeIs}
 use Rattle.core_nodes.proofs.LentLemmas.{keep_lent}
 use Rattle.core_nodes.proofs.ReadLemmas.{follower_log, keeps_ask}
-use Rattle.core_nodes.proofs.ViewLemmas.{LendsFollowers}
+use Rattle.core_nodes.proofs.ViewLemmas.{LendsFollowers, followers_rest}
 use Rattle.core_nodes.proofs.fleet.Fleet.keep.Goals as goal
 
 pub keep_at-requires-clause-log : goal.keep_at-requires-clause-log
@@ -26,57 +26,21 @@ keep_at-requires-clause-ask c =
     (λ number. IfSome (ask_at number f.node.asks) (λ a. a.key ≡ query_key c.args.query.now)))) (sym own)
     (keeps_ask c.args.follower c.args.ask (query_key c.args.query.now) c.args.self.now.followers c.requires.ask)
 
-pub returns-clause-keeps : goal.returns-clause-keeps
-returns-clause-keeps c =
+pub returns : goal.returns
+returns c =
+    let given = c.keep_at.ensures in
     let own = c.deref_mut.ensures.value ∙ ap (λ (f : Fleet). f.followers) c.self.view_is in
     let lends : LendsFollowers c.self.inside c.args.self.now c.deref_mut.result.now c.keep_at.new.followers =
     record { view = c.self.view_is; own = own; long = omega arith } in
-    (keep_lent c.args.config.now c.config.inside.schema c.args.follower
-    (wanted c.args.query.now c.args.floor) c.args.ask c.args.fill c.self.inside c.args.self.now c.deref_mut.result.now
-    c.keep_at.new.followers c.keep_at.result lends (ap (λ (s : Settings). s.schema) c.config.view_is) c.requires.fleet c.requires.given
-    c.keep_at.ensures.keeps c.keep_at.ensures.err
-    c.keep_at.ensures.legal).keeps
-
-pub returns-clause-err : goal.returns-clause-err
-returns-clause-err c =
-    let own = c.deref_mut.ensures.value ∙ ap (λ (f : Fleet). f.followers) c.self.view_is in
-    let lends : LendsFollowers c.self.inside c.args.self.now c.deref_mut.result.now c.keep_at.new.followers =
-    record { view = c.self.view_is; own = own; long = omega arith } in
-    (keep_lent c.args.config.now c.config.inside.schema c.args.follower
-    (wanted c.args.query.now c.args.floor) c.args.ask c.args.fill c.self.inside c.args.self.now c.deref_mut.result.now
-    c.keep_at.new.followers c.keep_at.result lends (ap (λ (s : Settings). s.schema) c.config.view_is) c.requires.fleet c.requires.given
-    c.keep_at.ensures.keeps c.keep_at.ensures.err
-    c.keep_at.ensures.legal).err
-
-pub returns-clause-fleet : goal.returns-clause-fleet
-returns-clause-fleet c =
-    let own = c.deref_mut.ensures.value ∙ ap (λ (f : Fleet). f.followers) c.self.view_is in
-    let lends : LendsFollowers c.self.inside c.args.self.now c.deref_mut.result.now c.keep_at.new.followers =
-    record { view = c.self.view_is; own = own; long = omega arith } in
-    (keep_lent c.args.config.now c.config.inside.schema c.args.follower
-    (wanted c.args.query.now c.args.floor) c.args.ask c.args.fill c.self.inside c.args.self.now c.deref_mut.result.now
-    c.keep_at.new.followers c.keep_at.result lends (ap (λ (s : Settings). s.schema) c.config.view_is) c.requires.fleet c.requires.given
-    c.keep_at.ensures.keeps c.keep_at.ensures.err
-    c.keep_at.ensures.legal).step.fleet
-
-pub returns-clause-goes : goal.returns-clause-goes
-returns-clause-goes c =
-    let own = c.deref_mut.ensures.value ∙ ap (λ (f : Fleet). f.followers) c.self.view_is in
-    let lends : LendsFollowers c.self.inside c.args.self.now c.deref_mut.result.now c.keep_at.new.followers =
-    record { view = c.self.view_is; own = own; long = omega arith } in
-    (keep_lent c.args.config.now c.config.inside.schema c.args.follower
-    (wanted c.args.query.now c.args.floor) c.args.ask c.args.fill c.self.inside c.args.self.now c.deref_mut.result.now
-    c.keep_at.new.followers c.keep_at.result lends (ap (λ (s : Settings). s.schema) c.config.view_is) c.requires.fleet c.requires.given
-    c.keep_at.ensures.keeps c.keep_at.ensures.err
-    c.keep_at.ensures.legal).step.goes
-
-pub returns-clause-legal : goal.returns-clause-legal
-returns-clause-legal c =
-    let own = c.deref_mut.ensures.value ∙ ap (λ (f : Fleet). f.followers) c.self.view_is in
-    let lends : LendsFollowers c.self.inside c.args.self.now c.deref_mut.result.now c.keep_at.new.followers =
-    record { view = c.self.view_is; own = own; long = omega arith } in
-    (keep_lent c.args.config.now c.config.inside.schema c.args.follower
-    (wanted c.args.query.now c.args.floor) c.args.ask c.args.fill c.self.inside c.args.self.now c.deref_mut.result.now
-    c.keep_at.new.followers c.keep_at.result lends (ap (λ (s : Settings). s.schema) c.config.view_is) c.requires.fleet c.requires.given
-    c.keep_at.ensures.keeps c.keep_at.ensures.err
-    c.keep_at.ensures.legal).legal
+    let done =
+    keep_lent c.args.config.now c.config.inside.schema c.args.follower (wanted c.args.query.now c.args.floor) c.args.ask c.args.fill c.self.inside
+    c.args.self.now c.deref_mut.result.now c.keep_at.new.followers c.keep_at.result lends (ap (λ (s : Settings). s.schema) c.config.view_is)
+    c.requires.fleet c.requires.given given.keeps given.err given.legal in
+    record {
+      keeps = done.keeps;
+      err = done.err;
+      rest = followers_rest c.self.inside c.args.self.now c.deref_mut.result.now c.keep_at.new.followers lends;
+      fleet = done.step.fleet;
+      goes = done.step.goes;
+      legal = done.legal;
+    }

@@ -8,7 +8,7 @@ use Rattle.cache_items.specs.declared.look.Look.TheVariants.{Hit, Miss}
 use Rattle.core_model.specs.Consistent.{GoesOn, IsConsistent, IsFleetOf}
 use Rattle.core_model.specs.Fleet.{ChangesNode, Fleet}
 use Rattle.core_model.specs.Pens.{pens_of}
-use Rattle.core_model.specs.Reads.{EndsAsk, IsGivenAnswer, IsGivenFill, IsLegalLook, KeepsFill, LeaderAnswers, LooksFirst, StoreReads, Wanted, given_of}
+use Rattle.core_model.specs.Reads.{EndsAsk, IsGivenAnswer, IsGivenFill, IsLegalLook, KeepsFill, LeaderAnswers, LooksFirst, StoreReads, Wanted, given_of, store_calls, taken_fill}
 use Rattle.core_model.specs.Stores.{AreStoresOf, master_store}
 use Rattle.core_model.proofs.NamedNodes.{changes_so}
 use Rattle.core_nodes.proofs.FleetLemmas.{goes_self}
@@ -44,7 +44,7 @@ use Rattle.tao_keeper.specs.Table.{Table}
 use Rattle.tao_link.specs.Shown.{LinkShown}
 use Rattle.tao_schema.specs.Schema.{key_bound, types_of}
 use Rattle.topology.specs.Config.{Settings}
-use Rattle.core_steps.specs.Reads.{AnswersAgain, Ends, MayAnswer, ReadFails, ReadsAlong, WasGiven}
+use Rattle.core_steps.specs.Reads.{AnswersAgain, Ends, MayAnswer, ReadFails, ReadsAlong, WasGiven, asked_by, sent_read}
 use Rattle.core_steps.specs.ReadSteps.{AsksAlong, AsksOfKey, EndsRead, IsGivenAlong, IsGivenOver, IsNotGivenAlong}
 use Rattle.core_steps.specs.ReadSteps.{IsReached, IsReadOver, ReadsOn, TellsCost, is_behind, missed_read}
 use Rattle.core_steps.specs.Routes.{Scene, hops_between, scene, there_and_back, was_called}
@@ -76,7 +76,7 @@ pub hit_reads : (tells : Bool) (s : Settings) (route : Route) (read : Wanted) (l
     → ChangesNode route.follower (LooksFirst (types_of s.schema) read look ask) old.followers new.followers
     → new ≡ record old { followers = new.followers }
     → IsLegalLook (types_of s.schema) (pens_of new.masters) read look
-    → ReadsAlong tells s route read (Called (called.Read (replied read.query answer version cost Kept))) (scene old keepers link) (scene new keepers link)
+    → ReadsAlong tells s (sent_read route read) (Called (called.Read (replied read.query answer version cost Kept))) (scene old keepers link) (scene new keepers link)
 hit_reads tells s route read look answer version ask cost old new keepers link is hops store are here change rest legal =
     let types = types_of s.schema in
     let query = read.query in
@@ -112,7 +112,7 @@ given_same : (types : EdgeTypes) (route : Route) (read : Wanted) (given : Leader
     → WasGiven types route read given (scene old keepers link) end
 given_same types route read given old mid keepers link end rest gives = elim gives [
   | inl g ↦ inl (record {
-    asks = subst (λ (f : Fleet). ChangesNode route.leader (LeaderAnswers types read given f.masters keepers end.keepers) f.leaders end.fleet.leaders)
+    asks = subst (λ (f : Fleet). ChangesNode route.leader (LeaderAnswers types read given (store_calls f.masters keepers end.keepers)) f.leaders end.fleet.leaders)
         rest g.asks;
     link = g.link;
   })
@@ -120,7 +120,7 @@ given_same types route read given old mid keepers link end rest gives = elim giv
     behind = g.behind;
     between = g.between;
     out = g.out;
-    asks = subst (λ (f : Fleet). ChangesNode route.leader (LeaderAnswers types read (Behind g.behind) f.masters keepers g.between) f.leaders
+    asks = subst (λ (f : Fleet). ChangesNode route.leader (LeaderAnswers types read (Behind g.behind) (store_calls f.masters keepers g.between)) f.leaders
         end.fleet.leaders) rest g.asks;
     reads = subst (λ (f : Fleet). StoreReads types read.query g.out f.masters g.between end.keepers) rest g.reads;
     given_is = g.given_is;
@@ -133,14 +133,14 @@ may_same : (types : EdgeTypes) (route : Route) (read : Wanted) (old mid : Fleet)
     → MayAnswer types route read (scene old keepers link) end
 may_same types route read old mid keepers link end rest may = subst (λ (f : Fleet). (end.fleet.leaders ≡ f.leaders)
     ⊎ ((given : LeaderAnswer) × (after : KeeperState)
-    × ChangesNode route.leader (LeaderAnswers types read given f.masters keepers after) f.leaders end.fleet.leaders)) rest may
+    × ChangesNode route.leader (LeaderAnswers types read given (store_calls f.masters keepers after)) f.leaders end.fleet.leaders)) rest may
 
 pub miss_reads : (tells : Bool) (s : Settings) (route : Route) (read : Wanted) (look : Look) (ask : Option ℕ) (reply : Reply) (old mid : Fleet)
     (keepers : KeeperState) (link : LinkShown) (end : Scene) → look ≡ Miss
     → ChangesNode route.follower (LooksFirst (types_of s.schema) read look ask) old.followers mid.followers
     → mid ≡ record old { followers = mid.followers }
     → AsksAlong tells s (missed_read route read ask) reply (scene mid keepers link) end
-    → ReadsAlong tells s route read reply (scene old keepers link) end
+    → ReadsAlong tells s (sent_read route read) reply (scene old keepers link) end
 miss_reads tells s route read look ask (Called (called.Read reply)) old mid keepers link end is change rest asks =
     let types = types_of s.schema in
     let looks = subst (λ l. ChangesNode route.follower (LooksFirst types read l ask) old.followers mid.followers) is change in
@@ -205,8 +205,8 @@ read_gives tells s route read given out old mid end behind over reads reached =
         behind = b.0;
         between = mid.keepers;
         out = out;
-        asks = subst (λ g. ChangesNode route.leader (LeaderAnswers types read g old.fleet.masters old.keepers mid.keepers) old.fleet.leaders
-            end.fleet.leaders) b.1 (subst (λ ls. ChangesNode route.leader (LeaderAnswers types read given old.fleet.masters old.keepers mid.keepers)
+        asks = subst (λ g. ChangesNode route.leader (LeaderAnswers types read g (store_calls old.fleet.masters old.keepers mid.keepers)) old.fleet.leaders
+            end.fleet.leaders) b.1 (subst (λ ls. ChangesNode route.leader (LeaderAnswers types read given (store_calls old.fleet.masters old.keepers mid.keepers))
             old.fleet.leaders ls) (sym leaders) over.gives.asks);
         reads = subst (λ ms. StoreReads types read.query out ms mid.keepers end.keepers) masters reads.reads;
         given_is = refl;
@@ -232,7 +232,7 @@ given_on types route read given old mid end rest gives =
     let leaders : end.leaders ≡ mid.fleet.leaders = ap (λ (f : Fleet). f.leaders) rest in
     elim gives [
       | inl g ↦ inl (record {
-        asks = subst (λ ls. ChangesNode route.leader (LeaderAnswers types read given old.fleet.masters old.keepers mid.keepers) old.fleet.leaders ls)
+        asks = subst (λ ls. ChangesNode route.leader (LeaderAnswers types read given (store_calls old.fleet.masters old.keepers mid.keepers)) old.fleet.leaders ls)
             (sym leaders) g.asks;
         link = g.link;
       })
@@ -240,7 +240,7 @@ given_on types route read given old mid end rest gives =
         behind = g.behind;
         between = g.between;
         out = g.out;
-        asks = subst (λ ls. ChangesNode route.leader (LeaderAnswers types read (Behind g.behind) old.fleet.masters old.keepers g.between)
+        asks = subst (λ ls. ChangesNode route.leader (LeaderAnswers types read (Behind g.behind) (store_calls old.fleet.masters old.keepers g.between))
             old.fleet.leaders ls) (sym leaders) g.asks;
         reads = g.reads;
         given_is = g.given_is;
@@ -259,13 +259,13 @@ may_on types route read given old mid end rest gives =
         given,
         mid.keepers,
         subst (λ ls. ChangesNode route.leader
-            (LeaderAnswers types read given old.fleet.masters old.keepers mid.keepers) old.fleet.leaders ls) (sym leaders) g.asks,
+            (LeaderAnswers types read given (store_calls old.fleet.masters old.keepers mid.keepers)) old.fleet.leaders ls) (sym leaders) g.asks,
       )
       | inr g ↦ inr (
         Behind g.behind,
         g.between,
         subst (λ ls. ChangesNode route.leader
-            (LeaderAnswers types read (Behind g.behind) old.fleet.masters old.keepers g.between) old.fleet.leaders ls) (sym leaders) g.asks,
+            (LeaderAnswers types read (Behind g.behind) (store_calls old.fleet.masters old.keepers g.between)) old.fleet.leaders ls) (sym leaders) g.asks,
       )
     ]
 
@@ -288,7 +288,7 @@ given_ends tells s route read ask given (Called (called.Read reply)) cost old mi
       given = given;
       word_is = told.0;
       gives = given_on types route read given old mid end rest over.gives;
-      ends = subst (λ fs. Ends types route.follower read ask given reply fs end.followers) (ap (λ (f : Fleet). f.followers) over.rest) ends.ends;
+      ends = subst (λ fs. Ends types (asked_by route.follower read ask) given reply fs end.followers) (ap (λ (f : Fleet). f.followers) over.rest) ends.ends;
       masters = ap (λ (f : Fleet). f.masters) rest ∙ masters;
       hops_is = told.1 ∙ hops;
       store_is = told.2 ∙ store;
@@ -325,7 +325,7 @@ vain_ends tells s route read ask (Refused refused) old mid end lost rest ends =
     record {
       fails = fails_then s route read.query (Refused refused) old mid end lost.fails;
       leaders = subst (λ ls. (ls ≡ old.fleet.leaders) ⊎ ((given : LeaderAnswer) × (after : KeeperState)
-          × ChangesNode route.leader (LeaderAnswers types read given old.fleet.masters old.keepers after) old.fleet.leaders ls)) (sym leaders) lost.leaders;
+          × ChangesNode route.leader (LeaderAnswers types read given (store_calls old.fleet.masters old.keepers after)) old.fleet.leaders ls)) (sym leaders) lost.leaders;
       ends = subst (λ fs. ChangesNode route.follower (EndsAsk ask) fs end.followers) (ap (λ (f : Fleet). f.followers) lost.rest) ends;
       masters = ap (λ (f : Fleet). f.masters) rest ∙ ap (λ (f : Fleet). f.masters) lost.rest;
     }
@@ -336,7 +336,7 @@ vain_ends tells s route read ask reply old mid end lost rest ends = absurd lost.
 pub filled_ends : (s : Settings) (route : Route) (read : Wanted) (ask : Option ℕ) (fill : SealedItem) (answer : Answer) (kept : KeptWhy) (cost : Cost)
     (old new : Fleet)
     → IsFleetOf s old → IsGivenFill (types_of s.schema) (pens_of old.masters) read fill → IsSealed fill
-    → ChangesNode route.follower (KeepsFill (types_of s.schema) read.query ask fill answer kept) old.followers new.followers
+    → ChangesNode route.follower (KeepsFill (types_of s.schema) read.query (taken_fill ask fill answer kept)) old.followers new.followers
     → new ≡ record old { followers = new.followers }
     → IsLegalIn (types_of s.schema) (pens_of new.masters (query_shard read.query)) read.query read.floor answer fill.version
     → EndsRead s (missed_read route read ask) (Filled fill) (Called (called.Read (replied read.query answer fill.version cost (kept_or_not kept)))) old new
@@ -345,7 +345,7 @@ filled_ends s route read ask fill answer kept cost old new fleet given sealed ch
     record {
       ends = (kept, change, refl, refl);
       legal = subst (λ (f : Fleet). IsLegalIn types (pens_of f.masters (query_shard read.query)) read.query read.floor answer fill.version) rest legal;
-      again = λ told held place f floor first at le. is_after (Repeats types read.query answer fill.version) (KeepsFill types read.query ask fill answer kept)
+      again = λ told held place f floor first at le. is_after (Repeats types read.query answer fill.version) (KeepsFill types read.query (taken_fill ask fill answer kept))
           route.follower old.followers new.followers change
           (filled_repeats s old new.followers route.follower read ask fill answer kept fleet change given sealed told held) place f first at floor le;
     }

@@ -29,7 +29,7 @@ use Rattle.tao_keeper.specs.KeeperState.{KeeperState}
 use Rattle.tao_schema.specs.Schema.{types_of}
 use Rattle.topology.specs.Config.{Settings}
 use Rattle.core_steps.specs.CriticalReads.{IsWhole, ReadsCritical}
-use Rattle.core_steps.specs.Reads.{AnswersAgain, Ends}
+use Rattle.core_steps.specs.Reads.{AnswersAgain, Ends, asked_by}
 use Rattle.core_steps.specs.ReadSteps.{AsksOfKey, EndsRead, IsNotRead, IsReadOver, ReadOverFails, TellsCost, missed_read}
 use Rattle.core_steps.specs.Routes.{Scene, hops_between, scene, was_called}
 use Rattle.core_steps.specs.declared.reads.Cost.{Cost}
@@ -38,7 +38,7 @@ use Rattle.core_steps.proofs.ReadLemmas.{legal_in_log, where_told}
 
 -- the reply has the version of the log that was read
 read_version : (types : EdgeTypes) (log : List Entry) (follower : NodeName) (read : Wanted) (ask : Option ℕ) (out : ReadOut) (reply : ReadReply)
-    (old new : List (Named FollowerState)) → IsReadOutOf types log read.query out → Ends types follower read ask (given_of out) reply old new
+    (old new : List (Named FollowerState)) → IsReadOutOf types log read.query out → Ends types (asked_by follower read ask) (given_of out) reply old new
     → reply.version ≡ version log (query_key read.query)
 read_version types log follower read ask (store.Filled fill) reply old new is ends = ends.2 ∙ is.version_is
 read_version types log follower read ask (store.Past answer at total note) reply old new is ends = ends.2 ∙ is.0.version_is
@@ -47,7 +47,7 @@ read_version types log follower read ask (store.Past answer at total note) reply
 read_whole : (tells : Bool) (s : Settings) (follower : NodeName) (read : Wanted) (ask : Option ℕ) (out : ReadOut) (reply : ReadReply) (old : Scene)
     (after : KeeperState) (from to : List (Named FollowerState)) → AreStoresOf tells s old.keepers.told old.fleet.masters
     → StoreReads (types_of s.schema) read.query out old.fleet.masters old.keepers after
-    → Ends (types_of s.schema) follower read ask (given_of out) reply from to → IsWhole tells s read reply old
+    → Ends (types_of s.schema) (asked_by follower read ask) (given_of out) reply from to → IsWhole tells s read reply old
 read_whole tells s follower read ask out reply old after from to are reads ends =
     let shard = query_shard read.query in
     let named = (are.masters.each shard reads.store reads.stands).name_is in
@@ -74,7 +74,7 @@ module _ (tells : Bool) (s : Settings) (route : Route) (read : Wanted) (ask : Op
       let own : mid.masters ≡ old.fleet.masters = ap (λ (f : Fleet). f.masters) asked in
       let masters : over.fleet.masters ≡ old.fleet.masters = ap (λ (f : Fleet). f.masters) is.same ∙ own in
       let reads = subst (λ ms. StoreReads types query out ms old.keepers over.keepers) own is.reads in
-      let there = subst (λ fs. Ends types route.follower read ask (given_of out) reply fs end.followers) (ap (λ (f : Fleet). f.followers) is.same) ends.ends in
+      let there = subst (λ fs. Ends types (asked_by route.follower read ask) (given_of out) reply fs end.followers) (ap (λ (f : Fleet). f.followers) is.same) ends.ends in
       let legal = subst (λ ms. IsLegalIn types (pens_of ms (query_shard query)) query read.floor reply.answer reply.version) masters ends.legal in
       let again = subst (λ ms. WhereTold (pens_of ms (query_shard query)).log.told
       (reply.kept ≡ Kept → AnswersAgain types route.follower query reply end.followers)) masters ends.again in

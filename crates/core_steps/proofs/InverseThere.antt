@@ -31,9 +31,9 @@ use Rattle.core_model.specs.Consistent.{IsConsistent}
 use Rattle.core_model.specs.Pens.{pens_of}
 use Rattle.core_model.specs.Stores.{master_store, masters_of, stores_in}
 use Rattle.core_steps.specs.Laws.{HasOtherEnds, WrittenIsThere}
-use Rattle.core_steps.specs.OtherEnds.{WorksOffOf}
+use Rattle.core_steps.specs.OtherEnds.{WorksOffOf, write_other_end}
 use Rattle.core_steps.specs.Posting.{Posting}
-use Rattle.core_steps.specs.Writes.{ClientWrite, IsWritten, StepsAs, asked_of_log}
+use Rattle.core_steps.specs.Writes.{AuthoredWrite, CompletesWrite, StepsAs, asked_of_log, sent_write}
 use Rattle.core_steps.specs.declared.jobs.OtherEndDone.{OtherEndDone}
 use Rattle.core_steps.specs.declared.routes.Route.{Route}
 use Rattle.core_steps.specs.declared.writes.CarriedOut.{CarriedOut}
@@ -116,7 +116,7 @@ told_written : (told other : InverseEnd) → told ≡ other → told ≡ Written
 told_written told other is written = sym written ∙ is
 
 module _ (s : Settings) (shard : ℕ) (e : Entry) (c : Committed) (done : OtherEndDone) (between off : Posting) (told : done.told ≡ Written) where
-  worked_off : (job : Option Job) → IsJobThen (stores_in s between.scene.keepers.told) shard e job → WorksOffOf true s shard c job done between off
+  worked_off : (job : Option Job) → IsJobThen (stores_in s between.scene.keepers.told) shard e job → WorksOffOf true s (write_other_end shard c done) job between off
       → (stores_in s off.scene.keepers.told).job shard e.position ≡ None
   worked_off None is works = ap (λ (p : Posting). (stores_in s p.scene.keepers.told).job shard e.position) works.2 ∙ is.open_is
   worked_off (Some job) is (inl ended) =
@@ -128,7 +128,7 @@ module _ (s : Settings) (shard : ℕ) (e : Entry) (c : Committed) (done : OtherE
 
 -- ---- the write
 
-module _ (s : Settings) (route : Route) (call : ClientWrite) (done : CarriedOut) (old new : Posting) (is : IsWritten true s route call done old new)
+module _ (s : Settings) (route : Route) (call : AuthoredWrite) (done : CarriedOut) (old new : Posting) (is : CompletesWrite true s (sent_write route call) done old new)
     (client : IsTrue (is_client call.origin)) (here : write_shard call.write < s.shards)
     (before : IsConsistent true s old.scene.keepers.told old.scene.fleet) (after : IsConsistent true s new.scene.keepers.told new.scene.fleet) where
   abbrev shard : ℕ
@@ -191,7 +191,7 @@ module _ (s : Settings) (route : Route) (call : ClientWrite) (done : CarriedOut)
       (any_there entry refl (sym (ap (λ w. w.inverse) is.written_is) ∙ told)
       (subst (λ o. IfSome o (StandsIn (pens_of new.scene.fleet.masters shard))) is.entry_is stands))
 
-pub written_is_there : (s : Settings) (route : Route) (call : ClientWrite) (done : CarriedOut) (old new : Posting) → WrittenIsThere s route call done old new
+pub written_is_there : (s : Settings) (route : Route) (call : AuthoredWrite) (done : CarriedOut) (old new : Posting) → WrittenIsThere s route call done old new
 written_is_there s route call done old new = record {
   there = λ is told client here before after stands. done_there s route call done old new is client here before after told stands;
 }

@@ -3,9 +3,7 @@ pub mod CriticalLemmas
 pub mod InverseThere
 pub mod MergeLemmas
 pub mod ReadLemmas
-pub mod RepairLemmas
 pub mod Repeats
-pub mod RunLemmas
 pub mod StepLemmas
 pub mod WholeReads
 pub mod WriteLemmas

@@ -13,7 +13,7 @@ use Rattle.core_model.proofs.NodesSeen.{nodes_stay_seen}
 use Rattle.core_model.specs.Consistent.{IsFleetOf, IsNodeOf}
 use Rattle.core_model.specs.Fleet.{ChangesNode, Fleet}
 use Rattle.core_model.specs.Pens.{Pens, pens_of}
-use Rattle.core_model.specs.Reads.{IsGivenFill, KeepsFill, LooksFirst, Wanted}
+use Rattle.core_model.specs.Reads.{IsGivenFill, KeepsFill, LooksFirst, Wanted, taken_fill}
 use Rattle.core_model.specs.declared.named.Named.{Named}
 use Rattle.follower_cache.specs.Seen.{FollowerState}
 use Rattle.graph_model.specs.Told.{WhereTold}
@@ -79,7 +79,7 @@ given_exact types pens read fill given sealed told =
     contents_stay.stays fill.note (pens (query_shard query)) (query_key query) fill.version fill.content given.seen (λ h. exact) told
 
 kept_repeats : (s : Settings) (pens : Pens) (name : NodeName) (read : Wanted) (ask : Option ℕ) (fill : SealedItem) (answer : Answer) (from to : FollowerState)
-    → KeepsFill (types_of s.schema) read.query ask fill answer was.Yes from to → IsNodeOf s pens name from.node
+    → KeepsFill (types_of s.schema) read.query (taken_fill ask fill answer was.Yes) from to → IsNodeOf s pens name from.node
     → IsGivenFill (types_of s.schema) pens read fill → IsSealed fill → (pens (query_shard read.query)).log.told ≡ true
     → Repeats (types_of s.schema) read.query answer fill.version to
 kept_repeats s pens name read ask fill answer from to keeps is given sealed told floor le =
@@ -100,12 +100,12 @@ kept_repeats s pens name read ask fill answer from to keeps is given sealed told
 -- the follower of the name does, where the log is told
 pub filled_repeats : (s : Settings) (old : Fleet) (fs : List (Named FollowerState)) (name : NodeName) (read : Wanted) (ask : Option ℕ) (fill : SealedItem)
     (answer : Answer) (kept : KeptWhy)
-    → IsFleetOf s old → (change : ChangesNode name (KeepsFill (types_of s.schema) read.query ask fill answer kept) old.followers fs)
+    → IsFleetOf s old → (change : ChangesNode name (KeepsFill (types_of s.schema) read.query (taken_fill ask fill answer kept)) old.followers fs)
     → IsGivenFill (types_of s.schema) (pens_of old.masters) read fill → IsSealed fill
     → WhereTold (pens_of old.masters (query_shard read.query)).log.told
     (kept_or_not kept ≡ Kept → Repeats (types_of s.schema) read.query answer fill.version change.to)
 filled_repeats s old fs name read ask fill answer kept fleet change given sealed told held =
-    let by : KeepsFill (types_of s.schema) read.query ask fill answer was.Yes change.from change.to =
-    subst (λ k. KeepsFill (types_of s.schema) read.query ask fill answer k change.from change.to) (kept_yes kept held) change.by in
+    let by : KeepsFill (types_of s.schema) read.query (taken_fill ask fill answer was.Yes) change.from change.to =
+    subst (λ k. KeepsFill (types_of s.schema) read.query (taken_fill ask fill answer k) change.from change.to) (kept_yes kept held) change.by in
     kept_repeats s (pens_of old.masters) name read ask fill answer change.from change.to by
     (fleet.followers change.place name change.from change.stands).node given sealed told

@@ -14,9 +14,9 @@ use Rattle.tao_keeper.specs.Table.{AreOfEntries}
 use Rattle.tao_schema.specs.Schema.{types_of}
 use Rattle.topology.specs.Config.{Settings}
 use Rattle.core_model.specs.Stores.{master_log, master_store, masters_of}
-use Rattle.core_steps.specs.Writes.{ClientWrite, Commits, StepsAs, asked_of_log, new_entry, stores_now}
+use Rattle.core_steps.specs.Writes.{AuthoredWrite, CommitsCall, StepsAs, asked_of_log, given_by_log, new_entry, stores_now}
 
-module _ (s : Settings) (old new : KeeperState) (call : ClientWrite) (within : write_shard call.write < s.shards) where
+module _ (s : Settings) (old new : KeeperState) (call : AuthoredWrite) (within : write_shard call.write < s.shards) where
   module _ (sound : IsSoundOf (types_of s.schema) (write_shard call.write) (master_log s old.told (write_shard call.write)))
       (jobs : AreOfEntries (old.told (master_store s (write_shard call.write)))) where
     step : WriteIsStep (masters_of s) old.told new.told (write_shard call.write) (asked_of_log s old call)
@@ -39,7 +39,7 @@ module _ (s : Settings) (old new : KeeperState) (call : ClientWrite) (within : w
       → WhereTold tells (AnswersAs (asked_of_log s old call) retry entry)
       → WhereTold tells (TableGains old.told new.told (master_store s (write_shard call.write)) (new_entry retry entry)
       (job_with (types_of s.schema) (new_entry retry entry)))
-      → Commits tells s call retry entry old new
+      → CommitsCall tells s call (given_by_log retry entry) old new
   commits tells retry entry sound jobs answer gains = record {
     step = λ told. write_steps (sound told) (jobs told) retry entry (answer told) (gains told);
     answers = answer;

@@ -33,7 +33,7 @@ use Rattle.tao_schema.specs.Schema.{types_of}
 use Rattle.topology.specs.Config.{Settings}
 use Rattle.core_model.specs.Consistent.{IsConsistent}
 use Rattle.core_model.specs.Fleet.{ChangesNode, Fleet, named}
-use Rattle.core_model.specs.Reads.{LeaderAnswers, LooksFirst, Wanted}
+use Rattle.core_model.specs.Reads.{LeaderAnswers, LooksFirst, Wanted, store_calls}
 use Rattle.core_model.specs.Stores.{master_log}
 use Rattle.core_model.specs.declared.named.Named.{Named}
 use Rattle.core_nodes.specs.Beginning.{AreAtEnds}
@@ -43,7 +43,7 @@ use Rattle.core_nodes.proofs.StayingAtEnds.{ends_stay}
 use Rattle.core_steps.specs.Laws.{ReadsAreWhole}
 use Rattle.core_steps.specs.ReadSteps.{IsReached}
 use Rattle.core_steps.specs.CriticalReads.{IsWhole}
-use Rattle.core_steps.specs.Reads.{Ends, Misses, ReadsAlong}
+use Rattle.core_steps.specs.Reads.{Ends, Misses, ReadsAlong, asked_by, sent_read}
 use Rattle.core_steps.specs.Routes.{Scene}
 use Rattle.core_steps.specs.declared.routes.Route.{Route}
 
@@ -93,7 +93,7 @@ read_last types log query floor (store.Past answer at total note) is = elim (cas
 
 -- and what was answered of it
 ends_last : (types : EdgeTypes) (follower : NodeName) (read : Wanted) (ask : Option ℕ) (last : ℕ) (given : LeaderAnswer) (reply : ReadReply)
-    (old new : List (Named FollowerState)) → GivesLast read.floor last given → Ends types follower read ask given reply old new → reply.version ≡ last
+    (old new : List (Named FollowerState)) → GivesLast read.floor last given → Ends types (asked_by follower read ask) given reply old new → reply.version ≡ last
 ends_last types follower read ask last (leader.Filled fill) reply old new gives ends = ends.2 ∙ gives
 ends_last types follower read ask last (leader.Past answer at total note) reply old new gives ends = ends.2 ∙ gives
 ends_last types follower read ask last (leader.Behind at) reply old new gives ends = absurd ends
@@ -128,7 +128,7 @@ module _ (s : Settings) (read : Wanted) (keepers : KeeperState) (f : Fleet) (are
       (reads (are.stores.seen (query_shard read.query) x at).told_is)
 
   answers_last : (given : LeaderAnswer) (after : KeeperState) (from to : Node) → HoldsLast s keepers.told from
-      → LeaderAnswers types read given f.masters keepers after from to → GivesLast read.floor (version log (query_key read.query)) given
+      → LeaderAnswers types read given (store_calls f.masters keepers after) from to → GivesLast read.floor (version log (query_key read.query)) given
   answers_last given after from to holds does = elim does.answers [
     | inl own ↦
         let of = front_item types (item_at from.items (query_key read.query)) read.query read.floor (item_of own.fill) own.serves.0 in
@@ -141,7 +141,7 @@ module _ (s : Settings) (read : Wanted) (keepers : KeeperState) (f : Fleet) (are
 
   -- a leader's answer
   pub given_last : (name : NodeName) (given : LeaderAnswer) (after : KeeperState) (new : List (Named Node))
-      → ChangesNode name (LeaderAnswers types read given f.masters keepers after) f.leaders new
+      → ChangesNode name (LeaderAnswers types read given (store_calls f.masters keepers after)) f.leaders new
       → GivesLast read.floor (version log (query_key read.query)) given
   given_last name given after new change =
       let holds = all_at (λ (n : Named Node). HoldsLast s keepers.told n.node) f.leaders change.place (named name change.from)
@@ -166,7 +166,7 @@ module _ (s : Settings) (route : Route) (read : Wanted) (reply : ReadReply) (old
             absurd (omega (arith, behind, come))
       ]
 
-  read_whole : ReadsAlong true s route read (Called (called.Read reply)) old new → IsWhole true s read reply old
+  read_whole : ReadsAlong true s (sent_read route read) (Called (called.Read reply)) old new → IsWhole true s read reply old
   read_whole answered = elim answered.went [
     | inl hits ↦ λ told. hit_last s read old.keepers old.fleet are ends route.follower reply.answer reply.version None new.fleet.followers hits.looks
     | inr misses ↦ given_whole misses

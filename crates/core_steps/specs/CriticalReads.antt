@@ -19,7 +19,7 @@ use Rattle.tao_base.specs.Queries.{query_key, query_shard}
 use Rattle.tao_schema.specs.Schema.{types_of}
 use Rattle.topology.specs.Config.{Settings}
 use Rattle.core_steps.specs.ReadSteps.{ReadOverFails}
-use Rattle.core_steps.specs.Reads.{AnswersAgain, Ends, IsLegalNow}
+use Rattle.core_steps.specs.Reads.{AnswersAgain, Ends, IsLegalNow, asked_by}
 use Rattle.core_steps.specs.Routes.{Scene, hops_between, master_node, there_and_back, was_called}
 
 -- the answer has the version that the shard's log has at the query's key, where the tables are told: it misses nothing
@@ -27,23 +27,31 @@ abbrev pub IsWhole : Bool → Settings → Wanted → ReadReply → Scene → Ty
 IsWhole tells s read reply old =
     WhereTold tells (reply.version ≡ version (master_log s old.keepers.told (query_shard read.query)) (query_key read.query))
 
+-- a read at its follower
+pub record FollowerRead : Type 0 where
+  pub follower : NodeName
+  pub read : Wanted
+
+abbrev pub follower_read : NodeName → Wanted → FollowerRead
+follower_read follower read = record { follower = follower; read = read }
+
 -- a read that the master's store answered, by one carry there and one back. Its follower opened an ask at once, unless 256 were open, and ended it with
 -- what was read: legally, with nothing missing. What is kept is held, and answers again
-pub record IsAnsweredByMaster (tells : Bool) (s : Settings) (follower : NodeName) (read : Wanted) (reply : ReadReply) (old new : Scene) : Type 0 where
-  pub word_is : reply.word ≡ query_word read.query
+pub record IsAnsweredByMaster (tells : Bool) (s : Settings) (at : FollowerRead) (reply : ReadReply) (old new : Scene) : Type 0 where
+  pub word_is : reply.word ≡ query_word at.read.query
   pub ask : Option ℕ
   pub looked : List (Named FollowerState)
   pub out : ReadOut
-  pub asks : ChangesNode follower (AsksAtOnce (query_key read.query) ask) old.fleet.followers looked
-  pub reads : StoreReads (types_of s.schema) read.query out old.fleet.masters old.keepers new.keepers
-  pub ends : Ends (types_of s.schema) follower read ask (given_of out) reply looked new.fleet.followers
+  pub asks : ChangesNode at.follower (AsksAtOnce (query_key at.read.query) ask) old.fleet.followers looked
+  pub reads : StoreReads (types_of s.schema) at.read.query out old.fleet.masters old.keepers new.keepers
+  pub ends : Ends (types_of s.schema) (asked_by at.follower at.read ask) (given_of out) reply looked new.fleet.followers
   pub rest : new.fleet ≡ record old.fleet { followers = new.fleet.followers }
   pub link : new.link ≡ there_and_back old.link
   pub hops_is : reply.hops ≡ hops_between old.link new.link
   pub store_is : reply.store ≡ was_called old.keepers new.keepers
-  pub legal : IsLegalNow tells s read reply old.keepers
-  pub whole : IsWhole tells s read reply old
-  pub again : WhereTold tells (reply.kept ≡ Kept → AnswersAgain (types_of s.schema) follower read.query reply new.fleet.followers)
+  pub legal : IsLegalNow tells s at.read reply old.keepers
+  pub whole : IsWhole tells s at.read reply old
+  pub again : WhereTold tells (reply.kept ≡ Kept → AnswersAgain (types_of s.schema) at.follower at.read.query reply new.fleet.followers)
 
 -- it was refused: a carry failed, or the store's keeper, or memory was wanting. Its follower opened an ask at once, and ended it
 pub record IsRefusedByMaster (s : Settings) (follower : NodeName) (read : Wanted) (reply : Reply) (old new : Scene) : Type 0 where
@@ -56,6 +64,6 @@ pub record IsRefusedByMaster (s : Settings) (follower : NodeName) (read : Wanted
 
 -- what a critical read is answered
 abbrev pub ReadsCritical : Bool → Settings → NodeName → Wanted → Reply → Scene → Scene → Type 0
-ReadsCritical tells s follower read (Called (called.Read reply)) old new = IsAnsweredByMaster tells s follower read reply old new
+ReadsCritical tells s follower read (Called (called.Read reply)) old new = IsAnsweredByMaster tells s (follower_read follower read) reply old new
 ReadsCritical tells s follower read (Refused refused) old new = IsRefusedByMaster s follower read (Refused refused) old new
 ReadsCritical tells s follower read reply old new = ⊥

@@ -22,9 +22,9 @@ use Rattle.core_nodes.specs.Beginning.{AreAtEnds}
 use Rattle.core_steps.specs.CriticalReads.{IsWhole, ReadsCritical}
 use Rattle.core_steps.specs.Posting.{Posting}
 use Rattle.core_steps.specs.ReadSteps.{IsReached}
-use Rattle.core_steps.specs.Reads.{ReadsAlong}
+use Rattle.core_steps.specs.Reads.{ReadsAlong, sent_read}
 use Rattle.core_steps.specs.Routes.{Scene}
-use Rattle.core_steps.specs.Writes.{ClientWrite, IsWritten}
+use Rattle.core_steps.specs.Writes.{AuthoredWrite, CompletesWrite, sent_write}
 use Rattle.core_steps.specs.declared.routes.Route.{Route}
 use Rattle.core_steps.specs.declared.writes.CarriedOut.{CarriedOut}
 
@@ -33,8 +33,8 @@ abbrev pub HasOtherEnds : Settings → Tables → Entry → Type 0
 HasOtherEnds s tables e = All (λ u. HasStamp (log_of (stores_in s tables).logs (shard_of u.0)) u) (job_of (types_of s.schema) e)
 
 -- where a write tells its inverse as written, the other end has it
-pub record WrittenIsThere (s : Settings) (route : Route) (call : ClientWrite) (done : CarriedOut) (old new : Posting) : Type 0 where
-  pub there : IsWritten true s route call done old new → done.reply.written.inverse ≡ Written → IsTrue (is_client call.origin)
+pub record WrittenIsThere (s : Settings) (route : Route) (call : AuthoredWrite) (done : CarriedOut) (old new : Posting) : Type 0 where
+  pub there : CompletesWrite true s (sent_write route call) done old new → done.reply.written.inverse ≡ Written → IsTrue (is_client call.origin)
       → write_shard call.write < s.shards → IsConsistent true s old.scene.keepers.told old.scene.fleet
       → IsConsistent true s new.scene.keepers.told new.scene.fleet
       → IfSome done.entry (StandsIn (pens_of new.scene.fleet.masters (write_shard call.write)))
@@ -42,6 +42,6 @@ pub record WrittenIsThere (s : Settings) (route : Route) (call : ClientWrite) (d
 
 -- an answer misses nothing, where every leader and follower has processed the whole logs, and always where it is critical
 pub record ReadsAreWhole (s : Settings) (route : Route) (read : Wanted) (reply : ReadReply) (old new : Scene) : Type 0 where
-  pub along : ReadsAlong true s route read (Called (called.Read reply)) old new → IsReached true s read old.keepers
+  pub along : ReadsAlong true s (sent_read route read) (Called (called.Read reply)) old new → IsReached true s read old.keepers
       → IsConsistent true s old.keepers.told old.fleet → AreAtEnds s old.keepers.told old.fleet → IsWhole true s read reply old
   pub critical : ReadsCritical true s route.follower read (Called (called.Read reply)) old new → IsWhole true s read reply old

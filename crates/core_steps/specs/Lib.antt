@@ -6,7 +6,6 @@ pub mod OtherEnds
 pub mod Posting
 pub mod ReadSteps
 pub mod Reads
-pub mod Repairs
 pub mod Replies
 pub mod Routes
 pub mod Writes

@@ -142,7 +142,7 @@ pub record IsMergedAndLate (tells : Bool) (s : Settings) (way : JobWay) (done : 
   pub told_is : done.told ≡ inverse.Scheduled why
 
 -- it was not merged, or its answer was lost: the inverse is scheduled, for that reason
-pub record IsLeftOpen (tells : Bool) (s : Settings) (way : JobWay) (done : OtherEndDone) (old new : Posting) : Type 0 where
+pub record StaysOwed (tells : Bool) (s : Settings) (way : JobWay) (done : OtherEndDone) (old new : Posting) : Type 0 where
   pub why : ScheduledWhy
   pub merges : MergesOver tells s way (Err (Scheduled why done.wrote)) old new
   pub told_is : done.told ≡ inverse.Scheduled why
@@ -150,15 +150,24 @@ pub record IsLeftOpen (tells : Bool) (s : Settings) (way : JobWay) (done : Other
 -- what came of the other end of a write of the shard: without a job the inverse is written where the write's type has one
 abbrev pub WorksOffJob : Bool → Settings → JobWay → OtherEndDone → Posting → Posting → Type 0
 WorksOffJob tells s way done old new = IsMergedAndEnded tells s way done old new
-    ⊎ (IsMergedAndLate tells s way done old new ⊎ IsLeftOpen tells s way done old new)
+    ⊎ (IsMergedAndLate tells s way done old new ⊎ StaysOwed tells s way done old new)
 
 abbrev pub HasNoJob : Bool → OtherEndDone → Posting → Posting → Type 0
 HasNoJob paired done old new = (done.told ≡ (if paired then inverse.Written else inverse.None)) × (done.wrote ≡ None) × (new ≡ old)
 
--- so of what a commit answered, whose job is open or not
-abbrev pub WorksOffOf : Bool → Settings → ℕ → Committed → Option Job → OtherEndDone → Posting → Posting → Type 0
-WorksOffOf tells s shard c None done old new = HasNoJob c.paired done old new
-WorksOffOf tells s shard c (Some job) done old new = WorksOffJob tells s (job_way c.leader (job_on shard job)) done old new
+-- what a commit on a shard answered, and what came of the other end of its write
+pub record WriteOtherEnd : Type 0 where
+  pub shard : ℕ
+  pub committed : Committed
+  pub done : OtherEndDone
+
+abbrev pub write_other_end : ℕ → Committed → OtherEndDone → WriteOtherEnd
+write_other_end shard committed done = record { shard = shard; committed = committed; done = done }
+
+-- that came of it, whether its job is open or not
+abbrev pub WorksOffOf : Bool → Settings → WriteOtherEnd → Option Job → Posting → Posting → Type 0
+WorksOffOf tells s end None old new = HasNoJob end.committed.paired end.done old new
+WorksOffOf tells s end (Some job) old new = WorksOffJob tells s (job_way end.committed.leader (job_on end.shard job)) end.done old new
 
 -- the entry that was written on a shard, with what was seen of its log
 abbrev pub told_entry : ℕ → Wrote → Option ToldEntry

@@ -1,6 +1,6 @@
 -- What a write sees, and what nodes and inboxes take of it.
 use Rattle.std.specs.Prelude.{ℕ, ◌≡◌, Bool, Option, Some, None}
-use Rattle.core_mail.specs.Inboxes.{Inboxes, Sends, message_of}
+use Rattle.core_mail.specs.Inboxes.{Inboxes, Sends, entry_message}
 use Rattle.core_model.specs.Fleet.{ChangesNode, Fleet}
 use Rattle.core_model.specs.Messages.{told_of}
 use Rattle.leader_tier.specs.TakenWrites.{TakesWritten}
@@ -31,7 +31,7 @@ pub record LeaderTakes (types : EdgeTypes) (leader : NodeName) (shard : ℕ) (en
 abbrev pub TellsOfNew : NodeStates → ℕ → Option Entry → Inboxes → Inboxes → Type 0
 TellsOfNew states shard None old new = new ≡ old
 TellsOfNew states shard (Some e) old new =
-    (note : View) × Sends (told_of states (master_region states shard) shard) (message_of shard e note) old new
+    (note : View) × Sends (told_of states (master_region states shard) shard) (entry_message shard e note) old new
 
 -- no node, no inbox and no table changed
 pub record ChangesNoNode (tells : Bool) (old new : Posting) : Type 0 where

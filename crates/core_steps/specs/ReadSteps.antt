@@ -28,7 +28,7 @@ use Rattle.tao_keeper.specs.KeeperState.{IsLater, KeeperState, KeepsTables}
 use Rattle.tao_link.specs.Shown.{after_carry}
 use Rattle.tao_schema.specs.Schema.{types_of}
 use Rattle.topology.specs.Config.{Settings}
-use Rattle.core_steps.specs.Reads.{AnswersAgain, Ends, IsLegalNow, LeaderGives, MayAnswer, ReadFails, WasGiven}
+use Rattle.core_steps.specs.Reads.{AnswersAgain, Ends, IsLegalNow, LeaderGives, MayAnswer, ReadFails, WasGiven, asked_by}
 use Rattle.core_steps.specs.Routes.{FailsCarry, Scene, hops_between, master_node, there_and_back, was_called}
 use Rattle.core_steps.specs.declared.reads.Cost.{Cost}
 use Rattle.core_steps.specs.declared.routes.Route.{Route}
@@ -134,7 +134,7 @@ TellsCost query cost reply = ⊤
 
 -- a read that ended with what was given: its answer is legal in what the shard's pen has seen
 pub record IsEnded (s : Settings) (missed : MissedRead) (given : LeaderAnswer) (reply : ReadReply) (old new : Fleet) : Type 0 where
-  pub ends : Ends (types_of s.schema) missed.route.follower missed.read missed.ask given reply old.followers new.followers
+  pub ends : Ends (types_of s.schema) (asked_by missed.route.follower missed.read missed.ask) given reply old.followers new.followers
   pub legal : IsLegalIn (types_of s.schema) (pens_of old.masters (query_shard missed.read.query)) missed.read.query missed.read.floor
       reply.answer reply.version
   pub again : WhereTold (pens_of old.masters (query_shard missed.read.query)).log.told
@@ -154,7 +154,7 @@ pub record IsAnsweredThere (tells : Bool) (s : Settings) (missed : MissedRead) (
   pub given : LeaderAnswer
   pub word_is : reply.word ≡ query_word missed.read.query
   pub gives : WasGiven (types_of s.schema) missed.route missed.read given old new
-  pub ends : Ends (types_of s.schema) missed.route.follower missed.read missed.ask given reply old.fleet.followers new.fleet.followers
+  pub ends : Ends (types_of s.schema) (asked_by missed.route.follower missed.read missed.ask) given reply old.fleet.followers new.fleet.followers
   pub masters : new.fleet.masters ≡ old.fleet.masters
   pub hops_is : reply.hops ≡ hops_between old.link new.link
   pub store_is : reply.store ≡ was_called old.keepers new.keepers

@@ -6,7 +6,7 @@ use Rattle.cache_items.specs.Node.{item_at}
 use Rattle.cache_items.specs.declared.look.Kept.{Kept as KeptWhy}
 use Rattle.cache_items.specs.declared.look.Look.TheVariants.{Hit, Miss}
 use Rattle.core_model.specs.Fleet.{ChangesNode, IsFirstAt, named}
-use Rattle.core_model.specs.Reads.{EndsAsk, KeepsFill, LeaderAnswers, LooksFirst, StoreReads, Wanted, given_of}
+use Rattle.core_model.specs.Reads.{EndsAsk, KeepsFill, LeaderAnswers, LooksFirst, StoreReads, Wanted, given_of, store_calls, taken_fill}
 use Rattle.core_model.specs.Stores.{master_log}
 use Rattle.core_model.specs.declared.named.Named.{Named}
 use Rattle.follower_cache.specs.Seen.{FollowerState}
@@ -43,17 +43,28 @@ pub record Hits (types : EdgeTypes) (route : Route) (read : Wanted) (reply : Rea
   pub rest : new ≡ record old { fleet = record old.fleet { followers = new.fleet.followers } }
   pub kept_is : reply.kept ≡ Kept
 
+-- a follower's read, and the ask that it opened for it, unless as many were open as may be
+pub record AskedBy : Type 0 where
+  pub follower : NodeName
+  pub read : Wanted
+  pub ask : Option ℕ
+
+abbrev pub asked_by : NodeName → Wanted → Option ℕ → AskedBy
+asked_by follower read ask = record { follower = follower; read = read; ask = ask }
+
 -- what became of what the leader gave: the follower answered from a fill and kept it or not, or handed on an answer past the bound
-abbrev pub Ends : EdgeTypes → NodeName → Wanted → Option ℕ → LeaderAnswer → ReadReply → List (Named FollowerState) → List (Named FollowerState) → Type 0
-Ends types follower read ask (leader.Filled fill) reply old new = (kept : KeptWhy)
-    × ChangesNode follower (KeepsFill types read.query ask fill reply.answer kept) old new × (reply.version ≡ fill.version) × (reply.kept ≡ kept_or_not kept)
-Ends types follower read ask (leader.Past answer version total note) reply old new = ChangesNode follower (EndsAsk ask) old new
-    × (reply.answer ≡ answer) × (reply.version ≡ version) × (reply.kept ≡ past_bound (key_bound types (query_key read.query)) total)
-Ends types follower read ask (leader.Behind version) reply old new = ⊥
+abbrev pub Ends : EdgeTypes → AskedBy → LeaderAnswer → ReadReply → List (Named FollowerState) → List (Named FollowerState) → Type 0
+Ends types asked (leader.Filled fill) reply old new = (kept : KeptWhy)
+    × ChangesNode asked.follower (KeepsFill types asked.read.query (taken_fill asked.ask fill reply.answer kept)) old new
+    × (reply.version ≡ fill.version) × (reply.kept ≡ kept_or_not kept)
+Ends types asked (leader.Past answer version total note) reply old new = ChangesNode asked.follower (EndsAsk asked.ask) old new
+    × (reply.answer ≡ answer) × (reply.version ≡ version) × (reply.kept ≡ past_bound (key_bound types (query_key asked.read.query)) total)
+Ends types asked (leader.Behind version) reply old new = ⊥
 
 -- the leader gave it, of an item of its own or of the shard's store, by one carry there and one back
 pub record LeaderGives (types : EdgeTypes) (route : Route) (read : Wanted) (given : LeaderAnswer) (old new : Scene) : Type 0 where
-  pub asks : ChangesNode route.leader (LeaderAnswers types read given old.fleet.masters old.keepers new.keepers) old.fleet.leaders new.fleet.leaders
+  pub asks : ChangesNode route.leader (LeaderAnswers types read given (store_calls old.fleet.masters old.keepers new.keepers))
+      old.fleet.leaders new.fleet.leaders
   pub link : new.link ≡ there_and_back old.link
 
 -- the leader was behind the floor, and then the master's store read it, by one more carry there and one back
@@ -61,7 +72,7 @@ pub record MasterGives (types : EdgeTypes) (route : Route) (read : Wanted) (give
   pub behind : ℕ
   pub between : KeeperState
   pub out : ReadOut
-  pub asks : ChangesNode route.leader (LeaderAnswers types read (leader.Behind behind) old.fleet.masters old.keepers between)
+  pub asks : ChangesNode route.leader (LeaderAnswers types read (leader.Behind behind) (store_calls old.fleet.masters old.keepers between))
       old.fleet.leaders new.fleet.leaders
   pub reads : StoreReads types read.query out old.fleet.masters between new.keepers
   pub given_is : given ≡ given_of out
@@ -78,7 +89,7 @@ pub record Misses (types : EdgeTypes) (route : Route) (read : Wanted) (reply : R
   pub given : LeaderAnswer
   pub looks : ChangesNode route.follower (LooksFirst types read Miss ask) old.fleet.followers looked
   pub gives : WasGiven types route read given old new
-  pub ends : Ends types route.follower read ask given reply looked new.fleet.followers
+  pub ends : Ends types (asked_by route.follower read ask) given reply looked new.fleet.followers
   pub masters : new.fleet.masters ≡ old.fleet.masters
 
 -- the first follower of that name holds an item that answers the query so, with each floor that its version has
@@ -92,15 +103,23 @@ abbrev pub IsLegalNow : Bool → Settings → Wanted → ReadReply → KeeperSta
 IsLegalNow tells s read reply keepers = WhereTold tells
     (IsLegal (types_of s.schema) (master_log s keepers.told (query_shard read.query)) read.query read.floor reply.answer reply.version)
 
+-- a read along a route
+pub record SentRead : Type 0 where
+  pub route : Route
+  pub read : Wanted
+
+abbrev pub sent_read : Route → Wanted → SentRead
+sent_read route read = record { route = route; read = read }
+
 -- a read that was answered: legally, by the log of its shard. Its hops are the carries that it took, and its store says whether a keeper was called.
 -- What is kept is held, and answers again
-pub record IsAnswered (tells : Bool) (s : Settings) (route : Route) (read : Wanted) (reply : ReadReply) (old new : Scene) : Type 0 where
-  pub word_is : reply.word ≡ query_word read.query
-  pub went : Hits (types_of s.schema) route read reply old new ⊎ Misses (types_of s.schema) route read reply old new
+pub record IsAnswered (tells : Bool) (s : Settings) (sent : SentRead) (reply : ReadReply) (old new : Scene) : Type 0 where
+  pub word_is : reply.word ≡ query_word sent.read.query
+  pub went : Hits (types_of s.schema) sent.route sent.read reply old new ⊎ Misses (types_of s.schema) sent.route sent.read reply old new
   pub hops_is : reply.hops ≡ hops_between old.link new.link
   pub store_is : reply.store ≡ was_called old.keepers new.keepers
-  pub legal : IsLegalNow tells s read reply old.keepers
-  pub again : WhereTold tells (reply.kept ≡ Kept → AnswersAgain (types_of s.schema) route.follower read.query reply new.fleet.followers)
+  pub legal : IsLegalNow tells s sent.read reply old.keepers
+  pub again : WhereTold tells (reply.kept ≡ Kept → AnswersAgain (types_of s.schema) sent.route.follower sent.read.query reply new.fleet.followers)
 
 -- ---- a read that failed
 
@@ -123,7 +142,7 @@ pub record AskedInVain (types : EdgeTypes) (follower : NodeName) (read : Wanted)
 abbrev pub MayAnswer : EdgeTypes → Route → Wanted → Scene → Scene → Type 0
 MayAnswer types route read old new = (new.fleet.leaders ≡ old.fleet.leaders)
     ⊎ ((given : LeaderAnswer) × (after : KeeperState)
-    × ChangesNode route.leader (LeaderAnswers types read given old.fleet.masters old.keepers after) old.fleet.leaders new.fleet.leaders)
+    × ChangesNode route.leader (LeaderAnswers types read given (store_calls old.fleet.masters old.keepers after)) old.fleet.leaders new.fleet.leaders)
 
 -- the nodes after a read that failed: its follower may have asked, and its leader may have answered
 pub record LeavesNodes (types : EdgeTypes) (route : Route) (read : Wanted) (old new : Scene) : Type 0 where
@@ -136,7 +155,7 @@ pub record IsFailedRead (s : Settings) (route : Route) (read : Wanted) (reply : 
   pub nodes : LeavesNodes (types_of s.schema) route read old new
 
 -- what a read along a route is answered
-abbrev pub ReadsAlong : Bool → Settings → Route → Wanted → Reply → Scene → Scene → Type 0
-ReadsAlong tells s route read (Called (called.Read reply)) old new = IsAnswered tells s route read reply old new
-ReadsAlong tells s route read (Refused refused) old new = IsFailedRead s route read (Refused refused) old new
-ReadsAlong tells s route read reply old new = ⊥
+abbrev pub ReadsAlong : Bool → Settings → SentRead → Reply → Scene → Scene → Type 0
+ReadsAlong tells s sent (Called (called.Read reply)) old new = IsAnswered tells s sent reply old new
+ReadsAlong tells s sent (Refused refused) old new = IsFailedRead s sent.route sent.read (Refused refused) old new
+ReadsAlong tells s sent reply old new = ⊥

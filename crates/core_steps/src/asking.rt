@@ -3,7 +3,7 @@ ghost use Rattle.std.specs.Prelude.{ℕ, ◌≡◌, ◌<◌, IfErr, IfOk, OnErr,
 ghost use Rattle.core_model.specs.Consistent.{GoesOn, IsConsistent};
 ghost use Rattle.core_model.specs.Fleet.{ChangesNode};
 ghost use Rattle.core_model.specs.Pens.{pens_of};
-ghost use Rattle.core_model.specs.Reads.{IsGivenAnswer, LeaderAnswers, StoreReads, given_of, wanted};
+ghost use Rattle.core_model.specs.Reads.{IsGivenAnswer, LeaderAnswers, StoreReads, given_of, store_calls, wanted};
 ghost use Rattle.core_model.specs.Serving.{IsLeaderFor};
 ghost use Rattle.core_steps.specs.ReadSteps.{AskFails, IsGivenOver, IsNotGiven, IsNotRead, IsReached, IsReadOver, ReadsOn};
 ghost use Rattle.core_steps.specs.Routes.{FailsCarry, master_node, scene};
@@ -49,7 +49,7 @@ fn asked<K: Keeper>(
     requires consistent { IsConsistent K.TELLS config.now (K.state keepers.old).told fleet.old }
     requires leader { IsLeaderFor config.now (query_shard query.now) leader }
     ensures answers { IfOk result (λ given. ChangesNode leader
-        (LeaderAnswers (types_of config.now.schema) (wanted query.now floor) given fleet.old.masters (K.state keepers.old) (K.state keepers.new))
+        (LeaderAnswers (types_of config.now.schema) (wanted query.now floor) given (store_calls fleet.old.masters (K.state keepers.old) (K.state keepers.new)))
         fleet.old.leaders fleet.new.leaders) }
     ensures rest { fleet.new ≡ record fleet.old { leaders = fleet.new.leaders } }
     ensures given { IfOk result (IsGivenAnswer (types_of config.now.schema) (pens_of fleet.new.masters) (wanted query.now floor)) }

@@ -7,7 +7,7 @@ ghost use Rattle.core_model.specs.Jobs.{CanBeMerged, IsMergedJob, far_shard, job
 ghost use Rattle.core_model.specs.Pens.{pens_of};
 ghost use Rattle.core_model.specs.Serving.{IsLeaderFor};
 ghost use Rattle.core_steps.specs.MergeAnswers.{IsScheduled, LeavesOpen, RefusesMerge, late_as, merge_answer, told_after, why_late};
-ghost use Rattle.core_steps.specs.OtherEnds.{Crosses, EndsOver, FailsToCross, MergesOver, StandsThere, TakesMerge, WorksOffJob, WorksOffOf, job_way};
+ghost use Rattle.core_steps.specs.OtherEnds.{Crosses, EndsOver, FailsToCross, MergesOver, StandsThere, TakesMerge, WorksOffJob, WorksOffOf, job_way, write_other_end};
 ghost use Rattle.core_steps.specs.OtherEnds.{known_of, master_leader, told_there};
 ghost use Rattle.core_steps.specs.Posting.{posting};
 ghost use Rattle.core_steps.specs.Routes.{scene};
@@ -322,7 +322,7 @@ pub(crate) fn work_off<K: Keeper, L: Link>(
     requires states { topology.now ≡ all_up config.now }
     requires here { shard < config.now.shards }
     requires job { IfSome committed.now.wrote.job (λ job. CanBeMerged K.TELLS config.now (K.state keepers.old).told (job_on shard job)) }
-    ensures works { WorksOffOf K.TELLS config.now shard committed.now committed.now.wrote.job result
+    ensures works { WorksOffOf K.TELLS config.now (write_other_end shard committed.now result) committed.now.wrote.job
         (posting (scene fleet.old (K.state keepers.old) (L.shown link.old)) mail.old topology.now)
         (posting (scene fleet.new (K.state keepers.new) (L.shown link.new)) mail.new topology.now) }
     ensures stands { IfSome committed.now.wrote.job (λ job. StandsThere config.now job result.wrote fleet.new.masters) }

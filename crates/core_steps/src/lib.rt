@@ -2,8 +2,6 @@
 //!
 //! Each call says what it did to the nodes, stage by stage, which carries it took, and what its reply tells of the log; what was
 //! consistent stays so. Which nodes are on the route is not said here.
-//!
-//! Repairs merge the jobs of other ends from store to store, a shard's first one or all of them.
 #![tactic(auto)]
 
 mod asking;
@@ -12,7 +10,6 @@ mod jobs;
 mod laws;
 mod reads;
 mod refusals;
-mod repairs;
 mod routes;
 mod telling;
 mod writes;
@@ -23,6 +20,5 @@ pub use jobs::{OtherEndDone, ToldEntry, end_over, merge_over, told_there};
 pub use laws::written_is_there;
 pub use reads::read_along;
 pub use refusals::{link_fault, out_of_memory, refilled_as, refused_as};
-pub use repairs::{Ran, RepairFailed, repair_first, run_jobs};
 pub use routes::Route;
 pub use writes::{CarriedOut, apply_over, commit_over, write_along};

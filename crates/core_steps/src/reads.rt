@@ -8,7 +8,7 @@ ghost use Rattle.replies.specs.Kinds.{query_word};
 ghost use Rattle.tao_base.specs.Queries.{query_key, query_shard};
 ghost use Rattle.tao_keeper.specs.KeeperState.{IsLater, KeepsTables};
 ghost use Rattle.tao_schema.specs.Schema.{key_bound, types_of};
-ghost use Rattle.core_steps.specs.Reads.{ReadsAlong};
+ghost use Rattle.core_steps.specs.Reads.{ReadsAlong, sent_read};
 ghost use Rattle.core_steps.specs.ReadSteps.{AsksAlong, AsksOfKey, EndsRead, IsGivenAlong, IsNotGivenAlong, IsReached, ReadsOn, TellsCost};
 ghost use Rattle.core_steps.specs.ReadSteps.{is_behind, missed_read};
 ghost use Rattle.core_steps.specs.Routes.{scene};
@@ -89,7 +89,7 @@ pub fn read_along<K: Keeper, L: Link>(
     requires follower { IsFollowerFor config.now (query_shard query.now) route.follower }
     requires leader { IsLeaderFor config.now (query_shard query.now) route.leader }
     requires reached { IsReached K.TELLS config.now (wanted query.now floor) (K.state keepers.old) }
-    ensures reads { ReadsAlong K.TELLS config.now route (wanted query.now floor) result
+    ensures reads { ReadsAlong K.TELLS config.now (sent_read route (wanted query.now floor)) result
         (scene fleet.old (K.state keepers.old) (L.shown link.old)) (scene fleet.new (K.state keepers.new) (L.shown link.new)) }
     ensures consistent { IsConsistent K.TELLS config.now (K.state keepers.new).told fleet.new }
     ensures goes { GoesOn fleet.old fleet.new }

@@ -1,7 +1,7 @@
 //! The messages of what was written.
 ghost use Rattle.std.specs.Prelude.{◌≡◌, ◌<◌, IfSome};
 ghost use Rattle.core_mail.specs.Inboxes.{AreInboxesOf, cache_names};
-ghost use Rattle.core_model.specs.Fleet.{names_of, regions_of};
+ghost use Rattle.core_model.specs.Fleet.{node_names, regions_of};
 ghost use Rattle.core_model.specs.Pens.{IsSeen, Pens};
 ghost use Rattle.core_steps.specs.Posting.{TellsOfNew};
 ghost use Rattle.core_steps.specs.Writes.{new_entry};
@@ -23,7 +23,7 @@ pub(crate) fn tell_of(
 )
     requires here { shard < config.now.shards }
     requires own { topology.now.regions ≡ regions_of config.now }
-    requires names { names_of mail.old ≡ cache_names config.now }
+    requires names { node_names mail.old ≡ cache_names config.now }
     requires stands { IfSome wrote.old.entry (StandsIn wrote.old.note) }
     requires lies { IfSome wrote.old.entry (LiesOn wrote.old.note shard) }
     ensures told { TellsOfNew topology.now shard wrote.old.entry mail.old mail.new }
@@ -55,7 +55,7 @@ pub(crate) fn tell_of_new(
 )
     requires here { shard < config.now.shards }
     requires own { topology.now.regions ≡ regions_of config.now }
-    requires names { names_of mail.old ≡ cache_names config.now }
+    requires names { node_names mail.old ≡ cache_names config.now }
     requires stands { IfSome wrote.old.entry (StandsIn wrote.old.note) }
     requires lies { IfSome wrote.old.entry (LiesOn wrote.old.note shard) }
     ensures told { TellsOfNew topology.now shard (new_entry wrote.old.retry wrote.old.entry) mail.old mail.new }

@@ -8,10 +8,10 @@ ghost use Rattle.core_model.specs.Serving.{IsFollowerFor, IsLeaderFor};
 ghost use Rattle.core_model.specs.Writes.{IsSeenEntry};
 ghost use Rattle.core_steps.specs.Routes.{FailsCarry, scene};
 ghost use Rattle.core_mail.specs.Inboxes.{AreInboxesOf};
-ghost use Rattle.core_steps.specs.CarriedOut.{IsCarriedOut, WorksOffAs};
+ghost use Rattle.core_steps.specs.CarriedOut.{AnswersBack, WorksOffAs};
 ghost use Rattle.core_steps.specs.OtherEnds.{StandsThere};
 ghost use Rattle.core_steps.specs.Posting.{posting};
-ghost use Rattle.core_steps.specs.Writes.{CanBeApplied, FollowerTakes, IsCommitted, RefusesCommit, WritesAlong, client_call};
+ghost use Rattle.core_steps.specs.Writes.{CanBeApplied, FollowerTakes, IsCommitted, RefusesCommit, WritesAlong, client_call, sent_write};
 ghost use Rattle.graph_model.specs.Soundness.{is_client};
 ghost use Rattle.shard_tables.specs.Written.{LiesOn, StandsIn};
 ghost use Rattle.tao_base.specs.Writes.{ChangesType, write_shard};
@@ -162,13 +162,13 @@ pub fn commit_over<K: Keeper, L: Link>(
     requires client { IsTrue (is_client origin) }
     requires changes { ChangesType (types_of config.now.schema) write.now }
     requires leader { IsLeaderFor config.now (write_shard write.now) route.leader }
-    ensures committed { IfOk result (λ wrote. IsCommitted K.TELLS config.now route (client_call origin write.now) wrote
+    ensures committed { IfOk result (λ wrote. IsCommitted K.TELLS config.now (sent_write route (client_call origin write.now)) wrote
         (posting (scene fleet.old (K.state keepers.old) (L.shown link.old)) mail.old topology.now)
         (posting (scene fleet.new (K.state keepers.new) (L.shown link.new)) mail.new topology.now)) }
     ensures apply { IfOk result (λ wrote. CanBeApplied (client_call origin write.now) wrote fleet.new.masters) }
     ensures job { IfOk result (λ wrote. IfSome wrote.job (λ job.
         CanBeMerged K.TELLS config.now (K.state keepers.new).told (job_on (write_shard write.now) job))) }
-    ensures refused { IfErr result (λ reply. RefusesCommit K.TELLS config.now route (client_call origin write.now) reply
+    ensures refused { IfErr result (λ reply. RefusesCommit K.TELLS config.now (sent_write route (client_call origin write.now)) reply
         (posting (scene fleet.old (K.state keepers.old) (L.shown link.old)) mail.old topology.now)
         (posting (scene fleet.new (K.state keepers.new) (L.shown link.new)) mail.new topology.now)) }
     ensures consistent { IsConsistent K.TELLS config.now (K.state keepers.new).told fleet.new }
@@ -209,13 +209,13 @@ fn commit_and_work_off<K: Keeper, L: Link>(
     requires client { IsTrue (is_client origin) }
     requires changes { ChangesType (types_of config.now.schema) write.now }
     requires leader { IsLeaderFor config.now (write_shard write.now) route.leader }
-    ensures works { IfOk result (λ done. WorksOffAs K.TELLS config.now route (client_call origin write.now) done
+    ensures works { IfOk result (λ done. WorksOffAs K.TELLS config.now (sent_write route (client_call origin write.now)) done
         (posting (scene fleet.old (K.state keepers.old) (L.shown link.old)) mail.old topology.now)
         (posting (scene fleet.new (K.state keepers.new) (L.shown link.new)) mail.new topology.now)) }
     ensures apply { IfOk result (λ done. CanBeApplied (client_call origin write.now) done.committed.wrote fleet.new.masters) }
     ensures given { IfOk result (λ done. IfSome done.committed.wrote.job IsGivenJob) }
     ensures other { IfOk result (λ done. IfSome done.committed.wrote.job (λ job. StandsThere config.now job done.other.wrote fleet.new.masters)) }
-    ensures refused { IfErr result (λ reply. RefusesCommit K.TELLS config.now route (client_call origin write.now) reply
+    ensures refused { IfErr result (λ reply. RefusesCommit K.TELLS config.now (sent_write route (client_call origin write.now)) reply
         (posting (scene fleet.old (K.state keepers.old) (L.shown link.old)) mail.old topology.now)
         (posting (scene fleet.new (K.state keepers.new) (L.shown link.new)) mail.new topology.now)) }
     ensures consistent { IsConsistent K.TELLS config.now (K.state keepers.new).told fleet.new }
@@ -252,7 +252,7 @@ fn come_back<L: Link>(
     requires given { IfSome done.committed.wrote.job IsGivenJob }
     ensures carried { OnOk result (L.shown link.new ≡ after_carry (L.shown link.old)) }
     ensures takes { OnOk result (FollowerTakes (types_of config.now.schema) route shard done.committed.wrote.entry fleet.old fleet.new) }
-    ensures out { IfOk result (λ out. IsCarriedOut done ((L.shown link.new).carries - carries) out) }
+    ensures out { IfOk result (λ out. AnswersBack done ((L.shown link.new).carries - carries) out) }
     ensures reply { IfErr result (λ reply. reply ≡
         Reply.Refused (Refusal.Store (StoreRefused.LinkFault (L.shown link.new).faults (when_of done.committed.wrote.entry)))) }
     ensures failed { OnErr result (FailsCarry route.leader route.follower (L.shown link.old) (L.shown link.new)) }
@@ -317,7 +317,7 @@ pub fn write_along<K: Keeper, L: Link>(
     requires changes { ChangesType (types_of config.now.schema) write.now }
     requires follower { IsFollowerFor config.now (write_shard write.now) route.follower }
     requires leader { IsLeaderFor config.now (write_shard write.now) route.leader }
-    ensures writes { WritesAlong K.TELLS config.now route (client_call origin write.now) result
+    ensures writes { WritesAlong K.TELLS config.now (sent_write route (client_call origin write.now)) result
         (posting (scene fleet.old (K.state keepers.old) (L.shown link.old)) mail.old topology.now)
         (posting (scene fleet.new (K.state keepers.new) (L.shown link.new)) mail.new topology.now) }
     ensures stands { IfOk result (λ done. IfSome done.entry (StandsIn (pens_of fleet.new.masters (write_shard write.now)))) }

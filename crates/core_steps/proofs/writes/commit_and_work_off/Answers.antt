@@ -5,10 +5,10 @@ use Rattle.topology.specs.Config.{Settings}
 use Rattle.write_plan.specs.Committing.{has_inverse, told_kind}
 use Rattle.core_model.specs.Jobs.{CanBeMerged, job_on}
 use Rattle.core_steps.specs.CarriedOut.{WorksOffAs}
-use Rattle.core_steps.specs.OtherEnds.{WorksOffOf}
+use Rattle.core_steps.specs.OtherEnds.{WorksOffOf, write_other_end}
 use Rattle.core_steps.specs.Posting.{posting}
 use Rattle.core_steps.specs.Routes.{scene}
-use Rattle.core_steps.specs.Writes.{CanBeApplied, IsCommitted, client_call}
+use Rattle.core_steps.specs.Writes.{CanBeApplied, IsCommitted, client_call, sent_write}
 use Rattle.core_nodes.proofs.GrowingLemmas.{masters_in_turn}
 use Rattle.core_steps.proofs.ReadLemmas.{goes_trans}
 use Rattle.core_steps.proofs.WriteLemmas.{applied_later}
@@ -36,7 +36,7 @@ returns-clause-works g c =
     c.args.topology.now in
     let new = posting (scene c.work_off-other.new.fleet (state c.work_off-other.new.keepers) (shown c.work_off-other.new.link)) c.work_off-other.new.mail
     c.args.topology.now in
-    let is : WorksOffAs tells s c.args.route call (record { committed = committed; other = other }) old new = record {
+    let is : WorksOffAs tells s (sent_write c.args.route call) (record { committed = committed; other = other }) old new = record {
       works = record {
         committed = committed;
         other_end = other;
@@ -47,8 +47,8 @@ returns-clause-works g c =
           kind = subst (λ w. told_kind c.args.write.now w.entry ≡ Some committed.kind) (sym c.of-committed.ensures.wrote) c.of-committed.ensures.kind;
           paired = c.of-committed.ensures.paired ∙ ap (λ (n : Settings). has_inverse (types_of n.schema) c.args.write.now) c.config.view_is;
         };
-        commits = subst (λ w. IsCommitted tells s c.args.route call w old mid) (sym c.of-committed.ensures.wrote) c.in_ok-wrote.ensures.committed;
-        works_off = subst (λ n. WorksOffOf tells s n committed committed.wrote.job other mid new) c.shard-shard.ensures c.work_off-other.ensures.works;
+        commits = subst (λ w. IsCommitted tells s (sent_write c.args.route call) w old mid) (sym c.of-committed.ensures.wrote) c.in_ok-wrote.ensures.committed;
+        works_off = subst (λ n. WorksOffOf tells s (write_other_end n committed other) committed.wrote.job mid new) c.shard-shard.ensures c.work_off-other.ensures.works;
       };
       committed_is = refl;
       other_is = refl;

@@ -11,7 +11,7 @@ use Rattle.core_model.specs.Stores.{master_store}
 use Rattle.core_steps.specs.Replies.{refused_as}
 use Rattle.core_steps.specs.Routes.{scene}
 use Rattle.core_steps.specs.Posting.{TellsOfNew, posting}
-use Rattle.core_steps.specs.Writes.{CanBeApplied, IsCommitted, RefusesCommit, client_call, new_entry}
+use Rattle.core_steps.specs.Writes.{CanBeApplied, IsCommitted, RefusesCommit, client_call, new_entry, sent_write}
 use Rattle.core_nodes.proofs.GrowingLemmas.{gains_masters}
 use Rattle.core_steps.proofs.MergeLemmas.{can_merge}
 use Rattle.core_steps.proofs.StepLemmas.{commits}
@@ -44,7 +44,7 @@ returns-in-Ok-clause-committed g c =
     let wrote = c.in-Ok.wrote in
     let old = posting (scene c.args.fleet.now (state c.args.keepers.now) (g.L.Link.shown c.args.link.now)) c.args.mail.now c.args.topology.now in
     let new = posting (scene c.commit.new.self (state c.commit.new.keepers) (g.L.Link.shown c.carry.new.link)) c.tell_of_new.new.mail c.args.topology.now in
-    let is : IsCommitted g.K.Keeper.TELLS s c.args.route call wrote old new = record {
+    let is : IsCommitted g.K.Keeper.TELLS s (sent_write c.args.route call) wrote old new = record {
       commits = commits s (state c.args.keepers.now) (state c.commit.new.keepers) call c.requires.leader.here g.K.Keeper.TELLS wrote.retry wrote.entry
           (λ told. sound_logs s (state c.args.keepers.now).told (c.requires.consistent.stores.kept told) shard c.requires.leader.here)
           (λ told. g.met.K.Keeper.of_entries c.args.keepers.now (master_store s shard) told) c.in-Ok.ensures.answer c.in-Ok.ensures.tables;
@@ -57,7 +57,7 @@ returns-in-Ok-clause-committed g c =
       opens = c.in-Ok.ensures.job;
       finds = c.in-Ok.ensures.found;
     } in
-    subst (λ w. IsCommitted g.K.Keeper.TELLS s c.args.route call w old new) (sym c.tell_of_new.ensures.same) is
+    subst (λ w. IsCommitted g.K.Keeper.TELLS s (sent_write c.args.route call) w old new) (sym c.tell_of_new.ensures.same) is
 
 pub returns-in-Ok-clause-apply : goal.returns-in-Ok-clause-apply
 returns-in-Ok-clause-apply g c =
@@ -99,7 +99,7 @@ returns-in-Err-commit-clause-refused g c =
     let refusal = c.in-Err-commit.refusal in
     let told = ◌∙◌ {b = refused_as c.faults-in-Err-commit.result refusal} c.refused_as.ensures
     (ap (λ n. refused_as n refusal) c.faults-in-Err-commit.ensures) in
-    subst (λ reply. RefusesCommit g.K.Keeper.TELLS c.args.config.now c.args.route call reply old new) (sym told)
+    subst (λ reply. RefusesCommit g.K.Keeper.TELLS c.args.config.now (sent_write c.args.route call) reply old new) (sym told)
     (refused g.K.Keeper.TELLS c.args.config.now c.args.route call old new c.in-Err-commit.ensures.tables c.in-Err-commit.ensures.err refl
     c.in-Err-commit.refusal c.in-Err-commit.ensures.answer (λ is. c.in-Err-commit.ensures.calls.failed (ap (λ r. Err r) is)))
 

@@ -7,7 +7,7 @@ use Rattle.core_mail.specs.Inboxes.{AreInboxesOf}
 use Rattle.core_model.specs.Pens.{pens_of}
 use Rattle.core_model.specs.Serving.{IsFollowerFor}
 use Rattle.core_model.specs.Writes.{IsSeenEntry}
-use Rattle.core_steps.specs.CarriedOut.{IsCarriedOut}
+use Rattle.core_steps.specs.CarriedOut.{AnswersBack}
 use Rattle.core_steps.specs.Posting.{posting}
 use Rattle.core_steps.specs.Routes.{scene}
 use Rattle.core_steps.specs.Writes.{FollowerTakes, client_call}
@@ -42,7 +42,7 @@ returns-clause-writes g c =
     let mid = posting (scene off.fleet (state off.keepers) (shown off.link)) off.mail c.args.topology.now in
     let back = c.come_back in
     let new = posting (scene back.new.fleet (state off.keepers) (shown back.new.link)) off.mail c.args.topology.now in
-    let out = subst (λ n. IfOk back.result (IsCarriedOut done ((shown back.new.link).carries - n))) c.carries-carries.ensures back.ensures.out in
+    let out = subst (λ n. IfOk back.result (AnswersBack done ((shown back.new.link).carries - n))) c.carries-carries.ensures back.ensures.out in
     let takes = subst (λ n. OnOk back.result (FollowerTakes (types_of s.schema) c.args.route n done.committed.wrote.entry off.fleet back.new.fleet))
     c.shard.ensures back.ensures.takes in
     comes_back g.K.Keeper.TELLS s c.args.route call done old mid new c.in_ok-done.ensures.works

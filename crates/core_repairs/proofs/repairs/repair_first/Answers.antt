@@ -6,10 +6,10 @@ use Rattle.core_model.specs.Fleet.{Fleet}
 use Rattle.core_model.specs.Pens.{pens_of}
 use Rattle.core_nodes.proofs.GrowingLemmas.{masters_in_turn, stays_masters}
 use Rattle.core_steps.specs.Posting.{posting}
-use Rattle.core_steps.specs.Repairs.{FindsFirst, FindsOpenJob, IsNotRepaired}
+use Rattle.core_repairs.specs.Repairs.{FindsFirst, FindsOpenJob, IsNotRepaired}
 use Rattle.core_steps.specs.Routes.{scene}
-use Rattle.core_steps.proofs.RepairLemmas.{not_run}
-use Rattle.core_steps.proofs.repairs.repair_first.Goals as goal
+use Rattle.core_repairs.proofs.RepairLemmas.{not_run}
+use Rattle.core_repairs.proofs.repairs.repair_first.Goals as goal
 
 pub returns-in_err-wrote-clause-repairs : goal.returns-in_err-wrote-clause-repairs
 returns-in_err-wrote-clause-repairs g c =

@@ -5,10 +5,10 @@ use Rattle.core_model.specs.Growing.{MastersGrow}
 use Rattle.core_model.specs.Pens.{pens_of}
 use Rattle.core_nodes.specs.Settling.{IsLaterLink}
 use Rattle.core_steps.specs.Posting.{posting}
-use Rattle.core_steps.specs.Repairs.{RunsTo}
+use Rattle.core_repairs.specs.Repairs.{RunsTo}
 use Rattle.core_steps.specs.Routes.{scene}
 use Rattle.tao_keeper.specs.KeeperState.{IsLater}
-use Rattle.core_steps.proofs.repairs.run_jobs.Given as goal
+use Rattle.core_repairs.proofs.runs.run_jobs.Given as goal
 
 -- all jobs of the shards so far were run
 abbrev pub invariant-loop-shard : goal.invariant-loop-shard

@@ -4,12 +4,12 @@ use Rattle.tao_schema.specs.Schema.{types_of}
 use Rattle.core_nodes.proofs.FleetLemmas.{goes_self}
 use Rattle.core_nodes.proofs.GrowingLemmas.{masters_in_turn, stays_masters}
 use Rattle.core_steps.specs.Posting.{posting}
-use Rattle.core_steps.specs.Repairs.{FindsNoJob, IsRepaired, RepairsFirst}
+use Rattle.core_repairs.specs.Repairs.{FindsNoJob, IsRepaired, RepairsFirst}
 use Rattle.core_steps.specs.Routes.{scene}
 use Rattle.core_steps.proofs.ReadLemmas.{goes_trans}
-use Rattle.core_steps.proofs.RunLemmas.{first_leaves, given_again, link_stays, link_trans, no_more, none_at_zero, none_left, not_again}
-use Rattle.core_steps.proofs.RunLemmas.{rest_trans, runs_one, stops_run}
-use Rattle.core_steps.proofs.repairs.run_shard.Goals as goal
+use Rattle.core_repairs.proofs.RunLemmas.{first_leaves, given_again, link_stays, link_trans, no_more, none_at_zero, none_left, not_again}
+use Rattle.core_repairs.proofs.RunLemmas.{rest_trans, runs_one, stops_run}
+use Rattle.core_repairs.proofs.runs.run_shard.Goals as goal
 
 pub loop-found-init : goal.loop-found-init
 loop-found-init g c =

@@ -1,4 +1,4 @@
-//! Repairs: a shard's first open job is merged from store to store and then ended. A settle runs all jobs so.
+//! A repair: a shard's first open job is merged from store to store and then ended.
 ghost use Rattle.std.specs.Prelude.{◌≡◌, ◌<◌, IfOk, IfSome};
 ghost use Rattle.core_mail.specs.Inboxes.{AreInboxesOf};
 ghost use Rattle.core_model.specs.Consistent.{GoesOn, IsConsistent};
@@ -7,9 +7,8 @@ ghost use Rattle.core_model.specs.Jobs.{IsOwedJob, far_shard, job_on};
 ghost use Rattle.core_model.specs.Pens.{pens_of};
 ghost use Rattle.core_model.specs.Stores.{AreStores};
 ghost use Rattle.core_nodes.specs.Repairs.{outside};
-ghost use Rattle.core_nodes.specs.Settling.{IsLaterLink};
 ghost use Rattle.core_steps.specs.Posting.{posting};
-ghost use Rattle.core_steps.specs.Repairs.{FailsAs, FindsFirst, RepairsFirst, RunsJob, RunsJobs, RunsShard, TellsOfRepair, stop_of};
+ghost use Rattle.core_repairs.specs.Repairs.{FailsAs, FindsFirst, RepairsFirst, RunsJob, TellsOfRepair};
 ghost use Rattle.core_steps.specs.Routes.{scene};
 ghost use Rattle.graph_model.specs.Told.{WhereTold};
 ghost use Rattle.shard_tables.specs.Refusals.{IsOfReads};
@@ -20,9 +19,8 @@ ghost use Rattle.topology.specs.States.{all_up};
 
 use core_mail::Mail;
 use core_model::far_shard;
-use core_nodes::{Fleet, SettleStop, inverses_match};
+use core_nodes::Fleet;
 use edge_repair::{RepairRefusal, passed_on};
-use replies::UnsettledWhy;
 use shard_tables::StoreRefusal;
 use std::alloc::Global;
 use tao_base::Entry;
@@ -48,7 +46,7 @@ pub enum RepairFailed {
 
 impl From<RepairRefusal> for RepairFailed {
     ghost use Rattle.std.specs.Prelude.{◌≡◌};
-    ghost use Rattle.core_steps.specs.declared.repairs.RepairFailed.TheVariants.{Refused};
+    ghost use Rattle.core_repairs.specs.declared.repairs.RepairFailed.TheVariants.{Refused};
 
     ghost from_gives = { λ refusal failed. failed ≡ Refused refusal };
 
@@ -156,7 +154,7 @@ fn merge_and_end<K: Keeper, L: Link>(
 ///
 /// Whatever fails leaves the job open, and at most merged, and nobody is told. `Refused` tells `LinkFault` only where the link's count of faults rose,
 /// `KeeperFault` only where the keepers' did, and `LogFull` where the other shard's log has no room for the entry; `NoServer` comes where that
-/// shard isn't configured. Two carries, three calls of the keeper and what a merge costs.
+/// shard isn't configured. Two carries, two calls of the keeper and what a merge costs.
 pub fn repair_first<K: Keeper, L: Link>(
     alloc: Global,
     fleet: &mut Fleet,
@@ -189,93 +187,4 @@ pub fn repair_first<K: Keeper, L: Link>(
     let wrote = merge_and_end(alloc, fleet, config, keepers, link, shard, &job)?;
     tell_of_repair(alloc, fleet, mail, config, topology, far, &wrote);
     Ok(Some(Ran { job, wrote }))
-}
-
-/// What a settle stops with at a shard whose first job was not run.
-fn stop_of(shard: u16, failed: RepairFailed) -> SettleStop
-    ensures { result ≡ stop_of shard failed }
-{
-    let why = match failed {
-        RepairFailed::NoServer => return SettleStop::NoServer { shard },
-        RepairFailed::Refused(RepairRefusal::OutOfMemory) => return SettleStop::OutOfMemory,
-        RepairFailed::Refused(RepairRefusal::KeeperFault) => UnsettledWhy::KeeperFault,
-        RepairFailed::Refused(RepairRefusal::LinkFault) => UnsettledWhy::LinkFault,
-        RepairFailed::Refused(RepairRefusal::LogFull { .. }) => UnsettledWhy::LogFull,
-    };
-    SettleStop::Unsettled { shard, why }
-}
-
-/// Runs the open jobs of a shard, in order of position.
-fn run_shard<K: Keeper, L: Link>(
-    alloc: Global,
-    fleet: &mut Fleet,
-    mail: &mut Mail,
-    config: &Config,
-    topology: &Topology,
-    keepers: &mut K,
-    link: &mut L,
-    shard: u16,
-) -> Result<(), SettleStop>
-    requires consistent { IsConsistent K.TELLS config.now (K.state keepers.old).told fleet.old }
-    requires inboxes { AreInboxesOf config.now (pens_of fleet.old.masters) mail.old }
-    requires states { topology.now ≡ all_up config.now }
-    requires here { shard < config.now.shards }
-    ensures runs { RunsShard K.TELLS config.now shard result
-        (posting (scene fleet.old (K.state keepers.old) (L.shown link.old)) mail.old topology.now)
-        (posting (scene fleet.new (K.state keepers.new) (L.shown link.new)) mail.new topology.now) }
-    ensures rest { fleet.new ≡ record fleet.old { masters = fleet.new.masters } }
-    ensures consistent { IsConsistent K.TELLS config.now (K.state keepers.new).told fleet.new }
-    ensures inboxes { AreInboxesOf config.now (pens_of fleet.new.masters) mail.new }
-    ensures goes { GoesOn fleet.old fleet.new }
-    ensures grows { MastersGrow K.TELLS config.now (K.state keepers.old).told (K.state keepers.new).told }
-    ensures link { IsLaterLink (L.shown link.old) (L.shown link.new) }
-    ensures later { IsLater (K.state keepers.old) (K.state keepers.new) }
-{
-    inverses_match(&config.schema);
-    let mut last = 0;
-    loop {
-        let found = match repair_first(alloc, fleet, mail, config, topology, keepers, link, shard) {
-            Ok(found) => found,
-            Err(failed) => return Err(stop_of(shard, failed)),
-        };
-        let Some(ran) = found else { return Ok(()) };
-        let position = ran.job.position;
-        drop(ran);
-        // A keeper that tells its tables gives later jobs only; one that doesn't may give the same one for ever.
-        if position <= last {
-            return Ok(());
-        }
-        last = position;
-    }
-}
-
-/// Runs all open jobs, shard by shard, each shard's in order of position, as [`repair_first`] runs one. The first that can't be run ends it, and what was
-/// done stays. Costs what the jobs do, and one more call of the keeper for each shard.
-pub fn run_jobs<K: Keeper, L: Link>(
-    alloc: Global,
-    fleet: &mut Fleet,
-    mail: &mut Mail,
-    config: &Config,
-    topology: &Topology,
-    keepers: &mut K,
-    link: &mut L,
-) -> Result<(), SettleStop>
-    requires consistent { IsConsistent K.TELLS config.now (K.state keepers.old).told fleet.old }
-    requires inboxes { AreInboxesOf config.now (pens_of fleet.old.masters) mail.old }
-    requires states { topology.now ≡ all_up config.now }
-    ensures runs { RunsJobs K.TELLS config.now result
-        (posting (scene fleet.old (K.state keepers.old) (L.shown link.old)) mail.old topology.now)
-        (posting (scene fleet.new (K.state keepers.new) (L.shown link.new)) mail.new topology.now) }
-    ensures rest { fleet.new ≡ record fleet.old { masters = fleet.new.masters } }
-    ensures consistent { IsConsistent K.TELLS config.now (K.state keepers.new).told fleet.new }
-    ensures inboxes { AreInboxesOf config.now (pens_of fleet.new.masters) mail.new }
-    ensures goes { GoesOn fleet.old fleet.new }
-    ensures grows { MastersGrow K.TELLS config.now (K.state keepers.old).told (K.state keepers.new).told }
-    ensures link { IsLaterLink (L.shown link.old) (L.shown link.new) }
-    ensures later { IsLater (K.state keepers.old) (K.state keepers.new) }
-{
-    for shard in 0..config.shards {
-        run_shard(alloc, fleet, mail, config, topology, keepers, link, shard)?;
-    }
-    Ok(())
 }

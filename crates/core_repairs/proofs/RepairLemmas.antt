@@ -19,8 +19,8 @@ use Rattle.tao_keeper.specs.declared.jobs.Job.{Job}
 use Rattle.topology.specs.Choices.{master_region, preferred_leader}
 use Rattle.topology.specs.Config.{Settings}
 use Rattle.topology.specs.States.{NodeStates, is_up}
-use Rattle.core_mail.specs.Inboxes.{Inboxes, Sends, cache_names, message_of}
-use Rattle.core_model.specs.Fleet.{HasNode, follower_names, leader_names, names_of}
+use Rattle.core_mail.specs.Inboxes.{Inboxes, Sends, cache_names, entry_message}
+use Rattle.core_model.specs.Fleet.{HasNode, follower_names, leader_names, node_names}
 use Rattle.core_model.specs.Growing.{MastersGrow}
 use Rattle.core_model.specs.Jobs.{IsFirstJobOf, ShardJob, job_on}
 use Rattle.core_model.specs.Messages.{told_of}
@@ -29,20 +29,20 @@ use Rattle.core_model.specs.Stores.{master_store}
 use Rattle.core_nodes.proofs.GrowingLemmas.{becomes_masters}
 use Rattle.core_nodes.specs.Repairs.{MergesThere, Outside, outside}
 use Rattle.core_steps.specs.Posting.{Posting}
-use Rattle.core_steps.specs.Repairs.{FailsAs, FailsToMerge, FindsFirst, FindsOpenJob, IsMergedAlone, IsNotRepaired, IsNotRun}
-use Rattle.core_steps.specs.Repairs.{LeavesRest, RunsJob, StopsRepair, TellsOfRepair, shown_of}
-use Rattle.core_steps.specs.declared.repairs.RepairFailed.{RepairFailed}
-use Rattle.core_steps.specs.declared.repairs.RepairFailed.TheVariants.{NoServer, Refused}
+use Rattle.core_repairs.specs.Repairs.{FailsAs, FailsToMerge, FindsFirst, FindsOpenJob, IsMergedAlone, IsNotRepaired, IsNotRun}
+use Rattle.core_repairs.specs.Repairs.{LeavesRest, RunsJob, StopsRepair, TellsOfRepair, shown_of}
+use Rattle.core_repairs.specs.declared.repairs.RepairFailed.{RepairFailed}
+use Rattle.core_repairs.specs.declared.repairs.RepairFailed.TheVariants.{NoServer, Refused}
 
 -- ---- who is told
 
-sends_both : (a b : List NodeName) (old mid new : Inboxes) (shard : ℕ) (e : Entry) (note : View) → Sends a (message_of shard e note) old mid
-    → Sends b (message_of shard e note) mid new → Sends (a ++ b) (message_of shard e note) old new
-sends_both [] b old mid new shard e note one two = subst (λ x. Sends b (message_of shard e note) x new) one two
+sends_both : (a b : List NodeName) (old mid new : Inboxes) (shard : ℕ) (e : Entry) (note : View) → Sends a (entry_message shard e note) old mid
+    → Sends b (entry_message shard e note) mid new → Sends (a ++ b) (entry_message shard e note) old new
+sends_both [] b old mid new shard e note one two = subst (λ x. Sends b (entry_message shard e note) x new) one two
 sends_both (name ∷ a) b old mid new shard e note one two = (one.0, one.1, sends_both a b one.0 mid new shard e note one.2 two)
 
 -- a leader of the configuration has an inbox
-pub leader_has : (s : Settings) (shard : ℕ) (leader : NodeName) (inboxes : Inboxes) → names_of inboxes ≡ cache_names s → IsLeaderFor s shard leader
+pub leader_has : (s : Settings) (shard : ℕ) (leader : NodeName) (inboxes : Inboxes) → node_names inboxes ≡ cache_names s → IsLeaderFor s shard leader
     → HasNode leader inboxes
 leader_has s shard leader inboxes names leads =
     subst (λ l. Contains l leader) (sym names) (Contains-append_left (leader_names s) (follower_names s) leader leads.configured)
@@ -50,15 +50,15 @@ leader_has s shard leader inboxes names leads =
 -- the followers and then the leader are told
 pub told_both : (states : NodeStates) (shard region : ℕ) (leader : NodeName) (wrote : Option Entry) (e : Entry) (note again : View) (old mid new : Inboxes)
     → wrote ≡ Some e → region ≡ master_region states shard → leader ≡ preferred_leader states region shard → is_up states leader ≡ true → again ≡ note
-    → Sends (told_of states region shard) (message_of shard e note) old mid → Sends (leader ∷ []) (message_of shard e again) mid new
+    → Sends (told_of states region shard) (entry_message shard e note) old mid → Sends (leader ∷ []) (entry_message shard e again) mid new
     → TellsOfRepair states shard wrote old new
 told_both states shard region leader wrote e note again old mid new is here leads up same one two =
     let leads_is : leader ≡ preferred_leader states (master_region states shard) shard = leads ∙ ap (λ r. preferred_leader states r shard) here in
     let alone : filter (is_up states) (leader ∷ []) ≡ leader ∷ [] = ap (λ b. if b then leader ∷ [] else []) up in
-    let followers = subst (λ r. Sends (told_of states r shard) (message_of shard e note) old mid) here one in
-    let more = subst (λ n. Sends (leader ∷ []) (message_of shard e n) mid new) same two in
-    let last = subst (λ l. Sends l (message_of shard e note) mid new) (sym alone) more in
-    let named = subst (λ n. Sends (filter (is_up states) (n ∷ [])) (message_of shard e note) mid new) leads_is last in
+    let followers = subst (λ r. Sends (told_of states r shard) (entry_message shard e note) old mid) here one in
+    let more = subst (λ n. Sends (leader ∷ []) (entry_message shard e n) mid new) same two in
+    let last = subst (λ l. Sends l (entry_message shard e note) mid new) (sym alone) more in
+    let named = subst (λ n. Sends (filter (is_up states) (n ∷ [])) (entry_message shard e note) mid new) leads_is last in
     let told : TellsOfRepair states shard (Some e) old new =
     inr (
       note,

@@ -5,11 +5,11 @@ use Rattle.core_model.specs.Growing.{MastersGrow}
 use Rattle.core_model.specs.Pens.{pens_of}
 use Rattle.core_nodes.specs.Settling.{IsLaterLink}
 use Rattle.core_steps.specs.Posting.{posting}
-use Rattle.core_steps.specs.Repairs.{HasNoneUpTo, RunsMore}
+use Rattle.core_repairs.specs.Repairs.{HasNoneUpTo, RunsMore}
 use Rattle.core_steps.specs.Routes.{scene}
 use Rattle.graph_model.specs.Told.{WhereTold}
 use Rattle.tao_keeper.specs.KeeperState.{IsLater}
-use Rattle.core_steps.proofs.repairs.run_shard.Given as goal
+use Rattle.core_repairs.proofs.runs.run_shard.Given as goal
 
 -- the jobs so far were run, and none is left up to the last one
 abbrev pub invariant-loop-found : goal.invariant-loop-found

@@ -1,7 +1,7 @@
 -- Repairs: what becomes of the first open job of a shard, and of all jobs in a settle.
 use Rattle.std.specs.Prelude.{ℕ, ◌≡◌, ◌≤◌, ◌<◌, ◌+◌, ◌⊎◌, ◌++◌, ⊤, Bool, List, [], ◌∷◌, Option, Some, None, Result, Ok, Err, filter}
 use Rattle.counts.specs.Count.{Rose}
-use Rattle.core_mail.specs.Inboxes.{Inboxes, Sends, message_of}
+use Rattle.core_mail.specs.Inboxes.{Inboxes, Sends, entry_message}
 use Rattle.core_model.specs.Jobs.{EndsOwed, IsFirstJobOf, ShardJob, far_shard, job_on}
 use Rattle.core_model.specs.Messages.{told_of}
 use Rattle.core_model.specs.Stores.{master_store, stores_in}
@@ -30,9 +30,9 @@ use Rattle.write_model.specs.Steps.{HaveNoJobs, Settling}
 use Rattle.core_steps.specs.OtherEnds.{master_leader}
 use Rattle.core_steps.specs.Posting.{ChangesNoNode, Posting}
 use Rattle.core_steps.specs.Routes.{Scene}
-use Rattle.core_steps.specs.declared.repairs.Ran.{Ran}
-use Rattle.core_steps.specs.declared.repairs.RepairFailed.{RepairFailed}
-use Rattle.core_steps.specs.declared.repairs.RepairFailed.TheVariants.{NoServer, Refused}
+use Rattle.core_repairs.specs.declared.repairs.Ran.{Ran}
+use Rattle.core_repairs.specs.declared.repairs.RepairFailed.{RepairFailed}
+use Rattle.core_repairs.specs.declared.repairs.RepairFailed.TheVariants.{NoServer, Refused}
 
 -- ---- who is told
 
@@ -44,7 +44,7 @@ told_of_repair states shard = told_of states (master_region states shard) shard 
 abbrev pub TellsOfRepair : NodeStates → ℕ → Option Entry → Inboxes → Inboxes → Type 0
 TellsOfRepair states shard None old new = new ≡ old
 TellsOfRepair states shard (Some e) old new =
-    (new ≡ old) ⊎ ((note : View) × Sends (told_of_repair states shard) (message_of shard e note) old new)
+    (new ≡ old) ⊎ ((note : View) × Sends (told_of_repair states shard) (entry_message shard e note) old new)
 
 -- ---- the first job of a shard
 

@@ -5,8 +5,8 @@ use Rattle.core_model.specs.Pens.{IsSeen, pens_of}
 use Rattle.core_nodes.proofs.CommitLemmas.{note_seen}
 use Rattle.shard_log.specs.View.{View}
 use Rattle.core_steps.proofs.MergeLemmas.{merging_leads}
-use Rattle.core_steps.proofs.RepairLemmas.{leader_has, told_both}
-use Rattle.core_steps.proofs.repairs.tell_of_repair.Goals as goal
+use Rattle.core_repairs.proofs.RepairLemmas.{leader_has, told_both}
+use Rattle.core_repairs.proofs.repairs.tell_of_repair.Goals as goal
 
 pub tell-requires-clause-there : goal.tell-requires-clause-there
 tell-requires-clause-there c =

@@ -27,18 +27,18 @@ use Rattle.write_model.specs.Machine.{IsFirstJob, Owed}
 use Rattle.write_model.specs.Merges.{Stores, log_of}
 use Rattle.write_model.specs.Steps.{EndsJob, IsNextJob, IsOwed, MergesJob}
 use Rattle.core_model.specs.Fleet.{Fleet}
-use Rattle.core_model.specs.Jobs.{EndsOwed, IsFirstJobOf, IsJobOf, MergesOwed, ShardJob, job_on}
+use Rattle.core_model.specs.Jobs.{EndsOwed, IsFirstJobOf, OwesShardJob, MergesOwed, ShardJob, job_on}
 use Rattle.core_model.specs.Stores.{AreKeptIn, master_log, masters_of, stores_in}
 use Rattle.core_nodes.specs.Repairs.{ComesBack, carry_back, carry_there}
 use Rattle.core_nodes.specs.Settling.{IsLaterLink}
 use Rattle.core_nodes.specs.declared.settling.SettleStop.{SettleStop}
 use Rattle.core_steps.specs.Posting.{Posting}
-use Rattle.core_steps.specs.Repairs.{AreSettling, FailsToEnd, FailsToMerge, FindsNoJob, FailureHasCause, HasNoneUpTo, HaveNoneBelow, HaveRun}
-use Rattle.core_steps.specs.Repairs.{IsNotRepaired, IsRepaired, OnlyAsks, RanOn, RepairsFirst, RunsAll, RunsTo, SettlesLogs}
-use Rattle.core_steps.specs.Repairs.{StopsRepair, StopsRun, ran_on, stop_of}
-use Rattle.core_steps.specs.declared.repairs.Ran.{Ran}
-use Rattle.core_steps.specs.declared.repairs.RepairFailed.{RepairFailed}
-use Rattle.core_steps.specs.declared.repairs.RepairFailed.TheVariants.{NoServer, Refused}
+use Rattle.core_repairs.specs.Repairs.{AreSettling, FailsToEnd, FailsToMerge, FindsNoJob, FailureHasCause, HasNoneUpTo, HaveNoneBelow, HaveRun}
+use Rattle.core_repairs.specs.Repairs.{IsNotRepaired, IsRepaired, OnlyAsks, RanOn, RepairsFirst, RunsAll, RunsTo, SettlesLogs}
+use Rattle.core_repairs.specs.Repairs.{StopsRepair, StopsRun, ran_on, stop_of}
+use Rattle.core_repairs.specs.declared.repairs.Ran.{Ran}
+use Rattle.core_repairs.specs.declared.repairs.RepairFailed.{RepairFailed}
+use Rattle.core_repairs.specs.declared.repairs.RepairFailed.TheVariants.{NoServer, Refused}
 
 -- ---- keepers that were only asked
 
@@ -152,7 +152,7 @@ module _ (tells : Bool) (s : Settings) (shard : ℕ) (old new : Posting) where
 -- ---- one job, over the tables
 
 -- what owes a job is one
-same_owed : (s : Settings) (j : ShardJob) (tables : Tables) (a b : Owed) → IsJobOf s j a → IsJobOf s j b
+same_owed : (s : Settings) (j : ShardJob) (tables : Tables) (a b : Owed) → OwesShardJob s j a → OwesShardJob s j b
     → IsOwed (types_of s.schema) (stores_in s tables) a → IsOwed (types_of s.schema) (stores_in s tables) b → a ≡ b
 same_owed s j tables a b p q x y =
     let logs = (stores_in s tables).logs in

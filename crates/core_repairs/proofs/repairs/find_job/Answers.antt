@@ -1,6 +1,6 @@
 use Rattle.std.proofs.Common.{Err, ap}
-use Rattle.core_steps.proofs.RepairLemmas.{finds_first, refuses_first}
-use Rattle.core_steps.proofs.repairs.find_job.Goals as goal
+use Rattle.core_repairs.proofs.RepairLemmas.{finds_first, refuses_first}
+use Rattle.core_repairs.proofs.repairs.find_job.Goals as goal
 
 pub returns-in-Ok-clause-finds : goal.returns-in-Ok-clause-finds
 returns-in-Ok-clause-finds g c =

@@ -4,11 +4,11 @@ use Rattle.topology.specs.Config.{Settings}
 use Rattle.core_nodes.proofs.FleetLemmas.{goes_self}
 use Rattle.core_nodes.proofs.GrowingLemmas.{masters_in_turn, stays_masters}
 use Rattle.core_steps.specs.Posting.{posting}
-use Rattle.core_steps.specs.Repairs.{RunsTo, StopsRun}
+use Rattle.core_repairs.specs.Repairs.{RunsTo, StopsRun}
 use Rattle.core_steps.specs.Routes.{scene}
 use Rattle.core_steps.proofs.ReadLemmas.{goes_trans}
-use Rattle.core_steps.proofs.RunLemmas.{link_stays, link_trans, rest_trans, runs_all, runs_none}
-use Rattle.core_steps.proofs.repairs.run_jobs.Goals as goal
+use Rattle.core_repairs.proofs.RunLemmas.{link_stays, link_trans, rest_trans, runs_all, runs_none}
+use Rattle.core_repairs.proofs.runs.run_jobs.Goals as goal
 
 pub loop-shard-init : goal.loop-shard-init
 loop-shard-init g c =

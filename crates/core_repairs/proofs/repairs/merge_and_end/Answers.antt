@@ -4,8 +4,8 @@ use Rattle.counts.proofs.Rises.{Rose-earlier}
 use Rattle.core_model.specs.Jobs.{job_on}
 use Rattle.core_nodes.specs.Repairs.{outside}
 use Rattle.core_nodes.proofs.GrowingLemmas.{masters_in_turn}
-use Rattle.core_steps.proofs.RepairLemmas.{end_grows, refuses_end, refuses_merge}
-use Rattle.core_steps.proofs.repairs.merge_and_end.Goals as goal
+use Rattle.core_repairs.proofs.RepairLemmas.{end_grows, refuses_end, refuses_merge}
+use Rattle.core_repairs.proofs.repairs.merge_and_end.Goals as goal
 
 pub returns-in_err-repaired-clause-runs : goal.returns-in_err-repaired-clause-runs
 returns-in_err-repaired-clause-runs g c =

@@ -1,0 +1,2 @@
+mod RepairLemmas
+mod RunLemmas

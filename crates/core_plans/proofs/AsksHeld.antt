@@ -17,19 +17,20 @@ use Rattle.core_model.specs.Evictions.{Evicts}
 use Rattle.core_model.specs.Fleet.{ChangesNode, Fleet, named}
 use Rattle.core_model.specs.Jobs.{ShardJob, job_on}
 use Rattle.core_model.specs.Messages.{DeliversThere, TakesRefill}
-use Rattle.core_model.specs.Reads.{AfterLook, AsksAtOnce, EndsAsk, KeepsFill, LooksFirst, Wanted, given_of}
+use Rattle.core_model.specs.Reads.{AfterLook, AsksAtOnce, EndsAsk, KeepsFill, LooksFirst, Wanted, given_of, taken_fill}
 use Rattle.core_model.specs.Writes.{AppliesTo}
 use Rattle.core_model.specs.declared.named.Named.{Named}
 use Rattle.core_model.proofs.Places.{get_set, one_some, set_get, some_and}
 use Rattle.core_plans.specs.HeldLaws.{AsksStayHeld}
 use Rattle.core_plans.specs.Held.{AsksAreHeld, OpensNone, Plans, is_open_ask}
-use Rattle.core_plans.specs.HeldWrites.{DoesWriteStage, call_by, job_by, way_by}
+use Rattle.core_plans.specs.HeldWrites.{DoesWriteStage, call_of_plan, job_by, way_by}
+use Rattle.core_plans.specs.LedBy.{led_by}
 use Rattle.core_steps.specs.CriticalReads.{ReadsCritical}
-use Rattle.core_steps.specs.Reads.{Ends, IsAnswered, IsFailedRead, ReadsAlong}
+use Rattle.core_steps.specs.Reads.{Ends, IsAnswered, IsFailedRead, ReadsAlong, asked_by, sent_read}
 use Rattle.core_steps.specs.Routes.{Scene}
-use Rattle.core_steps.specs.OtherEnds.{ChangesKeepers, EndsOver, JobWay, LeavesJob, MergesOver, WorksOffJob, WorksOffOf, job_way}
+use Rattle.core_steps.specs.OtherEnds.{ChangesKeepers, EndsOver, JobWay, LeavesJob, MergesOver, WorksOffJob, WorksOffOf, job_way, write_other_end}
 use Rattle.core_steps.specs.Posting.{ChangesNoNode, Posting}
-use Rattle.core_steps.specs.Writes.{ClientWrite, FollowerTakes, IsWorkedOff, NotCommitted, RefusesCommit, WriteRefused, WritesAlong}
+use Rattle.core_steps.specs.Writes.{AuthoredWrite, FollowerTakes, IsWorkedOff, NotCommitted, RefusesCommit, WriteRefused, WritesAlong, sent_write}
 use Rattle.core_steps.specs.declared.jobs.OtherEndDone.{OtherEndDone}
 use Rattle.core_steps.specs.declared.routes.Route.{Route}
 use Rattle.core_steps.specs.declared.writes.CarriedOut.{CarriedOut}
@@ -65,7 +66,7 @@ use Rattle.tao_base.specs.declared.query.Query.{Query}
 use Rattle.tao_keeper.specs.declared.jobs.Job.{Job}
 use Rattle.tao_schema.specs.Schema.{types_of}
 use Rattle.topology.specs.Config.{Settings}
-use Rattle.write_plan.specs.Plans.{Plan}
+use Rattle.write_plan.specs.Plans.{Writing}
 use Rattle.write_plan.specs.declared.committed.Committed.{Committed}
 use Rattle.write_plan.specs.declared.results.Late.{Late}
 use Rattle.write_plan.specs.declared.results.Late.TheVariants.{Scheduled}
@@ -157,7 +158,7 @@ ends_open ask from to ends =
     subst (λ (f : FollowerState). EndsOpen ask from.node.asks f.node.asks) (sym ends) (ended_open ask from.node)
 
 pub keeps_open : (types : EdgeTypes) (query : Query) (ask : Option ℕ) (fill : SealedItem) (answer : Answer) (kept : Kept) (from to : FollowerState)
-    → KeepsFill types query ask fill answer kept from to → EndsOpen ask from.node.asks to.node.asks
+    → KeepsFill types query (taken_fill ask fill answer kept) from to → EndsOpen ask from.node.asks to.node.asks
 keeps_open types query ask fill answer kept from to keeps =
     let mid : Node = with_ended_ask ask from.node in
     subst (λ (f : FollowerState). EndsOpen ask from.node.asks f.node.asks) (sym keeps.node_is)
@@ -286,9 +287,9 @@ module _ (name : NodeName) (old new : List (Named FollowerState)) where
       change_opens_none (EndsAsk ask) name old new (λ from to ends. ends_none ask from to (ends_open ask from to ends))
 
   pub keep_opens_none : (types : EdgeTypes) (query : Query) (ask : Option ℕ) (fill : SealedItem) (answer : Answer) (kept : Kept)
-      → ChangesNode name (KeepsFill types query ask fill answer kept) old new → OpensNone old new
+      → ChangesNode name (KeepsFill types query (taken_fill ask fill answer kept)) old new → OpensNone old new
   keep_opens_none types query ask fill answer kept =
-      change_opens_none (KeepsFill types query ask fill answer kept) name old new
+      change_opens_none (KeepsFill types query (taken_fill ask fill answer kept)) name old new
       (λ from to keeps. ends_none ask from to (keeps_open types query ask fill answer kept from to keeps))
 
   pub apply_opens_none : (types : EdgeTypes) (shard : ℕ) (entry : Entry) (note : View) → ChangesNode name (AppliesTo types shard entry note) old new
@@ -327,17 +328,17 @@ module _ (name : NodeName) (old new : List (Named FollowerState)) where
   -- or what was given in answer to it
   pub filled_opens_none : (types : EdgeTypes) (read : Wanted) (ask : Option ℕ) (fill : SealedItem) (answer : Answer) (kept : Kept)
       (looked : List (Named FollowerState)) → ChangesNode name (LooksFirst types read Miss ask) old looked
-      → ChangesNode name (KeepsFill types read.query ask fill answer kept) looked new → OpensNone old new
+      → ChangesNode name (KeepsFill types read.query (taken_fill ask fill answer kept)) looked new → OpensNone old new
   filled_opens_none types read ask fill answer kept looked =
-      asked_opens_none (LooksFirst types read Miss ask) (KeepsFill types read.query ask fill answer kept) (query_key read.query) ask looked
+      asked_opens_none (LooksFirst types read Miss ask) (KeepsFill types read.query (taken_fill ask fill answer kept)) (query_key read.query) ask looked
       (λ from to looks. looks.node) (keeps_open types read.query ask fill answer kept)
 
   answered_opens_none : (Opens : FollowerState → FollowerState → Type 0) (types : EdgeTypes) (read : Wanted) (ask : Option ℕ) (given : LeaderAnswer)
       (reply : ReadReply) (looked : List (Named FollowerState))
       → ((from to : FollowerState) → Opens from to → AfterLook (query_key read.query) Miss ask from.node to.node)
-      → ChangesNode name Opens old looked → Ends types name read ask given reply looked new → OpensNone old new
+      → ChangesNode name Opens old looked → Ends types (asked_by name read ask) given reply looked new → OpensNone old new
   answered_opens_none Opens types read ask (leader.Filled fill) reply looked opens asks ends =
-      asked_opens_none Opens (KeepsFill types read.query ask fill reply.answer ends.0) (query_key read.query) ask looked opens
+      asked_opens_none Opens (KeepsFill types read.query (taken_fill ask fill reply.answer ends.0)) (query_key read.query) ask looked opens
       (keeps_open types read.query ask fill reply.answer ends.0) asks ends.1
   answered_opens_none Opens types read ask (leader.Past answer version total note) reply looked opens asks ends =
       asked_opens_none Opens (EndsAsk ask) (query_key read.query) ask looked opens (ends_open ask) asks ends.0
@@ -346,7 +347,7 @@ module _ (name : NodeName) (old new : List (Named FollowerState)) where
 -- ---- whole reads and writes
 
 answer_opens_none : (tells : Bool) (s : Settings) (route : Route) (read : Wanted) (reply : ReadReply) (old new : Scene)
-    → IsAnswered tells s route read reply old new → OpensNone old.fleet.followers new.fleet.followers
+    → IsAnswered tells s (sent_read route read) reply old new → OpensNone old.fleet.followers new.fleet.followers
 answer_opens_none tells s route read reply old new is = elim is.went [
   | inl hits ↦ hit_opens_none route.follower old.fleet.followers new.fleet.followers (types_of s.schema) read reply.answer reply.version None hits.looks
   | inr misses ↦ answered_opens_none route.follower old.fleet.followers new.fleet.followers (LooksFirst (types_of s.schema) read Miss misses.ask)
@@ -361,7 +362,7 @@ failed_opens_none s route read reply old new is = elim is.nodes.followers [
 ]
 
 pub read_opens_none : (tells : Bool) (s : Settings) (route : Route) (read : Wanted) (reply : Reply) (old new : Scene)
-    → ReadsAlong tells s route read reply old new → OpensNone old.fleet.followers new.fleet.followers
+    → ReadsAlong tells s (sent_read route read) reply old new → OpensNone old.fleet.followers new.fleet.followers
 read_opens_none tells s route read (Called (called.Read reply)) old new is = answer_opens_none tells s route read reply old new is
 read_opens_none tells s route read (Refused refused) old new is = failed_opens_none s route read (Refused refused) old new is
 read_opens_none tells s route read reply old new is = absurd is
@@ -440,12 +441,12 @@ job_same tells s way done old new (inr (inl open_still)) =
 job_same tells s way done old new (inr (inr left)) = merge_same tells s way old new (Err (Scheduled left.why done.wrote)) left.merges
 
 other_end_same : (tells : Bool) (s : Settings) (shard : ℕ) (c : Committed) (job : Option Job) (done : OtherEndDone) (old new : Posting)
-    → WorksOffOf tells s shard c job done old new → followers_of new ≡ followers_of old
+    → WorksOffOf tells s (write_other_end shard c done) job old new → followers_of new ≡ followers_of old
 other_end_same tells s shard c None done old new is = ap followers_of is.2
 other_end_same tells s shard c (Some job) done old new is = job_same tells s (job_way c.leader (job_on shard job)) done old new is
 
 -- a write changes none up to its way back
-worked_off_same : (tells : Bool) (s : Settings) (route : Route) (call : ClientWrite) (old new : Posting) → IsWorkedOff tells s route call old new
+worked_off_same : (tells : Bool) (s : Settings) (route : Route) (call : AuthoredWrite) (old new : Posting) → IsWorkedOff tells s (sent_write route call) old new
     → followers_of new ≡ followers_of old
 worked_off_same tells s route call old new is =
     other_end_same tells s (write_shard call.write) is.committed is.committed.wrote.job is.other_end is.between new is.works_off
@@ -453,11 +454,11 @@ worked_off_same tells s route call old new is =
 
 -- ---- whole writes, and those that are held
 
-module _ (tells : Bool) (s : Settings) (route : Route) (call : ClientWrite) (old new : Posting) where
+module _ (tells : Bool) (s : Settings) (route : Route) (call : AuthoredWrite) (old new : Posting) where
   rests_none : ChangesNoNode tells old new → OpensNone old.scene.fleet.followers new.scene.fleet.followers
   rests_none rests = same_opens_none old.scene.fleet.followers new.scene.fleet.followers (ap (λ (f : Fleet). f.followers) rests.fleet)
 
-  refused_none : (refused : StoreRefused) → WriteRefused tells s route call refused old new
+  refused_none : (refused : StoreRefused) → WriteRefused tells s (sent_write route call) refused old new
       → OpensNone old.scene.fleet.followers new.scene.fleet.followers
   refused_none (LinkFault count when) is = elim is.1 [
     | inl there ↦ rests_none there.same
@@ -471,7 +472,7 @@ module _ (tells : Bool) (s : Settings) (route : Route) (call : ClientWrite) (old
   refused_none (KeeperFault count) is = rests_none is.1
   refused_none (Unsettled at why) is = rests_none is.1
 
-  pub write_opens_none : (outcome : Result CarriedOut Reply) → WritesAlong tells s route call outcome old new
+  pub write_opens_none : (outcome : Result CarriedOut Reply) → WritesAlong tells s (sent_write route call) outcome old new
       → OpensNone old.scene.fleet.followers new.scene.fleet.followers
   write_opens_none (Ok done) is =
       opens_none_on old.scene.fleet.followers is.worked_off.scene.fleet.followers new.scene.fleet.followers
@@ -483,8 +484,8 @@ module _ (tells : Bool) (s : Settings) (route : Route) (call : ClientWrite) (old
   write_opens_none (Err reply) is = absurd is
 
 -- no stage of a write that is held opens one
-module _ (tells : Bool) (s : Settings) (leader : NodeName) (p q : Plan) (old new : Posting) where
-  refusal_none : (refused : StoreRefused) → NotCommitted tells s (way_by leader p) (call_by p) refused old new → ChangesNoNode tells old new
+module _ (tells : Bool) (s : Settings) (leader : NodeName) (p q : Writing) (old new : Posting) where
+  refusal_none : (refused : StoreRefused) → NotCommitted tells s (sent_write (way_by leader p) (call_of_plan p)) refused old new → ChangesNoNode tells old new
   refusal_none (LinkFault count when) is = is.1.same
   refusal_none (SeqReused position) is = is.1
   refusal_none (ShardFull serial) is = is.1
@@ -493,7 +494,7 @@ module _ (tells : Bool) (s : Settings) (leader : NodeName) (p q : Plan) (old new
   refusal_none (KeeperFault count) is = is.1
   refusal_none (Unsettled at why) is = is.1
 
-  uncommitted_none : (reply : Reply) → RefusesCommit tells s (way_by leader p) (call_by p) reply old new → ChangesNoNode tells old new
+  uncommitted_none : (reply : Reply) → RefusesCommit tells s (sent_write (way_by leader p) (call_of_plan p)) reply old new → ChangesNoNode tells old new
   uncommitted_none (Refused (Store refused)) is = refusal_none refused is
   uncommitted_none (Refused (Memory position)) is = is.1
   uncommitted_none reply is = absurd is
@@ -501,7 +502,7 @@ module _ (tells : Bool) (s : Settings) (leader : NodeName) (p q : Plan) (old new
   alone : followers_of new ≡ followers_of old → OpensNone (followers_of old) (followers_of new)
   alone = same_opens_none (followers_of old) (followers_of new)
 
-  pub stage_opens_none : (at : WriteStage) → DoesWriteStage tells s leader at p old q new → OpensNone (followers_of old) (followers_of new)
+  pub stage_opens_none : (at : WriteStage) → DoesWriteStage (led_by tells s leader) at p old q new → OpensNone (followers_of old) (followers_of new)
   stage_opens_none Commit (inl commits) = alone commits.commits.followers
   stage_opens_none Commit (inr refuses) = alone (ap (λ (f : Fleet). f.followers) (uncommitted_none refuses.reply refuses.refuses).fleet)
   stage_opens_none Inverse merges = alone (merge_same tells s (job_way leader (job_by p merges.job)) old new merges.result merges.merges)

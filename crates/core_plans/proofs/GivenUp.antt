@@ -7,6 +7,7 @@ use Rattle.core_plans.specs.HeldWrites.{DoesWriteStage, position_of, way_given_u
 use Rattle.core_plans.specs.declared.held.HeldPlan.{HeldPlan}
 use Rattle.core_plans.specs.declared.held.HeldPlan.TheVariants.{Read, Write}
 use Rattle.core_plans.proofs.HeldWriteStages.{applied_still}
+use Rattle.core_plans.specs.LedBy.{led_by}
 use Rattle.core_steps.specs.Posting.{Posting}
 use Rattle.node_name.specs.declared.NodeName.{NodeName}
 use Rattle.read_plan.specs.Readings.{Reading}
@@ -37,9 +38,9 @@ pub no_reader : (p : Reading) → IsSome (learner (Read p)) → ⊥
 no_reader p some = absurd (cc)
 
 pub gives_up : (tells : Bool) (s : Settings) (leader : NodeName) (plan : HeldPlan) (now : Posting) → IsSome (learner plan)
-    → StepsHeld tells s leader plan now (given_up plan) now
+    → StepsHeld (led_by tells s leader) plan now (given_up plan) now
 gives_up tells s leader (Write p) now is =
-    subst (λ next. DoesWriteStage tells s leader next p now (way_given_up p) now) (sym (learns_last (next_of p) p.origin is))
+    subst (λ next. DoesWriteStage (led_by tells s leader) next p now (way_given_up p) now) (sym (learns_last (next_of p) p.origin is))
     (inr (inr (record { same = refl; then = refl })))
 gives_up tells s leader (Read p) now is = absurd (cc)
 

@@ -4,7 +4,7 @@ use Rattle.std.specs.Prelude.{⊤, Err, IfSome, Ok, slice_get}
 use Rattle.cache_items.specs.declared.look.Look.{Look}
 use Rattle.cache_items.specs.declared.look.Look.TheVariants.{Hit, Miss}
 use Rattle.core_model.specs.Consistent.{GoesOn}
-use Rattle.core_model.specs.Fleet.{Fleet, HasAsk, IsFirstAt, IsNodeAt, names_of}
+use Rattle.core_model.specs.Fleet.{Fleet, HasAsk, IsFirstAt, IsNodeAt, node_names}
 use Rattle.core_model.specs.Pens.{Pens, pens_of}
 use Rattle.core_model.specs.Reads.{IsGivenAnswer, Wanted, given_of}
 use Rattle.core_model.specs.Stores.{master_store}
@@ -154,22 +154,22 @@ asks_plain false at asks never is = absurd (cc)
 
 -- ---- its ask goes on
 
-name_at : {N : Type 0} (nodes : List (Named N)) (name : NodeName) (place : ℕ) → IsNodeAt name nodes place → slice_get (names_of nodes) place ≡ Some name
+name_at : {N : Type 0} (nodes : List (Named N)) (name : NodeName) (place : ℕ) → IsNodeAt name nodes place → slice_get (node_names nodes) place ≡ Some name
 name_at [] name place is = absurd is
 name_at (n ∷ ns) name zero is = ap (λ x. Some x) is
 name_at (n ∷ ns) name (suc place) is = name_at ns name place is
 
-node_at : {N : Type 0} (nodes : List (Named N)) (name : NodeName) (place : ℕ) → slice_get (names_of nodes) place ≡ Some name → IsNodeAt name nodes place
+node_at : {N : Type 0} (nodes : List (Named N)) (name : NodeName) (place : ℕ) → slice_get (node_names nodes) place ≡ Some name → IsNodeAt name nodes place
 node_at [] name place is = absurd (cc)
 node_at (n ∷ ns) name zero is = (let same : n.name ≡ name = cc in same)
 node_at (n ∷ ns) name (suc place) is = node_at ns name place is
 
 -- the nodes of the same names
-named_there : {N : Type 0} (old new : List (Named N)) (name : NodeName) (place : ℕ) → names_of new ≡ names_of old → IsNodeAt name new place
+named_there : {N : Type 0} (old new : List (Named N)) (name : NodeName) (place : ℕ) → node_names new ≡ node_names old → IsNodeAt name new place
     → IsNodeAt name old place
 named_there old new name place same is = node_at old name place (subst (λ ns. slice_get ns place ≡ Some name) same (name_at new name place is))
 
-first_there : {N : Type 0} (old new : List (Named N)) (name : NodeName) (place : ℕ) → names_of new ≡ names_of old → IsFirstAt name new place
+first_there : {N : Type 0} (old new : List (Named N)) (name : NodeName) (place : ℕ) → node_names new ≡ node_names old → IsFirstAt name new place
     → IsFirstAt name old place
 first_there old new name place same first = record {
   here = named_there old new name place same first.here;

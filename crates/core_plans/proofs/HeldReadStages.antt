@@ -1,13 +1,13 @@
 -- What each stage of a held read comes to.
-use Rattle.std.proofs.Common.{◌≡◌, ℕ, ◌<◌, false, true, Bool, Option, Some, None, refl, ap, sym, ◌∙◌, subst, inl, inr}
+use Rattle.std.proofs.Common.{◌≡◌, ℕ, ◌<◌, false, true, Bool, Option, Some, None, refl, ap, sym, ◌∙◌, subst, inl, inr, arith}
 use Rattle.std.specs.Prelude.{◌-◌, IfSome, Ok, Err, nat_lt}
 use Rattle.cache_items.specs.declared.look.Kept.{Kept as KeptWhy}
 use Rattle.cache_items.specs.declared.look.Look.{Look}
 use Rattle.cache_items.specs.declared.look.Look.TheVariants.{Hit, Miss}
-use Rattle.core_model.specs.Consistent.{GoesOn, IsFleetOf}
+use Rattle.core_model.specs.Consistent.{GoesOn, IsConsistent, IsFleetOf}
 use Rattle.core_model.specs.Fleet.{ChangesNode, Fleet, HasAsk}
 use Rattle.core_model.specs.Pens.{pens_of}
-use Rattle.core_model.specs.Reads.{AsksAtOnce, EndsAsk, IsGivenFill, IsLegalLook, KeepsFill, LeaderAnswers, LooksFirst, Wanted, wanted}
+use Rattle.core_model.specs.Reads.{AsksAtOnce, EndsAsk, IsGivenFill, IsLegalLook, KeepsFill, LeaderAnswers, LooksFirst, Wanted, store_calls, taken_fill, wanted}
 use Rattle.core_model.specs.Stores.{AreStoresOf}
 use Rattle.core_steps.specs.Reads.{MayAnswer}
 use Rattle.core_steps.specs.ReadSteps.{IsGivenOver, IsNotGiven, IsNotRead, IsReadOver, ReadOverFails, ReadsOn}
@@ -15,6 +15,7 @@ use Rattle.core_steps.specs.Routes.{Scene, hops_between, master_node, scene, was
 use Rattle.core_model.proofs.NamedNodes.{changes_so}
 use Rattle.core_nodes.specs.Stages.{NodeIs}
 use Rattle.core_nodes.proofs.NodesOfNames.{is_after}
+use Rattle.core_steps.proofs.AlongLemmas.{on_after, on_same}
 use Rattle.core_steps.proofs.ReadLemmas.{legal_in_log, where_told}
 use Rattle.core_steps.proofs.Repeats.{Repeats, filled_repeats, hit_repeats}
 use Rattle.follower_cache.specs.Seen.{FollowerState}
@@ -23,12 +24,14 @@ use Rattle.node_name.specs.declared.NodeName.{NodeName}
 use Rattle.read_plan.proofs.RunLemmas.{answers_are_given}
 use Rattle.read_plan.specs.Keeping.{kept_or_not, past_bound}
 use Rattle.read_plan.specs.Readings.{Reading, fill_handed, taken}
-use Rattle.read_plan.specs.Runs.{IsNext}
-use Rattle.read_plan.specs.Standings.{after_ask, after_keep, after_look, after_master, fill_of, has_fill, stage_of}
+use Rattle.read_plan.specs.Runs.{IsOfNextStage}
+use Rattle.read_plan.specs.Standings.{after_ask, after_keep, after_look, after_master, fill_of, has_fill, stage_of, standing_after}
 use Rattle.read_plan.specs.declared.end.ReadEnd.TheVariants as ended
+use Rattle.read_plan.specs.declared.stages.ReadResult.{ReadResult}
 use Rattle.read_plan.specs.declared.stages.ReadResult.TheVariants as came
 use Rattle.read_plan.specs.declared.stages.ReadStage.TheVariants as stage
 use Rattle.read_plan.specs.declared.standing.Given.TheVariants.{Fill, Past}
+use Rattle.read_plan.specs.declared.standing.Standing.{Standing}
 use Rattle.read_plan.specs.declared.standing.Standing.TheVariants.{Looking, Asking, Mastering, Keeping, Ended}
 use Rattle.replies.specs.declared.calls.CallReply.TheVariants as called
 use Rattle.replies.specs.declared.calls.ReadReply.{ReadReply}
@@ -52,16 +55,13 @@ use Rattle.tao_keeper.specs.KeeperState.{KeeperState}
 use Rattle.tao_link.specs.Shown.{LinkShown}
 use Rattle.tao_schema.specs.Schema.{types_of}
 use Rattle.topology.specs.Config.{Settings}
-use Rattle.core_plans.specs.declared.reads.Cost.{Cost}
-use Rattle.core_plans.specs.HeldReads.{DoesLook, DoesReadStage, EndsLegally, HasComeTo, IsReadUnderWay, StandsSo, StepsRead, route_by, version_now, wanted_by}
-use Rattle.core_plans.proofs.HeldReadLemmas.{IsPast, asked_stands, asking, asks_plain, filled, goes_so, legally, looked_stands, looking, mastered_stands}
-use Rattle.core_plans.proofs.HeldReadLemmas.{mastering, never_so, not_both, past}
+use Rattle.core_plans.specs.declared.reads.Tally.{Tally}
+use Rattle.core_plans.specs.HeldReads.{DoesLook, DoesReadStage, EndsAskAlone, EndsLegally, HasComeTo, IsReadUnderWay, MissesNone, PassesReadStage, StandsSo}
+use Rattle.core_plans.specs.HeldReads.{route_by, version_now, wanted_by}
+use Rattle.core_plans.proofs.HeldReadLemmas.{IsPast, MayEnd, asked_stands, asking, asks_plain, filled, goes_so, legally, looked_stands, looking}
+use Rattle.core_plans.proofs.HeldReadLemmas.{mastered_stands, mastering, never_so, not_both, past}
 use Rattle.core_plans.proofs.Missing.{store_comes}
-
--- a stage was done, and the read can go on
-pub record IsDone (tells : Bool) (s : Settings) (leader : NodeName) (p : Reading) (old : Scene) (q : Reading) (new : Scene) : Type 0 where
-  pub steps : StepsRead tells s leader p old q new
-  pub read : IsReadUnderWay tells s new.keepers.told new.fleet q
+use Rattle.core_plans.specs.LedBy.{led_by}
 
 -- what a plan says of itself
 pub record IsOfPlan (p : Reading) (follower : NodeName) (query : Query) (floor : ℕ) : Type 0 where
@@ -74,16 +74,71 @@ of_plan : (P : NodeName → Query → ℕ → Type 0) (p : Reading) (follower : 
 of_plan P p follower query floor is h = subst (λ f. P f p.query p.floor) is.follower_is
     (subst (λ q. P follower q p.floor) is.query_is (subst (λ n. P follower query n) is.floor_is h))
 
+-- also once its fill is handed out
+of_handed_out : (p handed : Reading) (follower : NodeName) (query : Query) (floor : ℕ) → handed ≡ fill_handed p → IsOfPlan handed follower query floor
+    → IsOfPlan p follower query floor
+of_handed_out p handed follower query floor out_is of = record {
+  follower_is = of.follower_is ∙ ap (λ (r : Reading). r.follower) out_is;
+  query_is = of.query_is ∙ ap (λ (r : Reading). r.query) out_is;
+  floor_is = of.floor_is ∙ ap (λ (r : Reading). r.floor) out_is;
+}
+
 -- what it took since
-pub costs : (cost : Cost) (calls carries : ℕ) (old new : Scene)
-    → cost ≡ record { hops = new.link.carries - carries; store = nat_lt calls new.keepers.calls }
-    → calls ≡ old.keepers.calls → carries ≡ old.link.carries
-    → (cost.hops ≡ hops_between old.link new.link) × (cost.store ≡ was_called old.keepers new.keepers)
-costs cost calls carries old new is called carried =
-    (ap (λ (c : Cost). c.hops) is ∙ ap (λ n. new.link.carries - n) carried, ap (λ (c : Cost). c.store) is ∙ ap (λ n. nat_lt n new.keepers.calls) called)
+pub taken_since : (p q : Reading) (outcome : ReadResult) (since : Tally) (old new : Scene)
+    → since ≡ record { calls = old.keepers.calls; carries = old.link.carries }
+    → q ≡ taken outcome (new.link.carries - since.carries) (nat_lt since.calls new.keepers.calls) p
+    → q ≡ taken outcome (hops_between old.link new.link) (was_called old.keepers new.keepers) p
+taken_since p q outcome since old new is took =
+    took ∙ ap (λ (t : Tally). taken outcome (new.link.carries - t.carries) (nat_lt t.calls new.keepers.calls) p) is
+
+-- ---- any stage
+
+module _ (tells : Bool) (s : Settings) (leader : NodeName) (p : Reading) (old new : Scene) (is : IsReadUnderWay tells s old.keepers.told old.fleet p)
+    (on : ReadsOn tells s old new) where
+  passes : (q r : Reading) (at : Standing) → p.at ≡ at → q ≡ r → DoesReadStage (led_by tells s leader) at p old r new → EndsLegally tells s r new
+      → ((least : ℕ) → MissesNone tells s least p old.keepers → MissesNone tells s least r new.keepers)
+      → IsReadUnderWay tells s new.keepers.told new.fleet r → PassesReadStage (led_by tells s leader) p old q new
+  passes q r at at_is q_is does legal whole read = subst (λ x. PassesReadStage (led_by tells s leader) p old x new) (sym q_is) (record {
+    steps = record { does = subst (λ a. DoesReadStage (led_by tells s leader) a p old r new) (sym at_is) does; legal = legal; whole = whole };
+    read = read;
+    on = on;
+  })
+
+  read_on : (outcome : ReadResult) (hops : ℕ) (store : Bool)
+      → StandsSo (types_of s.schema) (pens_of new.fleet.masters) (wanted_by p) (standing_after p.critical p.bound p.at outcome)
+      → IsReadUnderWay tells s new.keepers.told new.fleet (taken outcome hops store p)
+  read_on outcome hops store = goes_so tells s old.keepers.told new.keepers.told old.fleet new.fleet p outcome hops store is on.tables on.goes
+
+  -- one that failed ended the read
+  refused : (q : Reading) (outcome : ReadResult) (hops : ℕ) (store : Bool) (reply : Reply) (at : Standing) → p.at ≡ at
+      → standing_after p.critical p.bound p.at outcome ≡ Ended (ended.Refused reply) → ((read : ReadReply) → reply ≡ Called (called.Read read) → ⊥)
+      → q ≡ taken outcome hops store p → DoesReadStage (led_by tells s leader) at p old (taken outcome hops store p) new
+      → PassesReadStage (led_by tells s leader) p old q new
+  refused q outcome hops store reply at at_is over no_read took does =
+      let r : Reading = taken outcome hops store p in
+      passes q r at at_is took does (legally tells s r new (Ended (ended.Refused reply)) over no_read)
+      (λ least was told critical. subst (HasComeTo least (version_now s p new.keepers)) (sym over) tt)
+      (read_on outcome hops store (subst (StandsSo (types_of s.schema) (pens_of new.fleet.masters) (wanted_by p)) (sym over) tt))
 
 no_refusal : (refusal : Refusal) (read : ReadReply) → Refused refusal ≡ Called (called.Read read) → ⊥
 no_refusal refusal read is = absurd (cc)
+
+-- ---- a stage at its follower
+
+-- no other node takes part in it
+pub record AtFollower (tells : Bool) (s : Settings) (p : Reading) (keepers : KeeperState) (old new : Fleet) : Type 0 where
+  pub consistent : IsConsistent tells s keepers.told old
+  pub read : IsReadUnderWay tells s keepers.told old p
+  pub rest : new ≡ record old { followers = new.followers }
+  pub fleet : IsFleetOf s new
+  pub goes : GoesOn old new
+
+follower_on : (tells : Bool) (s : Settings) (p : Reading) (keepers : KeeperState) (old new : Fleet) (link : LinkShown)
+    → AtFollower tells s p keepers old new → ReadsOn tells s (scene old keepers link) (scene new keepers link)
+follower_on tells s p keepers old new link there =
+    let from : Scene = scene old keepers link in
+    on_after tells s from from new (on_same tells s from old keepers link refl there.consistent (λ told store. refl)
+    (record { calls = omega arith; faults = omega arith })) there.rest there.fleet there.goes
 
 -- ---- look
 
@@ -91,13 +146,13 @@ hit_alone : (s : Settings) (read : Wanted) (answer : Answer) (version : ℕ) (as
     → LooksFirst (types_of s.schema) read (Hit answer version) ask from to → LooksFirst (types_of s.schema) read (Hit answer version) None from to
 hit_alone s read answer version ask from to looks = subst (λ a. LooksFirst (types_of s.schema) read (Hit answer version) a from to) looks.node.0 looks
 
-look_legal : (tells : Bool) (s : Settings) (leader : NodeName) (p : Reading) (old new : Fleet) (keepers : KeeperState) (link : LinkShown) (look : Look)
-    (ask : Option ℕ) → p.critical ≡ false → AreStoresOf tells s keepers.told old.masters → query_shard p.query < s.shards
+look_legal : (tells : Bool) (s : Settings) (p : Reading) (old new : Fleet) (keepers : KeeperState) (link : LinkShown) (look : Look) (ask : Option ℕ)
+    → p.critical ≡ false → AreStoresOf tells s keepers.told old.masters → query_shard p.query < s.shards
     → ChangesNode p.follower (LooksFirst (types_of s.schema) (wanted_by p) look ask) old.followers new.followers
     → new ≡ record old { followers = new.followers }
     → IsLegalLook (types_of s.schema) (pens_of new.masters) (wanted_by p) look
     → EndsLegally tells s (taken (came.Look (Ok look)) 0 false (record p { ask = ask })) (scene new keepers link)
-look_legal tells s leader p old new keepers link (Hit answer version) ask plain are here change rest legal =
+look_legal tells s p old new keepers link (Hit answer version) ask plain are here change rest legal =
     let types = types_of s.schema in
     let shard = query_shard p.query in
     let q : Reading = taken (came.Look (Ok (Hit answer version))) 0 false (record p { ask = ask }) in
@@ -110,148 +165,232 @@ look_legal tells s leader p old new keepers link (Hit answer version) ask plain 
       legal_in_log tells s keepers.told old.masters shard types p.query p.floor answer version are here was,
       (λ told kept place f floor first at le. repeats place f first at floor le),
     )
-look_legal tells s leader p old new keepers link Miss ask plain are here change rest legal =
+look_legal tells s p old new keepers link Miss ask plain are here change rest legal =
     legally tells s (taken (came.Look (Ok Miss)) 0 false (record p { ask = ask })) (scene new keepers link) Asking (ap (λ c. after_look c Miss) plain) tt
 
-pub looks_done : (tells : Bool) (s : Settings) (leader : NodeName) (p q : Reading) (old new : Fleet) (keepers : KeeperState) (link : LinkShown) (look : Look)
-    (ask : Option ℕ) (follower : NodeName) (query : Query) (floor : ℕ) → stage_of p.at ≡ stage.Look → p.critical ≡ false
-    → IsReadUnderWay tells s keepers.told old p → AreStoresOf tells s keepers.told old.masters → IsOfPlan p follower query floor
-    → ChangesNode follower (LooksFirst (types_of s.schema) (wanted query floor) look ask) old.followers new.followers
-    → new ≡ record old { followers = new.followers }
-    → IsLegalLook (types_of s.schema) (pens_of new.masters) (wanted query floor) look
-    → IfSome ask (λ number. HasAsk follower number (query_key query) new.followers)
-    → q ≡ taken (came.Look (Ok look)) 0 false (record p { ask = ask })
-    → IsDone tells s leader p (scene old keepers link) q (scene new keepers link)
-looks_done tells s leader p q old new keepers link look ask follower query floor at plain is are of change rest legal has took =
+module _ (tells : Bool) (s : Settings) (leader : NodeName) (p q : Reading) (keepers : KeeperState) (link : LinkShown) (old new : Fleet)
+    (there : AtFollower tells s p keepers old new) where
+  abbrev from : Scene
+  from = scene old keepers link
+
+  abbrev to : Scene
+  to = scene new keepers link
+
+  passes_there : (r : Reading) (at : Standing) → p.at ≡ at → q ≡ r → DoesReadStage (led_by tells s leader) at p from r to → EndsLegally tells s r to
+      → ((least : ℕ) → MissesNone tells s least p keepers → MissesNone tells s least r keepers)
+      → IsReadUnderWay tells s keepers.told new r → PassesReadStage (led_by tells s leader) p from q to
+  passes_there = passes tells s leader p from to there.read (follower_on tells s p keepers old new link there) q
+
+  refused_there : (outcome : ReadResult) (at : Standing) → p.at ≡ at
+      → standing_after p.critical p.bound p.at outcome ≡ Ended (ended.Refused (Refused (Memory 0)))
+      → q ≡ taken outcome 0 false p → DoesReadStage (led_by tells s leader) at p from (taken outcome 0 false p) to
+      → PassesReadStage (led_by tells s leader) p from q to
+  refused_there outcome at at_is over =
+      refused tells s leader p from to there.read (follower_on tells s p keepers old new link there) q outcome 0 false (Refused (Memory 0)) at at_is over
+      (no_refusal (Memory 0))
+
+  -- with the ask that it opened
+  read_there : (look : Look) (ask : Option ℕ) → IfSome ask (λ number. HasAsk p.follower number (query_key p.query) new.followers)
+      → IsReadUnderWay tells s keepers.told new (taken (came.Look (Ok look)) 0 false (record p { ask = ask }))
+  read_there look ask has = record {
+    follower = there.read.follower;
+    region = there.read.region;
+    never_asks = never_so p.critical p.bound p.at (came.Look (Ok look)) there.read.never_asks;
+    bound = there.read.bound;
+    reached = there.read.reached;
+    ask = has;
+    stands = looked_stands (types_of s.schema) (pens_of new.masters) (wanted_by p) p.critical look;
+  }
+
+  pub looks_done : (asked : Reading) (look : Look) (ask : Option ℕ) (follower : NodeName) (query : Query) (floor : ℕ)
+      → stage_of p.at ≡ stage.Look → p.critical ≡ false
+      → IsOfPlan p follower query floor
+      → ChangesNode follower (LooksFirst (types_of s.schema) (wanted query floor) look ask) old.followers new.followers
+      → IsLegalLook (types_of s.schema) (pens_of new.masters) (wanted query floor) look
+      → IfSome ask (λ number. HasAsk follower number (query_key query) new.followers)
+      → asked ≡ record p { ask = ask } → q ≡ taken (came.Look (Ok look)) 0 false asked
+      → PassesReadStage (led_by tells s leader) p from q to
+  looks_done asked look ask follower query floor at plain of change legal has opened took =
+      let types = types_of s.schema in
+      let r : Reading = taken (came.Look (Ok look)) 0 false (record p { ask = ask }) in
+      let looks = of_plan (λ f q n. ChangesNode f (LooksFirst types (wanted q n) look ask) old.followers new.followers) p follower query floor of change in
+      let right = of_plan (λ f q n. IsLegalLook types (pens_of new.masters) (wanted q n) look) p follower query floor of legal in
+      passes_there r Looking (looking p.at at) (took ∙ ap (taken (came.Look (Ok look)) 0 false) opened)
+      (subst (λ c. DoesLook s c p from r to) (sym plain) (inl (record {
+        look = look;
+        ask = ask;
+        looks = looks;
+        rest = ap (λ f. scene f keepers link) there.rest;
+        then = refl;
+      })))
+      (look_legal tells s p old new keepers link look ask plain there.consistent.stores there.read.follower.here looks there.rest right)
+      (λ least was told critical. absurd (not_both p.critical plain critical))
+      (read_there look ask (of_plan (λ f q n. IfSome ask (λ number. HasAsk f number (query_key q) new.followers)) p follower query floor of has))
+
+  -- a critical one opened an ask at once
+  pub asks_at_once : (asked : Reading) (ask : Option ℕ) (follower : NodeName) (query : Query) (floor : ℕ) → stage_of p.at ≡ stage.Look
+      → p.critical ≡ true
+      → IsOfPlan p follower query floor → ChangesNode follower (AsksAtOnce (query_key query) ask) old.followers new.followers
+      → IfSome ask (λ number. HasAsk follower number (query_key query) new.followers)
+      → asked ≡ record p { ask = ask } → q ≡ taken (came.Look (Ok Miss)) 0 false asked
+      → PassesReadStage (led_by tells s leader) p from q to
+  asks_at_once asked ask follower query floor at critical of change has opened took =
+      let r : Reading = taken (came.Look (Ok Miss)) 0 false (record p { ask = ask }) in
+      let masters : after_look p.critical Miss ≡ Mastering = ap (λ c. after_look c Miss) critical in
+      let now = version_now s p keepers in
+      passes_there r Looking (looking p.at at) (took ∙ ap (taken (came.Look (Ok Miss)) 0 false) opened)
+      (subst (λ c. DoesLook s c p from r to) (sym critical) (record {
+        ask = ask;
+        asks = of_plan (λ f q n. ChangesNode f (AsksAtOnce (query_key q) ask) old.followers new.followers) p follower query floor of change;
+        rest = ap (λ f. scene f keepers link) there.rest;
+        then = refl;
+      }))
+      (legally tells s r to Mastering masters tt)
+      (λ least was told so. subst (HasComeTo least now) (sym masters) (subst (HasComeTo least now) (looking p.at at) (was told so)))
+      (read_there Miss ask (of_plan (λ f q n. IfSome ask (λ number. HasAsk f number (query_key q) new.followers)) p follower query floor of has))
+
+  -- memory was wanting for the answer
+  pub looks_lost : (reply : Reply) → stage_of p.at ≡ stage.Look → p.critical ≡ false → new ≡ old → reply ≡ Refused (Memory 0)
+      → q ≡ taken (came.Look (Err reply)) 0 false p → PassesReadStage (led_by tells s leader) p from q to
+  looks_lost reply at plain same said took =
+      let outcome = came.Look (Err (Refused (Memory 0))) in
+      refused_there outcome Looking (looking p.at at) refl (took ∙ ap (λ r. taken (came.Look (Err r)) 0 false p) said)
+      (subst (λ c. DoesLook s c p from (taken outcome 0 false p) to) (sym plain) (inr (record { same = ap (λ f. scene f keepers link) same; then = refl })))
+
+  -- ---- keep
+
+  pub keeps_done : (handed : Reading) (fill : SealedItem) (answer : Answer) (kept : KeptWhy) (follower : NodeName) (query : Query) (floor : ℕ)
+      (ask : Option ℕ) → fill_of p.at ≡ Some fill → IsSealed fill → handed ≡ fill_handed p → IsOfPlan handed follower query floor → ask ≡ handed.ask
+      → ChangesNode follower (KeepsFill (types_of s.schema) query (taken_fill ask fill answer kept)) old.followers new.followers
+      → IsLegalIn (types_of s.schema) (pens_of new.masters (query_shard query)) query floor answer fill.version
+      → q ≡ taken (came.Keep (Ok (Some (answer, kept)))) 0 false handed
+      → PassesReadStage (led_by tells s leader) p from q to
+  keeps_done handed fill answer kept follower query floor ask found sealed out_is of_handed same change legal took =
+      let types = types_of s.schema in
+      let shard = query_shard p.query in
+      let are = there.consistent.stores in
+      let here = there.read.follower.here in
+      let outcome = came.Keep (Ok (Some (answer, kept))) in
+      let r : Reading = taken outcome 0 false p in
+      let at = filled p.at fill found in
+      let of = of_handed_out p handed follower query floor out_is of_handed in
+      let given : IsGivenFill types (pens_of old.masters) (wanted_by p) fill =
+      subst (StandsSo types (pens_of old.masters) (wanted_by p)) at there.read.stands in
+      let next : IsOfNextStage p outcome = record { stage = ap stage_of (sym at); answered = ap has_fill at } in
+      let keeps = subst (λ a. ChangesNode p.follower (KeepsFill types p.query (taken_fill a fill answer kept)) old.followers new.followers)
+      (same ∙ ap (λ (r : Reading). r.ask) out_is)
+      (of_plan (λ f q n. ChangesNode f (KeepsFill types q (taken_fill ask fill answer kept)) old.followers new.followers) p follower query floor of change) in
+      let right = of_plan (λ f q n. IsLegalIn types (pens_of new.masters (query_shard q)) q n answer fill.version) p follower query floor of legal in
+      let was = subst (λ (f : Fleet). IsLegalIn types (pens_of f.masters shard) p.query p.floor answer fill.version) there.rest right in
+      let again = where_told (kept_or_not kept ≡ Kept → NodeIs p.follower (Repeats types p.query answer fill.version) new.followers)
+      tells s keepers.told old.masters shard are here
+      (λ told held. is_after (Repeats types p.query answer fill.version) (KeepsFill types p.query (taken_fill p.ask fill answer kept)) p.follower
+      old.followers new.followers keeps
+      (filled_repeats s old new.followers p.follower (wanted_by p) p.ask fill answer kept there.consistent.fleet keeps given sealed told held)) in
+      let now = version_now s p keepers in
+      passes_there r (Keeping (Fill fill)) at (took ∙ ap (taken outcome 0 false) out_is ∙ (answers_are_given p outcome 0 false).fill_out next)
+      (inl (record { answer = answer; kept = kept; keeps = keeps; rest = ap (λ f. scene f keepers link) there.rest; then = refl }))
+      (legally tells s r to (Ended (ended.Answered answer fill.version (kept_or_not kept))) (ap (λ a. after_keep p.bound a (Some (answer, kept))) at) (
+        legal_in_log tells s keepers.told old.masters shard types p.query p.floor answer fill.version are here was,
+        (λ told held place f floor first there le. again told held place f first there floor le),
+      ))
+      (λ least was told critical. subst (λ a. HasComeTo least now (after_keep p.bound a (Some (answer, kept)))) (sym at)
+      (subst (HasComeTo least now) at (was told critical)))
+      (read_on tells s leader p from to there.read (follower_on tells s p keepers old new link there) outcome 0 false
+      (subst (λ a. StandsSo types (pens_of new.masters) (wanted_by p) (after_keep p.bound a (Some (answer, kept)))) (sym at) tt))
+
+  -- memory was wanting for the answer
+  pub keeps_lost : (handed : Reading) (fill : SealedItem) (reply : Reply) (follower : NodeName) (ask : Option ℕ) → fill_of p.at ≡ Some fill
+      → handed ≡ fill_handed p → follower ≡ handed.follower → ask ≡ handed.ask → ChangesNode follower (EndsAsk ask) old.followers new.followers
+      → reply ≡ Refused (Memory 0) → q ≡ taken (came.Keep (Err reply)) 0 false handed → PassesReadStage (led_by tells s leader) p from q to
+  keeps_lost handed fill reply follower ask found out_is same one change said took =
+      let ends = subst (λ a. ChangesNode p.follower (EndsAsk a) old.followers new.followers) (one ∙ ap (λ (r : Reading). r.ask) out_is)
+      (subst (λ f. ChangesNode f (EndsAsk ask) old.followers new.followers) (same ∙ ap (λ (r : Reading). r.follower) out_is) change) in
+      refused_there (came.Keep (Err (Refused (Memory 0)))) (Keeping (Fill fill)) (filled p.at fill found) refl
+      (took ∙ ap (taken (came.Keep (Err reply)) 0 false) out_is ∙ ap (λ r. taken (came.Keep (Err r)) 0 false p) said)
+      (inr (record { ends = ends; rest = ap (λ f. scene f keepers link) there.rest; then = refl }))
+
+-- an answer past the bound is never kept
+not_past : (bound total : ℕ) (P : Type 0) → past_bound bound total ≡ Kept → P
+not_past bound total P h = absurd (cc)
+
+pub hands_done : (tells : Bool) (s : Settings) (leader : NodeName) (p q : Reading) (keepers : KeeperState) (link : LinkShown) (old new : Fleet)
+    (handed : Reading) → IsConsistent tells s keepers.told old → IsReadUnderWay tells s keepers.told old p → fill_of p.at ≡ None
+    → stage_of p.at ≡ stage.Keep → handed ≡ fill_handed p → EndsAskAlone s handed old new → q ≡ taken (came.Keep (Ok None)) 0 false handed
+    → PassesReadStage (led_by tells s leader) p (scene old keepers link) q (scene new keepers link)
+hands_done tells s leader p q keepers link old new handed consistent is none stage_is out_is ended_ask took =
     let types = types_of s.schema in
+    let shard = query_shard p.query in
     let from : Scene = scene old keepers link in
     let to : Scene = scene new keepers link in
-    let after : Reading = taken (came.Look (Ok look)) 0 false (record p { ask = ask }) in
-    let looks = of_plan (λ f q n. ChangesNode f (LooksFirst types (wanted q n) look ask) old.followers new.followers) p follower query floor of change in
-    let right = of_plan (λ f q n. IsLegalLook types (pens_of new.masters) (wanted q n) look) p follower query floor of legal in
-    let asks = of_plan (λ f q n. IfSome ask (λ number. HasAsk f number (query_key q) new.followers)) p follower query floor of has in
-    let does : DoesReadStage tells s leader Looking p from after to = subst (λ c. DoesLook s c p from after to) (sym plain) (inl (record {
-      look = look;
-      ask = ask;
-      looks = looks;
-      rest = ap (λ f. scene f keepers link) rest;
-      then = refl;
-    })) in
-    let done : IsDone tells s leader p from after to = record {
-      steps = record {
-        does = subst (λ a. DoesReadStage tells s leader a p from after to) (sym (looking p.at at)) does;
-        legal = look_legal tells s leader p old new keepers link look ask plain are is.follower.here looks rest right;
-        whole = λ least was told critical. absurd (not_both p.critical plain critical);
-      };
-      read = record {
-        follower = is.follower;
-        region = is.region;
-        never_asks = never_so p.critical p.bound p.at (came.Look (Ok look)) is.never_asks;
-        bound = is.bound;
-        reached = is.reached;
-        ask = asks;
-        stands = looked_stands types (pens_of new.masters) (wanted_by p) p.critical look;
-      };
-    } in
-    subst (λ r. IsDone tells s leader p from r to) (sym took) done
+    let outcome = came.Keep (Ok None) in
+    let r : Reading = taken outcome 0 false p in
+    let there : AtFollower tells s p keepers old new =
+    record { consistent = consistent; read = is; rest = ended_ask.rest; fleet = ended_ask.fleet; goes = ended_ask.goes } in
+    let b : IsPast p.at = past types (pens_of old.masters) (wanted_by p) p.at none stage_is is.stands in
+    let given = subst (StandsSo types (pens_of old.masters) (wanted_by p)) b.is is.stands in
+    let next : IsOfNextStage p outcome = record { stage = ap stage_of (sym b.is); answered = ap has_fill b.is } in
+    let ends = subst (λ (r : Reading). ChangesNode r.follower (EndsAsk r.ask) old.followers new.followers) out_is ended_ask.ends in
+    let right = legal-grows b.note (pens_of old.masters shard) types p.query p.floor b.answer b.version given.1 given.0 in
+    let now = version_now s p keepers in
+    passes_there tells s leader p q keepers link old new there r (Keeping (Past b.answer b.version b.total (Some b.note))) b.is
+    (took ∙ ap (taken outcome 0 false) out_is ∙ (answers_are_given p outcome 0 false).fill_out next)
+    (record { ends = ends; rest = ap (λ f. scene f keepers link) ended_ask.rest; then = refl })
+    (legally tells s r to (Ended (ended.Answered b.answer b.version (past_bound p.bound b.total))) (ap (λ a. after_keep p.bound a None) b.is) (
+      legal_in_log tells s keepers.told old.masters shard types p.query p.floor b.answer b.version consistent.stores is.follower.here right,
+      (λ told kept. not_past p.bound b.total _ kept),
+    ))
+    (λ least was told critical. subst (λ a. HasComeTo least now (after_keep p.bound a None)) (sym b.is) (subst (HasComeTo least now) b.is (was told critical)))
+    (read_on tells s leader p from to is (follower_on tells s p keepers old new link there) outcome 0 false
+    (subst (λ a. StandsSo types (pens_of new.masters) (wanted_by p) (after_keep p.bound a None)) (sym b.is) tt))
 
--- a critical one opened an ask at once
-pub asks_at_once : (tells : Bool) (s : Settings) (leader : NodeName) (p q : Reading) (old new : Fleet) (keepers : KeeperState) (link : LinkShown)
-    (ask : Option ℕ) (follower : NodeName) (query : Query) (floor : ℕ) → stage_of p.at ≡ stage.Look → p.critical ≡ true
-    → IsReadUnderWay tells s keepers.told old p → IsOfPlan p follower query floor
-    → ChangesNode follower (AsksAtOnce (query_key query) ask) old.followers new.followers → new ≡ record old { followers = new.followers }
-    → IfSome ask (λ number. HasAsk follower number (query_key query) new.followers)
-    → q ≡ taken (came.Look (Ok Miss)) 0 false (record p { ask = ask })
-    → IsDone tells s leader p (scene old keepers link) q (scene new keepers link)
-asks_at_once tells s leader p q old new keepers link ask follower query floor at critical is of change rest has took =
-    let from : Scene = scene old keepers link in
-    let to : Scene = scene new keepers link in
-    let after : Reading = taken (came.Look (Ok Miss)) 0 false (record p { ask = ask }) in
-    let masters : after_look p.critical Miss ≡ Mastering = ap (λ c. after_look c Miss) critical in
-    let does : DoesReadStage tells s leader Looking p from after to = subst (λ c. DoesLook s c p from after to) (sym critical) (record {
-      ask = ask;
-      asks = of_plan (λ f q n. ChangesNode f (AsksAtOnce (query_key q) ask) old.followers new.followers) p follower query floor of change;
-      rest = ap (λ f. scene f keepers link) rest;
-      then = refl;
-    }) in
-    let done : IsDone tells s leader p from after to = record {
-      steps = record {
-        does = subst (λ a. DoesReadStage tells s leader a p from after to) (sym (looking p.at at)) does;
-        legal = legally tells s after to Mastering masters tt;
-        whole = λ least was told so.
-            let now = version_now s p keepers in
-            subst (HasComeTo least now) (sym masters) (subst (HasComeTo least now) (looking p.at at) (was told so));
-      };
-      read = record {
-        follower = is.follower;
-        region = is.region;
-        never_asks = never_so p.critical p.bound p.at (came.Look (Ok Miss)) is.never_asks;
-        bound = is.bound;
-        reached = is.reached;
-        ask = of_plan (λ f q n. IfSome ask (λ number. HasAsk f number (query_key q) new.followers)) p follower query floor of has;
-        stands = looked_stands (types_of s.schema) (pens_of new.masters) (wanted_by p) p.critical Miss;
-      };
-    } in
-    subst (λ r. IsDone tells s leader p from r to) (sym took) done
+-- ---- a stage over the link
 
--- memory was wanting for the answer
-pub looks_lost : (tells : Bool) (s : Settings) (leader : NodeName) (p q : Reading) (old new : Fleet) (keepers : KeeperState) (link : LinkShown) (reply : Reply)
-    → stage_of p.at ≡ stage.Look → p.critical ≡ false → IsReadUnderWay tells s keepers.told old p → new ≡ old → GoesOn old new
-    → reply ≡ Refused (Memory 0) → q ≡ taken (came.Look (Err reply)) 0 false p
-    → IsDone tells s leader p (scene old keepers link) q (scene new keepers link)
-looks_lost tells s leader p q old new keepers link reply at plain is same goes said took =
-    let from : Scene = scene old keepers link in
-    let to : Scene = scene new keepers link in
-    let outcome = came.Look (Err (Refused (Memory 0))) in
-    let after : Reading = taken outcome 0 false p in
-    let does : DoesReadStage tells s leader Looking p from after to = subst (λ c. DoesLook s c p from after to) (sym plain)
-    (inr (record { same = ap (λ f. scene f keepers link) same; then = refl })) in
-    let done : IsDone tells s leader p from after to = record {
-      steps = record {
-        does = subst (λ a. DoesReadStage tells s leader a p from after to) (sym (looking p.at at)) does;
-        legal = legally tells s after to (Ended (ended.Refused (Refused (Memory 0)))) refl (no_refusal (Memory 0));
-        whole = λ least was told critical. tt;
-      };
-      read = goes_so tells s keepers.told keepers.told old new p outcome 0 false is (λ told store. refl) goes tt;
-    } in
-    subst (λ r. IsDone tells s leader p from r to) (sym (took ∙ ap (λ r. taken (came.Look (Err r)) 0 false p) said)) done
+-- what was given goes to the follower, or the read goes on
+asked_on : (tells : Bool) (s : Settings) (q : Reading) (new : Scene) (given : LeaderAnswer) → MayEnd tells s q new (after_ask given)
+asked_on tells s q new (leads.Filled fill) = tt
+asked_on tells s q new (leads.Past answer version total note) = tt
+asked_on tells s q new (leads.Behind version) = tt
 
--- ---- ask
+mastered_on : (tells : Bool) (s : Settings) (q : Reading) (new : Scene) (read : ReadOut) → MayEnd tells s q new (after_master read)
+mastered_on tells s q new (out.Filled fill) = tt
+mastered_on tells s q new (out.Past answer version total note) = tt
 
-ask_legal : (tells : Bool) (s : Settings) (p : Reading) (new : Scene) (given : LeaderAnswer) (hops : ℕ) (store : Bool)
-    → EndsLegally tells s (taken (came.Ask (Ok given)) hops store p) new
-ask_legal tells s p new (leads.Filled fill) hops store =
-    legally tells s (taken (came.Ask (Ok (leads.Filled fill))) hops store p) new (after_ask (leads.Filled fill)) refl tt
-ask_legal tells s p new (leads.Past answer version total note) hops store =
-    legally tells s (taken (came.Ask (Ok (leads.Past answer version total note))) hops store p) new (after_ask (leads.Past answer version total note)) refl tt
-ask_legal tells s p new (leads.Behind version) hops store =
-    legally tells s (taken (came.Ask (Ok (leads.Behind version))) hops store p) new Mastering refl tt
+module _ (tells : Bool) (s : Settings) (leader : NodeName) (p q : Reading) (old new : Scene) (is : IsReadUnderWay tells s old.keepers.told old.fleet p)
+    (on : ReadsOn tells s old new) where
+  abbrev over : ReadResult → Reading
+  over outcome = taken outcome (hops_between old.link new.link) (was_called old.keepers new.keepers) p
 
-pub asks_done : (tells : Bool) (s : Settings) (leader : NodeName) (p q : Reading) (old new : Scene) (given : LeaderAnswer) (hops : ℕ) (store : Bool)
-    (follower : NodeName) (query : Query) (floor : ℕ) → stage_of p.at ≡ stage.Ask
-    → IsReadUnderWay tells s old.keepers.told old.fleet p → IsOfPlan p follower query floor
-    → IsGivenOver s (record { follower = follower; leader = leader }) (wanted query floor) given old new → ReadsOn tells s old new
-    → q ≡ taken (came.Ask (Ok given)) hops store p → hops ≡ hops_between old.link new.link → store ≡ was_called old.keepers new.keepers
-    → IsDone tells s leader p old q new
-asks_done tells s leader p q old new given hops store follower query floor at is of gives on took cost called =
-    let types = types_of s.schema in
-    let after : Reading = taken (came.Ask (Ok given)) hops store p in
-    let over = of_plan (λ f q n. IsGivenOver s (record { follower = f; leader = leader }) (wanted q n) given old new) p follower query floor of gives in
-    let does : DoesReadStage tells s leader Asking p old after new = inl (record {
-      given = given;
-      over = over;
-      then = ap (λ h. taken (came.Ask (Ok given)) h store p) cost ∙ ap (λ c. taken (came.Ask (Ok given)) (hops_between old.link new.link) c p) called;
-    }) in
-    let done : IsDone tells s leader p old after new = record {
-      steps = record {
-        does = subst (λ a. DoesReadStage tells s leader a p old after new) (sym (asking p.at at)) does;
-        legal = ask_legal tells s p new given hops store;
-        whole = λ least was told critical. absurd (asks_plain p.critical p.at (asking p.at at) is.never_asks critical);
-      };
-      read = goes_so tells s old.keepers.told new.keepers.told old.fleet new.fleet p (came.Ask (Ok given)) hops store is on.tables on.goes
-          (asked_stands types (pens_of new.fleet.masters) (wanted_by p) given over.given_is);
-    } in
-    subst (λ r. IsDone tells s leader p old r new) (sym took) done
+  -- what came of it ends nothing
+  came_over : (outcome : ReadResult) (at : Standing) → p.at ≡ at → q ≡ over outcome
+      → DoesReadStage (led_by tells s leader) at p old (over outcome) new
+      → MayEnd tells s (over outcome) new (standing_after p.critical p.bound p.at outcome)
+      → ((least : ℕ) → MissesNone tells s least p old.keepers → MissesNone tells s least (over outcome) new.keepers)
+      → StandsSo (types_of s.schema) (pens_of new.fleet.masters) (wanted_by p) (standing_after p.critical p.bound p.at outcome)
+      → PassesReadStage (led_by tells s leader) p old q new
+  came_over outcome at at_is took does may whole stands = passes tells s leader p old new is on q (over outcome) at at_is took does
+      (legally tells s (over outcome) new (standing_after p.critical p.bound p.at outcome) refl may) whole
+      (read_on tells s leader p old new is on outcome (hops_between old.link new.link) (was_called old.keepers new.keepers) stands)
+
+  pub asks_done : (given : LeaderAnswer) (follower : NodeName) (query : Query) (floor : ℕ) → stage_of p.at ≡ stage.Ask
+      → IsOfPlan p follower query floor → IsGivenOver s (record { follower = follower; leader = leader }) (wanted query floor) given old new
+      → q ≡ over (came.Ask (Ok given)) → PassesReadStage (led_by tells s leader) p old q new
+  asks_done given follower query floor at of gives took =
+      let gave = of_plan (λ f q n. IsGivenOver s (record { follower = f; leader = leader }) (wanted q n) given old new) p follower query floor of gives in
+      came_over (came.Ask (Ok given)) Asking (asking p.at at) took (inl (record { given = given; over = gave; then = refl }))
+      (asked_on tells s (over (came.Ask (Ok given))) new given)
+      (λ least was told critical. absurd (asks_plain p.critical p.at (asking p.at at) is.never_asks critical))
+      (asked_stands (types_of s.schema) (pens_of new.fleet.masters) (wanted_by p) given gave.given_is)
+
+  pub masters_done : (read : ReadOut) (query : Query) → stage_of p.at ≡ stage.Master → AreStoresOf tells s old.keepers.told old.fleet.masters
+      → query ≡ p.query → IsReadOver tells s query read old new → q ≡ over (came.Master (Ok read)) → PassesReadStage (led_by tells s leader) p old q new
+  masters_done read query at are same reads took =
+      let gave = subst (λ x. IsReadOver tells s x read old new) same reads in
+      came_over (came.Master (Ok read)) Mastering (mastering p.at at) took (inl (record { out = read; over = gave; then = refl }))
+      (mastered_on tells s (over (came.Master (Ok read))) new read)
+      (λ least was told critical. store_comes tells s p old.keepers new.keepers old.fleet.masters read least (version_now s p new.keepers) are gave.reads told
+      (subst (HasComeTo least (version_now s p old.keepers)) (mastering p.at at) (was told critical)))
+      (mastered_stands (types_of s.schema) (pens_of new.fleet.masters) (wanted_by p) read (gave.given p.floor is.reached))
 
 -- why nothing was carried back does not depend on the nodes
 over_there : (follower store : NodeName) (reply : Reply) (old mid : Scene) (end : Fleet) → ReadOverFails follower store reply old mid
@@ -265,232 +404,58 @@ no_out : (follower store : NodeName) (reply : Reply) (old new : Scene) → ReadO
     → reply ≡ Called (called.Read read) → ⊥
 no_out follower store reply old new fails read is = subst (λ r. ReadOverFails follower store r old new) is fails
 
-pub asks_lost : (tells : Bool) (s : Settings) (leader : NodeName) (p q : Reading) (old mid : Scene) (end : Fleet) (reply : Reply) (hops : ℕ) (store : Bool)
-    (follower : NodeName) (query : Query) (floor : ℕ) → stage_of p.at ≡ stage.Ask
-    → IsReadUnderWay tells s old.keepers.told old.fleet p → IsOfPlan p follower query floor
-    → IsNotGiven s (record { follower = follower; leader = leader }) (wanted query floor) reply old mid → ReadsOn tells s old mid
-    → ChangesNode p.follower (EndsAsk p.ask) mid.fleet.followers end.followers → end ≡ record mid.fleet { followers = end.followers } → GoesOn old.fleet end
-    → q ≡ taken (came.Ask (Err reply)) hops store p → hops ≡ hops_between old.link mid.link → store ≡ was_called old.keepers mid.keepers
-    → IsDone tells s leader p old q (scene end mid.keepers mid.link)
-asks_lost tells s leader p q old mid end reply hops store follower query floor at is of lost on ends rest goes took cost called =
-    let types = types_of s.schema in
-    let new : Scene = scene end mid.keepers mid.link in
-    let after : Reading = taken (came.Ask (Err reply)) hops store p in
-    let not = of_plan (λ f q n. IsNotGiven s (record { follower = f; leader = leader }) (wanted q n) reply old mid) p follower query floor of lost in
-    let leaders : end.leaders ≡ mid.fleet.leaders = ap (λ (f : Fleet). f.leaders) rest in
-    let fails = over_there p.follower leader reply old mid end not.fails in
-    let may : MayAnswer types (route_by leader p) (wanted_by p) old new = elim not.leaders [
-      | inl same ↦ inl (leaders ∙ same)
-      | inr one ↦ inr (
-        one.0,
-        one.1,
-        subst (λ ls. ChangesNode leader (LeaderAnswers types (wanted_by p) one.0 old.fleet.masters old.keepers one.1)
-            old.fleet.leaders ls) (sym leaders) one.2,
-      )
-    ] in
-    let does : DoesReadStage tells s leader Asking p old after new = inr (record {
-      reply = reply;
-      fails = fails;
-      leaders = may;
-      ends = subst (λ fs. ChangesNode p.follower (EndsAsk p.ask) fs end.followers) (ap (λ (f : Fleet). f.followers) not.rest) ends;
-      masters = ap (λ (f : Fleet). f.masters) rest ∙ ap (λ (f : Fleet). f.masters) not.rest;
-      then = ap (λ h. taken (came.Ask (Err reply)) h store p) cost ∙ ap (λ c. taken (came.Ask (Err reply)) (hops_between old.link mid.link) c p) called;
-    }) in
-    let done : IsDone tells s leader p old after new = record {
-      steps = record {
-        does = subst (λ a. DoesReadStage tells s leader a p old after new) (sym (asking p.at at)) does;
-        legal = legally tells s after new (Ended (ended.Refused reply)) refl (no_out p.follower leader reply old new fails);
-        whole = λ least was told critical. tt;
-      };
-      read = goes_so tells s old.keepers.told mid.keepers.told old.fleet end p (came.Ask (Err reply)) hops store is on.tables goes tt;
-    } in
-    subst (λ r. IsDone tells s leader p old r new) (sym took) done
+-- nothing was carried back, and its ask ended
+module _ (tells : Bool) (s : Settings) (leader : NodeName) (p q : Reading) (old mid : Scene) (end : Fleet)
+    (is : IsReadUnderWay tells s old.keepers.told old.fleet p) (on : ReadsOn tells s old mid) (ends : EndsAskAlone s p mid.fleet end) (reply : Reply) where
+  abbrev new : Scene
+  new = scene end mid.keepers mid.link
 
--- ---- master
+  abbrev lost : ReadResult → Reading
+  lost outcome = taken outcome (hops_between old.link mid.link) (was_called old.keepers mid.keepers) p
 
-master_legal : (tells : Bool) (s : Settings) (p : Reading) (new : Scene) (read : ReadOut) (hops : ℕ) (store : Bool)
-    → EndsLegally tells s (taken (came.Master (Ok read)) hops store p) new
-master_legal tells s p new (out.Filled fill) hops store =
-    legally tells s (taken (came.Master (Ok (out.Filled fill))) hops store p) new (after_master (out.Filled fill)) refl tt
-master_legal tells s p new (out.Past answer version total note) hops store =
-    legally tells s (taken (came.Master (Ok (out.Past answer version total note))) hops store p) new (after_master (out.Past answer version total note)) refl tt
+  lost_over : (outcome : ReadResult) (other : NodeName) (at : Standing) → p.at ≡ at
+      → standing_after p.critical p.bound p.at outcome ≡ Ended (ended.Refused reply) → ReadOverFails p.follower other reply old new
+      → q ≡ lost outcome → DoesReadStage (led_by tells s leader) at p old (lost outcome) new → PassesReadStage (led_by tells s leader) p old q new
+  lost_over outcome other at at_is over fails =
+      refused tells s leader p old new is (on_after tells s old mid end on ends.rest ends.fleet ends.goes) q outcome (hops_between old.link mid.link)
+      (was_called old.keepers mid.keepers) reply at at_is over (no_out p.follower other reply old new fails)
 
-pub masters_done : (tells : Bool) (s : Settings) (leader : NodeName) (p q : Reading) (old new : Scene) (read : ReadOut) (hops : ℕ) (store : Bool)
-    (query : Query) → stage_of p.at ≡ stage.Master
-    → IsReadUnderWay tells s old.keepers.told old.fleet p → AreStoresOf tells s old.keepers.told old.fleet.masters → query ≡ p.query
-    → IsReadOver tells s query read old new → ReadsOn tells s old new
-    → q ≡ taken (came.Master (Ok read)) hops store p → hops ≡ hops_between old.link new.link → store ≡ was_called old.keepers new.keepers
-    → IsDone tells s leader p old q new
-masters_done tells s leader p q old new read hops store query at is are same reads on took cost called =
-    let types = types_of s.schema in
-    let after : Reading = taken (came.Master (Ok read)) hops store p in
-    let over = subst (λ x. IsReadOver tells s x read old new) same reads in
-    let does : DoesReadStage tells s leader Mastering p old after new = inl (record {
-      out = read;
-      over = over;
-      then = ap (λ h. taken (came.Master (Ok read)) h store p) cost ∙ ap (λ c. taken (came.Master (Ok read)) (hops_between old.link new.link) c p) called;
-    }) in
-    let done : IsDone tells s leader p old after new = record {
-      steps = record {
-        does = subst (λ a. DoesReadStage tells s leader a p old after new) (sym (mastering p.at at)) does;
-        legal = master_legal tells s p new read hops store;
-        whole = λ least was told critical.
-            let now = version_now s p old.keepers in
-            store_comes tells s p old.keepers new.keepers old.fleet.masters read least (version_now s p new.keepers) are over.reads told
-            (subst (HasComeTo least now) (mastering p.at at) (was told critical));
-      };
-      read = goes_so tells s old.keepers.told new.keepers.told old.fleet new.fleet p (came.Master (Ok read)) hops store is on.tables on.goes
-          (mastered_stands types (pens_of new.fleet.masters) (wanted_by p) read (over.given p.floor is.reached));
-    } in
-    subst (λ r. IsDone tells s leader p old r new) (sym took) done
+  pub asks_lost : (follower : NodeName) (query : Query) (floor : ℕ) → stage_of p.at ≡ stage.Ask → IsOfPlan p follower query floor
+      → IsNotGiven s (record { follower = follower; leader = leader }) (wanted query floor) reply old mid → q ≡ lost (came.Ask (Err reply))
+      → PassesReadStage (led_by tells s leader) p old q new
+  asks_lost follower query floor at of vain took =
+      let types = types_of s.schema in
+      let not = of_plan (λ f q n. IsNotGiven s (record { follower = f; leader = leader }) (wanted q n) reply old mid) p follower query floor of vain in
+      let leaders : end.leaders ≡ mid.fleet.leaders = ap (λ (f : Fleet). f.leaders) ends.rest in
+      let fails = over_there p.follower leader reply old mid end not.fails in
+      let may : MayAnswer types (route_by leader p) (wanted_by p) old new = elim not.leaders [
+        | inl same ↦ inl (leaders ∙ same)
+        | inr one ↦ inr (
+          one.0,
+          one.1,
+          subst (λ ls. ChangesNode leader (LeaderAnswers types (wanted_by p) one.0 (store_calls old.fleet.masters old.keepers one.1))
+              old.fleet.leaders ls) (sym leaders) one.2,
+        )
+      ] in
+      lost_over (came.Ask (Err reply)) leader Asking (asking p.at at) refl fails took (inr (record {
+        reply = reply;
+        fails = fails;
+        leaders = may;
+        ends = subst (λ fs. ChangesNode p.follower (EndsAsk p.ask) fs end.followers) (ap (λ (f : Fleet). f.followers) not.rest) ends.ends;
+        masters = ap (λ (f : Fleet). f.masters) ends.rest ∙ ap (λ (f : Fleet). f.masters) not.rest;
+        then = refl;
+      }))
 
-pub masters_lost : (tells : Bool) (s : Settings) (leader : NodeName) (p q : Reading) (old mid : Scene) (end : Fleet) (reply : Reply) (hops : ℕ) (store : Bool)
-    (follower : NodeName) (query : Query) (floor : ℕ) → stage_of p.at ≡ stage.Master
-    → IsReadUnderWay tells s old.keepers.told old.fleet p → IsOfPlan p follower query floor
-    → IsNotRead s follower query reply old mid → ReadsOn tells s old mid
-    → ChangesNode p.follower (EndsAsk p.ask) mid.fleet.followers end.followers → end ≡ record mid.fleet { followers = end.followers } → GoesOn old.fleet end
-    → q ≡ taken (came.Master (Err reply)) hops store p → hops ≡ hops_between old.link mid.link → store ≡ was_called old.keepers mid.keepers
-    → IsDone tells s leader p old q (scene end mid.keepers mid.link)
-masters_lost tells s leader p q old mid end reply hops store follower query floor at is of lost on ends rest goes took cost called =
-    let new : Scene = scene end mid.keepers mid.link in
-    let master = master_node s (query_shard p.query) in
-    let after : Reading = taken (came.Master (Err reply)) hops store p in
-    let not = of_plan (λ f q n. IsNotRead s f q reply old mid) p follower query floor of lost in
-    let fails = over_there p.follower master reply old mid end not.fails in
-    let does : DoesReadStage tells s leader Mastering p old after new = inr (record {
-      reply = reply;
-      fails = fails;
-      ends = subst (λ fs. ChangesNode p.follower (EndsAsk p.ask) fs end.followers) (ap (λ (f : Fleet). f.followers) not.same) ends;
-      rest = rest ∙ ap (λ (f : Fleet). record f { followers = end.followers }) not.same;
-      then = ap (λ h. taken (came.Master (Err reply)) h store p) cost
-          ∙ ap (λ c. taken (came.Master (Err reply)) (hops_between old.link mid.link) c p) called;
-    }) in
-    let done : IsDone tells s leader p old after new = record {
-      steps = record {
-        does = subst (λ a. DoesReadStage tells s leader a p old after new) (sym (mastering p.at at)) does;
-        legal = legally tells s after new (Ended (ended.Refused reply)) refl (no_out p.follower master reply old new fails);
-        whole = λ least was told critical. tt;
-      };
-      read = goes_so tells s old.keepers.told mid.keepers.told old.fleet end p (came.Master (Err reply)) hops store is on.tables goes tt;
-    } in
-    subst (λ r. IsDone tells s leader p old r new) (sym took) done
-
--- ---- keep
-
-pub keeps_done : (tells : Bool) (s : Settings) (leader : NodeName) (p q : Reading) (old new : Fleet) (keepers : KeeperState) (link : LinkShown)
-    (fill : SealedItem) (answer : Answer) (kept : KeptWhy) (follower : NodeName) (query : Query) (floor : ℕ) (ask : Option ℕ)
-    → fill_of p.at ≡ Some fill → IsReadUnderWay tells s keepers.told old p → AreStoresOf tells s keepers.told old.masters → IsFleetOf s old → IsSealed fill
-    → IsOfPlan p follower query floor → ask ≡ p.ask
-    → ChangesNode follower (KeepsFill (types_of s.schema) query ask fill answer kept) old.followers new.followers
-    → new ≡ record old { followers = new.followers }
-    → IsLegalIn (types_of s.schema) (pens_of new.masters (query_shard query)) query floor answer fill.version → GoesOn old new
-    → q ≡ taken (came.Keep (Ok (Some (answer, kept)))) 0 false (fill_handed p)
-    → IsDone tells s leader p (scene old keepers link) q (scene new keepers link)
-keeps_done tells s leader p q old new keepers link fill answer kept follower query floor ask found is are fleet sealed of same change rest legal goes took =
-    let types = types_of s.schema in
-    let shard = query_shard p.query in
-    let from : Scene = scene old keepers link in
-    let to : Scene = scene new keepers link in
-    let outcome = came.Keep (Ok (Some (answer, kept))) in
-    let after : Reading = taken outcome 0 false p in
-    let at = filled p.at fill found in
-    let given : IsGivenFill types (pens_of old.masters) (wanted_by p) fill = subst (StandsSo types (pens_of old.masters) (wanted_by p)) at is.stands in
-    let next : IsNext p outcome = record { stage = ap stage_of (sym at); answered = ap has_fill at } in
-    let keeps = subst (λ a. ChangesNode p.follower (KeepsFill types p.query a fill answer kept) old.followers new.followers) same
-    (of_plan (λ f q n. ChangesNode f (KeepsFill types q ask fill answer kept) old.followers new.followers) p follower query floor of change) in
-    let right = of_plan (λ f q n. IsLegalIn types (pens_of new.masters (query_shard q)) q n answer fill.version) p follower query floor of legal in
-    let was = subst (λ (f : Fleet). IsLegalIn types (pens_of f.masters shard) p.query p.floor answer fill.version) rest right in
-    let again = where_told (kept_or_not kept ≡ Kept → NodeIs p.follower (Repeats types p.query answer fill.version) new.followers)
-    tells s keepers.told old.masters shard are is.follower.here
-    (λ told held. is_after (Repeats types p.query answer fill.version) (KeepsFill types p.query p.ask fill answer kept) p.follower old.followers new.followers
-    keeps (filled_repeats s old new.followers p.follower (wanted_by p) p.ask fill answer kept fleet keeps given sealed told held)) in
-    let does : DoesReadStage tells s leader (Keeping (Fill fill)) p from after to = inl (record {
-      answer = answer;
-      kept = kept;
-      keeps = keeps;
-      rest = ap (λ f. scene f keepers link) rest;
-      then = refl;
-    }) in
-    let done : IsDone tells s leader p from after to = record {
-      steps = record {
-        does = subst (λ a. DoesReadStage tells s leader a p from after to) (sym at) does;
-        legal = legally tells s after to (Ended (ended.Answered answer fill.version (kept_or_not kept)))
-            (ap (λ a. after_keep p.bound a (Some (answer, kept))) at) (
-              legal_in_log tells s keepers.told old.masters shard types p.query p.floor answer fill.version are is.follower.here was,
-              (λ told held place f floor first there le. again told held place f first there floor le),
-            );
-        whole = λ least was told critical.
-            let now = version_now s p keepers in
-            subst (λ a. HasComeTo least now (after_keep p.bound a (Some (answer, kept)))) (sym at) (subst (HasComeTo least now) at (was told critical));
-      };
-      read = goes_so tells s keepers.told keepers.told old new p outcome 0 false is (λ told store. refl) goes
-          (subst (λ a. StandsSo types (pens_of new.masters) (wanted_by p) (after_keep p.bound a (Some (answer, kept)))) (sym at) tt);
-    } in
-    subst (λ r. IsDone tells s leader p from r to) (sym (took ∙ (answers_are_given p outcome 0 false).fill_out next)) done
-
--- memory was wanting for the answer
-pub keeps_lost : (tells : Bool) (s : Settings) (leader : NodeName) (p q : Reading) (old new : Fleet) (keepers : KeeperState) (link : LinkShown)
-    (fill : SealedItem) (reply : Reply) (follower : NodeName) (ask : Option ℕ)
-    → fill_of p.at ≡ Some fill → IsReadUnderWay tells s keepers.told old p → follower ≡ p.follower → ask ≡ p.ask
-    → ChangesNode follower (EndsAsk ask) old.followers new.followers → new ≡ record old { followers = new.followers } → GoesOn old new
-    → reply ≡ Refused (Memory 0) → q ≡ taken (came.Keep (Err reply)) 0 false (fill_handed p)
-    → IsDone tells s leader p (scene old keepers link) q (scene new keepers link)
-keeps_lost tells s leader p q old new keepers link fill reply follower ask found is same one change rest goes said took =
-    let from : Scene = scene old keepers link in
-    let to : Scene = scene new keepers link in
-    let after : Reading = taken (came.Keep (Err (Refused (Memory 0)))) 0 false p in
-    let at = filled p.at fill found in
-    let ends = subst (λ a. ChangesNode p.follower (EndsAsk a) old.followers new.followers) one
-    (subst (λ f. ChangesNode f (EndsAsk ask) old.followers new.followers) same change) in
-    let does : DoesReadStage tells s leader (Keeping (Fill fill)) p from after to =
-    inr (record { ends = ends; rest = ap (λ f. scene f keepers link) rest; then = refl }) in
-    let done : IsDone tells s leader p from after to = record {
-      steps = record {
-        does = subst (λ a. DoesReadStage tells s leader a p from after to) (sym at) does;
-        legal = legally tells s after to (Ended (ended.Refused (Refused (Memory 0)))) refl (no_refusal (Memory 0));
-        whole = λ least was told critical. tt;
-      };
-      read = goes_so tells s keepers.told keepers.told old new p (came.Keep (Err (Refused (Memory 0)))) 0 false is (λ told store. refl) goes tt;
-    } in
-    subst (λ r. IsDone tells s leader p from r to) (sym (took ∙ ap (λ r. taken (came.Keep (Err r)) 0 false p) said)) done
-
--- an answer past the bound is never kept
-not_past : (bound total : ℕ) (P : Type 0) → past_bound bound total ≡ Kept → P
-not_past bound total P h = absurd (cc)
-
-pub hands_done : (tells : Bool) (s : Settings) (leader : NodeName) (p q : Reading) (old new : Fleet) (keepers : KeeperState) (link : LinkShown)
-    (handed : Reading) → fill_of p.at ≡ None → stage_of p.at ≡ stage.Keep → IsReadUnderWay tells s keepers.told old p
-    → AreStoresOf tells s keepers.told old.masters → handed ≡ fill_handed p
-    → ChangesNode handed.follower (EndsAsk handed.ask) old.followers new.followers → new ≡ record old { followers = new.followers } → GoesOn old new
-    → q ≡ taken (came.Keep (Ok None)) 0 false handed
-    → IsDone tells s leader p (scene old keepers link) q (scene new keepers link)
-hands_done tells s leader p q old new keepers link handed none stage_is is are out_is change rest goes took =
-    let types = types_of s.schema in
-    let shard = query_shard p.query in
-    let from : Scene = scene old keepers link in
-    let to : Scene = scene new keepers link in
-    let outcome = came.Keep (Ok None) in
-    let after : Reading = taken outcome 0 false p in
-    let b : IsPast p.at = past types (pens_of old.masters) (wanted_by p) p.at none stage_is is.stands in
-    let given = subst (StandsSo types (pens_of old.masters) (wanted_by p)) b.is is.stands in
-    let next : IsNext p outcome = record { stage = ap stage_of (sym b.is); answered = ap has_fill b.is } in
-    let ends = subst (λ (r : Reading). ChangesNode r.follower (EndsAsk r.ask) old.followers new.followers) out_is change in
-    let right = legal-grows b.note (pens_of old.masters shard) types p.query p.floor b.answer b.version given.1 given.0 in
-    let does : DoesReadStage tells s leader (Keeping (Past b.answer b.version b.total (Some b.note))) p from after to =
-    record { ends = ends; rest = ap (λ f. scene f keepers link) rest; then = refl } in
-    let done : IsDone tells s leader p from after to = record {
-      steps = record {
-        does = subst (λ a. DoesReadStage tells s leader a p from after to) (sym b.is) does;
-        legal = legally tells s after to (Ended (ended.Answered b.answer b.version (past_bound p.bound b.total))) (ap (λ a. after_keep p.bound a None) b.is) (
-          legal_in_log tells s keepers.told old.masters shard types p.query p.floor b.answer b.version are is.follower.here right,
-          (λ told kept. not_past p.bound b.total _ kept),
-        );
-        whole = λ least was told critical.
-            let now = version_now s p keepers in
-            subst (λ a. HasComeTo least now (after_keep p.bound a None)) (sym b.is) (subst (HasComeTo least now) b.is (was told critical));
-      };
-      read = goes_so tells s keepers.told keepers.told old new p outcome 0 false is (λ told store. refl) goes
-          (subst (λ a. StandsSo types (pens_of new.masters) (wanted_by p) (after_keep p.bound a None)) (sym b.is) tt);
-    } in
-    subst (λ r. IsDone tells s leader p from r to)
-    (sym (took ∙ ap (taken outcome 0 false) out_is ∙ (answers_are_given p outcome 0 false).fill_out next)) done
+  pub masters_lost : (follower : NodeName) (query : Query) (floor : ℕ) → stage_of p.at ≡ stage.Master → IsOfPlan p follower query floor
+      → IsNotRead s follower query reply old mid → q ≡ lost (came.Master (Err reply)) → PassesReadStage (led_by tells s leader) p old q new
+  masters_lost follower query floor at of vain took =
+      let master = master_node s (query_shard p.query) in
+      let not = of_plan (λ f q n. IsNotRead s f q reply old mid) p follower query floor of vain in
+      let fails = over_there p.follower master reply old mid end not.fails in
+      lost_over (came.Master (Err reply)) master Mastering (mastering p.at at) refl fails took (inr (record {
+        reply = reply;
+        fails = fails;
+        ends = subst (λ fs. ChangesNode p.follower (EndsAsk p.ask) fs end.followers) (ap (λ (f : Fleet). f.followers) not.same) ends.ends;
+        rest = ends.rest ∙ ap (λ (f : Fleet). record f { followers = end.followers }) not.same;
+        then = refl;
+      }))

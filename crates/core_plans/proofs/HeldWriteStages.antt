@@ -4,10 +4,10 @@ use Rattle.std.proofs.lemmas.Option.{IfSome_then}
 use Rattle.std.specs.Prelude.{⊤, Err, IfErr, IfOk, IfSome, IsSome, Ok, OnOk, Result, option_and_then, unwrap_or}
 use Rattle.core_model.specs.Fleet.{Fleet}
 use Rattle.core_model.specs.Jobs.{CanBeMerged, IsMergedJob, ShardJob, job_on}
-use Rattle.core_steps.specs.OtherEnds.{EndsOver, StandsThere, known_of}
+use Rattle.core_steps.specs.OtherEnds.{EndsOver, MergesOver, StandsThere, job_way, known_of}
 use Rattle.core_steps.specs.Posting.{Posting}
 use Rattle.core_steps.specs.Routes.{hops_between}
-use Rattle.core_steps.specs.Writes.{CanBeApplied, ClientWrite, IsCommitted, RefusesCommit, client_call}
+use Rattle.core_steps.specs.Writes.{AuthoredWrite, CanBeApplied, IsCommitted, RefusesCommit, client_call, sent_write}
 use Rattle.core_steps.specs.declared.routes.Route.{Route}
 use Rattle.graph_model.specs.Told.{WhereTold}
 use Rattle.node_name.specs.declared.NodeName.{NodeName}
@@ -25,7 +25,7 @@ use Rattle.tao_link.specs.Shown.{LinkShown}
 use Rattle.tao_schema.specs.Schema.{types_of}
 use Rattle.topology.specs.Config.{Settings}
 use Rattle.write_plan.specs.Committing.{has_inverse, told_kind}
-use Rattle.write_plan.specs.Plans.{Plan, after_stage, answered_job, back_stage, job_stage, next_of, next_stage as stage_by, written_there}
+use Rattle.write_plan.specs.Plans.{Writing, after_stage, answered_job, back_stage, job_stage, next_of, stage_from as stage_by, written_there}
 use Rattle.write_plan.specs.declared.committed.Committed.{Committed}
 use Rattle.write_plan.specs.declared.progress.OtherEnd.{OtherEnd}
 use Rattle.write_plan.specs.declared.progress.OtherEnd.TheVariants.{Due, Merged, Ended, Open}
@@ -37,7 +37,9 @@ use Rattle.write_plan.specs.declared.results.WriteResult.{WriteResult}
 use Rattle.write_plan.specs.declared.results.WriteResult.TheVariants as came
 use Rattle.write_plan.specs.declared.stage.WriteStage.{WriteStage}
 use Rattle.write_plan.specs.declared.stage.WriteStage.TheVariants.{Commit, Inverse, End, Relay, Apply, Done}
-use Rattle.core_plans.specs.HeldWrites.{DoesWriteStage, IsAnswerTo, IsTakenAs, IsWriteUnderWay, call_by, job_by, way_by}
+use Rattle.core_plans.specs.HeldWrites.{DoesWriteStage, IsAnswerTo, IsTakenAs, IsWriteUnderWay, PassesWriteStage, PostsOn, call_of_plan, job_by, way_by}
+use Rattle.core_plans.specs.LedBy.{led_by}
+use Rattle.core_plans.proofs.WritesGoOn.{write_later}
 
 -- ---- where a write stands
 
@@ -97,7 +99,7 @@ none_answered None None job back is = refl
 none_answered None (Some c) job back is = absurd (not_commit job (stage_of_job c.wrote.job c.passed job back Commit refl is).1)
 
 -- before its commit nothing was answered
-pub before_commit : (p : Plan) → next_of p ≡ Commit → p.committed ≡ None
+before_commit : (p : Writing) → next_of p ≡ Commit → p.committed ≡ None
 before_commit p is = none_answered p.refused p.committed p.job p.back is
 
 job_ahead : (refused : Option Reply) (committed : Option Committed) (job : OtherEnd) (back : WayBack) (at : WriteStage) → is_back at ≡ false
@@ -107,20 +109,20 @@ job_ahead None None job back at never not is = absurd (not is)
 job_ahead None (Some c) job back at never not is = stage_of_job c.wrote.job c.passed job back at never is
 
 -- at the stage `inverse` its job is due
-pub at_inverse : (p : Plan) → next_of p ≡ Inverse → IsSome (answered_job p) × (p.job ≡ Due)
+pub at_inverse : (p : Writing) → next_of p ≡ Inverse → IsSome (answered_job p) × (p.job ≡ Due)
 at_inverse p is =
     let at = job_ahead p.refused p.committed p.job p.back Inverse refl (λ same. absurd (cc)) is in
     (at.0, is_due p.job at.1)
 
 -- and at the stage `end` it is merged
-pub at_end : (p : Plan) → next_of p ≡ End → IsSome (answered_job p) × (p.job ≡ Merged)
+pub at_end : (p : Writing) → next_of p ≡ End → IsSome (answered_job p) × (p.job ≡ Merged)
 at_end p is =
     let at = job_ahead p.refused p.committed p.job p.back End refl (λ same. absurd (cc)) is in
     (at.0, is_merged p.job at.1)
 
 -- ---- it can go on
 
-answered_none : (p : Plan) (job : Job) → answered_job p ≡ Some job → p.committed ≡ None → ⊥
+answered_none : (p : Writing) (job : Job) → answered_job p ≡ Some job → p.committed ≡ None → ⊥
 answered_none p job is none =
     let gone : None ≡ Some job = ap (option_and_then (λ c. c.wrote.job)) (sym none) ∙ is in
     absurd (cc)
@@ -158,13 +160,13 @@ end_writes_none tells s j (Err (Scheduled why (Some w))) old new is = absurd (no
 end_writes_none tells s j (Err (Refused reply)) old new is = refl
 
 -- so it does, with what it took
-pub taken_on : (tells : Bool) (s : Settings) (tables : Tables) (f : Fleet) (p q : Plan) (result : WriteResult) (hops : ℕ) → q ≡ after_stage p result hops
+pub taken_on : (tells : Bool) (s : Settings) (tables : Tables) (f : Fleet) (p q : Writing) (result : WriteResult) (hops : ℕ) → q ≡ after_stage p result hops
     → IsWriteUnderWay tells s tables f (after_stage p result hops) → IsWriteUnderWay tells s tables f q
 taken_on tells s tables f p q result hops then = subst (IsWriteUnderWay tells s tables f) (sym then)
 
-module _ (tells : Bool) (s : Settings) (tables : Tables) (f : Fleet) (p : Plan) (is : IsWriteUnderWay tells s tables f p) where
+module _ (tells : Bool) (s : Settings) (tables : Tables) (f : Fleet) (p : Writing) (is : IsWriteUnderWay tells s tables f p) where
   -- what its commit answered stays that
-  answer_stays : (q : Plan) → q.write ≡ p.write → q.origin ≡ p.origin → (c : Committed) → IsAnswerTo s f.masters p c → IsAnswerTo s f.masters q c
+  answer_stays : (q : Writing) → q.write ≡ p.write → q.origin ≡ p.origin → (c : Committed) → IsAnswerTo s f.masters p c → IsAnswerTo s f.masters q c
   answer_stays q write origin c answer = record {
     apply = subst (λ w. CanBeApplied (client_call q.origin w) c.wrote f.masters) (sym write)
         (subst (λ o. CanBeApplied (client_call o p.write) c.wrote f.masters) (sym origin) answer.apply);
@@ -226,7 +228,7 @@ module _ (tells : Bool) (s : Settings) (tables : Tables) (f : Fleet) (p : Plan) 
         (more_there s f.masters job p.other more (subst (λ o. IfSome o (λ j. StandsThere s j p.other f.masters)) at is.other) now)
 
     -- its job was merged, or not
-    pub merged_still : (result : Result Wrote Late) (hops : ℕ) → WhereTold tells (OnOk result (IsMergedJob s tables (job_by p job)))
+    merged_still : (result : Result Wrote Late) (hops : ℕ) → WhereTold tells (OnOk result (IsMergedJob s tables (job_by p job)))
         → StandsThere s job (known_of result) f.masters → IsWriteUnderWay tells s tables f (after_stage p (came.Inverse result) hops)
     merged_still (Ok wrote) hops merged stands =
         moves Merged (written_there p.other (Some wrote)) p.back p.refused _ (not_begun Merged (written_there p.other (Some wrote)))
@@ -248,19 +250,32 @@ module _ (tells : Bool) (s : Settings) (tables : Tables) (f : Fleet) (p : Plan) 
 -- ---- commit
 
 -- what a plan says of itself
-pub of_write : (leader : NodeName) (p : Plan) (follower : NodeName) (origin : Origin) (write : Write) (P : Route → ClientWrite → Type 0)
-    → follower ≡ p.follower → origin ≡ p.origin → write ≡ p.write → P (record { follower = follower; leader = leader }) (client_call origin write)
-    → P (way_by leader p) (call_by p)
-of_write leader p follower origin write P follower_is origin_is write_is h =
-    subst (λ f. P (record { follower = f; leader = leader }) (call_by p)) follower_is
-    (subst (λ o. P (record { follower = follower; leader = leader }) (client_call o p.write)) origin_is
-    (subst (λ w. P (record { follower = follower; leader = leader }) (client_call origin w)) write_is h))
+pub record IsOfWriting (p : Writing) (follower : NodeName) (origin : Origin) (write : Write) : Type 0 where
+  pub follower_is : follower ≡ p.follower
+  pub origin_is : origin ≡ p.origin
+  pub write_is : write ≡ p.write
+
+of_write : (leader : NodeName) (p : Writing) (follower : NodeName) (origin : Origin) (write : Write) (P : Route → AuthoredWrite → Type 0)
+    → IsOfWriting p follower origin write → P (record { follower = follower; leader = leader }) (client_call origin write)
+    → P (way_by leader p) (call_of_plan p)
+of_write leader p follower origin write P of h =
+    subst (λ f. P (record { follower = f; leader = leader }) (call_of_plan p)) of.follower_is
+    (subst (λ o. P (record { follower = follower; leader = leader }) (client_call o p.write)) of.origin_is
+    (subst (λ w. P (record { follower = follower; leader = leader }) (client_call origin w)) of.write_is h))
+
+-- what a commit came to: its follower may take it, its job may be merged, or it was refused
+pub record ComesOfCommit (tells : Bool) (s : Settings) (route : Route) (call : AuthoredWrite) (wrote : Result Wrote Reply) (old new : Posting)
+    : Type 0 where
+  pub committed : IfOk wrote (λ w. IsCommitted tells s (sent_write route call) w old new)
+  pub apply : IfOk wrote (λ w. CanBeApplied call w new.scene.fleet.masters)
+  pub job : IfOk wrote (λ w. IfSome w.job (λ j. CanBeMerged tells s new.scene.keepers.told (job_on (write_shard call.write) j)))
+  pub refused : IfErr wrote (λ reply. RefusesCommit tells s (sent_write route call) reply old new)
 
 -- what the leader answered, its follower may take
-answer_of : (s : Settings) (masters : List Store) (p : Plan) (wrote : Result Wrote Reply) (outcome : Result Committed Reply)
-    → IsTakenAs s p.write wrote outcome → IfOk wrote (λ w. CanBeApplied (call_by p) w masters) → IfOk outcome (IsAnswerTo s masters p)
+answer_of : (s : Settings) (masters : List Store) (p : Writing) (wrote : Result Wrote Reply) (outcome : Result Committed Reply)
+    → IsTakenAs s p.write wrote outcome → IfOk wrote (λ w. CanBeApplied (call_of_plan p) w masters) → IfOk outcome (IsAnswerTo s masters p)
 answer_of s masters p (Ok w) (Ok c) taken apply = record {
-  apply = subst (λ x. CanBeApplied (call_by p) x masters) (sym taken.0) apply;
+  apply = subst (λ x. CanBeApplied (call_of_plan p) x masters) (sym taken.0) apply;
   kind = subst (λ (x : Wrote). told_kind p.write x.entry ≡ Some c.kind) (sym taken.0) taken.1;
   passed = taken.2;
   paired = taken.3;
@@ -277,41 +292,31 @@ job_of_answer s write P (Ok w) (Err reply) taken job = tt
 job_of_answer s write P (Err refusal) (Ok c) taken job = absurd taken
 job_of_answer s write P (Err refusal) (Err reply) taken job = tt
 
-pub commits_done : (tells : Bool) (s : Settings) (leader : NodeName) (p q : Plan) (old new : Posting) (wrote : Result Wrote Reply)
-    (outcome : Result Committed Reply) → IsTakenAs s p.write wrote outcome → IfOk wrote (λ w. CanBeApplied (call_by p) w new.scene.fleet.masters)
-    → IfOk wrote (λ w. IsCommitted tells s (way_by leader p) (call_by p) w old new)
-    → IfErr wrote (λ reply. RefusesCommit tells s (way_by leader p) (call_by p) reply old new)
-    → q ≡ after_stage p (came.Commit outcome) (hops_between old.scene.link new.scene.link) → DoesWriteStage tells s leader Commit p old q new
-commits_done tells s leader p q old new (Ok w) (Ok c) taken apply commits refuses then = inl (record {
+commits_done : (tells : Bool) (s : Settings) (leader : NodeName) (p q : Writing) (old new : Posting) (wrote : Result Wrote Reply)
+    (outcome : Result Committed Reply) → IsTakenAs s p.write wrote outcome → ComesOfCommit tells s (way_by leader p) (call_of_plan p) wrote old new
+    → q ≡ after_stage p (came.Commit outcome) (hops_between old.scene.link new.scene.link) → DoesWriteStage (led_by tells s leader) Commit p old q new
+commits_done tells s leader p q old new (Ok w) (Ok c) taken comes then = inl (record {
   committed = c;
-  commits = subst (λ x. IsCommitted tells s (way_by leader p) (call_by p) x old new) (sym taken.0) commits;
-  answer = answer_of s new.scene.fleet.masters p (Ok w) (Ok c) taken apply;
+  commits = subst (λ x. IsCommitted tells s (sent_write (way_by leader p) (call_of_plan p)) x old new) (sym taken.0) comes.committed;
+  answer = answer_of s new.scene.fleet.masters p (Ok w) (Ok c) taken comes.apply;
   then = then;
 })
-commits_done tells s leader p q old new (Err refusal) (Err reply) taken apply commits refuses then = inr (record {
+commits_done tells s leader p q old new (Err refusal) (Err reply) taken comes then = inr (record {
   reply = reply;
-  refuses = subst (λ r. RefusesCommit tells s (way_by leader p) (call_by p) r old new) (sym taken) refuses;
+  refuses = subst (λ r. RefusesCommit tells s (sent_write (way_by leader p) (call_of_plan p)) r old new) (sym taken) comes.refused;
   then = then;
 })
-commits_done tells s leader p q old new (Ok w) (Err reply) taken apply commits refuses then = absurd taken
-commits_done tells s leader p q old new (Err refusal) (Ok c) taken apply commits refuses then = absurd taken
-
-pub committed_on : (tells : Bool) (s : Settings) (tables : Tables) (f : Fleet) (p : Plan) (wrote : Result Wrote Reply) (outcome : Result Committed Reply)
-    (hops : ℕ) → IsWriteUnderWay tells s tables f p → next_of p ≡ Commit → IsTakenAs s p.write wrote outcome
-    → IfOk wrote (λ w. CanBeApplied (call_by p) w f.masters) → IfOk wrote (λ w. IfSome w.job (λ j. CanBeMerged tells s tables (job_by p j)))
-    → IsWriteUnderWay tells s tables f (after_stage p (came.Commit outcome) hops)
-committed_on tells s tables f p wrote outcome hops is at taken apply job =
-    committed_still tells s tables f p is outcome hops (before_commit p at) (answer_of s f.masters p wrote outcome taken apply)
-    (job_of_answer s p.write (λ j. CanBeMerged tells s tables (job_by p j)) wrote outcome taken job)
+commits_done tells s leader p q old new (Ok w) (Err reply) taken comes then = absurd taken
+commits_done tells s leader p q old new (Err refusal) (Ok c) taken comes then = absurd taken
 
 -- ---- its job
 
-pub no_job : (p : Plan) → IsSome (answered_job p) → answered_job p ≡ None → ⊥
+pub no_job : (p : Writing) → IsSome (answered_job p) → answered_job p ≡ None → ⊥
 no_job p some none =
     let gone : IsSome {T = Job} None = subst IsSome none some in
     absurd (cc)
 
-module _ (P : ShardJob → Type 0) (p : Plan) (job : Job) (shard : ℕ) (shard_is : shard ≡ write_shard p.write) where
+module _ (P : ShardJob → Type 0) (p : Writing) (job : Job) (shard : ℕ) (shard_is : shard ≡ write_shard p.write) where
   pub of_job : answered_job p ≡ Some job → IfSome (answered_job p) (λ j. P (job_by p j)) → P (job_on shard job)
   of_job at is = subst (λ n. P (job_on n job)) (sym shard_is) (subst (λ o. IfSome o (λ j. P (job_by p j))) at is)
 
@@ -322,8 +327,57 @@ module _ (P : ShardJob → Type 0) (p : Plan) (job : Job) (shard : ℕ) (shard_i
 abbrev pub no_carries : LinkShown
 no_carries = record { cuts = None; carries = 0; faults = 0; failed = None }
 
-pub ended_on : (tells : Bool) (s : Settings) (tables : Tables) (f : Fleet) (p : Plan) (job : Job) (result : Result ⊤ Late) (old new : Posting)
+pub ended_on : (tells : Bool) (s : Settings) (tables : Tables) (f : Fleet) (p : Writing) (job : Job) (result : Result ⊤ Late) (old new : Posting)
     → IsWriteUnderWay tells s tables f p → answered_job p ≡ Some job → EndsOver tells s (job_by p job) result old new
     → IsWriteUnderWay tells s tables f (after_stage p (came.End result) 0)
 ended_on tells s tables f p job result old new is at ends =
     ended_still tells s tables f p is job at result 0 (end_writes_none tells s (job_by p job) result old new ends)
+
+-- ---- a stage was done
+
+module _ (tells : Bool) (s : Settings) (leader : NodeName) (p q : Writing) (old new : Posting)
+    (is : IsWriteUnderWay tells s old.scene.keepers.told old.scene.fleet p) (on : PostsOn tells s old new) where
+  abbrev hops : ℕ
+  hops = hops_between old.scene.link new.scene.link
+
+  later : IsWriteUnderWay tells s new.scene.keepers.told new.scene.fleet p
+  later = write_later tells s old.scene.keepers.told new.scene.keepers.told old.scene.fleet new.scene.fleet p on.consistent on.goes on.grows is
+
+  passes : (at : WriteStage) (result : WriteResult) → q ≡ after_stage p result hops → DoesWriteStage (led_by tells s leader) at p old q new
+      → IsWriteUnderWay tells s new.scene.keepers.told new.scene.fleet (after_stage p result hops)
+      → PassesWriteStage (led_by tells s leader) at p old q new
+  passes at result then does still =
+      record { does = does; write = taken_on tells s new.scene.keepers.told new.scene.fleet p q result hops then still; on = on }
+
+  pub commits_pass : (follower : NodeName) (origin : Origin) (write : Write) (wrote : Result Wrote Reply) (outcome : Result Committed Reply) (took : ℕ)
+      → next_of p ≡ Commit → IsOfWriting p follower origin write
+      → ComesOfCommit tells s (record { follower = follower; leader = leader }) (client_call origin write) wrote old new
+      → IsTakenAs s p.write wrote outcome → took ≡ hops → q ≡ after_stage p (came.Commit outcome) took
+      → PassesWriteStage (led_by tells s leader) Commit p old q new
+  commits_pass follower origin write wrote outcome took at of comes_so taken took_is took_so =
+      let tables = new.scene.keepers.told in
+      let then = took_so ∙ ap (after_stage p (came.Commit outcome)) took_is in
+      let comes = of_write leader p follower origin write (λ way call. ComesOfCommit tells s way call wrote old new) of comes_so in
+      passes Commit (came.Commit outcome) then (commits_done tells s leader p q old new wrote outcome taken comes then)
+      (committed_still tells s tables new.scene.fleet p later outcome hops (before_commit p at)
+      (answer_of s new.scene.fleet.masters p wrote outcome taken comes.apply)
+      (job_of_answer s p.write (λ j. CanBeMerged tells s tables (job_by p j)) wrote outcome taken comes.job))
+
+  pub merges_pass : (job : Job) (shard : ℕ) (result : Result Wrote Late) (took : ℕ) → answered_job p ≡ Some job → shard ≡ write_shard p.write
+      → MergesOver tells s (job_way leader (job_on shard job)) result old new
+      → WhereTold tells (OnOk result (IsMergedJob s new.scene.keepers.told (job_on shard job)))
+      → StandsThere s job (known_of result) new.scene.fleet.masters
+      → took ≡ hops → q ≡ after_stage p (came.Inverse result) took → PassesWriteStage (led_by tells s leader) Inverse p old q new
+  merges_pass job shard result took answered shard_is merges merged stands took_is took_so =
+      let tables = new.scene.keepers.told in
+      let then = took_so ∙ ap (after_stage p (came.Inverse result)) took_is in
+      passes Inverse (came.Inverse result) then
+      (record {
+        job = job;
+        answered = answered;
+        result = result;
+        merges = to_job (λ j. MergesOver tells s (job_way leader j) result old new) p job shard shard_is merges;
+        then = then;
+      })
+      (merged_still tells s tables new.scene.fleet p later job answered result hops
+      (to_job (λ j. WhereTold tells (OnOk result (IsMergedJob s tables j))) p job shard shard_is merged) stands)

@@ -11,7 +11,6 @@ use Rattle.core_steps.proofs.WholeReads.{GivesLast, given_last, hit_last}
 use Rattle.node_name.specs.declared.NodeName.{NodeName}
 use Rattle.read_plan.specs.Readings.{Reading}
 use Rattle.read_plan.specs.Standings.{after_ask, after_keep, after_look}
-use Rattle.read_plan.specs.declared.end.ReadEnd.TheVariants as ended
 use Rattle.read_plan.specs.declared.standing.Given.{Given}
 use Rattle.read_plan.specs.declared.standing.Given.TheVariants.{Fill, HandedOut, Past}
 use Rattle.read_plan.specs.declared.standing.Standing.{Standing}
@@ -23,8 +22,9 @@ use Rattle.tao_keeper.specs.Growing.{LogsGrow}
 use Rattle.tao_schema.specs.Schema.{types_of}
 use Rattle.topology.specs.Config.{Settings}
 use Rattle.core_plans.specs.HeldLaws.{StagesMissNothing}
-use Rattle.core_plans.specs.HeldReads.{DoesLook, DoesReadStage, HasComeTo, KeepsGiven, version_now, wanted_by}
+use Rattle.core_plans.specs.HeldReads.{DoesLook, DoesReadStage, HasComeTo, DoesKeep, version_now, wanted_by}
 use Rattle.core_plans.proofs.Missing.{store_comes, version_later}
+use Rattle.core_plans.specs.LedBy.{led_by}
 
 given_comes : (floor last least now : ℕ) (given : LeaderAnswer) → GivesLast floor last given → least ≤ last → last ≤ now
     → HasComeTo least now (after_ask given)
@@ -69,7 +69,7 @@ module _ (s : Settings) (leader : NodeName) (p q : Reading) (old new : Scene) (a
 
   -- ---- keep
 
-  keeps_come : (given : Given) → p.at ≡ Keeping given → KeepsGiven s p given old q new → HasComeTo least last (Keeping given) → Comes q
+  keeps_come : (given : Given) → p.at ≡ Keeping given → DoesKeep s p given old q new → HasComeTo least last (Keeping given) → Comes q
   keeps_come (Fill fill) at does come = elim does [
     | inl answers ↦
         subst Comes (sym answers.then) (subst (λ a. HasComeTo least now (after_keep p.bound a (Some (answers.answer, answers.kept)))) (sym at) come)
@@ -81,7 +81,7 @@ module _ (s : Settings) (leader : NodeName) (p q : Reading) (old new : Scene) (a
 
   -- ---- each stage
 
-  stage_comes : (at : Standing) → p.at ≡ at → DoesReadStage true s leader at p old q new → HasComeTo least last at → Comes q
+  stage_comes : (at : Standing) → p.at ≡ at → DoesReadStage (led_by true s leader) at p old q new → HasComeTo least last at → Comes q
   stage_comes Looking at does come = looks_come p.critical refl does come
   stage_comes Asking at does come = elim does [
     | inl asks ↦

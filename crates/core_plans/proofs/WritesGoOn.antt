@@ -11,7 +11,7 @@ use Rattle.core_model.specs.Pens.{Rise, pens_of}
 use Rattle.core_model.specs.Stores.{AreKeptIn}
 use Rattle.core_model.specs.Writes.{IsSeenEntry}
 use Rattle.core_steps.specs.OtherEnds.{StandsThere}
-use Rattle.core_steps.specs.Writes.{CanBeApplied, ClientWrite}
+use Rattle.core_steps.specs.Writes.{CanBeApplied, AuthoredWrite}
 use Rattle.graph_model.specs.Told.{WhereTold}
 use Rattle.shard_log.proofs.GrowthLemmas.{grows-trans}
 use Rattle.shard_log.specs.View.{View}
@@ -23,10 +23,10 @@ use Rattle.tao_keeper.specs.Growing.{LogsGrow}
 use Rattle.tao_keeper.specs.Table.{Tables}
 use Rattle.tao_keeper.specs.declared.jobs.Job.{Job}
 use Rattle.topology.specs.Config.{Settings}
-use Rattle.write_plan.specs.Plans.{Plan, answered_job}
+use Rattle.write_plan.specs.Plans.{Writing, answered_job}
 use Rattle.write_plan.specs.declared.committed.Committed.{Committed}
 use Rattle.core_plans.specs.Held.{IsUnderWay}
-use Rattle.core_plans.specs.HeldWrites.{IsAnswerTo, IsWriteUnderWay, call_by, job_by}
+use Rattle.core_plans.specs.HeldWrites.{IsAnswerTo, IsWriteUnderWay, call_of_plan, job_by}
 use Rattle.core_plans.specs.declared.held.HeldPlan.{HeldPlan}
 use Rattle.core_plans.specs.declared.held.HeldPlan.TheVariants.{Read, Write}
 use Rattle.core_plans.proofs.Standing.{under_way_later}
@@ -38,7 +38,7 @@ module _ (old new : List Store) (rise : Rise (pens_of old) (pens_of new)) where
   seen_later shard note e is =
       record { seen = grows-trans note (pens_of old shard) (pens_of new shard) is.seen (rise shard); stands = is.stands }
 
-  applied_later : (call : ClientWrite) (wrote : Wrote) → CanBeApplied call wrote old → CanBeApplied call wrote new
+  applied_later : (call : AuthoredWrite) (wrote : Wrote) → CanBeApplied call wrote old → CanBeApplied call wrote new
   applied_later call wrote can = record {
     fits = can.fits;
     has = can.has;
@@ -46,9 +46,9 @@ module _ (old new : List Store) (rise : Rise (pens_of old) (pens_of new)) where
     here = can.here;
   }
 
-  answer_later : (s : Settings) (p : Plan) (c : Committed) → IsAnswerTo s old p c → IsAnswerTo s new p c
+  answer_later : (s : Settings) (p : Writing) (c : Committed) → IsAnswerTo s old p c → IsAnswerTo s new p c
   answer_later s p c is = record {
-    apply = applied_later (call_by p) c.wrote is.apply;
+    apply = applied_later (call_of_plan p) c.wrote is.apply;
     kind = is.kind;
     passed = is.passed;
     paired = is.paired;
@@ -73,7 +73,7 @@ module _ (tells : Bool) (s : Settings) (tables later : Tables) (grows : LogsGrow
   merged_later kept j was told = (jobs_stay_owed s).merged tables later j (kept told) (told_grows told) (was told)
 
 -- it can go on
-pub write_later : (tells : Bool) (s : Settings) (tables later : Tables) (f g : Fleet) (p : Plan) → IsConsistent tells s later g → GoesOn f g
+pub write_later : (tells : Bool) (s : Settings) (tables later : Tables) (f g : Fleet) (p : Writing) → IsConsistent tells s later g → GoesOn f g
     → MastersGrow tells s tables later → IsWriteUnderWay tells s tables f p → IsWriteUnderWay tells s later g p
 write_later tells s tables later f g p consistent goes grows is = record {
   follower = is.follower;
@@ -89,7 +89,7 @@ write_later tells s tables later f g p consistent goes grows is = record {
 }
 
 -- also where no log of a master changed
-pub same_masters : (tells : Bool) (s : Settings) (tables : Tables) (f g : Fleet) (p : Plan) → g.masters ≡ f.masters
+pub same_masters : (tells : Bool) (s : Settings) (tables : Tables) (f g : Fleet) (p : Writing) → g.masters ≡ f.masters
     → IsWriteUnderWay tells s tables f p → IsWriteUnderWay tells s tables g p
 same_masters tells s tables f g p same is = record {
   follower = is.follower;

@@ -2,14 +2,13 @@
 use Rattle.std.specs.Prelude.{ℕ, ◌≡◌, ◌+◌, ◌==◌, ⊤, Bool, true, IsSome, List, Option, Some, None, length, slice_get, if◌then◌else◌, option_and_then}
 use Rattle.std.specs.BTreeMap.{is_at}
 use Rattle.std.specs.Map.{lookup}
-use Rattle.std.specs.Option.{option_map}
 use Rattle.std.specs.Ordering.{nat_cmp}
 use Rattle.ask_table.specs.Asks.{Asks}
 use Rattle.std.specs.List.{list_any}
 use Rattle.core_model.specs.Fleet.{Fleet, named}
 use Rattle.core_model.specs.Serving.{IsLeaderFor}
 use Rattle.core_model.specs.declared.named.Named.{Named}
-use Rattle.core_steps.specs.OtherEnds.{told_there}
+use Rattle.core_steps.specs.OtherEnds.{told_entry, told_there}
 use Rattle.core_steps.specs.Posting.{Posting}
 use Rattle.core_steps.specs.declared.jobs.ToldEntry.{ToldEntry}
 use Rattle.follower_cache.specs.Seen.{FollowerState}
@@ -22,7 +21,6 @@ use Rattle.read_plan.specs.declared.standing.Standing.TheVariants.{Looking, Aski
 use Rattle.replies.specs.declared.plans.Stage.{Stage}
 use Rattle.replies.specs.declared.reply.Reply.{Reply}
 use Rattle.replies.specs.declared.reply.Reply.TheVariants.{Called}
-use Rattle.shard_tables.specs.declared.writes.Wrote.{Wrote}
 use Rattle.tao_base.specs.Queries.{query_shard}
 use Rattle.tao_base.specs.Writes.{write_shard}
 use Rattle.tao_base.specs.declared.entry.Origin.{Origin}
@@ -30,7 +28,7 @@ use Rattle.tao_base.specs.declared.entry.Origin.TheVariants.{Client, Merge}
 use Rattle.tao_keeper.specs.KeeperState.{KeepsTables}
 use Rattle.tao_keeper.specs.Table.{Tables}
 use Rattle.topology.specs.Config.{Settings}
-use Rattle.write_plan.specs.Plans.{Plan, answered_job, next_of, reply_of}
+use Rattle.write_plan.specs.Plans.{Writing, answered_job, next_of, reply_of}
 use Rattle.write_plan.specs.Stages.{told_stage}
 use Rattle.write_plan.specs.declared.stage.WriteStage.{WriteStage}
 use Rattle.write_plan.specs.declared.progress.WayBack.{WayBack}
@@ -42,6 +40,7 @@ use Rattle.core_plans.specs.declared.held.HeldPlan.{HeldPlan}
 use Rattle.core_plans.specs.declared.held.HeldPlan.TheVariants.{Read, Write}
 use Rattle.core_plans.specs.declared.held.ToldEntries.{ToldEntries}
 use Rattle.core_plans.specs.declared.plans.HeldPlans.TheInside.{Inside}
+use Rattle.core_plans.specs.LedBy.{LedBy}
 
 -- ---- one plan
 
@@ -61,16 +60,12 @@ IsUnderWay tells s tables f (Write p) = IsWriteUnderWay tells s tables f p
 
 -- ---- what a session learns of it
 
--- the entry that was written on a shard, or that stood there, with what was seen of its log
-abbrev pub told_entry : ℕ → Wrote → Option ToldEntry
-told_entry shard wrote = option_map (λ e. record { shard = shard; entry = e; note = wrote.note }) wrote.entry
-
--- that of a write
-abbrev pub told_here : Plan → Option ToldEntry
+-- the entry that was written on its shard, or that stood there
+abbrev pub told_here : Writing → Option ToldEntry
 told_here p = option_and_then (λ c. told_entry (write_shard p.write) c.wrote) p.committed
 
 -- a session is told of it, and of the entry that was written at the other end
-abbrev pub told_of_write : Plan → ToldEntries
+abbrev pub told_of_write : Writing → ToldEntries
 told_of_write p = record { here = told_here p; other = told_there (answered_job p) p.other }
 
 abbrev pub nothing_told : ToldEntries
@@ -150,25 +145,24 @@ CanStep tells s tables f leader None = ⊥
 CanStep tells s tables f leader (Some plan) = IsThere tells s tables f leader plan
 
 -- a read's stage changes no table and no message
-pub record StepsReadAlone (tells : Bool) (s : Settings) (leader : NodeName) (p : Reading) (old : Posting) (q : Reading) (new : Posting) : Type 0 where
-  pub steps : StepsRead tells s leader p old.scene q new.scene
-  pub tables : KeepsTables tells old.scene.keepers new.scene.keepers
+pub record StepsReadAlone (led : LedBy) (p : Reading) (old : Posting) (q : Reading) (new : Posting) : Type 0 where
+  pub steps : StepsRead led p old.scene q new.scene
+  pub tables : KeepsTables led.tells old.scene.keepers new.scene.keepers
   pub inboxes : new.inboxes ≡ old.inboxes
 
 -- one stage of a plan, the one that follows
-abbrev pub StepsHeld : Bool → Settings → NodeName → HeldPlan → Posting → HeldPlan → Posting → Type 0
-StepsHeld tells s leader (Read p) old (Read q) new = StepsReadAlone tells s leader p old q new
-StepsHeld tells s leader (Write p) old (Write q) new = DoesWriteStage tells s leader (next_of p) p old q new
-StepsHeld tells s leader (Read p) old (Write q) new = ⊥
-StepsHeld tells s leader (Write p) old (Read q) new = ⊥
+abbrev pub StepsHeld : LedBy → HeldPlan → Posting → HeldPlan → Posting → Type 0
+StepsHeld led (Read p) old (Read q) new = StepsReadAlone led p old q new
+StepsHeld led (Write p) old (Write q) new = DoesWriteStage led (next_of p) p old q new
+StepsHeld led (Read p) old (Write q) new = ⊥
+StepsHeld led (Write p) old (Read q) new = ⊥
 
 -- the plan of that number does one stage, and no other
-pub record StepsPlan (tells : Bool) (s : Settings) (leader : NodeName) (number : ℕ)
-    (plans : Plans) (old : Posting) (later : Plans) (new : Posting) : Type 0 where
+pub record StepsPlan (led : LedBy) (number : ℕ) (plans : Plans) (old : Posting) (later : Plans) (new : Posting) : Type 0 where
   pub before : HeldPlan
   pub after : HeldPlan
   pub stands : plan_at plans number ≡ Some before
-  pub steps : StepsHeld tells s leader before old after new
+  pub steps : StepsHeld led before old after new
   pub changes : ChangesPlan number after plans later
 
 -- ---- asks

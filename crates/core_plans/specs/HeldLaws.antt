@@ -6,18 +6,19 @@ use Rattle.core_model.specs.Consistent.{IsConsistent}
 use Rattle.core_model.specs.Evictions.{Evicts}
 use Rattle.core_model.specs.Fleet.{ChangesNode}
 use Rattle.core_model.specs.Messages.{DeliversThere, TakesRefill}
-use Rattle.core_model.specs.Reads.{EndsAsk, KeepsFill, LooksFirst, Wanted}
+use Rattle.core_model.specs.Reads.{EndsAsk, KeepsFill, LooksFirst, Wanted, taken_fill}
 use Rattle.core_model.specs.Writes.{AppliesTo}
 use Rattle.core_model.specs.declared.named.Named.{Named}
 use Rattle.core_nodes.specs.Beginning.{AreAtEnds}
 use Rattle.core_plans.specs.Held.{AsksAreHeld, OpensNone, Plans}
 use Rattle.core_plans.specs.HeldReads.{HasComeTo, MissesNone, StepsRead, version_now}
 use Rattle.core_plans.specs.HeldWrites.{DoesWriteStage}
+use Rattle.core_plans.specs.LedBy.{led_by}
 use Rattle.core_steps.specs.CriticalReads.{ReadsCritical}
-use Rattle.core_steps.specs.Reads.{ReadsAlong}
+use Rattle.core_steps.specs.Reads.{ReadsAlong, sent_read}
 use Rattle.core_steps.specs.Routes.{Scene}
 use Rattle.core_steps.specs.Posting.{Posting}
-use Rattle.core_steps.specs.Writes.{ClientWrite, WritesAlong}
+use Rattle.core_steps.specs.Writes.{AuthoredWrite, WritesAlong, sent_write}
 use Rattle.core_steps.specs.declared.routes.Route.{Route}
 use Rattle.core_steps.specs.declared.writes.CarriedOut.{CarriedOut}
 use Rattle.follower_cache.specs.Seen.{FollowerState}
@@ -37,7 +38,7 @@ use Rattle.tao_base.specs.declared.query.Query.{Query}
 use Rattle.tao_keeper.specs.Growing.{LogsGrow}
 use Rattle.tao_keeper.specs.KeeperState.{KeeperState}
 use Rattle.topology.specs.Config.{Settings}
-use Rattle.write_plan.specs.Plans.{Plan}
+use Rattle.write_plan.specs.Plans.{Writing}
 use Rattle.write_plan.specs.declared.stage.WriteStage.{WriteStage}
 
 abbrev pub Followers : Type 0
@@ -49,7 +50,7 @@ pub record ChangesOpenNone (name : NodeName) (old new : Followers) : Type 0 wher
       → ChangesNode name (LooksFirst types read (Hit answer version) ask) old new → OpensNone old new
   pub ends : (ask : Option ℕ) → ChangesNode name (EndsAsk ask) old new → OpensNone old new
   pub keeps : (types : EdgeTypes) (query : Query) (ask : Option ℕ) (fill : SealedItem) (answer : Answer) (kept : Kept)
-      → ChangesNode name (KeepsFill types query ask fill answer kept) old new → OpensNone old new
+      → ChangesNode name (KeepsFill types query (taken_fill ask fill answer kept)) old new → OpensNone old new
   pub applies : (types : EdgeTypes) (shard : ℕ) (entry : Entry) (note : View) → ChangesNode name (AppliesTo types shard entry note) old new
       → OpensNone old new
   pub delivers : (types : EdgeTypes) (m : SeenMaint) (dropped : ℕ) → ChangesNode name (DeliversThere types m dropped) old new → OpensNone old new
@@ -61,7 +62,7 @@ pub record ChangesOpenNone (name : NodeName) (old new : Followers) : Type 0 wher
       → ChangesNode name (LooksFirst types read Miss ask) old looked → ChangesNode name (EndsAsk ask) looked new → OpensNone old new
   pub filled : (types : EdgeTypes) (read : Wanted) (ask : Option ℕ) (fill : SealedItem) (answer : Answer) (kept : Kept) (looked : Followers)
       → ChangesNode name (LooksFirst types read Miss ask) old looked
-      → ChangesNode name (KeepsFill types read.query ask fill answer kept) looked new → OpensNone old new
+      → ChangesNode name (KeepsFill types read.query (taken_fill ask fill answer kept)) looked new → OpensNone old new
 
 -- where no ask opens, each that is open is still that of a held read; and whole reads and writes open none
 pub record AsksStayHeld : Type 0 where
@@ -70,14 +71,14 @@ pub record AsksStayHeld : Type 0 where
   pub on : (old mid new : Followers) → OpensNone old mid → OpensNone mid new → OpensNone old new
   pub changes : (name : NodeName) (old new : Followers) → ChangesOpenNone name old new
   pub reads : (tells : Bool) (s : Settings) (route : Route) (read : Wanted) (reply : Reply) (old new : Scene)
-      → ReadsAlong tells s route read reply old new → OpensNone old.fleet.followers new.fleet.followers
+      → ReadsAlong tells s (sent_read route read) reply old new → OpensNone old.fleet.followers new.fleet.followers
   pub critical : (tells : Bool) (s : Settings) (follower : NodeName) (read : Wanted) (reply : Reply) (old new : Scene)
       → ReadsCritical tells s follower read reply old new → OpensNone old.fleet.followers new.fleet.followers
-  pub writes : (tells : Bool) (s : Settings) (route : Route) (call : ClientWrite) (outcome : Result CarriedOut Reply) (old new : Posting)
-      → WritesAlong tells s route call outcome old new → OpensNone old.scene.fleet.followers new.scene.fleet.followers
+  pub writes : (tells : Bool) (s : Settings) (route : Route) (call : AuthoredWrite) (outcome : Result CarriedOut Reply) (old new : Posting)
+      → WritesAlong tells s (sent_write route call) outcome old new → OpensNone old.scene.fleet.followers new.scene.fleet.followers
   -- nor does a stage of a held write
-  pub stages : (tells : Bool) (s : Settings) (leader : NodeName) (at : WriteStage) (p q : Plan) (old new : Posting)
-      → DoesWriteStage tells s leader at p old q new → OpensNone old.scene.fleet.followers new.scene.fleet.followers
+  pub stages : (tells : Bool) (s : Settings) (leader : NodeName) (at : WriteStage) (p q : Writing) (old new : Posting)
+      → DoesWriteStage (led_by tells s leader) at p old q new → OpensNone old.scene.fleet.followers new.scene.fleet.followers
 
 -- what a critical read doesn't miss it doesn't miss later: logs only grow
 pub record NothingIsMissedLater : Type 0 where
@@ -90,6 +91,6 @@ pub record NothingIsMissedLater : Type 0 where
 -- nor does a stage of any read miss anything that the read didn't before, where the nodes have processed the whole logs: a hit of its look, and what its
 -- leader gives, have the last version
 pub record StagesMissNothing (s : Settings) (leader : NodeName) (p : Reading) (old : Scene) (q : Reading) (new : Scene) : Type 0 where
-  pub whole : StepsRead true s leader p old q new → IsConsistent true s old.keepers.told old.fleet → AreAtEnds s old.keepers.told old.fleet
+  pub whole : StepsRead (led_by true s leader) p old q new → IsConsistent true s old.keepers.told old.fleet → AreAtEnds s old.keepers.told old.fleet
       → LogsGrow true old.keepers.told new.keepers.told
       → (least : ℕ) → HasComeTo least (version_now s p old.keepers) p.at → HasComeTo least (version_now s q new.keepers) q.at

@@ -3,13 +3,14 @@ use Rattle.std.specs.Prelude.{ℕ, ◌≡◌, ◌<◌, ◌≤◌, ◌⊎◌, ⊤
 use Rattle.cache_items.specs.declared.look.Kept.{Kept as KeptWhy}
 use Rattle.cache_items.specs.declared.look.Look.{Look}
 use Rattle.cache_items.specs.declared.look.Look.TheVariants.{Miss}
+use Rattle.core_model.specs.Consistent.{GoesOn, IsFleetOf}
 use Rattle.core_model.specs.Fleet.{ChangesNode, Fleet, HasAsk}
 use Rattle.core_model.specs.Pens.{Pens, pens_of}
-use Rattle.core_model.specs.Reads.{AsksAtOnce, EndsAsk, IsGivenAnswer, IsGivenFill, KeepsFill, LooksFirst, Wanted, wanted}
+use Rattle.core_model.specs.Reads.{AsksAtOnce, EndsAsk, IsGivenAnswer, IsGivenFill, KeepsFill, LooksFirst, Wanted, taken_fill, wanted}
 use Rattle.core_model.specs.Serving.{IsFollowerFor}
 use Rattle.core_model.specs.Stores.{master_log}
 use Rattle.core_steps.specs.Reads.{AnswersAgain, IsLegalNow, MayAnswer}
-use Rattle.core_steps.specs.ReadSteps.{IsGivenOver, IsReadOver, ReadOverFails}
+use Rattle.core_steps.specs.ReadSteps.{IsGivenOver, IsReadOver, ReadOverFails, ReadsOn}
 use Rattle.core_steps.specs.Routes.{Scene, hops_between, master_node, was_called}
 use Rattle.core_steps.specs.declared.routes.Route.{Route}
 use Rattle.graph_model.specs.Log.{version}
@@ -42,6 +43,7 @@ use Rattle.tao_keeper.specs.KeeperState.{KeeperState}
 use Rattle.tao_keeper.specs.Table.{Tables}
 use Rattle.tao_schema.specs.Schema.{key_bound, types_of}
 use Rattle.topology.specs.Config.{Settings}
+use Rattle.core_plans.specs.LedBy.{LedBy}
 
 -- what is asked, at the floor of its beginning
 abbrev pub wanted_by : Reading → Wanted
@@ -93,8 +95,15 @@ ChangesFollowers old new = new ≡ record old { fleet = record old.fleet { follo
 abbrev pub EndsItsAsk : Reading → Scene → Scene → Type 0
 EndsItsAsk p old new = ChangesNode p.follower (EndsAsk p.ask) old.fleet.followers new.fleet.followers
 
+-- and no other node changed
+pub record EndsAskAlone (s : Settings) (p : Reading) (old new : Fleet) : Type 0 where
+  pub ends : ChangesNode p.follower (EndsAsk p.ask) old.followers new.followers
+  pub rest : new ≡ record old { followers = new.followers }
+  pub fleet : IsFleetOf s new
+  pub goes : GoesOn old new
+
 -- `look`: the follower answers, or opens an ask
-pub record Looks (s : Settings) (p : Reading) (old : Scene) (q : Reading) (new : Scene) : Type 0 where
+pub record LooksThere (s : Settings) (p : Reading) (old : Scene) (q : Reading) (new : Scene) : Type 0 where
   pub look : Look
   pub ask : Option ℕ
   pub looks : ChangesNode p.follower (LooksFirst (types_of s.schema) (wanted_by p) look ask) old.fleet.followers new.fleet.followers
@@ -114,7 +123,7 @@ pub record LooksInVain (p : Reading) (old : Scene) (q : Reading) (new : Scene) :
   pub then : q ≡ taken (came.Look (Err (Refused (Memory 0)))) 0 false p
 
 abbrev pub DoesLook : Settings → Bool → Reading → Scene → Reading → Scene → Type 0
-DoesLook s false p old q new = Looks s p old q new ⊎ LooksInVain p old q new
+DoesLook s false p old q new = LooksThere s p old q new ⊎ LooksInVain p old q new
 DoesLook s true p old q new = LooksPast p old q new
 
 -- `ask`: the leader answers, over the link there and back
@@ -150,7 +159,7 @@ pub record MastersInVain (s : Settings) (p : Reading) (old : Scene) (q : Reading
 pub record AnswersFrom (s : Settings) (p : Reading) (fill : SealedItem) (old : Scene) (q : Reading) (new : Scene) : Type 0 where
   pub answer : Answer
   pub kept : KeptWhy
-  pub keeps : ChangesNode p.follower (KeepsFill (types_of s.schema) p.query p.ask fill answer kept) old.fleet.followers new.fleet.followers
+  pub keeps : ChangesNode p.follower (KeepsFill (types_of s.schema) p.query (taken_fill p.ask fill answer kept)) old.fleet.followers new.fleet.followers
   pub rest : ChangesFollowers old new
   pub then : q ≡ taken (came.Keep (Ok (Some (answer, kept)))) 0 false p
 
@@ -161,23 +170,23 @@ pub record KeepsInVain (p : Reading) (old : Scene) (q : Reading) (new : Scene) :
   pub then : q ≡ taken (came.Keep (Err (Refused (Memory 0)))) 0 false p
 
 -- an answer past the bound is handed on, and its ask ends
-pub record HandsOn (p : Reading) (old : Scene) (q : Reading) (new : Scene) : Type 0 where
+pub record HandsPast (p : Reading) (old : Scene) (q : Reading) (new : Scene) : Type 0 where
   pub ends : EndsItsAsk p old new
   pub rest : ChangesFollowers old new
   pub then : q ≡ taken (came.Keep (Ok None)) 0 false p
 
-abbrev pub KeepsGiven : Settings → Reading → Given → Scene → Reading → Scene → Type 0
-KeepsGiven s p (Fill fill) old q new = AnswersFrom s p fill old q new ⊎ KeepsInVain p old q new
-KeepsGiven s p (Past answer version total seen) old q new = HandsOn p old q new
-KeepsGiven s p (HandedOut version) old q new = ⊥
+abbrev pub DoesKeep : Settings → Reading → Given → Scene → Reading → Scene → Type 0
+DoesKeep s p (Fill fill) old q new = AnswersFrom s p fill old q new ⊎ KeepsInVain p old q new
+DoesKeep s p (Past answer version total seen) old q new = HandsPast p old q new
+DoesKeep s p (HandedOut version) old q new = ⊥
 
 -- what the stage does that follows
-abbrev pub DoesReadStage : Bool → Settings → NodeName → Standing → Reading → Scene → Reading → Scene → Type 0
-DoesReadStage tells s leader Looking p old q new = DoesLook s p.critical p old q new
-DoesReadStage tells s leader Asking p old q new = AsksLeader s leader p old q new ⊎ AsksInVain s leader p old q new
-DoesReadStage tells s leader Mastering p old q new = AsksMaster tells s p old q new ⊎ MastersInVain s p old q new
-DoesReadStage tells s leader (Keeping given) p old q new = KeepsGiven s p given old q new
-DoesReadStage tells s leader (Ended end) p old q new = ⊥
+abbrev pub DoesReadStage : LedBy → Standing → Reading → Scene → Reading → Scene → Type 0
+DoesReadStage led Looking p old q new = DoesLook led.settings p.critical p old q new
+DoesReadStage led Asking p old q new = AsksLeader led.settings led.leader p old q new ⊎ AsksInVain led.settings led.leader p old q new
+DoesReadStage led Mastering p old q new = AsksMaster led.tells led.settings p old q new ⊎ MastersInVain led.settings p old q new
+DoesReadStage led (Keeping given) p old q new = DoesKeep led.settings p given old q new
+DoesReadStage led (Ended end) p old q new = ⊥
 
 -- the version of what was given
 abbrev pub given_version : Given → ℕ
@@ -208,7 +217,13 @@ EndsLegally tells s q new = (reply : ReadReply) → EndsWith q (Called (called.R
     × WhereTold tells (reply.kept ≡ Kept → AnswersAgain (types_of s.schema) q.follower q.query reply new.fleet.followers)
 
 -- one stage of a held read, the one that follows. A critical one misses nothing that it didn't before, so nothing that stood when it began
-pub record StepsRead (tells : Bool) (s : Settings) (leader : NodeName) (p : Reading) (old : Scene) (q : Reading) (new : Scene) : Type 0 where
-  pub does : DoesReadStage tells s leader p.at p old q new
-  pub legal : EndsLegally tells s q new
-  pub whole : (least : ℕ) → MissesNone tells s least p old.keepers → MissesNone tells s least q new.keepers
+pub record StepsRead (led : LedBy) (p : Reading) (old : Scene) (q : Reading) (new : Scene) : Type 0 where
+  pub does : DoesReadStage led p.at p old q new
+  pub legal : EndsLegally led.tells led.settings q new
+  pub whole : (least : ℕ) → MissesNone led.tells led.settings least p old.keepers → MissesNone led.tells led.settings least q new.keepers
+
+-- a stage of a held read was done: the read can go on, and so can all else
+pub record PassesReadStage (led : LedBy) (p : Reading) (old : Scene) (q : Reading) (new : Scene) : Type 0 where
+  pub steps : StepsRead led p old q new
+  pub read : IsReadUnderWay led.tells led.settings new.keepers.told new.fleet q
+  pub on : ReadsOn led.tells led.settings old new

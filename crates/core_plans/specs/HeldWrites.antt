@@ -1,12 +1,16 @@
 -- A write that is held between its stages, and what each stage does.
 use Rattle.std.specs.Prelude.{ℕ, ◌≡◌, ◌<◌, ◌⊎◌, ⊤, Bool, IfSome, IsTrue, List, Option, None, Some, Result, Ok, Err, length}
+use Rattle.core_mail.specs.Inboxes.{AreInboxesOf}
+use Rattle.core_model.specs.Consistent.{GoesOn, IsConsistent}
 use Rattle.core_model.specs.Fleet.{Fleet}
+use Rattle.core_model.specs.Growing.{MastersGrow}
 use Rattle.core_model.specs.Jobs.{CanBeMerged, IsMergedJob, ShardJob, job_on}
+use Rattle.core_model.specs.Pens.{pens_of}
 use Rattle.core_model.specs.Serving.{IsFollowerFor}
 use Rattle.core_steps.specs.Routes.{FailsCarry, hops_between}
 use Rattle.core_steps.specs.OtherEnds.{EndsOver, MergesOver, StandsThere, job_way}
 use Rattle.core_steps.specs.Posting.{AppliesAlone, Posting}
-use Rattle.core_steps.specs.Writes.{CanBeApplied, ClientWrite, FollowerTakes, IsCommitted, RefusesCommit, client_call}
+use Rattle.core_steps.specs.Writes.{AuthoredWrite, CanBeApplied, FollowerTakes, IsCommitted, RefusesCommit, client_call, sent_write}
 use Rattle.core_steps.specs.declared.routes.Route.{Route}
 use Rattle.graph_model.specs.Soundness.{is_client}
 use Rattle.graph_model.specs.Told.{WhereTold}
@@ -20,25 +24,27 @@ use Rattle.shard_tables.specs.declared.writes.Wrote.{Wrote}
 use Rattle.tao_base.specs.Writes.{ChangesType, write_shard}
 use Rattle.tao_base.specs.declared.entry.Entry.{Entry}
 use Rattle.tao_base.specs.declared.write.Write.{Write}
+use Rattle.tao_keeper.specs.KeeperState.{IsLater}
 use Rattle.tao_keeper.specs.Table.{Tables}
 use Rattle.tao_keeper.specs.declared.jobs.Job.{Job}
 use Rattle.tao_link.specs.Shown.{after_carry}
 use Rattle.tao_schema.specs.Schema.{types_of}
 use Rattle.topology.specs.Config.{Settings}
 use Rattle.write_plan.specs.Committing.{has_inverse, told_kind}
-use Rattle.write_plan.specs.Plans.{Plan, after_stage, answered_entry, answered_job, when_of}
+use Rattle.write_plan.specs.Plans.{Writing, after_stage, answered_entry, answered_job, when_of}
 use Rattle.write_plan.specs.declared.committed.Committed.{Committed}
 use Rattle.write_plan.specs.declared.progress.OtherEnd.TheVariants.{Due, Merged}
 use Rattle.write_plan.specs.declared.results.Late.{Late}
 use Rattle.write_plan.specs.declared.results.WriteResult.TheVariants as came
 use Rattle.write_plan.specs.declared.stage.WriteStage.{WriteStage}
 use Rattle.write_plan.specs.declared.stage.WriteStage.TheVariants.{Commit, Inverse, End, Relay, Apply, Done}
+use Rattle.core_plans.specs.LedBy.{LedBy}
 
-abbrev pub call_by : Plan → ClientWrite
-call_by p = client_call p.origin p.write
+abbrev pub call_of_plan : Writing → AuthoredWrite
+call_of_plan p = client_call p.origin p.write
 
 -- its way, by a leader
-abbrev pub way_by : NodeName → Plan → Route
+abbrev pub way_by : NodeName → Writing → Route
 way_by leader p = record { follower = p.follower; leader = leader }
 
 -- the position of an entry, or 0
@@ -47,8 +53,8 @@ position_of None = 0
 position_of (Some e) = e.position
 
 -- what its commit answered: its follower may take it, and it passed no other leader
-pub record IsAnswerTo (s : Settings) (masters : List StoreSeen) (p : Plan) (c : Committed) : Type 0 where
-  pub apply : CanBeApplied (call_by p) c.wrote masters
+pub record IsAnswerTo (s : Settings) (masters : List StoreSeen) (p : Writing) (c : Committed) : Type 0 where
+  pub apply : CanBeApplied (call_of_plan p) c.wrote masters
   pub kind : told_kind p.write c.wrote.entry ≡ Some c.kind
   pub passed : c.passed ≡ None
   pub paired : c.paired ≡ has_inverse (types_of s.schema) p.write
@@ -62,12 +68,12 @@ IsTakenAs s write (Ok wrote) (Err reply) = ⊥
 IsTakenAs s write (Err refusal) (Ok c) = ⊥
 
 -- the job that its commit answered, as one of its shard
-abbrev pub job_by : Plan → Job → ShardJob
+abbrev pub job_by : Writing → Job → ShardJob
 job_by p job = job_on (write_shard p.write) job
 
 -- a write of a client, at a follower that serves its shard, from a region of the configuration. Before its commit nothing is done of its other end.
 -- What the commit answered can be applied, and its job merged; a job that was merged can be ended, and what was written at the other end stands there
-pub record IsWriteUnderWay (tells : Bool) (s : Settings) (tables : Tables) (f : Fleet) (p : Plan) : Type 0 where
+pub record IsWriteUnderWay (tells : Bool) (s : Settings) (tables : Tables) (f : Fleet) (p : Writing) : Type 0 where
   pub follower : IsFollowerFor s (write_shard p.write) p.follower
   pub region : p.region < length s.regions
   pub changes : ChangesType (types_of s.schema) p.write
@@ -81,28 +87,28 @@ pub record IsWriteUnderWay (tells : Bool) (s : Settings) (tables : Tables) (f : 
 -- ---- what its stages do
 
 -- `commit`: the leader writes, and the followers are told
-pub record CommitsHeld (tells : Bool) (s : Settings) (leader : NodeName) (p : Plan) (old : Posting) (q : Plan) (new : Posting) : Type 0 where
+pub record CommitsHeld (led : LedBy) (p : Writing) (old : Posting) (q : Writing) (new : Posting) : Type 0 where
   pub committed : Committed
-  pub commits : IsCommitted tells s (way_by leader p) (call_by p) committed.wrote old new
-  pub answer : IsAnswerTo s new.scene.fleet.masters p committed
+  pub commits : IsCommitted led.tells led.settings (sent_write (way_by led.leader p) (call_of_plan p)) committed.wrote old new
+  pub answer : IsAnswerTo led.settings new.scene.fleet.masters p committed
   pub then : q ≡ after_stage p (came.Commit (Ok committed)) (hops_between old.scene.link new.scene.link)
 
 -- or it was refused, and nothing changed
-pub record RefusesHeld (tells : Bool) (s : Settings) (leader : NodeName) (p : Plan) (old : Posting) (q : Plan) (new : Posting) : Type 0 where
+pub record RefusesHeld (led : LedBy) (p : Writing) (old : Posting) (q : Writing) (new : Posting) : Type 0 where
   pub reply : Reply
-  pub refuses : RefusesCommit tells s (way_by leader p) (call_by p) reply old new
+  pub refuses : RefusesCommit led.tells led.settings (sent_write (way_by led.leader p) (call_of_plan p)) reply old new
   pub then : q ≡ after_stage p (came.Commit (Err reply)) (hops_between old.scene.link new.scene.link)
 
 -- `inverse`: the job is carried to the leader of the other shard, which merges it, and the answer back
-pub record MergesHeld (tells : Bool) (s : Settings) (leader : NodeName) (p : Plan) (old : Posting) (q : Plan) (new : Posting) : Type 0 where
+pub record MergesHeld (led : LedBy) (p : Writing) (old : Posting) (q : Writing) (new : Posting) : Type 0 where
   pub job : Job
   pub answered : answered_job p ≡ Some job
   pub result : Result Wrote Late
-  pub merges : MergesOver tells s (job_way leader (job_by p job)) result old new
+  pub merges : MergesOver led.tells led.settings (job_way led.leader (job_by p job)) result old new
   pub then : q ≡ after_stage p (came.Inverse result) (hops_between old.scene.link new.scene.link)
 
 -- `end`: the job is ended
-pub record EndsHeld (tells : Bool) (s : Settings) (p : Plan) (old : Posting) (q : Plan) (new : Posting) : Type 0 where
+pub record EndsHeld (tells : Bool) (s : Settings) (p : Writing) (old : Posting) (q : Writing) (new : Posting) : Type 0 where
   pub job : Job
   pub answered : answered_job p ≡ Some job
   pub result : Result ⊤ Late
@@ -110,7 +116,7 @@ pub record EndsHeld (tells : Bool) (s : Settings) (p : Plan) (old : Posting) (q 
   pub then : q ≡ after_stage p (came.End result) 0
 
 -- `apply`: the answer is carried back, and the follower takes the changes
-pub record AppliesHeld (s : Settings) (leader : NodeName) (p : Plan) (old : Posting) (q : Plan) (new : Posting) : Type 0 where
+pub record AppliesHeld (s : Settings) (leader : NodeName) (p : Writing) (old : Posting) (q : Writing) (new : Posting) : Type 0 where
   pub committed : Committed
   pub answered : p.committed ≡ Some committed
   pub takes : FollowerTakes (types_of s.schema) (way_by leader p) (write_shard p.write) committed.wrote.entry old.scene.fleet new.scene.fleet
@@ -119,7 +125,7 @@ pub record AppliesHeld (s : Settings) (leader : NodeName) (p : Plan) (old : Post
   pub then : q ≡ after_stage p (came.Apply (Ok tt)) (hops_between old.scene.link new.scene.link)
 
 -- or the way back failed: the write stands, at the position that the reply tells where there is an entry
-pub record LosesWayBack (leader : NodeName) (p : Plan) (old : Posting) (q : Plan) (new : Posting) : Type 0 where
+pub record LosesWayBack (leader : NodeName) (p : Writing) (old : Posting) (q : Writing) (new : Posting) : Type 0 where
   pub committed : Committed
   pub answered : p.committed ≡ Some committed
   pub carry : FailsCarry leader p.follower old.scene.link new.scene.link
@@ -129,19 +135,36 @@ pub record LosesWayBack (leader : NodeName) (p : Plan) (old : Posting) (q : Plan
       (hops_between old.scene.link new.scene.link)
 
 -- memory was wanting for the way back: the plan ends, at the position of what its commit answered
-abbrev pub way_given_up : Plan → Plan
+abbrev pub way_given_up : Writing → Writing
 way_given_up p = after_stage p (came.Apply (Err (Refused (Memory (position_of (answered_entry p)))))) 0
 
 -- so the write stands as well
-pub record AppliesInVain (p : Plan) (old : Posting) (q : Plan) (new : Posting) : Type 0 where
+pub record AppliesInVain (p : Writing) (old : Posting) (q : Writing) (new : Posting) : Type 0 where
   pub same : new ≡ old
   pub then : q ≡ way_given_up p
 
 -- what the stage does that follows
-abbrev pub DoesWriteStage : Bool → Settings → NodeName → WriteStage → Plan → Posting → Plan → Posting → Type 0
-DoesWriteStage tells s leader Commit p old q new = CommitsHeld tells s leader p old q new ⊎ RefusesHeld tells s leader p old q new
-DoesWriteStage tells s leader Apply p old q new = AppliesHeld s leader p old q new ⊎ (LosesWayBack leader p old q new ⊎ AppliesInVain p old q new)
-DoesWriteStage tells s leader Inverse p old q new = MergesHeld tells s leader p old q new
-DoesWriteStage tells s leader End p old q new = EndsHeld tells s p old q new
-DoesWriteStage tells s leader Relay p old q new = ⊥
-DoesWriteStage tells s leader Done p old q new = ⊥
+abbrev pub DoesWriteStage : LedBy → WriteStage → Writing → Posting → Writing → Posting → Type 0
+DoesWriteStage led Commit p old q new = CommitsHeld led p old q new ⊎ RefusesHeld led p old q new
+DoesWriteStage led Apply p old q new =
+    AppliesHeld led.settings led.leader p old q new ⊎ (LosesWayBack led.leader p old q new ⊎ AppliesInVain p old q new)
+DoesWriteStage led Inverse p old q new = MergesHeld led p old q new
+DoesWriteStage led End p old q new = EndsHeld led.tells led.settings p old q new
+DoesWriteStage led Relay p old q new = ⊥
+DoesWriteStage led Done p old q new = ⊥
+
+-- ---- what each of them keeps
+
+-- what is consistent stays so, messages stay those of their inboxes, the nodes go on, of tables only logs of masters grow, and no count of the keepers falls
+pub record PostsOn (tells : Bool) (s : Settings) (old new : Posting) : Type 0 where
+  pub consistent : IsConsistent tells s new.scene.keepers.told new.scene.fleet
+  pub inboxes : AreInboxesOf s (pens_of new.scene.fleet.masters) new.inboxes
+  pub goes : GoesOn old.scene.fleet new.scene.fleet
+  pub grows : MastersGrow tells s old.scene.keepers.told new.scene.keepers.told
+  pub later : IsLater old.scene.keepers new.scene.keepers
+
+-- a stage of a held write was done: the write can go on, and so can all else
+pub record PassesWriteStage (led : LedBy) (at : WriteStage) (p : Writing) (old : Posting) (q : Writing) (new : Posting) : Type 0 where
+  pub does : DoesWriteStage led at p old q new
+  pub write : IsWriteUnderWay led.tells led.settings new.scene.keepers.told new.scene.fleet q
+  pub on : PostsOn led.tells led.settings old new

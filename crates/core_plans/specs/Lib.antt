@@ -2,3 +2,4 @@ pub mod Held
 pub mod HeldLaws
 pub mod HeldReads
 pub mod HeldWrites
+pub mod LedBy

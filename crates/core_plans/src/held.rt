@@ -1,8 +1,8 @@
 //! `HeldPlan`.
 ghost use Rattle.std.specs.Prelude.{◌≡◌, IsSome, None, option_and_then};
 ghost use Rattle.core_model.specs.Jobs.{far_shard};
-ghost use Rattle.core_plans.specs.Held.{IsOver, given_up, learner, next_stage, nothing_told, told_entry, told_with};
-ghost use Rattle.core_steps.specs.OtherEnds.{told_there};
+ghost use Rattle.core_plans.specs.Held.{IsOver, given_up, learner, next_stage, nothing_told, told_with};
+ghost use Rattle.core_steps.specs.OtherEnds.{told_entry, told_there};
 
 use crate::writes::give_up_way;
 use core_model::far_shard;

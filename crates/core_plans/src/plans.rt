@@ -5,6 +5,8 @@ ghost use Rattle.core_model.specs.Consistent.{GoesOn, IsConsistent};
 ghost use Rattle.core_model.specs.Growing.{MastersGrow};
 ghost use Rattle.core_model.specs.Pens.{pens_of};
 ghost use Rattle.core_plans.specs.Held.{CanStep, IsThere, IsUnderWay, StepsHeld, StepsPlan};
+ghost use Rattle.core_plans.specs.HeldWrites.{PostsOn};
+ghost use Rattle.core_plans.specs.LedBy.{led_by};
 ghost use Rattle.core_steps.specs.Routes.{scene};
 ghost use Rattle.core_steps.specs.Posting.{posting};
 ghost use Rattle.tao_keeper.specs.KeeperState.{IsLater};
@@ -45,15 +47,13 @@ fn held_stage<K: Keeper, L: Link>(
     requires inboxes { AreInboxesOf config.now (pens_of fleet.old.masters) mail.old }
     requires states { topology.now ≡ all_up config.now }
     requires there { IsThere K.TELLS config.now (K.state keepers.old).told fleet.old leader plan.old }
-    ensures steps { StepsHeld K.TELLS config.now leader
+    ensures steps { StepsHeld (led_by K.TELLS config.now leader)
         plan.old (posting (scene fleet.old (K.state keepers.old) (L.shown link.old)) mail.old topology.now)
         plan.new (posting (scene fleet.new (K.state keepers.new) (L.shown link.new)) mail.new topology.now) }
     ensures under_way { IsUnderWay K.TELLS config.now (K.state keepers.new).told fleet.new plan.new }
-    ensures consistent { IsConsistent K.TELLS config.now (K.state keepers.new).told fleet.new }
-    ensures inboxes { AreInboxesOf config.now (pens_of fleet.new.masters) mail.new }
-    ensures goes { GoesOn fleet.old fleet.new }
-    ensures grows { MastersGrow K.TELLS config.now (K.state keepers.old).told (K.state keepers.new).told }
-    ensures later { IsLater (K.state keepers.old) (K.state keepers.new) }
+    ensures on { PostsOn K.TELLS config.now
+        (posting (scene fleet.old (K.state keepers.old) (L.shown link.old)) mail.old topology.now)
+        (posting (scene fleet.new (K.state keepers.new) (L.shown link.new)) mail.new topology.now) }
 {
     match plan {
         HeldPlan::Read(plan) => read_stage(alloc, fleet, config, keepers, link, leader, plan),
@@ -148,7 +148,8 @@ impl HeldPlans {
     /// the position that its reply tells, and nothing changes but the plan, which stays. Takes no memory.
     pub fn give_up(&mut self, number: u32)
         requires { IsSome (option_and_then learner (plan_at self.old number)) }
-        ensures steps { (tells : Bool) (s : Settings) (leader : NodeName_) (now : Posting) → StepsPlan tells s leader number self.old now self.new now }
+        ensures steps { (tells : Bool) (s : Settings) (leader : NodeName_) (now : Posting)
+            → StepsPlan (led_by tells s leader) number self.old now self.new now }
         ensures under_way { (tells : Bool) (s : Settings) (tables : Tables) (f : Fleet_) → IfSome (plan_at self.old number) (IsUnderWay tells s tables f)
             → IfSome (plan_at self.new number) (IsUnderWay tells s tables f) }
     {
@@ -176,7 +177,7 @@ impl HeldPlans {
         requires inboxes { AreInboxesOf config.now (pens_of fleet.old.masters) mail.old }
         requires states { topology.now ≡ all_up config.now }
         requires can { CanStep K.TELLS config.now (K.state keepers.old).told fleet.old leader (plan_at self.old number) }
-        ensures steps { StepsPlan K.TELLS config.now leader number
+        ensures steps { StepsPlan (led_by K.TELLS config.now leader) number
             self.old (posting (scene fleet.old (K.state keepers.old) (L.shown link.old)) mail.old topology.now)
             self.new (posting (scene fleet.new (K.state keepers.new) (L.shown link.new)) mail.new topology.now) }
         ensures under_way { IfSome (plan_at self.new number) (IsUnderWay K.TELLS config.now (K.state keepers.new).told fleet.new) }

@@ -1,13 +1,12 @@
 //! The stages of held reads.
 ghost use Rattle.std.specs.Prelude.{◌≡◌, ◌-◌, IsSome, false, nat_lt, true};
-ghost use Rattle.core_model.specs.Consistent.{GoesOn, IsConsistent, IsFleetOf};
-ghost use Rattle.core_model.specs.Fleet.{ChangesNode};
-ghost use Rattle.core_model.specs.Reads.{EndsAsk};
+ghost use Rattle.core_model.specs.Consistent.{IsConsistent, IsFleetOf};
 ghost use Rattle.core_model.specs.Serving.{IsFollowerFor, IsLeaderFor};
-ghost use Rattle.core_plans.specs.HeldReads.{IsReadUnderWay, StepsRead, begun_read};
-ghost use Rattle.core_steps.specs.ReadSteps.{ReadsOn};
+ghost use Rattle.core_plans.specs.HeldReads.{EndsAskAlone, IsReadUnderWay, PassesReadStage, begun_read};
+ghost use Rattle.core_plans.specs.LedBy.{led_by};
 ghost use Rattle.core_steps.specs.Routes.{scene};
-ghost use Rattle.read_plan.specs.Standings.{stage_named, stage_of};
+ghost use Rattle.read_plan.specs.Readings.{taken};
+ghost use Rattle.read_plan.specs.Standings.{IsAnsweredFrom, came_of, stage_named, stage_of};
 ghost use Rattle.read_plan.specs.declared.stages.ReadStage.TheVariants as stage;
 ghost use Rattle.tao_base.specs.Queries.{query_shard};
 
@@ -41,31 +40,46 @@ pub fn begin_read(
     plan
 }
 
-/// What a stage took.
+/// How many calls and carries there were.
 #[derive(Clone, Copy)]
-struct Cost {
-    hops: u64,
-    store: bool,
+struct Tally {
+    calls: u64,
+    carries: u64,
 }
 
-/// What was taken since there were so many calls and carries.
-fn cost_since<K: Keeper, L: Link>(keepers: &K, link: &L, calls: u64, carries: u64) -> Cost
-    ensures { result ≡ record { hops = (L.shown link.now).carries - carries; store = nat_lt calls (K.state keepers.now).calls } }
+/// How many there were so far.
+fn so_far<K: Keeper, L: Link>(keepers: &K, link: &L) -> Tally
+    ensures { result ≡ record { calls = (K.state keepers.now).calls; carries = (L.shown link.now).carries } }
 {
-    Cost {
-        hops: link.carries().saturating_sub(carries),
-        store: calls < keepers.calls(),
+    Tally {
+        calls: keepers.calls(),
+        carries: link.carries(),
     }
+}
+
+/// Takes what a stage over the link came to, with what it took since.
+fn take_since<K: Keeper, L: Link>(
+    keepers: &K,
+    link: &L,
+    since: Tally,
+    plan: &mut ReadPlan,
+    outcome: ReadResult,
+)
+    requires stage { came_of outcome ≡ stage_of plan.old.at }
+    requires answered { IsAnsweredFrom plan.old.at outcome }
+    ensures { plan.new
+        ≡ taken outcome ((L.shown link.now).carries - since.carries) (nat_lt since.calls (K.state keepers.now).calls) plan.old }
+{
+    let hops = link.carries().saturating_sub(since.carries);
+    let store = since.calls < keepers.calls();
+    plan.take(outcome, hops, store);
 }
 
 /// Ends the ask of a read that is over without a fill.
 fn end_ask_of(fleet: &mut Fleet, config: &Config, plan: &ReadPlan)
     requires fleet { IsFleetOf config.now fleet.old }
     requires follower { IsFollowerFor config.now (query_shard plan.now.query) plan.now.follower }
-    ensures ends { ChangesNode plan.now.follower (EndsAsk plan.now.ask) fleet.old.followers fleet.new.followers }
-    ensures rest { fleet.new ≡ record fleet.old { followers = fleet.new.followers } }
-    ensures fleet { IsFleetOf config.now fleet.new }
-    ensures goes { GoesOn fleet.old fleet.new }
+    ensures { EndsAskAlone config.now plan.now fleet.old fleet.new }
 {
     fleet.end_ask(config, plan.follower(), plan.query().shard(), plan.ask());
 }
@@ -83,11 +97,8 @@ fn look_past<K: Keeper, L: Link>(
     requires read { IsReadUnderWay K.TELLS config.now (K.state keepers.now).told fleet.old plan.old }
     requires stage { stage_of plan.old.at ≡ stage.Look }
     requires critical { plan.old.critical ≡ true }
-    ensures steps { StepsRead K.TELLS config.now leader plan.old (scene fleet.old (K.state keepers.now) (L.shown link.now))
+    ensures { PassesReadStage (led_by K.TELLS config.now leader) plan.old (scene fleet.old (K.state keepers.now) (L.shown link.now))
         plan.new (scene fleet.new (K.state keepers.now) (L.shown link.now)) }
-    ensures read { IsReadUnderWay K.TELLS config.now (K.state keepers.now).told fleet.new plan.new }
-    ensures consistent { IsConsistent K.TELLS config.now (K.state keepers.now).told fleet.new }
-    ensures goes { GoesOn fleet.old fleet.new }
 {
     let ask = fleet.ask_at_once(config, plan.follower(), plan.query());
     plan.set_ask(ask);
@@ -107,11 +118,8 @@ fn look_first<K: Keeper, L: Link>(
     requires read { IsReadUnderWay K.TELLS config.now (K.state keepers.now).told fleet.old plan.old }
     requires stage { stage_of plan.old.at ≡ stage.Look }
     requires plain { plan.old.critical ≡ false }
-    ensures steps { StepsRead K.TELLS config.now leader plan.old (scene fleet.old (K.state keepers.now) (L.shown link.now))
+    ensures { PassesReadStage (led_by K.TELLS config.now leader) plan.old (scene fleet.old (K.state keepers.now) (L.shown link.now))
         plan.new (scene fleet.new (K.state keepers.now) (L.shown link.now)) }
-    ensures read { IsReadUnderWay K.TELLS config.now (K.state keepers.now).told fleet.new plan.new }
-    ensures consistent { IsConsistent K.TELLS config.now (K.state keepers.now).told fleet.new }
-    ensures goes { GoesOn fleet.old fleet.new }
 {
     match fleet.look(config, plan.follower(), plan.query(), plan.floor()) {
         Ok(FirstLook { look, ask }) => {
@@ -134,11 +142,8 @@ fn look_stage<K: Keeper, L: Link>(
     requires consistent { IsConsistent K.TELLS config.now (K.state keepers.now).told fleet.old }
     requires read { IsReadUnderWay K.TELLS config.now (K.state keepers.now).told fleet.old plan.old }
     requires stage { stage_of plan.old.at ≡ stage.Look }
-    ensures steps { StepsRead K.TELLS config.now leader plan.old (scene fleet.old (K.state keepers.now) (L.shown link.now))
+    ensures { PassesReadStage (led_by K.TELLS config.now leader) plan.old (scene fleet.old (K.state keepers.now) (L.shown link.now))
         plan.new (scene fleet.new (K.state keepers.now) (L.shown link.now)) }
-    ensures read { IsReadUnderWay K.TELLS config.now (K.state keepers.now).told fleet.new plan.new }
-    ensures consistent { IsConsistent K.TELLS config.now (K.state keepers.now).told fleet.new }
-    ensures goes { GoesOn fleet.old fleet.new }
 {
     if plan.is_critical() {
         look_past(fleet, config, keepers, link, leader, plan);
@@ -161,27 +166,20 @@ fn ask_stage<K: Keeper, L: Link>(
     requires leader { IsLeaderFor config.now (query_shard plan.old.query) leader }
     requires read { IsReadUnderWay K.TELLS config.now (K.state keepers.old).told fleet.old plan.old }
     requires stage { stage_of plan.old.at ≡ stage.Ask }
-    ensures steps { StepsRead K.TELLS config.now leader plan.old (scene fleet.old (K.state keepers.old) (L.shown link.old))
+    ensures { PassesReadStage (led_by K.TELLS config.now leader) plan.old (scene fleet.old (K.state keepers.old) (L.shown link.old))
         plan.new (scene fleet.new (K.state keepers.new) (L.shown link.new)) }
-    ensures read { IsReadUnderWay K.TELLS config.now (K.state keepers.new).told fleet.new plan.new }
-    ensures on { ReadsOn K.TELLS config.now (scene fleet.old (K.state keepers.old) (L.shown link.old))
-        (scene fleet.new (K.state keepers.new) (L.shown link.new)) }
 {
-    let (calls, carries) = (keepers.calls(), link.carries());
+    let since = so_far(keepers, link);
     let route = Route {
         follower: plan.follower(),
         leader,
     };
     let (query, floor) = (plan.query(), plan.floor());
     match ask_over(alloc, fleet, config, keepers, link, route, query, floor) {
-        Ok(given) => {
-            let cost = cost_since(keepers, link, calls, carries);
-            plan.take(ReadResult::Ask(Ok(given)), cost.hops, cost.store);
-        }
+        Ok(given) => take_since(keepers, link, since, plan, ReadResult::Ask(Ok(given))),
         Err(reply) => {
             end_ask_of(fleet, config, plan);
-            let cost = cost_since(keepers, link, calls, carries);
-            plan.take(ReadResult::Ask(Err(reply)), cost.hops, cost.store);
+            take_since(keepers, link, since, plan, ReadResult::Ask(Err(reply)));
         }
     }
 }
@@ -199,23 +197,16 @@ fn master_stage<K: Keeper, L: Link>(
     requires consistent { IsConsistent K.TELLS config.now (K.state keepers.old).told fleet.old }
     requires read { IsReadUnderWay K.TELLS config.now (K.state keepers.old).told fleet.old plan.old }
     requires stage { stage_of plan.old.at ≡ stage.Master }
-    ensures steps { StepsRead K.TELLS config.now leader plan.old (scene fleet.old (K.state keepers.old) (L.shown link.old))
+    ensures { PassesReadStage (led_by K.TELLS config.now leader) plan.old (scene fleet.old (K.state keepers.old) (L.shown link.old))
         plan.new (scene fleet.new (K.state keepers.new) (L.shown link.new)) }
-    ensures read { IsReadUnderWay K.TELLS config.now (K.state keepers.new).told fleet.new plan.new }
-    ensures on { ReadsOn K.TELLS config.now (scene fleet.old (K.state keepers.old) (L.shown link.old))
-        (scene fleet.new (K.state keepers.new) (L.shown link.new)) }
 {
-    let (calls, carries) = (keepers.calls(), link.carries());
+    let since = so_far(keepers, link);
     let (follower, query) = (plan.follower(), plan.query());
     match read_over(alloc, fleet, config, keepers, link, follower, query) {
-        Ok(out) => {
-            let cost = cost_since(keepers, link, calls, carries);
-            plan.take(ReadResult::Master(Ok(out)), cost.hops, cost.store);
-        }
+        Ok(out) => take_since(keepers, link, since, plan, ReadResult::Master(Ok(out))),
         Err(reply) => {
             end_ask_of(fleet, config, plan);
-            let cost = cost_since(keepers, link, calls, carries);
-            plan.take(ReadResult::Master(Err(reply)), cost.hops, cost.store);
+            take_since(keepers, link, since, plan, ReadResult::Master(Err(reply)));
         }
     }
 }
@@ -232,11 +223,8 @@ fn keep_stage<K: Keeper, L: Link>(
     requires consistent { IsConsistent K.TELLS config.now (K.state keepers.now).told fleet.old }
     requires read { IsReadUnderWay K.TELLS config.now (K.state keepers.now).told fleet.old plan.old }
     requires stage { stage_of plan.old.at ≡ stage.Keep }
-    ensures steps { StepsRead K.TELLS config.now leader plan.old (scene fleet.old (K.state keepers.now) (L.shown link.now))
+    ensures { PassesReadStage (led_by K.TELLS config.now leader) plan.old (scene fleet.old (K.state keepers.now) (L.shown link.now))
         plan.new (scene fleet.new (K.state keepers.now) (L.shown link.now)) }
-    ensures read { IsReadUnderWay K.TELLS config.now (K.state keepers.now).told fleet.new plan.new }
-    ensures consistent { IsConsistent K.TELLS config.now (K.state keepers.now).told fleet.new }
-    ensures goes { GoesOn fleet.old fleet.new }
 {
     match plan.fill() {
         Some(fill) => {
@@ -271,11 +259,8 @@ pub fn read_stage<K: Keeper, L: Link>(
     requires leader { IsLeaderFor config.now (query_shard plan.old.query) leader }
     requires read { IsReadUnderWay K.TELLS config.now (K.state keepers.old).told fleet.old plan.old }
     requires goes_on { IsSome (stage_named (stage_of plan.old.at)) }
-    ensures steps { StepsRead K.TELLS config.now leader plan.old (scene fleet.old (K.state keepers.old) (L.shown link.old))
+    ensures { PassesReadStage (led_by K.TELLS config.now leader) plan.old (scene fleet.old (K.state keepers.old) (L.shown link.old))
         plan.new (scene fleet.new (K.state keepers.new) (L.shown link.new)) }
-    ensures read { IsReadUnderWay K.TELLS config.now (K.state keepers.new).told fleet.new plan.new }
-    ensures on { ReadsOn K.TELLS config.now (scene fleet.old (K.state keepers.old) (L.shown link.old))
-        (scene fleet.new (K.state keepers.new) (L.shown link.new)) }
 {
     match plan.next() {
         ReadStage::Look => look_stage(fleet, config, keepers, link, leader, plan),

@@ -5,7 +5,8 @@ ghost use Rattle.core_model.specs.Consistent.{GoesOn, IsConsistent, IsFleetOf};
 ghost use Rattle.core_model.specs.Growing.{MastersGrow};
 ghost use Rattle.core_model.specs.Pens.{pens_of};
 ghost use Rattle.core_model.specs.Serving.{IsFollowerFor, IsLeaderFor};
-ghost use Rattle.core_plans.specs.HeldWrites.{DoesWriteStage, IsAnswerTo, IsTakenAs, IsWriteUnderWay, position_of, way_given_up};
+ghost use Rattle.core_plans.specs.HeldWrites.{DoesWriteStage, IsAnswerTo, IsTakenAs, IsWriteUnderWay, PassesWriteStage, PostsOn, position_of, way_given_up};
+ghost use Rattle.core_plans.specs.LedBy.{led_by};
 ghost use Rattle.core_steps.specs.Routes.{FailsCarry, scene};
 ghost use Rattle.core_steps.specs.Posting.{posting};
 ghost use Rattle.core_steps.specs.Writes.{FollowerTakes};
@@ -70,15 +71,9 @@ fn commit_stage<K: Keeper, L: Link>(
     requires leader { IsLeaderFor config.now (write_shard plan.old.write) leader }
     requires write { IsWriteUnderWay K.TELLS config.now (K.state keepers.old).told fleet.old plan.old }
     requires stage { next_of plan.old ≡ stage.Commit }
-    ensures does { DoesWriteStage K.TELLS config.now leader stage.Commit
+    ensures { PassesWriteStage (led_by K.TELLS config.now leader) stage.Commit
         plan.old (posting (scene fleet.old (K.state keepers.old) (L.shown link.old)) mail.old topology.now)
         plan.new (posting (scene fleet.new (K.state keepers.new) (L.shown link.new)) mail.new topology.now) }
-    ensures write { IsWriteUnderWay K.TELLS config.now (K.state keepers.new).told fleet.new plan.new }
-    ensures consistent { IsConsistent K.TELLS config.now (K.state keepers.new).told fleet.new }
-    ensures inboxes { AreInboxesOf config.now (pens_of fleet.new.masters) mail.new }
-    ensures goes { GoesOn fleet.old fleet.new }
-    ensures grows { MastersGrow K.TELLS config.now (K.state keepers.old).told (K.state keepers.new).told }
-    ensures later { IsLater (K.state keepers.old) (K.state keepers.new) }
 {
     let carries = link.carries();
     let route = Route {
@@ -119,15 +114,9 @@ fn inverse_stage<K: Keeper, L: Link>(
     requires states { topology.now ≡ all_up config.now }
     requires write { IsWriteUnderWay K.TELLS config.now (K.state keepers.old).told fleet.old plan.old }
     requires stage { next_of plan.old ≡ stage.Inverse }
-    ensures does { DoesWriteStage K.TELLS config.now leader stage.Inverse
+    ensures { PassesWriteStage (led_by K.TELLS config.now leader) stage.Inverse
         plan.old (posting (scene fleet.old (K.state keepers.old) (L.shown link.old)) mail.old topology.now)
         plan.new (posting (scene fleet.new (K.state keepers.new) (L.shown link.new)) mail.new topology.now) }
-    ensures write { IsWriteUnderWay K.TELLS config.now (K.state keepers.new).told fleet.new plan.new }
-    ensures consistent { IsConsistent K.TELLS config.now (K.state keepers.new).told fleet.new }
-    ensures inboxes { AreInboxesOf config.now (pens_of fleet.new.masters) mail.new }
-    ensures goes { GoesOn fleet.old fleet.new }
-    ensures grows { MastersGrow K.TELLS config.now (K.state keepers.old).told (K.state keepers.new).told }
-    ensures later { IsLater (K.state keepers.old) (K.state keepers.new) }
 {
     let carries = link.carries();
     let shard = plan.write().shard();
@@ -152,7 +141,7 @@ fn end_stage<K: Keeper>(
     requires consistent { IsConsistent K.TELLS config.now (K.state keepers.old).told fleet.old }
     requires write { IsWriteUnderWay K.TELLS config.now (K.state keepers.old).told fleet.old plan.old }
     requires stage { next_of plan.old ≡ stage.End }
-    ensures does { (link : LinkShown) (inboxes : Inboxes) (states : NodeStates) → DoesWriteStage K.TELLS config.now leader stage.End
+    ensures does { (link : LinkShown) (inboxes : Inboxes) (states : NodeStates) → DoesWriteStage (led_by K.TELLS config.now leader) stage.End
         plan.old (posting (scene fleet.old (K.state keepers.old) link) inboxes states)
         plan.new (posting (scene fleet.new (K.state keepers.new) link) inboxes states) }
     ensures write { IsWriteUnderWay K.TELLS config.now (K.state keepers.new).told fleet.new plan.new }
@@ -259,7 +248,7 @@ fn apply_stage<L: Link>(
     requires follower { IsFollowerFor config.now (write_shard plan.old.write) plan.old.follower }
     requires answer { IfSome plan.old.committed (IsAnswerTo config.now fleet.old.masters plan.old) }
     requires stage { next_of plan.old ≡ stage.Apply }
-    ensures does { (keepers : KeeperState) (inboxes : Inboxes) (states : NodeStates) → DoesWriteStage true config.now leader stage.Apply
+    ensures does { (keepers : KeeperState) (inboxes : Inboxes) (states : NodeStates) → DoesWriteStage (led_by true config.now leader) stage.Apply
         plan.old (posting (scene fleet.old keepers (L.shown link.old)) inboxes states)
         plan.new (posting (scene fleet.new keepers (L.shown link.new)) inboxes states) }
     ensures write { (tells : Bool) (tables : Tables) → IsWriteUnderWay tells config.now tables fleet.old plan.old
@@ -302,15 +291,13 @@ pub fn write_stage<K: Keeper, L: Link>(
     requires leader { IsLeaderFor config.now (write_shard plan.old.write) leader }
     requires write { IsWriteUnderWay K.TELLS config.now (K.state keepers.old).told fleet.old plan.old }
     requires goes_on { IsSome (told_stage (next_of plan.old)) }
-    ensures does { DoesWriteStage K.TELLS config.now leader (next_of plan.old)
+    ensures does { DoesWriteStage (led_by K.TELLS config.now leader) (next_of plan.old)
         plan.old (posting (scene fleet.old (K.state keepers.old) (L.shown link.old)) mail.old topology.now)
         plan.new (posting (scene fleet.new (K.state keepers.new) (L.shown link.new)) mail.new topology.now) }
     ensures write { IsWriteUnderWay K.TELLS config.now (K.state keepers.new).told fleet.new plan.new }
-    ensures consistent { IsConsistent K.TELLS config.now (K.state keepers.new).told fleet.new }
-    ensures inboxes { AreInboxesOf config.now (pens_of fleet.new.masters) mail.new }
-    ensures goes { GoesOn fleet.old fleet.new }
-    ensures grows { MastersGrow K.TELLS config.now (K.state keepers.old).told (K.state keepers.new).told }
-    ensures later { IsLater (K.state keepers.old) (K.state keepers.new) }
+    ensures on { PostsOn K.TELLS config.now
+        (posting (scene fleet.old (K.state keepers.old) (L.shown link.old)) mail.old topology.now)
+        (posting (scene fleet.new (K.state keepers.new) (L.shown link.new)) mail.new topology.now) }
 {
     match plan.next() {
         WriteStage::Commit => commit_stage(

@@ -1,60 +1,28 @@
+use Rattle.std.specs.Prelude.{Err, Ok}
 use Rattle.core_steps.specs.Routes.{Scene, scene}
-use Rattle.core_steps.proofs.AlongLemmas.{on_after}
-use Rattle.core_steps.proofs.ReadLemmas.{goes_trans}
-use Rattle.core_plans.proofs.HeldReadStages.{asks_done, asks_lost, costs}
+use Rattle.core_plans.proofs.HeldReadStages.{asks_done, asks_lost, taken_since}
 use Rattle.core_plans.proofs.reads.ask_stage.Goals as goal
+use Rattle.read_plan.specs.declared.stages.ReadResult.TheVariants as came
 
-pub returns-in-Ok-clause-steps : goal.returns-in-Ok-clause-steps
-returns-in-Ok-clause-steps g c =
+pub returns-in-Ok : goal.returns-in-Ok
+returns-in-Ok g c =
+    let end = c.ask_over.new in
     let old : Scene = scene c.args.fleet.now (g.K.Keeper.state c.args.keepers.now) (g.L.Link.shown c.args.link.now) in
-    let new : Scene = scene c.ask_over.new.fleet (g.K.Keeper.state c.ask_over.new.keepers) (g.L.Link.shown c.ask_over.new.link) in
-    let cost = costs c.cost_since-cost.result c.calls-calls.result c.carries-carries.result old new c.cost_since-cost.ensures c.calls-calls.ensures
-    c.carries-carries.ensures in
-    (asks_done g.K.Keeper.TELLS c.args.config.now c.args.leader c.args.plan.now c.take.new.self old new c.in-Ok.given c.cost_since-cost.result.hops
-    c.cost_since-cost.result.store c.follower.result c.query-query.result.now c.floor-floor.result c.requires.stage c.requires.read
-    (record { follower_is = c.follower.ensures; query_is = c.query-query.ensures; floor_is = c.floor-floor.ensures })
-    c.in-Ok.ensures.given c.ask_over.ensures.on c.take.ensures cost.0 cost.1).steps
+    let new : Scene = scene end.fleet (g.K.Keeper.state end.keepers) (g.L.Link.shown end.link) in
+    asks_done g.K.Keeper.TELLS c.args.config.now c.args.leader c.args.plan.now c.take_since.new.plan old new c.requires.read c.ask_over.ensures.on
+    c.in-Ok.given c.follower.result c.query-query.result.now c.floor-floor.result c.requires.stage
+    (record { follower_is = c.follower.ensures; query_is = c.query-query.ensures; floor_is = c.floor-floor.ensures }) c.in-Ok.ensures.given
+    (taken_since c.args.plan.now c.take_since.new.plan (came.Ask (Ok c.in-Ok.given)) c.so_far-since.result old new c.so_far-since.ensures
+    c.take_since.ensures)
 
-pub returns-in-Ok-clause-read : goal.returns-in-Ok-clause-read
-returns-in-Ok-clause-read g c =
+pub returns-in-Err : goal.returns-in-Err
+returns-in-Err g c =
+    let end = c.ask_over.new in
     let old : Scene = scene c.args.fleet.now (g.K.Keeper.state c.args.keepers.now) (g.L.Link.shown c.args.link.now) in
-    let new : Scene = scene c.ask_over.new.fleet (g.K.Keeper.state c.ask_over.new.keepers) (g.L.Link.shown c.ask_over.new.link) in
-    let cost = costs c.cost_since-cost.result c.calls-calls.result c.carries-carries.result old new c.cost_since-cost.ensures c.calls-calls.ensures
-    c.carries-carries.ensures in
-    (asks_done g.K.Keeper.TELLS c.args.config.now c.args.leader c.args.plan.now c.take.new.self old new c.in-Ok.given c.cost_since-cost.result.hops
-    c.cost_since-cost.result.store c.follower.result c.query-query.result.now c.floor-floor.result c.requires.stage c.requires.read
-    (record { follower_is = c.follower.ensures; query_is = c.query-query.ensures; floor_is = c.floor-floor.ensures })
-    c.in-Ok.ensures.given c.ask_over.ensures.on c.take.ensures cost.0 cost.1).read
-
-pub returns-in-Err-clause-steps : goal.returns-in-Err-clause-steps
-returns-in-Err-clause-steps g c =
-    let old : Scene = scene c.args.fleet.now (g.K.Keeper.state c.args.keepers.now) (g.L.Link.shown c.args.link.now) in
-    let mid : Scene = scene c.ask_over.new.fleet (g.K.Keeper.state c.ask_over.new.keepers) (g.L.Link.shown c.ask_over.new.link) in
-    let goes = goes_trans c.args.fleet.now c.ask_over.new.fleet c.end_ask_of.new.fleet c.ask_over.ensures.on.goes c.end_ask_of.ensures.goes in
-    let cost = costs c.cost_since-cost-in-Err.result c.calls-calls.result c.carries-carries.result old mid c.cost_since-cost-in-Err.ensures
-    c.calls-calls.ensures c.carries-carries.ensures in
-    (asks_lost g.K.Keeper.TELLS c.args.config.now c.args.leader c.args.plan.now c.take-in-Err.new.self old mid c.end_ask_of.new.fleet c.in-Err.reply
-    c.cost_since-cost-in-Err.result.hops c.cost_since-cost-in-Err.result.store c.follower.result c.query-query.result.now c.floor-floor.result
-    c.requires.stage c.requires.read
-    (record { follower_is = c.follower.ensures; query_is = c.query-query.ensures; floor_is = c.floor-floor.ensures })
-    c.in-Err.ensures.err c.ask_over.ensures.on c.end_ask_of.ensures.ends c.end_ask_of.ensures.rest goes c.take-in-Err.ensures cost.0 cost.1).steps
-
-pub returns-in-Err-clause-read : goal.returns-in-Err-clause-read
-returns-in-Err-clause-read g c =
-    let old : Scene = scene c.args.fleet.now (g.K.Keeper.state c.args.keepers.now) (g.L.Link.shown c.args.link.now) in
-    let mid : Scene = scene c.ask_over.new.fleet (g.K.Keeper.state c.ask_over.new.keepers) (g.L.Link.shown c.ask_over.new.link) in
-    let goes = goes_trans c.args.fleet.now c.ask_over.new.fleet c.end_ask_of.new.fleet c.ask_over.ensures.on.goes c.end_ask_of.ensures.goes in
-    let cost = costs c.cost_since-cost-in-Err.result c.calls-calls.result c.carries-carries.result old mid c.cost_since-cost-in-Err.ensures
-    c.calls-calls.ensures c.carries-carries.ensures in
-    (asks_lost g.K.Keeper.TELLS c.args.config.now c.args.leader c.args.plan.now c.take-in-Err.new.self old mid c.end_ask_of.new.fleet c.in-Err.reply
-    c.cost_since-cost-in-Err.result.hops c.cost_since-cost-in-Err.result.store c.follower.result c.query-query.result.now c.floor-floor.result
-    c.requires.stage c.requires.read
-    (record { follower_is = c.follower.ensures; query_is = c.query-query.ensures; floor_is = c.floor-floor.ensures })
-    c.in-Err.ensures.err c.ask_over.ensures.on c.end_ask_of.ensures.ends c.end_ask_of.ensures.rest goes c.take-in-Err.ensures cost.0 cost.1).read
-
-pub returns-in-Err-clause-on : goal.returns-in-Err-clause-on
-returns-in-Err-clause-on g c =
-    let old : Scene = scene c.args.fleet.now (g.K.Keeper.state c.args.keepers.now) (g.L.Link.shown c.args.link.now) in
-    let mid : Scene = scene c.ask_over.new.fleet (g.K.Keeper.state c.ask_over.new.keepers) (g.L.Link.shown c.ask_over.new.link) in
-    on_after g.K.Keeper.TELLS c.args.config.now old mid c.end_ask_of.new.fleet c.ask_over.ensures.on c.end_ask_of.ensures.rest
-    c.end_ask_of.ensures.fleet c.end_ask_of.ensures.goes
+    let mid : Scene = scene end.fleet (g.K.Keeper.state end.keepers) (g.L.Link.shown end.link) in
+    asks_lost g.K.Keeper.TELLS c.args.config.now c.args.leader c.args.plan.now c.take_since-in-Err.new.plan old mid c.end_ask_of.new.fleet
+    c.requires.read c.ask_over.ensures.on c.end_ask_of.ensures c.in-Err.reply c.follower.result c.query-query.result.now c.floor-floor.result
+    c.requires.stage (record { follower_is = c.follower.ensures; query_is = c.query-query.ensures; floor_is = c.floor-floor.ensures })
+    c.in-Err.ensures.err
+    (taken_since c.args.plan.now c.take_since-in-Err.new.plan (came.Ask (Err c.in-Err.reply)) c.so_far-since.result old mid c.so_far-since.ensures
+    c.take_since-in-Err.ensures)

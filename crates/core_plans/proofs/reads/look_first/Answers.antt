@@ -1,36 +1,22 @@
-use Rattle.std.proofs.Common.{◌∙◌, ap, false}
-use Rattle.std.specs.Prelude.{Ok}
-use Rattle.read_plan.specs.Readings.{taken}
-use Rattle.read_plan.specs.declared.stages.ReadResult.TheVariants as came
 use Rattle.core_plans.proofs.HeldReadStages.{looks_done, looks_lost}
 use Rattle.core_plans.proofs.reads.look_first.Goals as goal
 
-pub returns-in-Ok-clause-steps : goal.returns-in-Ok-clause-steps
-returns-in-Ok-clause-steps g c =
-    (looks_done g.K.Keeper.TELLS c.args.config.now c.args.leader c.args.plan.now c.take.new.self c.args.fleet.now c.look.new.self
-    (g.K.Keeper.state c.args.keepers.now) (g.L.Link.shown c.args.link.now) c.in-Ok.field-0.look c.in-Ok.field-0.ask
-    c.follower.result c.query.result.now c.floor.result c.requires.stage c.requires.plain c.requires.read c.requires.consistent.stores
+pub returns-in-Ok : goal.returns-in-Ok
+returns-in-Ok g c =
+    let first = c.in-Ok.field-0 in
+    let here = c.look.ensures in
+    let done = c.in-Ok.ensures in
+    looks_done g.K.Keeper.TELLS c.args.config.now c.args.leader c.args.plan.now c.take.new.self (g.K.Keeper.state c.args.keepers.now)
+    (g.L.Link.shown c.args.link.now) c.args.fleet.now c.look.new.self
+    (record { consistent = c.requires.consistent; read = c.requires.read; rest = here.rest; fleet = here.fleet; goes = here.goes })
+    c.set_ask.new.self first.look first.ask c.follower.result c.query.result.now c.floor.result c.requires.stage c.requires.plain
     (record { follower_is = c.follower.ensures; query_is = c.query.ensures; floor_is = c.floor.ensures })
-    c.in-Ok.ensures.looks c.look.ensures.rest c.in-Ok.ensures.legal c.in-Ok.ensures.ask
-    (c.take.ensures ∙ ap (taken (came.Look (Ok c.in-Ok.field-0.look)) 0 false) c.set_ask.ensures)).steps
+    done.looks done.legal done.ask c.set_ask.ensures c.take.ensures
 
-pub returns-in-Ok-clause-read : goal.returns-in-Ok-clause-read
-returns-in-Ok-clause-read g c =
-    (looks_done g.K.Keeper.TELLS c.args.config.now c.args.leader c.args.plan.now c.take.new.self c.args.fleet.now c.look.new.self
-    (g.K.Keeper.state c.args.keepers.now) (g.L.Link.shown c.args.link.now) c.in-Ok.field-0.look c.in-Ok.field-0.ask
-    c.follower.result c.query.result.now c.floor.result c.requires.stage c.requires.plain c.requires.read c.requires.consistent.stores
-    (record { follower_is = c.follower.ensures; query_is = c.query.ensures; floor_is = c.floor.ensures })
-    c.in-Ok.ensures.looks c.look.ensures.rest c.in-Ok.ensures.legal c.in-Ok.ensures.ask
-    (c.take.ensures ∙ ap (taken (came.Look (Ok c.in-Ok.field-0.look)) 0 false) c.set_ask.ensures)).read
-
-pub returns-in-Err-clause-steps : goal.returns-in-Err-clause-steps
-returns-in-Err-clause-steps g c =
-    (looks_lost g.K.Keeper.TELLS c.args.config.now c.args.leader c.args.plan.now c.take-in-Err.new.self c.args.fleet.now c.look.new.self
-    (g.K.Keeper.state c.args.keepers.now) (g.L.Link.shown c.args.link.now) c.out_of_memory.result c.requires.stage c.requires.plain c.requires.read
-    c.in-Err.ensures.err c.look.ensures.goes c.out_of_memory.ensures c.take-in-Err.ensures).steps
-
-pub returns-in-Err-clause-read : goal.returns-in-Err-clause-read
-returns-in-Err-clause-read g c =
-    (looks_lost g.K.Keeper.TELLS c.args.config.now c.args.leader c.args.plan.now c.take-in-Err.new.self c.args.fleet.now c.look.new.self
-    (g.K.Keeper.state c.args.keepers.now) (g.L.Link.shown c.args.link.now) c.out_of_memory.result c.requires.stage c.requires.plain c.requires.read
-    c.in-Err.ensures.err c.look.ensures.goes c.out_of_memory.ensures c.take-in-Err.ensures).read
+pub returns-in-Err : goal.returns-in-Err
+returns-in-Err g c =
+    let here = c.look.ensures in
+    looks_lost g.K.Keeper.TELLS c.args.config.now c.args.leader c.args.plan.now c.take-in-Err.new.self (g.K.Keeper.state c.args.keepers.now)
+    (g.L.Link.shown c.args.link.now) c.args.fleet.now c.look.new.self
+    (record { consistent = c.requires.consistent; read = c.requires.read; rest = here.rest; fleet = here.fleet; goes = here.goes })
+    c.out_of_memory.result c.requires.stage c.requires.plain c.in-Err.ensures.err c.out_of_memory.ensures c.take-in-Err.ensures

@@ -6,7 +6,7 @@ use Rattle.core_plans.proofs.HeldWriteStages.{applied_still, taken_on}
 use Rattle.core_plans.proofs.WritesGoOn.{same_masters}
 use Rattle.core_plans.proofs.writes.apply_stage.Goals as goal
 use Rattle.core_plans.proofs.writes.apply_stage.Goals.{in-Ok, in-Err}
-use Rattle.write_plan.specs.Plans.{Plan, after_stage, next_of}
+use Rattle.write_plan.specs.Plans.{Writing, after_stage, next_of}
 use Rattle.write_plan.specs.declared.results.WriteResult.TheVariants as came
 
 pub returns-clause-goes : goal.returns-clause-goes
@@ -27,7 +27,7 @@ returns-clause-write g c tells tables is =
       | in-Ok w ↦ ap (λ (f : Fleet). f.masters) w.fleet-is ∙ ap (λ (f : Fleet). f.masters) w.carry_back-outcome.ensures.rest
       | in-Err w ↦ ap (λ (f : Fleet). f.masters) w.fleet-is
     ] in
-    let then = c.take.ensures.next (sym (ap next_of same ∙ c.requires.stage)) ∙ ap (λ (p : Plan). after_stage p (came.Apply outcome) hops) same in
+    let then = c.take.ensures.next (sym (ap next_of same ∙ c.requires.stage)) ∙ ap (λ (p : Writing). after_stage p (came.Apply outcome) hops) same in
     taken_on tells s tables after c.args.plan.now c.take.new.self (came.Apply outcome) hops then
     (same_masters tells s tables before after (after_stage c.args.plan.now (came.Apply outcome) hops) masters
     (applied_still tells s tables before c.args.plan.now is outcome hops))

@@ -4,6 +4,7 @@ use Rattle.core_plans.specs.Held.{IsUnderWay, StepsHeld, learner, plan_at}
 use Rattle.core_plans.proofs.GivenUp.{gives_up, no_learner, under_way_still}
 use Rattle.core_plans.proofs.PlanMaps.{steps_plan, still_under_way}
 use Rattle.core_plans.proofs.plans.HeldPlans.give_up.Goals as goal
+use Rattle.core_plans.specs.LedBy.{led_by}
 
 pub give_up-requires : goal.give_up-requires
 give_up-requires c =
@@ -23,7 +24,7 @@ returns-clause-steps c tells s leader now =
     (subst (λ seen. IsSome (option_and_then learner (plan_at seen c.args.number))) (sym c.self.view_is) c.requires) in
     steps_plan tells s leader c.args.number c.args.self.now c.self.inside.plans (c.get_mut.follows.lender after) before after now now
     c.self.view_is c.in-Some.ensures.value
-    (subst (λ plan. StepsHeld tells s leader before now plan now) (sym c.give_up.ensures) (gives_up tells s leader before now learns))
+    (subst (λ plan. StepsHeld (led_by tells s leader) before now plan now) (sym c.give_up.ensures) (gives_up tells s leader before now learns))
     (c.get_mut.follows.holds after)
 
 pub returns-clause-under_way : goal.returns-clause-under_way

@@ -26,7 +26,7 @@ use Rattle.request_check.proofs.Placing.{whatever}
 use Rattle.request_check.specs.Calls.{checked_query, checked_write}
 use Rattle.request_check.specs.Names.{configured_shard, tier_named}
 use Rattle.request_check.specs.Placed.{IsPlaced, IsPlacedCall, IsPlacedFollower, IsPlacedNode}
-use Rattle.request_check.specs.Refusal.{named, replied, reply_unless_memory}
+use Rattle.request_check.specs.Refusal.{for_name, replied, reply_unless_memory}
 use Rattle.request_check.specs.Requests.{checked_call, checked_of, checked_read_call, key_named, link_place, maybe_key_named, placed_as}
 use Rattle.request_check.specs.declared.checked.Checked.{Checked}
 use Rattle.request_check.specs.declared.checked.Checked.TheVariants as checked
@@ -34,7 +34,7 @@ use Rattle.request_check.specs.declared.checked.CheckedCall.{CheckedCall}
 use Rattle.request_check.specs.declared.checked.CheckedCall.TheVariants as of_call
 use Rattle.request_check.specs.declared.checked.LinkPlace.{LinkPlace}
 use Rattle.request_check.specs.declared.refusal.CheckRefusal.{CheckRefusal}
-use Rattle.tao_core.specs.Asked.{CallCanBeDone, CanBeDone, admitted, held_plan, may_open, new_plan, open_session, session_of}
+use Rattle.tao_core.specs.Asked.{CallCanBeDone, CanBeDone, admitted, held_plan, may_open, fresh_plan, open_session, asking_session}
 use Rattle.core_sessions.specs.Sessions.{Session, is_open}
 
 -- a session that may be opened isn't open
@@ -57,7 +57,7 @@ none_found None there full room h = refl
 none_found (Some x) there full room h = absurd (cc)
 
 -- a plan that may be held isn't held
-not_held : (plans : Plans) (plan : ℕ) → new_plan plans plan ≡ Ok tt → plan_at plans plan ≡ None
+not_held : (plans : Plans) (plan : ℕ) → fresh_plan plans plan ≡ Ok tt → plan_at plans plan ≡ None
 not_held plans plan h = none_found (plan_at plans plan) _ _ _ h
 
 some_found : {A : Type 0} (found : Option A) (refusal : Refusal) → refused_unless refusal (is_some found) ≡ Ok tt → IsSome found
@@ -70,14 +70,14 @@ both_pass (Ok x) second h = (refl, h)
 both_pass (Err refused) second h = absurd (cc)
 
 call_admitted : (sessions : List Session) (plans : Plans) (asked : Call) → admitted sessions plans (request.Call asked) ≡ Ok tt
-    → is_open sessions (session_of asked) ≡ true
-call_admitted sessions plans asked h = is_so_open sessions (session_of asked) h
+    → is_open sessions (asking_session asked) ≡ true
+call_admitted sessions plans asked h = is_so_open sessions (asking_session asked) h
 
 hold_admitted : (sessions : List Session) (plans : Plans) (plan : ℕ) (asked : Call) → admitted sessions plans (request.Hold plan asked) ≡ Ok tt
-    → (plan_at plans plan ≡ None) × (is_open sessions (session_of asked) ≡ true)
+    → (plan_at plans plan ≡ None) × (is_open sessions (asking_session asked) ≡ true)
 hold_admitted sessions plans plan asked h =
-    let both = both_pass (new_plan plans plan) (open_session sessions (session_of asked)) h in
-    (not_held plans plan both.0, is_so_open sessions (session_of asked) both.1)
+    let both = both_pass (fresh_plan plans plan) (open_session sessions (asking_session asked)) h in
+    (not_held plans plan both.0, is_so_open sessions (asking_session asked) both.1)
 
 advance_admitted : (sessions : List Session) (plans : Plans) (plan : ℕ) → admitted sessions plans (request.Advance plan) ≡ Ok tt
     → IsSome (plan_at plans plan)
@@ -97,7 +97,7 @@ module _ (s : Settings) (sessions : List Session) (plans : Plans) where
   read_can text (Err refused) there = tt
 
   -- a call that may be made, as it is checked
-  call_can : (asked : Call) → is_open sessions (session_of asked) ≡ true → IfOk (checked_call s asked) (λ c. IsPlacedCall s c → CallCanBeDone s sessions c)
+  call_can : (asked : Call) → is_open sessions (asking_session asked) ≡ true → IfOk (checked_call s asked) (λ c. IsPlacedCall s c → CallCanBeDone s sessions c)
   call_can (call.Write text) there = write_can text (checked_write s text.write) there
   call_can (call.Read text) there = read_can text (checked_query s text.query) there
 
@@ -179,13 +179,13 @@ module _ (s : Settings) (sessions : List Session) (plans : Plans) where
   by_word request.Settle h = λ here. tt
   by_word asked h = absurd (cc)
 
-named_ok : (found : Result Checked NameRefused) (c : Checked) → replied (named found) ≡ Ok c → found ≡ Ok c
+named_ok : (found : Result Checked NameRefused) (c : Checked) → replied (for_name found) ≡ Ok c → found ≡ Ok c
 named_ok (Ok x) c h = cc
 named_ok (Err refused) c h = absurd (cc)
 
 -- what a request that was admitted is checked to can be done
 pub checked_can : (s : Settings) (sessions : List Session) (plans : Plans) (asked : Request) (r : Result Checked CheckRefusal)
-    → admitted sessions plans asked ≡ Ok tt → Gives reply_unless_memory r (replied (named (checked_of s asked))) → IfOk r (IsPlaced s)
+    → admitted sessions plans asked ≡ Ok tt → Gives reply_unless_memory r (replied (for_name (checked_of s asked))) → IfOk r (IsPlaced s)
     → IfOk r (CanBeDone s sessions plans)
 checked_can s sessions plans asked (Ok c) there h here =
     (subst (λ r. IfOk r (λ x. IsPlaced s x → CanBeDone s sessions plans x)) (named_ok (checked_of s asked) c h) (by_word s sessions plans asked there)) here

@@ -9,7 +9,7 @@ use Rattle.core_mail.proofs.InboxLemmas.{inboxes_stay}
 use Rattle.core_mail.specs.Inboxes.{AreInboxesOf, Inboxes, TakesOut, WaitsAt, shown_message}
 use Rattle.core_model.proofs.Places.{set_same}
 use Rattle.core_model.proofs.Turns.{turn_of}
-use Rattle.core_model.specs.Consistent.{IsConsistent, IsFleetOf, IsNodeOf}
+use Rattle.core_model.specs.Consistent.{GoesOn, IsConsistent, IsFleetOf, IsNodeOf}
 use Rattle.core_model.specs.Evictions.{IsCacheOf}
 use Rattle.core_model.specs.Fleet.{ChangesNode, Fleet, HasNode, follower_names, followers_from, named, regions_of, tiers_from}
 use Rattle.core_model.specs.Messages.{DeliversAt, IsRefillFor, TakesRefill}
@@ -17,9 +17,10 @@ use Rattle.core_model.specs.Pens.{pens_of}
 use Rattle.core_model.specs.Reads.{Wanted, wanted}
 use Rattle.core_model.specs.Serving.{IsLeaderFor}
 use Rattle.core_model.specs.Stores.{AreStoresOf, master_log}
+use Rattle.core_plans.proofs.AsksHeld.{read_opens_none, refill_opens_none}
 use Rattle.core_nodes.specs.Shown.{IsCacheNode, IsHeldAt, IsMarkAt}
 use Rattle.core_steps.specs.ReadSteps.{IsReached}
-use Rattle.core_steps.specs.Reads.{ReadFails, ReadsAlong}
+use Rattle.core_steps.specs.Reads.{ReadFails, ReadsAlong, sent_read}
 use Rattle.core_steps.specs.Replies.{refilled_as}
 use Rattle.core_steps.specs.Routes.{Scene, scene}
 use Rattle.core_steps.specs.declared.routes.Route.{Route}
@@ -46,7 +47,8 @@ use Rattle.tao_base.specs.Keys.{key_shard}
 use Rattle.tao_base.specs.Queries.{query_key, query_shard}
 use Rattle.tao_base.specs.declared.entry.Entry.{Entry}
 use Rattle.tao_base.specs.declared.id.Key.{Key}
-use Rattle.tao_keeper.specs.KeeperState.{KeeperState}
+use Rattle.tao_keeper.proofs.Growing.{growing_laws}
+use Rattle.tao_keeper.specs.KeeperState.{KeeperState, KeepsTables}
 use Rattle.tao_keeper.specs.Table.{Tables}
 use Rattle.tao_link.specs.Shown.{LinkShown}
 use Rattle.topology.specs.Config.{Settings}
@@ -57,10 +59,13 @@ use Rattle.topology.specs.States.{NodeStates, is_cache}
 use Rattle.shard_tables.specs.StoreView.{Store}
 use Rattle.words.specs.declared.DeliveryWord.{DeliveryWord}
 use Rattle.words.specs.declared.DeliveryWord.TheVariants as word
-use Rattle.tao_core.specs.Core.{CoreState, IsConsistentCore, Moment, moment}
+use Rattle.tao_core.specs.Core.{CoreState, IsConsistentCore, Moment, StaysHeld, moment}
 use Rattle.tao_core.specs.Deliveries.{AnswersDeliver, AnswersRefill, AnswersSecond, IsExactNow, IsProcessed, IsShown, RefillGoes}
 use Rattle.tao_core.specs.Deliveries.{home_region, refill_route, shown_item}
-use Rattle.tao_core.proofs.Exact.{held_exact, log_is}
+use Rattle.core_steps.proofs.ReadLemmas.{log_is}
+use Rattle.core_steps.proofs.Repeats.{held_exact}
+use Rattle.tao_core.proofs.HeldOn.{delivers_held, held_on}
+use Rattle.tao_core.proofs.Keeping.{going_core}
 use Rattle.tao_core.proofs.Reaching.{kept_reaches}
 use Rattle.tao_core.proofs.Ways.{leader_for}
 
@@ -105,12 +110,27 @@ processed_masters asked node m old new (AtNode (Cache (Delivered told))) does =
     deliver_masters (types_of old.settings.schema) m told.dropped node old.fleet new.fleet does.1.delivers
 processed_masters asked node m old new reply does = absurd does
 
+-- what a node that processes a message leaves, and how it is replied
+pub record ProcessLeaves (asked : DeliveryWord) (node : NodeName) (m : SeenMaint) (old : CoreState) (reply : Reply) (new : CoreState) : Type 0 where
+  pub does : IsProcessed asked node m old reply new
+  pub fleet : IsFleetOf old.settings new.fleet
+  pub on : StaysHeld old.fleet new.fleet
+  pub rest : new ≡ record old { fleet = new.fleet }
+
 -- the message was processed, and its node has a mark
-pub processed : (asked : DeliveryWord) (node : NodeName) (m : SeenMaint) (told : Message) (dropped mark : ℕ) (old new : CoreState) → told ≡ shown_message m
-    → DeliversAt (types_of old.settings.schema) m dropped node old.fleet new.fleet → IsMarkAt new.fleet node told.shard (Some mark)
-    → IsProcessed asked node m old (AtNode (Cache (Delivered (record { word = asked; dropped = dropped; mark = mark; message = told })))) new
-processed asked node m told dropped mark old new is delivers at =
-    (refl, record { delivers = delivers; mark = subst (λ (t : Message). IsMarkAt new.fleet node t.shard (Some mark)) is at; message_is = is })
+pub processed : (asked : DeliveryWord) (node : NodeName) (m : SeenMaint) (told : Message) (dropped mark : ℕ) (core now : CoreState) (own : core ≡ now)
+    (left : Fleet) → told ≡ shown_message m → DeliversAt (types_of core.settings.schema) m dropped node core.fleet left
+    → IsMarkAt left node told.shard (Some mark) → IsFleetOf core.settings left → GoesOn core.fleet left
+    → ProcessLeaves asked node m now (AtNode (Cache (Delivered (record { word = asked; dropped = dropped; mark = mark; message = told }))))
+    (record core { fleet = left })
+processed asked node m told dropped mark core now own left is delivers at fleet goes =
+    let reply : Reply = AtNode (Cache (Delivered (record { word = asked; dropped = dropped; mark = mark; message = told }))) in
+    subst (λ x. ProcessLeaves asked node m x reply (record core { fleet = left })) own (record {
+      does = (refl, record { delivers = delivers; mark = subst (λ (t : Message). IsMarkAt left node t.shard (Some mark)) is at; message_is = is });
+      fleet = fleet;
+      on = record { goes = goes; opens = delivers_held _ _ _ node core.fleet left delivers };
+      rest = refl;
+    })
 
 -- the message that was taken out was processed
 pub taken_answers : (node : NodeName) (place : ℕ) (m : SeenMaint) (old between new : CoreState) (reply : Reply) → between ≡ record old { mail = between.mail }
@@ -213,7 +233,8 @@ follower_has s f node fleet there = subst (λ names. Contains names node) (sym f
 
 -- its refill goes to a leader that may be asked
 pub refill_leader : (tells : Bool) (tables : Tables) (core : CoreState) (node : NodeName) (region shard asked : ℕ) (leader : NodeName)
-    → IsConsistentCore tells tables core → Contains (follower_names core.settings) node → region ≡ home_region node → shard ≡ asked → asked < core.settings.shards
+    → IsConsistentCore tells tables core → Contains (follower_names core.settings) node → region ≡ home_region node → shard ≡ asked
+    → asked < core.settings.shards
     → leader ≡ preferred_leader core.states region shard
     → (region < length core.states.regions → IsTrue (is_cache core.states.regions leader)) → IsLeaderFor core.settings asked leader
 refill_leader tells tables core node region shard asked leader of there home is here preferred known =
@@ -240,7 +261,7 @@ refill_reached tells s keepers masters name refill are is told =
 
 -- a read isn't refused for want of a refill
 not_refused : (tells : Bool) (s : Settings) (route : Route) (read : Wanted) (node : NodeName) (reply : Reply) (old new : Scene)
-    → Refused (OfNode (NoRefill node)) ≡ refilled_as reply → ReadsAlong tells s route read reply old new → ⊥
+    → Refused (OfNode (NoRefill node)) ≡ refilled_as reply → ReadsAlong tells s (sent_read route read) reply old new → ⊥
 not_refused tells s route read node (Called (called.Read reply)) old new h reads = absurd (cc)
 not_refused tells s route read node (Refused refused) old new h reads =
     subst (λ r. ReadFails s route read.query r old new) (sym h) reads.fails
@@ -258,8 +279,8 @@ refill_went tells node old reply new goes = goes
 pub refill_answers : (tells : Bool) (node : NodeName) (core : CoreState) (left : Fleet) (new : CoreState) (before now : KeeperState) (from to : LinkShown)
     (refill : Refill) (read reply : Reply) → ChangesNode node (TakesRefill (Some refill)) core.fleet.followers left.followers
     → left ≡ record core.fleet { followers = left.followers }
-    → ReadsAlong tells core.settings (refill_route core node (query_shard refill.query)) (wanted refill.query refill.floor) read (scene left before from)
-    (scene new.fleet now to)
+    → ReadsAlong tells core.settings (sent_read (refill_route core node (query_shard refill.query)) (wanted refill.query refill.floor)) read
+    (scene left before from) (scene new.fleet now to)
     → IsConsistent tells core.settings now.told new.fleet → query_shard refill.query < core.settings.shards
     → reply ≡ refilled_as read → AnswersRefill tells node (moment core before from) reply (moment new now to)
 refill_answers tells node core left new before now from to refill read reply takes rest reads consistent here same =
@@ -269,8 +290,8 @@ refill_answers tells node core left new before now from to refill read reply tak
       takes = takes;
       read = read;
       reads =
-          subst (λ (f : Fleet). ReadsAlong tells core.settings (refill_route core node (query_shard refill.query)) (wanted refill.query refill.floor) read
-          (scene f before from) (scene new.fleet now to)) rest reads;
+          subst (λ (f : Fleet). ReadsAlong tells core.settings (sent_read (refill_route core node (query_shard refill.query))
+          (wanted refill.query refill.floor)) read (scene f before from) (scene new.fleet now to)) rest reads;
       reaches = kept_reaches tells core.settings (refill_route core node (query_shard refill.query)) (wanted refill.query refill.floor) read
           (scene left before from) (scene new.fleet now to) reads consistent here;
       reply_is = same;
@@ -302,3 +323,84 @@ refill_none tells node core after keepers link reply is none rest =
       none = none;
       same = ap (λ (f : Fleet). moment (record core { fleet = f }) keepers link) (none_refilled node core.fleet after none rest);
     })
+
+-- ---- what refills leave
+
+-- what a refill leaves, and how it is replied
+pub record RefillLeaves (tells : Bool) (node : NodeName) (old : Moment) (reply : Reply) (new : Moment) : Type 0 where
+  pub does : AnswersRefill tells node old reply new
+  pub is_consistent : IsConsistentCore tells new.keepers.told new.core
+  pub on : StaysHeld old.core.fleet new.core.fleet
+  pub rest : new.core ≡ record old.core { fleet = new.core.fleet }
+
+-- what waited first was taken out
+module _ (tells : Bool) (node : NodeName) (core now : CoreState) (own : core ≡ now) (before : KeeperState) (from : LinkShown) (left : Fleet)
+    (of_now : IsConsistentCore tells before.told now) (first : Option Refill) (takes : ChangesNode node (TakesRefill first) core.fleet.followers left.followers)
+    (rest : left ≡ record core.fleet { followers = left.followers }) (fleet : IsFleetOf core.settings left) (goes : GoesOn core.fleet left) where
+  of : IsConsistentCore tells before.told core
+  of = subst (IsConsistentCore tells before.told) (sym own) of_now
+
+  pub left_consistent : IsConsistentCore tells before.told (record core { fleet = left })
+  left_consistent =
+      going_core tells before.told core of before.told left (refill_consistent tells core.settings before.told core.fleet left of.consistent rest fleet) goes
+      (growing_laws.stays tells before.told before.told (λ told at. refl))
+
+  left_held : StaysHeld core.fleet left
+  left_held = record { goes = goes; opens = refill_opens_none node core.fleet.followers left.followers first takes }
+
+  pub refill_found : (refill : Refill) (read reply : Reply) (new : CoreState) (later : KeeperState) (to : LinkShown) → first ≡ Some refill
+      → IsRefillFor core.settings (pens_of core.fleet.masters) node refill
+      → ReadsAlong tells core.settings (sent_read (refill_route core node (query_shard refill.query)) (wanted refill.query refill.floor)) read
+      (scene left before from) (scene new.fleet later to)
+      → IsConsistentCore tells later.told new → StaysHeld left new.fleet → new ≡ record core { fleet = new.fleet } → reply ≡ refilled_as read
+      → RefillLeaves tells node (moment now before from) reply (moment new later to)
+  refill_found refill read reply new later to is of_node reads consistent on same reply_is =
+      subst (λ x. RefillLeaves tells node (moment x before from) reply (moment new later to)) own (record {
+        does = refill_answers tells node core left new before later from to refill read reply
+            (subst (λ r. ChangesNode node (TakesRefill r) core.fleet.followers left.followers) is takes) rest reads
+            (subst (λ s. IsConsistent tells s later.told new.fleet) (ap (λ (x : CoreState). x.settings) same) consistent.consistent) of_node.here reply_is;
+        is_consistent = consistent;
+        on = held_on core.fleet left new.fleet left_held on;
+        rest = same;
+      })
+
+  pub refill_missed : (reply : Reply) → first ≡ None → reply ≡ Refused (OfNode (NoRefill node))
+      → RefillLeaves tells node (moment now before from) reply (moment (record core { fleet = left }) before from)
+  refill_missed reply is reply_is =
+      subst (λ x. RefillLeaves tells node (moment x before from) reply (moment (record core { fleet = left }) before from)) own (record {
+        does = refill_none tells node core left before from reply reply_is
+            (subst (λ r. ChangesNode node (TakesRefill r) core.fleet.followers left.followers) is takes) rest;
+        is_consistent = left_consistent;
+        on = left_held;
+        rest = refl;
+      })
+
+-- what the read of a refill leaves
+pub record RefillReads (tells : Bool) (node : NodeName) (refill : Refill) (old : Moment) (reply : Reply) (new : Moment) : Type 0 where
+  pub reads : ReadsAlong tells old.core.settings (sent_read (refill_route old.core node (query_shard refill.query)) (wanted refill.query refill.floor)) reply
+      (scene old.core.fleet old.keepers old.link) (scene new.core.fleet new.keepers new.link)
+  pub is_consistent : IsConsistentCore tells new.keepers.told new.core
+  pub on : StaysHeld old.core.fleet new.core.fleet
+  pub rest : new.core ≡ record old.core { fleet = new.core.fleet }
+
+module _ (tells : Bool) (node : NodeName) (refill : Refill) (core now : CoreState) (own : core ≡ now) (before : KeeperState)
+    (of_now : IsConsistentCore tells before.told now) where
+  of_core : IsConsistentCore tells before.told core
+  of_core = subst (IsConsistentCore tells before.told) (sym own) of_now
+
+  pub refill_reads : (leader : NodeName) (region shard : ℕ) (from to : LinkShown) (reply : Reply) (fleet : Fleet) (later : KeeperState)
+      → region ≡ home_region node → shard ≡ query_shard refill.query → leader ≡ preferred_leader core.states region shard
+      → ReadsAlong tells core.settings (sent_read (record { follower = node; leader = leader }) (wanted refill.query refill.floor)) reply
+      (scene core.fleet before from) (scene fleet later to)
+      → IsConsistent tells core.settings later.told fleet → GoesOn core.fleet fleet → KeepsTables tells before later
+      → RefillReads tells node refill (moment now before from) reply (moment (record core { fleet = fleet }) later to)
+  refill_reads leader region shard from to reply fleet later home is preferred reads consistent goes stays =
+      let read = wanted refill.query refill.floor in
+      subst (λ x. RefillReads tells node refill (moment x before from) reply (moment (record core { fleet = fleet }) later to)) own (record {
+        reads = subst (λ (l : NodeName). ReadsAlong tells core.settings (sent_read (record { follower = node; leader = l }) read) reply
+            (scene core.fleet before from) (scene fleet later to))
+            (refill_chosen core.states node leader region shard (query_shard refill.query) home is preferred) reads;
+        is_consistent = going_core tells before.told core of_core later.told fleet consistent goes (growing_laws.stays tells before.told later.told stays);
+        on = record { goes = goes; opens = read_opens_none _ _ _ _ _ _ _ reads };
+        rest = refl;
+      })

@@ -6,7 +6,7 @@ use Rattle.std.specs.List.{AllByRecursion}
 use Rattle.std.specs.Option.{option_map}
 use Rattle.std.specs.Prelude.{◌==◌, All, IsSomeAnd, find}
 use Rattle.core_model.proofs.Places.{one_some}
-use Rattle.core_sessions.specs.Sessions.{Session, is_open, place_of, session_at}
+use Rattle.core_sessions.specs.Sessions.{Session, is_open, opening_of, session_at}
 use Rattle.core_sessions.specs.declared.sessions.OpenSession.{OpenSession}
 
 pub found_open : (sessions : List Session) (number : ℕ) → is_open sessions number ≡ true → (session : Session) × (session_at sessions number ≡ Some session)
@@ -52,9 +52,9 @@ some_there P (Some x) h = (x, refl, h)
 pub record FoundAt (sessions : List Session) (number : ℕ) (place : OpenSession) : Type 0 where
   pub session : Session
   pub at : session_at sessions number ≡ Some session
-  pub is : place ≡ place_of session
+  pub is : place ≡ opening_of session
 
 pub found_at : (sessions : List Session) (number : ℕ) (place : OpenSession)
-    → IsSomeAnd (session_at sessions number) (λ s. place ≡ place_of s) → FoundAt sessions number place
+    → IsSomeAnd (session_at sessions number) (λ s. place ≡ opening_of s) → FoundAt sessions number place
 found_at sessions number place found =
-    let one = some_there (λ s. place ≡ place_of s) (session_at sessions number) found in record { session = one.0; at = one.1; is = one.2 }
+    let one = some_there (λ s. place ≡ opening_of s) (session_at sessions number) found in record { session = one.0; at = one.1; is = one.2 }

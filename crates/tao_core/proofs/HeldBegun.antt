@@ -1,24 +1,27 @@
 -- A call that is held: its plan can go on, and its first stage finds no want of a server.
-use Rattle.std.proofs.Common.{◌≡◌, ℕ, Bool, true, false, List, Option, Some, None, refl, ap, sym, ◌∙◌, subst, inl, inr, arith}
+use Rattle.std.proofs.Common.{◌≡◌, ℕ, Bool, true, false, List, Option, Some, None, refl, ap, sym, ◌∙◌, subst, inl, inr}
 use Rattle.std.specs.Prelude.{IsSome, IsSomeAnd}
 use Rattle.cache_items.specs.declared.look.Look.{Look}
 use Rattle.cache_items.specs.declared.look.Look.TheVariants.{Hit, Miss}
+use Rattle.core_model.specs.Consistent.{GoesOn}
+use Rattle.core_model.specs.Growing.{MastersGrow}
 use Rattle.core_model.specs.Pens.{pens_of}
 use Rattle.core_model.specs.declared.named.Named.{Named}
 use Rattle.core_model.proofs.Places.{one_some}
 use Rattle.core_nodes.proofs.FleetLemmas.{goes_self}
 use Rattle.core_plans.specs.Held.{AddsPlan, HoldsAsk, IsOver, IsUnderWay, Plans, StepsHeld, next_stage, plan_at}
 use Rattle.core_plans.specs.HeldReads.{DoesLook, begun_read}
-use Rattle.core_plans.specs.HeldWrites.{call_by, way_by}
+use Rattle.core_plans.specs.HeldWrites.{call_of_plan, way_by}
 use Rattle.core_plans.specs.declared.held.HeldPlan.{HeldPlan}
 use Rattle.core_plans.specs.declared.held.HeldPlan.TheVariants as held
 use Rattle.core_plans.proofs.AsksHeld.{same_opens_none}
+use Rattle.core_plans.specs.LedBy.{led_by}
 use Rattle.core_nodes.proofs.GrowingLemmas.{stays_masters}
-use Rattle.core_sessions.specs.Sessions.{Session, is_open, place_of, session_at}
+use Rattle.core_sessions.specs.Sessions.{Session, is_open, opening_of, session_at}
 use Rattle.core_sessions.specs.declared.sessions.OpenSession.{OpenSession}
 use Rattle.core_steps.specs.Routes.{Scene}
 use Rattle.core_steps.specs.Posting.{Posting}
-use Rattle.core_steps.specs.Writes.{RefusesCommit}
+use Rattle.core_steps.specs.Writes.{RefusesCommit, sent_write}
 use Rattle.follower_cache.specs.Seen.{FollowerState}
 use Rattle.node_name.specs.declared.NodeName.{NodeName}
 use Rattle.read_plan.specs.Ends.{EndsAt, EndsWith}
@@ -35,17 +38,18 @@ use Rattle.request_check.specs.declared.checked.CheckedCall.TheVariants as call
 use Rattle.tao_base.specs.Queries.{query_key, query_shard}
 use Rattle.tao_base.specs.Writes.{write_shard}
 use Rattle.tao_base.specs.declared.entry.Origin.TheVariants.{Client}
-use Rattle.tao_keeper.specs.KeeperState.{KeeperState}
-use Rattle.tao_keeper.specs.Table.{Tables}
+use Rattle.tao_keeper.specs.KeeperState.{IsLater, KeeperState}
 use Rattle.tao_link.specs.Shown.{LinkShown}
 use Rattle.topology.specs.Choices.{chosen_follower}
 use Rattle.topology.specs.Config.{Settings}
 use Rattle.words.specs.declared.PlanWord.TheVariants as word
-use Rattle.write_plan.specs.Plans.{Plan, new_plan, reply_of}
+use Rattle.write_plan.specs.Plans.{Writing, begun_write, reply_of}
 use Rattle.tao_core.specs.Asked.{CallCanBeDone}
 use Rattle.tao_core.specs.Calls.{posting_of}
 use Rattle.tao_core.specs.Core.{CoreState, IsCoreOf, IsOfSession, IsSessionOf, Moment, moment}
-use Rattle.tao_core.specs.HeldCalls.{AnswersHold, Held, HoldGoes, Leaves, begun_plan, call_floor, call_session, call_shard, held_in, plan_leader, told_by}
+use Rattle.tao_core.specs.HeldCalls.{AnswersHold, Held, HoldGoes, Leaves, StepsAt}
+use Rattle.tao_core.specs.HeldCalls.{begun_plan, call_floor, call_session, call_shard, held_in, plan_leader, told_with_number}
+use Rattle.tao_core.proofs.HeldOn.{same_later}
 use Rattle.tao_core.proofs.HeldKeeping.{plans_set, set_each, set_here, with_plans}
 use Rattle.tao_core.proofs.Found.{found_at, open_found, session_is}
 use Rattle.tao_core.proofs.HeldSteps.{MayHold, StepsAsks, holds_none}
@@ -153,24 +157,24 @@ look_served s true p q old new region looks over =
 
 module _ (tells : Bool) (s : Settings) (by : NodeName) (session : Session) (follower : NodeName) (old new : Posting) (region : ℕ) where
   -- no stage is refused for want of a server
-  served : (asked : CheckedCall) (after : HeldPlan) → StepsHeld tells s by (begun_plan s session follower asked) old after new
+  served : (asked : CheckedCall) (after : HeldPlan) → StepsHeld (led_by tells s by) (begun_plan s session follower asked) old after new
       → IsOver after (Refused (Node (NoServer region))) → ⊥
   served (call.Write write) (held.Read q) steps over = steps
   served (call.Write write) (held.Write q) (inl commits) over =
-      let ended = subst (λ (r : Plan). reply_of r ≡ Some (Refused (Node (NoServer region)))) commits.then over in
+      let ended = subst (λ (r : Writing). reply_of r ≡ Some (Refused (Node (NoServer region)))) commits.then over in
       absurd (cc)
   served (call.Write write) (held.Write q) (inr refuses) over =
       let ended : Some refuses.reply ≡ Some (Refused (Node (NoServer region))) =
-      subst (λ (r : Plan). reply_of r ≡ Some (Refused (Node (NoServer region)))) refuses.then over in
+      subst (λ (r : Writing). reply_of r ≡ Some (Refused (Node (NoServer region)))) refuses.then over in
       let same = one_some refuses.reply (Refused (Node (NoServer region))) ended in
-      let p : Plan = new_plan write.write (Client write.session write.seq) session.region session.tier follower in
-      subst (λ reply. RefusesCommit tells s (way_by by p) (call_by p) reply old new) same refuses.refuses
+      let p : Writing = begun_write write.write (Client write.session write.seq) session.region session.tier follower in
+      subst (λ reply. RefusesCommit tells s (sent_write (way_by by p) (call_of_plan p)) reply old new) same refuses.refuses
   served (call.Read read) (held.Write q) steps over = steps
   served (call.Read read) (held.Read q) steps over =
       look_served s read.critical (begun_read s read.query session.region session.tier (call_floor session (call.Read read)) read.critical follower) q
       old.scene new.scene region steps.steps.does over
 
-told_refused : (number region : ℕ) (ended : Reply) → Refused (Node (NoServer region)) ≡ told_by number ended → ended ≡ Refused (Node (NoServer region))
+told_refused : (number region : ℕ) (ended : Reply) → Refused (Node (NoServer region)) ≡ told_with_number number ended → ended ≡ Refused (Node (NoServer region))
 told_refused number region (Called reply) h = absurd (cc)
 told_refused number region reply h = sym h
 
@@ -190,7 +194,7 @@ module _ (tells : Bool) (number region : ℕ) (asked : CheckedCall) (old new : M
       let leader : NodeName = plan_leader start.core goes.steps.before in
       leaves_served number region goes.steps.after (next_stage goes.steps.after) (held_in start.core) (held_in new.core)
       (served tells old.core.settings leader goes.session goes.follower (posting_of start) (posting_of new) region asked goes.steps.after
-      (subst (λ p. StepsHeld tells old.core.settings leader p (posting_of start) goes.steps.after (posting_of new)) same goes.steps.steps))
+      (subst (λ p. StepsHeld (led_by tells old.core.settings leader) p (posting_of start) goes.steps.after (posting_of new)) same goes.steps.steps))
       goes.steps.leaves
 
 -- what a call that is held is replied
@@ -206,14 +210,14 @@ hold_went tells number asked old reply new goes = goes
 pub record IsFound (sessions : List Session) (asked : CheckedCall) (place : OpenSession) (floor : ℕ) : Type 0 where
   pub session : Session
   pub found : session_at sessions (call_session asked) ≡ Some session
-  pub place_is : place ≡ place_of session
+  pub place_is : place ≡ opening_of session
   pub floor_is : floor ≡ call_floor session asked
 
 pub found_for : (sessions : List Session) (number : ℕ) (asked : CheckedCall) (place : OpenSession) (floor : ℕ) → number ≡ call_session asked
-    → IsSomeAnd (session_at sessions number) (λ s. place ≡ place_of s)
+    → IsSomeAnd (session_at sessions number) (λ s. place ≡ opening_of s)
     → IsSomeAnd (session_at sessions (call_session asked)) (λ s. floor ≡ call_floor s asked) → IsFound sessions asked place floor
 found_for sessions number asked place floor same at_place at_floor =
-    let one = found_at sessions (call_session asked) place (subst (λ n. IsSomeAnd (session_at sessions n) (λ s. place ≡ place_of s)) same at_place) in
+    let one = found_at sessions (call_session asked) place (subst (λ n. IsSomeAnd (session_at sessions n) (λ s. place ≡ opening_of s)) same at_place) in
     record {
       session = one.session;
       found = one.at;
@@ -223,15 +227,56 @@ found_for sessions number asked place floor same at_place at_floor =
 
 -- who is chosen for its place
 pub chosen_for : (core : CoreState) (asked : CheckedCall) (place : OpenSession) (session : Session) (follower : Option NodeName) (shard : ℕ)
-    → place ≡ place_of session → shard ≡ call_shard asked → follower ≡ chosen_follower core.states place.region place.tier shard
+    → place ≡ opening_of session → shard ≡ call_shard asked → follower ≡ chosen_follower core.states place.region place.tier shard
     → follower ≡ chosen_follower core.states session.region session.tier (call_shard asked)
 chosen_for core asked place session follower shard is at chosen =
     subst (λ (o : OpenSession). follower ≡ chosen_follower core.states o.region o.tier (call_shard asked)) is
     (subst (λ n. follower ≡ chosen_follower core.states place.region place.tier n) at chosen)
 
+-- its plan is added, and the sessions are as they were
+module _ (tells : Bool) (number : ℕ) (asked : CheckedCall) (core now : CoreState) (own : core ≡ now) (keepers : KeeperState) (called : ℕ)
+    (place : OpenSession) (floor shard : ℕ) (follower : NodeName) (of_now : IsCoreOf tells keepers.told now) (called_is : called ≡ call_session asked)
+    (at_place : IsSomeAnd (session_at core.sessions called) (λ s. place ≡ opening_of s))
+    (at_floor : IsSomeAnd (session_at core.sessions (call_session asked)) (λ s. floor ≡ call_floor s asked)) (shard_is : shard ≡ call_shard asked)
+    (chosen : Some follower ≡ chosen_follower core.states place.region place.tier shard) (plan : HeldPlan)
+    (begun : (session : Session) → place ≡ opening_of session → floor ≡ call_floor session asked
+    → plan ≡ begun_plan core.settings session follower asked) (added : Plans) (adds : AddsPlan number plan core.plans added) (sessions : List Session)
+    (same : sessions ≡ core.sessions) where
+  one : IsFound core.sessions asked place floor
+  one = found_for core.sessions called asked place floor called_is at_place at_floor
+
+  chosen_one : Some follower ≡ chosen_follower core.states one.session.region one.session.tier (call_shard asked)
+  chosen_one = chosen_for core asked place one.session (Some follower) shard one.place_is shard_is chosen
+
+  adds_one : AddsPlan number (begun_plan core.settings one.session follower asked) core.plans added
+  adds_one = subst (λ p. AddsPlan number p core.plans added) (begun one.session one.place_is one.floor_is) adds
+
+  pub added_core : CallCanBeDone now.settings now.sessions asked → plan_at now.plans number ≡ None
+      → IsCoreOf tells keepers.told (record core { plans = added; sessions = sessions })
+  added_core can free =
+      subst (λ xs. IsCoreOf tells keepers.told (record core { plans = added; sessions = xs })) (sym same)
+      (begun_core tells keepers core (subst (IsCoreOf tells keepers.told) (sym own) of_now) one.session follower asked one.found chosen_one
+      (subst (λ (x : CoreState). CallCanBeDone x.settings x.sessions asked) (sym own) can) number added
+      (subst (λ (x : CoreState). plan_at x.plans number ≡ None) (sym own) free) adds_one)
+
+  pub added_went : (link : LinkShown) (reply : Reply) (new : Moment)
+      → StepsAt tells word.Hold number (moment (record core { plans = added; sessions = sessions }) keepers link) reply new
+      → AnswersHold tells number asked (moment now keepers link) reply new
+  added_went link reply new steps =
+      hold_went tells number asked (moment now keepers link) reply new
+      (subst (λ x. HoldGoes tells number asked (moment x keepers link) reply new) own (record {
+        session = one.session;
+        follower = follower;
+        added = added;
+        found = one.found;
+        chosen = sym chosen_one;
+        adds = adds_one;
+        steps = subst (λ xs. StepsAt tells word.Hold number (moment (record core { plans = added; sessions = xs }) keepers link) reply new) same steps;
+      }))
+
 -- none could be
 pub none_found : (tells : Bool) (number : ℕ) (old : Moment) (asked : CheckedCall) (place : OpenSession) (called shard : ℕ) → called ≡ call_session asked
-    → IsSomeAnd (session_at old.core.sessions called) (λ s. place ≡ place_of s) → shard ≡ call_shard asked
+    → IsSomeAnd (session_at old.core.sessions called) (λ s. place ≡ opening_of s) → shard ≡ call_shard asked
     → None ≡ chosen_follower old.core.states place.region place.tier shard
     → AnswersHold tells number asked old (Refused (Node (NoServer place.region))) old
 none_found tells number old asked place called shard same at_place at none =
@@ -244,20 +289,27 @@ none_found tells number old asked place called shard same at_place at none =
       same = refl;
     }
 
--- memory was wanting, and nothing changed
-pub want_found : (tells : Bool) (number : ℕ) (asked : CheckedCall) (core : CoreState) (sessions : List Session) (plans : Plans) (keepers : KeeperState)
-    (link : LinkShown) (reply : Reply) → sessions ≡ core.sessions → plans ≡ core.plans → reply ≡ Refused (Memory 0)
-    → AnswersHold tells number asked (moment core keepers link) reply (moment (record core { sessions = sessions; plans = plans }) keepers link)
-want_found tells number asked core sessions plans keepers link reply same held is =
-    subst (λ r. AnswersHold tells number asked (moment core keepers link) r (moment (record core { sessions = sessions; plans = plans }) keepers link))
-    (sym is) (inl (record {
-      position_is = refl;
-      same = ap (λ xs. moment (record core { sessions = xs; plans = plans }) keepers link) same
-          ∙ ap (λ ps. moment (record core { plans = ps }) keepers link) held;
-    }))
+-- what a call to hold leaves, and how it is replied
+pub record HoldLeaves (tells : Bool) (number : ℕ) (asked : CheckedCall) (old : Moment) (reply : Reply) (new : Moment) : Type 0 where
+  pub does : AnswersHold tells number asked old reply new
+  pub keepers : IsCoreOf tells new.keepers.told new.core
+  pub goes : GoesOn old.core.fleet new.core.fleet
+  pub grows : MastersGrow tells old.core.settings old.keepers.told new.keepers.told
+  pub later : IsLater old.keepers new.keepers
 
-pub core_same : (tells : Bool) (tables : Tables) (core : CoreState) (sessions : List Session) (plans : Plans) → sessions ≡ core.sessions
-    → plans ≡ core.plans → IsCoreOf tells tables core → IsCoreOf tells tables (record core { sessions = sessions; plans = plans })
-core_same tells tables core sessions plans same held of =
-    subst (λ xs. IsCoreOf tells tables (record core { sessions = xs; plans = plans })) (sym same)
-    (subst (λ ps. IsCoreOf tells tables (record core { plans = ps })) (sym held) of)
+-- memory was wanting, and nothing changed
+pub hold_wants : (tells : Bool) (number : ℕ) (asked : CheckedCall) (core now : CoreState) (own : core ≡ now) (sessions : List Session) (plans : Plans)
+    (keepers : KeeperState) (link : LinkShown) (reply : Reply) → IsCoreOf tells keepers.told now → sessions ≡ core.sessions → plans ≡ core.plans
+    → reply ≡ Refused (Memory 0)
+    → HoldLeaves tells number asked (moment now keepers link) reply (moment (record core { sessions = sessions; plans = plans }) keepers link)
+hold_wants tells number asked core now own sessions plans keepers link reply of same held is =
+    let after : CoreState = record core { sessions = sessions; plans = plans } in
+    let stays : after ≡ now = ap (λ xs. record core { sessions = xs; plans = plans }) same ∙ ap (λ ps. record core { plans = ps }) held ∙ own in
+    subst (λ r. HoldLeaves tells number asked (moment now keepers link) r (moment after keepers link)) (sym is)
+    (subst (λ x. HoldLeaves tells number asked (moment now keepers link) (Refused (Memory 0)) (moment x keepers link)) (sym stays) (record {
+      does = inl (record { position_is = refl; same = refl });
+      keepers = of;
+      goes = goes_self now.fleet;
+      grows = stays_masters tells now.settings keepers keepers (λ told at. refl);
+      later = same_later keepers;
+    }))

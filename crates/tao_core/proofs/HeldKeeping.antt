@@ -1,5 +1,5 @@
 -- A core whose held plan did a stage, or took one more, may be used.
-use Rattle.std.proofs.Common.{◌≡◌, ℕ, Bool, true, false, List, Option, Some, None, refl, ap, sym, ◌∙◌, subst, inl, inr, arith}
+use Rattle.std.proofs.Common.{◌≡◌, ℕ, Bool, true, false, List, Option, Some, None, refl, ap, sym, ◌∙◌, subst, inl, inr}
 use Rattle.std.specs.Prelude.{◌==◌, All, IfSome, IsSome, IsTrue, if◌then◌else◌, option_and_then}
 use Rattle.std.proofs.lemmas.Bool.{cases_Bool, eq-eqb, eqb-true}
 use Rattle.core_mail.specs.Inboxes.{AreInboxesOf, Inboxes}
@@ -9,11 +9,8 @@ use Rattle.core_model.specs.Growing.{MastersGrow}
 use Rattle.core_model.specs.Pens.{pens_of}
 use Rattle.core_model.proofs.Places.{one_some}
 use Rattle.core_plans.specs.Held.{
-  AddsPlan,
   ArePlansOf,
-  AsksAreHeld,
   CanStep,
-  ChangesPlan,
   HoldsAsk,
   IsLeaderOf,
   IsOpenAt,
@@ -26,19 +23,21 @@ use Rattle.core_plans.specs.Held.{
   TakesPlan,
   next_stage,
   plan_at,
-  plan_count,
   told_with,
 }
 use Rattle.core_plans.specs.declared.held.HeldPlan.{HeldPlan}
 use Rattle.core_plans.specs.declared.held.HeldPlan.TheVariants.{Read, Write}
 use Rattle.core_sessions.specs.Sessions.{Session}
 use Rattle.core_plans.proofs.WritesGoOn.{plan_later}
+use Rattle.core_plans.specs.LedBy.{led_by}
 use Rattle.core_steps.specs.Routes.{scene}
 use Rattle.core_steps.specs.Posting.{posting}
 use Rattle.graph_model.proofs.Members.{if_some_at}
 use Rattle.node_name.specs.declared.NodeName.{NodeName}
+use Rattle.replies.specs.declared.plans.PlanReply.TheVariants.{Next}
 use Rattle.replies.specs.declared.plans.Stage.{Stage}
 use Rattle.replies.specs.declared.reply.Reply.{Reply}
+use Rattle.replies.specs.declared.reply.Reply.TheVariants as replied
 use Rattle.tao_base.specs.Queries.{query_key, query_shard}
 use Rattle.tao_base.specs.Writes.{write_shard}
 use Rattle.tao_base.specs.declared.id.Key.{Key}
@@ -51,7 +50,7 @@ use Rattle.topology.specs.States.{is_cache}
 use Rattle.words.specs.declared.PlanWord.{PlanWord}
 use Rattle.tao_core.specs.Calls.{posting_of}
 use Rattle.tao_core.specs.Core.{CoreState, IsConsistentCore, IsCoreOf, IsOfSession, IsSessionOf, Moment, moment}
-use Rattle.tao_core.specs.HeldCalls.{DoesStage, EndsPlan, IsOfRegion, Leaves, LearnsOf, StepsAt, held, held_in, next_at, plan_leader}
+use Rattle.tao_core.specs.HeldCalls.{DoesStage, EndsPlan, IsOfRegion, Leaves, LearnsOf, StepsAt, held_seen, held_in, next_at, plan_leader}
 use Rattle.tao_core.proofs.HeldLearning.{author_stays, learns_ours, of_session_still}
 use Rattle.tao_core.proofs.HeldSteps.{MayHold, StepsAsks, held_after, kept, steps_asks}
 use Rattle.tao_core.proofs.Reaching.{held_reaches}
@@ -281,10 +280,10 @@ module _ (tells : Bool) (number : ℕ) (old mid : Moment) (does : DoesStage tell
 
   module _ (later : Plans) (sessions : List Session) (reply : Reply) (over : next_at mid.core.plans number ≡ None)
       (ends : IfSome (plan_at mid.core.plans number)
-      (λ plan. EndsPlan number plan (held mid.core.plans old.core.sessions) reply (held later sessions))) where
-    ends_after : EndsPlan number After (held mid.core.plans old.core.sessions) reply (held later sessions)
+      (λ plan. EndsPlan number plan (held_seen mid.core.plans old.core.sessions) reply (held_seen later sessions))) where
+    ends_after : EndsPlan number After (held_seen mid.core.plans old.core.sessions) reply (held_seen later sessions)
     ends_after =
-        if_some_at (λ plan. EndsPlan number plan (held mid.core.plans old.core.sessions) reply (held later sessions)) (plan_at mid.core.plans number)
+        if_some_at (λ plan. EndsPlan number plan (held_seen mid.core.plans old.core.sessions) reply (held_seen later sessions)) (plan_at mid.core.plans number)
         After ends at_after
 
     gone : (other : ℕ) → plan_at later other ≡ (if other == number then None else plan_at old.core.plans other)
@@ -301,7 +300,7 @@ module _ (tells : Bool) (number : ℕ) (old mid : Moment) (does : DoesStage tell
     is_over : next_stage After ≡ None
     is_over = sym next_is ∙ over
 
-    pub ends_here : EndsPlan number After (held_in old.core) reply (held later sessions)
+    pub ends_here : EndsPlan number After (held_in old.core) reply (held_seen later sessions)
     ends_here = record { ended = ends_after.ended; over = ends_after.over; told = ends_after.told; takes = takes; learns = ends_after.learns }
 
     pub ends_core : (of : IsCoreOf tells old.keepers.told old.core) → IsConsistentCore tells mid.keepers.told mid.core
@@ -328,13 +327,30 @@ module _ (tells : Bool) (number : ℕ) (old mid : Moment) (does : DoesStage tell
   same_plan : does.plan ≡ does.steps.before
   same_plan = one_some does.plan does.steps.before (sym does.stands ∙ does.steps.stands)
 
-  steps_before : StepsHeld tells old.core.settings (plan_leader old.core does.steps.before) does.steps.before (posting_of old) After (posting_of mid)
+  steps_before : StepsHeld (led_by tells old.core.settings (plan_leader old.core does.steps.before)) does.steps.before (posting_of old) After (posting_of mid)
   steps_before =
-      subst (λ p. StepsHeld tells old.core.settings (plan_leader old.core p) does.steps.before (posting_of old) After (posting_of mid)) same_plan
+      subst (λ p. StepsHeld (led_by tells old.core.settings (plan_leader old.core p)) does.steps.before (posting_of old) After (posting_of mid)) same_plan
       does.steps.steps
 
+  -- it is held before the stage that follows
+  pub next_steps : (asked : PlanWord) (stage : Stage) (sessions : List Session) (reply : Reply) → next_at mid.core.plans number ≡ Some stage
+      → reply ≡ replied.Plan (Next asked number stage) → sessions ≡ old.core.sessions
+      → mid.core ≡ record old.core { fleet = mid.core.fleet; mail = mid.core.mail; plans = mid.core.plans }
+      → StepsAt tells asked number old reply (record mid { core = record mid.core { sessions = sessions } })
+  next_steps asked stage sessions reply next told same rest = record {
+    before = does.steps.before;
+    after = After;
+    stands = does.steps.stands;
+    steps = steps_before;
+    reaches = does.reaches;
+    leaves = subst (λ n. Leaves asked number After n (held_in old.core) reply (held_seen mid.core.plans sessions)) (sym next ∙ next_is)
+        (record { told = told; changes = does.steps.changes; sessions = same });
+    rest = ap (λ (x : CoreState). record x { sessions = sessions }) rest;
+  }
+
+  -- or over, and was taken out
   pub end_steps : (asked : PlanWord) (later : Plans) (sessions : List Session) (reply : Reply) → next_at mid.core.plans number ≡ None
-      → IfSome (plan_at mid.core.plans number) (λ plan. EndsPlan number plan (held mid.core.plans old.core.sessions) reply (held later sessions))
+      → IfSome (plan_at mid.core.plans number) (λ plan. EndsPlan number plan (held_seen mid.core.plans old.core.sessions) reply (held_seen later sessions))
       → mid.core ≡ record old.core { fleet = mid.core.fleet; mail = mid.core.mail; plans = mid.core.plans }
       → StepsAt tells asked number old reply (record mid { core = record mid.core { plans = later; sessions = sessions } })
   end_steps asked later sessions reply over ends rest = record {
@@ -343,7 +359,7 @@ module _ (tells : Bool) (number : ℕ) (old mid : Moment) (does : DoesStage tell
     stands = does.steps.stands;
     steps = steps_before;
     reaches = does.reaches;
-    leaves = subst (λ n. Leaves asked number After n (held_in old.core) reply (held later sessions)) (sym over ∙ next_is)
+    leaves = subst (λ n. Leaves asked number After n (held_in old.core) reply (held_seen later sessions)) (sym over ∙ next_is)
         (ends_here later sessions reply over ends);
     rest = ap (λ (x : CoreState). record x { plans = later; sessions = sessions }) rest;
   }
@@ -352,7 +368,7 @@ module _ (tells : Bool) (number : ℕ) (old mid : Moment) (does : DoesStage tell
 
 pub does_stage : (tells : Bool) (number : ℕ) (core : CoreState) (fleet : Fleet) (mail : Inboxes) (plans : Plans) (before now : KeeperState)
     (from to : LinkShown) (plan : HeldPlan) (leader : NodeName) → plan_at core.plans number ≡ Some plan → leader ≡ plan_leader core plan
-    → StepsPlan tells core.settings leader number core.plans (posting (scene core.fleet before from) core.mail core.states) plans
+    → StepsPlan (led_by tells core.settings leader) number core.plans (posting (scene core.fleet before from) core.mail core.states) plans
     (posting (scene fleet now to) mail core.states)
     → IsConsistent tells core.settings now.told fleet → IfSome (plan_at plans number) (IsUnderWay tells core.settings now.told fleet)
     → DoesStage tells number (moment core before from) (moment (record core { fleet = fleet; mail = mail; plans = plans }) now to)
@@ -366,7 +382,7 @@ does_stage tells number core fleet mail plans before now from to plan leader sta
         before = steps.before;
         after = steps.after;
         stands = steps.stands;
-        steps = subst (λ l. StepsHeld tells core.settings l steps.before old steps.after new) leads steps.steps;
+        steps = subst (λ l. StepsHeld (led_by tells core.settings l) steps.before old steps.after new) leads steps.steps;
         changes = steps.changes;
       };
       reaches = held_reaches tells core.settings leader steps.before steps.after old new now.told fleet steps.steps consistent

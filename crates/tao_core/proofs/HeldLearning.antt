@@ -20,14 +20,15 @@ use Rattle.core_plans.specs.Held.{
   told_of_write,
   told_with,
 }
-use Rattle.core_plans.specs.HeldWrites.{DoesWriteStage, IsAnswerTo, IsWriteUnderWay, call_by, way_by}
+use Rattle.core_plans.specs.HeldWrites.{DoesWriteStage, IsAnswerTo, IsWriteUnderWay, call_of_plan, way_by}
 use Rattle.core_plans.specs.declared.held.HeldPlan.{HeldPlan}
 use Rattle.core_plans.specs.declared.held.HeldPlan.TheVariants.{Read, Write}
 use Rattle.core_plans.specs.declared.held.ToldEntries.{ToldEntries}
+use Rattle.core_plans.specs.LedBy.{led_by}
 use Rattle.core_sessions.specs.Sessions.{HasRoomForBoth, Session, is_open, sessions_of}
 use Rattle.core_steps.specs.OtherEnds.{StandsThere, told_there}
 use Rattle.core_steps.specs.Posting.{Posting}
-use Rattle.core_steps.specs.Writes.{ClientWrite, RefusesCommit}
+use Rattle.core_steps.specs.Writes.{AuthoredWrite, RefusesCommit, sent_write}
 use Rattle.core_steps.specs.declared.routes.Route.{Route}
 use Rattle.counts.specs.Count.{after_one}
 use Rattle.graph_model.proofs.Members.{if_some_at}
@@ -48,7 +49,7 @@ use Rattle.tao_keeper.specs.Table.{Tables}
 use Rattle.tao_keeper.specs.declared.jobs.Job.{Job}
 use Rattle.tao_link.specs.Shown.{LinkShown}
 use Rattle.topology.specs.Config.{Settings}
-use Rattle.write_plan.specs.Plans.{Plan, answered_job, next_of, reply_by, reply_of}
+use Rattle.write_plan.specs.Plans.{Writing, answered_job, next_of, reply_by, reply_of}
 use Rattle.write_plan.specs.Stages.{told_stage}
 use Rattle.write_plan.specs.declared.committed.Committed.{Committed}
 use Rattle.write_plan.specs.declared.stage.WriteStage.{WriteStage}
@@ -62,20 +63,20 @@ use Rattle.tao_core.proofs.WriteStages.{KeepsOn, end_keeps, inverse_keeps, stage
 -- ---- the session of a write
 
 -- a write stays that of its client
-origin_stays : (tells : Bool) (s : Settings) (by : NodeName) (at : WriteStage) (p q : Plan) (old new : Posting) → DoesWriteStage tells s by at p old q new
+origin_stays : (tells : Bool) (s : Settings) (by : NodeName) (at : WriteStage) (p q : Writing) (old new : Posting) → DoesWriteStage (led_by tells s by) at p old q new
     → q.origin ≡ p.origin
-origin_stays tells s by Commit p q old new (inl commits) = ap (λ (x : Plan). x.origin) commits.then
-origin_stays tells s by Commit p q old new (inr refuses) = ap (λ (x : Plan). x.origin) refuses.then
-origin_stays tells s by Apply p q old new (inl applies) = ap (λ (x : Plan). x.origin) applies.then
-origin_stays tells s by Apply p q old new (inr (inl loses)) = ap (λ (x : Plan). x.origin) loses.then
-origin_stays tells s by Apply p q old new (inr (inr vain)) = ap (λ (x : Plan). x.origin) vain.then
+origin_stays tells s by Commit p q old new (inl commits) = ap (λ (x : Writing). x.origin) commits.then
+origin_stays tells s by Commit p q old new (inr refuses) = ap (λ (x : Writing). x.origin) refuses.then
+origin_stays tells s by Apply p q old new (inl applies) = ap (λ (x : Writing). x.origin) applies.then
+origin_stays tells s by Apply p q old new (inr (inl loses)) = ap (λ (x : Writing). x.origin) loses.then
+origin_stays tells s by Apply p q old new (inr (inr vain)) = ap (λ (x : Writing). x.origin) vain.then
 origin_stays tells s by Inverse p q old new does = (inverse_keeps tells s by p q old new does).keeps.origin
 origin_stays tells s by End p q old new does = (end_keeps tells s p q old new does).keeps.origin
 origin_stays tells s by Relay p q old new does = absurd does
 origin_stays tells s by Done p q old new does = absurd does
 
 pub author_stays : (tells : Bool) (s : Settings) (by : NodeName) (before after : HeldPlan) (old new : Posting) (sessions : List Session)
-    → StepsHeld tells s by before old after new → IsOfSession sessions before → IsOfSession sessions after
+    → StepsHeld (led_by tells s by) before old after new → IsOfSession sessions before → IsOfSession sessions after
 author_stays tells s by (Read p) (Read q) old new sessions steps is = tt
 author_stays tells s by (Write p) (Write q) old new sessions steps is =
     subst (λ o. is_open sessions (author o) ≡ true) (sym (origin_stays tells s by (next_of p) p q old new steps)) is
@@ -104,28 +105,28 @@ client_learner : (o : Origin) → IsTrue (is_client o) → learner_at Apply o �
 client_learner (Client session seq) client = refl
 client_learner (Merge shard position) client = absurd (cc)
 
-learner_room : (p : Plan) (passes : List SeenPass) → next_of p ≡ Apply → IsTrue (is_client p.origin)
+learner_room : (p : Writing) (passes : List SeenPass) → next_of p ≡ Apply → IsTrue (is_client p.origin)
     → IfSome (learner (Write p)) (λ n. HasRoomForBoth n passes) → HasRoomForBoth (author p.origin) passes
 learner_room p passes is client room =
     if_some_at (λ n. HasRoomForBoth n passes) (learner (Write p)) (author p.origin) room
     (ap (λ at. learner_at at p.origin) is ∙ client_learner p.origin client)
 
 -- what is refused is told with nothing, and needs no room
-refused_room : (q : Plan) (reply : Reply) (passes : List SeenPass) → q.refused ≡ Some reply → ((called : CallReply) → reply ≡ Called called → ⊥)
+refused_room : (q : Writing) (reply : Reply) (passes : List SeenPass) → q.refused ≡ Some reply → ((called : CallReply) → reply ≡ Called called → ⊥)
     → HasRoomFor (Write q) passes
 refused_room q reply passes refused never = λ over called is.
     let told : reply_of q ≡ Some reply = ap (λ r. reply_by r q.committed q.job q.hops) refused in
     absurd (never called (one_some reply (Called called) (sym told ∙ is)))
 
-refusal_never : (tells : Bool) (s : Settings) (route : Route) (call : ClientWrite) (reply : Reply) (old new : Posting)
-    → RefusesCommit tells s route call reply old new → (called : CallReply) → reply ≡ Called called → ⊥
-refusal_never tells s route call reply old new is called same = subst (λ r. RefusesCommit tells s route call r old new) same is
+refusal_never : (tells : Bool) (s : Settings) (route : Route) (call : AuthoredWrite) (reply : Reply) (old new : Posting)
+    → RefusesCommit tells s (sent_write route call) reply old new → (called : CallReply) → reply ≡ Called called → ⊥
+refusal_never tells s route call reply old new is called same = subst (λ r. RefusesCommit tells s (sent_write route call) r old new) same is
 
 -- one that has a stage left is told with nothing yet
-left_room : (q : Plan) (passes : List SeenPass) → IsSome (next_stage (Write q)) → HasRoomFor (Write q) passes
+left_room : (q : Writing) (passes : List SeenPass) → IsSome (next_stage (Write q)) → HasRoomFor (Write q) passes
 left_room q passes some = λ over called is. (let e : false ≡ true = subst IsSome over some in absurd (cc))
 
-module _ (tells : Bool) (s : Settings) (by : NodeName) (p q : Plan) (old new : Posting) (passes : List SeenPass) where
+module _ (tells : Bool) (s : Settings) (by : NodeName) (p q : Writing) (old new : Posting) (passes : List SeenPass) where
   applied_room : next_of p ≡ Apply → IsTrue (is_client p.origin) → IfSome (learner (Write p)) (λ n. HasRoomForBoth n passes) → q.origin ≡ p.origin
       → HasRoomFor (Write q) passes
   applied_room is client room same = λ over called told. subst (λ o. HasRoomForBoth (author o) passes) (sym same) (learner_room p passes is client room)
@@ -135,16 +136,16 @@ module _ (tells : Bool) (s : Settings) (by : NodeName) (p q : Plan) (old new : P
       left_room q passes (stage_left q on.committed (on.keeps.refused ∙ unrefused p.refused p.committed p.job p.back some) on.answered
       (subst IsBefore (sym on.keeps.back) before))
 
-  room_then : (at : WriteStage) → next_of p ≡ at → OpensFirst (Write p) → IsTrue (is_client p.origin) → DoesWriteStage tells s by at p old q new
+  room_then : (at : WriteStage) → next_of p ≡ at → OpensFirst (Write p) → IsTrue (is_client p.origin) → DoesWriteStage (led_by tells s by) at p old q new
       → IfSome (learner (Write p)) (λ n. HasRoomForBoth n passes) → HasRoomFor (Write q) passes
   room_then Commit is first client (inl commits) room =
       let some : IsSome (next_stage (Write p)) = subst (λ x. IsSome (told_stage x)) (sym is) refl in
       left_room q passes (stage_left q commits.committed
-      (ap (λ (x : Plan). x.refused) commits.then ∙ unrefused p.refused p.committed p.job p.back some)
-      (ap (λ (x : Plan). x.committed) commits.then) (subst IsBefore (sym (ap (λ (x : Plan). x.back) commits.then)) first))
+      (ap (λ (x : Writing). x.refused) commits.then ∙ unrefused p.refused p.committed p.job p.back some)
+      (ap (λ (x : Writing). x.committed) commits.then) (subst IsBefore (sym (ap (λ (x : Writing). x.back) commits.then)) first))
   room_then Commit is first client (inr refuses) room =
-      refused_room q refuses.reply passes (ap (λ (x : Plan). x.refused) refuses.then)
-      (refusal_never tells s (way_by by p) (call_by p) refuses.reply old new refuses.refuses)
+      refused_room q refuses.reply passes (ap (λ (x : Writing). x.refused) refuses.then)
+      (refusal_never tells s (way_by by p) (call_of_plan p) refuses.reply old new refuses.refuses)
   room_then Apply is first client does room = applied_room is client room (origin_stays tells s by Apply p q old new does)
   room_then Inverse is first client does room = kept_room (subst (λ x. IsSome (told_stage x)) (sym is) refl) first (inverse_keeps tells s by p q old new does)
   room_then End is first client does room = kept_room (subst (λ x. IsSome (told_stage x)) (sym is) refl) first (end_keeps tells s p q old new does)
@@ -152,7 +153,7 @@ module _ (tells : Bool) (s : Settings) (by : NodeName) (p q : Plan) (old new : P
   room_then Done is first client does room = absurd does
 
 pub room_after : (tells : Bool) (s : Settings) (tables : Tables) (f : Fleet) (by : NodeName) (before after : HeldPlan) (old new : Posting)
-    (passes : List SeenPass) → OpensFirst before → IsUnderWay tells s tables f before → StepsHeld tells s by before old after new
+    (passes : List SeenPass) → OpensFirst before → IsUnderWay tells s tables f before → StepsHeld (led_by tells s by) before old after new
     → IfSome (learner before) (λ n. HasRoomForBoth n passes) → HasRoomFor after passes
 room_after tells s tables f by (Read p) (Read q) old new passes first under steps room = tt
 room_after tells s tables f by (Write p) (Write q) old new passes first under steps room =
@@ -164,17 +165,17 @@ room_after tells s tables f by (Write p) (Read q) old new passes first under ste
 none_carried : 0 ≡ after_one 0 → ⊥
 none_carried h = absurd (cc)
 
-no_learner : (at : WriteStage) (p : Plan) → next_of p ≡ at → learner_at at p.origin ≡ None → IsSome (learner (Write p)) → ⊥
+no_learner : (at : WriteStage) (p : Writing) → next_of p ≡ at → learner_at at p.origin ≡ None → IsSome (learner (Write p)) → ⊥
 no_learner at p is none some = (let e : false ≡ true = subst IsSome (ap (λ n. learner_at n p.origin) is ∙ none) some in absurd (cc))
 
-given_up_room : (tells : Bool) (s : Settings) (by : NodeName) (at : WriteStage) (p q : Plan) (now : Posting) (passes : List SeenPass) → next_of p ≡ at
-    → now.scene.link.carries ≡ 0 → IsSome (learner (Write p)) → DoesWriteStage tells s by at p now q now → HasRoomFor (Write q) passes
+given_up_room : (tells : Bool) (s : Settings) (by : NodeName) (at : WriteStage) (p q : Writing) (now : Posting) (passes : List SeenPass) → next_of p ≡ at
+    → now.scene.link.carries ≡ 0 → IsSome (learner (Write p)) → DoesWriteStage (led_by tells s by) at p now q now → HasRoomFor (Write q) passes
 given_up_room tells s by Apply p q now passes is still some (inl applies) =
     absurd (none_carried (sym still ∙ ap (λ (l : LinkShown). l.carries) applies.link ∙ ap after_one still))
 given_up_room tells s by Apply p q now passes is still some (inr (inl loses)) =
-    refused_room q _ passes (ap (λ (x : Plan). x.refused) loses.then) (λ called same. absurd (cc))
+    refused_room q _ passes (ap (λ (x : Writing). x.refused) loses.then) (λ called same. absurd (cc))
 given_up_room tells s by Apply p q now passes is still some (inr (inr vain)) =
-    refused_room q _ passes (ap (λ (x : Plan). x.refused) vain.then) (λ called same. absurd (cc))
+    refused_room q _ passes (ap (λ (x : Writing). x.refused) vain.then) (λ called same. absurd (cc))
 given_up_room tells s by Commit p q now passes is still some does = absurd (no_learner Commit p is refl some)
 given_up_room tells s by Inverse p q now passes is still some does = absurd (no_learner Inverse p is refl some)
 given_up_room tells s by End p q now passes is still some does = absurd (no_learner End p is refl some)
@@ -182,14 +183,14 @@ given_up_room tells s by Relay p q now passes is still some does = absurd does
 given_up_room tells s by Done p q now passes is still some does = absurd does
 
 pub room_given_up : (tells : Bool) (s : Settings) (by : NodeName) (before after : HeldPlan) (now : Posting) (passes : List SeenPass)
-    → now.scene.link.carries ≡ 0 → IsSome (learner before) → StepsHeld tells s by before now after now → HasRoomFor after passes
+    → now.scene.link.carries ≡ 0 → IsSome (learner before) → StepsHeld (led_by tells s by) before now after now → HasRoomFor after passes
 room_given_up tells s by (Read p) after now passes still some steps = absurd (cc)
 room_given_up tells s by (Write p) (Write q) now passes still some steps = given_up_room tells s by (next_of p) p q now passes refl still some steps
 room_given_up tells s by (Write p) (Read q) now passes still some steps = tt
 
 -- ---- what is told was seen
 
-here_seen : (tells : Bool) (s : Settings) (tables : Tables) (f : Fleet) (p : Plan) (committed : Option Committed) → IsWriteUnderWay tells s tables f p
+here_seen : (tells : Bool) (s : Settings) (tables : Tables) (f : Fleet) (p : Writing) (committed : Option Committed) → IsWriteUnderWay tells s tables f p
     → IfSome committed (IsAnswerTo s f.masters p)
     → IfSome (option_and_then (λ c. told_by_note (write_shard p.write) c.wrote.note c.wrote.entry) committed) (IsToldOf s f.masters)
 here_seen tells s tables f p None under is = tt
@@ -211,14 +212,14 @@ there_seen s masters (Some j) (Some w) stands = by w.entry stands
     by None seen = tt
     by (Some e) seen = seen
 
-plan_told : (tells : Bool) (s : Settings) (tables : Tables) (f : Fleet) (p : Plan) → IsWriteUnderWay tells s tables f p
+plan_told : (tells : Bool) (s : Settings) (tables : Tables) (f : Fleet) (p : Writing) → IsWriteUnderWay tells s tables f p
     → AreToldOf s f.masters (told_of_write p)
 plan_told tells s tables f p under = record {
   here = here_seen tells s tables f p p.committed under under.committed;
   other = there_seen s f.masters (answered_job p) p.other under.other;
 }
 
-with_told : (tells : Bool) (s : Settings) (tables : Tables) (f : Fleet) (p : Plan) (ended : Reply) → IsWriteUnderWay tells s tables f p
+with_told : (tells : Bool) (s : Settings) (tables : Tables) (f : Fleet) (p : Writing) (ended : Reply) → IsWriteUnderWay tells s tables f p
     → AreToldOf s f.masters (told_with ended (Write p))
 with_told tells s tables f p (Called reply) under = plan_told tells s tables f p under
 with_told tells s tables f p ended under = record { here = tt; other = tt }
@@ -265,7 +266,7 @@ read_untold : (p : Reading) (reply : Reply) → told_with reply (Read p) ≡ not
 read_untold p (Called reply) = refl
 read_untold p reply = refl
 
-write_now : (p : Plan) (reply : Reply) (passes : List SeenPass) → next_stage (Write p) ≡ None → reply_of p ≡ Some reply → MayLearnOf p passes
+write_now : (p : Writing) (reply : Reply) (passes : List SeenPass) → next_stage (Write p) ≡ None → reply_of p ≡ Some reply → MayLearnOf p passes
     → MayLearnNow (author p.origin) (told_with reply (Write p)) passes
 write_now p (Called reply) passes over is may = now_ready (author p.origin) (told_of_write p) passes may.author_is (may.room over reply is) may.told
 write_now p reply passes over is may = none_now (author p.origin) passes

@@ -1,6 +1,6 @@
 -- A new core holds no call, and no ask is open.
-use Rattle.std.proofs.Common.{◌≡◌, ℕ, zero, suc, Bool, true, false, List, [], ◌∷◌, Option, Some, None, ap, sym, ◌∙◌, subst}
-use Rattle.std.specs.Prelude.{All, slice_get}
+use Rattle.std.proofs.Common.{◌≡◌, ℕ, zero, suc, Bool, true, false, List, [], ◌∷◌, Some, None, sym, ◌∙◌, subst}
+use Rattle.std.specs.Prelude.{slice_get}
 use Rattle.std.specs.List.{AllByRecursion}
 use Rattle.std.proofs.lemmas.List.Elements.{recursion_from_All}
 use Rattle.ask_table.specs.declared.ask.Ask.{Ask}
@@ -8,7 +8,7 @@ use Rattle.core_model.specs.Fleet.{Fleet, named}
 use Rattle.core_model.specs.declared.named.Named.{Named}
 use Rattle.core_model.proofs.Places.{one_some}
 use Rattle.core_nodes.specs.Beginning.{IsEmptyFleet, IsEmptyFollower}
-use Rattle.core_plans.specs.Held.{ArePlansOf, HoldsAsk, IsOpenAt, Plans, is_open_ask, plan_at}
+use Rattle.core_plans.specs.Held.{ArePlansOf, HoldsAsk, IsOpenAt, Plans, plan_at}
 use Rattle.core_plans.specs.declared.held.HeldPlan.{HeldPlan}
 use Rattle.follower_cache.specs.Seen.{FollowerState}
 use Rattle.node_name.specs.declared.NodeName.{NodeName}

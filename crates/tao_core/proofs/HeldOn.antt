@@ -1,6 +1,6 @@
 -- What is held goes on, whatever else is done.
-use Rattle.std.proofs.Common.{◌≡◌, ℕ, Bool, List, Option, Some, refl, ap, sym, subst}
-use Rattle.core_model.specs.Consistent.{IsConsistent}
+use Rattle.std.proofs.Common.{◌≡◌, ℕ, Bool, List, Option, Some, refl, ap, sym, subst, arith}
+use Rattle.core_model.specs.Consistent.{GoesOn, IsConsistent}
 use Rattle.core_model.specs.Evictions.{ChangesCache, Evicts}
 use Rattle.core_model.specs.Fleet.{Fleet}
 use Rattle.core_model.specs.Growing.{MastersGrow}
@@ -18,7 +18,7 @@ use Rattle.node_name.specs.declared.NodeName.{NodeName}
 use Rattle.node_name.specs.declared.NodeName.TheVariants.{Store as StoreName_, Leader, Follower}
 use Rattle.tao_base.specs.EdgeTypes.{EdgeTypes}
 use Rattle.tao_base.specs.declared.id.Key.{Key}
-use Rattle.tao_keeper.specs.KeeperState.{KeeperState, KeepsTables}
+use Rattle.tao_keeper.specs.KeeperState.{IsLater, KeeperState, KeepsTables}
 use Rattle.tao_keeper.specs.Table.{Tables}
 use Rattle.topology.specs.Config.{Settings}
 use Rattle.tao_core.specs.Core.{CoreState, IsConsistentCore, IsCoreOf, IsOfSession, StaysHeld, author}
@@ -41,42 +41,75 @@ pub still_of : (old new : List Session) (plan : HeldPlan) → StayOpen old new �
 still_of old new (Read p) stay is = tt
 still_of old new (Write p) stay is = stay.stays (author p.origin) is
 
--- the core may be used, as before
-pub core_goes_on : (tells : Bool) (before later : Tables) (old new : CoreState) → IsCoreOf tells before old → IsConsistentCore tells later new
-    → StaysHeld old.fleet new.fleet → MastersGrow tells old.settings before later → new.settings ≡ old.settings → new.plans ≡ old.plans
-    → StayOpen old.sessions new.sessions → IsCoreOf tells later new
-core_goes_on tells before later old new of is on grows own same stay = record {
-  is_consistent = is;
-  plans = subst (λ s. ArePlansOf tells s later new.fleet new.plans) (sym own)
-      (subst (ArePlansOf tells old.settings later new.fleet) (sym same)
-      (plans_later tells old.settings before later old.fleet new.fleet old.plans on grows
-      (subst (λ s. IsConsistent tells s later new.fleet) own is.consistent) of.plans));
-  authors = λ number plan at. still_of old.sessions new.sessions plan stay
-      (of.authors number plan (subst (λ plans. plan_at plans number ≡ Some plan) same at));
+-- what a call leaves of a core: it is consistent, what is held can go on, and the logs grew
+pub record LeavesCore (tells : Bool) (before now : KeeperState) (old new : CoreState) : Type 0 where
+  pub is_consistent : IsConsistentCore tells now.told new
+  pub on : StaysHeld old.fleet new.fleet
+  pub grows : MastersGrow tells old.settings before.told now.told
+  pub later : IsLater before now
+
+-- what a request leaves: the core may be used, as before
+pub record StaysUsable (tells : Bool) (before now : KeeperState) (old new : CoreState) : Type 0 where
+  pub settings : new.settings ≡ old.settings
+  pub keepers : IsCoreOf tells now.told new
+  pub goes : GoesOn old.fleet new.fleet
+  pub grows : MastersGrow tells old.settings before.told now.told
+  pub later : IsLater before now
+
+pub core_goes_on : (tells : Bool) (before now : KeeperState) (old new : CoreState) → IsCoreOf tells before.told old → LeavesCore tells before now old new
+    → new.settings ≡ old.settings → new.plans ≡ old.plans → StayOpen old.sessions new.sessions → StaysUsable tells before now old new
+core_goes_on tells before now old new of leaves own same stay = record {
+  settings = own;
+  keepers = record {
+    is_consistent = leaves.is_consistent;
+    plans = subst (λ s. ArePlansOf tells s now.told new.fleet new.plans) (sym own)
+        (subst (ArePlansOf tells old.settings now.told new.fleet) (sym same)
+        (plans_later tells old.settings before.told now.told old.fleet new.fleet old.plans leaves.on leaves.grows
+        (subst (λ s. IsConsistent tells s now.told new.fleet) own leaves.is_consistent.consistent) of.plans));
+    authors = λ number plan at. still_of old.sessions new.sessions plan stay
+        (of.authors number plan (subst (λ plans. plan_at plans number ≡ Some plan) same at));
+  };
+  goes = leaves.on.goes;
+  grows = leaves.grows;
+  later = leaves.later;
 }
 
 -- no table changed
-pub core_held : (tells : Bool) (before later : KeeperState) (old new : CoreState) → IsCoreOf tells before.told old
-    → IsConsistentCore tells later.told new → StaysHeld old.fleet new.fleet → KeepsTables tells before later
-    → new ≡ record old { fleet = new.fleet; mail = new.mail } → IsCoreOf tells later.told new
-core_held tells before later old new of is on stays rest =
-    core_goes_on tells before.told later.told old new of is on (stays_masters tells old.settings before later stays) (ap (λ (x : CoreState). x.settings) rest)
-    (ap (λ (x : CoreState). x.plans) rest) (same_open old.sessions new.sessions (ap (λ (x : CoreState). x.sessions) rest))
+pub core_held : (tells : Bool) (before now : KeeperState) (old new : CoreState) → IsCoreOf tells before.told old
+    → IsConsistentCore tells now.told new → StaysHeld old.fleet new.fleet → KeepsTables tells before now → IsLater before now
+    → new ≡ record old { fleet = new.fleet; mail = new.mail } → StaysUsable tells before now old new
+core_held tells before now old new of is on stays later rest =
+    core_goes_on tells before now old new of
+    (record { is_consistent = is; on = on; grows = stays_masters tells old.settings before now stays; later = later })
+    (ap (λ (x : CoreState). x.settings) rest) (ap (λ (x : CoreState). x.plans) rest)
+    (same_open old.sessions new.sessions (ap (λ (x : CoreState). x.sessions) rest))
+
+pub same_later : (keepers : KeeperState) → IsLater keepers keepers
+same_later keepers = record { calls = omega arith; faults = omega arith }
+
+-- no keeper was called
+pub core_kept : (tells : Bool) (keepers : KeeperState) (old new : CoreState) → IsCoreOf tells keepers.told old → IsConsistentCore tells keepers.told new
+    → StaysHeld old.fleet new.fleet → new ≡ record old { fleet = new.fleet; mail = new.mail } → StaysUsable tells keepers keepers old new
+core_kept tells keepers old new of is on rest = core_held tells keepers keepers old new of is on (λ told at. refl) (same_later keepers) rest
 
 -- ---- what opens no ask that stays open
 
 pub same_held : (f : Fleet) → StaysHeld f f
 same_held f = record { goes = goes_self f; opens = same_opens_none f.followers f.followers refl }
 
--- a session was opened
-pub core_opened : (tells : Bool) (tables : Tables) (old : CoreState) (next : List Session) → IsCoreOf tells tables old
-    → IsConsistentCore tells tables (record old { sessions = next }) → MastersGrow tells old.settings tables tables → StayOpen old.sessions next
-    → IsCoreOf tells tables (record old { sessions = next })
-core_opened tells tables old next of is grows stay =
-    core_goes_on tells tables tables old (record old { sessions = next }) of is (same_held old.fleet) grows refl refl stay
-
 pub fleet_stays : (old new : Fleet) → new ≡ old → StaysHeld old new
 fleet_stays old new same = subst (StaysHeld old) (sym same) (same_held old)
+
+-- a session was opened
+pub core_opened : (tells : Bool) (keepers : KeeperState) (old new : CoreState) → IsCoreOf tells keepers.told old → IsConsistentCore tells keepers.told new
+    → new ≡ record old { sessions = new.sessions } → StayOpen old.sessions new.sessions → StaysUsable tells keepers keepers old new
+core_opened tells keepers old new of is rest stay =
+    core_goes_on tells keepers keepers old new of (record {
+      is_consistent = is;
+      on = fleet_stays old.fleet new.fleet (ap (λ (x : CoreState). x.fleet) rest);
+      grows = stays_masters tells old.settings keepers keepers (λ told at. refl);
+      later = same_later keepers;
+    }) (ap (λ (x : CoreState). x.settings) rest) (ap (λ (x : CoreState). x.plans) rest) stay
 
 pub held_on : (f g h : Fleet) → StaysHeld f g → StaysHeld g h → StaysHeld f h
 held_on f g h one two = record {

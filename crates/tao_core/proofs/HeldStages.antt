@@ -8,13 +8,16 @@ use Rattle.core_model.specs.Growing.{MastersGrow}
 use Rattle.core_model.specs.Pens.{pens_of}
 use Rattle.core_plans.specs.Held.{CanStep, ChangesPlan, IsUnderWay, OpensFirst, Plans, StepsPlan, learner, plan_at}
 use Rattle.core_plans.specs.declared.held.HeldPlan.{HeldPlan}
+use Rattle.core_plans.specs.LedBy.{led_by}
 use Rattle.core_sessions.specs.Sessions.{HasRoomForBoth, Session, sessions_of}
 use Rattle.core_steps.specs.Routes.{Scene, scene}
 use Rattle.core_steps.specs.Posting.{Posting, posting}
 use Rattle.graph_model.proofs.Members.{if_some, if_some_at}
 use Rattle.node_name.specs.declared.NodeName.{NodeName}
+use Rattle.replies.specs.declared.plans.PlanReply.TheVariants.{Next}
 use Rattle.replies.specs.declared.plans.Stage.{Stage}
 use Rattle.replies.specs.declared.reply.Reply.{Reply}
+use Rattle.replies.specs.declared.reply.Reply.TheVariants as replied
 use Rattle.session_pass.specs.Passes.{SeenPass}
 use Rattle.tao_keeper.specs.KeeperState.{KeeperState}
 use Rattle.tao_keeper.specs.Table.{Tables}
@@ -22,9 +25,9 @@ use Rattle.tao_link.specs.Shown.{LinkShown}
 use Rattle.topology.specs.Config.{Settings}
 use Rattle.topology.specs.States.{NodeStates}
 use Rattle.words.specs.declared.PlanWord.{PlanWord}
-use Rattle.tao_core.specs.Core.{CoreState, IsConsistentCore, IsCoreOf, IsOfSession, IsSessionOf, moment}
-use Rattle.tao_core.specs.HeldCalls.{DoesStage, EndsPlan, HasRoomFor, MayLearn, StepsAt, held, next_at, plan_leader}
-use Rattle.tao_core.proofs.HeldKeeping.{author_held, does_stage, end_steps, ends_core, next_core, set_here, stepped_core}
+use Rattle.tao_core.specs.Core.{CoreState, IsConsistentCore, IsCoreOf, IsOfSession, IsSessionOf, Moment, moment}
+use Rattle.tao_core.specs.HeldCalls.{DoesStage, EndsPlan, HasRoomFor, MayLearn, StepsAt, held_seen, next_at, plan_leader}
+use Rattle.tao_core.proofs.HeldKeeping.{author_held, does_stage, end_steps, ends_core, next_core, next_steps, set_here, stepped_core}
 use Rattle.tao_core.proofs.HeldLearning.{may_learn, room_after, room_given_up}
 
 -- ---- a stage, or the end without it
@@ -44,7 +47,7 @@ module _ (tells : Bool) (s : Settings) (leader : NodeName) (number : ℕ) (plans
   room_there after changes room =
       subst (λ (o : Option HeldPlan). IfSome o (λ one. HasRoomFor one passes)) (sym (set_here number (Some after) plans later changes.sets)) room
 
-  pub room_stepped : (tables : Tables) (f : Fleet) (old new : Posting) → StepsPlan tells s leader number plans old later new
+  pub room_stepped : (tables : Tables) (f : Fleet) (old new : Posting) → StepsPlan (led_by tells s leader) number plans old later new
       → CanStep tells s tables f leader (plan_at plans number) → IfSome (plan_at plans number) OpensFirst
       → IfSome (option_and_then learner (plan_at plans number)) (λ n. HasRoomForBoth n passes) → IfSome (plan_at later number) (λ one. HasRoomFor one passes)
   room_stepped tables f old new steps can first room = room_there steps.after steps.changes
@@ -54,7 +57,7 @@ module _ (tells : Bool) (s : Settings) (leader : NodeName) (number : ℕ) (plans
       steps.steps (subst (λ o. IfSome (option_and_then learner o) (λ n. HasRoomForBoth n passes)) steps.stands room))
 
   pub room_given : (scene : Scene) (inboxes : Inboxes) (states : NodeStates)
-      → StepsPlan tells s leader number plans (posting (record scene { link = fresh_link }) inboxes states) later
+      → StepsPlan (led_by tells s leader) number plans (posting (record scene { link = fresh_link }) inboxes states) later
       (posting (record scene { link = fresh_link }) inboxes states)
       → IsSome (option_and_then learner (plan_at plans number)) → IfSome (plan_at later number) (λ one. HasRoomFor one passes)
   room_given scene inboxes states steps some = room_there steps.after steps.changes
@@ -63,10 +66,17 @@ module _ (tells : Bool) (s : Settings) (leader : NodeName) (number : ℕ) (plans
 
 -- ---- the replies
 
-module _ (tells : Bool) (number : ℕ) (core : CoreState) (fleet : Fleet) (mail : Inboxes) (plans : Plans) (sessions : List Session)
+-- what a stage leaves, and how it is replied
+pub record StageLeaves (tells : Bool) (asked : PlanWord) (number : ℕ) (old : Moment) (reply : Reply) (new : Moment) : Type 0 where
+  pub steps : StepsAt tells asked number old reply new
+  pub keepers : IsCoreOf tells new.keepers.told new.core
+  pub goes : GoesOn old.core.fleet new.core.fleet
+  pub grows : MastersGrow tells old.core.settings old.keepers.told new.keepers.told
+
+module _ (tells : Bool) (number : ℕ) (core seen : CoreState) (own : core ≡ seen) (fleet : Fleet) (mail : Inboxes) (plans : Plans) (sessions : List Session)
     (before now : KeeperState) (from to : LinkShown) (plan : HeldPlan) (leader : NodeName)
-    (of : IsCoreOf tells before.told core) (stands : plan_at core.plans number ≡ Some plan) (leads : leader ≡ plan_leader core plan)
-    (steps : StepsPlan tells core.settings leader number core.plans (posting (scene core.fleet before from) core.mail core.states) plans
+    (of_seen : IsCoreOf tells before.told seen) (stands : plan_at core.plans number ≡ Some plan) (leads_seen : leader ≡ plan_leader seen plan)
+    (steps : StepsPlan (led_by tells core.settings leader) number core.plans (posting (scene core.fleet before from) core.mail core.states) plans
     (posting (scene fleet now to) mail core.states))
     (under : IfSome (plan_at plans number) (IsUnderWay tells core.settings now.told fleet))
     (consistent : IsConsistent tells core.settings now.told fleet) (inboxes : AreInboxesOf core.settings (pens_of fleet.masters) mail)
@@ -74,8 +84,11 @@ module _ (tells : Bool) (number : ℕ) (core : CoreState) (fleet : Fleet) (mail 
   abbrev Mid : CoreState
   Mid = record core { fleet = fleet; mail = mail; plans = plans }
 
-  abbrev After : CoreState
-  After = record core { fleet = fleet; mail = mail; plans = plans; sessions = sessions }
+  of : IsCoreOf tells before.told core
+  of = subst (IsCoreOf tells before.told) (sym own) of_seen
+
+  leads : leader ≡ plan_leader core plan
+  leads = subst (λ (x : CoreState). leader ≡ plan_leader x plan) (sym own) leads_seen
 
   does : DoesStage tells number (moment core before from) (moment Mid now to)
   does = does_stage tells number core fleet mail plans before now from to plan leader stands leads steps consistent under
@@ -83,12 +96,24 @@ module _ (tells : Bool) (number : ℕ) (core : CoreState) (fleet : Fleet) (mail 
   is_mid : IsConsistentCore tells now.told Mid
   is_mid = stepped_core tells before.told now.told core fleet mail plans of.is_consistent consistent inboxes goes grows
 
+  -- as its callers see the core
+  leaves_so : (asked : PlanWord) (reply : Reply) (later : Plans) (learnt : List Session)
+      → StepsAt tells asked number (moment core before from) reply (moment (record Mid { plans = later; sessions = learnt }) now to)
+      → IsCoreOf tells now.told (record Mid { plans = later; sessions = learnt })
+      → StageLeaves tells asked number (moment seen before from) reply (moment (record Mid { plans = later; sessions = learnt }) now to)
+  leaves_so asked reply later learnt at is =
+      subst (λ x. StageLeaves tells asked number (moment x before from) reply (moment (record Mid { plans = later; sessions = learnt }) now to)) own
+      (record { steps = at; keepers = is; goes = goes; grows = grows })
+
   -- ---- it is held on
 
-  pub next_still : (stage : Stage) → next_at plans number ≡ Some stage → IsCoreOf tells now.told After
-  next_still stage next =
-      subst (λ xs. IsCoreOf tells now.told (record Mid { sessions = xs })) (sym same)
-      (next_core tells number (moment core before from) (moment Mid now to) does of stage next is_mid refl refl goes grows under)
+  pub next_leaves : (asked : PlanWord) (stage : Stage) (reply : Reply) → next_at plans number ≡ Some stage → reply ≡ replied.Plan (Next asked number stage)
+      → StageLeaves tells asked number (moment seen before from) reply (moment (record Mid { sessions = sessions }) now to)
+  next_leaves asked stage reply next told =
+      leaves_so asked reply plans sessions
+      (next_steps tells number (moment core before from) (moment Mid now to) does asked stage sessions reply next told same refl)
+      (subst (λ xs. IsCoreOf tells now.told (record Mid { sessions = xs })) (sym same)
+      (next_core tells number (moment core before from) (moment Mid now to) does of stage next is_mid refl refl goes grows under))
 
   -- ---- it is over
 
@@ -102,17 +127,12 @@ module _ (tells : Bool) (number : ℕ) (core : CoreState) (fleet : Fleet) (mail 
       (if_some_at (λ one. HasRoomFor one passes) (plan_at plans number) held_plan room at)
       (subst (All (IsSessionOf tells core.settings now.told (pens_of fleet.masters))) (sym are) is_mid.sessions))
 
-  module _ (later : Plans) (learnt : List Session) (reply : Reply) (over : next_at plans number ≡ None)
-      (ends : IfSome (plan_at plans number) (λ held_plan. EndsPlan number held_plan (held plans sessions) reply (held later learnt))) where
-    ends_mid : IfSome (plan_at plans number) (λ held_plan. EndsPlan number held_plan (held plans core.sessions) reply (held later learnt))
-    ends_mid =
-        subst (λ xs. IfSome (plan_at plans number) (λ held_plan. EndsPlan number held_plan (held plans xs) reply (held later learnt))) same ends
-
-    pub end_here : (asked : PlanWord)
-        → StepsAt tells asked number (moment core before from) reply
-        (moment (record core { fleet = fleet; mail = mail; plans = later; sessions = learnt }) now to)
-    end_here asked = end_steps tells number (moment core before from) (moment Mid now to) does asked later learnt reply over ends_mid refl
-
-    pub end_still : IsCoreOf tells now.told (record core { fleet = fleet; mail = mail; plans = later; sessions = learnt })
-    end_still =
-        ends_core tells number (moment core before from) (moment Mid now to) does later learnt reply over ends_mid of is_mid refl refl goes grows under
+  pub end_leaves : (asked : PlanWord) (later : Plans) (learnt : List Session) (reply : Reply) → next_at plans number ≡ None
+      → IfSome (plan_at plans number) (λ held_plan. EndsPlan number held_plan (held_seen plans sessions) reply (held_seen later learnt))
+      → StageLeaves tells asked number (moment seen before from) reply (moment (record Mid { plans = later; sessions = learnt }) now to)
+  end_leaves asked later learnt reply over ends =
+      let mid =
+      subst (λ xs. IfSome (plan_at plans number) (λ held_plan. EndsPlan number held_plan (held_seen plans xs) reply (held_seen later learnt))) same ends in
+      leaves_so asked reply later learnt
+      (end_steps tells number (moment core before from) (moment Mid now to) does asked later learnt reply over mid refl)
+      (ends_core tells number (moment core before from) (moment Mid now to) does later learnt reply over mid of is_mid refl refl goes grows under)

@@ -5,14 +5,15 @@ use Rattle.cache_items.specs.declared.look.Look.{Look}
 use Rattle.cache_items.specs.declared.look.Look.TheVariants.{Hit, Miss}
 use Rattle.cache_items.specs.Node.{Node}
 use Rattle.core_model.specs.Fleet.{ChangesNode, Fleet, HasAsk, named}
-use Rattle.core_model.specs.Reads.{AfterLook, AsksAtOnce, EndsAsk, KeepsFill, LooksFirst}
+use Rattle.core_model.specs.Reads.{AfterLook, AsksAtOnce, EndsAsk, KeepsFill, LooksFirst, taken_fill}
 use Rattle.core_model.specs.declared.named.Named.{Named}
 use Rattle.core_model.proofs.Places.{get_set, one_some}
 use Rattle.core_plans.specs.Held.{HasNoneAt, HoldsAsk, IsBefore, IsOpenAt, OpensFirst, OpensNone, StepsHeld, is_open_ask, next_stage}
-use Rattle.core_plans.specs.HeldReads.{DoesLook, DoesReadStage, KeepsGiven, wanted_by}
+use Rattle.core_plans.specs.HeldReads.{DoesLook, DoesReadStage, DoesKeep, wanted_by}
 use Rattle.core_plans.specs.HeldWrites.{DoesWriteStage}
 use Rattle.core_plans.specs.declared.held.HeldPlan.{HeldPlan}
 use Rattle.core_plans.specs.declared.held.HeldPlan.TheVariants.{Read, Write}
+use Rattle.core_plans.specs.LedBy.{led_by}
 use Rattle.core_plans.proofs.AsksHeld.{
   EndsOpen,
   change_opens_none,
@@ -44,7 +45,7 @@ use Rattle.tao_base.specs.Queries.{query_key}
 use Rattle.tao_base.specs.declared.id.Key.{Key}
 use Rattle.tao_schema.specs.Schema.{types_of}
 use Rattle.topology.specs.Config.{Settings}
-use Rattle.write_plan.specs.Plans.{Plan, next_of}
+use Rattle.write_plan.specs.Plans.{Writing, next_of}
 use Rattle.write_plan.specs.declared.stage.WriteStage.{WriteStage}
 use Rattle.write_plan.specs.declared.stage.WriteStage.TheVariants.{Commit, Inverse, End, Relay, Apply, Done}
 use Rattle.tao_core.proofs.NamesOnce.{StandAlone}
@@ -243,13 +244,13 @@ module _ (tells : Bool) (s : Settings) (by : NodeName) (p q : Reading) (old new 
   ended : ChangesNode p.follower (EndsAsk p.ask) old.fleet.followers new.fleet.followers → StepsAsks (Some (Read p)) None old.fleet.followers new.fleet.followers
   ended change = ask_ended p old.fleet.followers new.fleet.followers (EndsAsk p.ask) alone change (ends_open p.ask)
 
-  over_given : (given : Given) → p.at ≡ Keeping given → KeepsGiven s p given old q new → Asks q
+  over_given : (given : Given) → p.at ≡ Keeping given → DoesKeep s p given old q new → Asks q
   over_given (Fill fill) at (inl from) =
       let r : Reading = taken (came.Keep (Ok (Some (from.answer, from.kept)))) 0 false p in
       let over : held_after (Read r) ≡ None =
       ap (λ a. kept (stage_named (stage_of (after_keep p.bound a (Some (from.answer, from.kept))))) (Read r)) at in
       subst Asks (sym from.then) (subst (λ held. StepsAsks (Some (Read p)) held old.fleet.followers new.fleet.followers) (sym over)
-      (ask_ended p old.fleet.followers new.fleet.followers (KeepsFill (types_of s.schema) p.query p.ask fill from.answer from.kept) alone from.keeps
+      (ask_ended p old.fleet.followers new.fleet.followers (KeepsFill (types_of s.schema) p.query (taken_fill p.ask fill from.answer from.kept)) alone from.keeps
       (keeps_open (types_of s.schema) p.query p.ask fill from.answer from.kept)))
   over_given (Fill fill) at (inr vain) = subst Asks (sym vain.then) (ended vain.ends)
   over_given (Past answer version total seen) at on =
@@ -270,7 +271,7 @@ module _ (tells : Bool) (s : Settings) (by : NodeName) (p q : Reading) (old new 
       subst Asks (sym looks.then)
       (missed_asks (AsksAtOnce (query_key p.query) looks.ask) p looks.ask old.fleet.followers new.fleet.followers (λ from to asks. asks.node) none looks.asks)
 
-  read_asks : (at : Standing) → p.at ≡ at → HasNoneAt at p.ask → DoesReadStage tells s by at p old q new → Asks q
+  read_asks : (at : Standing) → p.at ≡ at → HasNoneAt at p.ask → DoesReadStage (led_by tells s by) at p old q new → Asks q
   read_asks Looking at none does = look_asks p.critical none does
   read_asks Asking at none (inl asks) =
       let r : Reading = taken (came.Ask (Ok asks.given)) _ _ p in
@@ -290,17 +291,17 @@ module _ (tells : Bool) (s : Settings) (by : NodeName) (p q : Reading) (old new 
 -- ---- the stages of a write
 
 -- one that is held on has its way back before it
-same_back : (p q : Plan) → q.back ≡ p.back → IsBefore p.back → MayHold (held_after (Write q))
+same_back : (p q : Writing) → q.back ≡ p.back → IsBefore p.back → MayHold (held_after (Write q))
 same_back p q same before = kept_may (next_stage (Write q)) (Write q) (subst IsBefore (sym same) before)
 
-write_may : (tells : Bool) (s : Settings) (by : NodeName) (at : WriteStage) (p q : Plan) (old new : Posting) → next_of p ≡ at → IsBefore p.back
-    → DoesWriteStage tells s by at p old q new → MayHold (held_after (Write q))
-write_may tells s by Commit p q old new is before (inl commits) = same_back p q (ap (λ (x : Plan). x.back) commits.then) before
-write_may tells s by Commit p q old new is before (inr refuses) = same_back p q (ap (λ (x : Plan). x.back) refuses.then) before
+write_may : (tells : Bool) (s : Settings) (by : NodeName) (at : WriteStage) (p q : Writing) (old new : Posting) → next_of p ≡ at → IsBefore p.back
+    → DoesWriteStage (led_by tells s by) at p old q new → MayHold (held_after (Write q))
+write_may tells s by Commit p q old new is before (inl commits) = same_back p q (ap (λ (x : Writing). x.back) commits.then) before
+write_may tells s by Commit p q old new is before (inr refuses) = same_back p q (ap (λ (x : Writing). x.back) refuses.then) before
 write_may tells s by Apply p q old new is before (inl applies) =
     subst (λ n. MayHold (kept n (Write q))) (sym (applied_over p q _ is applies.then)) tt
-write_may tells s by Apply p q old new is before (inr (inl loses)) = same_back p q (ap (λ (x : Plan). x.back) loses.then) before
-write_may tells s by Apply p q old new is before (inr (inr vain)) = same_back p q (ap (λ (x : Plan). x.back) vain.then) before
+write_may tells s by Apply p q old new is before (inr (inl loses)) = same_back p q (ap (λ (x : Writing). x.back) loses.then) before
+write_may tells s by Apply p q old new is before (inr (inr vain)) = same_back p q (ap (λ (x : Writing). x.back) vain.then) before
 write_may tells s by Inverse p q old new is before does = same_back p q (inverse_keeps tells s by p q old new does).keeps.back before
 write_may tells s by End p q old new is before does = same_back p q (end_keeps tells s p q old new does).keeps.back before
 write_may tells s by Relay p q old new is before does = absurd does
@@ -309,7 +310,7 @@ write_may tells s by Done p q old new is before does = absurd does
 -- ---- the stage of a plan
 
 pub steps_asks : (tells : Bool) (s : Settings) (by : NodeName) (before after : HeldPlan) (old new : Posting) → StandAlone old.scene.fleet.followers
-    → OpensFirst before → StepsHeld tells s by before old after new
+    → OpensFirst before → StepsHeld (led_by tells s by) before old after new
     → StepsAsks (Some before) (held_after after) old.scene.fleet.followers new.scene.fleet.followers
 steps_asks tells s by (Read p) (Read q) old new alone first steps = read_asks tells s by p q old.scene new.scene alone p.at refl first steps.steps.does
 steps_asks tells s by (Write p) (Write q) old new alone first steps =

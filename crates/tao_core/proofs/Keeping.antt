@@ -7,7 +7,7 @@ use Rattle.core_mail.specs.Inboxes.{AreInboxesOf, Inboxes}
 use Rattle.core_model.specs.Consistent.{GoesOn, IsConsistent, IsFleetOf}
 use Rattle.core_model.specs.Evictions.{ChangesCache, Evicts}
 use Rattle.core_model.specs.Fleet.{Fleet}
-use Rattle.core_model.specs.Pens.{AreNotesOf, pens_of}
+use Rattle.core_model.specs.Pens.{AreFirstNotes, pens_of}
 use Rattle.core_model.specs.Stores.{AreStoresOf}
 use Rattle.core_nodes.proofs.FleetLemmas.{goes_self}
 use Rattle.core_nodes.proofs.AskLemmas.{stores_here}
@@ -25,7 +25,6 @@ use Rattle.tao_base.specs.declared.id.Key.{Key}
 use Rattle.tao_keeper.proofs.Growing.{growing_laws}
 use Rattle.tao_keeper.specs.Growing.{LogsGrow}
 use Rattle.tao_keeper.specs.Table.{Tables, Stays}
-use Rattle.topology.specs.Config.{Settings}
 use Rattle.tao_core.specs.Core.{CoreState, IsConsistentCore, IsSessionOf, Moment}
 use Rattle.tao_core.specs.Replies.{AnswersEvict}
 use Rattle.tao_core.proofs.Told.{sessions_later}
@@ -36,7 +35,7 @@ use Rattle.tao_core.proofs.Ways.{with_session_too}
 -- with notes of the shards' logs it is one of the core
 pub opened_core : (tells : Bool) (tables : Tables) (core : CoreState) (opened : OpenSession) (notes : List View) (next : List Session)
     → IsConsistentCore tells tables core → opened.region < length core.settings.regions
-    → AreNotesOf (pens_of core.fleet.masters) core.settings.shards notes → next ≡ with_session (new_session opened notes) core.sessions
+    → AreFirstNotes (pens_of core.fleet.masters) core.settings.shards notes → next ≡ with_session (new_session opened notes) core.sessions
     → IsConsistentCore tells tables (record core { sessions = next })
 opened_core tells tables core opened notes next of within are is = record {
   consistent = of.consistent;
@@ -127,15 +126,16 @@ evicted_masters : (node : NodeName) (key : Option Key) (old new : Moment) (reply
 evicted_masters node key old new (AtNode (Cache (Evicted held))) answers = cache_masters node (Evicts key held) old.core.fleet new.core.fleet answers
 evicted_masters node key old new reply answers = absurd answers
 
-pub evicted_core : (tells : Bool) (tables : Tables) (node : NodeName) (key : Option Key) (old new : Moment) (reply : Reply) → IsConsistentCore tells tables old.core
-    → AnswersEvict node key old reply new → IsFleetOf old.core.settings new.core.fleet → new.core ≡ record old.core { fleet = new.core.fleet }
+pub evicted_core : (tells : Bool) (tables : Tables) (node : NodeName) (key : Option Key) (old new : Moment) (reply : Reply)
+    → IsConsistentCore tells tables old.core → AnswersEvict node key old reply new → IsFleetOf old.core.settings new.core.fleet → new.core ≡ record old.core { fleet = new.core.fleet }
     → IsConsistentCore tells tables new.core
 evicted_core tells tables node key old new reply of answers fleet rest =
     nodes_only tells tables old.core new.core of fleet (evicted_masters node key old new reply answers) rest
 
 -- ---- no table changes
 
-pub core_stays : (tells : Bool) (old new : Tables) (core : CoreState) → IsConsistentCore tells old core → WhereTold tells (Stays old new) → IsConsistentCore tells new core
+pub core_stays : (tells : Bool) (old new : Tables) (core : CoreState) → IsConsistentCore tells old core → WhereTold tells (Stays old new)
+    → IsConsistentCore tells new core
 core_stays tells old new core of stays = record {
   consistent = record {
     stores = stores_here tells core.settings old new core.fleet.masters of.consistent.stores stays;

@@ -6,7 +6,7 @@ use Rattle.std.specs.List.{AllByRecursion}
 use Rattle.std.proofs.lemmas.Bool.{cases_Bool, cases_eq, eqb-true}
 use Rattle.std.proofs.lemmas.List.Elements.{All-from_recursion, recursion_from_All}
 use Rattle.core_model.proofs.Places.{at_index, get_set}
-use Rattle.core_model.specs.Pens.{AreNotesOf, IsSeen, Pens, pens_of}
+use Rattle.core_model.specs.Pens.{AreFirstNotes, IsSeen, Pens, pens_of}
 use Rattle.core_model.proofs.KeptStores.{sound_logs}
 use Rattle.core_model.specs.Stores.{AreStoresOf, master_log}
 use Rattle.core_sessions.specs.Sessions.{LearnsWith, Session, SessionLearns, is_open, with_changed}
@@ -29,7 +29,7 @@ use Rattle.tao_base.specs.declared.id.Key.{Key}
 use Rattle.tao_keeper.specs.Table.{Tables}
 use Rattle.topology.specs.Config.{Settings}
 use Rattle.tao_core.specs.Core.{IsSessionOf}
-use Rattle.tao_core.proofs.Exact.{log_is}
+use Rattle.core_steps.proofs.ReadLemmas.{log_is}
 use Rattle.tao_core.proofs.Found.{session_is}
 
 -- ---- what the touches of an entry tell is reached where it stands
@@ -88,8 +88,8 @@ within : (was more most now : ℕ) → now ≡ max was more → was ≤ most →
 within was more most now is one two = omega (arith, is, one, two)
 
 -- its notes, after one met what was seen of its shard's log
-pub met_notes : (pens : Pens) (count shard : ℕ) (note : View) (notes : List View) → shard < count → IsSeen pens shard note → AreNotesOf pens count notes
-    → AreNotesOf pens count (after_meeting shard note notes)
+pub met_notes : (pens : Pens) (count shard : ℕ) (note : View) (notes : List View) → shard < count → IsSeen pens shard note → AreFirstNotes pens count notes
+    → AreFirstNotes pens count (after_meeting shard note notes)
 met_notes pens count shard note notes here seen are =
     let long = are.long in
     let own : View = slice_index_or notes shard note in
@@ -128,7 +128,7 @@ module _ (tells : Bool) (s : Settings) (tables : Tables) (masters : List Store) 
   pub session_learns : (old new : Session) → LearnsWith shard entry note old new → IsOne old → IsOne new
   session_learns old new learns is = record {
     region = subst (λ (x : Session). x.region < length s.regions) (sym learns.rest) is.region;
-    notes = subst (λ (x : Session). AreNotesOf (pens_of masters) s.shards x.notes) (sym learns.rest)
+    notes = subst (λ (x : Session). AreFirstNotes (pens_of masters) s.shards x.notes) (sym learns.rest)
         (met_notes (pens_of masters) s.shards shard note old.notes here seen is.notes);
     floors = λ told key. floor_now old new key learns is told;
   }

@@ -1,9 +1,9 @@
 -- What a session learns of a write, of which it is told two entries: that it may, and that it is one of the core then.
 use Rattle.std.proofs.Common.{◌≡◌, ◌<◌, ◌∙◌, ℕ, zero, suc, Bool, true, false, List, [], ◌∷◌, Option, Some, None, ap, refl, subst, sym, inl, inr, arith}
-use Rattle.std.specs.Prelude.{◌==◌, ◌≤◌, All, IfSome, IsSomeAnd, find, if◌then◌else◌, slice_get, slice_index_or}
+use Rattle.std.specs.Prelude.{◌==◌, ◌≤◌, All, IfSome, find, if◌then◌else◌, slice_get, slice_index_or}
 use Rattle.std.proofs.lemmas.Bool.{cases_Bool, eq-eqb}
 use Rattle.core_model.proofs.Places.{at_index, one_some, some_and}
-use Rattle.core_model.specs.Pens.{AreNotesOf, IsSeen, Pens, pens_of}
+use Rattle.core_model.specs.Pens.{AreFirstNotes, IsSeen, Pens, pens_of}
 use Rattle.core_model.specs.Stores.{AreStoresOf}
 use Rattle.core_model.specs.Writes.{IsSeenEntry}
 use Rattle.core_plans.specs.declared.held.ToldEntries.{ToldEntries}
@@ -21,7 +21,7 @@ use Rattle.tao_keeper.specs.Table.{Tables}
 use Rattle.topology.specs.Config.{Settings}
 use Rattle.tao_core.specs.Calls.{LearnsBoth, LearnsTold, told_both, told_by_note}
 use Rattle.tao_core.specs.Core.{IsSessionOf}
-use Rattle.tao_core.specs.HeldCalls.{IfTold, MayLearnBoth, MayLearnNow, MayLearnOne, MayLearnTold}
+use Rattle.tao_core.specs.HeldCalls.{MayLearnBoth, MayLearnNow, MayLearnOne, MayLearnTold}
 use Rattle.tao_core.proofs.Learning.{learnt_open, learnt_sessions, same_number}
 use Rattle.tao_core.proofs.Found.{session_is}
 
@@ -136,7 +136,7 @@ told_carried s masters shard done here stands other = record { here = by done.en
     by None stands = tt
     by (Some e) stands = (here, record { seen = seen_whole (pens_of masters shard); stands = stands })
 
-own_note : (pens : Pens) (count shard : ℕ) (note : View) (notes : List View) → shard < count → AreNotesOf pens count notes → IsSeen pens shard note
+own_note : (pens : Pens) (count shard : ℕ) (note : View) (notes : List View) → shard < count → AreFirstNotes pens count notes → IsSeen pens shard note
     → IsNoteOf shard note notes
 own_note pens count shard note notes here are seen =
     let long = are.long in

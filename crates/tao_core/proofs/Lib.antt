@@ -2,7 +2,6 @@ pub mod AskedLemmas
 pub mod CallLemmas
 pub mod Delivered
 pub mod Delivering
-pub mod Exact
 pub mod Found
 pub mod HeldLearning
 pub mod HeldStages

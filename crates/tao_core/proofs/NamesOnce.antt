@@ -1,8 +1,8 @@
 -- No two followers of a configuration have one name.
-use Rattle.std.proofs.Common.{◌≡◌, ◌⊎◌, ℕ, zero, suc, ◌+◌, ◌≤◌, List, [], ◌∷◌, ◌++◌, Option, Some, None, refl, ap, sym, subst, ◌∙◌, inl, inr, arith}
+use Rattle.std.proofs.Common.{◌≡◌, ℕ, zero, suc, ◌+◌, ◌≤◌, List, [], ◌∷◌, ◌++◌, Some, refl, ap, sym, subst, inl, inr, arith}
 use Rattle.std.specs.Prelude.{⊤, map, slice_get}
 use Rattle.std.specs.List.{range_with_len}
-use Rattle.core_model.specs.Fleet.{follower_names, followers_from, named, names_of, regions_of, tiers_from}
+use Rattle.core_model.specs.Fleet.{follower_names, followers_from, named, node_names, regions_of, tiers_from}
 use Rattle.core_model.specs.declared.named.Named.{Named}
 use Rattle.core_model.proofs.Places.{one_some}
 use Rattle.graph_model.proofs.Members.{IsIn, in_append_cases}
@@ -133,7 +133,7 @@ followers_once low (r ∷ rs) =
 -- ---- a name stands at one place
 
 name_at : (nodes : List (Named FollowerState)) (place : ℕ) (name : NodeName) (f : FollowerState) → slice_get nodes place ≡ Some (named name f)
-    → slice_get (names_of nodes) place ≡ Some name
+    → slice_get (node_names nodes) place ≡ Some name
 name_at [] place name f h = absurd (cc)
 name_at (n ∷ ns) zero name f h = ap (λ (x : Named FollowerState). Some x.name) (one_some n (named name f) h)
 name_at (n ∷ ns) (suc place) name f h = name_at ns place name f h
@@ -142,6 +142,6 @@ name_at (n ∷ ns) (suc place) name f h = name_at ns place name f h
 abbrev pub StandAlone : List (Named FollowerState) → Type 0
 StandAlone nodes = (m n : ℕ) (name : NodeName) (f g : FollowerState) → slice_get nodes m ≡ Some (named name f) → slice_get nodes n ≡ Some (named name g) → m ≡ n
 
-pub stand_alone : (s : Settings) (nodes : List (Named FollowerState)) → names_of nodes ≡ follower_names s → StandAlone nodes
+pub stand_alone : (s : Settings) (nodes : List (Named FollowerState)) → node_names nodes ≡ follower_names s → StandAlone nodes
 stand_alone s nodes is m n name f g one two =
-    one_place (names_of nodes) m n name (subst StandOnce (sym is) (followers_once 0 (regions_of s))) (name_at nodes m name f one) (name_at nodes n name g two)
+    one_place (node_names nodes) m n name (subst StandOnce (sym is) (followers_once 0 (regions_of s))) (name_at nodes m name f one) (name_at nodes n name g two)

@@ -18,8 +18,9 @@ use Rattle.core_model.specs.Stores.{master_log}
 use Rattle.core_plans.specs.Held.{IsUnderWay, StepsHeld}
 use Rattle.core_plans.specs.declared.held.HeldPlan.{HeldPlan}
 use Rattle.core_plans.specs.declared.held.HeldPlan.TheVariants as held
+use Rattle.core_plans.specs.LedBy.{led_by}
 use Rattle.core_steps.specs.CriticalReads.{ReadsCritical}
-use Rattle.core_steps.specs.Reads.{ReadsAlong}
+use Rattle.core_steps.specs.Reads.{ReadsAlong, sent_read}
 use Rattle.core_steps.specs.Posting.{Posting}
 use Rattle.core_steps.specs.Routes.{Scene}
 use Rattle.core_steps.specs.declared.routes.Route.{Route}
@@ -41,9 +42,9 @@ use Rattle.tao_base.specs.declared.query.Query.{Query}
 use Rattle.tao_keeper.specs.Table.{Tables}
 use Rattle.tao_schema.specs.Schema.{types_of}
 use Rattle.topology.specs.Config.{Settings}
-use Rattle.tao_core.specs.Calls.{KeptReaches, ReachesMark, ReadsBy}
+use Rattle.tao_core.specs.Calls.{KeptReaches, ReachesMark, ReadsBy, called_read}
 use Rattle.tao_core.specs.HeldCalls.{HeldReaches}
-use Rattle.tao_core.proofs.Exact.{log_is}
+use Rattle.core_steps.proofs.ReadLemmas.{log_is}
 
 take_within : (low n : ℕ) (xs : List Entry) → low ≤ n → take low (take n xs) ≡ take low xs
 take_within zero n xs h = refl
@@ -102,7 +103,7 @@ reaches_mark tells s name query given reached new told consistent here again = �
     (subst (λ (l : List Entry). version (take (low_at (key_shard key) f.node.served) l) key ≤ held.0.version) (log.entries_is told) far)
 
 pub kept_reaches : (tells : Bool) (s : Settings) (route : Route) (read : Wanted) (reply : Reply) (old new : Scene)
-    → ReadsAlong tells s route read reply old new → IsConsistent tells s new.keepers.told new.fleet → query_shard read.query < s.shards
+    → ReadsAlong tells s (sent_read route read) reply old new → IsConsistent tells s new.keepers.told new.fleet → query_shard read.query < s.shards
     → KeptReaches tells s route.follower read.query reply new
 kept_reaches tells s route read (Called (called.Read reply)) old new reads consistent here = λ told kept.
     reaches_mark tells s route.follower read.query reply.answer reply.version new told consistent here
@@ -120,7 +121,7 @@ critical_reaches tells s follower read (Refused refused) old new reads consisten
 critical_reaches tells s follower read reply old new reads consistent here = absurd reads
 
 pub kept_reaches_by : (critical tells : Bool) (s : Settings) (route : Route) (read : Wanted) (reply : Reply) (old new : Scene)
-    → ReadsBy critical tells s route read reply old new → IsConsistent tells s new.keepers.told new.fleet → query_shard read.query < s.shards
+    → ReadsBy tells s (called_read critical (sent_read route read)) reply old new → IsConsistent tells s new.keepers.told new.fleet → query_shard read.query < s.shards
     → KeptReaches tells s route.follower read.query reply new
 kept_reaches_by false tells s route read reply old new reads consistent here = kept_reaches tells s route read reply old new reads consistent here
 kept_reaches_by true tells s route read reply old new reads consistent here =
@@ -129,7 +130,7 @@ kept_reaches_by true tells s route read reply old new reads consistent here =
 -- ---- a read that was held
 
 pub held_reaches : (tells : Bool) (s : Settings) (leader : NodeName) (before after : HeldPlan) (old new : Posting) (tables : Tables) (f : Fleet)
-    → StepsHeld tells s leader before old after new → IsConsistent tells s new.scene.keepers.told new.scene.fleet → IsUnderWay tells s tables f after
+    → StepsHeld (led_by tells s leader) before old after new → IsConsistent tells s new.scene.keepers.told new.scene.fleet → IsUnderWay tells s tables f after
     → HeldReaches tells s after new.scene
 held_reaches tells s leader (held.Read p) (held.Read q) old new tables f steps consistent under = λ reply ends told kept.
     reaches_mark tells s q.follower q.query reply.answer reply.version new.scene told consistent under.follower.here

@@ -9,11 +9,13 @@ use Rattle.core_plans.proofs.WholeStages.{stages_miss_nothing}
 use Rattle.core_plans.specs.Held.{StepsHeld}
 use Rattle.core_plans.specs.declared.held.HeldPlan.{HeldPlan}
 use Rattle.core_plans.specs.declared.held.HeldPlan.TheVariants as of
+use Rattle.core_plans.specs.LedBy.{led_by}
 use Rattle.core_steps.proofs.WholeReads.{reads_are_whole}
 use Rattle.core_steps.specs.ReadSteps.{IsReached}
 use Rattle.core_steps.specs.Routes.{Scene}
 use Rattle.core_steps.specs.CriticalReads.{IsWhole}
 use Rattle.core_steps.specs.declared.routes.Route.{Route}
+use Rattle.core_steps.specs.Reads.{sent_read}
 use Rattle.node_name.specs.declared.NodeName.{NodeName}
 use Rattle.replies.specs.declared.calls.CallReply.TheVariants as called
 use Rattle.replies.specs.declared.calls.ReadReply.{ReadReply}
@@ -22,7 +24,7 @@ use Rattle.request_check.specs.declared.checked.CheckedRead.{CheckedRead}
 use Rattle.tao_base.specs.Queries.{query_key}
 use Rattle.session_pass.specs.Floors.{floor_at}
 use Rattle.topology.specs.Config.{Settings}
-use Rattle.tao_core.specs.Calls.{AnswersRead, ReadsBy, posting_of, scene_of, wanted_in}
+use Rattle.tao_core.specs.Calls.{AnswersRead, ReadsBy, called_read, posting_of, scene_of, wanted_in}
 use Rattle.tao_core.specs.Core.{IsConsistentCore, Moment}
 use Rattle.tao_core.specs.HeldCalls.{plan_leader}
 use Rattle.tao_core.specs.Laws.{MissesNoMore, NodesAreAtEnds, SettledUntilACommit, last_version}
@@ -30,7 +32,7 @@ use Rattle.tao_core.proofs.Going.{read_reached}
 
 read_whole : (critical : Bool) (s : Settings) (route : Route) (read : Wanted) (reply : ReadReply) (old new : Scene) → IsReached true s read old.keepers
     → IsConsistent true s old.keepers.told old.fleet → AreAtEnds s old.keepers.told old.fleet
-    → ReadsBy critical true s route read (Called (called.Read reply)) old new → IsWhole true s read reply old
+    → ReadsBy true s (called_read critical (sent_read route read)) (Called (called.Read reply)) old new → IsWhole true s read reply old
 read_whole false s route read reply old new reached are ends reads = (reads_are_whole s route read reply old new).along reads reached are ends
 read_whole true s route read reply old new reached are ends reads = (reads_are_whole s route read reply old new).critical reads
 
@@ -45,7 +47,7 @@ reads_last old new call reply are ends answers =
 
 -- a stage of a held read changes no table
 stage_whole : (before after : HeldPlan) (leader : NodeName) (old new : Moment) → IsConsistent true old.core.settings old.keepers.told old.core.fleet
-    → NodesAreAtEnds old → StepsHeld true old.core.settings leader before (posting_of old) after (posting_of new)
+    → NodesAreAtEnds old → StepsHeld (led_by true old.core.settings leader) before (posting_of old) after (posting_of new)
     → MissesNoMore before old after new
 stage_whole (of.Read p) (of.Read q) leader old new are ends steps =
     let grows = stays_masters true old.core.settings old.keepers new.keepers steps.tables in

@@ -1,6 +1,6 @@
 -- Sessions that are open stay so.
-use Rattle.std.proofs.Common.{◌≡◌, ◌<◌, ◌∙◌, ℕ, Bool, true, false, List, [], ◌∷◌, Result, Ok, Err, ap, refl, subst, sym, inl, inr, arith}
-use Rattle.std.specs.Prelude.{◌==◌, ◌||◌, ◌++◌, filter, nat_lt}
+use Rattle.std.proofs.Common.{◌≡◌, ◌∙◌, ℕ, Bool, true, false, List, [], ◌∷◌, Result, Ok, Err, ap, refl, subst, sym, inl, inr, arith}
+use Rattle.std.specs.Prelude.{◌==◌, ◌||◌, filter, nat_lt}
 use Rattle.std.proofs.lemmas.Bool.{cases_Bool, eqb-true, false≢true}
 use Rattle.std.proofs.lemmas.Bool.Decides.{nat_tests}
 use Rattle.std.proofs.lemmas.List.Folds.{list_any-append}

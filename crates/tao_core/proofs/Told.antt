@@ -3,11 +3,10 @@ use Rattle.std.proofs.Common.{◌≡◌, ◌≤◌, ℕ, Bool, true, List, [], �
 use Rattle.std.specs.Prelude.{All}
 use Rattle.std.specs.List.{AllByRecursion}
 use Rattle.std.proofs.lemmas.List.Elements.{All-from_recursion, recursion_from_All}
-use Rattle.core_model.specs.Pens.{AreNotesOf, Pens, Rise, no_view}
+use Rattle.core_model.specs.Pens.{AreFirstNotes, Pens, Rise, no_view}
 use Rattle.core_model.specs.Stores.{master_log, master_store}
 use Rattle.core_sessions.specs.Sessions.{Session}
 use Rattle.graph_model.specs.Log.{version}
-use Rattle.session_pass.specs.Floors.{floor_at}
 use Rattle.shard_log.proofs.GrowthLemmas.{grows-trans, versions_stay}
 use Rattle.shard_log.specs.View.{View}
 use Rattle.tao_base.specs.Keys.{key_shard}
@@ -30,7 +29,7 @@ version_later tells s old new key grows told =
     versions_stay.version_rises (record no_view { entries = (old at).log }) (record no_view { entries = (new at).log }) key
     (record { log_is = refl; begins = grows.begins told at })
 
-pub notes_later : (pens later : Pens) (count : ℕ) (notes : List View) → Rise pens later → AreNotesOf pens count notes → AreNotesOf later count notes
+pub notes_later : (pens later : Pens) (count : ℕ) (notes : List View) → Rise pens later → AreFirstNotes pens count notes → AreFirstNotes later count notes
 notes_later pens later count notes rise are = record {
   long = are.long;
   seen = λ shard note at. grows-trans note (pens shard) (later shard) (are.seen shard note at) (rise shard);

@@ -1,5 +1,5 @@
 -- The way of a session's call through a core: its follower and its leader may be asked about the shard.
-use Rattle.std.proofs.Common.{◌≡◌, ℕ, ◌<◌, Bool, List, ◌∷◌, length, Option, Some, ap, sym, subst, ◌∙◌}
+use Rattle.std.proofs.Common.{◌≡◌, ℕ, ◌<◌, Bool, List, ◌∷◌, length, Some, ap, sym, subst, ◌∙◌}
 use Rattle.std.specs.Prelude.{All, IsTrue, nat_lt, filter}
 use Rattle.std.proofs.lemmas.List.{length-map}
 use Rattle.std.proofs.lemmas.List.Elements.{All-append, All-filter, All-from_recursion, recursion_from_All}

@@ -5,6 +5,7 @@ use Rattle.core_model.specs.Jobs.{ShardJob}
 use Rattle.core_plans.specs.Held.{IsBefore, next_stage}
 use Rattle.core_plans.specs.HeldWrites.{EndsHeld, MergesHeld, job_by}
 use Rattle.core_plans.specs.declared.held.HeldPlan.TheVariants.{Write}
+use Rattle.core_plans.specs.LedBy.{led_by}
 use Rattle.core_steps.specs.OtherEnds.{EndsOver, JobWay, MergesOver, job_way}
 use Rattle.core_steps.specs.Posting.{Posting}
 use Rattle.node_name.specs.declared.NodeName.{NodeName}
@@ -12,7 +13,7 @@ use Rattle.replies.specs.declared.reply.Reply.{Reply}
 use Rattle.shard_tables.specs.declared.writes.Wrote.{Wrote}
 use Rattle.tao_keeper.specs.declared.jobs.Job.{Job}
 use Rattle.topology.specs.Config.{Settings}
-use Rattle.write_plan.specs.Plans.{Plan, after_stage, back_stage, job_stage, next_of, next_stage as stage_by}
+use Rattle.write_plan.specs.Plans.{Writing, after_stage, back_stage, job_stage, next_of, stage_from as stage_by}
 use Rattle.write_plan.specs.Stages.{told_stage}
 use Rattle.write_plan.specs.declared.committed.Committed.{Committed}
 use Rattle.write_plan.specs.declared.progress.OtherEnd.{OtherEnd}
@@ -27,41 +28,41 @@ use Rattle.write_plan.specs.declared.stage.WriteStage.TheVariants.{Apply}
 -- ---- the stages of the other end
 
 -- a stage of the other end leaves who asked, what the commit answered, and how far the way back has come
-pub record KeepsAnswer (p q : Plan) : Type 0 where
+pub record KeepsAnswer (p q : Writing) : Type 0 where
   pub origin : q.origin ≡ p.origin
   pub refused : q.refused ≡ p.refused
   pub committed : q.committed ≡ p.committed
   pub back : q.back ≡ p.back
 
-module _ (tells : Bool) (s : Settings) (old new : Posting) (p q : Plan) (hops : ℕ) where
+module _ (tells : Bool) (s : Settings) (old new : Posting) (p q : Writing) (hops : ℕ) where
   merged_keeps : (way : JobWay) (result : Result Wrote Late) → MergesOver tells s way result old new → q ≡ after_stage p (came.Inverse result) hops
       → KeepsAnswer p q
   merged_keeps way (Ok wrote) merges is = record {
-    origin = ap (λ (x : Plan). x.origin) is;
-    refused = ap (λ (x : Plan). x.refused) is;
-    committed = ap (λ (x : Plan). x.committed) is;
-    back = ap (λ (x : Plan). x.back) is;
+    origin = ap (λ (x : Writing). x.origin) is;
+    refused = ap (λ (x : Writing). x.refused) is;
+    committed = ap (λ (x : Writing). x.committed) is;
+    back = ap (λ (x : Writing). x.back) is;
   }
   merged_keeps way (Err (Scheduled why wrote)) merges is = record {
-    origin = ap (λ (x : Plan). x.origin) is;
-    refused = ap (λ (x : Plan). x.refused) is;
-    committed = ap (λ (x : Plan). x.committed) is;
-    back = ap (λ (x : Plan). x.back) is;
+    origin = ap (λ (x : Writing). x.origin) is;
+    refused = ap (λ (x : Writing). x.refused) is;
+    committed = ap (λ (x : Writing). x.committed) is;
+    back = ap (λ (x : Writing). x.back) is;
   }
   merged_keeps way (Err (Refused reply)) merges is = absurd merges
 
   ended_keeps : (j : ShardJob) (result : Result ⊤ Late) → EndsOver tells s j result old new → q ≡ after_stage p (came.End result) hops → KeepsAnswer p q
   ended_keeps j (Ok done) ends is = record {
-    origin = ap (λ (x : Plan). x.origin) is;
-    refused = ap (λ (x : Plan). x.refused) is;
-    committed = ap (λ (x : Plan). x.committed) is;
-    back = ap (λ (x : Plan). x.back) is;
+    origin = ap (λ (x : Writing). x.origin) is;
+    refused = ap (λ (x : Writing). x.refused) is;
+    committed = ap (λ (x : Writing). x.committed) is;
+    back = ap (λ (x : Writing). x.back) is;
   }
   ended_keeps j (Err (Scheduled why wrote)) ends is = record {
-    origin = ap (λ (x : Plan). x.origin) is;
-    refused = ap (λ (x : Plan). x.refused) is;
-    committed = ap (λ (x : Plan). x.committed) is;
-    back = ap (λ (x : Plan). x.back) is;
+    origin = ap (λ (x : Writing). x.origin) is;
+    refused = ap (λ (x : Writing). x.refused) is;
+    committed = ap (λ (x : Writing). x.committed) is;
+    back = ap (λ (x : Writing). x.back) is;
   }
   ended_keeps j (Err (Refused reply)) ends is = absurd ends
 
@@ -72,18 +73,18 @@ answered None job is = absurd (cc)
 answered (Some c) job is = (c, refl)
 
 -- so does each of the two stages of a held write, whose commit was answered
-pub record KeepsOn (p q : Plan) : Type 0 where
+pub record KeepsOn (p q : Writing) : Type 0 where
   pub keeps : KeepsAnswer p q
   pub committed : Committed
   pub answered : q.committed ≡ Some committed
 
-pub inverse_keeps : (tells : Bool) (s : Settings) (by : NodeName) (p q : Plan) (old new : Posting) → MergesHeld tells s by p old q new → KeepsOn p q
+pub inverse_keeps : (tells : Bool) (s : Settings) (by : NodeName) (p q : Writing) (old new : Posting) → MergesHeld (led_by tells s by) p old q new → KeepsOn p q
 inverse_keeps tells s by p q old new merges =
     let keeps = merged_keeps tells s old new p q _ (job_way by (job_by p merges.job)) merges.result merges.merges merges.then in
     let one = answered p.committed merges.job merges.answered in
     record { keeps = keeps; committed = one.0; answered = keeps.committed ∙ one.1 }
 
-pub end_keeps : (tells : Bool) (s : Settings) (p q : Plan) (old new : Posting) → EndsHeld tells s p old q new → KeepsOn p q
+pub end_keeps : (tells : Bool) (s : Settings) (p q : Writing) (old new : Posting) → EndsHeld tells s p old q new → KeepsOn p q
 end_keeps tells s p q old new ends =
     let keeps = ended_keeps tells s old new p q 0 (job_by p ends.job) ends.result ends.ends ends.then in
     let one = answered p.committed ends.job ends.answered in
@@ -113,7 +114,7 @@ job_left (Some j) passed Ended back before = back_left passed back before
 job_left (Some j) passed (Open why) back before = back_left passed back before
 
 -- one whose commit was answered has a stage left, until its way back is done
-pub stage_left : (q : Plan) (c : Committed) → q.refused ≡ None → q.committed ≡ Some c → IsBefore q.back → IsSome (next_stage (Write q))
+pub stage_left : (q : Writing) (c : Committed) → q.refused ≡ None → q.committed ≡ Some c → IsBefore q.back → IsSome (next_stage (Write q))
 stage_left q c none is before =
     subst (λ r. IsSome (told_stage (stage_by r q.committed q.job q.back))) (sym none)
     (subst (λ o. IsSome (told_stage (stage_by None o q.job q.back))) (sym is) (job_left c.wrote.job c.passed q.job q.back before))
@@ -138,5 +139,5 @@ over_by None None job back at = absurd (cc)
 over_by None (Some c) job back at = job_over c.wrote.job c.passed job back at
 
 -- and then none
-pub applied_over : (p q : Plan) (hops : ℕ) → next_of p ≡ Apply → q ≡ after_stage p (came.Apply (Ok tt)) hops → next_stage (Write q) ≡ None
+pub applied_over : (p q : Writing) (hops : ℕ) → next_of p ≡ Apply → q ≡ after_stage p (came.Apply (Ok tt)) hops → next_stage (Write q) ≡ None
 applied_over p q hops at is = subst (λ x. next_stage (Write x) ≡ None) (sym is) (over_by p.refused p.committed p.job p.back at)

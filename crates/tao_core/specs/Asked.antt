@@ -21,7 +21,7 @@ use Rattle.core_model.specs.Fleet.{follower_names}
 use Rattle.core_plans.specs.Held.{Plans, plan_at, plan_count}
 use Rattle.core_sessions.specs.Sessions.{Session, is_open, most_sessions}
 use Rattle.request_check.specs.Placed.{IsPlacedKey, IsPlacedWrite}
-use Rattle.request_check.specs.Refusal.{named}
+use Rattle.request_check.specs.Refusal.{for_name}
 use Rattle.request_check.specs.Requests.{checked_of}
 use Rattle.request_check.specs.declared.checked.Checked.{Checked}
 use Rattle.request_check.specs.declared.checked.Checked.TheVariants as checked
@@ -67,22 +67,22 @@ abbrev pub held_plan : Plans → ℕ → Result ⊤ Refusal
 held_plan plans number = refused_unless (Plan (NoPlan number)) (is_some (plan_at plans number))
 
 -- a plan that is to be held isn't held yet, and there is room for one
-abbrev pub new_plan : Plans → ℕ → Result ⊤ Refusal
-new_plan plans number = do
+abbrev pub fresh_plan : Plans → ℕ → Result ⊤ Refusal
+fresh_plan plans number = do
   new ← refused_unless (Plan (PlanThere number)) (not (is_some (plan_at plans number)))
   refused_unless (Plan (PlanFull (plan_count plans))) (nat_lt (plan_count plans) most_plans)
 
 -- nothing but `hold` and `advance` names a plan
 abbrev pub plan_for : Plans → Request → Result ⊤ Refusal
-plan_for plans (request.Hold number asked) = new_plan plans number
+plan_for plans (request.Hold number asked) = fresh_plan plans number
 plan_for plans (request.Advance number) = held_plan plans number
 plan_for plans other = Ok tt
 
 -- ---- sessions
 
-abbrev pub session_of : Call → ℕ
-session_of (call.Write write) = write.session
-session_of (call.Read read) = read.session
+abbrev pub asking_session : Call → ℕ
+asking_session (call.Write write) = write.session
+asking_session (call.Read read) = read.session
 
 -- a call is of an open session
 abbrev pub open_session : List Session → ℕ → Result ⊤ Refusal
@@ -96,8 +96,8 @@ may_open sessions session = do
 
 -- nothing but calls, held or not, and `open` names a session
 abbrev pub session_for : List Session → Request → Result ⊤ Refusal
-session_for sessions (request.Call asked) = open_session sessions (session_of asked)
-session_for sessions (request.Hold plan asked) = open_session sessions (session_of asked)
+session_for sessions (request.Call asked) = open_session sessions (asking_session asked)
+session_for sessions (request.Hold plan asked) = open_session sessions (asking_session asked)
 session_for sessions (request.Open opening) = may_open sessions opening.session
 session_for sessions other = Ok tt
 
@@ -114,7 +114,7 @@ admitted sessions plans asked = do
 abbrev pub asked_of : Settings → List Session → Plans → Request → Result Checked Refusal
 asked_of s sessions plans asked = do
   there ← admitted sessions plans asked
-  named (checked_of s asked)
+  for_name (checked_of s asked)
 
 -- a call is of a configured shard and an open session
 abbrev pub CallCanBeDone : Settings → List Session → CheckedCall → Type 0

@@ -7,10 +7,10 @@ use Rattle.core_model.specs.Stores.{master_log}
 use Rattle.core_plans.specs.declared.held.ToldEntries.{ToldEntries}
 use Rattle.core_sessions.specs.Sessions.{Session, SessionLearns, session_at}
 use Rattle.core_steps.specs.CriticalReads.{ReadsCritical}
-use Rattle.core_steps.specs.Reads.{ReadsAlong}
+use Rattle.core_steps.specs.Reads.{ReadsAlong, SentRead, sent_read}
 use Rattle.core_steps.specs.Routes.{Scene, scene}
 use Rattle.core_steps.specs.Posting.{Posting, posting}
-use Rattle.core_steps.specs.Writes.{ClientWrite, WritesAlong, client_call}
+use Rattle.core_steps.specs.Writes.{AuthoredWrite, WritesAlong, client_call, sent_write}
 use Rattle.core_steps.specs.declared.jobs.ToldEntry.{ToldEntry}
 use Rattle.core_steps.specs.declared.routes.Route.{Route}
 use Rattle.core_steps.specs.declared.writes.CarriedOut.{CarriedOut}
@@ -75,10 +75,21 @@ abbrev pub KeptReaches : Bool → Settings → NodeName → Query → Reply → 
 KeptReaches tells s name query (Called (called.Read reply)) new = WhereTold tells (reply.kept ≡ Kept → ReachesMark s name query reply.version new)
 KeptReaches tells s name query reply new = ⊤
 
+-- a read as it is called: critical or not, along a route
+pub record CalledRead : Type 0 where
+  pub critical : Bool
+  pub sent : SentRead
+
+abbrev pub called_read : Bool → SentRead → CalledRead
+called_read critical sent = record { critical = critical; sent = sent }
+
 -- a read at a floor goes along its route; where it is critical, its follower asks the master's store at once
-abbrev pub ReadsBy : Bool → Bool → Settings → Route → Wanted → Reply → Scene → Scene → Type 0
-ReadsBy false tells s route read reply old new = ReadsAlong tells s route read reply old new
-ReadsBy true tells s route read reply old new = ReadsCritical tells s route.follower read reply old new
+abbrev pub ReadsBy : Bool → Settings → CalledRead → Reply → Scene → Scene → Type 0
+ReadsBy tells s read reply old new = by_way read.critical
+  where
+    by_way : Bool → Type 0
+    by_way false = ReadsAlong tells s read.sent reply old new
+    by_way true = ReadsCritical tells s read.sent.route.follower read.sent.read reply old new
 
 -- what is asked in a session, at its floor of the query's key
 abbrev pub wanted_in : Session → Query → Wanted
@@ -90,7 +101,8 @@ pub record ReadGoes (tells : Bool) (old : Moment) (call : CheckedRead) (reply : 
   pub route : Route
   pub found : session_at old.core.sessions call.session ≡ Some session
   pub way : IsRoute old.core session session.region (query_shard call.query) route
-  pub reads : ReadsBy call.critical tells old.core.settings route (wanted_in session call.query) reply (scene_of old) (scene_of new)
+  pub reads : ReadsBy tells old.core.settings (called_read call.critical (sent_read route (wanted_in session call.query))) reply
+      (scene_of old) (scene_of new)
   pub reaches : KeptReaches tells old.core.settings route.follower call.query reply (scene_of new)
 
 abbrev pub RepliesToRead : Bool → Moment → CheckedRead → Reply → Moment → Type 0
@@ -106,7 +118,7 @@ pub record AnswersRead (tells : Bool) (old : Moment) (call : CheckedRead) (reply
 -- ---- writes
 
 -- the write of a call, under its session and number
-abbrev pub client_write_of : CheckedWrite → ClientWrite
+abbrev pub client_write_of : CheckedWrite → AuthoredWrite
 client_write_of call = client_call (Client call.session call.seq) call.write
 
 -- the session of that number learns the entry of a shard's log that it is told, where there is one, and nothing else is learnt
@@ -146,7 +158,7 @@ pub record WriteGoes (tells : Bool) (old : Moment) (call : CheckedWrite) (reply 
   pub way : IsRoute old.core session (master_region old.core.states (write_shard call.write)) (write_shard call.write) route
   pub outcome : Result CarriedOut Reply
   pub reply_is : reply ≡ written_as outcome
-  pub writes : WritesAlong tells old.core.settings route (client_write_of call) outcome (posting_of old) (posting_of new)
+  pub writes : WritesAlong tells old.core.settings (sent_write route (client_write_of call)) outcome (posting_of old) (posting_of new)
   pub learns : LearnsOutcome call.session (write_shard call.write) outcome old.core.sessions new.core.sessions
 
 abbrev pub RepliesToWrite : Bool → Moment → CheckedWrite → Reply → Moment → Type 0

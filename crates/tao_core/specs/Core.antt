@@ -3,7 +3,7 @@ use Rattle.std.specs.Prelude.{ℕ, ◌≡◌, ◌<◌, ◌≤◌, ⊤, List, [],
 use Rattle.core_mail.specs.Inboxes.{AreEmpty, AreInboxesOf, Inboxes}
 use Rattle.core_model.specs.Consistent.{GoesOn, IsConsistent}
 use Rattle.core_model.specs.Fleet.{Fleet}
-use Rattle.core_model.specs.Pens.{AreNotesOf, Pens, pens_of}
+use Rattle.core_model.specs.Pens.{AreFirstNotes, Pens, pens_of}
 use Rattle.core_model.specs.Stores.{master_log}
 use Rattle.core_nodes.specs.Beginning.{IsEmptyFleet}
 use Rattle.core_plans.specs.Held.{ArePlansOf, OpensNone, Plans, plan_at}
@@ -53,7 +53,7 @@ pub record IsNewCore (core : CoreState) : Type 0 where
 -- the session is of a region of the configuration, has seen beginnings of the shards' logs, and where the tables are told each key has come to its floor
 pub record IsSessionOf (tells : Bool) (s : Settings) (tables : Tables) (pens : Pens) (session : Session) : Type 0 where
   pub region : session.region < length s.regions
-  pub notes : AreNotesOf pens s.shards session.notes
+  pub notes : AreFirstNotes pens s.shards session.notes
   pub floors : WhereTold tells ((key : Key) → floor_at session.floors key ≤ version (master_log s tables (key_shard key)) key)
 
 -- the nodes are consistent with keepers that tell these tables, each message names an entry of its shard's log, and each key has come to the floors

@@ -7,7 +7,7 @@ use Rattle.core_model.specs.Reads.{wanted}
 use Rattle.core_model.specs.Stores.{master_log}
 use Rattle.core_model.specs.declared.named.Named.{Named}
 use Rattle.core_nodes.specs.Shown.{IsHeldAt, IsMarkAt}
-use Rattle.core_steps.specs.Reads.{ReadsAlong}
+use Rattle.core_steps.specs.Reads.{ReadsAlong, sent_read}
 use Rattle.core_steps.specs.Replies.{refilled_as}
 use Rattle.core_steps.specs.Routes.{scene}
 use Rattle.core_steps.specs.declared.routes.Route.{Route}
@@ -18,7 +18,7 @@ use Rattle.graph_model.specs.Told.{WhereTold}
 use Rattle.maint_msg.specs.Maints.{SeenMaint}
 use Rattle.node_name.specs.declared.NodeName.{NodeName}
 use Rattle.node_name.specs.declared.NodeName.TheVariants as name
-use Rattle.replies.specs.declared.nodes.CacheReply.TheVariants.{Delivered, Inbox, Lost, Refilled, Shown}
+use Rattle.replies.specs.declared.nodes.CacheReply.TheVariants.{Delivered, Inbox, Lost, Shown}
 use Rattle.replies.specs.declared.nodes.Delivered.{Delivered as DeliveredReply}
 use Rattle.replies.specs.declared.nodes.NodeReply.TheVariants.{Cache}
 use Rattle.replies.specs.declared.nodes.Shown.{Shown as ShownAs}
@@ -46,14 +46,14 @@ use Rattle.tao_core.specs.Core.{CoreState, Moment}
 -- ---- messages
 
 -- a message was processed: its node dropped so many items, and the reply has the node's mark for the message's shard after it
-pub record Processes (node : NodeName) (message : SeenMaint) (reply : DeliveredReply) (old new : CoreState) : Type 0 where
+pub record ProcessesAt (node : NodeName) (message : SeenMaint) (reply : DeliveredReply) (old new : CoreState) : Type 0 where
   pub delivers : DeliversAt (types_of old.settings.schema) message reply.dropped node old.fleet new.fleet
   pub mark : IsMarkAt new.fleet node message.shard (Some reply.mark)
   pub message_is : reply.message ≡ shown_message message
 
 -- the reply that a message was processed, for the word that asked for it
 abbrev pub IsProcessed : DeliveryWord → NodeName → SeenMaint → CoreState → Reply → CoreState → Type 0
-IsProcessed asked node message old (Node (Cache (Delivered reply))) new = (reply.word ≡ asked) × Processes node message reply old new
+IsProcessed asked node message old (Node (Cache (Delivered reply))) new = (reply.word ≡ asked) × ProcessesAt node message reply old new
 IsProcessed asked node message old reply new = ⊥
 
 -- no message waits at the place, and nothing changed
@@ -141,7 +141,7 @@ pub record RefillGoes (tells : Bool) (node : NodeName) (old : Moment) (reply : R
   pub left : List (Named FollowerState)
   pub takes : ChangesNode node (TakesRefill (Some refill)) old.core.fleet.followers left
   pub read : Reply
-  pub reads : ReadsAlong tells old.core.settings (refill_route old.core node (query_shard refill.query)) (wanted refill.query refill.floor) read
+  pub reads : ReadsAlong tells old.core.settings (sent_read (refill_route old.core node (query_shard refill.query)) (wanted refill.query refill.floor)) read
       (scene (record old.core.fleet { followers = left }) old.keepers old.link) (scene new.core.fleet new.keepers new.link)
   pub reaches : KeptReaches tells old.core.settings node refill.query read (scene new.core.fleet new.keepers new.link)
   pub reply_is : reply ≡ refilled_as read

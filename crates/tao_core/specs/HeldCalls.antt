@@ -8,6 +8,7 @@ use Rattle.core_plans.specs.HeldReads.{begun_read}
 use Rattle.core_plans.specs.declared.held.HeldPlan.{HeldPlan}
 use Rattle.core_plans.specs.declared.held.HeldPlan.TheVariants as of
 use Rattle.core_plans.specs.declared.held.ToldEntries.{ToldEntries}
+use Rattle.core_plans.specs.LedBy.{led_by}
 use Rattle.core_sessions.specs.Sessions.{HasRoom, HasRoomForBoth, Session, is_open, session_at, sessions_of}
 use Rattle.core_steps.specs.Routes.{Scene}
 use Rattle.core_steps.specs.declared.jobs.ToldEntry.{ToldEntry}
@@ -34,7 +35,7 @@ use Rattle.topology.specs.Choices.{chosen_follower, master_region, preferred_lea
 use Rattle.topology.specs.States.{NodeStates}
 use Rattle.words.specs.declared.PlanWord.{PlanWord}
 use Rattle.words.specs.declared.PlanWord.TheVariants as word
-use Rattle.write_plan.specs.Plans.{Plan, new_plan, reply_of}
+use Rattle.write_plan.specs.Plans.{Writing, begun_write, reply_of}
 use Rattle.tao_core.specs.Calls.{FindsNoServer, KeptReaches, LearnsBoth, posting_of, scene_of}
 use Rattle.tao_core.specs.Core.{CoreState, Moment, author}
 
@@ -55,16 +56,16 @@ pub record Held : Type 0 where
   pub plans : Plans
   pub sessions : List Session
 
-abbrev pub held : Plans → List Session → Held
-held plans sessions = record { plans = plans; sessions = sessions }
+abbrev pub held_seen : Plans → List Session → Held
+held_seen plans sessions = record { plans = plans; sessions = sessions }
 
 abbrev pub held_in : CoreState → Held
-held_in core = held core.plans core.sessions
+held_in core = held_seen core.plans core.sessions
 
 -- the reply of a plan that is over: that of its call, with the plan's number, or its refusal
-abbrev pub told_by : ℕ → Reply → Reply
-told_by number (Called reply) = replied.Plan (Ended number reply)
-told_by number reply = reply
+abbrev pub told_with_number : ℕ → Reply → Reply
+told_with_number number (Called reply) = replied.Plan (Ended number reply)
+told_with_number number reply = reply
 
 -- the session of a write learns what is told with its reply
 abbrev pub LearnsOf : HeldPlan → ToldEntries → List Session → List Session → Type 0
@@ -103,7 +104,7 @@ pub record MayLearnNow (number : ℕ) (told : ToldEntries) (passes : List SeenPa
   pub may : MayLearnBoth told number (sessions_of passes)
 
 -- the session of a write is open, and has room for what it is told, which it may learn
-pub record MayLearnOf (p : Plan) (passes : List SeenPass) : Type 0 where
+pub record MayLearnOf (p : Writing) (passes : List SeenPass) : Type 0 where
   pub author_is : is_open (sessions_of passes) (author p.origin) ≡ true
   pub room : HasRoomFor (of.Write p) passes
   pub told : MayLearnBoth (told_of_write p) (author p.origin) (sessions_of passes)
@@ -121,19 +122,19 @@ learns_of (of.Read p) = 0
 pub record EndsPlan (number : ℕ) (plan : HeldPlan) (old : Held) (reply : Reply) (new : Held) : Type 0 where
   pub ended : Reply
   pub over : IsOver plan ended
-  pub told : reply ≡ told_by number ended
+  pub told : reply ≡ told_with_number number ended
   pub takes : TakesPlan number old.plans new.plans
   pub learns : LearnsOf plan (told_with ended plan) old.sessions new.sessions
 
--- a plan that did a stage is held before the stage that follows
-pub record GoesOnHeld (asked : PlanWord) (number : ℕ) (plan : HeldPlan) (stage : Stage) (old : Held) (reply : Reply) (new : Held) : Type 0 where
-  pub told : reply ≡ replied.Plan (Next asked number stage)
+-- a plan that did a stage is held before the stage that follows, which is told
+pub record GoesOnHeld (next : Reply) (number : ℕ) (plan : HeldPlan) (old : Held) (reply : Reply) (new : Held) : Type 0 where
+  pub told : reply ≡ next
   pub changes : ChangesPlan number plan old.plans new.plans
   pub sessions : new.sessions ≡ old.sessions
 
 -- it is held so, or over and gone
 abbrev pub Leaves : PlanWord → ℕ → HeldPlan → Option Stage → Held → Reply → Held → Type 0
-Leaves asked number plan (Some stage) old reply new = GoesOnHeld asked number plan stage old reply new
+Leaves asked number plan (Some stage) old reply new = GoesOnHeld (replied.Plan (Next asked number stage)) number plan old reply new
 Leaves asked number plan None old reply new = EndsPlan number plan old reply new
 
 -- the stage of a held plan that follows
@@ -150,7 +151,7 @@ HeldReaches tells s (of.Write q) new = ⊤
 pub record DoesStage (tells : Bool) (number : ℕ) (old new : Moment) : Type 0 where
   pub plan : HeldPlan
   pub stands : plan_at old.core.plans number ≡ Some plan
-  pub steps : StepsPlan tells old.core.settings (plan_leader old.core plan) number old.core.plans (posting_of old) new.core.plans (posting_of new)
+  pub steps : StepsPlan (led_by tells old.core.settings (plan_leader old.core plan)) number old.core.plans (posting_of old) new.core.plans (posting_of new)
   pub reaches : HeldReaches tells old.core.settings steps.after (scene_of new)
 
 -- the plan of that number did the stage that follows, and is held on or gone
@@ -158,7 +159,7 @@ pub record StepsAt (tells : Bool) (asked : PlanWord) (number : ℕ) (old : Momen
   pub before : HeldPlan
   pub after : HeldPlan
   pub stands : plan_at old.core.plans number ≡ Some before
-  pub steps : StepsHeld tells old.core.settings (plan_leader old.core before) before (posting_of old) after (posting_of new)
+  pub steps : StepsHeld (led_by tells old.core.settings (plan_leader old.core before)) before (posting_of old) after (posting_of new)
   pub reaches : HeldReaches tells old.core.settings after (scene_of new)
   pub leaves : Leaves asked number after (next_stage after) (held_in old.core) reply (held_in new.core)
   pub rest : new.core ≡ record old.core { fleet = new.core.fleet; mail = new.core.mail; plans = new.core.plans; sessions = new.core.sessions }
@@ -186,7 +187,7 @@ call_floor session (call.Read read) = floor_at session.floors (query_key read.qu
 -- the plan of a session's call, of which nothing is done
 abbrev pub begun_plan : Settings → Session → NodeName → CheckedCall → HeldPlan
 begun_plan s session follower (call.Write write) =
-    of.Write (new_plan write.write (Client write.session write.seq) session.region session.tier follower)
+    of.Write (begun_write write.write (Client write.session write.seq) session.region session.tier follower)
 begun_plan s session follower (call.Read read) =
     of.Read (begun_read s read.query session.region session.tier (call_floor session (call.Read read)) read.critical follower)
 

@@ -1,15 +1,15 @@
 -- What the replies to repairs and settles say.
-use Rattle.std.specs.Prelude.{ℕ, ◌≡◌, ◌⊎◌, ◌<◌, Bool, true, false, List, Option, Some, None, Result, Ok, Err, is_some}
+use Rattle.std.specs.Prelude.{ℕ, ◌≡◌, ◌⊎◌, Bool, false, List, Option, Some, None, Result, Ok, Err, is_some}
 use Rattle.core_mail.specs.Inboxes.{AreEmpty}
 use Rattle.core_model.specs.Stores.{stores_in}
 use Rattle.core_nodes.specs.Repairs.{outside}
 use Rattle.core_nodes.specs.Settling.{AllCatchUp, AllProcessOn, IsLaterLink, OnlyReads, StopsCatchUp, StopsLengths, log_lengths}
 use Rattle.core_nodes.specs.declared.settling.SettleStop.{SettleStop}
 use Rattle.core_nodes.specs.declared.settling.SettleStop.TheVariants as stop
-use Rattle.core_steps.specs.Repairs.{RepairsFirst, RunsAll, StopsRun}
-use Rattle.core_steps.specs.declared.repairs.Ran.{Ran}
-use Rattle.core_steps.specs.declared.repairs.RepairFailed.{RepairFailed}
-use Rattle.core_steps.specs.declared.repairs.RepairFailed.TheVariants as repair
+use Rattle.core_repairs.specs.Repairs.{RepairsFirst, RunsAll, StopsRun}
+use Rattle.core_repairs.specs.declared.repairs.Ran.{Ran}
+use Rattle.core_repairs.specs.declared.repairs.RepairFailed.{RepairFailed}
+use Rattle.core_repairs.specs.declared.repairs.RepairFailed.TheVariants as repair
 use Rattle.edge_repair.specs.declared.refusal.RepairRefusal.TheVariants.{KeeperFault, LinkFault, LogFull, OutOfMemory}
 use Rattle.graph_model.specs.Told.{WhereTold}
 use Rattle.replies.specs.declared.nodes.NodeReply.TheVariants.{Repaired}
@@ -100,19 +100,14 @@ pub record StopsAtNode (tells : Bool) (given : SettleStop) (old new : Moment) : 
 abbrev pub IsUnsettled : Bool → SettleStop → Moment → Moment → Type 0
 IsUnsettled tells given old new = StopsAtJobs tells given old new ⊎ (StopsAtLengths tells given old new ⊎ StopsAtNode tells given old new)
 
--- how that is replied, where the master's region of the shard at which it stopped is this
-abbrev pub unsettled_as : ℕ → SettleStop → Reply
-unsettled_as region (stop.Unsettled shard why) = Refused (Store (refused.Unsettled shard why))
-unsettled_as region (stop.NoServer shard) = Refused (OfNode (NoServer region))
-unsettled_as region stop.OutOfMemory = Refused (Memory 0)
-
--- the master's region of the shard at which no server was found
-abbrev pub region_of_stop : NodeStates → SettleStop → ℕ
-region_of_stop states (stop.NoServer shard) = master_region states shard
-region_of_stop states given = 0
+-- how that is replied: where no server was found, by the master's region of the shard at which it stopped
+abbrev pub unsettled_as : NodeStates → SettleStop → Reply
+unsettled_as states (stop.Unsettled shard why) = Refused (Store (refused.Unsettled shard why))
+unsettled_as states (stop.NoServer shard) = Refused (OfNode (NoServer (master_region states shard)))
+unsettled_as states stop.OutOfMemory = Refused (Memory 0)
 
 -- what the reply to a settle says
 abbrev pub AnswersSettle : Bool → Moment → Reply → Moment → Type 0
 AnswersSettle tells old (Settled logs) new = SettlesCore tells logs old new
 AnswersSettle tells old reply new =
-    (given : SettleStop) × (reply ≡ unsettled_as (region_of_stop old.core.states given) given) × IsUnsettled tells given old new
+    (given : SettleStop) × (reply ≡ unsettled_as old.core.states given) × IsUnsettled tells given old new

@@ -7,7 +7,7 @@ ghost use Rattle.core_model.specs.Fleet.{follower_names};
 ghost use Rattle.core_model.specs.Messages.{IsMessageFor, IsRefillFor};
 ghost use Rattle.core_model.specs.Pens.{pens_of};
 ghost use Rattle.core_model.specs.Reads.{wanted};
-ghost use Rattle.core_steps.specs.Reads.{ReadsAlong};
+ghost use Rattle.core_steps.specs.Reads.{ReadsAlong, sent_read};
 ghost use Rattle.core_steps.specs.Routes.{scene};
 ghost use Rattle.tao_base.specs.Queries.{query_shard};
 ghost use Rattle.tao_core.specs.Core.{IsConsistentCore, StaysHeld, moment};
@@ -210,8 +210,8 @@ impl<'c> Core<'c> {
         requires keepers { IsConsistentCore K.TELLS (K.state keepers.old).told self.old }
         requires node { Contains (follower_names self.old.settings) node }
         requires refill { IsRefillFor self.old.settings (pens_of self.old.fleet.masters) node refill }
-        ensures reads { ReadsAlong K.TELLS self.old.settings (refill_route self.old node (query_shard refill.query)) (wanted refill.query refill.floor)
-            result (scene self.old.fleet (K.state keepers.old) (L.shown link.old)) (scene self.new.fleet (K.state keepers.new) (L.shown link.new)) }
+        ensures reads { ReadsAlong K.TELLS self.old.settings (sent_read (refill_route self.old node (query_shard refill.query))
+            (wanted refill.query refill.floor)) result (scene self.old.fleet (K.state keepers.old) (L.shown link.old)) (scene self.new.fleet (K.state keepers.new) (L.shown link.new)) }
         ensures keepers { IsConsistentCore K.TELLS (K.state keepers.new).told self.new }
         ensures on { StaysHeld self.old.fleet self.new.fleet }
         ensures tables { KeepsTables K.TELLS (K.state keepers.old) (K.state keepers.new) }

@@ -5,13 +5,14 @@ ghost use Rattle.core_model.specs.Consistent.{GoesOn, IsConsistent};
 ghost use Rattle.core_model.specs.Growing.{MastersGrow};
 ghost use Rattle.core_model.specs.Pens.{pens_of};
 ghost use Rattle.core_plans.specs.Held.{CanStep, IsOver, IsUnderWay, OpensFirst, StepsPlan, learner, next_stage, plan_at, told_with};
-ghost use Rattle.core_sessions.specs.Sessions.{HasRoomForBoth, Session, is_open, place_of, session_at, sessions_of};
+ghost use Rattle.core_plans.specs.LedBy.{led_by};
+ghost use Rattle.core_sessions.specs.Sessions.{HasRoomForBoth, Session, is_open, opening_of, session_at, sessions_of};
 ghost use Rattle.core_steps.specs.Routes.{scene};
 ghost use Rattle.core_steps.specs.Posting.{posting};
 ghost use Rattle.tao_core.specs.Asked.{CallCanBeDone};
 ghost use Rattle.tao_core.specs.Core.{IsCoreOf, IsOfSession, author, moment};
 ghost use Rattle.tao_core.specs.HeldCalls.{AnswersHold, EndsPlan, HasRoomFor, IsOfRegion, LearnsOf, MayLearn, StepsAt};
-ghost use Rattle.tao_core.specs.HeldCalls.{begun_plan, call_floor, call_session, call_shard, held, learns_of, next_at, plan_leader, told_by};
+ghost use Rattle.tao_core.specs.HeldCalls.{begun_plan, call_floor, call_session, call_shard, held_seen, learns_of, next_at, plan_leader, told_with_number};
 ghost use Rattle.tao_keeper.specs.KeeperState.{IsLater};
 ghost use Rattle.topology.specs.States.{all_up, is_cache};
 
@@ -90,7 +91,7 @@ fn begun_plan(
     follower: NodeName,
     call: &CheckedCall,
 ) -> Result<HeldPlan, OutOfMemory>
-    ensures { IfOk result (λ plan. (session : Session) → place ≡ place_of session → floor ≡ call_floor session call.now
+    ensures { IfOk result (λ plan. (session : Session) → place ≡ opening_of session → floor ≡ call_floor session call.now
         → plan ≡ begun_plan config.now session follower call.now) }
 {
     let OpenSession { region, tier, .. } = place;
@@ -121,7 +122,7 @@ fn make_room(sessions: &mut Sessions, call: &CheckedCall) -> Result<(), OutOfMem
 
 /// The reply of a plan that is over.
 fn told_by(number: u32, reply: Reply) -> Reply
-    ensures { result ≡ told_by number reply }
+    ensures { result ≡ told_with_number number reply }
 {
     match reply {
         Reply::Called(reply) => Reply::Plan(PlanReply::Ended {
@@ -179,7 +180,7 @@ fn end_plan(plans: &mut HeldPlans, sessions: &mut Sessions, number: u32) -> Repl
     requires over { next_at plans.old number ≡ None }
     requires may { IfSome (plan_at plans.old number) (λ plan. MayLearn plan sessions.old) }
     ensures { IfSome (plan_at plans.old number) (λ plan.
-        EndsPlan number plan (held plans.old (sessions_of sessions.old)) result (held plans.new (sessions_of sessions.new))) }
+        EndsPlan number plan (held_seen plans.old (sessions_of sessions.old)) result (held_seen plans.new (sessions_of sessions.new))) }
 {
     match plans.take(number) {
         Some(plan) => told_by(number, finish_plan(sessions, plan)),
@@ -229,7 +230,7 @@ fn step_or_give_up<K: Keeper, L: Link>(
     requires can { CanStep K.TELLS config.now (K.state keepers.old).told fleet.old leader (plan_at plans.old number) }
     requires author { IfSome (plan_at plans.old number) (IsOfSession (sessions_of sessions.old)) }
     requires begun { IfSome (plan_at plans.old number) OpensFirst }
-    ensures steps { StepsPlan K.TELLS config.now leader number
+    ensures steps { StepsPlan (led_by K.TELLS config.now leader) number
         plans.old (posting (scene fleet.old (K.state keepers.old) (L.shown link.old)) mail.old topology.now)
         plans.new (posting (scene fleet.new (K.state keepers.new) (L.shown link.new)) mail.new topology.now) }
     ensures under_way { IfSome (plan_at plans.new number) (IsUnderWay K.TELLS config.now (K.state keepers.new).told fleet.new) }

@@ -3,7 +3,7 @@ ghost use Rattle.std.specs.Prelude.{◌≡◌, IfOk};
 ghost use Rattle.core_sessions.specs.Sessions.{sessions_of};
 ghost use Rattle.outcomes.specs.Results.{Gives};
 ghost use Rattle.request_check.specs.Refusal.{replied, reply_unless_memory};
-ghost use Rattle.tao_core.specs.Asked.{CanBeDone, admitted, asked_of, held_plan, is_built, may_open, new_plan, not_built, open_session, plan_for, session_for, session_of};
+ghost use Rattle.tao_core.specs.Asked.{CanBeDone, admitted, asked_of, held_plan, is_built, may_open, fresh_plan, not_built, open_session, plan_for, session_for, asking_session};
 
 use core_plans::HeldPlans;
 use core_sessions::Sessions;
@@ -99,7 +99,7 @@ fn held_plan(plans: &HeldPlans, plan: u32) -> Result<(), Refusal>
 
 /// Refuses a plan that can't be held.
 fn new_plan(plans: &HeldPlans, plan: u32) -> Result<(), Refusal>
-    ensures { result ≡ new_plan plans.now plan }
+    ensures { result ≡ fresh_plan plans.now plan }
 {
     if plans.has(plan) {
         return Err(Refusal::Plan(PlanRefused::PlanThere { plan }));
@@ -126,7 +126,7 @@ fn plan_for(plans: &HeldPlans, request: &Request) -> Result<(), Refusal>
 // ---- sessions
 
 fn session_of(call: &Call) -> u32
-    ensures { result ≡ session_of call.now }
+    ensures { result ≡ asking_session call.now }
 {
     match call {
         Call::Write(write) => write.session,

@@ -10,12 +10,13 @@ ghost use Rattle.tao_core.specs.Asked.{CanBeDone, CallCanBeDone, reply_as};
 ghost use Rattle.tao_core.specs.Core.{CoreState, IsConsistentCore, IsCoreOf, IsNewCore, StaysHeld, moment};
 ghost use Rattle.core_model.specs.Growing.{MastersGrow};
 ghost use Rattle.core_model.specs.Stores.{AreStores};
-ghost use Rattle.tao_core.specs.Calls.{AnswersRead, AnswersWrite, ReadsBy};
+ghost use Rattle.tao_core.specs.Calls.{AnswersRead, AnswersWrite, ReadsBy, called_read};
 ghost use Rattle.core_model.specs.Consistent.{GoesOn, IsConsistent, IsFleetOf};
 ghost use Rattle.core_model.specs.Reads.{wanted};
 ghost use Rattle.core_model.specs.Serving.{IsFollowerFor, IsLeaderFor};
 ghost use Rattle.core_steps.specs.ReadSteps.{IsReached};
 ghost use Rattle.core_steps.specs.Routes.{scene};
+ghost use Rattle.core_steps.specs.Reads.{sent_read};
 ghost use Rattle.core_model.specs.Evictions.{IsCacheOf};
 ghost use Rattle.tao_core.specs.Replies.{AnswersAsked, AnswersEvict, AnswersOpen, AnswersRequest, AnswersSwitch};
 ghost use Rattle.tao_keeper.specs.KeeperState.{KeeperState};
@@ -368,7 +369,7 @@ fn read_by<K: Keeper, L: Link>(
     requires follower { IsFollowerFor config.now (query_shard call.now.query) route.follower }
     requires leader { IsLeaderFor config.now (query_shard call.now.query) route.leader }
     requires reached { IsReached K.TELLS config.now (wanted call.now.query floor) (K.state keepers.old) }
-    ensures reads { ReadsBy call.now.critical K.TELLS config.now route (wanted call.now.query floor) result
+    ensures reads { ReadsBy K.TELLS config.now (called_read call.now.critical (sent_read route (wanted call.now.query floor))) result
         (scene fleet.old (K.state keepers.old) (L.shown link.old)) (scene fleet.new (K.state keepers.new) (L.shown link.new)) }
     ensures on { StaysHeld fleet.old fleet.new }
     ensures consistent { IsConsistent K.TELLS config.now (K.state keepers.new).told fleet.new }

@@ -4,15 +4,17 @@ ghost use Rattle.core_mail.specs.Inboxes.{AreEmpty};
 ghost use Rattle.core_model.specs.Consistent.{GoesOn};
 ghost use Rattle.core_model.specs.Growing.{MastersGrow};
 ghost use Rattle.tao_core.specs.Core.{IsConsistentCore, IsCoreOf, StaysHeld, moment};
-ghost use Rattle.tao_core.specs.Settling.{AnswersRepair, AnswersSettle, IsUnsettled, SettlesCore, region_of_stop, repaired_as, unsettled_as};
+ghost use Rattle.tao_core.specs.Settling.{AnswersRepair, AnswersSettle, IsUnsettled, SettlesCore, repaired_as, unsettled_as};
 ghost use Rattle.tao_keeper.specs.KeeperState.{IsLater};
 
 use crate::refusals::no_server;
 use crate::serving::Core;
-use core_nodes::{SettleStop, inverses_match};
-use core_steps::{Ran, RepairFailed, link_fault, out_of_memory, repair_first, run_jobs};
+use core_nodes::SettleStop;
+use core_repairs::{Ran, RepairFailed, repair_first, run_jobs};
+use core_steps::{link_fault, out_of_memory};
 use edge_repair::RepairRefusal;
 use replies::{Lengths, NodeReply, Refusal, Repaired, Reply, StoreRefused, When};
+use shard_tables::inverses_match;
 use std::alloc::Global;
 use tao_keeper::Keeper;
 use tao_link::Link;
@@ -51,26 +53,16 @@ fn repaired(hops: u64, job: u64, wrote: bool) -> Reply
     Reply::Node(NodeReply::Repaired(Repaired { hops, job, wrote }))
 }
 
-/// How it is replied that a settle came to no end, where the master's region of the shard at which it stopped is this.
-fn unsettled_as(stop: SettleStop, region: u16) -> Reply
-    ensures { result ≡ unsettled_as region stop }
+/// How it is replied that a settle came to no end.
+fn unsettled_as(topology: &Topology, stop: SettleStop) -> Reply
+    ensures { result ≡ unsettled_as topology.now stop }
 {
     match stop {
         SettleStop::Unsettled { shard, why } => {
             Reply::Refused(Refusal::Store(StoreRefused::Unsettled { shard, why }))
         }
-        SettleStop::NoServer { .. } => no_server(region),
+        SettleStop::NoServer { shard } => no_server(topology.master(shard)),
         SettleStop::OutOfMemory => out_of_memory(),
-    }
-}
-
-/// The master's region of the shard at which no server was found.
-fn region_of_stop(topology: &Topology, stop: SettleStop) -> u16
-    ensures { result ≡ region_of_stop topology.now stop }
-{
-    match stop {
-        SettleStop::NoServer { shard } => topology.master(shard),
-        _ => 0,
     }
 }
 
@@ -133,7 +125,7 @@ impl<'c> Core<'c> {
             Ok(logs) => Reply::Settled {
                 logs: Lengths::of(logs),
             },
-            Err(stop) => unsettled_as(stop, region_of_stop(&self.topology, stop)),
+            Err(stop) => unsettled_as(&self.topology, stop),
         }
     }
 

@@ -1,4 +1,4 @@
-use Rattle.std.proofs.Common.{ap, refl}
+use Rattle.std.proofs.Common.{ap}
 use Rattle.tao_core.specs.Core.{CoreState}
 use Rattle.tao_core.proofs.HeldOn.{core_goes_on}
 use Rattle.tao_core.proofs.StayOpen.{same_open}
@@ -8,7 +8,7 @@ pub returns-clause-keepers : goal.returns-clause-keepers
 returns-clause-keepers g c =
     let before = c.args.self.now in
     let done = c.settle_all in
-    core_goes_on g.K.Keeper.TELLS (g.K.Keeper.state c.args.keepers.now).told (g.K.Keeper.state done.new.keepers).told before done.new.self
-    c.requires.keepers done.ensures.keepers done.ensures.on done.ensures.grows (ap (λ (x : CoreState). x.settings) done.ensures.rest)
-    (ap (λ (x : CoreState). x.plans) done.ensures.rest)
-    (same_open before.sessions done.new.self.sessions (ap (λ (x : CoreState). x.sessions) done.ensures.rest))
+    (core_goes_on g.K.Keeper.TELLS (g.K.Keeper.state c.args.keepers.now) (g.K.Keeper.state done.new.keepers) before done.new.self c.requires.keepers
+    (record { is_consistent = done.ensures.keepers; on = done.ensures.on; grows = done.ensures.grows; later = done.ensures.later })
+    (ap (λ (x : CoreState). x.settings) done.ensures.rest) (ap (λ (x : CoreState). x.plans) done.ensures.rest)
+    (same_open before.sessions done.new.self.sessions (ap (λ (x : CoreState). x.sessions) done.ensures.rest))).keepers

@@ -2,7 +2,7 @@
 use Rattle.std.proofs.Common.{◌≡◌, ◌⊎◌, ◌≤◌, ◌^◌, ℕ, Bool, List, [], ◌∷◌, ◌++◌, length, Option, IfSome, inl, inr, refl, sym, subst, ◌∙◌, lit<, arith}
 use Rattle.tao_io.specs.Lines.{lines_of}
 use Rattle.core_nodes.specs.Opening.{AreReady}
-use Rattle.tao_top.specs.Outside.{Outside}
+use Rattle.core_nodes.specs.Repairs.{Outside}
 use Rattle.tao_top.specs.Served.{AreLines, LinesBegin, RefusesConfiguration, IsConfigurationRefused}
 use Rattle.tao_top.specs.Status.{IsGood, IsStatus, NoFault}
 use Rattle.tao_top.specs.Step.{Configures, ended}

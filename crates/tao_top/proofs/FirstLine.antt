@@ -7,7 +7,7 @@ use Rattle.config_json.specs.Config.{config_in}
 use Rattle.config_json.specs.declared.refusal.ConfigRefusal.TheVariants.{BadConfig}
 use Rattle.graph_model.specs.Told.{WhereTold}
 use Rattle.replies.specs.declared.reply.Reply.TheVariants.{BadConfiguration, Configured}
-use Rattle.tao_core.specs.Core.{CoreState, IsNewCore}
+use Rattle.tao_core.specs.Core.{CoreState, IsCoreOf, IsNewCore}
 use Rattle.core_nodes.specs.Opening.{IsOpened, IsOpenedInPart, IsOtherLine}
 use Rattle.tao_link.specs.Shown.{LinkShown}
 use Rattle.tao_io.specs.Lines.{GivesLines, IsTooLong, NextLineIs}
@@ -16,7 +16,7 @@ use Rattle.tao_io.specs.declared.lines.NextLine.TheVariants.{End}
 use Rattle.tao_top.proofs.GoingOn.{GivesLines-all, GivesLines-begin, part_none, part_one, served_one, still_refl}
 use Rattle.tao_top.proofs.OneLine.{no_configuration}
 use Rattle.tao_top.specs.Begun.{BegunInPart, EndsAtFirst, GivesOne, RefusesFirst, RefusesFor, RefusesInPart, RefusesLine}
-use Rattle.tao_top.specs.Outside.{Outside, outside}
+use Rattle.core_nodes.specs.Repairs.{Outside, outside}
 use Rattle.tao_top.specs.Served.{AppendsPart, AreLines, EndsInPart, OpensInPart, RefusesConfiguration, Served, StopsOpening, refusal_line, serves, start, streams, traces}
 use Rattle.tao_top.specs.Step.{State, ended, Configures, Replies, Step, line_of, serving}
 use Rattle.topology.specs.Config.{Settings}
@@ -88,12 +88,14 @@ module _ (left rest before after : Option (List ℕ)) where
 -- ---- the opening of the stores
 
 module _ (tells : Bool) (old now : Outside) (line : List ℕ) (s : Settings) (configured : config_in line ≡ Ok s) (later : IsLater old.keepers now.keepers) (stays : now.link ≡ old.link) where
-  pub takes : (core : CoreState) → core.settings ≡ s → IsNewCore core → WhereTold tells (IsOpened s line old.keepers.told now.keepers.told) → Step tells (start old) line Configured (serves core now)
-  takes core is begun opened = record {
+  pub takes : (core : CoreState) → core.settings ≡ s → IsNewCore core → IsCoreOf tells now.keepers.told core
+      → WhereTold tells (IsOpened s line old.keepers.told now.keepers.told) → Step tells (start old) line Configured (serves core now)
+  takes core is begun of_core opened = record {
     does = record {
       configured = subst (λ t. config_in line ≡ Ok t) (sym is) configured;
       begun = begun;
       opened = λ told. subst (λ t. IsOpened t line old.keepers.told now.keepers.told) (sym is) (opened told);
+      of_core = of_core;
       link = stays;
     };
     later = later;
@@ -103,13 +105,15 @@ module _ (tells : Bool) (old now : Outside) (line : List ℕ) (s : Settings) (co
   other_line other = inr (record { settings = s; configured = configured; field_is = refl; other = other; link = stays })
 
   module _ (before after : Option (List ℕ)) where
-    pub begins : (core : CoreState) → core.settings ≡ s → IsNewCore core → WhereTold tells (IsOpened s line old.keepers.told now.keepers.told) → Appends before after (line_of (serving core) Configured)
+    pub begins : (core : CoreState) → core.settings ≡ s → IsNewCore core → IsCoreOf tells now.keepers.told core
+        → WhereTold tells (IsOpened s line old.keepers.told now.keepers.told) → Appends before after (line_of (serving core) Configured)
         → Replies tells (start old) line (serves core now) (Appends before after)
-    begins core is begun opened written = (Configured, takes core is begun opened, written)
+    begins core is begun of_core opened written = (Configured, takes core is begun of_core opened, written)
 
-    pub begun_silent : (core : CoreState) → core.settings ≡ s → IsNewCore core → WhereTold tells (IsOpened s line old.keepers.told now.keepers.told) → AppendsPart before after (line_of (serving core) Configured)
+    pub begun_silent : (core : CoreState) → core.settings ≡ s → IsNewCore core → IsCoreOf tells now.keepers.told core
+        → WhereTold tells (IsOpened s line old.keepers.told now.keepers.told) → AppendsPart before after (line_of (serving core) Configured)
         → (code : ℕ) → BegunInPart code tells (traces old before) (traces now after) line
-    begun_silent core is begun opened written code = inr (serves core now, (Configured, takes core is begun opened, written), still_refl tells now (serves core now) refl)
+    begun_silent core is begun of_core opened written code = inr (serves core now, (Configured, takes core is begun of_core opened, written), still_refl tells now (serves core now) refl)
 
     pub begun_other : WhereTold tells (IsOtherLine s line old.keepers.told now.keepers.told) → AppendsPart before after (refusal_line (codes "file")) → (code : ℕ) → BegunInPart code tells (traces old before) (traces now after) line
     begun_other other written code = inr (refusing now, (BadConfiguration (codes "file"), record { does = other_line other; later = later }, written), still_refl tells now (refusing now) refl)
@@ -122,10 +126,10 @@ module _ (tells : Bool) (old now : Outside) (line : List ℕ) (s : Settings) (co
 
 -- so its reply was begun, whatever a link shows
 pub begun_whatever : (tells : Bool) (old now : KeeperState) (line : List ℕ) (s : Settings) (configured : config_in line ≡ Ok s) (later : IsLater old now) (before after : Option (List ℕ)) (core : CoreState)
-    → core.settings ≡ s → IsNewCore core → WhereTold tells (IsOpened s line old.told now.told) → AppendsPart before after (line_of (serving core) Configured)
+    → core.settings ≡ s → IsNewCore core → IsCoreOf tells now.told core → WhereTold tells (IsOpened s line old.told now.told) → AppendsPart before after (line_of (serving core) Configured)
     → (code : ℕ) (link : LinkShown) → BegunInPart code tells (traces (outside old link) before) (traces (outside now link) after) line
-begun_whatever tells old now line s configured later before after core is begun opened written code link =
-    begun_silent tells (outside old link) (outside now link) line s configured later refl before after core is begun opened written code
+begun_whatever tells old now line s configured later before after core is begun of_core opened written code link =
+    begun_silent tells (outside old link) (outside now link) line s configured later refl before after core is begun of_core opened written code
 
 -- ---- both
 

@@ -14,7 +14,8 @@ use Rattle.core_model.specs.Stores.{AreKeptIn, master_store}
 use Rattle.tao_keeper.specs.Table.{Tables, OpensAs}
 use Rattle.tao_keeper.specs.declared.keeper.Opened.TheVariants.{Ready}
 use Rattle.tao_top.specs.Kept.{AreOpenedWith, LeavesTables, MayServe, StillBegin}
-use Rattle.tao_top.specs.Outside.{Outside, moment_of}
+use Rattle.core_nodes.specs.Repairs.{Outside}
+use Rattle.tao_top.specs.Moments.{moment_of}
 use Rattle.tao_top.specs.Step.{AnswersLine, KeepsServing}
 use Rattle.topology.specs.Config.{Settings}
 

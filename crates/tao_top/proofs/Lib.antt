@@ -4,4 +4,5 @@ pub mod GoingOn
 pub mod Growing
 pub mod Keeping
 pub mod OneLine
+pub mod RunLaws
 pub mod WholeRun

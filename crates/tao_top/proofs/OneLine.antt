@@ -18,7 +18,8 @@ use Rattle.tao_io.specs.declared.lines.NextLine.{NextLine}
 use Rattle.tao_io.specs.declared.lines.NextLine.TheVariants.{Line, TooLong, End}
 use Rattle.tao_top.proofs.GoingOn.{part_none, part_one, served_one, still_refl}
 use Rattle.tao_top.specs.Begun.{RepliesInPart}
-use Rattle.tao_top.specs.Outside.{Outside, moment_of}
+use Rattle.core_nodes.specs.Repairs.{Outside}
+use Rattle.tao_top.specs.Moments.{moment_of}
 use Rattle.tao_top.specs.Served.{AppendsPart, Served, ServedInPart, serves, streams}
 use Rattle.tao_top.specs.Step.{AnswersLine, State, Replies, Step, line_of, serving}
 

@@ -15,7 +15,7 @@ use Rattle.tao_top.proofs.FirstLine.{begun, begun_part, refuses_line, stops_open
 use Rattle.tao_top.proofs.GoingOn.{GivesLines-begin, served_then_all, served_then_part, served_all_part}
 use Rattle.tao_top.specs.Begun.{BegunInPart, EndsAtFirst, GivesOne, RefusesFirst, RefusesLine}
 use Rattle.tao_top.specs.Kept.{MayRun}
-use Rattle.tao_top.specs.Outside.{Outside}
+use Rattle.core_nodes.specs.Repairs.{Outside}
 use Rattle.tao_top.specs.Served.{Done, DoneInPart, EndsInPart, FailsOpening, LinesBegin, OpensInPart, RefusesConfiguration, Served, ServedAll, ServedInPart, StopsOpening, serves, start, streams, traces}
 use Rattle.tao_top.specs.Step.{Replies}
 use Rattle.tao_top.specs.Stop.{Faults, FaultsGrow, InterruptHasCause, StopHasCause, stop_code}

@@ -6,7 +6,7 @@ use Rattle.config_json.specs.declared.refusal.ConfigRefusal.TheVariants.{BadConf
 use Rattle.counts.specs.Count.{Rose}
 use Rattle.replies.specs.declared.reply.Reply.TheVariants.{BadConfiguration}
 use Rattle.tao_io.specs.Lines.{GivesLines}
-use Rattle.tao_top.specs.Outside.{Outside}
+use Rattle.core_nodes.specs.Repairs.{Outside}
 use Rattle.tao_top.specs.Served.{AppendsPart, DoneInPart, IsOpeningStatus, IsStill, OpensInPart, RefusesConfiguration, Traces, refusal_line, start}
 use Rattle.tao_top.specs.Step.{State, ended, Configures, Replies}
 use Rattle.tao_top.specs.Stop.{InterruptsWriting}

@@ -1,5 +1,6 @@
 pub mod Kept
-pub mod Outside
+pub mod Laws
+pub mod Moments
 pub mod Step
 pub mod Stop
 pub mod Served

@@ -10,7 +10,7 @@ use Rattle.replies.specs.declared.reply.Reply.TheVariants.{BadConfiguration}
 use Rattle.tao_core.specs.Core.{CoreState}
 use Rattle.core_nodes.specs.Opening.{IsOpenedInPart}
 use Rattle.tao_io.specs.Lines.{lines_of, GivesLines}
-use Rattle.tao_top.specs.Outside.{Outside}
+use Rattle.core_nodes.specs.Repairs.{Outside}
 use Rattle.tao_top.specs.Step.{State, waiting, serving, ended, Configures, Run, line_of}
 use Rattle.topology.specs.Config.{Settings}
 

@@ -17,7 +17,8 @@ use Rattle.requests.specs.declared.request.Request.{Request}
 use Rattle.tao_core.specs.Core.{CoreState, IsCoreOf, IsNewCore, Moment}
 use Rattle.core_nodes.specs.Opening.{IsOpened, IsOtherLine}
 use Rattle.tao_core.specs.Replies.{AnswersRequest}
-use Rattle.tao_top.specs.Outside.{Outside, moment_of}
+use Rattle.core_nodes.specs.Repairs.{Outside}
+use Rattle.tao_top.specs.Moments.{moment_of}
 use Rattle.topology.specs.Config.{Settings}
 
 -- ---- states
@@ -51,11 +52,12 @@ line_of stage reply = reply_text (spelled_by stage) reply ++ 10 ∷ []
 
 -- ---- the first line
 
--- the line is a configuration, each store takes it, the core is new, and the link stays
+-- the line is a configuration, each store takes it, the core is new and may be used with the keepers' tables, and the link stays
 pub record TakesLine (tells : Bool) (old : Outside) (line : List ℕ) (core : CoreState) (new : Outside) : Type 0 where
   pub configured : config_in line ≡ Ok core.settings
   pub begun : IsNewCore core
   pub opened : WhereTold tells (IsOpened core.settings line old.keepers.told new.keepers.told)
+  pub of_core : IsCoreOf tells new.keepers.told core
   pub link : new.link ≡ old.link
 
 -- the line is no configuration: this field breaks a rule

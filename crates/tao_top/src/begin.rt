@@ -9,7 +9,7 @@ ghost use Rattle.tao_io.specs.Lines.{CountsTaken, GivesLines};
 ghost use Rattle.tao_top.specs.Begun.{BegunInPart, EndsAtFirst, GivesOne, RefusesFirst, RefusesFor, RefusesInPart, RefusesLine, StopsBeginning};
 ghost use Rattle.tao_link.specs.Shown.{LinkShown};
 ghost use Rattle.tao_top.specs.Kept.{LeavesTables, MayServe};
-ghost use Rattle.tao_top.specs.Outside.{outside};
+ghost use Rattle.core_nodes.specs.Repairs.{outside};
 ghost use Rattle.tao_top.specs.Served.{OpensInPart, serves, start, traces};
 ghost use Rattle.tao_top.specs.Step.{Replies};
 ghost use Rattle.tao_top.specs.Stop.{FaultsGrow, StopHasCause, faults, stop_code};

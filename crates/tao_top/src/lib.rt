@@ -2,6 +2,7 @@
 #![tactic(auto)]
 
 mod begin;
+pub mod laws;
 mod lines;
 mod serve;
 mod serving;

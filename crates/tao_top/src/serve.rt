@@ -5,7 +5,7 @@ ghost use Rattle.graph_model.specs.Told.{WhereTold};
 ghost use Rattle.tao_io.specs.LineReader.{may_give, to_come};
 ghost use Rattle.tao_io.specs.Lines.{CountsTaken};
 ghost use Rattle.tao_top.specs.Kept.{LeavesTables, MayServe};
-ghost use Rattle.tao_top.specs.Outside.{outside};
+ghost use Rattle.core_nodes.specs.Repairs.{outside};
 ghost use Rattle.tao_top.specs.Served.{Served, ServedAll, ServedInPart, serves, streams};
 ghost use Rattle.tao_top.specs.Stop.{FaultsGrow, InterruptHasCause, faults};
 

@@ -9,7 +9,7 @@ ghost use Rattle.tao_core.specs.Core.{IsNewCore, moment};
 ghost use Rattle.core_nodes.specs.Opening.{IsOpened, MayOpen, RefusesOpening};
 ghost use Rattle.tao_top.specs.Begun.{RepliesInPart};
 ghost use Rattle.tao_top.specs.Kept.{LeavesTables, MayServe};
-ghost use Rattle.tao_top.specs.Outside.{outside};
+ghost use Rattle.core_nodes.specs.Repairs.{outside};
 ghost use Rattle.tao_top.specs.Served.{AppendsPart, serves};
 ghost use Rattle.tao_top.specs.Step.{AnswersLine, Replies, line_of, serving};
 ghost use Rattle.tao_top.specs.Stop.{InterruptsWriting};

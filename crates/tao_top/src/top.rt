@@ -7,7 +7,7 @@ ghost use Rattle.counts.specs.Count.{Rose};
 ghost use Rattle.graph_model.specs.Told.{WhereTold};
 ghost use Rattle.tao_keeper.specs.Growing.{LogsGrow};
 ghost use Rattle.tao_top.specs.Kept.{LeavesTables, MayRun, StillBegin};
-ghost use Rattle.tao_top.specs.Outside.{outside};
+ghost use Rattle.core_nodes.specs.Repairs.{outside};
 ghost use Rattle.tao_top.specs.Served.{Done, EndsInPart, FailsOpening, RefusesConfiguration, StopsOpening, traces};
 ghost use Rattle.tao_top.specs.Stop.{StopHasCause, faults, stop_code};
 ghost use Rattle.tao_top.specs.declared.stop.Interrupt.TheVariants.{InputTooLong};

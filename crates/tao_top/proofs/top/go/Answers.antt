@@ -5,7 +5,7 @@ use Rattle.tao_top.proofs.FirstLine.{gives_one}
 use Rattle.tao_top.proofs.Keeping.{leaves_then}
 use Rattle.tao_top.proofs.OneLine.{IfErr-any, part_unread}
 use Rattle.tao_top.proofs.WholeRun.{begun_in_part, begun_opening, begun_refused, begun_well, done, done_part, end_of_source, first_in_part, first_refused, fresh, interrupt_later, long_input, may_open, short_input, takes_counted, takes_first, takes_none}
-use Rattle.tao_top.specs.Outside.{outside}
+use Rattle.core_nodes.specs.Repairs.{outside}
 use Rattle.tao_top.specs.Served.{EndsInPart, start, traces}
 use Rattle.tao_top.specs.Stop.{FaultsGrow, InterruptHasCause, StopHasCause, faults, stop_code}
 use Rattle.tao_top.specs.declared.stop.Interrupt.TheVariants.{InputTooLong}

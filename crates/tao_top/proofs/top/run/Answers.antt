@@ -2,7 +2,7 @@ use Rattle.std.proofs.Common.{◌≡◌, ◌⊎◌, ℕ, Err, ap, inl, inr, lit<
 use Rattle.tao_top.proofs.Complete.{known_status}
 use Rattle.tao_top.proofs.OneLine.{part_unread}
 use Rattle.tao_top.proofs.WholeRun.{done_whole, fails_opening, takes_none}
-use Rattle.tao_top.specs.Outside.{outside}
+use Rattle.core_nodes.specs.Repairs.{outside}
 use Rattle.tao_top.specs.Served.{EndsInPart, start, traces}
 use Rattle.tao_top.specs.Status.{IsStatus}
 use Rattle.tao_top.proofs.top.run.Goals as goal

@@ -59,7 +59,7 @@ impl Changeset {
         ensures touch { IfOk result (λ made. WhereTold note.log.told (own_touch made ≡ touch.now)) }
     {
         notes_are_sound(&note);
-        let change = copy_of(&touch.change)?;
+        let change = touch.change.copy()?;
         let before = touch.version.saturating_sub(1);
         Ok(Changeset {
             key: touch.key,
@@ -126,10 +126,4 @@ impl Changeset {
     {
         (self.key, self.before, self.after, self.change, self.note)
     }
-}
-
-fn copy_of(change: &Change) -> Result<Change, OutOfMemory>
-    ensures { IfOk result (λ copy. copy ≡ change.now) }
-{
-    Ok(change.clone()?)
 }

@@ -1,12 +1,14 @@
 -- The pass of a session that is open, at its place.
-use Rattle.std.proofs.Common.{◌≡◌, ℕ, zero, suc, ◌+◌, ◌<◌, ◌≤◌, Bool, true, false, cond, List, [], ◌∷◌, length, get_or, map, Option, Some, None, IfSome, refl, ap, sym, ◌∙◌, subst, arith, inl, inr, slice_set}
+use Rattle.std.proofs.Common.{◌≡◌, ℕ, zero, suc, ◌+◌, ◌<◌, ◌≤◌, Bool, true, false, cond, List, [], ◌∷◌, length, get_or, map, Option, Some, None}
+use Rattle.std.proofs.Common.{IfSome, refl, ap, sym, ◌∙◌, subst, arith, inl, inr, slice_set}
 use Rattle.std.specs.Prelude.{◌==◌, nat_lt, slice_get}
 use Rattle.std.specs.List.{find, AllByRecursion}
 use Rattle.std.proofs.lemmas.Bool.{cases_lt, false≢true}
 use Rattle.std.proofs.lemmas.Bool.Decides.{nat_tests}
 use Rattle.std.proofs.lemmas.Option.{slice_get_past, slice_get_read}
 use Rattle.core_sessions.proofs.InOrder.{IsPlace, above_first, found_at, is_found, other_number, rest_in_order}
-use Rattle.core_sessions.specs.Sessions.{HaveRisingNumbers, HasRoom, HasRoomForBoth, Session, SessionLearns, is_open, session_at, session_of, sessions_of, with_changed}
+use Rattle.core_sessions.specs.Sessions.{HaveRisingNumbers, HasRoom, HasRoomForBoth, Session, SessionLearns, is_open, session_at, session_of}
+use Rattle.core_sessions.specs.Sessions.{sessions_of, with_changed}
 use Rattle.session_pass.specs.Passes.{LearnsEntry, SeenPass}
 use Rattle.shard_log.specs.View.{View}
 use Rattle.tao_base.specs.Ids.{IsRising}
@@ -65,7 +67,8 @@ get_set [] i p q at = absurd cc
 get_set (x ∷ xs) zero p q at = refl
 get_set (x ∷ xs) (suc i) p q at = get_set xs i p q at
 
-map_set : {Y : Type 0} (f : SeenPass → Y) (xs : List SeenPass) (i : ℕ) (p q : SeenPass) → slice_get xs i ≡ Some p → f q ≡ f p → map f (slice_set xs i q) ≡ map f xs
+map_set : {Y : Type 0} (f : SeenPass → Y) (xs : List SeenPass) (i : ℕ) (p q : SeenPass) → slice_get xs i ≡ Some p → f q ≡ f p
+    → map f (slice_set xs i q) ≡ map f xs
 map_set f [] i p q at same = absurd cc
 map_set f (x ∷ xs) zero p q at same = ap (λ y. y ∷ map f xs) (same ∙ ap f (sym (some_same x p at)))
 map_set f (x ∷ xs) (suc i) p q at same = ap (λ ys. f x ∷ ys) (map_set f xs i p q at same)
@@ -141,7 +144,8 @@ more_there n xs i p q here same spent both =
 -- ---- over what the code holds
 
 -- the place of a session that is open is one of the list
-pub within : (n : ℕ) (xs slice : List SeenPass) (i : ℕ) → slice ≡ xs → HaveRisingNumbers xs → is_open (sessions_of xs) n ≡ true → IsPlace n slice i → i < length xs
+pub within : (n : ℕ) (xs slice : List SeenPass) (i : ℕ) → slice ≡ xs → HaveRisingNumbers xs → is_open (sessions_of xs) n ≡ true → IsPlace n slice i
+    → i < length xs
 within n xs slice i lent up there point = elim (cases_lt i (length xs)) [
   | inl lt ↦ lt
   | inr le ↦ (
@@ -150,7 +154,8 @@ within n xs slice i lent up there point = elim (cases_lt i (length xs)) [
 ]
 
 -- and its pass stands there
-pub stands : (n : ℕ) (xs slice : List SeenPass) (i : ℕ) (p : SeenPass) → slice ≡ xs → HaveRisingNumbers xs → is_open (sessions_of xs) n ≡ true → IsPlace n slice i
+pub stands : (n : ℕ) (xs slice : List SeenPass) (i : ℕ) (p : SeenPass) → slice ≡ xs → HaveRisingNumbers xs → is_open (sessions_of xs) n ≡ true
+    → IsPlace n slice i
     → p ≡ get_or xs i p → StandsAt n xs i p
 stands n xs slice i p lent up there point is =
     let at : slice_get xs i ≡ Some p = slice_get_read xs (length xs) i p refl (within n xs slice i lent up there point) is in
@@ -160,7 +165,8 @@ stands n xs slice i p lent up there point is =
 -- what the code finds at the place
 pub looked_up : (xs again : List SeenPass) (i : ℕ) (p : SeenPass) → again ≡ xs → true ≡ nat_lt i (length again) → p ≡ get_or again i p → slice_get xs i ≡ Some p
 looked_up xs again i p lent_again less is =
-    slice_get_read xs (length xs) i p refl (subst (λ ys. i < length ys) lent_again (lt_from_test i (length again) less)) (subst (λ ys. p ≡ get_or ys i p) lent_again is)
+    slice_get_read xs (length xs) i p refl (subst (λ ys. i < length ys) lent_again (lt_from_test i (length again) less))
+    (subst (λ ys. p ≡ get_or ys i p) lent_again is)
 
 pub looked_past : (xs again : List SeenPass) (i : ℕ) → again ≡ xs → false ≡ nat_lt i (length again) → slice_get xs i ≡ None
 looked_past xs again i lent_again past = slice_get_past xs i (subst (λ ys. length ys ≤ i) lent_again (not_lt i (length again) past))
@@ -170,5 +176,6 @@ pub open_is : (n : ℕ) (xs slice : List SeenPass) (i : ℕ) (o : Option SeenPas
     → is_found n o ≡ is_open (sessions_of xs) n
 open_is n xs slice i o lent up point at = ap (is_found n) (sym at) ∙ found_at n xs i up (subst (λ ys. IsPlace n ys i) lent point)
 
-pub stands_found : (n : ℕ) (xs : List SeenPass) (i : ℕ) (p : SeenPass) → HaveRisingNumbers xs → slice_get xs i ≡ Some p → (p.session == n) ≡ true → StandsAt n xs i p
+pub stands_found : (n : ℕ) (xs : List SeenPass) (i : ℕ) (p : SeenPass) → HaveRisingNumbers xs → slice_get xs i ≡ Some p → (p.session == n) ≡ true
+    → StandsAt n xs i p
 stands_found n xs i p up at same = record { up = up; at = at; number = number_is p.session n same }

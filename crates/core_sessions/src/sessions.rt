@@ -39,7 +39,8 @@ impl Model for Sessions {
 impl Sessions {
     ghost use Rattle.std.specs.Option.{option_map};
     ghost use Rattle.std.specs.Prelude.{◌≡◌, ◌<◌, [], length, true, false, IfOk, IfSome, IsSomeAnd, OnOk, OnErr, Some, slice_get};
-    ghost use Rattle.core_sessions.specs.Sessions.{HasRoom, HasRoomForBoth, SessionLearns, is_open, new_session, opening_of, session_at, sessions_of, with_session};
+    ghost use Rattle.core_sessions.specs.Sessions.{HasRoom, HasRoomForBoth, SessionLearns, is_open, new_session, opening_of, session_at, sessions_of};
+    ghost use Rattle.core_sessions.specs.Sessions.{with_session};
     ghost use Rattle.graph_model.specs.Log.{entry_at};
     ghost use Rattle.graph_model.specs.Told.{WhereTold};
     ghost use Rattle.session_pass.specs.Floors.{floor_at};
@@ -116,7 +117,7 @@ impl Sessions {
         } = new;
         let pass = Pass::make(alloc, session, region, tier, notes)?;
         let place = place_of(&self.passes, session);
-        put_in(&mut self.passes, place, pass)?;
+        insert(&mut self.passes, place, pass)?;
         Ok(())
     }
 
@@ -166,7 +167,7 @@ fn place_of(passes: &[Pass], session: u32) -> usize
 }
 
 /// Puts a pass in before the one at the place, and so before all behind it.
-fn put_in(passes: &mut Vec<Pass>, place: usize, pass: Pass) -> Result<(), OutOfMemory>
+fn insert(passes: &mut Vec<Pass>, place: usize, pass: Pass) -> Result<(), OutOfMemory>
     requires { place ≤ length passes.old.items }
     ensures ok { OnOk result (passes.new.items ≡ insert passes.old.items place pass) }
     ensures err { OnErr result (passes.new.items ≡ passes.old.items) }

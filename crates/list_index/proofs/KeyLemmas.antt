@@ -48,10 +48,12 @@ no_times id2 (x ∷ xs) h = elim (cases_Bool (x.id2 == id2)) [
   | inr k ↦ (eqb-apart x.id2 id2 k, no_times id2 xs (rw k at h))
 ]
 
-at_place : (time id2 : ℕ) (x : Edge) → x.id2 ≡ id2 → x.time ≡ time → is_eq (order_cmp (record { time = record { 0 = time }; id2 = record { 0 = id2 } }) (order_key_of x)) ≡ true
+at_place : (time id2 : ℕ) (x : Edge) → x.id2 ≡ id2 → x.time ≡ time
+    → is_eq (order_cmp (record { time = record { 0 = time }; id2 = record { 0 = id2 } }) (order_key_of x)) ≡ true
 at_place time id2 x is at = grind (arith, nat_tests)
 
-not_at : (time id2 : ℕ) (x : Edge) → (x.id2 == id2) ≡ false → is_eq (order_cmp (record { time = record { 0 = time }; id2 = record { 0 = id2 } }) (order_key_of x)) ≡ false
+not_at : (time id2 : ℕ) (x : Edge) → (x.id2 == id2) ≡ false
+    → is_eq (order_cmp (record { time = record { 0 = time }; id2 = record { 0 = id2 } }) (order_key_of x)) ≡ false
 not_at time id2 x apart = grind (arith, nat_tests)
 
 -- one less
@@ -90,13 +92,17 @@ pub put_at_keys : (m n : BTreeMap OrderKey Edge) (e : Edge) (k : OrderKey) → A
 put_at_keys m n e k held is away step =
     step ∙ ap (λ at. insert_entry order_cmp m.entries at e) is ∙ ap (λ es. insert_entry order_cmp es (order_key_of e) e) held ∙ insert_at_keys e (values m) away
 
-pub taken_at_keys : (m n : BTreeMap OrderKey Edge) (time id2 : ℕ) (k : OrderKey) → AreAtKeys m → k.time.0 ≡ time → k.id2.0 ≡ id2 → times_to id2 (values m) ≡ time ∷ []
+pub taken_at_keys : (m n : BTreeMap OrderKey Edge) (time id2 : ℕ) (k : OrderKey) → AreAtKeys m → k.time.0 ≡ time → k.id2.0 ≡ id2
+    → times_to id2 (values m) ≡ time ∷ []
     → n.entries ≡ remove_entry (is_at (order_cmp k)) m.entries → n.entries ≡ at_keys (without_edge id2 (values m))
 taken_at_keys m n time id2 k held at to h step =
-    step ∙ (λ i. remove_entry (is_at (order_cmp (record { time = record { 0 = at i }; id2 = record { 0 = to i } }))) (held i)) ∙ remove_at_keys time id2 (values m) h
+    step ∙ (λ i. remove_entry (is_at (order_cmp (record { time = record { 0 = at i }; id2 = record { 0 = to i } }))) (held i))
+    ∙ remove_at_keys time id2 (values m) h
 
-pub got_at_keys : (m : BTreeMap OrderKey Edge) (time id2 : ℕ) (k : OrderKey) (found : Option Edge) → AreAtKeys m → k.time.0 ≡ time → k.id2.0 ≡ id2 → times_to id2 (values m) ≡ time ∷ []
+pub got_at_keys : (m : BTreeMap OrderKey Edge) (time id2 : ℕ) (k : OrderKey) (found : Option Edge) → AreAtKeys m → k.time.0 ≡ time → k.id2.0 ≡ id2
+    → times_to id2 (values m) ≡ time ∷ []
     → found ≡ lookup (is_at (order_cmp k)) m.entries → option_to_list found ≡ edges_to id2 (values m)
 got_at_keys m time id2 k found held at to h is =
     ap option_to_list is
-    ∙ (λ i. option_to_list (lookup (is_at (order_cmp (record { time = record { 0 = at i }; id2 = record { 0 = to i } }))) (held i))) ∙ found_at_keys time id2 (values m) h
+    ∙ (λ i. option_to_list (lookup (is_at (order_cmp (record { time = record { 0 = at i }; id2 = record { 0 = to i } }))) (held i)))
+    ∙ found_at_keys time id2 (values m) h

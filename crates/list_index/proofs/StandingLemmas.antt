@@ -60,11 +60,13 @@ to_set a e xs =
     let taken : edges_to a (without_edge e.id2 xs) ≡ cond (e.id2 == a) [] (edges_to a xs) = to_without a e.id2 xs in
     elim (cases_Bool (e.id2 == a)) [
       | inl h ↦ to_insert_same a e (without_edge e.id2 xs) h (taken ∙ ap (λ t. cond t [] (edges_to a xs)) h) ∙ sym (ap (λ t. cond t (e ∷ []) (edges_to a xs)) h)
-      | inr h ↦ to_insert_other a e (without_edge e.id2 xs) h ∙ taken ∙ ap (λ t. cond t [] (edges_to a xs)) h ∙ sym (ap (λ t. cond t (e ∷ []) (edges_to a xs)) h)
+      | inr h ↦ to_insert_other a e (without_edge e.id2 xs) h ∙ taken ∙ ap (λ t. cond t [] (edges_to a xs)) h
+          ∙ sym (ap (λ t. cond t (e ∷ []) (edges_to a xs)) h)
     ]
 
 -- the times and the record where the test says which
-times_either : (b : Bool) (s : Option Standing) (here there : List Edge) (now : Standing) → map (λ e. e.time) here ≡ live_times (Some now) → map (λ e. e.time) there ≡ live_times s
+times_either : (b : Bool) (s : Option Standing) (here there : List Edge) (now : Standing) → map (λ e. e.time) here ≡ live_times (Some now)
+    → map (λ e. e.time) there ≡ live_times s
     → map (λ e. e.time) (cond b here there) ≡ live_times (cond b (Some now) s)
 times_either true s here there now h k = h
 times_either false s here there now h k = k
@@ -107,7 +109,8 @@ pub cut_after : (id2 : ℕ) (stamp : Stamp) (was : Option ℕ) (edges : List Edg
     → ListIsAfter (CutEdge id2 stamp was) (record { edges = edges; standings = old }) (record { edges = without_edge id2 edges; standings = new })
 cut_after id2 stamp was edges old new stands = record {
   edges_are = refl;
-  records_are = λ a. (λ i. record_from (stands a i) (to_without a id2 edges i)) ∙ cut_record (id2 == a) id2 stamp was a (standing_of a old) (edges_to a edges) refl;
+  records_are = λ a. (λ i. record_from (stands a i) (to_without a id2 edges i)) ∙ cut_record (id2 == a) id2 stamp was a (standing_of a old)
+      (edges_to a edges) refl;
 }
 
 -- what holds of each time before holds of one

@@ -54,7 +54,7 @@ impl EdgesInOrder {
     }
 
     /// Takes the edge to an id out, which is of that time. One look-up.
-    pub fn take_out(&mut self, time: Time, id2: Id)
+    pub fn remove(&mut self, time: Time, id2: Id)
         requires { times_to id2 self.old ≡ time ∷ [] }
         ensures { self.new ≡ without_edge id2 self.old }
     {
@@ -62,7 +62,7 @@ impl EdgesInOrder {
     }
 
     /// Puts an edge in its place, where none goes to its id. One look-up. Want of memory changes nothing.
-    pub fn put_in(&mut self, edge: Edge) -> Result<(), OutOfMemory>
+    pub fn insert(&mut self, edge: Edge) -> Result<(), OutOfMemory>
         requires { Without edge.id2 self.old }
         ensures { self.new ≡ (if is_ok result then insert_edge edge self.old else self.old) }
     {
@@ -102,12 +102,6 @@ fn copies_of(alloc: Global, edges: &[&Edge]) -> Result<Edges, OutOfMemory>
 fn push_copy(edges: &mut Vec<Edge>, edge: &Edge) -> Result<(), OutOfMemory>
     ensures { OnOk result (edges.new.items ≡ edges.old.items ++ edge.now ∷ []) }
 {
-    edges.push(copy_of(edge)?)?;
+    edges.push(edge.copy()?)?;
     Ok(())
-}
-
-pub fn copy_of(edge: &Edge) -> Result<Edge, OutOfMemory>
-    ensures { IfOk result (λ copy. copy ≡ edge.now) }
-{
-    Ok(edge.clone()?)
 }

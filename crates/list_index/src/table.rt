@@ -7,7 +7,7 @@ ghost use Rattle.tao_base.specs.declared.id.Id.{Id as Id2};
 ghost use Rattle.graph_model.specs.Edges.{state_of as live_state, without_edge};
 ghost use Rattle.list_index.specs.ListState.{ListIsAfter, StandAsListed, live_times, no_list, record_to, standing_of};
 
-use crate::edges::{EdgesInOrder, copy_of};
+use crate::edges::EdgesInOrder;
 use std::alloc::Global;
 use std::collections::BTreeMap;
 use std::marker::Model;
@@ -67,8 +67,8 @@ impl EdgeTable {
             mut edges,
             mut standings,
         } = self;
-        take_out(&mut edges, &standings, edge.id2);
-        edges.put_in(copy_of(edge)?)?;
+        cut(&mut edges, &standings, edge.id2);
+        edges.insert(edge.copy()?)?;
         stand(&mut standings, edge.id2, Standing::Live { time: edge.time })?;
         Ok(EdgeTable { edges, standings })
     }
@@ -80,7 +80,7 @@ impl EdgeTable {
             mut edges,
             mut standings,
         } = self;
-        take_out(&mut edges, &standings, id2);
+        cut(&mut edges, &standings, id2);
         stand(&mut standings, id2, Standing::Cut { stamp })?;
         Ok(EdgeTable { edges, standings })
     }
@@ -113,12 +113,12 @@ impl EdgeTable {
 }
 
 /// Takes the edge to an id out, where there is one.
-fn take_out(edges: &mut EdgesInOrder, standings: &BTreeMap<Id, Standing>, id2: Id)
+fn cut(edges: &mut EdgesInOrder, standings: &BTreeMap<Id, Standing>, id2: Id)
     requires { StandAsListed edges.old standings.now.entries }
     ensures { edges.new ≡ without_edge id2 edges.old }
 {
     if let Some(time) = live_time(standings, id2) {
-        edges.take_out(time, id2);
+        edges.remove(time, id2);
     }
 }
 

@@ -1,5 +1,6 @@
 -- What taking an edge out and putting one in make of the first edges of a list.
-use Rattle.std.proofs.Common.{◌≡◌, ℕ, zero, suc, ◌+◌, ◌-◌, ◌^◌, ◌<◌, ◌≤◌, Bool, true, false, ◌||◌, not, List, [], ◌∷◌, length, take, get_or, min, Option, Some, None, refl, ap, arith, inl, inr, length-take}
+use Rattle.std.proofs.Common.{◌≡◌, ℕ, zero, suc, ◌+◌, ◌-◌, ◌^◌, ◌<◌, ◌≤◌, Bool, true, false, ◌||◌, not, List, [], ◌∷◌, length, take, get_or, min}
+use Rattle.std.proofs.Common.{Option, Some, None, refl, ap, arith, inl, inr, length-take}
 use Rattle.std.specs.Prelude.{◌==◌, nat_eq, nat_lt}
 use Rattle.std.specs.List.{insert, AllByRecursion}
 use Rattle.std.specs.List.Sorted.{IsPartitionedBy, IsPartitionPoint}
@@ -33,7 +34,8 @@ insert_at e [] (suc i) point le = absurd (omega arith)
 insert_at e (x ∷ xs) zero point le = rw (not_false (is_newer e x) (point.1 zero x (omega arith) (omega arith))) refl
 insert_at e (x ∷ xs) (suc i) point le =
     rw (not_true (is_newer e x) (point.0 zero x (omega arith) (omega arith)))
-    (ap (λ l. x ∷ l) (insert_at e xs i ((λ k d a b. point.0 (suc k) d (omega arith) (omega arith)), (λ k d a b. point.1 (suc k) d (omega arith) (omega arith))) (omega arith)))
+    (ap (λ l. x ∷ l) (insert_at e xs i ((λ k d a b. point.0 (suc k) d (omega arith) (omega arith)), (λ k d a b. point.1 (suc k) d (omega arith) (omega arith)))
+    (omega arith)))
 
 newer_than : (x : Edge) (xs : List Edge) → AllByRecursion (λ y. is_newer x y ≡ true) xs → (k : ℕ) (d : Edge) → k < length xs → is_newer x (get_or xs k d) ≡ true
 newer_than x [] before k d h = absurd (omega arith)
@@ -73,7 +75,10 @@ in_order_take n xs order = record {
 
 begins_shortened : (bound total : ℕ) (xs : List Edge) → CanBegin xs total → CanBegin (shortened bound xs) total
 begins_shortened bound total xs begins = elim (cases_Bool (nat_lt bound (length xs))) [
-  | inl k ↦ rw k (record { in_order = in_order_take (length xs - 1) xs begins.in_order; within = (let most = length-take (length xs - 1) xs in let all = begins.within in omega arith) })
+  | inl k ↦ rw k (record {
+    in_order = in_order_take (length xs - 1) xs begins.in_order;
+    within = (let most = length-take (length xs - 1) xs in let all = begins.within in omega arith);
+  })
   | inr k ↦ rw k begins
 ]
 
@@ -87,7 +92,8 @@ begins_rest id2 was p begins = record {
   within = (let fewer = length_rest id2 p.edges in let all = begins.within in fallen_most was (length (without_edge id2 p.edges)) p.total (omega arith));
 }
 
-begins_among : (e : Edge) (xs : List Edge) (total : ℕ) → CanBegin xs total → Without e.id2 xs → length xs < 2 ^ 63 → CanBegin (put_among e xs total) (min (total + 1) (2 ^ 64 - 1))
+begins_among : (e : Edge) (xs : List Edge) (total : ℕ) → CanBegin xs total → Without e.id2 xs → length xs < 2 ^ 63
+    → CanBegin (put_among e xs total) (min (total + 1) (2 ^ 64 - 1))
 begins_among e xs total begins new small = let all = begins.within in elim (cases_Bool (nat_eq (length xs) total || is_before_last e xs)) [
   | inl k ↦ rw k (record { in_order = in_order_insert e xs new begins.in_order; within = (let more = length_insert e xs in omega arith) })
   | inr k ↦ rw k (record { in_order = begins.in_order; within = omega arith })
@@ -101,7 +107,8 @@ few_left id2 xs small = let fewer = length_rest id2 xs in omega arith
 pub after_begins : (change : Change) (p : ListPrefix) (bound : ℕ) → CanBegin p.edges p.total → length p.edges < 2 ^ 63
     → CanBegin (prefix_after change p bound).edges (prefix_after change p bound).total
 after_begins (SetEdge e was) p bound begins small =
-    begins_shortened bound _ _ (begins_among e (without_edge e.id2 p.edges) (rest_of e.id2 was p).total (begins_rest e.id2 was p begins) (without_none e.id2 p.edges) (few_left e.id2 p.edges small))
+    begins_shortened bound _ _ (begins_among e (without_edge e.id2 p.edges) (rest_of e.id2 was p).total (begins_rest e.id2 was p begins)
+    (without_none e.id2 p.edges) (few_left e.id2 p.edges small))
 after_begins (CutEdge id2 stamp was) p bound begins small = begins_shortened bound _ _ (begins_rest id2 was p begins)
 after_begins (PutObject object) p bound begins small = begins
 after_begins DropObject p bound begins small = begins

@@ -1,5 +1,6 @@
 -- A touch takes a prefix that is exact to one that is exact at the next version.
-use Rattle.std.proofs.Common.{◌≡◌, ℕ, ◌+◌, ◌-◌, ◌^◌, ◌<◌, ◌≤◌, Bool, not, List, ◌++◌, length, max, take, drop, Option, Some, None, refl, sym, ◌∙◌, ap, subst, arith, inl, inr, length-append, Result, Ok, Err, OnOk}
+use Rattle.std.proofs.Common.{◌≡◌, ℕ, ◌+◌, ◌-◌, ◌^◌, ◌<◌, ◌≤◌, Bool, not, List, ◌++◌, length, max, take, drop, Option, Some, None, refl, sym, ◌∙◌}
+use Rattle.std.proofs.Common.{ap, subst, arith, inl, inr, length-append, Result, Ok, Err, OnOk}
 use Rattle.std.specs.Prelude.{◌==◌, ◌||◌, nat_eq, nat_lt, filter, option_to_list, IfSome}
 use Rattle.std.proofs.lemmas.Bool.{cases_Bool, lt-ltb, ltb-false}
 use Rattle.std.proofs.lemmas.List.{length-take, take-append-drop, take_all}
@@ -37,7 +38,8 @@ both_parts : (id2 : ℕ) (xs : List Edge) → length (edges_to id2 xs) + length 
 both_parts id2 xs = length-filter_both (λ (e : Edge). e.id2 == id2) (λ e. not (e.id2 == id2)) (λ e. refl) xs
 
 -- where `was` is true of the list, the fall that it asks for is made
-fall_is : (id2 : ℕ) (was : Option ℕ) (edges whole : List Edge) (total : ℕ) → IsPrefixOf edges total whole → length (edges_to id2 whole) ≡ length (option_to_list was)
+fall_is : (id2 : ℕ) (was : Option ℕ) (edges whole : List Edge) (total : ℕ) → IsPrefixOf edges total whole
+    → length (edges_to id2 whole) ≡ length (option_to_list was)
     → fallen was (length (without_edge id2 edges)) total ≡ total_without was total
 fall_is id2 None edges whole total begins says = refl
 fall_is id2 (Some time) edges whole total begins says =
@@ -92,8 +94,10 @@ after_is (SetEdge e was) p bound whole begins says small =
 after_is (CutEdge id2 stamp was) p bound whole begins says small =
     let front = shortened_front bound (without_edge id2 p.edges) in
     record { count = front.0; is = prefix_same _ _ _ _ front.1 (sym (fall_is id2 was p.edges whole p.total begins says)) }
-after_is (PutObject object) p bound whole begins says small = record { count = length p.edges; is = prefix_same _ _ _ _ (take_all (length p.edges) p.edges (omega arith)) refl }
-after_is DropObject p bound whole begins says small = record { count = length p.edges; is = prefix_same _ _ _ _ (take_all (length p.edges) p.edges (omega arith)) refl }
+after_is (PutObject object) p bound whole begins says small =
+    record { count = length p.edges; is = prefix_same _ _ _ _ (take_all (length p.edges) p.edges (omega arith)) refl }
+after_is DropObject p bound whole begins says small =
+    record { count = length p.edges; is = prefix_same _ _ _ _ (take_all (length p.edges) p.edges (omega arith)) refl }
 
 -- no more edges than the bound, or than there were
 pub after_bounded : (change : Change) (p : ListPrefix) (bound : ℕ) → length (prefix_after change p bound).edges ≤ max (length p.edges) bound
@@ -117,7 +121,8 @@ record StoodBefore (log : List Entry) (id1 : Id) (atype : AType) (v : ℕ) (chan
   pub is : edge_list (take place log) id1 atype ≡ whole
   pub says : SaysWas change whole
 
-stood : (log : List Entry) (t : Touch) (id1 : Id) (atype : AType) (v : ℕ) → IsSound log → (touch : IsTouchOf log t) → t.key ≡ Assocs id1 atype → t.version ≡ v + 1
+stood : (log : List Entry) (t : Touch) (id1 : Id) (atype : AType) (v : ℕ) → IsSound log → (touch : IsTouchOf log t) → t.key ≡ Assocs id1 atype
+    → t.version ≡ v + 1
     → StoodBefore log id1 atype v t.change (edge_list (take touch.place log) id1 atype)
 stood log t id1 atype v sound touch key next =
     let n : ℕ = touch.place in
@@ -127,7 +132,8 @@ stood log t id1 atype v sound touch key next =
       place = n;
       at = (let k = fits.version_is in let same = ap (version (take n log)) key in omega arith);
       is = refl;
-      says = says_was (take n log) id1 atype t.change (subst (λ k. IfSome (update_at k t.change) (λ u. was_of t.change ≡ live_time (edge_record (take n log) u.0 u.1 u.2))) key fits.was_is);
+      says = says_was (take n log) id1 atype t.change (subst
+          (λ k. IfSome (update_at k t.change) (λ u. was_of t.change ≡ live_time (edge_record (take n log) u.0 u.1 u.2))) key fits.was_is);
     }
 
 -- a front of an exact prefix is exact
@@ -138,7 +144,8 @@ front_is_exact log id1 atype v n edges total exact =
 
 -- the plain rule keeps all edges exact
 plain_is_exact : (log : List Entry) (t : Touch) (id1 : Id) (atype : AType) (v : ℕ) (p : ListPrefix) → IsSound log → IsTouchOf log t → t.key ≡ Assocs id1 atype
-    → t.version ≡ v + 1 → IsExactPrefix log id1 atype v p → IsExactPrefix log id1 atype (v + 1) (list_prefix (edges_after t.change p.edges p.total) (total_after t.change p.total))
+    → t.version ≡ v + 1 → IsExactPrefix log id1 atype v p
+    → IsExactPrefix log id1 atype (v + 1) (list_prefix (edges_after t.change p.edges p.total) (total_after t.change p.total))
 plain_is_exact log t id1 atype v p sound touch key next exact =
     let after : List Edge = edges_after t.change p.edges p.total in
     let room : ℕ = length p.edges + length after in
@@ -146,7 +153,8 @@ plain_is_exact log t id1 atype v p sound touch key next exact =
     let all : take room after ≡ after = take_all room after (omega arith) in
     subst (λ es. IsExactList log id1 atype (v + 1) es (total_after t.change p.total)) all next_is
 
-follows : (change : Change) (old new : ListPrefix) (bound : ℕ) → new ≡ prefix_after change old bound → (log : List Entry) (t : Touch) (id1 : Id) (atype : AType) (v : ℕ)
+follows : (change : Change) (old new : ListPrefix) (bound : ℕ) → new ≡ prefix_after change old bound
+    → (log : List Entry) (t : Touch) (id1 : Id) (atype : AType) (v : ℕ)
     → IsSound log → IsTouchOf log t → t.key ≡ Assocs id1 atype → t.change ≡ change → t.version ≡ v + 1 → t.version < 2 ^ 64
     → IsExactPrefix log id1 atype v old → IsExactPrefix log id1 atype (v + 1) new
 follows change old new bound is log t id1 atype v sound touch key same next small exact =
@@ -165,6 +173,7 @@ stays_exact change old new bound is = record {
   bounded = subst (λ p. length p.edges ≤ max (length old.edges) bound) (sym is) (after_bounded change old bound);
 }
 
-pub exact_on_ok : {X E : Type 0} (change : Change) (old new : ListPrefix) (bound : ℕ) (r : Result X E) → OnOk r (new ≡ prefix_after change old bound) → OnOk r (StaysExact change old new bound)
+pub exact_on_ok : {X E : Type 0} (change : Change) (old new : ListPrefix) (bound : ℕ) (r : Result X E) → OnOk r (new ≡ prefix_after change old bound)
+    → OnOk r (StaysExact change old new bound)
 exact_on_ok change old new bound (Ok x) is = stays_exact change old new bound is
 exact_on_ok change old new bound (Err e) is = tt

@@ -35,7 +35,8 @@ above i [] up j le = refl
 above i (k ∷ ids) up j le = let lt = up.0 in rw (apart-eqb k j (λ e. omega arith)) (above k ids up.1 j (omega arith))
 
 -- at most one edge goes to an id
-none_again : (i : ℕ) (x : Edge) (xs : List Edge) → AllByRecursion (λ y. y.id2 ≢ x.id2) xs → i ≡ x.id2 → (number (goes_to i) xs ≡ 0) × (list_any (goes_to i) xs ≡ false)
+none_again : (i : ℕ) (x : Edge) (xs : List Edge) → AllByRecursion (λ y. y.id2 ≢ x.id2) xs → i ≡ x.id2 → (number (goes_to i) xs ≡ 0)
+    × (list_any (goes_to i) xs ≡ false)
 none_again i x [] apart is = (refl, refl)
 none_again i x (y ∷ ys) apart is =
     let off : goes_to i y ≡ false = apart-eqb i y.id2 (λ e. apart.0 (sym e ∙ is)) in
@@ -49,7 +50,8 @@ number_one i (x ∷ xs) distinct = elim (cases_Bool (goes_to i x)) [
   | inr other ↦ rw other (number_one i xs distinct.1)
 ]
 
-number_more : (i : ℕ) (ids : List ℕ) → list_any (λ id. id == i) ids ≡ false → (xs : List Edge) → number (is_asked (i ∷ ids)) xs ≡ number (goes_to i) xs + number (is_asked ids) xs
+number_more : (i : ℕ) (ids : List ℕ) → list_any (λ id. id == i) ids ≡ false → (xs : List Edge) → number (is_asked (i ∷ ids)) xs ≡ number (goes_to i) xs + number
+    (is_asked ids) xs
 number_more i ids apart [] = refl
 number_more i ids apart (x ∷ xs) = let rest = number_more i ids apart xs in elim (cases_Bool (goes_to i x)) [
   | inl same ↦
@@ -78,7 +80,8 @@ number_most (i ∷ ids) up xs distinct =
     let rest = number_most ids (rising_tail i ids up) xs distinct in
     omega (arith, more, one, rest, at_most_one (list_any (goes_to i) xs))
 
-each_found : (ids : List ℕ) → IsRising ids → (xs : List Edge) → AreDistinct xs → (number (is_asked ids) xs == length ids) ≡ list_all (λ id. list_any (λ e. id == e.id2) xs) ids
+each_found : (ids : List ℕ) → IsRising ids → (xs : List Edge) → AreDistinct xs
+    → (number (is_asked ids) xs == length ids) ≡ list_all (λ id. list_any (λ e. id == e.id2) xs) ids
 each_found [] up xs distinct = rw (number_none xs)
 each_found (i ∷ ids) up xs distinct =
     let more = number_more i ids (above i ids up i (omega arith)) xs in
@@ -86,10 +89,12 @@ each_found (i ∷ ids) up xs distinct =
     let most = number_most ids (rising_tail i ids up) xs distinct in
     elim (cases_Bool (list_any (goes_to i) xs)) [
       | inl found ↦
-          let n : number (is_asked (i ∷ ids)) xs ≡ suc (number (is_asked ids) xs) = let single : number (goes_to i) xs ≡ 1 = rw found at one in omega (arith, more, single) in
+          let n : number (is_asked (i ∷ ids)) xs ≡ suc (number (is_asked ids) xs) = let single : number (goes_to i) xs ≡ 1 = rw found at one in
+          omega (arith, more, single) in
           rw (found, n) (sym (suc_eq (number (is_asked ids) xs) (length ids)) ∙ each_found ids (rising_tail i ids up) xs distinct)
       | inr lost ↦
-          let n : number (is_asked (i ∷ ids)) xs ≡ number (is_asked ids) xs = let none : number (goes_to i) xs ≡ 0 = rw lost at one in omega (arith, more, none) in
+          let n : number (is_asked (i ∷ ids)) xs ≡ number (is_asked ids) xs = let none : number (goes_to i) xs ≡ 0 = rw lost at one in
+          omega (arith, more, none) in
           rw (lost, n) (ne_eqb _ _ (λ e. omega (arith, most, e)))
     ]
 

@@ -1,5 +1,6 @@
 -- Where the edges of some times stand.
-use Rattle.std.proofs.Common.{◌≡◌, ℕ, zero, suc, ◌+◌, ◌-◌, ◌<◌, ◌≤◌, Bool, true, false, ◌&&◌, List, [], ◌∷◌, length, map, take, drop, get_or, min, Some, refl, sym, ◌∙◌, ap, arith, inl, inr, length-take, length-drop}
+use Rattle.std.proofs.Common.{◌≡◌, ℕ, zero, suc, ◌+◌, ◌-◌, ◌<◌, ◌≤◌, Bool, true, false, ◌&&◌, List, [], ◌∷◌, length, map, take, drop, get_or, min}
+use Rattle.std.proofs.Common.{Some, refl, sym, ◌∙◌, ap, arith, inl, inr, length-take, length-drop}
 use Rattle.std.specs.Prelude.{nat_lt, nat_le, filter}
 use Rattle.std.specs.List.{AllByRecursion}
 use Rattle.std.specs.List.Sorted.{IsPartitionedBy, IsPartitionPoint}
@@ -28,7 +29,8 @@ module _ {A : Type 0} (edge : A → Edge) where
   point_is p (x ∷ xs) zero point le = rw (point.1 zero x (omega arith) (omega arith))
   point_is p (x ∷ xs) (suc i) point le =
       rw (point.0 zero x (omega arith) (omega arith), one_more)
-      (ap suc (point_is p xs i ((λ k d a b. point.0 (suc k) d (omega arith) (omega arith)), (λ k d a b. point.1 (suc k) d (omega arith) (omega arith))) (omega arith)))
+      (ap suc (point_is p xs i ((λ k d a b. point.0 (suc k) d (omega arith) (omega arith)), (λ k d a b. point.1 (suc k) d (omega arith) (omega arith)))
+      (omega arith)))
 
   later_falls : (x : Edge) (xs : List A) → AllByRecursion (λ y. is_newer x y ≡ true) (map edge xs) → (k : ℕ) (d : A) → k < length xs
       → (edge (get_or xs k d)).time ≤ x.time
@@ -70,7 +72,8 @@ timely low high e = at_least (Some low) e.time && at_most (Some high) e.time
 -- behind an edge below low none is within the times
 none_below : (low high : ℕ) (x : Edge) (ys : List Edge) → AllByRecursion (λ y. is_newer x y ≡ true) ys → x.time < low → filter (timely low high) ys ≡ []
 none_below low high x [] before below = refl
-none_below low high x (y ∷ ys) before below = let falls = time_falls x y before.0 in rw (lt-leb low y.time (omega arith)) (none_below low high x ys before.1 below)
+none_below low high x (y ∷ ys) before below = let falls = time_falls x y before.0 in
+    rw (lt-leb low y.time (omega arith)) (none_below low high x ys before.1 below)
 
 -- behind an edge that is not later than high none is
 none_later : (high : ℕ) (x : Edge) (xs : List Edge) → AllByRecursion (λ y. is_newer x y ≡ true) xs → x.time ≤ high → later_than high xs ≡ 0
@@ -82,13 +85,16 @@ pub within_is : (low high : ℕ) (xs : List Edge) → IsNewestFirst xs → withi
 within_is low high [] sorted = refl
 within_is low high (x ∷ xs) sorted = elim (cases_lt high x.time) [
   | inl later ↦ elim (cases_lt x.time low) [
-    | inl below ↦ rw (lt-ltb high x.time later, lt-leb low x.time below) (none_below low high x xs sorted.0 below ∙ sym (stretch_none (1 + later_than high xs) (x ∷ xs)))
-    | inr from ↦ rw (lt-ltb high x.time later, le-leb low x.time from, lt-leb x.time high later) (within_is low high xs sorted.1 ∙ sym (stretch_both (later_than high xs) (from_on low xs) x xs))
+    | inl below ↦ rw (lt-ltb high x.time later, lt-leb low x.time below)
+        (none_below low high x xs sorted.0 below ∙ sym (stretch_none (1 + later_than high xs) (x ∷ xs)))
+    | inr from ↦ rw (lt-ltb high x.time later, le-leb low x.time from, lt-leb x.time high later)
+        (within_is low high xs sorted.1 ∙ sym (stretch_both (later_than high xs) (from_on low xs) x xs))
   ]
   | inr not_later ↦ elim (cases_lt x.time low) [
     | inl below ↦ rw (le-ltb high x.time not_later, lt-leb low x.time below) (none_below low high x xs sorted.0 below ∙ sym (stretch_none 0 (x ∷ xs)))
     | inr from ↦ rw (le-ltb high x.time not_later, le-leb low x.time from, le-leb x.time high not_later)
-        (ap (λ l. x ∷ l) (within_is low high xs sorted.1 ∙ ap (λ i. stretch i (from_on low xs) xs) (none_later high x xs sorted.0 not_later)) ∙ sym (stretch_first (from_on low xs) x xs))
+        (ap (λ l. x ∷ l) (within_is low high xs sorted.1 ∙ ap (λ i. stretch i (from_on low xs) xs) (none_later high x xs sorted.0 not_later))
+        ∙ sym (stretch_first (from_on low xs) x xs))
   ]
 ]
 
@@ -101,7 +107,8 @@ take_both (suc m) (suc n) (x ∷ l) = let e : min (suc n) (suc m) ≡ suc (min n
 -- the first of them
 pub first_within : (low high used start end : ℕ) (xs : List Edge) → IsNewestFirst xs → start ≡ later_than high xs → end ≡ from_on low xs
     → take (min (end - start) used) (drop start xs) ≡ take used (within (Some low) (Some high) xs)
-first_within low high used start end xs sorted s e = sym (ap (take used) (within_is low high xs sorted) ∙ rw (← s, ← e) (take_both used (end - start) (drop start xs)))
+first_within low high used start end xs sorted s e =
+    sym (ap (take used) (within_is low high xs sorted) ∙ rw (← s, ← e) (take_both used (end - start) (drop start xs)))
 
 -- how many they are
 pub number_within : (low high start end : ℕ) (xs : List Edge) → IsNewestFirst xs → start ≡ later_than high xs → end ≡ from_on low xs

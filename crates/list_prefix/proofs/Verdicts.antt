@@ -71,7 +71,8 @@ answers_log p query bound (Decided answer) each = λ types log id1 atype v n key
     let part : List Entry = take n log in
     let list : List Edge = edge_list part id1 atype in
     let is = each list (exact.gives n at) (in_order_list (changes_of part (Assocs id1 atype))) in
-    is ∙ ap (λ b. list_answer b list (length list) query) (sym same) ∙ sym (log_answer_is types part query id1 atype key ∙ ap (λ k. list_answer (bound_at types k) (list_at part k) (length (list_at part k)) query) key)
+    is ∙ ap (λ b. list_answer b list (length list) query) (sym same)
+    ∙ sym (log_answer_is types part query id1 atype key ∙ ap (λ k. list_answer (bound_at types k) (list_at part k) (length (list_at part k)) query) key)
 answers_log p query bound Undecided each = tt
 
 pub log_if_ok : {E : Type 0} (p : ListPrefix) (query : Query) (bound : ℕ) (r : Result Verdict E)

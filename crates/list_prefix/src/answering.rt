@@ -115,7 +115,7 @@ fn push_wanted(
     ensures { OnOk result (given.new.items ≡ given.old.items ++ filter (is_wanted ids.now low high) (edge.now ∷ [])) }
 {
     if is_within(edge.time, high, low) && ids.contains(edge.id2) {
-        given.push(copy_of(edge)?)?;
+        given.push(edge.copy()?)?;
     }
     Ok(())
 }
@@ -132,14 +132,7 @@ pub fn copies_of<E: AsEdge>(alloc: Global, edges: &[E]) -> Result<Edges, OutOfMe
 {
     let mut copies = Vec::with_capacity(alloc, edges.len())?;
     for item in edges {
-        copies.push(copy_of(item.as_edge())?)?;
+        copies.push(item.as_edge().copy()?)?;
     }
     Ok(Edges::of(copies))
-}
-
-/// A copy of an edge. Its payload takes memory.
-pub fn copy_of(edge: &Edge) -> Result<Edge, OutOfMemory>
-    ensures { IfOk result (λ copy. copy ≡ edge.now) }
-{
-    Ok(edge.clone()?)
 }

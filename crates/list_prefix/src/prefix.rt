@@ -7,7 +7,7 @@ ghost use Rattle.list_prefix.specs.Fronts.{IsFrontFor, IsLeftOpen};
 ghost use Rattle.list_prefix.specs.ListPrefix.{CanBegin, list_prefix};
 ghost use Rattle.list_prefix.specs.Verdicts.{AnswersEachList, AnswersLog, IsOfList, verdict_of};
 
-use crate::answering::{answer_of, copies_of, copy_of};
+use crate::answering::{answer_of, copies_of};
 use crate::changing::{put_in, shorten, take_out};
 use crate::deciding::is_decided;
 use crate::fronts::shortest_front;
@@ -99,7 +99,7 @@ impl Prefix {
         match change {
             Change::PutObject(_) | Change::DropObject => Ok(()),
             Change::SetEdge { edge, was } => {
-                let edge = copy_of(edge)?;
+                let edge = edge.copy()?;
                 self.edges.reserve(1)?;
                 let rest = take_out(&mut self.edges, self.total, edge.id2, *was);
                 self.total = put_in(&mut self.edges, rest, edge, bound);

@@ -1,5 +1,6 @@
 -- What one more touch makes of what the touches leave.
-use Rattle.std.proofs.Common.{◌≡◌, ◌∙◌, ℕ, ◌+◌, true, false, List, [], ◌∷◌, ◌++◌, append-nil, append_assoc, refl, sym, ap, subst, inl, inr, length, length-append, get_or, take, drop, zero, suc, arith, ◌<◌, None, unwrap_or}
+use Rattle.std.proofs.Common.{◌≡◌, ◌∙◌, ℕ, ◌+◌, true, false, List, [], ◌∷◌, ◌++◌, append-nil, append_assoc, refl, sym, ap, subst, inl, inr, length}
+use Rattle.std.proofs.Common.{length-append, get_or, take, drop, zero, suc, arith, ◌<◌, None, unwrap_or}
 use Rattle.std.proofs.lemmas.Bool.{cases_Bool}
 use Rattle.std.proofs.lemmas.List.{map-append, take_more}
 use Rattle.std.proofs.lemmas.List.Elements.{filter-append}
@@ -48,7 +49,8 @@ says_more ts t old new step says = λ key. elim (cases_Bool (same_key key t.key)
       (left_after (changes_at key ts) t.change (state_at old key) (state_at new key) (says key)
       (subst (λ (k : Key). IsAfter t.change (state_at old k) (state_at new k)) (sym same) step.here)))
   | inr h ↦
-      subst (λ cs. IsLeftBy cs (state_at new key)) (sym (at_append key ts (t ∷ []) ∙ ap (λ cs. changes_at key ts ++ cs) (at_other key t h) ∙ append-nil (changes_at key ts)))
+      subst (λ cs. IsLeftBy cs (state_at new key)) (sym (at_append key ts (t ∷ []) ∙ ap (λ cs. changes_at key ts ++ cs) (at_other key t h)
+      ∙ append-nil (changes_at key ts)))
       (subst (IsLeftBy (changes_at key ts)) (sym (step.others key h)) (says key))
 ]
 
@@ -60,7 +62,8 @@ says_nothing keys h = λ key. subst (IsLeftBy []) (sym (h key)) (record { versio
 pub says_item : (ts us : List Touch) (i : ℕ) (t : Touch) (old new : BTreeMap Key KeyState) → i < length us → t ≡ get_or us i t → Touched t old new
     → KeysTell (ts ++ take i us) old → KeysTell (ts ++ take (i + 1) us) new
 says_item ts us i t old new lt is step says =
-    subst (λ all. KeysTell all new) (append_assoc ts (take i us) (t ∷ []) ∙ ap (λ more. ts ++ more) (ap (λ x. take i us ++ x ∷ []) is ∙ sym (take_more us i t lt)))
+    subst (λ all. KeysTell all new) (append_assoc ts (take i us) (t ∷ [])
+    ∙ ap (λ more. ts ++ more) (ap (λ x. take i us ++ x ∷ []) is ∙ sym (take_more us i t lt)))
     (says_more (ts ++ take i us) t old new step says)
 
 -- no stretch of nothing

@@ -38,7 +38,8 @@ changes_once : (e : Entry) (k : Key) → AreOnce e.touches → version (e ∷ []
 changes_once e k once = elim (cases_Bool (touches_key k e)) [
   | inl h ↦ (let here : List Touch = filter (λ t. same_key k t.key) e.touches in
       let least : 1 ≤ length here = some_passes (λ t. same_key k t.key) e.touches h in
-      let most : length here ≤ 1 = one_at_most k here (AllPairs-filter (λ (s : Touch) t. s.key ≢ t.key) (λ t. same_key k t.key) e.touches once) (filter_passes (λ (t : Touch). same_key k t.key) e.touches) in
+      let most : length here ≤ 1 = one_at_most k here (AllPairs-filter (λ (s : Touch) t. s.key ≢ t.key) (λ t. same_key k t.key) e.touches once)
+      (filter_passes (λ (t : Touch). same_key k t.key) e.touches) in
       rw (h, append-nil e.touches, length-map here (λ (t : Touch). t.change)) (omega arith))
   | inr h ↦ rw (h, untouched e k h) refl
 ]

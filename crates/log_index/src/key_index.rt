@@ -41,9 +41,9 @@ impl KeyIndex {
     fn touch(&mut self, touch: &Touch) -> Result<(), OutOfMemory>
         ensures { OnOk result (Touched touch.now self.old.keys self.new.keys) }
     {
-        let table = keys::take_out(&mut self.keys, &touch.key).unwrap_or(KeyTable::new(self.alloc));
+        let table = keys::remove(&mut self.keys, &touch.key).unwrap_or(KeyTable::new(self.alloc));
         let table = table.after(&touch.change)?;
-        keys::put_in(&mut self.keys, touch.key, table)
+        keys::insert(&mut self.keys, touch.key, table)
     }
 
     pub fn version(&self, key: Key) -> u64

@@ -69,24 +69,24 @@ fn apply<'a>(edges: &mut Vec<&'a Edge>, change: &'a Change) -> Result<(), OutOfM
 {
     match change {
         Change::SetEdge { edge, .. } => {
-            take_out(edges, edge.id2);
-            put_in(edges, edge)
+            remove(edges, edge.id2);
+            insert(edges, edge)
         }
         Change::CutEdge { id2, .. } => {
-            take_out(edges, *id2);
+            remove(edges, *id2);
             Ok(())
         }
         Change::PutObject(_) | Change::DropObject => Ok(()),
     }
 }
 
-fn take_out(edges: &mut Vec<&Edge>, id2: Id)
+fn remove(edges: &mut Vec<&Edge>, id2: Id)
     ensures { map (λ e. e.now) edges.new.items ≡ without_edge id2 (map (λ e. e.now) edges.old.items) }
 {
     edges.retain(|edge| edge.id2 != id2);
 }
 
-fn put_in<'a>(edges: &mut Vec<&'a Edge>, edge: &'a Edge) -> Result<(), OutOfMemory>
+fn insert<'a>(edges: &mut Vec<&'a Edge>, edge: &'a Edge) -> Result<(), OutOfMemory>
     ensures { OnOk result (map (λ e. e.now) edges.new.items ≡ insert_edge edge.now (map (λ e. e.now) edges.old.items)) }
 {
     let place = first_behind(edges, edge).unwrap_or(edges.len());

@@ -49,7 +49,8 @@ abbrev rest_of : View → View → List Entry
 rest_of v w = drop (length v.entries) w.entries
 
 -- what is so in a view and stays so with more entries is so in what it grew into
-stays_told : (v w : View) (P : List Entry → Type 0) → Grows v w → (P v.entries → P (v.entries ++ rest_of v w)) → WhereTold v.log.told (P v.entries) → WhereTold w.log.told (P w.entries)
+stays_told : (v w : View) (P : List Entry → Type 0) → Grows v w → (P v.entries → P (v.entries ++ rest_of v w)) → WhereTold v.log.told (P v.entries)
+    → WhereTold w.log.told (P w.entries)
 stays_told v w P grows stays was told = subst P (begins-rest v.entries w.entries grows.begins) (stays (was (told_before v w grows told)))
 
 pub object_stays : (v w : View) (id : Id) (at : ℕ) (found : Option Object) → Grows v w
@@ -97,7 +98,8 @@ pub seen-meets : (v w whole : View) → Grows v whole → Grows w whole → Grow
 seen-meets v w whole p q = record { log_is = p.log_is; begins = (longer_begins v.entries w.entries whole.entries p.begins q.begins).0 }
 
 -- a beginning of a list is one of each list that it begins
-legal-append : (types : EdgeTypes) (log more : List Entry) (query : Query) (floor : ℕ) (given : Answer) (at : ℕ) → IsLegal types log query floor given at → IsLegal types (log ++ more) query floor given at
+legal-append : (types : EdgeTypes) (log more : List Entry) (query : Query) (floor : ℕ) (given : Answer) (at : ℕ) → IsLegal types log query floor given at
+    → IsLegal types (log ++ more) query floor given at
 legal-append types log more query floor given at legal = elim (cases_lt (length log) legal.n) [
   | inr le ↦ (
       let cut : take legal.n (log ++ more) ≡ take legal.n log = take-append-le legal.n log more le in

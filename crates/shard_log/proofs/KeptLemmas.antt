@@ -38,7 +38,8 @@ module _ {S : Type 0} (s : State S Seen) (k : IsKept s) where
   not_first id v at reads first = reads (subst (λ p. p.role ≡ Writes) (some-injective k.pen v (sym k.first ∙ ap (get_elem? s.views) (sym first) ∙ at)) k.writes)
 
   -- a seat that doesn't write has a new view
-  pub note_kept : (words : List ℕ) (id : ℕ) (v w : Seen) → words ≡ s.words → get_elem? s.views id ≡ some v → v.role ≢ Writes → w.role ≢ Writes → (w.role ≢ Spent → Fits k.pen w)
+  pub note_kept : (words : List ℕ) (id : ℕ) (v w : Seen) → words ≡ s.words → get_elem? s.views id ≡ some v → v.role ≢ Writes → w.role ≢ Writes
+      → (w.role ≢ Spent → Fits k.pen w)
       → IsKept record { words = words; homes = s.homes; views = set s.views id w }
   note_kept words id v w same at reads reads_on fits = record {
     pen = k.pen;
@@ -71,7 +72,8 @@ module _ {S : Type 0} (s : State S Seen) (k : IsKept s) where
   }
 
   -- the pen has a new view, which is the log then
-  pub pen_kept : (words : List ℕ) (id : ℕ) (v w : Seen) → get_elem? s.views id ≡ some v → v.role ≡ Writes → w.role ≡ Writes → words ≡ length w.entries ∷ w.stored
+  pub pen_kept : (words : List ℕ) (id : ℕ) (v w : Seen) → get_elem? s.views id ≡ some v → v.role ≡ Writes → w.role ≡ Writes
+      → words ≡ length w.entries ∷ w.stored
       → IsLog w → Fits w w → ((u : Seen) → Fits v u → Fits w u)
       → IsKept record { words = words; homes = s.homes; views = set s.views id w }
   pen_kept words id v w at writes writes_on words_are log own wider =

@@ -13,7 +13,8 @@ use Rattle.graph_model.specs.Told.{WhereTold}
 use Rattle.shard_log.specs.View.{most_entries}
 
 -- a log with one more entry
-pub log_grows : (v : Seen) (e : Entry) → IsLog v → length v.entries < most_entries → WhereTold v.told (CanFollow v.entries e) → IsLog (record v { entries = v.entries ++ e ∷ [] })
+pub log_grows : (v : Seen) (e : Entry) → IsLog v → length v.entries < most_entries → WhereTold v.told (CanFollow v.entries e)
+    → IsLog (record v { entries = v.entries ++ e ∷ [] })
 log_grows v e log room follows = record {
   few = (let more = length-append v.entries (e ∷ []) in omega arith);
   sound = λ told. (sound_grows v.entries e).grows (log.sound told) (follows told);
@@ -37,18 +38,26 @@ module _ {S : Type 0} (table own : TableId) where
   }
 
   -- the pen has added an entry
-  pub pen_adds : (later : TableId) (me new : Me S Seen) (len : ℕ) (e : Entry) → IsPen table own me len → later ≡ own → new ≡ (record (me.0) { entries = me.0.entries ++ e ∷ [] }, me.1)
+  pub pen_adds : (later : TableId) (me new : Me S Seen) (len : ℕ) (e : Entry) → IsPen table own me len → later ≡ own
+      → new ≡ (record (me.0) { entries = me.0.entries ++ e ∷ [] }, me.1)
       → length me.0.entries < most_entries → WhereTold me.0.told (CanFollow me.0.entries e) → IsPen table later new (len + 1)
   pen_adds later me new len e pen same is room follows =
       let seated = pen.seated in
       subst (λ m. IsPen table later m (len + 1)) (sym is) record {
-        seated = record { table_is = same ∙ seated.table_is; words_are = seated.words_are; bare = seated.bare; settled = seated.settled; log = log_grows (me.0) e seated.log room follows };
+        seated = record {
+          table_is = same ∙ seated.table_is;
+          words_are = seated.words_are;
+          bare = seated.bare;
+          settled = seated.settled;
+          log = log_grows (me.0) e seated.log room follows;
+        };
         writes = pen.writes;
         len_is = (let more = length-append me.0.entries (e ∷ []) in let is = pen.len_is in omega arith);
       }
 
   -- a new note of a seat
-  pub note_of : (there theirs : TableId) (me new : Me S Seen) → IsSeated table own me → there ≡ table → theirs ≡ own → new ≡ (reading (me.0), []) → IsNote there theirs new
+  pub note_of : (there theirs : TableId) (me new : Me S Seen) → IsSeated table own me → there ≡ table → theirs ≡ own → new ≡ (reading (me.0), [])
+      → IsNote there theirs new
   note_of there theirs me new seated same moved is = subst (IsNote there theirs) (sym is) record {
     seated = record {
       table_is = moved ∙ seated.table_is ∙ sym same;
@@ -68,7 +77,13 @@ module _ {S : Type 0} (table own : TableId) where
       let seated = note.seated in
       let log = log_meets (me.0) w seated.log theirs told in
       subst (IsNote table later) (sym (is ∙ ap (λ j. (record (j.0) { met = [] }, j.1)) joins)) record {
-        seated = record { table_is = same ∙ seated.table_is; words_are = seated.words_are; bare = seated.bare; settled = refl; log = record { few = log.few; sound = log.sound } };
+        seated = record {
+          table_is = same ∙ seated.table_is;
+          words_are = seated.words_are;
+          bare = seated.bare;
+          settled = refl;
+          log = record { few = log.few; sound = log.sound };
+        };
         reads = note.reads;
         stores_nothing = note.stores_nothing;
       }

@@ -1,5 +1,6 @@
 -- Each kind of step keeps the rule.
-use Rattle.std.proofs.Common.{◌≡◌, ◌≢◌, ℕ, zero, suc, ◌+◌, ◌%◌, ◌^◌, ◌<◌, ◌≤◌, ⊎_elim, List, [], ◌∷◌, ◌++◌, length, set, slice_index, refl, ap, sym, subst, ◌∙◌, arith, length-append}
+use Rattle.std.proofs.Common.{◌≡◌, ◌≢◌, ℕ, zero, suc, ◌+◌, ◌%◌, ◌^◌, ◌<◌, ◌≤◌, ⊎_elim, List, [], ◌∷◌, ◌++◌, length, set, slice_index, refl, ap, sym}
+use Rattle.std.proofs.Common.{subst, ◌∙◌, arith, length-append}
 use Rattle.std.proofs.Math.Nat.{mod-eq_of_lt}
 use Rattle.std.proofs.lemmas.List.Elements.{All-cons, All-nil}
 use mathlib.Core.Option.{some, none, some-injective, some-ne-none}
@@ -10,7 +11,8 @@ use Rattle.tao_base.specs.declared.entry.Entry.{Entry}
 use Rattle.graph_model.specs.Soundness.{CanFollow, IsSound}
 use Rattle.graph_model.proofs.Sound.{sound_grows}
 use Rattle.shard_log.proofs.Beginnings.{begins-append, begins-self, longer_begins}
-use Rattle.shard_log.proofs.KeptLemmas.{length_found, more_kept, note_kept, pen_is, pen_kept, reader_isn't_spent, reader_isn't_writer, same_words, writer_isn't_spent}
+use Rattle.shard_log.proofs.KeptLemmas.{length_found, more_kept, note_kept, pen_is, pen_kept, reader_isn't_spent, reader_isn't_writer, same_words}
+use Rattle.shard_log.proofs.KeptLemmas.{writer_isn't_spent}
 use Rattle.shard_log.specs.declared.rule.Opening.{Opening}
 use Rattle.shard_log.specs.declared.rule.Role.TheVariants.{Writes, Reads, Spent}
 use Rattle.shard_log.specs.declared.rule.Seen.{Seen}
@@ -44,7 +46,12 @@ module _ {S : Type 0} where
         first = refl;
         writes = refl;
         alone = λ i u here on. first_alone i u here;
-        fits = λ i u here on. subst (Fits pen) (first_is i u here) record { told_is = refl; pins_are = refl; begins = begins-self o.first.items; met = none_begin o.first.items };
+        fits = λ i u here on. subst (Fits pen) (first_is i u here) record {
+          told_is = refl;
+          pins_are = refl;
+          begins = begins-self o.first.items;
+          met = none_begin o.first.items;
+        };
       }
     where
       first_alone : (i : ℕ) (u : Seen) → get_elem? (first_seen o ∷ []) i ≡ some u → i ≡ 0
@@ -93,7 +100,12 @@ module _ {S : Type 0} where
             (ap (λ ws. set ws 0 ((slice_index ws 0 + 1) % 2 ^ 64)) words ∙ ap (λ n. n ∷ me.0.stored) grown)
             record { few = omega (arith, longer, room); sound = λ told. (sound_grows me.0.entries e).grows (log.sound told) (follows told) }
             record { told_is = refl; pins_are = refl; begins = begins-self new.entries; met = nothing_met new none_yet }
-            (λ u fit. record { told_is = fit.told_is; pins_are = fit.pins_are; begins = begins-append u.entries me.0.entries (e ∷ []) fit.begins; met = fit.met }),
+            (λ u fit. record {
+              told_is = fit.told_is;
+              pins_are = fit.pins_are;
+              begins = begins-append u.entries me.0.entries (e ∷ []) fit.begins;
+              met = fit.met;
+            }),
         record { seat_is = refl; found_is = found },
       )
 
@@ -105,9 +117,11 @@ module _ {S : Type 0} where
       (more_kept s k (reading v) (λ e. cc (e)) record { told_is = fit.told_is; pins_are = fit.pins_are; begins = fit.begins; met = fit.met })
 
   -- a note that is taken in was there
-  was_there : (s : State S Seen) (id other : ℕ) (new w : Seen) → ¬ (other ≡ id) → get_elem? (set s.views id new) other ≡ some w → get_elem? s.views other ≡ some w
+  was_there : (s : State S Seen) (id other : ℕ) (new w : Seen) → ¬ (other ≡ id) → get_elem? (set s.views id new) other ≡ some w
+      → get_elem? s.views other ≡ some w
   was_there s id other new w apart there =
-      ⊎_elim (λ (t : (other ≡ id) × (new ≡ w)). absurd (apart t.0)) (λ (t : (other ≢ id) × (get_elem? s.views other ≡ some w)). t.1) (at_set s.views id other new w there)
+      ⊎_elim (λ (t : (other ≡ id) × (new ≡ w)). absurd (apart t.0)) (λ (t : (other ≢ id) × (get_elem? s.views other ≡ some w)). t.1)
+      (at_set s.views id other new w there)
 
   -- then it is spent
   takes : (s : State S Seen) → IsKept s → (other : ℕ) (w : Seen) → get_elem? s.views other ≡ some w → w.role ≡ Reads
@@ -128,7 +142,8 @@ module _ {S : Type 0} where
       other w there reads_too
 
   -- the pen has the same view, beside what it met
-  pen_meets : (s : State S Seen) (k : IsKept s) (words : List ℕ) (id : ℕ) (v : Seen) (met : List (List Entry)) → words ≡ s.words → get_elem? s.views id ≡ some v → v.role ≡ Writes
+  pen_meets : (s : State S Seen) (k : IsKept s) (words : List ℕ) (id : ℕ) (v : Seen) (met : List (List Entry)) → words ≡ s.words → get_elem? s.views id ≡ some v
+      → v.role ≡ Writes
       → AllBegin met v.entries → IsKept record { words = words; homes = s.homes; views = set s.views id (record v { met = met }) }
   pen_meets s k words id v met same at writes begin =
       let pen : k.pen ≡ v = (pen_is s k id v at writes).1 in
@@ -144,7 +159,8 @@ module _ {S : Type 0} where
       let new : Seen = taking_in v w in
       let theirs : Fits k.pen w = k.fits other w (was_there s id other new w apart there) (reader_isn't_spent w.role reads) in
       let begins : Begins w.entries v.entries = subst (λ p. Begins w.entries p.entries) (pen_is s k id v at writes).1 theirs.begins in
-      takes record { words = s.words; homes = s.homes; views = set s.views id new } (pen_meets s k s.words id v (w.entries ∷ []) refl at writes (one_begins w.entries v.entries begins)) other w there reads
+      takes record { words = s.words; homes = s.homes; views = set s.views id new }
+      (pen_meets s k s.words id v (w.entries ∷ []) refl at writes (one_begins w.entries v.entries begins)) other w there reads
 
   -- what a note met begins its view
   pub confirms : (slots id : ℕ) (me : Me S Seen) → me.0.role ≡ Reads → Allows IsKept slots id me 0 (λ n. n) (Confirms (step slots 0 0 0 none) me)

@@ -22,7 +22,7 @@ pub fn growth_goes_on()
 
 /// An item that is exact in a view stays exact.
 #[tactic(auto, using(crate::proofs::GrowthLemmas::items_stay_exact))]
-pub fn exact_items_stay()
+pub fn items_stay_exact()
     ensures { ItemsStayExact }
 {}
 

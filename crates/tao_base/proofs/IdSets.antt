@@ -1,5 +1,6 @@
 -- Sets of ids: what sorting and leaving out repeated ids makes, and what a search in it finds.
-use Rattle.std.proofs.Common.{◌≡◌, ◌==◌, ◌↔◌, ℕ, zero, suc, ◌<◌, ◌≤◌, List, [], ◌∷◌, length, get_or, Contains, Result, Ok, Err, MatchResult, is_ok, eqb, sym, inl, inr, arith, add-one}
+use Rattle.std.proofs.Common.{◌≡◌, ◌==◌, ◌↔◌, ℕ, zero, suc, ◌<◌, ◌≤◌, List, [], ◌∷◌, length, get_or, Contains, Result, Ok, Err, MatchResult, is_ok}
+use Rattle.std.proofs.Common.{eqb, sym, inl, inr, arith, add-one}
 use Rattle.std.specs.List.{list_any}
 use Rattle.std.specs.List.Retain.{IsFiltered, DiffersFromLast}
 use Rattle.std.specs.List.Sorted.{IsPermutation, IsSorted, IsStrictlyIncreasing, IsBinarySearchResult}
@@ -17,7 +18,10 @@ use Rattle.tao_base.specs.Ids.{IsRising}
 rising_from_increasing : (xs : List ℕ) → IsStrictlyIncreasing xs → IsRising xs
 rising_from_increasing [] up = tt
 rising_from_increasing (x ∷ []) up = tt
-rising_from_increasing (x ∷ y ∷ ys) up = (up 0 (omega arith), rising_from_increasing (y ∷ ys) (λ k lt. rw add-one (rw add-one at (up (suc k) (rw add-one (omega arith))))))
+rising_from_increasing (x ∷ y ∷ ys) up = (
+  up 0 (omega arith),
+  rising_from_increasing (y ∷ ys) (λ k lt. rw add-one (rw add-one at (up (suc k) (rw add-one (omega arith))))),
+)
 
 -- each id is at least the first, and so on
 above_first : (x : ℕ) (xs : List ℕ) → IsRising (x ∷ xs) → (k : ℕ) → k < length (x ∷ xs) → x ≤ get_or (x ∷ xs) k 0
@@ -36,14 +40,16 @@ sorted_from_rising (x ∷ y ∷ ys) up (suc i) (suc j) le lt = sorted_from_risin
 pub rising_set : (sorted set : List ℕ) → IsSorted nat_cmp sorted → IsFiltered (DiffersFromLast eqb) [] sorted set → IsRising set
 rising_set sorted set up kept = rw (dedup_is eqb sorted set kept) (rising_from_increasing _ (IsStrictlyIncreasing-dedup sorted up))
 
-pub same_members : (ids sorted set : List ℕ) → IsPermutation ids sorted → IsFiltered (DiffersFromLast eqb) [] sorted set → (id : ℕ) → Contains set id ↔ Contains ids id
+pub same_members : (ids sorted set : List ℕ) → IsPermutation ids sorted → IsFiltered (DiffersFromLast eqb) [] sorted set → (id : ℕ)
+    → Contains set id ↔ Contains ids id
 same_members ids sorted set moved kept id = rw (dedup_is eqb sorted set kept) (
   λ in_set. Contains-permutation sorted ids id (IsPermutation-sym ids sorted moved) (Contains-from_dedup eqb sorted id in_set),
   λ in_ids. Contains-dedup_nat sorted id (Contains-permutation ids sorted id moved in_ids),
 )
 
 found_is : (xs : List ℕ) (id : ℕ) (r : Result ℕ ℕ)
-    → MatchResult r (λ i. (i < length xs) × (get_or xs i 0 ≡ id)) (λ i. (i ≤ length xs) × ((k : ℕ) → k < i → get_or xs k 0 < id) × ((k : ℕ) → i ≤ k → k < length xs → id < get_or xs k 0))
+    → MatchResult r (λ i. (i < length xs) × (get_or xs i 0 ≡ id))
+    (λ i. (i ≤ length xs) × ((k : ℕ) → k < i → get_or xs k 0 < id) × ((k : ℕ) → i ≤ k → k < length xs → id < get_or xs k 0))
     → is_ok r ≡ list_any (λ member. member == id) xs
 found_is xs id (Ok i) at = sym (list_any_at (λ member. member == id) xs i 0 at.0 (grind (arith, nat_tests)))
 found_is xs id (Err i) at = sym (list_any_none (λ member. member == id) xs (λ k d lt. rw (get_or_default xs k d 0 lt) (ne_eqb _ _ (misses k lt))))
@@ -51,5 +57,6 @@ found_is xs id (Err i) at = sym (list_any_none (λ member. member == id) xs (λ 
     misses : (k : ℕ) → k < length xs → get_or xs k 0 ≡ id → ⊥
     misses k lt e = elim (cases_lt k i) [ inl before ↦ absurd (omega (arith, at.1 k before)) | inr behind ↦ absurd (omega (arith, at.2 k behind lt)) ]
 
-pub search_finds : (xs : List ℕ) (id : ℕ) (r : Result ℕ ℕ) → IsRising xs → IsBinarySearchResult (λ y. nat_cmp y id) xs r → is_ok r ≡ list_any (λ member. member == id) xs
+pub search_finds : (xs : List ℕ) (id : ℕ) (r : Result ℕ ℕ) → IsRising xs → IsBinarySearchResult (λ y. nat_cmp y id) xs r
+    → is_ok r ≡ list_any (λ member. member == id) xs
 search_finds xs id r up at = found_is xs id r (searched xs id r at (sorted_from_rising xs up))

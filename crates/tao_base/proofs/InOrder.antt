@@ -1,5 +1,6 @@
 -- Pairs put in the order of their keys.
-use Rattle.std.proofs.Common.{◌≡◌, ℕ, ◌≤◌, List, [], ◌∷◌, ◌++◌, length, false, cond, Option, Some, None, map, filter, fold, String, string_bytes, refl, sym, ◌∙◌, ap, subst, inl, inr, arith}
+use Rattle.std.proofs.Common.{◌≡◌, ℕ, ◌≤◌, List, [], ◌∷◌, ◌++◌, length, false, cond, Option, Some, None, map, filter, fold, String, string_bytes}
+use Rattle.std.proofs.Common.{refl, sym, ◌∙◌, ap, subst, inl, inr, arith}
 use Rattle.std.specs.List.{last_or}
 use Rattle.std.specs.Str.{bytes_eq}
 use Rattle.std.specs.Cmp.Lexicographic.{slice_cmp}
@@ -28,7 +29,8 @@ greater_keys : (x y : List ℕ) → key_cmp x y ≡ Greater → key_cmp y x ≡ 
 greater_keys x y e = nat_list_cmp_total.antisymm y x ∙ ap ordering_reverse e
 
 -- an entry of a map goes where its pair goes
-inserted_by : (o : Ordering) (k v : String Global) (e : String Global × String Global) (es : List (String Global × String Global)) → key_cmp (string_bytes k) (string_bytes e.0) ≡ o
+inserted_by : (o : Ordering) (k v : String Global) (e : String Global × String Global) (es : List (String Global × String Global))
+    → key_cmp (string_bytes k) (string_bytes e.0) ≡ o
     → map pair_of (insert_entry string_cmp es k v) ≡ put_pair (pair_of (k, v)) (map pair_of es)
     → map pair_of (match_ordering o ((k, v) ∷ e ∷ es) ((e.0, v) ∷ es) (e ∷ insert_entry string_cmp es k v))
     ≡ match_ordering o (pair_of (k, v) ∷ pair_of e ∷ map pair_of es) (pair_of (k, v) ∷ map pair_of es) (pair_of e ∷ put_pair (pair_of (k, v)) (map pair_of es))
@@ -36,7 +38,8 @@ inserted_by Less k v e es is more = refl
 inserted_by Equal k v e es is more = rw (equal_keys (string_bytes k) (string_bytes e.0) is) refl
 inserted_by Greater k v e es is more = ap (λ ps. pair_of e ∷ ps) more
 
-inserted : (es : List (String Global × String Global)) (k v : String Global) → map pair_of (insert_entry string_cmp es k v) ≡ put_pair (pair_of (k, v)) (map pair_of es)
+inserted : (es : List (String Global × String Global)) (k v : String Global) → map pair_of (insert_entry string_cmp es k v) ≡ put_pair (pair_of (k, v))
+    (map pair_of es)
 inserted [] k v = refl
 inserted (e ∷ es) k v = inserted_by (key_cmp (string_bytes k) (string_bytes e.0)) k v e es refl (inserted es k v)
 
@@ -44,7 +47,8 @@ inserted (e ∷ es) k v = inserted_by (key_cmp (string_bytes k) (string_bytes e.
 pub map_has_more : (old new : List (String Global × String Global)) (done : List (String Global × String Global)) (k v : String Global)
     → map pair_of old ≡ in_order (map pair_of done) → new ≡ insert_entry string_cmp old k v → map pair_of new ≡ in_order (map pair_of (done ++ (k, v) ∷ []))
 map_has_more old new done k v has step =
-    rw (step, inserted old k v, has, map-append pair_of done ((k, v) ∷ []), fold-append (λ made p. put_pair p made) [] (map pair_of done) (pair_of (k, v) ∷ [])) refl
+    rw (step, inserted old k v, has, map-append pair_of done ((k, v) ∷ []), fold-append (λ made p. put_pair p made) [] (map pair_of done) (pair_of (k, v) ∷ []))
+    refl
 
 -- each key is above the given one
 abbrev AreAbove : List ℕ → List Pair → Type 0
@@ -90,11 +94,13 @@ abbrev value_after : Option (List ℕ) → List ℕ → List Pair → Option (Li
 value_after before key pairs = last_or before (map (λ p. p.value) (filter (λ p. bytes_eq key p.key) pairs))
 
 -- one pair first
-value_after-cons : (before : Option (List ℕ)) (key : List ℕ) (p : Pair) (qs : List Pair) → value_after before key (p ∷ qs) ≡ value_after (cond (bytes_eq key p.key) (Some p.value) before) key qs
+value_after-cons : (before : Option (List ℕ)) (key : List ℕ) (p : Pair) (qs : List Pair)
+    → value_after before key (p ∷ qs) ≡ value_after (cond (bytes_eq key p.key) (Some p.value) before) key qs
 value_after-cons before key p qs = elim (cases_Bool (bytes_eq key p.key)) [ inl e ↦ rw e refl | inr e ↦ rw e refl ]
 
 less_differs : (x y : List ℕ) → key_cmp x y ≡ Less → bytes_eq x y ≡ false
-less_differs x y lt = elim (cases_Bool (bytes_eq x y)) [ inl e ↦ absurd (self_is_not_less (subst (λ z. key_cmp x z ≡ Less) (sym ((bytes_eq-Decides x y).0 e)) lt)) | inr e ↦ e ]
+less_differs x y lt = elim (cases_Bool (bytes_eq x y))
+    [ inl e ↦ absurd (self_is_not_less (subst (λ z. key_cmp x z ≡ Less) (sym ((bytes_eq-Decides x y).0 e)) lt)) | inr e ↦ e ]
   where
     self_is_not_less : key_cmp x x ≡ Less → ⊥
     self_is_not_less lt = let e : Less ≡ Greater = sym lt ∙ nat_list_cmp_total.antisymm x x ∙ ap ordering_reverse lt in cc
@@ -103,11 +109,13 @@ less_differs x y lt = elim (cases_Bool (bytes_eq x y)) [ inl e ↦ absurd (self_
 value_above : (before : Option (List ℕ)) (key : List ℕ) (qs : List Pair) → AreAbove key qs → KeysAscend qs → value_after before key qs ≡ before
 value_above before key [] above up = refl
 value_above before key (q ∷ []) above up = rw (less_differs key q.key above) refl
-value_above before key (q ∷ r ∷ qs) above up = rw (less_differs key q.key above) (value_above before key (r ∷ qs) (nat_list_cmp_total.trans key q.key r.key above up.0) up.1)
+value_above before key (q ∷ r ∷ qs) above up = rw (less_differs key q.key above)
+    (value_above before key (r ∷ qs) (nat_list_cmp_total.trans key q.key r.key above up.0) up.1)
 
 put_value_by : (o : Ordering) (before : Option (List ℕ)) (key : List ℕ) (p q : Pair) (qs : List Pair) → key_cmp p.key q.key ≡ o → KeysAscend (q ∷ qs)
     → ((b : Option (List ℕ)) → value_after b key (put_pair p qs) ≡ cond (bytes_eq key p.key) (Some p.value) (value_after b key qs))
-    → value_after before key (match_ordering o (p ∷ q ∷ qs) (p ∷ qs) (q ∷ put_pair p qs)) ≡ cond (bytes_eq key p.key) (Some p.value) (value_after before key (q ∷ qs))
+    → value_after before key (match_ordering o (p ∷ q ∷ qs) (p ∷ qs) (q ∷ put_pair p qs)) ≡ cond (bytes_eq key p.key) (Some p.value)
+    (value_after before key (q ∷ qs))
 put_value_by Less before key p q qs is up more = value_after-cons before key p (q ∷ qs) ∙ elim (cases_Bool (bytes_eq key p.key)) [
   | inl e ↦ let same : key ≡ p.key = (bytes_eq-Decides key p.key).0 e in
       rw e (value_above (Some p.value) key (q ∷ qs) (rw same is) up)
@@ -120,7 +128,8 @@ put_value_by Equal before key p q qs is up more = value_after-cons before key p 
       rw e (sym (value_after-cons before key q qs ∙ rw other refl))
 ]
 put_value_by Greater before key p q qs is up more =
-    value_after-cons before key q (put_pair p qs) ∙ more (cond (bytes_eq key q.key) (Some q.value) before) ∙ ap (λ v. cond (bytes_eq key p.key) (Some p.value) v) (sym (value_after-cons before key q qs))
+    value_after-cons before key q (put_pair p qs) ∙ more (cond (bytes_eq key q.key) (Some q.value) before)
+    ∙ ap (λ v. cond (bytes_eq key p.key) (Some p.value) v) (sym (value_after-cons before key q qs))
 
 -- what a key has after a pair is put among others
 put_value : (before : Option (List ℕ)) (key : List ℕ) (p : Pair) (qs : List Pair) → KeysAscend qs
@@ -129,7 +138,8 @@ put_value before key p [] up = value_after-cons before key p []
 put_value before key p (q ∷ qs) up = put_value_by (key_cmp p.key q.key) before key p q qs refl up (λ b. put_value b key p qs (rest_ascends q qs up))
 
 put_all : (pairs made : List Pair) → KeysAscend made
-    → KeysAscend (fold (λ made p. put_pair p made) made pairs) × ((key : List ℕ) → last_value key (fold (λ made p. put_pair p made) made pairs) ≡ value_after (last_value key made) key pairs)
+    → KeysAscend (fold (λ made p. put_pair p made) made pairs)
+    × ((key : List ℕ) → last_value key (fold (λ made p. put_pair p made) made pairs) ≡ value_after (last_value key made) key pairs)
 put_all [] made up = (up, λ key. refl)
 put_all (p ∷ ps) made up =
     let more = put_all ps (put_pair p made) (put_ascends p made up) in
@@ -139,5 +149,6 @@ put_all (p ∷ ps) made up =
 pub put_in_order : (pairs : List Pair) → IsInKeyOrder pairs (in_order pairs)
 put_in_order pairs = let all = put_all pairs [] tt in record { ascending = all.0; last_counts = all.1 }
 
-pub data_in_order : (pairs made : List Pair) (bytes : ℕ) → made ≡ in_order pairs → length made ≤ 32 → bytes ≡ length (data_bytes made) → bytes ≤ 4096 → IsData made
+pub data_in_order : (pairs made : List Pair) (bytes : ℕ) → made ≡ in_order pairs → length made ≤ 32 → bytes ≡ length (data_bytes made) → bytes ≤ 4096
+    → IsData made
 data_in_order pairs made bytes is few size small = record { ascending = rw is (put_in_order pairs).ascending; few = few; small = omega arith }

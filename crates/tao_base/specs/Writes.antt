@@ -3,7 +3,8 @@ use Rattle.std.specs.Prelude.{ℕ, ◌≡◌, ◌≢◌, Some, ⊤}
 use Rattle.tao_base.specs.EdgeTypes.{EdgeTypes}
 use Rattle.tao_base.specs.Ids.{shard_of}
 use Rattle.tao_base.specs.declared.entry.Kind.{Kind}
-use Rattle.tao_base.specs.declared.entry.Kind.TheVariants.{ObjAdd as ObjAdded, ObjUpdate as ObjUpdated, ObjDelete as ObjDeleted, AssocAdd as AssocAdded, AssocDelete as AssocDeleted, AssocChangeType as TypeChanged}
+use Rattle.tao_base.specs.declared.entry.Kind.TheVariants.{ObjAdd as ObjAdded, ObjUpdate as ObjUpdated, ObjDelete as ObjDeleted}
+use Rattle.tao_base.specs.declared.entry.Kind.TheVariants.{AssocAdd as AssocAdded, AssocDelete as AssocDeleted, AssocChangeType as TypeChanged}
 use Rattle.tao_base.specs.declared.write.Write.{Write}
 use Rattle.tao_base.specs.declared.write.Write.TheVariants.{ObjAdd, ObjUpdate, ObjDelete, AssocAdd, AssocDelete, AssocChangeType}
 

@@ -1,9 +1,10 @@
 //! Objects and edges.
-ghost use Rattle.std.specs.Prelude.{◌≡◌};
+ghost use Rattle.std.specs.Prelude.{◌≡◌, IfOk};
 ghost use Rattle.tao_base.specs.Stamps.{is_earlier, stamp_of};
 
 use super::data::Data;
 use super::id::{Id, OType};
+use super::memory::OutOfMemory;
 use std::marker::Model;
 
 /// A client's time: what a list is ordered by. The store gives it no unit.
@@ -40,6 +41,15 @@ pub struct Edge {
     pub time: Time,
     pub payload: Data,
     pub stamp: Stamp,
+}
+
+impl Edge {
+    /// A copy of the edge. Its payload takes memory.
+    pub fn copy(&self) -> Result<Edge, OutOfMemory>
+        ensures { IfOk result (λ copy. copy ≡ self.now) }
+    {
+        Ok(self.clone()?)
+    }
 }
 
 /// The record of an edge. One that was cut keeps its stamp.

@@ -1,8 +1,9 @@
 //! The entries of a shard's log.
-ghost use Rattle.std.specs.Prelude.{◌≡◌};
+ghost use Rattle.std.specs.Prelude.{◌≡◌, IfOk};
 
 use super::edge::{Edge, Object, Stamp, Time};
 use super::id::{Id, Key};
+use super::memory::OutOfMemory;
 use std::alloc::AllocError;
 use std::marker::Model;
 
@@ -20,6 +21,15 @@ pub enum Change {
         stamp: Stamp,
         was: Option<Time>,
     },
+}
+
+impl Change {
+    /// A copy of the change. The payload of what it puts or sets takes memory.
+    pub fn copy(&self) -> Result<Change, OutOfMemory>
+        ensures { IfOk result (λ copy. copy ≡ self.now) }
+    {
+        Ok(self.clone()?)
+    }
 }
 
 /// A key, what is done there, and the key's version after it: how many entries touch the key so far.

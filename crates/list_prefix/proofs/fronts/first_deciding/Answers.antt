@@ -13,5 +13,6 @@ loop-low-preserved c =
       ordered = omega arith;
       within = c.loop-low.invariant.within;
       decided = c.loop-low.invariant.decided;
-      open_below = λ fewer lt. open_fewer c.args.bound c.args.total c.args.query.now c.args.edges.now c.requires.begins fewer middle (omega arith) (sym c.if-is_decided.ensures);
+      open_below = λ fewer lt. open_fewer c.args.bound c.args.total c.args.query.now c.args.edges.now c.requires.begins fewer middle (omega arith)
+          (sym c.if-is_decided.ensures);
     }

@@ -7,5 +7,6 @@ invariant_of-self c =
     let was = c.self.inside in
     record {
       next = c.self.invariant.next;
-      touched = touches_stay.stays was.note c.look.new.self (own_touch (seen_change was.key was.before was.after was.change was.note)) c.look.ensures.grows c.self.invariant.touched;
+      touched = touches_stay.stays was.note c.look.new.self
+          (own_touch (seen_change was.key was.before was.after was.change was.note)) c.look.ensures.grows c.self.invariant.touched;
     }

@@ -8,7 +8,8 @@ pub returns-in-Some : goal.returns-in-Some
 returns-in-Some c =
     let items = c.self.inside.passes.items in
     let at : slice_get items c.place_of-place.result ≡ Some c.in-Some.found.now =
-    looked_up items c.deref-2.result.now c.place_of-place.result c.in-Some.found.now c.deref-2.ensures.value c.in-Some.ensures.lookup.0 c.in-Some.ensures.lookup.1 in
+    looked_up items c.deref-2.result.now c.place_of-place.result c.in-Some.found.now c.deref-2.ensures.value c.in-Some.ensures.lookup.0
+    c.in-Some.ensures.lookup.1 in
     let same : (c.in-Some.found.now.session == c.args.session) ≡ true = search rules in
     let here = stands_found c.args.session items c.place_of-place.result c.in-Some.found.now c.self.invariant at same in
     rw (← c.self.view_is) (rw (session_is c.args.session items c.place_of-place.result c.in-Some.found.now here) (rw c.floor.ensures.value refl))
@@ -17,7 +18,8 @@ pub returns-in_default : goal.returns-in_default
 returns-in_default c =
     let items = c.self.inside.passes.items in
     let at : slice_get items c.place_of-place.result ≡ Some c.in-Some.found.now =
-    looked_up items c.deref-2.result.now c.place_of-place.result c.in-Some.found.now c.deref-2.ensures.value c.in-Some.ensures.lookup.0 c.in-Some.ensures.lookup.1 in
+    looked_up items c.deref-2.result.now c.place_of-place.result c.in-Some.found.now c.deref-2.ensures.value c.in-Some.ensures.lookup.0
+    c.in-Some.ensures.lookup.1 in
     let differs : (c.in-Some.found.now.session == c.args.session) ≡ false = search rules in
     let found = open_is c.args.session items c.deref.result.now c.place_of-place.result (Some c.in-Some.found.now) c.deref.ensures.value c.self.invariant
     c.place_of-place.ensures.place at in

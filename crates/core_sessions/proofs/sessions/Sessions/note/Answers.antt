@@ -7,7 +7,8 @@ pub index_mut-requires : goal.index_mut-requires
 index_mut-requires c =
     let items = c.self.inside.passes.items in
     let there : is_open (sessions_of items) c.args.session ≡ true = rw c.self.view_is c.requires.open in
-    let less = within c.args.session items c.deref.result.now c.place_of-place.result c.deref.ensures.value c.self.invariant there c.place_of-place.ensures.place in
+    let less = within c.args.session items c.deref.result.now c.place_of-place.result c.deref.ensures.value c.self.invariant there
+    c.place_of-place.ensures.place in
     omega (arith, less, c.self.inside.passes.ok.0)
 
 pub note-requires : goal.note-requires

@@ -14,4 +14,5 @@ returns-in-SetEdge c =
 pub returns-in-CutEdge : goal.returns-in-CutEdge
 returns-in-CutEdge c =
     subst (λ (change : Change). IfOk c.with_cut.result (λ table. ListIsAfter change c.args.self table)) (sym c.in-CutEdge.is)
-    (at_was c.with_cut.result (λ was table. ListIsAfter (CutEdge c.in-CutEdge.id2 c.in-CutEdge.stamp was) c.args.self table) c.in-CutEdge.was c.with_cut.ensures)
+    (at_was c.with_cut.result (λ was table. ListIsAfter (CutEdge c.in-CutEdge.id2 c.in-CutEdge.stamp was) c.args.self table) c.in-CutEdge.was
+    c.with_cut.ensures)

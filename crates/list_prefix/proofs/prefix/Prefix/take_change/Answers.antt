@@ -12,7 +12,12 @@ put_in-self-inside-requires-clause-in_order c =
     in_order_same _ _ (ap (λ p. p.edges) c.take_out-rest.ensures.rest) (in_order_rest c.in_ok-edge-in-SetEdge.edge.id2 c.reserve.new.self.items order)
 
 pub put_in-self-inside-requires-clause-room : goal.put_in-self-inside-requires-clause-room
-put_in-self-inside-requires-clause-room c = omega (arith, c.in_ok-reserve-in-SetEdge.ensures.ok, c.take_out-rest.ensures.fewer, c.take_out-rest.ensures.capacity)
+put_in-self-inside-requires-clause-room c = omega (
+  arith,
+  c.in_ok-reserve-in-SetEdge.ensures.ok,
+  c.take_out-rest.ensures.fewer,
+  c.take_out-rest.ensures.capacity,
+)
 
 pub invariant_of-self-in-SetEdge-1 : goal.invariant_of-self-in-SetEdge-1
 invariant_of-self-in-SetEdge-1 c =
@@ -29,4 +34,5 @@ invariant_of-self-in-CutEdge-1 c =
     let rest = c.take_out-self-inside.ensures.rest in
     begins_same (list_prefix c.shorten.new.edges.items c.take_out-self-inside.result) _
     (ap (λ xs. list_prefix xs c.take_out-self-inside.result) c.shorten.ensures ∙ ap (λ p. list_prefix (shortened c.args.bound p.edges) p.total) rest)
-    (after_begins (CutEdge c.in-CutEdge.id2 c.in-CutEdge.stamp c.in-CutEdge.was) (list_prefix c.self.inside.edges.items c.self.inside.total) c.args.bound c.self.invariant small)
+    (after_begins (CutEdge c.in-CutEdge.id2 c.in-CutEdge.stamp c.in-CutEdge.was)
+    (list_prefix c.self.inside.edges.items c.self.inside.total) c.args.bound c.self.invariant small)

@@ -6,7 +6,8 @@ loop-place-init c = index_none c.args.entries.now c.new-index.result c.new-index
 
 pub loop-place-preserved : goal.loop-place-preserved
 loop-place-preserved c =
-    index_more c.args.entries.now c.loop-place.place c.index-entries-place.result c.loop-place.index c.in_ok-index.index c.loop-place-test.true c.index-entries-place.is
+    index_more c.args.entries.now c.loop-place.place c.index-entries-place.result c.loop-place.index c.in_ok-index.index c.loop-place-test.true
+    c.index-entries-place.is
     c.in_ok-index.ensures c.loop-place.invariant
 
 pub returns : goal.returns

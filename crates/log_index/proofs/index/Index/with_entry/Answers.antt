@@ -9,5 +9,6 @@ pub returns : goal.returns
 returns c = λ log stands is. record {
   keys = subst (λ touches. KeysTell touches c.add.new.self.keys) (sym (touches_more log c.args.entry.now)) (c.in_ok-add.ensures (all_touches log) is.keys);
   origins = positions_more log c.args.entry.now c.args.self.positions c.put.new.self is.origins
-      (λ other. c.in_ok-put.ensures other ∙ ap (λ k. cond (same_origin c.args.entry.now.origin other) (Some k) (kept_position c.args.self.positions other)) stands);
+      (λ other. c.in_ok-put.ensures other ∙ ap (λ k. cond (same_origin c.args.entry.now.origin other) (Some k) (kept_position c.args.self.positions other))
+      stands);
 }

@@ -16,4 +16,5 @@ load-requires c = (search rules, search rules, confirms _ _ _ (ap (λ m. m.0.rol
 pub invariant_of-self : goal.invariant_of-self
 invariant_of-self c =
     let told = ap (λ v. v.log.told) c.other.view_is ∙ ap (λ l. l.told) (sym c.requires) ∙ sym (ap (λ v. v.log.told) c.self.view_is) in
-    note_meets _ _ _ c.self.inside.place.me _ _ _ c.self.invariant c.other.invariant.seated.log told (search rules) c.join_seat.ensures.2 c.load.ensures.2.seat_is
+    note_meets _ _ _ c.self.inside.place.me _ _ _ c.self.invariant c.other.invariant.seated.log told
+    (search rules) c.join_seat.ensures.2 c.load.ensures.2.seat_is

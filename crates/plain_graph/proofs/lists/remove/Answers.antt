@@ -1,7 +1,7 @@
 use Rattle.std.proofs.Common.{ap, ◌∙◌, rules, ◌==◌, not, map}
 use Rattle.std.proofs.lemmas.Fn.{filter_same}
 use Rattle.plain_graph.proofs.Mapped.{map-filter}
-use Rattle.plain_graph.proofs.lists.take_out.Goals as goal
+use Rattle.plain_graph.proofs.lists.remove.Goals as goal
 
 pub returns : goal.returns
 returns c =

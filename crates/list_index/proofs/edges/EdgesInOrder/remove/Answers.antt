@@ -2,7 +2,7 @@ use Rattle.std.proofs.Common.{[], ◌≡◌, ◌∷◌, ◌∙◌, ap, subst, sy
 use Rattle.graph_model.specs.Edges.{without_edge}
 use Rattle.list_index.specs.AtKeys.{times_to}
 use Rattle.list_index.proofs.KeyLemmas.{taken_at_keys, at_keys_again, at_keys_values}
-use Rattle.list_index.proofs.edges.EdgesInOrder.take_out.Goals as goal
+use Rattle.list_index.proofs.edges.EdgesInOrder.remove.Goals as goal
 
 pub invariant_of-self : goal.invariant_of-self
 invariant_of-self c =

@@ -1,7 +1,7 @@
 use Rattle.std.proofs.Common.{◌∙◌, ap, subst, sym}
 use Rattle.graph_model.specs.Edges.{Without, insert_edge}
 use Rattle.list_index.proofs.KeyLemmas.{put_at_keys, at_keys_again, at_keys_values}
-use Rattle.list_index.proofs.edges.EdgesInOrder.put_in.Goals as goal
+use Rattle.list_index.proofs.edges.EdgesInOrder.insert.Goals as goal
 
 pub invariant_of-self-2 : goal.invariant_of-self-2
 invariant_of-self-2 c =

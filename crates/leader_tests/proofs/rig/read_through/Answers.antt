@@ -12,7 +12,9 @@ answer-requires-clause-log c =
 
 pub returns : goal.returns
 returns c = record {
-  led = led_read (types_of c.args.schema.now) (told_by c.args.keeper.now) (told_by c.answer.new.keeper) c.args.store.now c.answer.new.store c.args.leader.now c.answer.new.self c.requires.led
+  led = led_read (types_of c.args.schema.now) (told_by c.args.keeper.now)
+      (told_by c.answer.new.keeper) c.args.store.now c.answer.new.store c.args.leader.now c.answer.new.self c.requires.led
       c.answer.ensures.same c.answer.ensures.tables c.answer.ensures.keeper
-      (after_answer 0 c.args.store.now.view.log c.args.leader.now c.answer.new.self c.requires.led.serves _ c.args.store.now _ _ c.answer.result refl c.answer.ensures.given c.answer.ensures.err);
+      (after_answer 0 c.args.store.now.view.log c.args.leader.now c.answer.new.self c.requires.led.serves _ c.args.store.now _ _ c.answer.result refl
+      c.answer.ensures.given c.answer.ensures.err);
 }

@@ -10,4 +10,5 @@ take_changeset-requires c =
 
 pub returns-then-shard-eq0 : goal.returns-then-shard-eq0
 returns-then-shard-eq0 c =
-    after_change 0 c.args.note.log c.args.leader.now c.take_changeset.new.self c.requires.one c.in_ok-change.change _ c.take_changeset.ensures.node c.take_changeset.ensures.unserved
+    after_change 0 c.args.note.log c.args.leader.now c.take_changeset.new.self c.requires.one c.in_ok-change.change _ c.take_changeset.ensures.node
+    c.take_changeset.ensures.unserved

@@ -1,5 +1,5 @@
 //! A slave, and the texts of what no line tells.
-use crate::fixtures::NAME;
+use crate::rig::NAME;
 use shard_log::ShardLog;
 use shard_tables::{Role, StoreNode, StoreRefusal};
 use std::test::Fail;

@@ -28,13 +28,28 @@ in_map_parts f (b ∷ asks) a (inr h) = let p = in_map_parts f asks a h in (p.0,
 
 -- a further call that leaves the ask
 later_begin : (calls : List AskCall) (a : Ask) (key : Key) (mark : ℕ) → Begun calls a → Begun (Begin key mark ∷ calls) a
-later_begin calls a key mark b = (Begin key mark ∷ b.0, b.1, ap (λ l. Begin key mark ∷ l) b.2, record { room = b.3.room; number = b.3.number; floor = b.3.floor; not_ended = b.3.not_ended })
+later_begin calls a key mark b = (
+  Begin key mark ∷ b.0,
+  b.1,
+  ap (λ l. Begin key mark ∷ l) b.2,
+  record { room = b.3.room; number = b.3.number; floor = b.3.floor; not_ended = b.3.not_ended },
+)
 
 later_end : (calls : List AskCall) (a : Ask) (number : ℕ) → is_numbered number a ≡ false → Begun calls a → Begun (End number ∷ calls) a
-later_end calls a number other b = (End number ∷ b.0, b.1, ap (λ l. End number ∷ l) b.2, record { room = b.3.room; number = b.3.number; floor = b.3.floor; not_ended = rw other b.3.not_ended })
+later_end calls a number other b = (
+  End number ∷ b.0,
+  b.1,
+  ap (λ l. End number ∷ l) b.2,
+  record { room = b.3.room; number = b.3.number; floor = b.3.floor; not_ended = rw other b.3.not_ended },
+)
 
 later_end_shard : (calls : List AskCall) (a : Ask) (shard : ℕ) → is_on_shard shard a ≡ false → Begun calls a → Begun (EndShard shard ∷ calls) a
-later_end_shard calls a shard other b = (EndShard shard ∷ b.0, b.1, ap (λ l. EndShard shard ∷ l) b.2, record { room = b.3.room; number = b.3.number; floor = b.3.floor; not_ended = rw other b.3.not_ended })
+later_end_shard calls a shard other b = (
+  EndShard shard ∷ b.0,
+  b.1,
+  ap (λ l. EndShard shard ∷ l) b.2,
+  record { room = b.3.room; number = b.3.number; floor = b.3.floor; not_ended = rw other b.3.not_ended },
+)
 
 -- what ends an ask doesn't look at its floor
 ends_alike : (a : Ask) (floor : ℕ) (later : List AskCall) → list_any (ends (record a { floor = floor })) later ≡ list_any (ends a) later
@@ -47,11 +62,22 @@ ends_alike a floor (EndAll ∷ later) = refl
 
 later_raise : (calls : List AskCall) (a : Ask) (key : Key) (version : ℕ) → Begun calls a → Begun (Raise key version ∷ calls) (raised_ask key version a)
 later_raise calls a key version b = elim (cases_Bool (same_key a.key key)) [
-  | inl t ↦ rw t (Raise key version ∷ b.0, b.1, ap (λ l. Raise key version ∷ l) b.2, record { room = b.3.room; number = b.3.number; floor = rw (t, b.3.floor) refl; not_ended = ends_alike a (max a.floor version) b.0 ∙ b.3.not_ended })
-  | inr t ↦ rw t (Raise key version ∷ b.0, b.1, ap (λ l. Raise key version ∷ l) b.2, record { room = b.3.room; number = b.3.number; floor = rw t b.3.floor; not_ended = b.3.not_ended })
+  | inl t ↦ rw t (
+    Raise key version ∷ b.0,
+    b.1,
+    ap (λ l. Raise key version ∷ l) b.2,
+    record { room = b.3.room; number = b.3.number; floor = rw (t, b.3.floor) refl; not_ended = ends_alike a (max a.floor version) b.0 ∙ b.3.not_ended },
+  )
+  | inr t ↦ rw t (
+    Raise key version ∷ b.0,
+    b.1,
+    ap (λ l. Raise key version ∷ l) b.2,
+    record { room = b.3.room; number = b.3.number; floor = rw t b.3.floor; not_ended = b.3.not_ended },
+  )
 ]
 
-fresh_begun : (earlier : List AskCall) (key : Key) (mark : ℕ) → is_full (asks_after earlier) ≡ false → Begun (Begin key mark ∷ earlier) (fresh (asks_after earlier) key mark)
+fresh_begun : (earlier : List AskCall) (key : Key) (mark : ℕ) → is_full (asks_after earlier) ≡ false
+    → Begun (Begin key mark ∷ earlier) (fresh (asks_after earlier) key mark)
 fresh_begun earlier key mark room = ([], earlier, refl, record { room = room; number = refl; floor = refl; not_ended = refl })
 
 begun_of : (calls : List AskCall) (a : Ask) → IsIn a (asks_after calls).asks → Begun calls a
@@ -80,7 +106,8 @@ begun_of (EndAll ∷ earlier) a h = absurd h
 with_parts : (a : Ask) (number floor : ℕ) → a.number ≡ number → a.floor ≡ floor → (record { number = number; key = a.key; mark = a.mark; floor = floor }) ≡ a
 with_parts a number floor n f = sym (λ i. record { number = n i; key = a.key; mark = a.mark; floor = f i })
 
-raised_is : (a : Ask) (key : Key) (version floor : ℕ) → a.floor ≡ (if same_key a.key key then max floor version else floor) → raised_ask key version (record a { floor = floor }) ≡ a
+raised_is : (a : Ask) (key : Key) (version floor : ℕ) → a.floor ≡ (if same_key a.key key then max floor version else floor)
+    → raised_ask key version (record a { floor = floor }) ≡ a
 raised_is a key version floor is = elim (cases_Bool (same_key a.key key)) [
   | inl t ↦ let high : a.floor ≡ max floor version = rw t at is in rw t (with_parts a a.number (max floor version) refl high)
   | inr t ↦ let stays : a.floor ≡ floor = rw t at is in rw t (with_parts a a.number floor refl stays)
@@ -99,9 +126,11 @@ open_in (Begin key mark ∷ later) earlier a k =
     ]
 open_in (Raise key version ∷ later) earlier a k =
     let floor : ℕ = greatest_raised a.key later in
-    let before = open_in later earlier (record a { floor = floor }) (record { room = k.room; number = k.number; floor = refl; not_ended = ends_alike a floor later ∙ k.not_ended }) in
+    let before = open_in later earlier (record a { floor = floor })
+    (record { room = k.room; number = k.number; floor = refl; not_ended = ends_alike a floor later ∙ k.not_ended }) in
     let calls : List AskCall = later ++ Begin a.key a.mark ∷ earlier in
-    subst (λ b. IsIn b (map (raised_ask key version) (asks_after calls).asks)) (raised_is a key version floor k.floor) (in_map (raised_ask key version) (asks_after calls).asks (record a { floor = floor }) before)
+    subst (λ b. IsIn b (map (raised_ask key version) (asks_after calls).asks)) (raised_is a key version floor k.floor)
+    (in_map (raised_ask key version) (asks_after calls).asks (record a { floor = floor }) before)
 open_in (End number ∷ later) earlier a k =
     let p = or_parts (is_numbered number a) (list_any (ends a) later) k.not_ended in
     let before = open_in later earlier a (record { room = k.room; number = k.number; floor = k.floor; not_ended = p.1 }) in
@@ -115,18 +144,21 @@ open_in (EndAll ∷ later) earlier a k = absurd (let ended = k.not_ended in cc)
 full_stays : (earlier : List AskCall) (key : Key) (mark : ℕ) → is_full (asks_after earlier) ≡ true → asks_after (Begin key mark ∷ earlier) ≡ asks_after earlier
 full_stays earlier key mark full = rw full refl
 
-room_begins : (earlier : List AskCall) (key : Key) (mark : ℕ) → is_full (asks_after earlier) ≡ false → asks_after (Begin key mark ∷ earlier) ≡ with_ask key mark (asks_after earlier)
+room_begins : (earlier : List AskCall) (key : Key) (mark : ℕ) → is_full (asks_after earlier) ≡ false
+    → asks_after (Begin key mark ∷ earlier) ≡ with_ask key mark (asks_after earlier)
 room_begins earlier key mark room = rw room refl
 
 table_after : (calls : List AskCall) → IsTable (asks_after calls)
 table_after [] = record { rising = tt; few = omega arith }
 table_after (Begin key mark ∷ earlier) = elim (cases_Bool (is_full (asks_after earlier))) [
   | inl full ↦ subst IsTable (sym (full_stays earlier key mark full)) (table_after earlier)
-  | inr room ↦ subst IsTable (sym (room_begins earlier key mark room)) (table_push (asks_after earlier) key mark (not_full (asks_after earlier) room) (table_after earlier))
+  | inr room ↦ subst IsTable (sym (room_begins earlier key mark room))
+      (table_push (asks_after earlier) key mark (not_full (asks_after earlier) room) (table_after earlier))
 ]
 table_after (Raise key version ∷ earlier) = table_raised key version (asks_after earlier).asks (asks_after earlier).given (table_after earlier)
 table_after (End number ∷ earlier) = table_filter (λ a. not (is_numbered number a)) (asks_after earlier).asks (asks_after earlier).given (table_after earlier)
-table_after (EndShard shard ∷ earlier) = table_filter (λ a. not (is_on_shard shard a)) (asks_after earlier).asks (asks_after earlier).given (table_after earlier)
+table_after (EndShard shard ∷ earlier) = table_filter (λ a. not (is_on_shard shard a)) (asks_after earlier).asks (asks_after earlier).given
+    (table_after earlier)
 table_after (EndAll ∷ earlier) = record { rising = tt; few = omega arith }
 
 given_after : (call : AskCall) (calls : List AskCall) → (asks_after calls).given ≤ (asks_after (call ∷ calls)).given

@@ -1,5 +1,6 @@
 -- Lemmas on the list of asks.
-use Rattle.std.proofs.Common.{◌≡◌, ℕ, zero, suc, ◌+◌, ◌<◌, ◌≤◌, Bool, true, false, not, cond, List, [], ◌∷◌, ◌++◌, length, take, drop, set, get_or, None, refl, ◌∙◌, ap, arith, inl, inr, add-one, length-append}
+use Rattle.std.proofs.Common.{◌≡◌, ℕ, zero, suc, ◌+◌, ◌<◌, ◌≤◌, Bool, true, false, not, cond, List, [], ◌∷◌, ◌++◌, length, take, drop, set, get_or}
+use Rattle.std.proofs.Common.{None, refl, ◌∙◌, ap, arith, inl, inr, add-one, length-append}
 use Rattle.std.specs.Prelude.{◌-◌, ◌^◌, ◌==◌, nat_le, map, filter, find, max}
 use Rattle.std.proofs.lemmas.Bool.{cases_Bool, leb-false, or_parts}
 use Rattle.std.proofs.lemmas.List.Sums.{length-filter, count_by-le-length}
@@ -69,7 +70,8 @@ filter_none p (a ∷ asks) none = elim (cases_Bool (p a)) [
 
 -- floors rise
 raised_number : (key : Key) (version : ℕ) (a : Ask) → (raised_ask key version a).number ≡ a.number
-raised_number key version a = elim (same_key a.key key) as (λ b. (cond b (record a { floor = max a.floor version }) a).number ≡ a.number) [ true ↦ refl | false ↦ refl ]
+raised_number key version a = elim (same_key a.key key) as (λ b. (cond b (record a { floor = max a.floor version }) a).number ≡ a.number)
+    [ true ↦ refl | false ↦ refl ]
 
 numbers-raised : (key : Key) (version : ℕ) (asks : List Ask) → numbers (map (raised_ask key version) asks) ≡ numbers asks
 numbers-raised key version [] = refl
@@ -79,7 +81,8 @@ length_raised : (f : Ask → Ask) (asks : List Ask) → length (map f asks) ≡ 
 length_raised f [] = refl
 length_raised f (a ∷ asks) = ap suc (length_raised f asks)
 
-pub table_raised : (key : Key) (version : ℕ) (asks : List Ask) (given : ℕ) → IsTable (asks_of asks given) → IsTable (asks_of (map (raised_ask key version) asks) given)
+pub table_raised : (key : Key) (version : ℕ) (asks : List Ask) (given : ℕ) → IsTable (asks_of asks given)
+    → IsTable (asks_of (map (raised_ask key version) asks) given)
 table_raised key version asks given table = record {
   rising = rw (numbers-raised key version asks) table.rising;
   few = omega (arith, table.few, length_raised (raised_ask key version) asks);
@@ -91,7 +94,8 @@ map_read f [] i d h = absurd (omega arith)
 map_read f (x ∷ xs) zero d h = refl
 map_read f (x ∷ xs) (suc i) d h = map_read f xs i d (omega arith)
 
-map_write : (f : Ask → Ask) (xs : List Ask) (i : ℕ) (d : Ask) → i < length xs → set (map f (take i xs) ++ drop i xs) i (f (get_or xs i d)) ≡ map f (take (suc i) xs) ++ drop (suc i) xs
+map_write : (f : Ask → Ask) (xs : List Ask) (i : ℕ) (d : Ask) → i < length xs → set (map f (take i xs) ++ drop i xs) i (f (get_or xs i d)) ≡ map f
+    (take (suc i) xs) ++ drop (suc i) xs
 map_write f [] i d h = absurd (omega arith)
 map_write f (x ∷ xs) zero d h = refl
 map_write f (x ∷ xs) (suc i) d h = ap (λ l. f x ∷ l) (map_write f xs i d (omega arith))
@@ -106,7 +110,8 @@ loop_done f [] (suc i) h = refl
 loop_done f (x ∷ xs) zero h = absurd (omega arith)
 loop_done f (x ∷ xs) (suc i) h = ap (λ l. f x ∷ l) (loop_done f xs i (omega arith))
 
-pub loop_more : (f : Ask → Ask) (xs items : List Ask) (i : ℕ) (y d : Ask) → items ≡ map f (take i xs) ++ drop i xs → i < length xs → y ≡ f (get_or items i d) → set items i y ≡ map f (take (i + 1) xs) ++ drop (i + 1) xs
+pub loop_more : (f : Ask → Ask) (xs items : List Ask) (i : ℕ) (y d : Ask) → items ≡ map f (take i xs) ++ drop i xs → i < length xs → y ≡ f (get_or items i d)
+    → set items i y ≡ map f (take (i + 1) xs) ++ drop (i + 1) xs
 loop_more f xs items i y d e h is =
     let read : y ≡ f (get_or xs i d) = is ∙ ap f (ap (λ l. get_or l i d) e ∙ map_read f xs i d h) in
     rw (e, read, add-one) (map_write f xs i d h)

@@ -1,5 +1,6 @@
 -- What a fault among others says of them.
-use Rattle.std.proofs.Common.{◌≡◌, ◌≢◌, ◌⊎◌, ◌&&◌, ◌||◌, Bool, true, false, [], ◌∷◌, Option, None, Some, IsNone, IsSome, is_some, Result, Ok, Err, IfOk, inl, inr, ap, refl, sym, ◌∙◌}
+use Rattle.std.proofs.Common.{◌≡◌, ◌≢◌, ◌⊎◌, ◌&&◌, ◌||◌, Bool, true, false, [], ◌∷◌, Option, None, Some, IsNone, IsSome, is_some, Result, Ok, Err}
+use Rattle.std.proofs.Common.{IfOk, inl, inr, ap, refl, sym, ◌∙◌}
 use Rattle.std.specs.List.{list_all}
 use Rattle.clap.specs.Words.{IsAmong, Kinds}
 use Rattle.clap.specs.declared.error.kind.ErrorKind.{ErrorKind}

@@ -63,7 +63,8 @@ module _ (s : Settings) (pens : Pens) where
       record {
         names = names_kept By name old new change ∙ is.names;
         messages =
-            subst (λ (xs : Inboxes). (place : ℕ) (called : NodeName) (waiting : List SeenMaint) → slice_get xs place ≡ Some (named called waiting) → AreFor called waiting)
+            subst (λ (xs : Inboxes). (place : ℕ) (called : NodeName) (waiting : List SeenMaint) → slice_get xs place ≡ Some (named called waiting)
+            → AreFor called waiting)
             (sym change.is)
             (all_set AreFor old change.place name change.to is.messages (keeps change.from change.to change.by was));
       }

@@ -50,7 +50,8 @@ keeps_on ask fill kept from to same =
 pub ends_on : (ask : Option ℕ) (from to : Node) → to ≡ with_ended_ask ask from → AsksGoOn from.asks to.asks
 ends_on ask from to same = go_on_to from to (with_ended_ask ask from) same (ended_on ask from)
 
-pub applies_on : (types : EdgeTypes) (shard : ℕ) (entry : Entry) (note : View) (from to : Node) → AppliesEntry types shard entry note from to → AsksGoOn from.asks to.asks
+pub applies_on : (types : EdgeTypes) (shard : ℕ) (entry : Entry) (note : View) (from to : Node) → AppliesEntry types shard entry note from to
+    → AsksGoOn from.asks to.asks
 applies_on types shard entry note from to applies =
     subst (λ (t : Asks). AsksGoOn from.asks t) (sym (ap (λ (n : Node). n.asks) applies.node_is)) (raises_all (keys_of entry) from.asks)
 

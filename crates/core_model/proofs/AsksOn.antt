@@ -13,14 +13,16 @@ use Rattle.cache_items.specs.Node.{raised_all}
 use Rattle.maint_msg.specs.declared.key_versions.KeyVersion.{KeyVersion}
 use Rattle.core_model.specs.Asks.{AreAsksOn, AsksGoOn, AsksStayOn, IsAskOn}
 
-on_append : (number : ℕ) (key : Key) (xs : List Ask) (y : Ask) → AreAsksOn number key xs → (y.number ≡ number → y.key ≡ key) → AreAsksOn number key (xs ++ y ∷ [])
+on_append : (number : ℕ) (key : Key) (xs : List Ask) (y : Ask) → AreAsksOn number key xs → (y.number ≡ number → y.key ≡ key)
+    → AreAsksOn number key (xs ++ y ∷ [])
 on_append number key [] y all last = (last, tt)
 on_append number key (x ∷ xs) y all last = (all.0, on_append number key xs y all.1 last)
 
 raised_number : (key : Key) (version : ℕ) (a : Ask) → ((raised_ask key version a).number ≡ a.number) × ((raised_ask key version a).key ≡ a.key)
 raised_number key version a = elim (cases_Bool (same_key a.key key)) [ inl h ↦ rw h (refl, refl) | inr h ↦ rw h (refl, refl) ]
 
-on_map : (number : ℕ) (key : Key) (other : Key) (version : ℕ) (xs : List Ask) → AreAsksOn number key xs → AreAsksOn number key (map (raised_ask other version) xs)
+on_map : (number : ℕ) (key : Key) (other : Key) (version : ℕ) (xs : List Ask) → AreAsksOn number key xs
+    → AreAsksOn number key (map (raised_ask other version) xs)
 on_map number key other version [] all = tt
 on_map number key other version (x ∷ xs) all =
     let same = raised_number other version x in
@@ -58,9 +60,13 @@ pub ends : (t : Asks) (number : ℕ) → AsksGoOn t (without_ask number t)
 ends t number other key is = record { given = is.given; on = on_filter other key (λ a. not (is_numbered number a)) t.asks is.on }
 
 -- numbers that rise up to one are below it
-below : (n : ℕ) (key : Key) (xs : List Ask) → IsRising (map (λ a. a.number) xs ++ n ∷ []) → AreAsksOn n key xs × ((y : Ask) (ys : List Ask) → xs ≡ y ∷ ys → y.number < n)
+below : (n : ℕ) (key : Key) (xs : List Ask) → IsRising (map (λ a. a.number) xs ++ n ∷ []) → AreAsksOn n key xs
+    × ((y : Ask) (ys : List Ask) → xs ≡ y ∷ ys → y.number < n)
 below n key [] rising = (tt, λ y ys e. absurd (cc))
-below n key (x ∷ []) rising = (((λ e. let lt = rising.0 in absurd (omega arith)), tt), λ y ys e. (let same : x ≡ y = cc in subst (λ (z : Ask). z.number < n) same rising.0))
+below n key (x ∷ []) rising = (
+  ((λ e. let lt = rising.0 in absurd (omega arith)), tt),
+  λ y ys e. (let same : x ≡ y = cc in subst (λ (z : Ask). z.number < n) same rising.0),
+)
 below n key (x ∷ z ∷ zs) rising =
     let rest = below n key (z ∷ zs) rising.1 in
     let next : z.number < n = rest.1 z zs refl in

@@ -18,7 +18,8 @@ not_at_place P [] place fails h = h
 not_at_place P (x ∷ xs) zero fails h = fails x h
 not_at_place P (x ∷ xs) (suc place) fails h = not_at_place P xs place fails h
 
-not_named : {N : Type 0} (nodes : List (Named N)) (name : NodeName) (place : ℕ) → place < length (node_names nodes) → slice_index_or (node_names nodes) place name ≡ name
+not_named : {N : Type 0} (nodes : List (Named N)) (name : NodeName) (place : ℕ) → place < length (node_names nodes)
+    → slice_index_or (node_names nodes) place name ≡ name
     → ((k : ℕ) (d : Named N) → k < length nodes → (slice_index_or nodes k d).name ≢ name) → ⊥
 not_named [] name place lt is fails = omega arith
 not_named (n ∷ ns) name zero lt is fails = fails 0 n (omega arith) is

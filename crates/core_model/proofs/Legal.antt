@@ -28,9 +28,11 @@ module _ (types : EdgeTypes) (pens : Pens) (read : Wanted) where
       → IsLegalIn types (pens (query_shard read.query)) read.query read.floor answer version
   note_legal note answer version answers reaches seen told =
       let own : note.log.told ≡ true = seen-told pens (query_shard read.query) note seen told in
-      answers_are_legal.legal types note.entries (pens (query_shard read.query)).entries read.query answer version read.floor seen.begins (answers own) (reaches own)
+      answers_are_legal.legal types note.entries (pens (query_shard read.query)).entries read.query answer version read.floor seen.begins (answers own)
+      (reaches own)
 
-  hit_at : (served : List ServedShard) (answer : Answer) (version : ℕ) (found : Option ServedShard) → served_at (query_shard read.query) served ≡ found → AreSeen pens served
+  hit_at : (served : List ServedShard) (answer : Answer) (version : ℕ) (found : Option ServedShard) → served_at (query_shard read.query) served ≡ found
+      → AreSeen pens served
       → WhereTold (pens (query_shard read.query)).log.told (AreTold served)
       → IsSomeAnd found (λ s. AreTold served → IsExactAnswer types s.view.entries read.query answer version) → read.floor ≤ version
       → IsLegalIn types (pens (query_shard read.query)) read.query read.floor answer version

@@ -78,7 +78,8 @@ changes_so By So name old new so change = record {
 pub names_set : {N : Type 0} (nodes : List (Named N)) (place : ℕ) (name : NodeName) (from to : N) → slice_get nodes place ≡ Some (named name from)
     → node_names (slice_set nodes place (named name to)) ≡ node_names nodes
 names_set [] place name from to h = refl
-names_set (n ∷ ns) zero name from to h = (let e : n ≡ named name from = one_some n (named name from) h in ap (λ x. x ∷ node_names ns) (sym (ap (λ m. m.name) e)))
+names_set (n ∷ ns) zero name from to h = (let e : n ≡ named name from = one_some n (named name from) h in
+    ap (λ x. x ∷ node_names ns) (sym (ap (λ m. m.name) e)))
 names_set (n ∷ ns) (suc place) name from to h = ap (λ xs. n.name ∷ xs) (names_set ns place name from to h)
 
 -- what is so of every node of a name stays so, where it is so of the one that changes

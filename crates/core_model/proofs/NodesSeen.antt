@@ -25,7 +25,8 @@ same_number a b h = grind arith
 
 -- one of the served shards changes, and what was seen of it stays so
 changed-seen : (pens : Pens) (shard : ℕ) (f : ServedShard → ServedShard) (served : List ServedShard)
-    → ((s : ServedShard) → s.shard ≡ shard → IsSeen pens s.shard s.view → IsSeen pens (f s).shard (f s).view) → AreSeen pens served → AreSeen pens (changed_at shard f served)
+    → ((s : ServedShard) → s.shard ≡ shard → IsSeen pens s.shard s.view → IsSeen pens (f s).shard (f s).view) → AreSeen pens served
+    → AreSeen pens (changed_at shard f served)
 changed-seen pens shard f [] keeps seen = tt
 changed-seen pens shard f (s ∷ ss) keeps seen = elim (cases_Bool (s.shard == shard)) [
   | inl same ↦ rw same (keeps s (same_number s.shard shard same) seen.0, seen.1)
@@ -38,7 +39,8 @@ served-meets pens shard note served is seen =
     changed-seen pens shard (seeing note) served
     (λ s here was. seen-meets s.view note (pens s.shard) was (subst (λ n. IsSeen pens n note) (sym here) is)) seen
 
-pub served-marks : (pens : Pens) (shard position : ℕ) (served : List ServedShard) → AreSeen pens served → AreSeen pens (changed_at shard (marking position) served)
+pub served-marks : (pens : Pens) (shard position : ℕ) (served : List ServedShard) → AreSeen pens served
+    → AreSeen pens (changed_at shard (marking position) served)
 served-marks pens shard position served seen = changed-seen pens shard (marking position) served (λ s here was. was) seen
 
 pub served-forgets : (pens : Pens) (shard : ℕ) (served : List ServedShard) → AreSeen pens served → AreSeen pens (changed_at shard forgetting served)
@@ -50,7 +52,8 @@ some_is x y h = cc
 none_is : {X : Type 0} (P : Type 0) (x : X) → None ≡ Some x → P
 none_is P x h = absurd (cc)
 
-pub served-at : (pens : Pens) (shard : ℕ) (served : List ServedShard) (s : ServedShard) → AreSeen pens served → served_at shard served ≡ Some s → IsSeen pens shard s.view
+pub served-at : (pens : Pens) (shard : ℕ) (served : List ServedShard) (s : ServedShard) → AreSeen pens served → served_at shard served ≡ Some s
+    → IsSeen pens shard s.view
 served-at pens shard [] s seen is = none_is (IsSeen pens shard s.view) s is
 served-at pens shard (x ∷ xs) s seen is = elim (cases_Bool (x.shard == shard)) [
   | inl same ↦ (

@@ -68,12 +68,14 @@ queued R types (row ∷ rows) old new queues holds all =
 abbrev HoldsHeld : (DroppedList → Type 0) → Items → KeyVersion → Type 0
 HoldsHeld P items k = (item : Item) (count : ℕ) → item_at items k.key ≡ Some item → P (record { key = k.key; version = k.version; length = count })
 
-content_holds : (P : DroppedList → Type 0) (k : KeyVersion) (content : Content) → ((count : ℕ) → P (record { key = k.key; version = k.version; length = count }))
+content_holds : (P : DroppedList → Type 0) (k : KeyVersion) (content : Content)
+    → ((count : ℕ) → P (record { key = k.key; version = k.version; length = count }))
     → AllByRecursion P (content_row k content)
 content_holds P k (ObjectIs found) holds = tt
 content_holds P k (ListIs prefix) holds = (holds _, tt)
 
-row_holds : (P : DroppedList → Type 0) (items : Items) (k : KeyVersion) (o : Option Item) → item_at items k.key ≡ o → HoldsHeld P items k → AllByRecursion P (row_of k o)
+row_holds : (P : DroppedList → Type 0) (items : Items) (k : KeyVersion) (o : Option Item) → item_at items k.key ≡ o → HoldsHeld P items k
+    → AllByRecursion P (row_of k o)
 row_holds P items k None is holds = tt
 row_holds P items k (Some item) is holds = content_holds P k item.content (λ count. holds item count is)
 
@@ -91,7 +93,8 @@ dropped_hold P (k ∷ ks) items distinct holds =
     let left : Items = without_stale k items in
     all_append P (stale_row items k) (dropped_lists left ks) (stale_holds P items k holds.0)
     (dropped_hold P ks left (distinct_dropped (k ∷ []) items distinct)
-    (all_map (HoldsHeld P items) (HoldsHeld P left) (λ j was item count at. was item count ((items_are_fewer items distinct).left (k ∷ []) j.key item at)) ks holds.1))
+    (all_map (HoldsHeld P items) (HoldsHeld P left) (λ j was item count at. was item count ((items_are_fewer items distinct).left (k ∷ []) j.key item at)) ks
+    holds.1))
 
 -- ---- the logs of a node
 
@@ -110,7 +113,8 @@ module _ (s : Settings) (pens : Pens) (name : NodeName) where
       let one = some_served node.served shard served in
       is.truth.alike other shard t one.0 at one.1 ∙ seen-told pens shard one.0.view (served-at pens shard node.served one.0 is.seen one.1) told
 
-  log_told : (node : Node) (shard other : ℕ) → IsNodeOf s pens name node → IsServed node.served shard → IsServed node.served other → (pens shard).log.told ≡ true
+  log_told : (node : Node) (shard other : ℕ) → IsNodeOf s pens name node → IsServed node.served shard → IsServed node.served other
+      → (pens shard).log.told ≡ true
       → (pens other).log.told ≡ true
   log_told node shard other is served at told =
       let one = some_served node.served other at in
@@ -119,7 +123,8 @@ module _ (s : Settings) (pens : Pens) (name : NodeName) where
 
   -- ---- what a message names
 
-  module _ (m : SeenMaint) (old new : Node) (same : new ≡ delivered m old) (message : IsMessageFor s pens name m) (before : IsNodeOf s pens name old) (after : IsNodeOf s pens name new) where
+  module _ (m : SeenMaint) (old new : Node) (same : new ≡ delivered m old) (message : IsMessageFor s pens name m) (before : IsNodeOf s pens name old)
+      (after : IsNodeOf s pens name new) where
     serves_it : (node : Node) → IsNodeOf s pens name node → IsServed node.served m.shard
     serves_it node is = (serves_its_turn s pens name node m.shard).serves is message.here message.serves
 
@@ -137,7 +142,8 @@ module _ (s : Settings) (pens : Pens) (name : NodeName) where
         ap (λ (n : Node). served_at m.shard n.served) same ∙ (changed_there m.shard (marking m.position) (λ t. refl) mid
         ∙ ap (option_map (marking m.position)) (changed_there m.shard (seeing m.note) (λ t. refl) old.served ∙ ap (option_map (seeing m.note)) was.1)) in
         let all : AreTold new.served = λ other t at. alike_told new m.shard other t after (serves_it new after) told at in
-        beginnings_are_sound.begins m.note (longer_view was.0.view m.note) grows (λ own. ((after.truth.told all).served m.shard (marking m.position (seeing m.note was.0)) there).sound)
+        beginnings_are_sound.begins m.note (longer_view was.0.view m.note) grows
+        (λ own. ((after.truth.told all).served m.shard (marking m.position (seeing m.note was.0)) there).sound)
         (seen-told pens m.shard m.note message.seen told)
 
     -- a key that it names has come to its version
@@ -146,7 +152,8 @@ module _ (s : Settings) (pens : Pens) (name : NodeName) where
     named_reached k served named told =
         let on = log_told old (key_shard k.key) m.shard before served (serves_it old before) told in
         let names = message.names (seen-told pens m.shard m.note message.seen on) in
-        let low = all_in (λ j. j.version ≤ version m.note.entries j.key) m.keys k (named_versions m.note.entries m.position m.keys (note_sound on) names.names) named in
+        let low = all_in (λ j. j.version ≤ version m.note.entries j.key) m.keys k
+        (named_versions m.note.entries m.position m.keys (note_sound on) names.names) named in
         let rises = versions_stay.version_rises m.note (pens m.shard) k.key message.seen in
         let high : k.version ≤ version (pens m.shard).entries k.key = omega arith in
         subst (λ shard. k.version ≤ version (pens shard).entries k.key) (sym (All-in (λ j. key_shard j.key ≡ m.shard) m.keys k names.here named)) high
@@ -154,7 +161,8 @@ module _ (s : Settings) (pens : Pens) (name : NodeName) where
   -- ---- what can be asked for
 
   refill_for : (key : Key) (row : DroppedList) → key_shard key < s.shards → IsTrue (serves_in_turn (regions_of s) name (key_shard key))
-      → WhereTold (pens (key_shard key)).log.told (row.version ≤ version (pens (key_shard key)).entries key) → IfSome (refill_at (types_of s.schema) key row) (IsRefillFor s pens name)
+      → WhereTold (pens (key_shard key)).log.told (row.version ≤ version (pens (key_shard key)).entries key)
+      → IfSome (refill_at (types_of s.schema) key row) (IsRefillFor s pens name)
   refill_for (Obj id) row here serves reached = tt
   refill_for (Assocs id1 atype) row here serves reached = record { here = here; serves = serves; reached = reached }
 

@@ -52,7 +52,8 @@ abbrev numbers_of : List ServedShard → List ℕ
 numbers_of served = map (λ t. t.shard) served
 
 -- a shard that is changed keeps its number
-pub numbers_stay : (shard : ℕ) (f : ServedShard → ServedShard) (served : List ServedShard) → KeepsShard f → numbers_of (changed_at shard f served) ≡ numbers_of served
+pub numbers_stay : (shard : ℕ) (f : ServedShard → ServedShard) (served : List ServedShard) → KeepsShard f
+    → numbers_of (changed_at shard f served) ≡ numbers_of served
 numbers_stay shard f [] keeps = refl
 numbers_stay shard f (s ∷ ss) keeps = elim (cases_Bool (s.shard == shard)) [
   | inl here ↦ rw here (ap (λ n. n ∷ numbers_of ss) (keeps s))
@@ -62,7 +63,8 @@ numbers_stay shard f (s ∷ ss) keeps = elim (cases_Bool (s.shard == shard)) [
 -- ---- the items that are held
 
 -- what was held stays within the bounds after the changesets of some touches
-pub touches_within : (types : EdgeTypes) (note : View) (ts : List Touch) (old new : Items) → IsDistinct same_key (keys_held old) → TakesTouches types note ts old new
+pub touches_within : (types : EdgeTypes) (note : View) (ts : List Touch) (old new : Items) → IsDistinct same_key (keys_held old)
+    → TakesTouches types note ts old new
     → AreWithin types old → AreWithin types new
 touches_within types note [] old new distinct same within = subst (AreWithin types) (sym same) within
 touches_within types note (t ∷ ts) old new distinct takes within =
@@ -85,23 +87,27 @@ module _ (s : Settings) (pens : Pens) (name : NodeName) where
   node_after from to is truth numbers seen within = record { shards = numbers ∙ is.shards; seen = seen; truth = truth; within = within }
 
   -- what it serves stays
-  pub node_same : (from to : Node) → IsNodeOf s pens name from → IsTrueNode to → to.served ≡ from.served → AreWithin (types_of s.schema) to.items → IsNodeOf s pens name to
+  pub node_same : (from to : Node) → IsNodeOf s pens name from → IsTrueNode to → to.served ≡ from.served → AreWithin (types_of s.schema) to.items
+      → IsNodeOf s pens name to
   node_same from to is truth same within = node_after from to is truth (ap numbers_of same) (subst (AreSeen pens) (sym same) is.seen) within
 
   -- it is changed at one shard
   pub node_changed : (shard : ℕ) (f : ServedShard → ServedShard) (from to : Node) → IsNodeOf s pens name from → IsTrueNode to → KeepsShard f
-      → AreSeen pens (changed_at shard f from.served) → to.served ≡ changed_at shard f from.served → AreWithin (types_of s.schema) to.items → IsNodeOf s pens name to
+      → AreSeen pens (changed_at shard f from.served) → to.served ≡ changed_at shard f from.served → AreWithin (types_of s.schema) to.items
+      → IsNodeOf s pens name to
   node_changed shard f from to is truth keeps seen same within =
       node_after from to is truth (ap numbers_of same ∙ numbers_stay shard f from.served keeps) (subst (AreSeen pens) (sym same) seen) within
 
-  pub looks_node : (key : Key) (look : Look) (ask : Option ℕ) (from to : Node) → AfterLook key look ask from to → IsDistinct same_key (keys_held from.items) → IsTrueNode to
+  pub looks_node : (key : Key) (look : Look) (ask : Option ℕ) (from to : Node) → AfterLook key look ask from to → IsDistinct same_key (keys_held from.items)
+      → IsTrueNode to
       → IsNodeOf s pens name from → IsNodeOf s pens name to
   looks_node key (Hit answer version) ask from to looks distinct truth is =
       node_same from to is truth (ap (λ (n : Node). n.served) looks.1)
       (subst (λ (n : Node). AreWithin (types_of s.schema) n.items) (sym looks.1) (used_within (types_of s.schema) from.items key true distinct is.within))
   looks_node key Miss None from to looks distinct truth is = subst (IsNodeOf s pens name) (sym looks.1) is
   looks_node key Miss (Some number) from to looks distinct truth is =
-      node_changed (key_shard key) forgetting from to is truth (λ t. refl) (served-forgets pens (key_shard key) from.served is.seen) (ap (λ (n : Node). n.served) looks.2)
+      node_changed (key_shard key) forgetting from to is truth (λ t. refl) (served-forgets pens (key_shard key) from.served is.seen)
+      (ap (λ (n : Node). n.served) looks.2)
       (subst (λ (n : Node). AreWithin (types_of s.schema) n.items) (sym looks.2) is.within)
 
   -- an ask that ends
@@ -126,27 +132,34 @@ module _ (s : Settings) (pens : Pens) (name : NodeName) where
   took_served fill false n = refl
 
   -- of a node that has ended an ask, or none
-  pub takes_node : (fill : SealedItem) (kept : Kept) (ask : Option ℕ) (from to : Node) → to ≡ took fill kept (with_ended_ask ask from) → IsSeen pens (key_shard fill.key) fill.note
-      → IsWithinBound (types_of s.schema) fill.key fill.content → IsDistinct same_key (keys_held from.items) → IsTrueNode to → IsNodeOf s pens name from → IsNodeOf s pens name to
+  pub takes_node : (fill : SealedItem) (kept : Kept) (ask : Option ℕ) (from to : Node) → to ≡ took fill kept (with_ended_ask ask from)
+      → IsSeen pens (key_shard fill.key) fill.note
+      → IsWithinBound (types_of s.schema) fill.key fill.content → IsDistinct same_key (keys_held from.items) → IsTrueNode to → IsNodeOf s pens name from
+      → IsNodeOf s pens name to
   takes_node fill kept ask from to same seen bound distinct truth is =
       let end = ended_same ask from in
       let mid : Node = with_ended_ask ask from in
       let apart : IsDistinct same_key (keys_held mid.items) = subst (λ xs. IsDistinct same_key (keys_held xs)) (sym end.1) distinct in
       let held : AreWithin (types_of s.schema) mid.items = subst (AreWithin (types_of s.schema)) (sym end.1) is.within in
-      node_changed (key_shard fill.key) (seeing fill.note) from to is truth (λ t. refl) (served-meets pens (key_shard fill.key) fill.note from.served seen is.seen)
+      node_changed (key_shard fill.key) (seeing fill.note) from to is truth (λ t. refl)
+      (served-meets pens (key_shard fill.key) fill.note from.served seen is.seen)
       (ap (λ (n : Node). n.served) same ∙ ap (changed_at (key_shard fill.key) (seeing fill.note)) (took_served fill (is_yes kept) mid ∙ end.0))
       (subst (λ (n : Node). AreWithin (types_of s.schema) n.items) (sym same) (took_within fill (is_yes kept) mid apart bound held))
 
   -- what was given for a read is of its key
-  given_seen : (read_key : Key) (fill : SealedItem) → fill.key ≡ read_key → IsSeen pens (key_shard read_key) fill.note → IsSeen pens (key_shard fill.key) fill.note
+  given_seen : (read_key : Key) (fill : SealedItem) → fill.key ≡ read_key → IsSeen pens (key_shard read_key) fill.note
+      → IsSeen pens (key_shard fill.key) fill.note
   given_seen key fill same seen = subst (λ k. IsSeen pens (key_shard k) fill.note) (sym same) seen
 
-  given_within : (key : Key) (fill : SealedItem) → fill.key ≡ key → IsWithinBound (types_of s.schema) key fill.content → IsWithinBound (types_of s.schema) fill.key fill.content
+  given_within : (key : Key) (fill : SealedItem) → fill.key ≡ key → IsWithinBound (types_of s.schema) key fill.content
+      → IsWithinBound (types_of s.schema) fill.key fill.content
   given_within key fill same within = subst (λ k. IsWithinBound (types_of s.schema) k fill.content) (sym same) within
 
   -- a leader's copy of a fill
-  copies_node : (fill : SealedItem) (kept : Kept) (yes_or_not : Bool) (from to : Node) → is_yes kept ≡ yes_or_not → to ≡ (if yes_or_not then took fill kept from else from)
-      → IsSeen pens (key_shard fill.key) fill.note → IsWithinBound (types_of s.schema) fill.key fill.content → IsDistinct same_key (keys_held from.items) → IsTrueNode to
+  copies_node : (fill : SealedItem) (kept : Kept) (yes_or_not : Bool) (from to : Node) → is_yes kept ≡ yes_or_not
+      → to ≡ (if yes_or_not then took fill kept from else from)
+      → IsSeen pens (key_shard fill.key) fill.note → IsWithinBound (types_of s.schema) fill.key fill.content → IsDistinct same_key (keys_held from.items)
+      → IsTrueNode to
       → IsNodeOf s pens name from → IsNodeOf s pens name to
   copies_node fill kept true from to which same seen bound distinct truth is = takes_node fill kept None from to same seen bound distinct truth is
   copies_node fill kept false from to which same seen bound distinct truth is = subst (IsNodeOf s pens name) (sym same) is
@@ -166,18 +179,21 @@ module _ (s : Settings) (pens : Pens) (name : NodeName) where
   answers_node read given masters before after from to answers is_given distinct truth is = elim answers.answers [
     | inl own ↦
         node_same from to is truth (ap (λ (n : Node). n.served) own.node_is)
-        (subst (λ (n : Node). AreWithin (types_of s.schema) n.items) (sym own.node_is) (used_within (types_of s.schema) from.items (query_key read.query) true distinct is.within))
+        (subst (λ (n : Node). AreWithin (types_of s.schema) n.items) (sym own.node_is)
+        (used_within (types_of s.schema) from.items (query_key read.query) true distinct is.within))
     | inr reads ↦ gives_node read given from to reads.keeps is_given distinct truth is
   ]
 
   pub keeps_node : (read : Wanted) (ask : Option ℕ) (fill : SealedItem) (kept : Kept) (from to : Node) → to ≡ took fill kept (with_ended_ask ask from)
-      → IsGivenFill (types_of s.schema) pens read fill → IsDistinct same_key (keys_held from.items) → IsTrueNode to → IsNodeOf s pens name from → IsNodeOf s pens name to
+      → IsGivenFill (types_of s.schema) pens read fill → IsDistinct same_key (keys_held from.items) → IsTrueNode to → IsNodeOf s pens name from
+      → IsNodeOf s pens name to
   keeps_node read ask fill kept from to same is_given distinct truth is =
       takes_node fill kept ask from to same (given_seen (query_key read.query) fill is_given.key_is is_given.seen)
       (given_within (query_key read.query) fill is_given.key_is is_given.within) distinct truth is
 
   -- it met a note of a shard's log, and marked a position
-  marked_node : (shard position : ℕ) (note : View) (from to : Node) → to.served ≡ changed_at shard (marking position) (changed_at shard (seeing note) from.served) → IsSeen pens shard note
+  marked_node : (shard position : ℕ) (note : View) (from to : Node)
+      → to.served ≡ changed_at shard (marking position) (changed_at shard (seeing note) from.served) → IsSeen pens shard note
       → AreWithin (types_of s.schema) to.items → IsTrueNode to → IsNodeOf s pens name from → IsNodeOf s pens name to
   marked_node shard position note from to served seen within truth is =
       let mid : List ServedShard = changed_at shard (seeing note) from.served in
@@ -193,12 +209,14 @@ module _ (s : Settings) (pens : Pens) (name : NodeName) where
       (touches_within (types_of s.schema) note entry.touches from.items to.items distinct takes.items is.within) truth is
 
   -- a message
-  pub delivers_node : (m : SeenMaint) (from to : Node) → to ≡ delivered m from → IsSeen pens m.shard m.note → IsDistinct same_key (keys_held from.items) → IsTrueNode to
+  pub delivers_node : (m : SeenMaint) (from to : Node) → to ≡ delivered m from → IsSeen pens m.shard m.note → IsDistinct same_key (keys_held from.items)
+      → IsTrueNode to
       → IsNodeOf s pens name from → IsNodeOf s pens name to
   delivers_node m from to same seen distinct truth is =
       marked_node m.shard m.position m.note from to (ap (λ (n : Node). n.served) same) seen
       (subst (λ (n : Node). AreWithin (types_of s.schema) n.items) (sym same)
-      ((items_stay_within (types_of s.schema) from.items).fewer (dropped from.items m.keys) ((items_are_fewer from.items distinct).left m.keys) is.within)) truth is
+      ((items_stay_within (types_of s.schema) from.items).fewer (dropped from.items m.keys) ((items_are_fewer from.items distinct).left m.keys) is.within))
+      truth is
 
   -- entries that were processed
   caught_numbers : (shard : ℕ) (es : List Entry) (n : Node) → numbers_of (caught_up shard es n).served ≡ numbers_of n.served
@@ -222,20 +240,24 @@ module _ (s : Settings) (pens : Pens) (name : NodeName) where
       (subst (λ (n : Node). AreWithin (types_of s.schema) n.items) (sym same)
       ((items_stay_within (types_of s.schema) from.items).caught shard es mid refl distinct is.within))
 
-  pub writes_node : (shard : ℕ) (entry : Option Entry) (note : View) (from to : Node) → TakesWritten (types_of s.schema) shard entry note from to → IsSeen pens shard note
+  pub writes_node : (shard : ℕ) (entry : Option Entry) (note : View) (from to : Node) → TakesWritten (types_of s.schema) shard entry note from to
+      → IsSeen pens shard note
       → IsDistinct same_key (keys_held from.items) → IsTrueNode to → IsNodeOf s pens name from → IsNodeOf s pens name to
   writes_node shard None note from to takes seen distinct truth is = subst (IsNodeOf s pens name) (sym takes) is
   writes_node shard (Some entry) note from to takes seen distinct truth is = entry_node shard entry note from to takes seen distinct truth is
 
   -- the entry was taken, and nothing marked
-  pub applies_node : (shard : ℕ) (entry : Entry) (note : View) (from to : Node) → AppliesEntry (types_of s.schema) shard entry note from to → IsSeen pens shard note
+  pub applies_node : (shard : ℕ) (entry : Entry) (note : View) (from to : Node) → AppliesEntry (types_of s.schema) shard entry note from to
+      → IsSeen pens shard note
       → IsDistinct same_key (keys_held from.items) → IsTrueNode to → IsNodeOf s pens name from → IsNodeOf s pens name to
   applies_node shard entry note from to applies seen distinct truth is =
-      node_changed shard (seeing note) from to is truth (λ t. refl) (served-meets pens shard note from.served seen is.seen) (ap (λ (n : Node). n.served) applies.node_is)
+      node_changed shard (seeing note) from to is truth (λ t. refl) (served-meets pens shard note from.served seen is.seen)
+      (ap (λ (n : Node). n.served) applies.node_is)
       (touches_within (types_of s.schema) note entry.touches from.items to.items distinct applies.items is.within)
 
   -- it holds fewer items
-  pub fewer_node : (items : Items) (from to : Node) → to ≡ record from { items = items } → AreFewer from.items items → IsTrueNode to → IsNodeOf s pens name from → IsNodeOf s pens name to
+  pub fewer_node : (items : Items) (from to : Node) → to ≡ record from { items = items } → AreFewer from.items items → IsTrueNode to → IsNodeOf s pens name from
+      → IsNodeOf s pens name to
   fewer_node items from to same fewer truth is =
       node_same from to is truth (ap (λ (n : Node). n.served) same)
       (subst (λ (n : Node). AreWithin (types_of s.schema) n.items) (sym same) ((items_stay_within (types_of s.schema) from.items).fewer items fewer is.within))
@@ -253,8 +275,10 @@ module _ (s : Settings) (pens : Pens) (name : NodeName) where
     ends = λ ask old new ends truth is. ends_node ask old.node new.node (ap (λ (f : FollowerState). f.node) ends) truth is;
     writes = writes_node;
     applies = λ shard entry note old new applies seen distinct truth is. applies_node shard entry note old.node new.node applies.node seen distinct truth is;
-    evicts = λ key old new same distinct truth is. fewer_node (without key old.items) old new same ((items_are_fewer old.items distinct).without_one key) truth is;
-    evicts_last = λ old new same truth is. fewer_node (without_last old.items) old new same (λ key item h. held_take (length old.items - 1) old.items key item h) truth is;
+    evicts = λ key old new same distinct truth is. fewer_node (without key old.items) old new same
+        ((items_are_fewer old.items distinct).without_one key) truth is;
+    evicts_last = λ old new same truth is. fewer_node (without_last old.items) old new same
+        (λ key item h. held_take (length old.items - 1) old.items key item h) truth is;
     delivers = λ m dropped old new delivers message distinct truth is. delivers_node m old new delivers.node_is message.seen distinct truth is;
     processes = processes_node;
   }
@@ -262,5 +286,10 @@ module _ (s : Settings) (pens : Pens) (name : NodeName) where
 -- what a message names was seen of a log that goes on
 pub messages_stay : MessagesStay
 messages_stay = record {
-  rises = λ s pens later name m rise is. record { here = is.here; serves = is.serves; seen = seen-rises pens later m.shard m.note rise is.seen; names = is.names };
+  rises = λ s pens later name m rise is. record {
+    here = is.here;
+    serves = is.serves;
+    seen = seen-rises pens later m.shard m.note rise is.seen;
+    names = is.names;
+  };
 }

@@ -76,7 +76,8 @@ number_served shard (s ∷ ss) h = elim (cases_Bool (s.shard == shard)) [
 pub serves_its_turn : (s : Settings) (pens : Pens) (name : NodeName) (node : Node) (shard : ℕ) → ServesItsTurn s pens name node shard
 serves_its_turn s pens name node shard = record {
   serves = λ is here turn.
-      let one : IsIn shard (served_by s name) = in_filter (serves_in_turn (regions_of s) name) (range_with_len 0 s.shards) shard (in_numbers 0 s.shards shard (omega arith) (omega arith)) turn in
+      let one : IsIn shard (served_by s name) = in_filter (serves_in_turn (regions_of s) name) (range_with_len 0 s.shards) shard
+      (in_numbers 0 s.shards shard (omega arith) (omega arith)) turn in
       served_number shard node.served (subst (IsIn shard) (sym is.shards) one);
 }
 
@@ -84,7 +85,8 @@ serves_its_turn s pens name node shard = record {
 pub turn_of : (s : Settings) (pens : Pens) (name : NodeName) (node : Node) (shard : ℕ) → IsNodeOf s pens name node → IsServed node.served shard
     → (shard < s.shards) × IsTrue (serves_in_turn (regions_of s) name shard)
 turn_of s pens name node shard is served =
-    let one = in_filter_parts (serves_in_turn (regions_of s) name) (range_with_len 0 s.shards) shard (subst (IsIn shard) is.shards (number_served shard node.served served)) in
+    let one = in_filter_parts (serves_in_turn (regions_of s) name) (range_with_len 0 s.shards) shard
+    (subst (IsIn shard) is.shards (number_served shard node.served served)) in
     ((let lt = below_end 0 s.shards shard one.0 in omega arith), one.1)
 
 -- ---- the names of a configuration
@@ -123,7 +125,8 @@ leader_in (r ∷ rs) first at (suc region) index same lt =
     (leader_in rs (first + 1) at region index (omega arith) lt)
 
 -- a follower of the configuration is named, and so is a leader
-pub named_follower : (s : Settings) (region tier index : ℕ) → IsTrue (is_cache (regions_of s) (Follower region tier index)) → Contains (follower_names s) (Follower region tier index)
+pub named_follower : (s : Settings) (region tier index : ℕ) → IsTrue (is_cache (regions_of s) (Follower region tier index))
+    → Contains (follower_names s) (Follower region tier index)
 named_follower s region tier index known =
     contains_from_in (follower_names s) (Follower region tier index)
     (follower_in (regions_of s) 0 region region tier index (omega arith) (ltb-true index (follower_count (regions_of s) region tier) known))

@@ -1,5 +1,6 @@
 -- The nodes of a core, by their names.
-use Rattle.std.specs.Prelude.{ℕ, ◌≡◌, ◌<◌, ◌%◌, ◌+◌, ◌==◌, Bool, Contains, IsSomeAnd, List, [], ◌∷◌, ◌++◌, Option, Some, None, filter, map, slice_get, slice_set, unwrap_or}
+use Rattle.std.specs.Prelude.{ℕ, ◌≡◌, ◌<◌, ◌%◌, ◌+◌, ◌==◌, Bool, Contains, IsSomeAnd, List, [], ◌∷◌, ◌++◌, Option, Some, None, filter, map}
+use Rattle.std.specs.Prelude.{slice_get, slice_set, unwrap_or}
 use Rattle.std.specs.List.{range_with_len}
 use Rattle.std.specs.Option.{option_map}
 use Rattle.cache_items.specs.Node.{Node}

@@ -61,7 +61,8 @@ module _ {N : Type 0} (node : N → Node) (refills : N → List Refill) (tells :
 
   -- and catches up
   pub one_more : (count : ℕ) (old now : List (Named N)) (from to : Named N) → FirstGoOn node refills tells s tables pens count old now
-      → slice_get now count ≡ Some from → CacheGoesOn node refills (seen_logs tells s tables pens) from to → WhereTold tells (CatchesUp s tables (node from.node) (node to.node))
+      → slice_get now count ≡ Some from → CacheGoesOn node refills (seen_logs tells s tables pens) from to
+      → WhereTold tells (CatchesUp s tables (node from.node) (node to.node))
       → FirstGoOn node refills tells s tables pens (count + 1) old (slice_set now count to)
   one_more count old now from to was at goes catches = record {
     on = one_goes_on count old now from to was at goes;
@@ -97,7 +98,8 @@ module _ {N : Type 0} (node : N → Node) (refills : N → List Refill) (tells :
   }
 
   -- they are still those of the configuration
-  pub still_caches : (old new : List (Named N)) → AreCaches node s pens old → CachesGoOn node refills (seen_logs tells s tables pens) old new → AreCaches node s pens new
+  pub still_caches : (old new : List (Named N)) → AreCaches node s pens old → CachesGoOn node refills (seen_logs tells s tables pens) old new
+      → AreCaches node s pens new
   still_caches old new are on = record {
     configured = λ place to at.
         let was = on.each place to at in

@@ -1,5 +1,6 @@
 -- A node that processes the rest of a log is still one of its core, and holds what it held of the last versions.
-use Rattle.std.proofs.Common.{◌≡◌, ℕ, suc, ◌+◌, ◌<◌, ◌≤◌, Bool, true, false, List, [], ◌∷◌, drop, length, take, Option, Some, None, refl, ap, sym, ◌∙◌, subst, inl, inr, arith}
+use Rattle.std.proofs.Common.{◌≡◌, ℕ, suc, ◌+◌, ◌<◌, ◌≤◌, Bool, true, false, List, [], ◌∷◌, drop, length, take, Option, Some, None, refl, ap, sym}
+use Rattle.std.proofs.Common.{◌∙◌, subst, inl, inr, arith}
 use Rattle.std.proofs.lemmas.Bool.{and_from, cases_Bool, eq-eqb, eqb-false, eqb-true, le-ltb, ltb-false}
 use Rattle.std.proofs.lemmas.List.{take_all}
 use Rattle.std.proofs.lemmas.List.Elements.{All-drop, All-weaker, recursion_from_All}
@@ -360,7 +361,8 @@ module _ (tells : Bool) (s : Settings) (tables : Tables) (masters : List Store) 
       subst (λ l. item.version ≤ version l key) view (content_reached t.view.entries key item.version item.content truth.exact) in
       eq-eqb item.version (version log key) (omega arith)
 
-  pub catches_up : (old new : Node) → tells ≡ true → IsDistinct same_key (keys_held new.items) → NodeGoesOn (seen_logs tells s tables (pens_of masters)) name old new
+  pub catches_up : (old new : Node) → tells ≡ true → IsDistinct same_key (keys_held new.items)
+      → NodeGoesOn (seen_logs tells s tables (pens_of masters)) name old new
       → IsAtFirstEnds s tables s.shards new → CatchesUp s tables old new
   catches_up old new told apart goes ends = record {
     items = goes.on.items ∙ filter_same goes.on.keeps (is_last s tables) old.items (goes.on.last told)
@@ -414,7 +416,8 @@ cache_before node refills tells s before tables pens old new stays goes = record
 
 -- and goes on
 pub cache_goes_on : {N : Type 0} (node : N → Node) (refills : N → List Refill) (tells : Bool) (s : Settings) (tables : Tables) (pens : Pens)
-    (start now new : Named N) → CacheGoesOn node refills (seen_logs tells s tables pens) start now → CacheGoesOn node refills (seen_logs tells s tables pens) now new
+    (start now new : Named N) → CacheGoesOn node refills (seen_logs tells s tables pens) start now
+    → CacheGoesOn node refills (seen_logs tells s tables pens) now new
     → CacheGoesOn node refills (seen_logs tells s tables pens) start new
 cache_goes_on node refills tells s tables pens start now new first second = record {
   name_is = second.name_is ∙ first.name_is;

@@ -1,5 +1,6 @@
 -- What is left of the nodes of a core where they catch up, all or some.
-use Rattle.std.proofs.Common.{◌≡◌, ℕ, zero, suc, ◌<◌, Bool, true, List, [], ◌∷◌, Ok, Err, OnOk, Result, Some, length, refl, ap, sym, ◌∙◌, subst, inl, inr, arith}
+use Rattle.std.proofs.Common.{◌≡◌, ℕ, zero, suc, ◌<◌, Bool, true, List, [], ◌∷◌, Ok, Err, OnOk, Result, Some, length, refl, ap, sym, ◌∙◌, subst, inl}
+use Rattle.std.proofs.Common.{inr, arith}
 use Rattle.std.proofs.lemmas.List.{ext_get_or, with_items_is}
 use Rattle.std.proofs.lemmas.List.Elements.{Contains-append_left, Contains-append_right}
 use Rattle.std.proofs.lemmas.List.FromFn.{get_or-map-range_with_len, length-map-range_with_len}
@@ -106,7 +107,8 @@ module _ (tells : Bool) (s : Settings) (before tables : Tables) (old : Fleet) (l
   later_on from to on = record {
     keeps = on.keeps;
     items = on.items;
-    last = λ told. so_before (λ t. (held : Key × Item) → is_last s t held ≡ true → on.keeps held ≡ true) tables before (λ at. sym (stays told at)) (on.last told);
+    last = λ told. so_before (λ t. (held : Key × Item) → is_last s t held ≡ true → on.keeps held ≡ true) tables before (λ at. sym (stays told at))
+        (on.last told);
     marks = on.marks;
     asks = on.asks;
     most = on.most;

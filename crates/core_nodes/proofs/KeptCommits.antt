@@ -54,7 +54,8 @@ module _ (s : Settings) (most : ℕ) (origin : Origin) (write : Write) (old new 
 
   module _ (match : InversesMatch (types_of s.schema)) (client : IsTrue (is_client origin)) (changes : ChangesType (types_of s.schema) write)
       (of_entries : AreOfEntries (old (master_store s (write_shard write)))) where
-    admitted : (e : Entry) → IsAdded asked e → IsAdmitted (types_of s.schema) (write_shard write) (log_of (stores_in s old).logs (write_shard write)) origin write
+    admitted : (e : Entry) → IsAdded asked e → IsAdmitted (types_of s.schema) (write_shard write)
+        (log_of (stores_in s old).logs (write_shard write)) origin write
     admitted e added =
         let log = master_log s old (write_shard write) in
         let here : IsAdmitted (types_of s.schema) (write_shard write) log origin write = record {
@@ -64,7 +65,8 @@ module _ (s : Settings) (most : ℕ) (origin : Origin) (write : Write) (old new 
           here = of_shard log write added.next.serial;
           changes = changes;
         } in
-        subst (λ l. IsAdmitted (types_of s.schema) (write_shard write) l origin write) (sym ((tables_are_stores (masters_of s) old).log_is (write_shard write) within)) here
+        subst (λ l. IsAdmitted (types_of s.schema) (write_shard write) l origin write)
+        (sym ((tables_are_stores (masters_of s) old).log_is (write_shard write) within)) here
 
     keeps : (retry : Bool) (entry : Option Entry) → AnswersAs asked retry entry
         → TableGains old new (master_store s (write_shard write)) (if retry then None else entry)

@@ -122,7 +122,8 @@ all_held P (e ∷ es) distinct each = (
   each e.0 e.1 (rw same_key-self refl),
   all_held P es distinct.1 (λ key item at. each key item (elim (cases_Bool (same_key key e.0)) [
     | inl same ↦ (
-        let none = not_among key es (subst (λ (q : Key). AllByRecursion (λ y. same_key q y ≡ false) (keys_held es)) (sym (same_key-same key e.0 same)) distinct.0) in
+        let none = not_among key es (subst (λ (q : Key). AllByRecursion (λ y. same_key q y ≡ false) (keys_held es))
+        (sym (same_key-same key e.0 same)) distinct.0) in
         absurd (let clash : None ≡ Some item = sym none ∙ at in cc))
     | inr other ↦ rw other at
   ])),

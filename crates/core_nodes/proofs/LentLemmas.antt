@@ -32,7 +32,8 @@ use Rattle.core_nodes.specs.declared.reads.FirstLook.{FirstLook}
 use Rattle.core_nodes.proofs.AskLemmas.{AskStep, ask_step}
 use Rattle.core_nodes.proofs.EvictLemmas.{FollowerDrops, LeaderDrops, follower_evicts, leader_evicts}
 use Rattle.core_nodes.proofs.ReadLemmas.{AtOnceStep, EndStep, KeepStep, LookStep, at_once_step, end_step, keep_step, look_step}
-use Rattle.core_nodes.proofs.ViewLemmas.{LendsBoth, LendsFollowers, LendsLeaders, after_both, after_followers, after_leaders, both_after, followers_after, leaders_after}
+use Rattle.core_nodes.proofs.ViewLemmas.{LendsBoth, LendsFollowers, LendsLeaders, after_both, after_followers, after_leaders, both_after}
+use Rattle.core_nodes.proofs.ViewLemmas.{followers_after, leaders_after}
 
 pub look_lent : (s : Settings) (schema : Schema) (name : NodeName) (query : Query) (floor : ℕ) (inside : Inside) (old : Fleet)
     (lent left : List (Named FollowerState))

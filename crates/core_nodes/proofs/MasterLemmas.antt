@@ -44,7 +44,8 @@ pub record WasRead (tells : Bool) (types : EdgeTypes) (query : Query) (store : S
   pub note : IfOk r (λ read. read_note read ≡ note_of store)
   pub called : IfOk r (λ read. Rose before.calls after.calls)
 
-module _ (tells : Bool) (s : Settings) (before : KeeperState) (stores : List Store) (query : Query) (store : Store) (are : AreStoresOf tells s before.told stores)
+module _ (tells : Bool) (s : Settings) (before : KeeperState) (stores : List Store) (query : Query) (store : Store)
+    (are : AreStoresOf tells s before.told stores)
     (stands : slice_get stores (query_shard query) ≡ Some store) where
   -- the note of what was read is told where the tables are
   note_told : (read : ReadOut) → read_note read ≡ note_of store → (read_note read).log.told ≡ true → tells ≡ true

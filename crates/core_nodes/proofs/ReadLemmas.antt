@@ -1,5 +1,6 @@
 -- What the stages of a read leave, and what they answer.
-use Rattle.std.proofs.Common.{◌≡◌, ℕ, ◌≤◌, ◌+◌, Bool, true, false, List, Option, Some, None, IfOk, IfSome, IsSome, OnErr, Result, Ok, Err, refl, ap, sym, ◌∙◌, subst, arith}
+use Rattle.std.proofs.Common.{◌≡◌, ℕ, ◌≤◌, ◌+◌, Bool, true, false, List, Option, Some, None, IfOk, IfSome, IsSome, OnErr, Result, Ok, Err, refl, ap}
+use Rattle.std.proofs.Common.{sym, ◌∙◌, subst, arith}
 use Rattle.std.specs.Prelude.{◌&&◌, if◌then◌else◌, nat_le}
 use Rattle.std.specs.Option.{option_map}
 use Rattle.std.proofs.lemmas.Bool.{leb-true}
@@ -72,7 +73,8 @@ pub follower_log : (s : Settings) (f : Fleet) (shard : ℕ) (name : NodeName) (n
     → IsSeen (pens_of f.masters) shard note
     → NodeIs name (λ (g : FollowerState). log_at shard g.node.served ≡ Some note.log) f.followers
 follower_log s f shard name note fleet is seen place node first at =
-    log_of_shard (pens_of f.masters) shard s name node.node (fleet.followers place name node at).node (follower_serves s f shard name fleet is place node first at)
+    log_of_shard (pens_of f.masters) shard s name node.node (fleet.followers place name node at).node
+    (follower_serves s f shard name fleet is place node first at)
     ∙ ap Some seen.log_is
 
 -- its logs are told where that of the shard is
@@ -202,7 +204,8 @@ asked_at_once : (query : Query) (ask : Option ℕ) (name : NodeName) (old new : 
     → ChangesNode name (FollowerDoes (AsksAtOnce (query_key query) ask)) old new → IfSome ask (λ number. HasAsk name number (query_key query) new)
 asked_at_once query None name old new change = tt
 asked_at_once query (Some number) name old new change =
-    is_after (λ (f : FollowerState). IsAskOn f.node.asks number (query_key query)) (FollowerDoes (AsksAtOnce (query_key query) (Some number))) name old new change
+    is_after (λ (f : FollowerState). IsAskOn f.node.asks number (query_key query))
+    (FollowerDoes (AsksAtOnce (query_key query) (Some number))) name old new change
     (opened (query_key query) Miss number change.from.node change.to.node change.by.does.node change.by.asks)
 
 pub record AtOnceStep (s : Settings) (name : NodeName) (query : Query) (ask : Option ℕ) (old new : Fleet) : Type 0 where

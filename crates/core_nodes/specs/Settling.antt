@@ -1,5 +1,6 @@
 -- Nodes that process the rest of their logs, as a settle makes them.
-use Rattle.std.specs.Prelude.{ℕ, ◌≡◌, ◌≤◌, ◌<◌, ◌+◌, ◌==◌, ◌&&◌, ◌++◌, ⊤, Bool, Contains, List, [], Some, filter, if◌then◌else◌, length, map, nat_lt, slice_get, true}
+use Rattle.std.specs.Prelude.{ℕ, ◌≡◌, ◌≤◌, ◌<◌, ◌+◌, ◌==◌, ◌&&◌, ◌++◌, ⊤, Bool, Contains, List, [], Some, filter, if◌then◌else◌, length, map, nat_lt}
+use Rattle.std.specs.Prelude.{slice_get, true}
 use Rattle.std.specs.List.{range_with_len}
 use Rattle.cache_items.specs.Node.{Node}
 use Rattle.cache_items.specs.declared.item.Item.{Item}

@@ -24,7 +24,8 @@ use Rattle.write_model.specs.Steps.{AreSoundAndCovered, EndsJob, MergesJob}
 -- stores with the same logs and jobs are sound and covered as well
 same_stores_are_kept : (types : EdgeTypes) (old new : Stores) → NothingHappens old new → AreSoundAndCovered types old → AreSoundAndCovered types new
 same_stores_are_kept types old new same kept =
-    let is : new ≡ old = λ i. record { logs = same.logs i; job = λ shard position. same.jobs shard position i } in subst (AreSoundAndCovered types) (sym is) kept
+    let is : new ≡ old = λ i. record { logs = same.logs i; job = λ shard position. same.jobs shard position i } in
+    subst (AreSoundAndCovered types) (sym is) kept
 
 module _ (types : EdgeTypes) (m : Masters) (old new : Tables) (owed : Owed) (j : JobBetween) (p : IsOwedBetween types m old owed j) where
   due_is : merge_of (old (m.name owed.other)).log owed.shard owed.entry.position (job_of types owed.entry) ≡ due_entry j old
@@ -50,7 +51,8 @@ module _ (types : EdgeTypes) (m : Masters) (old new : Tables) (owed : Owed) (j :
       (calls_are_steps m mid new).ends types owed p.within.0 left.0 left.1
       (subst (λ q. Becomes mid new (m.name owed.shard) (after_end (mid (m.name owed.shard)) q)) p.position_is here)
 
-  repaired_steps : (failed : Option Carry) (repaired : Repaired) → RepairsAs j failed old new (Ok repaired) → MergesAndEnds types (stores_of m old) (stores_of m new) owed
+  repaired_steps : (failed : Option Carry) (repaired : Repaired) → RepairsAs j failed old new (Ok repaired)
+      → MergesAndEnds types (stores_of m old) (stores_of m new) owed
   repaired_steps failed repaired is =
       let merges = merges_step is.between is.merges.merges in
       record { mid = stores_of m is.between; merges = merges; ends = ends_step is.between merges is.ends }
@@ -63,7 +65,8 @@ module _ (types : EdgeTypes) (m : Masters) (old new : Tables) (owed : Owed) (j :
   at_most mid stays (inl same) = inl (nothing (λ s. stays s ∙ same s))
   at_most mid stays (inr merges) = inr (merges_step new (gains_and_stays old mid new j.to.name (due_entry j old) merges stays))
 
-  merged_at_most : (failed : Option Carry) (mid : Tables) (refusal : RepairRefusal) → MergesBy j failed old mid (Err refusal) → Stays old mid ⊎ MergesDue j old mid
+  merged_at_most : (failed : Option Carry) (mid : Tables) (refusal : RepairRefusal) → MergesBy j failed old mid (Err refusal) → Stays old mid
+      ⊎ MergesDue j old mid
   merged_at_most failed mid KeeperFault merges = merges
   merged_at_most failed mid OutOfMemory merges = merges
   merged_at_most failed mid (LogFull count) merges = inl merges.stays

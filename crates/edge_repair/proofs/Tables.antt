@@ -12,7 +12,8 @@ use Rattle.tao_keeper.specs.Table.{Stays, Tables}
 use Rattle.tao_link.specs.declared.link.Carry.{Carry}
 
 -- a table that gains an entry, or none, and after which nothing changes
-pub gains_and_stays : (old mid new : Tables) (at : StoreName) (added : Option Entry) → TableGains old mid at added None → Stays mid new → TableGains old new at added None
+pub gains_and_stays : (old mid new : Tables) (at : StoreName) (added : Option Entry) → TableGains old mid at added None → Stays mid new
+    → TableGains old new at added None
 gains_and_stays old mid new at None gains stays = λ s. stays s ∙ gains s
 gains_and_stays old mid new at (Some e) gains stays = record { here = stays at ∙ gains.here; others = λ s apart. stays s ∙ gains.others s apart }
 

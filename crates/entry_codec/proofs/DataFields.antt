@@ -1,5 +1,6 @@
 -- Data is read as it is spelled.
-use Rattle.std.proofs.Common.{◌≡◌, ℕ, zero, suc, ◌+◌, ◌^◌, ◌<◌, ◌≤◌, true, List, [], ◌∷◌, ◌++◌, length, Ok, All, flat_map, refl, sym, ap, subst, ◌∙◌, append-nil, append_assoc, arith}
+use Rattle.std.proofs.Common.{◌≡◌, ℕ, zero, suc, ◌+◌, ◌^◌, ◌<◌, ◌≤◌, true, List, [], ◌∷◌, ◌++◌, length, Ok, All, flat_map, refl, sym, ap, subst, ◌∙◌}
+use Rattle.std.proofs.Common.{append-nil, append_assoc, arith}
 use Rattle.std.specs.Cmp.Lexicographic.{slice_cmp}
 use Rattle.std.specs.Int.{w8, w16, to_be_bytes}
 use Rattle.std.specs.Ordering.{is_lt, nat_cmp}
@@ -15,7 +16,8 @@ use Rattle.tao_base.specs.declared.data.Pair.{Pair}
 use Rattle.entry_codec.specs.Fields.{AreBytes, Rest, Field, ◌>>=◌, spelled_bytes, spelled_number, only, up_to}
 use Rattle.entry_codec.specs.Reading.{lies_between, spelled_data, is_next_key, spelled_next_key, spelled_pair, spelled_pairs, spelled_text}
 use Rattle.entry_codec.specs.Values.{DataFits, PairFits}
-use Rattle.entry_codec.proofs.Codecs.{IsCodec, Reads, Takes, bytes_codec, give_again, give_reads, like_codec, only_codec, reads_like, then_again, then_reads, up_to_codec}
+use Rattle.entry_codec.proofs.Codecs.{IsCodec, Reads, Takes, bytes_codec, give_again, give_reads, like_codec, only_codec, reads_like, then_again}
+use Rattle.entry_codec.proofs.Codecs.{then_reads, up_to_codec}
 use Rattle.entry_codec.proofs.Numbers.{between_is, byte_codec, is_between, number16}
 
 -- ---- texts
@@ -24,12 +26,16 @@ use Rattle.entry_codec.proofs.Numbers.{between_is, byte_codec, is_between, numbe
 abbrev TextAllowed : ℕ → (List ℕ → Type 0) → ℕ → List ℕ → Type 0
 TextAllowed end Extra at text = (length text < 2 ^ 16) × (at + length (text_bytes text) ≤ end) × Extra text
 
-sized_codec : (end : ℕ) (body : ℕ → Field (List ℕ)) (Extra : List ℕ → Type 0) → ((len : ℕ) → IsCodec (body len) (λ text. text) (λ at text. ((length text ≡ len) × (at + length text ≤ end)) × Extra text))
+sized_codec : (end : ℕ) (body : ℕ → Field (List ℕ)) (Extra : List ℕ → Type 0)
+    → ((len : ℕ) → IsCodec (body len) (λ text. text) (λ at text. ((length text ≡ len) × (at + length text ≤ end)) × Extra text))
     → IsCodec (up_to end (spelled_number w16) >>= body) text_bytes (TextAllowed end Extra)
 sized_codec end body Extra codec = record {
   takes = λ rest. then_reads (up_to_codec end number16) rest body (λ text bytes. (bytes ≡ text_bytes text) × TextAllowed end Extra rest.at text)
       (λ len mid place fits ok. reads_like mid (body len) _ _
-      (λ text bytes h. (ap (λ t. to_be_bytes w16 len ++ t) h.0 ∙ ap (λ n. to_be_bytes w16 n ++ text) (sym h.1.0.0), (omega (arith, h.1.0.0, ok.0), omega (arith, h.1.0.1, place), h.1.1)))
+      (λ text bytes h. (
+        ap (λ t. to_be_bytes w16 len ++ t) h.0 ∙ ap (λ n. to_be_bytes w16 n ++ text) (sym h.1.0.0),
+        (omega (arith, h.1.0.0, ok.0), omega (arith, h.1.0.1, place), h.1.1),
+      ))
       ((codec len).takes mid));
   again = λ rest text next ok t. then_again (up_to_codec end number16) rest body (length text) text text next (ok.0, omega (arith, ok.1)) t
       (λ mid place t. (codec (length text)).again mid text next ((refl, omega (arith, ok.1, place)), ok.2) t);
@@ -37,11 +43,14 @@ sized_codec end body Extra codec = record {
 
 pub text_codec : (end : ℕ) → IsCodec (spelled_text end) text_bytes (TextAllowed end IsUtf8)
 text_codec end = sized_codec end (λ len. only is_utf8 (up_to end (spelled_bytes len))) IsUtf8 (λ len.
-    like_codec (λ text. text) (λ at text. ((length text ≡ len) × (at + length text ≤ end)) × IsUtf8 text) (only_codec is_utf8 (up_to_codec end (bytes_codec len)))
+    like_codec (λ text. text) (λ at text. ((length text ≡ len) × (at + length text ≤ end)) × IsUtf8 text)
+    (only_codec is_utf8 (up_to_codec end (bytes_codec len)))
     (λ at text ok. (refl, (ok.0, IsUtf8-from_is_utf8 text ok.1))) (λ at text ok. (refl, (ok.0, is_utf8-from_IsUtf8 text ok.1))))
 
-pub next_key_codec : (end : ℕ) (earlier : List Pair) → IsCodec (spelled_next_key end earlier) text_bytes (TextAllowed end (λ key. IsUtf8 key × (is_next_key earlier key ≡ true)))
-next_key_codec end earlier = sized_codec end (λ len. only (is_next_key earlier) (only is_utf8 (up_to end (spelled_bytes len)))) (λ key. IsUtf8 key × (is_next_key earlier key ≡ true)) (λ len.
+pub next_key_codec : (end : ℕ) (earlier : List Pair)
+    → IsCodec (spelled_next_key end earlier) text_bytes (TextAllowed end (λ key. IsUtf8 key × (is_next_key earlier key ≡ true)))
+next_key_codec end earlier = sized_codec end (λ len. only (is_next_key earlier) (only is_utf8 (up_to end (spelled_bytes len))))
+    (λ key. IsUtf8 key × (is_next_key earlier key ≡ true)) (λ len.
     like_codec (λ key. key) (λ at key. ((length key ≡ len) × (at + length key ≤ end)) × (IsUtf8 key × (is_next_key earlier key ≡ true)))
     (only_codec (is_next_key earlier) (only_codec is_utf8 (up_to_codec end (bytes_codec len))))
     (λ at key ok. (refl, (ok.0.0, (IsUtf8-from_is_utf8 key ok.0.1, ok.1)))) (λ at key ok. (refl, ((ok.0, is_utf8-from_IsUtf8 key ok.1.0), ok.1.1))))
@@ -101,7 +110,8 @@ pub record PairsRead (end : ℕ) (earlier : List Pair) (n at : ℕ) (all : List 
   pub ascending : KeysAscend all
   pub texts : All PairFits all
 
-pub pairs_read : (end n : ℕ) (earlier : List Pair) (rest : Rest) → rest.at ≤ end → KeysAscend earlier → All PairFits earlier → Reads rest (spelled_pairs end n earlier) (PairsRead end earlier n rest.at)
+pub pairs_read : (end n : ℕ) (earlier : List Pair) (rest : Rest) → rest.at ≤ end → KeysAscend earlier → All PairFits earlier
+    → Reads rest (spelled_pairs end n earlier) (PairsRead end earlier n rest.at)
 pairs_read end zero earlier rest within up texts = give_reads rest earlier _ (record {
   later = [];
   joined = sym (append-nil earlier);
@@ -120,26 +130,37 @@ pairs_read end (suc n) earlier rest within up texts = then_reads (pair_codec end
       ends = omega (arith, h.ends, place, length-append (pair_bytes p) text);
       ascending = h.ascending;
       texts = h.texts;
-    }) (pairs_read end n (earlier ++ p ∷ []) mid (omega (arith, ok.ends, place)) (ascending_push earlier p up ok.above) (All-push PairFits earlier p texts ok.texts)))
+    }) (pairs_read end n (earlier ++ p ∷ []) mid (omega (arith, ok.ends, place)) (ascending_push earlier p up ok.above)
+    (All-push PairFits earlier p texts ok.texts)))
 
-texts_are_short : (end at : ℕ) (p : Pair) (more : List ℕ) → end ≤ at + 4096 → at + length (pair_bytes p ++ more) ≤ end → (at + length (pair_bytes p) ≤ end) × (length p.key < 2 ^ 16) × (length p.value < 2 ^ 16)
+texts_are_short : (end at : ℕ) (p : Pair) (more : List ℕ) → end ≤ at + 4096 → at + length (pair_bytes p ++ more) ≤ end → (at + length (pair_bytes p) ≤ end)
+    × (length p.key < 2 ^ 16) × (length p.value < 2 ^ 16)
 texts_are_short end at p more limit ends =
     let size = length-append (pair_bytes p) more in
     let parts = length-append (text_bytes p.key) (text_bytes p.value) in
     (omega (arith, size, ends), omega (arith, size, parts, ends, limit), omega (arith, size, parts, ends, limit))
 
-pub pairs_again : (end : ℕ) (later earlier : List Pair) (rest : Rest) (all : List Pair) (next : Rest) → all ≡ earlier ++ later → KeysAscend all → All PairFits later → end ≤ rest.at + 4096
-    → rest.at + length (flat_map pair_bytes later) ≤ end → Takes rest (flat_map pair_bytes later) next → spelled_pairs end (length later) earlier rest ≡ Ok (all, next)
+pub pairs_again : (end : ℕ) (later earlier : List Pair) (rest : Rest) (all : List Pair) (next : Rest) → all ≡ earlier ++ later → KeysAscend all
+    → All PairFits later → end ≤ rest.at + 4096
+    → rest.at + length (flat_map pair_bytes later) ≤ end → Takes rest (flat_map pair_bytes later) next
+    → spelled_pairs end (length later) earlier rest ≡ Ok (all, next)
 pairs_again end [] earlier rest all next joined up texts limit ends t = rw (joined ∙ append-nil earlier) (give_again rest earlier next t)
 pairs_again end (p ∷ later) earlier rest all next joined up texts limit ends t =
     let short = texts_are_short end rest.at p (flat_map pair_bytes later) limit ends in
-    let ok : PairAllowed end earlier rest.at p = record { ends = short.0; key = short.1; value = short.2; above = next_from_ascending earlier p later (subst KeysAscend joined up); texts = All-head PairFits p later texts } in
+    let ok : PairAllowed end earlier rest.at p = record {
+      ends = short.0;
+      key = short.1;
+      value = short.2;
+      above = next_from_ascending earlier p later (subst KeysAscend joined up);
+      texts = All-head PairFits p later texts;
+    } in
     then_again (pair_codec end earlier) rest _ p (flat_map pair_bytes later) all next ok t (λ mid place t.
     pairs_again end later (earlier ++ p ∷ []) mid all next (joined ∙ sym (append_assoc earlier (p ∷ []) later)) up (All-tail PairFits p later texts)
     (omega (arith, place, limit)) (omega (arith, place, ends, length-append (pair_bytes p) (flat_map pair_bytes later))) t)
 
 -- the pairs that are read after their number are data
-pub pairs_are_data : (rest mid next : Rest) (start count : ℕ) (pairs : List Pair) → AreBytes rest.bytes → start ≡ rest.at → spelled_number w8 rest ≡ Ok (count, mid) → count ≤ 32
+pub pairs_are_data : (rest mid next : Rest) (start count : ℕ) (pairs : List Pair) → AreBytes rest.bytes → start ≡ rest.at
+    → spelled_number w8 rest ≡ Ok (count, mid) → count ≤ 32
     → spelled_pairs (start + 4096) count [] mid ≡ Ok (pairs, next) → IsData pairs
 pairs_are_data rest mid next start count pairs fits place number few read =
     let first = byte_codec.takes rest count mid fits number in
@@ -154,13 +175,25 @@ pairs_are_data rest mid next start count pairs fits place number few read =
 
 pub data_codec : IsCodec spelled_data data_bytes (λ at pairs. DataFits pairs)
 data_codec = record {
-  takes = λ rest. then_reads (only_codec (lies_between 0 32) byte_codec) rest (λ count. spelled_pairs (rest.at + 4096) count []) (λ pairs text. (text ≡ data_bytes pairs) × DataFits pairs) (λ count mid place fits ok.
+  takes = λ rest. then_reads (only_codec (lies_between 0 32) byte_codec) rest (λ count. spelled_pairs (rest.at + 4096) count [])
+      (λ pairs text. (text ≡ data_bytes pairs) × DataFits pairs) (λ count mid place fits ok.
       reads_like mid (spelled_pairs (rest.at + 4096) count []) _ _ (λ pairs text h.
       let same : length pairs ≡ count = ap length h.joined ∙ h.count in
-      let spelled : count ∷ text ≡ data_bytes pairs = rw (h.spelled, ← h.joined, ← same) refl in
-      (spelled, (record { ascending = h.ascending; few = omega (arith, same, between_is 0 32 count ok.1); small = omega (arith, h.ends, place, ap length spelled) }, h.texts)))
+      let spelled : count ∷ text ≡ data_bytes pairs = rw (h.spelled, ← h.joined, ← same) refl in (
+        spelled,
+        (
+          record {
+            ascending = h.ascending;
+            few = omega (arith, same, between_is 0 32 count ok.1);
+            small = omega (arith, h.ends, place, ap length spelled);
+          },
+          h.texts,
+        ),
+      ))
       (pairs_read (rest.at + 4096) count [] mid (omega (arith, place)) tt (All-nil PairFits)));
-  again = λ rest pairs next ok t. then_again (only_codec (lies_between 0 32) byte_codec) rest (λ count. spelled_pairs (rest.at + 4096) count []) (length pairs) (flat_map pair_bytes pairs) pairs next
+  again = λ rest pairs next ok t. then_again (only_codec (lies_between 0 32) byte_codec) rest (λ count. spelled_pairs (rest.at + 4096) count []) (length pairs)
+      (flat_map pair_bytes pairs) pairs next
       (omega (arith, ok.0.few), is_between 0 32 (length pairs) (omega arith) ok.0.few) t
-      (λ mid place t. pairs_again (rest.at + 4096) pairs [] mid pairs next refl ok.0.ascending ok.1 (omega (arith, place)) (omega (arith, place, ok.0.small)) t);
+      (λ mid place t. pairs_again (rest.at + 4096) pairs [] mid pairs next refl ok.0.ascending ok.1 (omega (arith, place))
+      (omega (arith, place, ok.0.small)) t);
 }

@@ -1,5 +1,6 @@
 -- Entries are read as they are spelled, and no spelling begins another.
-use Rattle.std.proofs.Common.{◌≡◌, ◌==◌, ℕ, Bool, true, false, ◌^◌, ◌<◌, ◌≤◌, List, [], ◌∷◌, ◌++◌, length, Result, Ok, Err, IfOk, flat_map, refl, sym, ap, subst, ◌∙◌, append-nil, arith}
+use Rattle.std.proofs.Common.{◌≡◌, ◌==◌, ℕ, Bool, true, false, ◌^◌, ◌<◌, ◌≤◌, List, [], ◌∷◌, ◌++◌, length, Result, Ok, Err, IfOk, flat_map, refl}
+use Rattle.std.proofs.Common.{sym, ap, subst, ◌∙◌, append-nil, arith}
 use Rattle.std.specs.Int.{w64, to_be_bytes}
 use Rattle.std.proofs.lemmas.Bool.{eqb-true, true≢false}
 use Rattle.std.proofs.lemmas.List.Elements.{All-weaker}
@@ -20,10 +21,15 @@ use Rattle.entry_codec.proofs.TouchFields.{TouchAllowed, TouchesAllowed, touches
 abbrev IsAllowed : Entry → Type 0
 IsAllowed e = EntryFits e × IsSpelled e
 
-allowed_entry : (position : ℕ) (kind : Kind) (origin : Origin) (count : ℕ) (touches : List Touch) → (0 < position) × (position < 2 ^ 64) → OriginAllowed kind origin → (1 ≤ count) × (count ≤ 4) → TouchesAllowed count touches
+allowed_entry : (position : ℕ) (kind : Kind) (origin : Origin) (count : ℕ) (touches : List Touch) → (0 < position) × (position < 2 ^ 64)
+    → OriginAllowed kind origin → (1 ≤ count) × (count ≤ 4) → TouchesAllowed count touches
     → IsAllowed (record { position = position; kind = kind; origin = origin; touches = touches })
 allowed_entry position kind origin count touches position_ok origin_ok count_ok ok = (
-  record { position = position_ok.1; origin = origin_ok.1; touches = All-weaker TouchAllowed TouchFits (λ t h. (h.key, h.version.1, h.change.1)) touches ok.each },
+  record {
+    position = position_ok.1;
+    origin = origin_ok.1;
+    touches = All-weaker TouchAllowed TouchFits (λ t h. (h.key, h.version.1, h.change.1)) touches ok.each;
+  },
   record {
     position = position_ok.0;
     origin = origin_ok.0;
@@ -47,7 +53,8 @@ touches_allowed e ok = record {
 pub entry_codec : IsCodec spelled_entry spelling (λ at e. IsAllowed e)
 entry_codec = record {
   takes = λ rest. then_reads (positive_codec w64 (2 ^ 64) wide64) rest _ (λ e text. (text ≡ spelling e) × IsAllowed e) (λ position a place fits position_ok.
-      then_reads kind_codec a _ _ (λ kind b place fits kind_ok. then_reads (origin_codec kind) b _ _ (λ origin c place fits origin_ok. then_reads count_codec c _ _ (λ count d place fits count_ok.
+      then_reads kind_codec a _ _ (λ kind b place fits kind_ok. then_reads (origin_codec kind) b _ _
+      (λ origin c place fits origin_ok. then_reads count_codec c _ _ (λ count d place fits count_ok.
       then_reads (touches_codec count) d _ _ (λ touches end place fits touches_ok.
       give_reads end (record { position = position; kind = kind; origin = origin; touches = touches }) _ (
         ap (λ t. to_be_bytes w64 position ++ (kind_byte kind ∷ origin_bytes origin) ++ (count ∷ t)) (append-nil (flat_map touch_bytes touches))
@@ -58,7 +65,8 @@ entry_codec = record {
       then_again kind_codec a _ e.kind (origin_bytes e.origin ++ (length e.touches ∷ flat_map touch_bytes e.touches)) e next tt t (λ b place t.
       then_again (origin_codec e.kind) b _ e.origin (length e.touches ∷ flat_map touch_bytes e.touches) e next (ok.1.origin, ok.0.origin) t (λ c place t.
       then_again count_codec c _ (length e.touches) (flat_map touch_bytes e.touches) e next (ok.1.some, ok.1.few) t (λ d place t.
-      then_again (touches_codec (length e.touches)) d _ e.touches [] e next (touches_allowed e ok) (subst (λ text. Takes d text next) (sym (append-nil (flat_map touch_bytes e.touches))) t) (λ end place t.
+      then_again (touches_codec (length e.touches)) d _ e.touches [] e next (touches_allowed e ok)
+      (subst (λ text. Takes d text next) (sym (append-nil (flat_map touch_bytes e.touches))) t) (λ end place t.
       give_again end e next t)))));
 }
 
@@ -82,12 +90,14 @@ whole_refused x place [] e = absurd (true≢false e)
 whole_refused x place (b ∷ bytes) e = refl
 
 -- an entry is read, and nothing is left
-pub read_to_end : (bytes : List ℕ) (rest next : Rest) (e : Entry) (at_end : Bool) → rest ≡ all_of bytes → spelled_entry rest ≡ Ok (e, next) → at_end ≡ (length next.bytes == 0) → at_end ≡ true → decoded bytes ≡ Ok e
+pub read_to_end : (bytes : List ℕ) (rest next : Rest) (e : Entry) (at_end : Bool) → rest ≡ all_of bytes → spelled_entry rest ≡ Ok (e, next)
+    → at_end ≡ (length next.bytes == 0) → at_end ≡ true → decoded bytes ≡ Ok e
 read_to_end bytes rest next e at_end all read is nothing =
     ap (λ r. ended (spelled_entry r)) (sym all) ∙ ap ended read ∙ ap (if_ended e next.at) (is_nil next.bytes (sym is ∙ nothing))
 
 -- an entry is read, and bytes follow
-pub bytes_follow : (bytes : List ℕ) (rest next : Rest) (e : Entry) (at_end : Bool) (place : ℕ) → rest ≡ all_of bytes → spelled_entry rest ≡ Ok (e, next) → at_end ≡ (length next.bytes == 0) → at_end ≡ false → place ≡ next.at
+pub bytes_follow : (bytes : List ℕ) (rest next : Rest) (e : Entry) (at_end : Bool) (place : ℕ) → rest ≡ all_of bytes → spelled_entry rest ≡ Ok (e, next)
+    → at_end ≡ (length next.bytes == 0) → at_end ≡ false → place ≡ next.at
     → decoded bytes ≡ Err place
 bytes_follow bytes rest next e at_end place all read is some same =
     ap (λ r. ended (spelled_entry r)) (sym all) ∙ ap ended read ∙ rw same (whole_refused e next.at next.bytes (sym is ∙ some))
@@ -99,21 +109,26 @@ decoded_is bytes e fits is =
     let taken = entry_codec.takes (all_of bytes) e read.0 fits read.1 in
     (taken.3.1.0, taken.3.1.1, sym (taken.1.parts ∙ ap (λ rest. taken.0 ++ rest) read.2 ∙ append-nil taken.0 ∙ taken.3.0))
 
-entry_read : (e : Entry) (more : List ℕ) → EntryFits e → IsSpelled e → spelled_entry (all_of (spelling e ++ more)) ≡ Ok (e, record { at = length (spelling e); bytes = more })
-entry_read e more fits spelled = entry_codec.again (all_of (spelling e ++ more)) e (record { at = length (spelling e); bytes = more }) (fits, spelled) (record { parts = refl; place = omega arith })
+entry_read : (e : Entry) (more : List ℕ) → EntryFits e → IsSpelled e
+    → spelled_entry (all_of (spelling e ++ more)) ≡ Ok (e, record { at = length (spelling e); bytes = more })
+entry_read e more fits spelled = entry_codec.again (all_of (spelling e ++ more)) e (record { at = length (spelling e); bytes = more }) (fits, spelled)
+    (record { parts = refl; place = omega arith })
 
 -- what is spelled is decoded
 pub spelled_is_decoded : (e : Entry) → EntryFits e → IsSpelled e → decoded (spelling e) ≡ Ok e
 spelled_is_decoded e fits spelled = ap (λ bytes. ended (spelled_entry (all_of bytes))) (sym (append-nil (spelling e))) ∙ ap ended (entry_read e [] fits spelled)
 
 -- bytes that begin with two spellings begin with one
-pub one_spelling : (e f : Entry) (xs ys : List ℕ) → EntryFits e → IsSpelled e → EntryFits f → IsSpelled f → spelling e ++ xs ≡ spelling f ++ ys → (e ≡ f) × (xs ≡ ys)
+pub one_spelling : (e f : Entry) (xs ys : List ℕ) → EntryFits e → IsSpelled e → EntryFits f → IsSpelled f → spelling e ++ xs ≡ spelling f ++ ys → (e ≡ f)
+    × (xs ≡ ys)
 one_spelling e f xs ys e_fits e_spelled f_fits f_spelled same =
     let read : Entry × Rest = (e, record { at = length (spelling e); bytes = xs }) in
     let again : Entry × Rest = (f, record { at = length (spelling f); bytes = ys }) in
-    let one : read ≡ again = ok_is read again (sym (entry_read e xs e_fits e_spelled) ∙ ap (λ bytes. spelled_entry (all_of bytes)) same ∙ entry_read f ys f_fits f_spelled) in
+    let one : read ≡ again = ok_is read again (sym (entry_read e xs e_fits e_spelled) ∙ ap (λ bytes. spelled_entry (all_of bytes)) same
+    ∙ entry_read f ys f_fits f_spelled) in
     (ap (λ (r : Entry × Rest). r.0) one, ap (λ (r : Entry × Rest). r.1.bytes) one)
 
-pub found : (bytes : List ℕ) (r : Result Entry EntryRefusal) → AreBytes bytes → Answers r (decoded bytes) → IfOk r (λ e. EntryFits e × IsSpelled e × (spelling e ≡ bytes))
+pub found : (bytes : List ℕ) (r : Result Entry EntryRefusal) → AreBytes bytes → Answers r (decoded bytes)
+    → IfOk r (λ e. EntryFits e × IsSpelled e × (spelling e ≡ bytes))
 found bytes (Ok e) fits answers = decoded_is bytes e fits answers
 found bytes (Err refusal) fits answers = tt

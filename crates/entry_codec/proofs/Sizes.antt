@@ -1,5 +1,6 @@
 -- Each text of a data is short, and what a loop over a list has written.
-use Rattle.std.proofs.Common.{◌≡◌, ℕ, zero, suc, ◌+◌, ◌^◌, ◌<◌, ◌≤◌, List, [], ◌∷◌, ◌++◌, append-nil, append_assoc, length, length-append, get_or, take, All, flat_map, sym, ap, subst, ◌∙◌, arith}
+use Rattle.std.proofs.Common.{◌≡◌, ℕ, zero, suc, ◌+◌, ◌^◌, ◌<◌, ◌≤◌, List, [], ◌∷◌, ◌++◌, append-nil, append_assoc, length, length-append, get_or}
+use Rattle.std.proofs.Common.{take, All, flat_map, sym, ap, subst, ◌∙◌, arith}
 use Rattle.std.proofs.lemmas.Grind.{flat_map-append}
 use Rattle.std.proofs.lemmas.List.{take_all, take_more}
 use Rattle.std.proofs.lemmas.List.Elements.{All-more}
@@ -20,7 +21,8 @@ texts_fit ps i p limits lt is = let k = part_size ps i p lt is in let s = limits
 
 -- one more element of a list is spelled, and fits
 pub one_more : {X : Type 0} (f : X → List ℕ) (P : X → Type 0) (xs : List X) (i : ℕ) (x : X) (start old new : List ℕ) → i < length xs → x ≡ get_or xs i x
-    → (old ≡ start ++ flat_map f (take i xs)) × All P (take i xs) → new ≡ old ++ f x → P x → (new ≡ start ++ flat_map f (take (i + 1) xs)) × All P (take (i + 1) xs)
+    → (old ≡ start ++ flat_map f (take i xs)) × All P (take i xs) → new ≡ old ++ f x → P x → (new ≡ start ++ flat_map f (take (i + 1) xs))
+    × All P (take (i + 1) xs)
 one_more f P xs i x start old new lt is so_far step fits =
     let cut : take (i + 1) xs ≡ take i xs ++ x ∷ [] = take_more xs i x lt ∙ ap (λ y. take i xs ++ y ∷ []) (sym is) in (
       rw (cut, flat_map-append f (take i xs) (x ∷ []), append-nil (f x), ← append_assoc start (flat_map f (take i xs)) (f x), ← so_far.0) step,

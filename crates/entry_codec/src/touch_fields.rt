@@ -3,7 +3,8 @@ ghost use Rattle.std.specs.Prelude.{◌≡◌};
 ghost use Rattle.std.specs.List.{list_any};
 ghost use Rattle.tao_base.specs.Keys.{same_key};
 ghost use Rattle.entry_codec.specs.Gives.{GivesValue};
-ghost use Rattle.entry_codec.specs.Reading.{spelled_any_key, spelled_change, spelled_cut, spelled_key, spelled_put, spelled_set, spelled_stamp, spelled_touch, spelled_was};
+ghost use Rattle.entry_codec.specs.Reading.{spelled_any_key, spelled_change, spelled_cut, spelled_key, spelled_put, spelled_set, spelled_stamp};
+ghost use Rattle.entry_codec.specs.Reading.{spelled_touch, spelled_was};
 
 use crate::data_fields::read_data;
 use crate::reader::Reader;

@@ -1,5 +1,6 @@
 -- Refills of dropped lists, of which some have no row.
-use Rattle.std.proofs.Common.{◌≡◌, ℕ, ◌+◌, ◌<◌, List, [], ◌∷◌, length, drop, get_or, add-one, drop-cons, Option, Some, None, ◌++◌, refl, sym, ◌∙◌, ap, subst, inl, inr, arith}
+use Rattle.std.proofs.Common.{◌≡◌, ℕ, ◌+◌, ◌<◌, List, [], ◌∷◌, length, drop, get_or, add-one, drop-cons, Option, Some, None, ◌++◌, refl, sym, ◌∙◌}
+use Rattle.std.proofs.Common.{ap, subst, inl, inr, arith}
 use Rattle.std.specs.Prelude.{IsNone, option_to_list}
 use Rattle.tao_base.specs.EdgeTypes.{EdgeTypes}
 use Rattle.cache_items.specs.Delivered.{AreSome}
@@ -21,7 +22,8 @@ left_out None refills = refl
 left_out (Some refill) refills = inl refl
 
 -- what queues some of the rows queues all of them, the others being left out
-pub some_queued : (types : EdgeTypes) (rows all : List DroppedList) (old new : List Refill) → AreSome rows all → Queues types rows old new → Queues types all old new
+pub some_queued : (types : EdgeTypes) (rows all : List DroppedList) (old new : List Refill) → AreSome rows all → Queues types rows old new
+    → Queues types all old new
 some_queued types [] [] old new some queued = queued
 some_queued types [] (a ∷ all) old new some queued = (old, left_out (refill_of types a) old, some_queued types [] all old new tt queued)
 some_queued types (r ∷ rows) [] old new some queued = absurd some
@@ -35,8 +37,10 @@ first_is rows i row lt at =
     first ∙ ap (λ x. x ∷ drop (i + 1) rows) (sym at)
 
 -- one more row
-pub row_queued : (types : EdgeTypes) (rows : List DroppedList) (i : ℕ) (row : DroppedList) (first old between new : List Refill) → i < length rows → row ≡ get_or rows i row
-    → ((new : List Refill) → Queues types (drop i rows) old new → Queues types rows first new) → QueuesRow (refill_of types row) old between → Queues types (drop (i + 1) rows) between new
+pub row_queued : (types : EdgeTypes) (rows : List DroppedList) (i : ℕ) (row : DroppedList) (first old between new : List Refill) → i < length rows
+    → row ≡ get_or rows i row
+    → ((new : List Refill) → Queues types (drop i rows) old new → Queues types rows first new) → QueuesRow (refill_of types row) old between
+    → Queues types (drop (i + 1) rows) between new
     → Queues types rows first new
 row_queued types rows i row first old between new lt at rest queues more =
     rest new (subst (λ l. Queues types l old new) (sym (first_is rows i row lt at)) (between, queues, more))

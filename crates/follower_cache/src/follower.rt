@@ -1,5 +1,6 @@
 //! `Follower`.
-ghost use Rattle.std.specs.Prelude.{◌≡◌, ◌↔◌, ◌+◌, ◌-◌, ◌≤◌, ◌++◌, ℕ, [], All, Some, if◌then◌else◌, drop, is_some, length, option_copied, option_to_list, take, true, IfNone, IfOk, IfSome, IsNone, IsSome, IsTrue, OnErr, OnSome};
+ghost use Rattle.std.specs.Prelude.{◌≡◌, ◌↔◌, ◌+◌, ◌-◌, ◌≤◌, ◌++◌, ℕ, [], All, Some, if◌then◌else◌, drop, is_some, length, option_copied};
+ghost use Rattle.std.specs.Prelude.{option_to_list, take, true, IfNone, IfOk, IfSome, IsNone, IsSome, IsTrue, OnErr, OnSome};
 ghost use Rattle.std.specs.List.{IsDistinct};
 ghost use Rattle.std.specs.Map.{keys_of as keys_held};
 ghost use Rattle.lru.specs.LruCache.{last_entry};
@@ -15,7 +16,8 @@ ghost use Rattle.served_shards.specs.Served.{IsLowWater, log_at, low_at, served_
 ghost use Rattle.cache_items.specs.Delivered.{dropped_lists};
 ghost use Rattle.cache_items.specs.Kept.{GivesKept, ask_at, kept_of, took};
 ghost use Rattle.cache_items.specs.Look.{look_of, looked_at};
-ghost use Rattle.cache_items.specs.Node.{caught_up, delivered, drop_count, empty_node, emptied, item_at, met, with_ended_ask, with_opened_ask, without, without_last};
+ghost use Rattle.cache_items.specs.Node.{caught_up, delivered, drop_count, empty_node, emptied, item_at, met, with_ended_ask, with_opened_ask};
+ghost use Rattle.cache_items.specs.Node.{without, without_last};
 ghost use Rattle.cache_items.specs.Taken.{ChangesItems, with_change};
 ghost use Rattle.cache_items.specs.TakenEntry.{AppliesEntry};
 ghost use Rattle.cache_node.specs.Answered.{LookAnswers, ViewAnswers};

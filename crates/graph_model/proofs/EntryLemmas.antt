@@ -1,5 +1,6 @@
 -- What one more entry changes.
-use Rattle.std.proofs.Common.{true, zero-add, ◌+◌, ◌≡◌, ◌≢◌, ℕ, cond, List, [], ◌∷◌, ◌++◌, append-nil, append_assoc, get_or, refl, sym, ap, ◌∙◌, arith, zero, suc}
+use Rattle.std.proofs.Common.{true, zero-add, ◌+◌, ◌≡◌, ◌≢◌, ℕ, cond, List, [], ◌∷◌, ◌++◌, append-nil, append_assoc, get_or, refl, sym, ap, ◌∙◌}
+use Rattle.std.proofs.Common.{arith, zero, suc}
 use Rattle.std.proofs.lemmas.List.{get_or_default}
 use Rattle.std.proofs.lemmas.List.Elements.{All-contains, All-cons, All-nil, All-tail}
 use Rattle.std.proofs.lemmas.List.Folds.{list_any_at}
@@ -78,17 +79,21 @@ one_step : {Y : Type 0} (step : Y → Change → Y) (start : Y) (cs : List Chang
 one_step step start cs c h = ap (fold step start) h
 
 pub touched_by : (e : Entry) (t : Touch) → Contains e.touches t → touches_key t.key e ≡ true
-touched_by e t at = list_any_at (λ (s : Touch). same_key t.key s.key) e.touches at.0 t at.1 (ap (λ (s : Touch). same_key t.key s.key) at.2 ∙ same_key-self t.key)
+touched_by e t at = list_any_at (λ (s : Touch). same_key t.key s.key) e.touches at.0 t at.1
+    (ap (λ (s : Touch). same_key t.key s.key) at.2 ∙ same_key-self t.key)
 
 pub applies_touch : (log : List Entry) (e : Entry) (t : Touch) → AllPairs (λ r s. r.key ≢ s.key) e.touches → Contains e.touches t → AppliesTouch log e t
 applies_touch log e t once at =
-    let one : changes_of (e ∷ []) t.key ≡ t.change ∷ [] = All-contains (λ s. changes_of (e ∷ []) s.key ≡ s.change ∷ []) e.touches t ((changes_by_touch e).touched once) at in
+    let one : changes_of (e ∷ []) t.key ≡ t.change ∷ [] = All-contains (λ s. changes_of (e ∷ []) s.key ≡ s.change ∷ []) e.touches t
+    ((changes_by_touch e).touched once) at in
     record {
       version_is = version_follows log e t.key ∙ ap (λ b. version log t.key + cond b 1 0) (touched_by e t at);
-      object_is = λ id key. object_follows log e id ∙ one_step (λ found c. object_after c found) (object log id) _ t.change (ap (changes_of (e ∷ [])) (sym key) ∙ one);
+      object_is = λ id key. object_follows log e id ∙ one_step (λ found c. object_after c found) (object log id) _ t.change
+          (ap (changes_of (e ∷ [])) (sym key) ∙ one);
       record_is = λ id1 atype id2 key. record_follows log e id1 atype id2
           ∙ one_step (λ found c. record_after id2 c found) (edge_record log id1 atype id2) _ t.change (ap (changes_of (e ∷ [])) (sym key) ∙ one);
-      list_is = λ id1 atype key. list_follows log e id1 atype ∙ one_step (λ edges c. list_after c edges) (edge_list log id1 atype) _ t.change (ap (changes_of (e ∷ [])) (sym key) ∙ one);
+      list_is = λ id1 atype key. list_follows log e id1 atype ∙ one_step (λ edges c. list_after c edges) (edge_list log id1 atype) _ t.change
+          (ap (changes_of (e ∷ [])) (sym key) ∙ one);
     }
 
 pub applies_touches : (log : List Entry) (e : Entry) → AppliesTouches log e

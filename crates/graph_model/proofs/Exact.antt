@@ -41,14 +41,16 @@ abbrev pub DependsOn : Key → (List Entry → Type 0) → Type 0
 DependsOn key Gives = (p q : List Entry) → changes_of p key ≡ changes_of q key → Gives p → Gives q
 
 -- what one beginning of that version gives is exact
-exact_from : (log : List Entry) (key : Key) (Gives : List Entry → Type 0) (n v : ℕ) → DependsOn key Gives → version (take n log) key ≡ v → Gives (take n log) → IsExact log key v Gives
+exact_from : (log : List Entry) (key : Key) (Gives : List Entry → Type 0) (n v : ℕ) → DependsOn key Gives → version (take n log) key ≡ v → Gives (take n log)
+    → IsExact log key v Gives
 exact_from log key Gives n v depends e given = record {
   reached = (let le = version_take n log key in omega arith);
   gives = λ m h. depends (take n log) (take m log) (same_version n m log key (e ∙ sym h)) given;
 }
 
 -- a beginning of the longer log is one of the log, or has the log's version where it has no greater one
-exact_stays : (log more : List Entry) (key : Key) (v : ℕ) (Gives : List Entry → Type 0) → DependsOn key Gives → IsExact log key v Gives → IsExact (log ++ more) key v Gives
+exact_stays : (log more : List Entry) (key : Key) (v : ℕ) (Gives : List Entry → Type 0) → DependsOn key Gives → IsExact log key v Gives
+    → IsExact (log ++ more) key v Gives
 exact_stays log more key v Gives depends exact = record {
   reached = (let longer = version-append log more key in let reached = exact.reached in omega arith);
   gives = λ m h. elim (cases_lt (length log) m) [
@@ -73,7 +75,8 @@ exact_stays log more key v Gives depends exact = record {
 object_depends : (id : Id) (found : Option Object) → DependsOn (Obj id) (λ part. object part id ≡ found)
 object_depends id found p q e h = ap object_in (sym e) ∙ h
 
-list_depends : (id1 : Id) (atype : AType) (edges : List Edge) (total : ℕ) → DependsOn (Assocs id1 atype) (λ part. IsPrefixOf edges total (edge_list part id1 atype))
+list_depends : (id1 : Id) (atype : AType) (edges : List Edge) (total : ℕ)
+    → DependsOn (Assocs id1 atype) (λ part. IsPrefixOf edges total (edge_list part id1 atype))
 list_depends id1 atype edges total p q e h = subst (λ cs. IsPrefixOf edges total (newest_first (live_edges cs))) e h
 
 pub items_stay : (log more : List Entry) → ExactStays log more
@@ -93,10 +96,12 @@ take_begins count xs = record { begins = first count xs; length_is = refl }
 
 pub beginning_is_exact : (log : List Entry) (n : ℕ) → BeginningIsExact log n
 beginning_is_exact log n = record {
-  object_is = λ id. exact_from log (Obj id) (λ part. object part id ≡ object (take n log) id) n (version (take n log) (Obj id)) (object_depends id (object (take n log) id)) refl refl;
+  object_is = λ id. exact_from log (Obj id) (λ part. object part id ≡ object (take n log) id) n (version (take n log) (Obj id))
+      (object_depends id (object (take n log) id)) refl refl;
   list_is = λ id1 atype count.
       let whole : List Edge = edge_list (take n log) id1 atype in
-      exact_from log (Assocs id1 atype) (λ part. IsPrefixOf (take count whole) (length whole) (edge_list part id1 atype)) n (version (take n log) (Assocs id1 atype))
+      exact_from log (Assocs id1 atype) (λ part. IsPrefixOf (take count whole) (length whole) (edge_list part id1 atype)) n
+      (version (take n log) (Assocs id1 atype))
       (list_depends id1 atype (take count whole) (length whole)) refl (take_begins count whole);
 }
 
@@ -106,7 +111,8 @@ length-live_edge id2 None was h = ap (λ o. length (option_to_list o)) (sym h)
 length-live_edge id2 (Some (Live time payload stamp)) was h = ap (λ o. length (option_to_list o)) (sym h)
 length-live_edge id2 (Some (Cut stamp)) was h = ap (λ o. length (option_to_list o)) (sym h)
 
-pub says_was : (log : List Entry) (id1 : Id) (atype : AType) (c : Change) → IfSome (update_at (Assocs id1 atype) c) (λ u. was_of c ≡ live_time (edge_record log u.0 u.1 u.2)) → SaysWas c (edge_list log id1 atype)
+pub says_was : (log : List Entry) (id1 : Id) (atype : AType) (c : Change)
+    → IfSome (update_at (Assocs id1 atype) c) (λ u. was_of c ≡ live_time (edge_record log u.0 u.1 u.2)) → SaysWas c (edge_list log id1 atype)
 says_was log id1 atype (SetEdge e was) h =
     ap length ((edge_list_law (changes_of log (Assocs id1 atype))).live e.id2) ∙ length-live_edge e.id2 (edge_record log id1 atype e.id2) was h
 says_was log id1 atype (CutEdge id2 stamp was) h =
@@ -147,20 +153,24 @@ object_next log t sound touch id v found key next exact =
     (ap (version (take (n + 1) log)) (sym key) ∙ after_it log t n v touch.entry s next)
     (ap (λ l. object l id) s.with_it ∙ s.applies.object_is id key ∙ ap (object_after t.change) old)
 
-list_next : (log : List Entry) (t : Touch) → IsSound log → IsTouchOf log t → (id1 : Id) (atype : AType) (bound v : ℕ) (edges : List Edge) (total : ℕ) → t.key ≡ Assocs id1 atype
+list_next : (log : List Entry) (t : Touch) → IsSound log → IsTouchOf log t → (id1 : Id) (atype : AType) (bound v : ℕ) (edges : List Edge) (total : ℕ)
+    → t.key ≡ Assocs id1 atype
     → t.version ≡ v + 1 → IsExactList log id1 atype v edges total
     → IsExactList log id1 atype (v + 1) (take bound (edges_after t.change edges total)) (total_after t.change total)
 list_next log t sound touch id1 atype bound v edges total key next exact =
     let s = step_at log t sound touch in
     let n : ℕ = touch.place in
     let after : List Edge = take bound (edges_after t.change edges total) in
-    let old : IsPrefixOf edges total (edge_list (take n log) id1 atype) = exact.gives n (ap (version (take n log)) (sym key) ∙ before_it log t n v touch.entry s next) in
+    let old : IsPrefixOf edges total (edge_list (take n log) id1 atype) =
+    exact.gives n (ap (version (take n log)) (sym key) ∙ before_it log t n v touch.entry s next) in
     let was : SaysWas t.change (edge_list (take n log) id1 atype) =
-    says_was (take n log) id1 atype t.change (subst (λ k. IfSome (update_at k t.change) (λ u. was_of t.change ≡ live_time (edge_record (take n log) u.0 u.1 u.2))) key s.follows.was_is) in
+    says_was (take n log) id1 atype t.change (subst (λ k. IfSome (update_at k t.change)
+    (λ u. was_of t.change ≡ live_time (edge_record (take n log) u.0 u.1 u.2))) key s.follows.was_is) in
     let sorted = (in_order_list (changes_of (take n log) (Assocs id1 atype))).newest_first in
     let new : IsPrefixOf after (total_after t.change total) (list_after t.change (edge_list (take n log) id1 atype)) =
     (prefix_follows bound t.change edges total).follows (edge_list (take n log) id1 atype) old sorted was in
-    let list : list_after t.change (edge_list (take n log) id1 atype) ≡ edge_list (take (n + 1) log) id1 atype = sym (s.applies.list_is id1 atype key) ∙ ap (λ l. edge_list l id1 atype) (sym s.with_it) in
+    let list : list_after t.change (edge_list (take n log) id1 atype) ≡ edge_list (take (n + 1) log) id1 atype = sym (s.applies.list_is id1 atype key)
+    ∙ ap (λ l. edge_list l id1 atype) (sym s.with_it) in
     exact_from log (Assocs id1 atype) (λ part. IsPrefixOf after (total_after t.change total) (edge_list part id1 atype)) (n + 1) (v + 1)
     (list_depends id1 atype after (total_after t.change total)) (ap (version (take (n + 1) log)) (sym key) ∙ after_it log t n v touch.entry s next)
     (subst (IsPrefixOf after (total_after t.change total)) list new)

@@ -53,7 +53,8 @@ module _ {X : Type 0} (R : X → X → Type 0) where
   pub EachWithLater-filter : (p : X → Bool) (xs : List X) → EachWithLater R xs → EachWithLater R (filter p xs)
   EachWithLater-filter p [] h = tt
   EachWithLater-filter p (x ∷ xs) h =
-      elim (p x) as (λ b. EachWithLater R (cond b (x ∷ filter p xs) (filter p xs))) [ true ↦ (all_filter (R x) p xs h.0, EachWithLater-filter p xs h.1) | false ↦ EachWithLater-filter p xs h.1 ]
+      elim (p x) as (λ b. EachWithLater R (cond b (x ∷ filter p xs) (filter p xs)))
+      [ true ↦ (all_filter (R x) p xs h.0, EachWithLater-filter p xs h.1) | false ↦ EachWithLater-filter p xs h.1 ]
 
   -- two lists joined: each part, and each of the first with each of the second
   pub EachWithLater-left : (xs ys : List X) → EachWithLater R (xs ++ ys) → EachWithLater R xs
@@ -68,6 +69,7 @@ module _ {X : Type 0} (R : X → X → Type 0) where
   EachWithLater-across [] ys h = tt
   EachWithLater-across (x ∷ xs) ys h = (all_right (R x) xs ys h.0, EachWithLater-across xs ys h.1)
 
-  pub EachWithLater-append : (xs ys : List X) → EachWithLater R xs → EachWithLater R ys → AllByRecursion (λ x. AllByRecursion (R x) ys) xs → EachWithLater R (xs ++ ys)
+  pub EachWithLater-append : (xs ys : List X) → EachWithLater R xs → EachWithLater R ys → AllByRecursion (λ x. AllByRecursion (R x) ys) xs
+      → EachWithLater R (xs ++ ys)
   EachWithLater-append [] ys p q r = q
   EachWithLater-append (x ∷ xs) ys p q r = (all_append (R x) xs ys p.0 r.0, EachWithLater-append xs ys p.1 q r.1)

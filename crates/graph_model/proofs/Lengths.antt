@@ -1,5 +1,6 @@
 -- A list of a sound log is no longer than its version.
-use Rattle.std.proofs.Common.{◌≡◌, ◌≢◌, ℕ, zero, suc, ◌+◌, ◌≤◌, cond, List, [], ◌∷◌, length, take, refl, sym, ap, ◌∙◌, inl, inr, arith, length-append, append-nil}
+use Rattle.std.proofs.Common.{◌≡◌, ◌≢◌, ℕ, zero, suc, ◌+◌, ◌≤◌, cond, List, [], ◌∷◌, length, take, refl, sym, ap, ◌∙◌, inl, inr, arith}
+use Rattle.std.proofs.Common.{length-append, append-nil}
 use Rattle.std.proofs.lemmas.Bool.{cases_Bool}
 use Rattle.std.specs.List.{list_any}
 use Rattle.std.specs.Prelude.{AllPairs, Some, fold, slice_get}
@@ -83,7 +84,8 @@ list_within log id1 atype sound =
     let same = length_newest (live_edges (changes_of log (Assocs id1 atype))) in
     omega arith
 
-pub item_within : (log : List Entry) (id1 : Id) (atype : AType) → IsSound log → (v : ℕ) (edges : List Edge) (total : ℕ) → IsExactList log id1 atype v edges total → total ≤ v
+pub item_within : (log : List Entry) (id1 : Id) (atype : AType) → IsSound log → (v : ℕ) (edges : List Edge) (total : ℕ)
+    → IsExactList log id1 atype v edges total → total ≤ v
 item_within log id1 atype sound v edges total exact =
     let at = beginning_of log (Assocs id1 atype) v exact.reached in
     let is = (exact.gives at.0 at.2).length_is in

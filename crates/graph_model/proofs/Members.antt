@@ -90,7 +90,8 @@ module _ {X : Type 0} where
   none_in p (y ∷ ys) x h (inl e) = subst (λ z. p z ≡ false) e (or_parts (p y) (list_any p ys) h).0
   none_in p (y ∷ ys) x h (inr k) = none_in p ys x (or_parts (p y) (list_any p ys) h).1 k
 
-  pub pairs_append : (R : X → X → Type 0) (xs ys : List X) → PairsByRecursion R xs → PairsByRecursion R ys → ((x y : X) → IsIn x xs → IsIn y ys → R x y) → PairsByRecursion R (xs ++ ys)
+  pub pairs_append : (R : X → X → Type 0) (xs ys : List X) → PairsByRecursion R xs → PairsByRecursion R ys → ((x y : X) → IsIn x xs → IsIn y ys → R x y)
+      → PairsByRecursion R (xs ++ ys)
   pairs_append R [] ys p q h = q
   pairs_append R (x ∷ xs) ys p q h = (
     all_from_in (R x) (xs ++ ys) (λ y k. elim (in_append_cases xs ys y k) [ inl j ↦ all_in (R x) xs y p.0 j | inr j ↦ h x y (inl refl) j ]),
@@ -142,7 +143,8 @@ module _ {X : Type 0} where
   in_cons_later None ys y h = h
   in_cons_later (Some z) ys y h = inr h
 
-  pairs_cons_option : (S : X → X → Type 0) (o : Option X) (ys : List X) → IfSome o (λ y. AllByRecursion (S y) ys) → PairsByRecursion S ys → PairsByRecursion S (cons_option o ys)
+  pairs_cons_option : (S : X → X → Type 0) (o : Option X) (ys : List X) → IfSome o (λ y. AllByRecursion (S y) ys) → PairsByRecursion S ys
+      → PairsByRecursion S (cons_option o ys)
   pairs_cons_option S None ys h p = p
   pairs_cons_option S (Some y) ys h p = (h, p)
 
@@ -154,8 +156,10 @@ module _ {X Y : Type 0} where
 
   pub pairs_map : (R : Y → Y → Type 0) (f : X → Y) (xs : List X) → PairsByRecursion (λ x y. R (f x) (f y)) xs → PairsByRecursion R (map f xs)
   pairs_map R f [] p = tt
-  pairs_map R f (x ∷ xs) p =
-      (all_from_in (R (f x)) (map f xs) (λ y k. let r = in_map_parts f xs y k in subst (R (f x)) r.2 (all_in (λ z. R (f x) (f z)) xs r.0 p.0 r.1)), pairs_map R f xs p.1)
+  pairs_map R f (x ∷ xs) p = (
+    all_from_in (R (f x)) (map f xs) (λ y k. let r = in_map_parts f xs y k in subst (R (f x)) r.2 (all_in (λ z. R (f x) (f z)) xs r.0 p.0 r.1)),
+    pairs_map R f xs p.1,
+  )
 
   pub in_filter_map : (g : X → Option Y) (xs : List X) (x : X) (y : Y) → IsIn x xs → g x ≡ Some y → IsIn y (filter_map g xs)
   in_filter_map g [] x y h e = absurd h

@@ -33,10 +33,12 @@ same_option None None f g = refl
 same_option None (Some x) f g = g x refl
 same_option (Some x) p f g = sym (f x refl)
 
-entry_pairs : (types : EdgeTypes) (shard : ℕ) (e : Entry) (id1 : Id) (atype inverse : AType) (id2 : Id) → InversesMatch types → AllPairs (λ r t. r.key ≢ t.key) e.touches
+entry_pairs : (types : EdgeTypes) (shard : ℕ) (e : Entry) (id1 : Id) (atype inverse : AType) (id2 : Id) → InversesMatch types
+    → AllPairs (λ r t. r.key ≢ t.key) e.touches
     → KeepsEnds types shard e → types.inverse atype ≡ Some inverse → shard_of id1 ≡ shard → shard_of id2 ≡ shard
     → edge_record (e ∷ []) id1 atype id2 ≡ edge_record (e ∷ []) id2 inverse id1
-entry_pairs types shard e id1 atype inverse id2 match once keeps inv here there = same_option (edge_record (e ∷ []) id1 atype id2) (edge_record (e ∷ []) id2 inverse id1)
+entry_pairs types shard e id1 atype inverse id2 match once keeps inv here there = same_option (edge_record (e ∷ []) id1 atype id2)
+    (edge_record (e ∷ []) id2 inverse id1)
     (λ s. one_way types shard e id1 atype inverse id2 s once keeps inv there)
     (λ s. one_way types shard e id2 inverse atype id1 s once keeps (match atype inverse inv) here)
 
@@ -49,6 +51,8 @@ near_ends_are_paired shard log types match sound id1 atype inverse id2 inv here 
     step xs e ih s =
         let ends = All-pop (KeepsEnds types shard) (xs ++ e ∷ []) xs (Some e) refl s.ends in
         let before : edge_record xs id1 atype id2 ≡ edge_record xs id2 inverse id1 = ih (record { sound = before_last xs e s.sound; ends = ends.0 }) in
-        let now : edge_record (e ∷ []) id1 atype id2 ≡ edge_record (e ∷ []) id2 inverse id1 = entry_pairs types shard e id1 atype inverse id2 match (last_follows xs e s.sound).once ends.1 inv here there in
-        edge_record-append xs e id1 atype id2 ∙ ap (λ o. option_or o (edge_record xs id1 atype id2)) now ∙ ap (option_or (edge_record (e ∷ []) id2 inverse id1)) before
+        let now : edge_record (e ∷ []) id1 atype id2 ≡ edge_record (e ∷ []) id2 inverse id1 = entry_pairs types shard e id1 atype inverse id2 match
+        (last_follows xs e s.sound).once ends.1 inv here there in
+        edge_record-append xs e id1 atype id2 ∙ ap (λ o. option_or o (edge_record xs id1 atype id2)) now
+        ∙ ap (option_or (edge_record (e ∷ []) id2 inverse id1)) before
         ∙ sym (edge_record-append xs e id2 inverse id1)

@@ -1,5 +1,6 @@
 -- In a sound log versions count, `was` is the time before, and stamps rise.
-use Rattle.std.proofs.Common.{◌≡◌, ℕ, ◌<◌, ◌+◌, ◌-◌, true, false, List, [], ◌∷◌, ◌++◌, append-nil, append_assoc, length, get_or, take, drop, refl, sym, ap, subst, ◌∙◌, arith}
+use Rattle.std.proofs.Common.{◌≡◌, ℕ, ◌<◌, ◌+◌, ◌-◌, true, false, List, [], ◌∷◌, ◌++◌, append-nil, append_assoc, length, get_or, take, drop, refl}
+use Rattle.std.proofs.Common.{sym, ap, subst, ◌∙◌, arith}
 use Rattle.std.proofs.lemmas.Bool.Decides.{nat_tests}
 use Rattle.std.proofs.lemmas.List.{take_more}
 use Rattle.std.proofs.lemmas.List.Elements.{All-contains}
@@ -44,7 +45,8 @@ update_rises : (log : List Entry) (e : Entry) (u : EdgeUpdate) → CanFollow log
 update_rises log e u follows h =
     let found = contains_filter_map_parts (λ (t : Touch). update_at t.key t.change) e.touches u h in
     let touch = All-contains (TouchFollows log e.origin) e.touches found.0 follows.touches found.1 in
-    let rises = subst (λ o. IfSome o (λ v. IfSome (edge_record log v.0 v.1 v.2) (λ old. is_earlier (stamp_of old) (stamp_of v.3) ≡ true))) found.2 touch.stamp_rises in
+    let rises = subst (λ o. IfSome o (λ v. IfSome (edge_record log v.0 v.1 v.2) (λ old. is_earlier (stamp_of old) (stamp_of v.3) ≡ true))) found.2
+    touch.stamp_rises in
     later_than (edge_record log u.0 u.1 u.2) u.3 rises
   where
     later_than : (found : Option EdgeState) (s : EdgeState) → IfSome found (λ old. is_earlier (stamp_of old) (stamp_of s) ≡ true) → is_later s found ≡ true
@@ -52,7 +54,8 @@ update_rises log e u follows h =
     later_than (Some old) s h = h
 
 -- what is no later than a record is no later than one that is later still
-still_no_later : (found : Option EdgeState) (s new : EdgeState) → is_later s found ≡ false → is_later new found ≡ true → is_earlier (stamp_of new) (stamp_of s) ≡ false
+still_no_later : (found : Option EdgeState) (s new : EdgeState) → is_later s found ≡ false → is_later new found ≡ true
+    → is_earlier (stamp_of new) (stamp_of s) ≡ false
 still_no_later None s new h k = absurd (cc)
 still_no_later (Some old) s new h k = grind (arith, nat_tests)
 
@@ -76,7 +79,8 @@ stays_all log [] u sound h = subst (λ l. HasStamp l u) (sym (append-nil log)) h
 stays_all log (e ∷ more) u sound h =
     let joined : (log ++ e ∷ []) ++ more ≡ log ++ e ∷ more = append_assoc log (e ∷ []) more in
     let whole : IsSound ((log ++ e ∷ []) ++ more) = subst IsSound (sym joined) sound in
-    let begun : IsSound (log ++ e ∷ []) = (let k = sound_take ((log ++ e ∷ []) ++ more) (length (log ++ e ∷ [])) whole in rw (take-append_seam (log ++ e ∷ []) more) at k) in
+    let begun : IsSound (log ++ e ∷ []) = (let k = sound_take ((log ++ e ∷ []) ++ more) (length (log ++ e ∷ [])) whole in
+    rw (take-append_seam (log ++ e ∷ []) more) at k) in
     subst (λ l. HasStamp l u) joined (stays_all (log ++ e ∷ []) more u whole (stays_once log e u begun h))
 
 reached_once : (log : List Entry) (e : Entry) (u : EdgeUpdate) → IsSound (log ++ e ∷ []) → Contains (updates_of e) u → HasStamp (log ++ e ∷ []) u
@@ -89,19 +93,22 @@ pub stamps_stay : (log : List Entry) → StampsStay log
 stamps_stay log = record { stays = stays_all log; reached = reached_once log }
 
 -- a stamp that is reached is earlier than that of a record that is later than the log's
-no_later_than_found : (found : Option EdgeState) (old new : EdgeState) → is_later old found ≡ false → is_later new found ≡ true → is_earlier (stamp_of old) (stamp_of new) ≡ true
+no_later_than_found : (found : Option EdgeState) (old new : EdgeState) → is_later old found ≡ false → is_later new found ≡ true
+    → is_earlier (stamp_of old) (stamp_of new) ≡ true
 no_later_than_found None old new h k = absurd (cc)
 no_later_than_found (Some there) old new h k = grind (arith, nat_tests)
 
 rise : (log : List Entry) → IsSound log → (m n : ℕ) (earlier later : Entry) → m < n → slice_get log m ≡ Some earlier → slice_get log n ≡ Some later
-    → (id1 : Id) (atype : AType) (id2 : Id) (old new : EdgeState) → Contains (updates_of earlier) (id1, atype, id2, old) → Contains (updates_of later) (id1, atype, id2, new)
+    → (id1 : Id) (atype : AType) (id2 : Id) (old new : EdgeState) → Contains (updates_of earlier) (id1, atype, id2, old)
+    → Contains (updates_of later) (id1, atype, id2, new)
     → is_earlier (stamp_of old) (stamp_of new) ≡ true
 rise log sound m n earlier later lt at_m at_n id1 atype id2 old new h k =
     let first : take n log ≡ take (m + 1) log ++ take (n - (m + 1)) (drop (m + 1) log) =
     (let e : n ≡ m + 1 + (n - (m + 1)) = omega arith in ap (λ i. take i log) e ∙ take-add (m + 1) (n - (m + 1)) log) in
     let cut : take (m + 1) log ≡ take m log ++ earlier ∷ [] = take_with log m earlier at_m in
     let reached : HasStamp (take (m + 1) log) (id1, atype, id2, old) =
-    subst (λ l. HasStamp l (id1, atype, id2, old)) (sym cut) (reached_once (take m log) earlier (id1, atype, id2, old) (subst IsSound cut (sound_take log (m + 1) sound)) h) in
+    subst (λ l. HasStamp l (id1, atype, id2, old)) (sym cut)
+    (reached_once (take m log) earlier (id1, atype, id2, old) (subst IsSound cut (sound_take log (m + 1) sound)) h) in
     let there : HasStamp (take n log) (id1, atype, id2, old) =
     subst (λ l. HasStamp l (id1, atype, id2, old)) (sym first)
     (stays_all (take (m + 1) log) (take (n - (m + 1)) (drop (m + 1) log)) (id1, atype, id2, old) (subst IsSound first (sound_take log n sound)) reached) in

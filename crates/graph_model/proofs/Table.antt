@@ -30,7 +30,8 @@ Decides-or4 a b c d p q r s = Decides-like (a || b || c || d)
     (λ h. elim h [ inl k ↦ inl (inl k) | inr k ↦ elim k [ inl j ↦ inl (inr (inl j)) | inr j ↦ elim j [ inl i ↦ inl (inr (inr i)) | inr i ↦ inr i ] ] ])
     (Decides-or (a || b || c) d (Decides-or3 a b c p q r) s)
 
-Decides-map_or : {X : Type 0} (p : X → Bool) (P : X → Type 0) (o : Option X) → ((x : X) → Decides (p x) (P x)) → Decides (option_map_or p o false) (IsSomeAnd o P)
+Decides-map_or : {X : Type 0} (p : X → Bool) (P : X → Type 0) (o : Option X) → ((x : X) → Decides (p x) (P x))
+    → Decides (option_map_or p o false) (IsSomeAnd o P)
 Decides-map_or p P None each = (λ h. absurd (cc), λ h. absurd h)
 Decides-map_or p P (Some x) each = each x
 
@@ -55,7 +56,8 @@ decides_exactly bound edges total (AssocTimeRange id1 atype high low limit) =
 decides_exactly bound edges total (AssocGet id1 atype ids high low) =
     Decides-or4 (eqb (length edges) total) (list_all (λ id. list_any (λ e. id == e.id2) edges) ids) (is_empty_span low high) (ends_below_given low edges)
     (Decides-eqb (length edges) total)
-    (Decides-by_and (λ id. list_any (λ e. id == e.id2) edges) (λ id. Any (λ e. id ≡ e.id2) edges) (list_all (λ id. list_any (λ e. id == e.id2) edges)) (among edges) refl (λ _ _. refl) ids)
+    (Decides-by_and (λ id. list_any (λ e. id == e.id2) edges) (λ id. Any (λ e. id ≡ e.id2) edges) (list_all (λ id. list_any (λ e. id == e.id2) edges))
+    (among edges) refl (λ _ _. refl) ids)
     (Decides-map_or (λ from. option_map_or (λ to. ltb to from) high false) (λ from. IsSomeAnd high (λ to. to < from)) low
     (λ from. Decides-map_or (λ to. ltb to from) (λ to. to < from) high (λ to. Decides-ltb to from)))
     (Decides-map_or (λ from. ends_below from edges) (λ from. EndsBelow from edges) low (λ from. ends from edges))

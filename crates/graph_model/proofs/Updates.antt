@@ -52,12 +52,14 @@ written (Assocs id1 atype) (SetEdge e was) u h =
 written (Assocs id1 atype) (CutEdge id2 stamp was) u h =
     let start : EdgeUpdate = (id1, atype, id2, Cut stamp) in
     let same : start ≡ u = cc in
-    subst (λ (v : EdgeUpdate). (Assocs id1 atype ≡ Assocs v.0 v.1) × (record_in (CutEdge id2 stamp was ∷ []) v.2 ≡ Some v.3)) same (refl, rw (eqb-self id2) refl)
+    subst (λ (v : EdgeUpdate). (Assocs id1 atype ≡ Assocs v.0 v.1) × (record_in (CutEdge id2 stamp was ∷ []) v.2 ≡ Some v.3)) same
+    (refl, rw (eqb-self id2) refl)
 written (Assocs id1 atype) (PutObject object) u h = absurd (cc)
 written (Assocs id1 atype) DropObject u h = absurd (cc)
 
 -- and the other way round
-pub writes : (id1 : Id) (atype : AType) (id2 : Id) (s : EdgeState) (c : Change) → record_in (c ∷ []) id2 ≡ Some s → update_at (Assocs id1 atype) c ≡ Some (id1, atype, id2, s)
+pub writes : (id1 : Id) (atype : AType) (id2 : Id) (s : EdgeState) (c : Change) → record_in (c ∷ []) id2 ≡ Some s
+    → update_at (Assocs id1 atype) c ≡ Some (id1, atype, id2, s)
 writes id1 atype id2 s (SetEdge e was) h = elim (cases_Bool (id2 == e.id2)) [
   | inl k ↦ (let left : Some (state_of e) ≡ Some s = rw k at h in
       let same : state_of e ≡ s = cc in
@@ -83,8 +85,10 @@ record_of_update e id1 atype id2 s once h =
     let found = contains_filter_map_parts (λ (t : Touch). update_at t.key t.change) e.touches (id1, atype, id2, s) h in
     let t = found.0 in
     let what = written t.key t.change (id1, atype, id2, s) found.2 in
-    let one : changes_at t.key e.touches ≡ t.change ∷ [] = All-contains (λ r. changes_at r.key e.touches ≡ r.change ∷ []) e.touches t (one_change e.touches once) found.1 in
-    let at : changes_of (e ∷ []) (Assocs id1 atype) ≡ t.change ∷ [] = changes_of-one e (Assocs id1 atype) ∙ ap (λ k. changes_at k e.touches) (sym what.0) ∙ one in
+    let one : changes_at t.key e.touches ≡ t.change ∷ [] = All-contains (λ r. changes_at r.key e.touches ≡ r.change ∷ []) e.touches t
+    (one_change e.touches once) found.1 in
+    let at : changes_of (e ∷ []) (Assocs id1 atype) ≡ t.change ∷ [] = changes_of-one e (Assocs id1 atype) ∙ ap (λ k. changes_at k e.touches) (sym what.0)
+    ∙ one in
     ap (λ cs. record_in cs id2) at ∙ what.1
 
 pub update_of_record : (e : Entry) (id1 : Id) (atype : AType) (id2 : Id) (s : EdgeState) → AllPairs (λ r t. r.key ≢ t.key) e.touches
@@ -95,7 +99,8 @@ update_of_record e id1 atype id2 s once h = elim (cases_Bool (touches_key (Assoc
       let t : Touch = found.1 in
       let at : Contains e.touches t = (found.0, found.2, found.3) in
       let key : Assocs id1 atype ≡ t.key = same_key-same (Assocs id1 atype) t.key found.4 in
-      let one : changes_at t.key e.touches ≡ t.change ∷ [] = All-contains (λ r. changes_at r.key e.touches ≡ r.change ∷ []) e.touches t (one_change e.touches once) at in
+      let one : changes_at t.key e.touches ≡ t.change ∷ [] = All-contains (λ r. changes_at r.key e.touches ≡ r.change ∷ []) e.touches t
+      (one_change e.touches once) at in
       let here : changes_of (e ∷ []) (Assocs id1 atype) ≡ t.change ∷ [] = changes_of-one e (Assocs id1 atype) ∙ ap (λ k. changes_at k e.touches) key ∙ one in
       let left : record_in (t.change ∷ []) id2 ≡ Some s = ap (λ cs. record_in cs id2) (sym here) ∙ h in
       let update : update_at t.key t.change ≡ Some (id1, atype, id2, s) = ap (λ k. update_at k t.change) (sym key) ∙ writes id1 atype id2 s t.change left in
@@ -108,4 +113,5 @@ update_of_record e id1 atype id2 s once h = elim (cases_Bool (touches_key (Assoc
 pub edge_record-append : (log : List Entry) (e : Entry) (id1 : Id) (atype : AType) (id2 : Id)
     → edge_record (log ++ e ∷ []) id1 atype id2 ≡ option_or (edge_record (e ∷ []) id1 atype id2) (edge_record log id1 atype id2)
 edge_record-append log e id1 atype id2 =
-    ap (λ cs. record_in cs id2) (changes_of-append log (e ∷ []) (Assocs id1 atype)) ∙ record_in-or (changes_of log (Assocs id1 atype)) (changes_of (e ∷ []) (Assocs id1 atype)) id2
+    ap (λ cs. record_in cs id2) (changes_of-append log (e ∷ []) (Assocs id1 atype))
+    ∙ record_in-or (changes_of log (Assocs id1 atype)) (changes_of (e ∷ []) (Assocs id1 atype)) id2

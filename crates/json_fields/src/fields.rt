@@ -4,7 +4,9 @@ ghost use Rattle.std.specs.Prelude.{◌≡◌, ◌-◌, ◌^◌, option_map, map
 ghost use Rattle.std.specs.List.{list_any};
 ghost use Rattle.serde_json.specs.View.{view, members_view, items_view};
 ghost use Rattle.serde_json.specs.Find.{as_str};
-ghost use Rattle.json_fields.specs.Fields.{is_text, number_at, maybe_number_at, number_or, id_of, id_at, maybe_id_at, text_at, maybe_text_at, flag_at, are_texts, texts_at, has_none, are_named, has_only, strange_at, first_strange, items_at, object_at, only_item, only_at, name_of, name_at};
+ghost use Rattle.json_fields.specs.Fields.{is_text, number_at, maybe_number_at, number_or, id_of, id_at, maybe_id_at, text_at, maybe_text_at};
+ghost use Rattle.json_fields.specs.Fields.{flag_at, are_texts, texts_at, has_none, are_named, has_only, strange_at, first_strange, items_at};
+ghost use Rattle.json_fields.specs.Fields.{object_at, only_item, only_at, name_of, name_at};
 
 use serde_json::{Map, Value};
 use tao_base::{Id, is_name};

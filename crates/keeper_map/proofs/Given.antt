@@ -15,7 +15,8 @@ use Rattle.tao_keeper.specs.Given.{HaveSmallStamps, IsGivenEntry}
 use Rattle.tao_keeper.specs.declared.keeper.TheConstants.{MOST_ENTRIES}
 
 -- a version counts entries up to its own
-few_versions : (log : List Entry) (n : ℕ) (origin : Origin) (t : Touch) → n < length log → length log ≤ MOST_ENTRIES → TouchFollows (take n log) origin t → t.version ≤ MOST_ENTRIES
+few_versions : (log : List Entry) (n : ℕ) (origin : Origin) (t : Touch) → n < length log → length log ≤ MOST_ENTRIES → TouchFollows (take n log) origin t
+    → t.version ≤ MOST_ENTRIES
 few_versions log n origin t within few follows =
     let is : t.version ≡ version (take n log) t.key + 1 = follows.version_is in
     omega (arith, count_by-le-length (touches_key t.key) (take n log), length-take n log)
@@ -31,7 +32,8 @@ stands_given log n e sound few small h =
     record {
       position = (omega arith, omega arith);
       versions = λ i d lt. few_versions log n e.origin _ within few (follows.touches i d lt);
-      stamps = subst (λ (x : Entry). HaveSmallStamps x.touches) (get_or_from_slice_get log n e e h) (All-get_or (λ (x : Entry). HaveSmallStamps x.touches) log n e within small);
+      stamps = subst (λ (x : Entry). HaveSmallStamps x.touches) (get_or_from_slice_get log n e e h)
+          (All-get_or (λ (x : Entry). HaveSmallStamps x.touches) log n e within small);
     }
 
 -- the entry at a position

@@ -1,5 +1,6 @@
 -- A log that an entry may have been added to.
-use Rattle.std.proofs.Common.{◌≡◌, ℕ, ◌+◌, ◌<◌, ◌≤◌, Bool, true, false, cond, List, [], ◌∷◌, ◌++◌, length, length-append, inl, inr, refl, ap, ◌∙◌, sym, subst, arith}
+use Rattle.std.proofs.Common.{◌≡◌, ℕ, ◌+◌, ◌<◌, ◌≤◌, Bool, true, false, cond, List, [], ◌∷◌, ◌++◌, length, length-append, inl, inr, refl, ap, ◌∙◌}
+use Rattle.std.proofs.Common.{sym, subst, arith}
 use Rattle.std.proofs.lemmas.Bool.{cases_Bool}
 use Rattle.std.proofs.lemmas.Bool.Decides.{nat_tests}
 use Rattle.std.proofs.lemmas.List.Elements.{All-push}
@@ -15,15 +16,18 @@ either : (P : List Entry → Type 0) (added : Bool) (log : List Entry) (entry : 
 either P true log entry before after = after
 either P false log entry before after = before
 
-pub still_sound : (added : Bool) (log now : List Entry) (entry : Entry) → now ≡ cond added (log ++ entry ∷ []) log → IsSound log → CanFollow log entry → IsSound now
+pub still_sound : (added : Bool) (log now : List Entry) (entry : Entry) → now ≡ cond added (log ++ entry ∷ []) log → IsSound log → CanFollow log entry
+    → IsSound now
 still_sound added log now entry is sound follows =
     subst IsSound (sym is) (either IsSound added log entry sound ((sound_grows log entry).grows sound follows))
 
-pub still_all : (P : Entry → Type 0) (added : Bool) (log now : List Entry) (entry : Entry) → now ≡ cond added (log ++ entry ∷ []) log → All P log → P entry → All P now
+pub still_all : (P : Entry → Type 0) (added : Bool) (log now : List Entry) (entry : Entry) → now ≡ cond added (log ++ entry ∷ []) log → All P log → P entry
+    → All P now
 still_all P added log now entry is all here = subst (All P) (sym is) (either (All P) added log entry all (All-push P log entry all here))
 
 -- a job of the entry that comes next is past all others
-pub last_of_all : (log : List Entry) (entry : Entry) (jobs : Jobs) (job : Option Job) → CanFollow log entry → ((position : ℕ) → length log < position → jobs position ≡ None)
+pub last_of_all : (log : List Entry) (entry : Entry) (jobs : Jobs) (job : Option Job) → CanFollow log entry
+    → ((position : ℕ) → length log < position → jobs position ≡ None)
     → IfSome job (λ j. j.position ≡ entry.position) → IfSome job (λ j. (position : ℕ) → j.position ≤ position → jobs position ≡ None)
 last_of_all log entry jobs None follows of_entries is = tt
 last_of_all log entry jobs (Some job) follows of_entries is = λ position past.
@@ -40,7 +44,8 @@ still_of_entries true log now entry jobs after job log_is jobs_is follows of_ent
     ap (λ j. j position) jobs_is ∙ opens job is
   where
     opens : (given : Option Job) → IfSome given (λ j. j.position ≡ entry.position) → with_new_job jobs given position ≡ None
-    opens None same = of_entries position (let longer : length now ≡ length log + 1 = ap length log_is ∙ length-append log (entry ∷ []) in omega (arith, longer, past))
+    opens None same = of_entries position (let longer : length now ≡ length log + 1 = ap length log_is ∙ length-append log (entry ∷ []) in
+        omega (arith, longer, past))
     opens (Some given) same =
         let longer : length now ≡ length log + 1 = ap length log_is ∙ length-append log (entry ∷ []) in
         let at : entry.position ≡ length log + 1 = follows.position_is in
@@ -52,7 +57,8 @@ pub ended_of_entries : (jobs : Jobs) (at position : ℕ) → jobs position ≡ N
 ended_of_entries jobs at position none = elim (cases_Bool (position == at)) [ inl h ↦ rw h refl | inr h ↦ rw h none ]
 
 -- a job that is opened and ended
-pub closed_again : (jobs : Jobs) (at : ℕ) (given : Option (List EdgeUpdate)) → jobs at ≡ None → (position : ℕ) → with_job (with_job jobs at given) at None position ≡ jobs position
+pub closed_again : (jobs : Jobs) (at : ℕ) (given : Option (List EdgeUpdate)) → jobs at ≡ None → (position : ℕ)
+    → with_job (with_job jobs at given) at None position ≡ jobs position
 closed_again jobs at given none position = elim (cases_Bool (position == at)) [
   | inl h ↦ (let same : position ≡ at = grind (arith, nat_tests) in rw h (sym (ap jobs same ∙ none)))
   | inr h ↦ rw h refl

@@ -15,23 +15,27 @@ same_order : (x y : ℕ) → is_eq (nat_cmp x y) ≡ (y == x)
 same_order x y = grind (arith, nat_tests)
 
 -- the job that is found at a position
-pub found_is : (jobs : BTreeMap ℕ Job) (position : ℕ) (found : Option Job) → StandAtPositions jobs → found ≡ get nat_cmp jobs position → IsJobAt (listed jobs) position found
+pub found_is : (jobs : BTreeMap ℕ Job) (position : ℕ) (found : Option Job) → StandAtPositions jobs → found ≡ get nat_cmp jobs position
+    → IsJobAt (listed jobs) position found
 found_is jobs position None stand is = sym (ap (option_map (λ (job : Job). job.edges)) is)
 found_is jobs position (Some job) stand is = ((stand position job (sym is)).position_is, sym (ap (option_map (λ (job : Job). job.edges)) is))
 
 -- where none is below a position, none is found there
-none_below : (jobs : BTreeMap ℕ Job) (first position : ℕ) (found : Option Job) → IsLowerBound nat_cmp jobs first → position < first → found ≡ get nat_cmp jobs position → found ≡ None
+none_below : (jobs : BTreeMap ℕ Job) (first position : ℕ) (found : Option Job) → IsLowerBound nat_cmp jobs first → position < first
+    → found ≡ get nat_cmp jobs position → found ≡ None
 none_below jobs first position None least below is = refl
 none_below jobs first position (Some job) least below is =
     let not_past : is_gt (nat_cmp first position) ≡ false = least position (subst IsSome is refl) in
     absurd (grind (arith, nat_tests))
 
 -- the first job has the least position
-pub first_is : (jobs : BTreeMap ℕ Job) (first : ℕ) (job : Job) → StandAtPositions jobs → get nat_cmp jobs first ≡ Some job → IsLowerBound nat_cmp jobs first → IsLeastJob (listed jobs) (Some job)
+pub first_is : (jobs : BTreeMap ℕ Job) (first : ℕ) (job : Job) → StandAtPositions jobs → get nat_cmp jobs first ≡ Some job → IsLowerBound nat_cmp jobs first
+    → IsLeastJob (listed jobs) (Some job)
 first_is jobs first job stand is least =
     let at : job.position ≡ first = (stand first job is).position_is in (
       ap (λ p. option_map (λ (j : Job). j.edges) (get nat_cmp jobs p)) at ∙ ap (option_map (λ (j : Job). j.edges)) is,
-      λ position below. ap (option_map (λ (j : Job). j.edges)) (none_below jobs first position (get nat_cmp jobs position) least (omega (arith, below, at)) refl),
+      λ position below. ap (option_map (λ (j : Job). j.edges))
+          (none_below jobs first position (get nat_cmp jobs position) least (omega (arith, below, at)) refl),
     )
 
 -- the jobs with another at a position, or none
@@ -40,13 +44,15 @@ Changed position given old new = (q : ℕ) → get nat_cmp new q ≡ cond (is_eq
 
 pub still_stand : (position : ℕ) (given : Option Job) (old new : BTreeMap ℕ Job) → Changed position given old new → StandAtPositions old
     → ((job : Job) → given ≡ Some job → IsGivenJobAt position job) → StandAtPositions new
-still_stand position given old new step stand is q job h = by (q == position) (sym (step q ∙ ap (λ b. cond b given (get nat_cmp old q)) (same_order position q)) ∙ h) refl
+still_stand position given old new step stand is q job h =
+    by (q == position) (sym (step q ∙ ap (λ b. cond b given (get nat_cmp old q)) (same_order position q)) ∙ h) refl
   where
     by : (b : Bool) → cond b given (get nat_cmp old q) ≡ Some job → (q == position) ≡ b → IsGivenJobAt q job
     by true found same = let here : position ≡ q = grind (arith, nat_tests) in subst (λ p. IsGivenJobAt p job) here (is job found)
     by false found same = stand q job found
 
-pub still_stand_opened : {T E : Type 0} (result : Result T E) (job : Job) (old new : BTreeMap ℕ Job) → OnOk result (Updates nat_cmp old new job.position (Some job))
+pub still_stand_opened : {T E : Type 0} (result : Result T E) (job : Job) (old new : BTreeMap ℕ Job)
+    → OnOk result (Updates nat_cmp old new job.position (Some job))
     → OnErr result (IsUnchanged old new) → StandAtPositions old → IsGivenJob job → StandAtPositions new
 still_stand_opened (Ok x) job old new done failed stand given =
     still_stand job.position (Some job) old new done.0 stand

@@ -33,7 +33,8 @@ all_append : {X : Type 0} (P : X → Type 0) (xs ys : List X) → AllByRecursion
 all_append P [] ys h k = k
 all_append P (x ∷ xs) ys h k = (h.0, all_append P xs ys h.1 k)
 
-touches_small : (log : List Entry) → AllByRecursion (λ e. HaveSmallStamps e.touches) log → AllByRecursion (λ t. LeavesSmall t.change) (flat_map (λ e. e.touches) log)
+touches_small : (log : List Entry) → AllByRecursion (λ e. HaveSmallStamps e.touches) log
+    → AllByRecursion (λ t. LeavesSmall t.change) (flat_map (λ e. e.touches) log)
 touches_small [] h = tt
 touches_small (e ∷ log) h =
     all_append (λ t. LeavesSmall t.change) e.touches (flat_map (λ x. x.touches) log)
@@ -58,12 +59,14 @@ states_small (CutEdge id2 stamp was ∷ cs) h = (h.0, states_small cs h.1)
 states_small (PutObject object ∷ cs) h = states_small cs h.1
 states_small (DropObject ∷ cs) h = states_small cs h.1
 
-last_small : (found : Option EdgeState) (states : List EdgeState) → number_of found < STAMP_LIMIT → AllByRecursion (λ s. (stamp_of s).number < STAMP_LIMIT) states
+last_small : (found : Option EdgeState) (states : List EdgeState) → number_of found < STAMP_LIMIT
+    → AllByRecursion (λ s. (stamp_of s).number < STAMP_LIMIT) states
     → number_of (last_or found states) < STAMP_LIMIT
 last_small found [] h k = h
 last_small found (s ∷ states) h k = last_small (Some s) states k.0 k.1
 
-pub record_small : (log : List Entry) (id1 : Id) (atype : AType) (id2 : Id) → All (λ e. HaveSmallStamps e.touches) log → number_of (edge_record log id1 atype id2) < STAMP_LIMIT
+pub record_small : (log : List Entry) (id1 : Id) (atype : AType) (id2 : Id) → All (λ e. HaveSmallStamps e.touches) log
+    → number_of (edge_record log id1 atype id2) < STAMP_LIMIT
 record_small log id1 atype id2 h =
     let cs : List Change = changes_of log (Assocs id1 atype) in
     last_small None (filter_map state_left (filter (is_at id2) cs)) (omega arith)
@@ -95,7 +98,8 @@ pub part_given : (log : List Entry) (id1 : Id) (atype : AType) (pos most : ℕ) 
 part_given log id1 atype pos most h =
     let cs : List Change = changes_of log (Assocs id1 atype) in
     let all : All HasSmallStamp (edge_list log id1 atype) =
-    All-from_recursion HasSmallStamp (newest_first (live_edges cs)) (newest_small [] (live_edges cs) tt (live_small cs (changes_small log (Assocs id1 atype) h))) in
+    All-from_recursion HasSmallStamp (newest_first (live_edges cs))
+    (newest_small [] (live_edges cs) tt (live_small cs (changes_small log (Assocs id1 atype) h))) in
     record {
       few = omega (arith, length-take {A = Edge});
       in_order = stretches_in_order log id1 atype pos most;

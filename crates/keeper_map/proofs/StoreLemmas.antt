@@ -52,14 +52,16 @@ put_becomes at now old new step = record {
 }
 
 -- a table that says what it said changes nothing
-pub put_stays : (at : StoreName) (now : StoreTable) (old new : Stored) → Puts at now old new → table_of now ≡ tables_of old at → Stays (tables_of old) (tables_of new)
+pub put_stays : (at : StoreName) (now : StoreTable) (old new : Stored) → Puts at now old new → table_of now ≡ tables_of old at
+    → Stays (tables_of old) (tables_of new)
 put_stays at now old new step is = λ name. elim (cases_Bool (is_eq (store_cmp (store_key at) (store_key name)))) [
   | inl h ↦ subst (λ n. tables_of new n ≡ tables_of old n) (same_name at name h) (put_here at now old new step ∙ is)
   | inr h ↦ put_elsewhere at now old new step name h
 ]
 
 -- the table that is found is the store's
-pub told_there : (old mid : Stored) (at : StoreName) (before : StoreTable) → Stays (tables_of old) (tables_of mid) → get store_cmp mid (store_key at) ≡ Some before
+pub told_there : (old mid : Stored) (at : StoreName) (before : StoreTable) → Stays (tables_of old) (tables_of mid)
+    → get store_cmp mid (store_key at) ≡ Some before
     → table_of before ≡ tables_of old at
 told_there old mid at before stays found = sym (ap told found) ∙ stays at
 
@@ -78,7 +80,8 @@ changes_there (Err e) old mid new at before now after stays found step is =
     λ name. put_stays at now mid new step (is ∙ sym (ap told found)) name ∙ stays name
 
 -- a job that is ended in a store's table
-pub ends_there : (old new : Stored) (at : StoreName) (before now : StoreTable) (position : ℕ) → get store_cmp old (store_key at) ≡ Some before → Puts at now old new
+pub ends_there : (old new : Stored) (at : StoreName) (before now : StoreTable) (position : ℕ) → get store_cmp old (store_key at) ≡ Some before
+    → Puts at now old new
     → table_of now ≡ after_end (table_of before) position → Becomes (tables_of old) (tables_of new) at (after_end (tables_of old at) position)
 ends_there old new at before now position found step is =
     let changed = put_becomes at now old new step in
@@ -90,20 +93,24 @@ pub nothing_ends : (stores : Stored) (at : StoreName) (position : ℕ) → get s
 nothing_ends stores at position none =
     let empty : tables_of stores at ≡ empty_table = ap told none in
     record {
-      here = subst (λ t. t ≡ after_end t position) (sym empty) (λ i. record { log = empty_table.log; jobs = λ p. sym (ended_of_entries empty_table.jobs position p refl) i; line = empty_table.line });
+      here = subst (λ t. t ≡ after_end t position) (sym empty)
+          (λ i. record { log = empty_table.log; jobs = λ p. sym (ended_of_entries empty_table.jobs position p refl) i; line = empty_table.line });
       others = λ name apart. refl;
     }
 
 -- what is written at a store's key is put there
-pub written : (at : StoreName) (k : ℕ × ℕ) (now : StoreTable) (old new : Stored) → k ≡ store_key at → UpdatesBy store_cmp (store_cmp k) old new (Some now) → Puts at now old new
+pub written : (at : StoreName) (k : ℕ × ℕ) (now : StoreTable) (old new : Stored) → k ≡ store_key at → UpdatesBy store_cmp (store_cmp k) old new (Some now)
+    → Puts at now old new
 written at k now old new is step = λ q. step.0 q ∙ ap (λ key. cond (is_eq (store_cmp key q)) (Some now) (get store_cmp old q)) is
 
-pub found_at : (at : StoreName) (k : ℕ × ℕ) (found : StoreTable) (stores : Stored) → k ≡ store_key at → Some found ≡ get store_cmp stores k → get store_cmp stores (store_key at) ≡ Some found
+pub found_at : (at : StoreName) (k : ℕ × ℕ) (found : StoreTable) (stores : Stored) → k ≡ store_key at → Some found ≡ get store_cmp stores k
+    → get store_cmp stores (store_key at) ≡ Some found
 found_at at k found stores is found_is = sym (found_is ∙ ap (get store_cmp stores) is)
 
 pub is_there : (k : ℕ × ℕ) (found : StoreTable) (stores : Stored) → Some found ≡ get store_cmp stores k → IsSome (get store_cmp stores k)
 is_there k found stores is = subst IsSome is refl
 
 -- a store's first table is empty
-pub first_stays : (at : StoreName) (now : StoreTable) (old new : Stored) → Puts at now old new → None ≡ get store_cmp old (store_key at) → table_of now ≡ empty_table → Stays (tables_of old) (tables_of new)
+pub first_stays : (at : StoreName) (now : StoreTable) (old new : Stored) → Puts at now old new → None ≡ get store_cmp old (store_key at)
+    → table_of now ≡ empty_table → Stays (tables_of old) (tables_of new)
 first_stays at now old new step none empty = put_stays at now old new step (empty ∙ ap told none)

@@ -32,7 +32,8 @@ use Rattle.shard_tables.specs.declared.store.Role.TheVariants.{Master, Slave}
 use Rattle.leader_tier.specs.LeaderReads.{AreAnswersSeen, IsFillAt}
 
 -- a fill that a store read, which has come to the floor
-pub read_is_at : (types : EdgeTypes) (query : Query) (floor : ℕ) (fill : SealedItem) → IsFillFor types query fill → IsSealed fill → floor ≤ fill.version → IsFillAt types query floor fill
+pub read_is_at : (types : EdgeTypes) (query : Query) (floor : ℕ) (fill : SealedItem) → IsFillFor types query fill → IsSealed fill → floor ≤ fill.version
+    → IsFillAt types query floor fill
 read_is_at types query floor fill for sealed reaches =
     record {
       key_is = for.key_is;
@@ -43,7 +44,8 @@ read_is_at types query floor fill for sealed reaches =
     }
 
 -- a fill of an item of its own
-pub own_is_at : (types : EdgeTypes) (n : Node) (query : Query) (floor : ℕ) (fill : SealedItem) → HandsOn types n query floor (Some fill) → IsSealed fill → IsFillAt types query floor fill
+pub own_is_at : (types : EdgeTypes) (n : Node) (query : Query) (floor : ℕ) (fill : SealedItem) → HandsOn types n query floor (Some fill) → IsSealed fill
+    → IsFillAt types query floor fill
 own_is_at types n query floor fill hands sealed = by_item (item_at n.items (query_key query)) hands.0
   where
     by_item : (o : Option Item) → IsFrontHeld types query floor o (Some (item_of fill)) → IsFillAt types query floor fill
@@ -60,7 +62,8 @@ own_is_at types n query floor fill hands sealed = by_item (item_at n.items (quer
         }
 
 -- what a log answers at its own version is exact in all that it begins
-answer_is_exact : (types : EdgeTypes) (log seen : List Entry) (query : Query) (given : Answer) (at : ℕ) → Begins log seen → AnswersAtVersion types log query given at
+answer_is_exact : (types : EdgeTypes) (log seen : List Entry) (query : Query) (given : Answer) (at : ℕ) → Begins log seen
+    → AnswersAtVersion types log query given at
     → IsExactAnswer types seen query given at
 answer_is_exact types log seen query given at begins answers =
     let version : at ≡ version_of (take (length log) seen) (query_key query) = answers.version_is ∙ ap (λ l. version_of l (query_key query)) begins in
@@ -79,13 +82,16 @@ same_name Master view = refl
 same_name Slave view = refl
 
 -- what a store read past the bound is exact in what its note has seen
-pub read_is_seen : (tells : Bool) (tables : Tables) (types : EdgeTypes) (query : Query) (store : Store) (read : ReadOut) → IsStoreOf tells tables store → read_note read ≡ note_of store
+pub read_is_seen : (tells : Bool) (tables : Tables) (types : EdgeTypes) (query : Query) (store : Store) (read : ReadOut) → IsStoreOf tells tables store
+    → read_note read ≡ note_of store
     → WhereTold tells (IsReadOutOf types (tables store.name).log query read) → AreAnswersSeen types query read
 read_is_seen tells tables types query store (out.Filled fill) is note reads = tt
 read_is_seen tells tables types query store (out.Past answer version total seen) is note reads = λ told.
-    let there : tells ≡ true = sym is.told_is ∙ (ap (λ (l : LogName). l.told) (sym (same_name store.role store.view)) ∙ (ap (λ (v : View). v.log.told) (sym note) ∙ told)) in
+    let there : tells ≡ true = sym is.told_is ∙ (ap (λ (l : LogName). l.told) (sym (same_name store.role store.view))
+    ∙ (ap (λ (v : View). v.log.told) (sym note) ∙ told)) in
     let begins = begins_seen store.role (tables store.name).log store.view (is.seen there) in
-    subst (λ v. IsExactAnswer types v.entries query answer version) (sym note) (answer_is_exact types (tables store.name).log (note_of store).entries query answer version begins (reads there).0)
+    subst (λ v. IsExactAnswer types v.entries query answer version) (sym note)
+    (answer_is_exact types (tables store.name).log (note_of store).entries query answer version begins (reads there).0)
 
 -- the log of the note is the one that the store's is
 pub read_log : (store : Store) (read : ReadOut) → read_note read ≡ note_of store → (read_note read).log ≡ store.view.log

@@ -21,7 +21,11 @@ trait Shared {
 impl Shared for Brand {
     ghost use Rattle.std.specs.Prelude.{false, []};
 
-    ghost log = { record { table = record { words = 0; slots = 0; views_name = 0; atom = 0; block = 0; offset = 0; slot_names = [] }; told = false; pins = [] } };
+    ghost log = { record {
+      table = record { words = 0; slots = 0; views_name = 0; atom = 0; block = 0; offset = 0; slot_names = [] };
+      told = false;
+      pins = [];
+    } };
 }
 
 /// What lies under the lock: the pen of a log that isn't told, so that it takes any entries.

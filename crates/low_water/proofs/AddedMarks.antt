@@ -92,7 +92,8 @@ near-inserted p bound (x ∷ xs) l all = elim (cases_lt p x) [
   | inl below ↦ rw (lt-ltb p x below) (All-cons (λ q. q ≤ bound) p (x ∷ xs) l all)
   | inr over ↦ elim (cases_eq p x) [
     | inl e ↦ rw (le-ltb p x over, eq-eqb p x e) all
-    | inr ne ↦ rw (le-ltb p x over, ne_eqb p x ne) (All-cons (λ q. q ≤ bound) x (inserted p xs) (All-head (λ q. q ≤ bound) x xs all) (near-inserted p bound xs l (All-tail (λ q. q ≤ bound) x xs all)))
+    | inr ne ↦ rw (le-ltb p x over, ne_eqb p x ne) (All-cons (λ q. q ≤ bound) x (inserted p xs) (All-head (λ q. q ≤ bound) x xs all)
+        (near-inserted p bound xs l (All-tail (λ q. q ≤ bound) x xs all)))
   ]
 ]
 
@@ -124,8 +125,10 @@ known_is m p known = rw (le-ltb m.low p known) refl
 pub far_is : (m : Marks) (p : ℕ) → m.low + 1024 < p → with_mark p m ≡ m
 far_is m p far = rw (lt-ltb m.low p (omega arith), lt-leb p (m.low + 1024) far) refl
 
-near_adds : (m : Marks) (p q : ℕ) → p ≤ m.low + 1024 → is_marked (marks_from m.low (inserted p m.ahead)) q ≡ (is_marked m q || ((q == p) && nat_le p (m.low + 1024)))
-near_adds m p q near = rw (is_marked-raised q m.low (inserted p m.ahead), any-inserted q p m.ahead, le-leb p (m.low + 1024) near) (last (nat_le q m.low) (q == p) (any q m.ahead))
+near_adds : (m : Marks) (p q : ℕ) → p ≤ m.low + 1024
+    → is_marked (marks_from m.low (inserted p m.ahead)) q ≡ (is_marked m q || ((q == p) && nat_le p (m.low + 1024)))
+near_adds m p q near = rw (is_marked-raised q m.low (inserted p m.ahead), any-inserted q p m.ahead, le-leb p (m.low + 1024) near)
+    (last (nat_le q m.low) (q == p) (any q m.ahead))
   where
     last : (a b c : Bool) → (a || (b || c)) ≡ ((a || c) || (b && true))
     last true b c = refl
@@ -199,7 +202,8 @@ fold_max-is a (x ∷ xs) =
     elim (or_cases (nat_le t (max a x)) (any t xs) (fold_max-is (max a x) xs)) [
       | inr in_rest ↦ or_right (nat_le t a) ((t == x) || any t xs) (or_right (t == x) (any t xs) in_rest)
       | inl low ↦ elim (cases_lt a x) [
-        | inl up ↦ or_right (nat_le t a) ((t == x) || any t xs) (or_left (t == x) (any t xs) (eq-eqb t x (omega (arith, leb-true t (max a x) low, le-fold_max (max a x) xs))))
+        | inl up ↦ or_right (nat_le t a) ((t == x) || any t xs)
+            (or_left (t == x) (any t xs) (eq-eqb t x (omega (arith, leb-true t (max a x) low, le-fold_max (max a x) xs))))
         | inr down ↦ or_left (nat_le t a) ((t == x) || any t xs) (le-leb t a (omega (arith, leb-true t (max a x) low)))
       ]
     ]

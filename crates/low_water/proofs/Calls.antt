@@ -24,17 +24,20 @@ low_of_marked false false = refl
 marked_after : (first : ℕ) (calls : List MarkCall) (q : ℕ) → is_marked (marks_after first calls) q ≡ was_marked first calls q
 marked_after first [] q = sym (or_false (nat_le q first))
 marked_after first (Mark p ∷ earlier) q = rw (← marked_after first earlier q) ((mark_adds (marks_after first earlier) p).marked q)
-marked_after first (ForgetAhead ∷ earlier) q = rw (← marked_after first earlier q) (low_of_marked (nat_le q (low_after first earlier)) (any q (marks_after first earlier).ahead))
+marked_after first (ForgetAhead ∷ earlier) q = rw (← marked_after first earlier q)
+    (low_of_marked (nat_le q (low_after first earlier)) (any q (marks_after first earlier).ahead))
 
 pub low_greatest : (first : ℕ) (calls : List MarkCall) → LowIsGreatest first calls
 low_greatest first calls =
     let above = above_first first calls in
     record {
       above = above;
-      all = λ q l h. sym (marked_after first calls q) ∙ or_left (nat_le q (low_after first calls)) (any q (marks_after first calls).ahead) (le-leb q (low_after first calls) h);
+      all = λ q l h. sym (marked_after first calls q) ∙ or_left (nat_le q (low_after first calls)) (any q (marks_after first calls).ahead)
+          (le-leb q (low_after first calls) h);
       greatest = λ n all. elim (cases_lt (low_after first calls) n) [
         | inr below ↦ below
-        | inl over ↦ absurd (both_ways _ (window_greatest (marks_after first calls) (window_after first calls)) (marked_after first calls (low_after first calls + 1) ∙ all (low_after first calls + 1) (omega arith) (omega arith)))
+        | inl over ↦ absurd (both_ways _ (window_greatest (marks_after first calls) (window_after first calls))
+            (marked_after first calls (low_after first calls + 1) ∙ all (low_after first calls + 1) (omega arith) (omega arith)))
       ];
       marked = marked_after first calls;
       later = λ call. later_than call;

@@ -73,10 +73,12 @@ inserted_known : (p : ℕ) (xs : List ℕ) → inserted p (p ∷ xs) ≡ p ∷ x
 inserted_known p xs = rw (le-ltb p p (omega arith), eq-eqb p p refl) refl
 
 -- the first position is the one put in
-here : (f g : ℕ → Bool) (from p : ℕ) (xs ys : List ℕ) → from ≡ p → g p ≡ true → IsRising (from ∷ xs) → xs ≡ ys → inserted p (cond (f from) (from ∷ xs) xs) ≡ cond (g from) (from ∷ ys) ys
+here : (f g : ℕ → Bool) (from p : ℕ) (xs ys : List ℕ) → from ≡ p → g p ≡ true → IsRising (from ∷ xs) → xs ≡ ys
+    → inserted p (cond (f from) (from ∷ xs) xs) ≡ cond (g from) (from ∷ ys) ys
 here f g from p xs ys e on rising rest =
     let on_from : g from ≡ true = ap g e ∙ on in
-    let last : inserted from (cond (f from) (from ∷ xs) xs) ≡ from ∷ xs = elim (cases_Bool (f from)) [ inl t ↦ rw t (inserted_known from xs) | inr t ↦ rw t (inserted_front from xs rising) ] in
+    let last : inserted from (cond (f from) (from ∷ xs) xs) ≡ from ∷ xs =
+    elim (cases_Bool (f from)) [ inl t ↦ rw t (inserted_known from xs) | inr t ↦ rw t (inserted_front from xs rising) ] in
     ap (λ k. inserted k (cond (f from) (from ∷ xs) xs)) (sym e) ∙ last ∙ ap (λ l. from ∷ l) rest ∙ sym (cond-true (g from) (from ∷ ys) ys on_from)
 
 -- a test that one more position passes
@@ -86,7 +88,8 @@ unfolding positions
 filter-inserted f g p from zero l h on same = absurd (omega arith)
 filter-inserted f g p from (suc n) l h on same = elim (cases_eq from p) [
   | inl e ↦
-      let rest : filter f (positions (from + 1) n) ≡ filter g (positions (from + 1) n) = longer f g (from + 1) n n (omega arith) (λ q a b. same q (omega arith) (omega arith) (λ is. omega arith)) (λ q a b. absurd (omega arith)) in
+      let rest : filter f (positions (from + 1) n) ≡ filter g (positions (from + 1) n) =
+      longer f g (from + 1) n n (omega arith) (λ q a b. same q (omega arith) (omega arith) (λ is. omega arith)) (λ q a b. absurd (omega arith)) in
       let rising = rising-filter f from (from + 1) n (omega arith) in
       here f g from p (filter f (positions (from + 1) n)) (filter g (positions (from + 1) n)) e on rising rest
   | inr ne ↦
@@ -115,13 +118,15 @@ filter-raised f g low at zero w from to fits gone rest fresh next =
     rw (none_of g (at + 1) w (λ q l h. fresh q (omega arith) (omega arith)), here) refl
 filter-raised f g low at (suc n) w from to fits gone rest fresh next = elim (cases_lt low at) [
   | inl below ↦
-      let more = filter-raised f g (low + 1) at n w (omega arith) (omega arith) (omega arith) (λ q l h. gone q (omega arith) h) (λ q l h. rest q l (omega arith)) (λ q l h. fresh q (omega arith) h) next in
+      let more = filter-raised f g (low + 1) at n w (omega arith) (omega arith) (omega arith) (λ q l h. gone q (omega arith) h)
+      (λ q l h. rest q l (omega arith)) (λ q l h. fresh q (omega arith) h) next in
       rw (gone (low + 1) (omega arith) (omega arith)) (raised_over low (filter f (positions (low + 1 + 1) n)) ∙ more)
   | inr above ↦
       let here : low ≡ at = omega arith in
       let off : f (low + 1) ≡ false = sym (rest (low + 1) (omega arith) (omega arith)) ∙ ap (λ k. g (k + 1)) here ∙ next in
       raised_stays low (filter f (positions (low + 1) (suc n))) (rising_past f (low + 1) (suc n) off)
-      ∙ ap (λ xs. marks low xs) (longer f g (low + 1) (suc n) w (omega arith) (λ q l h. rest q (omega arith) (omega arith)) (λ q l h. fresh q (omega arith) (omega arith)))
+      ∙ ap (λ xs. marks low xs) (longer f g (low + 1) (suc n) w (omega arith) (λ q l h. rest q (omega arith) (omega arith))
+      (λ q l h. fresh q (omega arith) (omega arith)))
       ∙ ap (λ k. marks k (filter g (positions (k + 1) w))) here
 ]
 
@@ -136,5 +141,6 @@ fold_max-filter f a top from (suc n) low fits before on off = elim (cases_Bool (
       rw t (fold_max-filter f (max a from) top (from + 1) n (omega arith) (omega arith) (λ l. omega arith) (λ l. on within) (λ q l h. off q l (omega arith)))
   | inr t ↦
       let apart : top ≢ from = (λ e. both_ways _ t (sym (ap f e) ∙ on (omega arith))) in
-      rw t (fold_max-filter f a top (from + 1) n low (omega arith) (λ l. before (omega (arith, apart))) (λ l. on (omega arith)) (λ q l h. off q l (omega arith)))
+      rw t (fold_max-filter f a top (from + 1) n low (omega arith) (λ l. before (omega (arith, apart))) (λ l. on (omega arith))
+      (λ q l h. off q l (omega arith)))
 ]

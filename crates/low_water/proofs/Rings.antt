@@ -51,7 +51,8 @@ pub ring_top : (ring : List Bool) (low top : ℕ) → low ≤ top → top ≤ lo
     → top ≡ top_of (marks low (ahead_of ring low))
 unfolding ahead_of
 ring_top ring low top low_top near top_set above =
-    sym (fold_max-filter (bit ring) low top (low + 1) 1024 low_top (omega arith) (λ l. omega arith) (λ l. top_set (omega arith)) (λ q l h. above q l (omega arith)))
+    sym (fold_max-filter (bit ring) low top (low + 1) 1024 low_top (omega arith) (λ l. omega arith) (λ l. top_set (omega arith))
+    (λ q l h. above q l (omega arith)))
 
 -- a bit of the window that is set is a position put in
 ahead_of_put : (ring with : List Bool) (low p : ℕ) → PutsBit ring with p true → low < p → p ≤ low + 1024 → inserted p (ahead_of ring low) ≡ ahead_of with low
@@ -61,12 +62,15 @@ ahead_of_put ring with low p puts over near =
     (λ q l h ne. others_stay ring with p q true puts (λ e. ne (sym e)) (omega arith) (omega arith))
 
 -- the bits that were cleared raise the low-water mark
-ahead_of_absorbed : (old new : List Bool) (low top at : ℕ) → top ≤ low + 1024 → Absorbs old new low top at → marks_from low (ahead_of old low) ≡ marks at (ahead_of new at)
+ahead_of_absorbed : (old new : List Bool) (low top at : ℕ) → top ≤ low + 1024 → Absorbs old new low top at
+    → marks_from low (ahead_of old low) ≡ marks at (ahead_of new at)
 unfolding ahead_of
 ahead_of_absorbed old new low top at near absorbs =
-    filter-raised (bit old) (bit new) low at 1024 1024 absorbs.from (omega (arith, absorbs.to)) (omega (arith, absorbs.from)) absorbs.gone absorbs.rest absorbs.fresh absorbs.next
+    filter-raised (bit old) (bit new) low at 1024 1024 absorbs.from (omega (arith, absorbs.to))
+    (omega (arith, absorbs.from)) absorbs.gone absorbs.rest absorbs.fresh absorbs.next
 
-module _ (ring with new : List Bool) (low top at p : ℕ) (over : low < p) (near : p ≤ low + 1024) (low_top : low ≤ top) (top_near : top ≤ low + 1024) (puts : PutsBit ring with p true) (absorbs : Absorbs with new low (max top p) at) where
+module _ (ring with new : List Bool) (low top at p : ℕ) (over : low < p) (near : p ≤ low + 1024) (low_top : low ≤ top) (top_near : top ≤ low + 1024)
+    (puts : PutsBit ring with p true) (absorbs : Absorbs with new low (max top p) at) where
   pub ring_mark : marks at (ahead_of new at) ≡ with_mark p (marks low (ahead_of ring low))
   ring_mark =
       sym (near_is (marks low (ahead_of ring low)) p over near ∙ ap (marks_from low) (ahead_of_put ring with low p puts over near)
@@ -85,5 +89,6 @@ module _ (ring with new : List Bool) (low top at p : ℕ) (over : low < p) (near
   pub above_after : IsClearAbove ring low top → IsClearAbove new at (max top p)
   above_after was_clear q l h = elim (cases_lt (low + 1024) q) [
     | inl past ↦ absorbs.fresh q past h
-    | inr close ↦ absorbs.rest q (omega (arith, absorbs.to)) close ∙ others_stay ring with p q true puts (λ is. omega arith) (omega arith) (omega arith) ∙ was_clear q (omega arith) close
+    | inr close ↦ absorbs.rest q (omega (arith, absorbs.to)) close ∙ others_stay ring with p q true puts (λ is. omega arith) (omega arith) (omega arith)
+        ∙ was_clear q (omega arith) close
   ]

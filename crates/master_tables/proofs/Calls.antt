@@ -30,7 +30,8 @@ eq_apart p q h = grind (arith, nat_tests)
 -- one table changes
 module _ (m : Masters) (old new : Tables) where
   log_at : (tables : Tables) (shard : ℕ) → shard < m.shards → log_of (stores_of m tables).logs shard ≡ (tables (m.name shard)).log
-  log_at tables shard lt = each_at (λ s. (tables (m.name s)).log) 0 m.shards shard lt ∙ ap (λ s. (tables (m.name s)).log) (let e : 0 + shard ≡ shard = omega arith in e)
+  log_at tables shard lt = each_at (λ s. (tables (m.name s)).log) 0 m.shards shard lt
+      ∙ ap (λ s. (tables (m.name s)).log) (let e : 0 + shard ≡ shard = omega arith in e)
 
   job_at : (tables : Tables) (shard position : ℕ) → shard < m.shards → (stores_of m tables).job shard position ≡ (tables (m.name shard)).jobs position
   job_at tables shard position lt = ap (λ b. if b then (tables (m.name shard)).jobs position else None) (lt_test shard m.shards lt)
@@ -45,7 +46,8 @@ module _ (m : Masters) (old new : Tables) where
   jobs_stay same shard position = ap (λ o. if nat_lt shard m.shards then o else None) (ap (λ jobs. jobs position) (same shard))
 
   -- the master of a shard, or of another one
-  field_is : {X : Type 0} (f : Table → X) (shard : ℕ) (table : Table) → Becomes old new (m.name shard) table → f table ≡ f (old (m.name shard)) → (s : ℕ) → f (new (m.name s)) ≡ f (old (m.name s))
+  field_is : {X : Type 0} (f : Table → X) (shard : ℕ) (table : Table) → Becomes old new (m.name shard) table → f table ≡ f (old (m.name shard)) → (s : ℕ)
+      → f (new (m.name s)) ≡ f (old (m.name s))
   field_is f shard table b same s = elim (cases_eq s shard) [
     | inl is ↦ subst (λ i. f (new (m.name i)) ≡ f (old (m.name i))) (sym is) (ap f b.here ∙ same)
     | inr apart ↦ ap f (b.others (m.name s) (other_master s shard apart))
@@ -56,13 +58,16 @@ module _ (m : Masters) (old new : Tables) where
   gains shard table e lt b longer =
       let at : 0 + shard ≡ shard = omega arith in (
         subst (λ n. shard < n) (sym (each_length (λ s. (old (m.name s)).log) 0 m.shards)) lt,
-        each_set (λ s. (old (m.name s)).log) (λ s. (new (m.name s)).log) 0 m.shards shard lt (λ i ne. ap (λ t. t.log) (b.others (m.name i) (other_master i shard (λ e. ne (e ∙ sym at)))))
-            ∙ ap (slice_set (stores_of m old).logs shard) (ap (λ s. (new (m.name s)).log) at ∙ ap (λ t. t.log) b.here ∙ longer ∙ ap (λ l. l ++ e ∷ []) (sym (log_at old shard lt))),
+        each_set (λ s. (old (m.name s)).log) (λ s. (new (m.name s)).log) 0 m.shards shard lt
+            (λ i ne. ap (λ t. t.log) (b.others (m.name i) (other_master i shard (λ e. ne (e ∙ sym at)))))
+            ∙ ap (slice_set (stores_of m old).logs shard) (ap (λ s. (new (m.name s)).log) at ∙ ap (λ t. t.log) b.here ∙ longer
+            ∙ ap (λ l. l ++ e ∷ []) (sym (log_at old shard lt))),
       )
 
   -- the job of one position changes
   job_becomes : (shard position : ℕ) (table : Table) (given : Option (List EdgeUpdate)) → shard < m.shards → Becomes old new (m.name shard) table
-      → table.jobs position ≡ given → ((p : ℕ) → p ≢ position → table.jobs p ≡ (old (m.name shard)).jobs p) → JobBecomes (stores_of m old) (stores_of m new) shard position given
+      → table.jobs position ≡ given → ((p : ℕ) → p ≢ position → table.jobs p ≡ (old (m.name shard)).jobs p)
+      → JobBecomes (stores_of m old) (stores_of m new) shard position given
   job_becomes shard position table given lt b here others = record {
     here = job_at new shard position lt ∙ ap (λ t. t.jobs position) b.here ∙ here;
     others = λ s p apart. elim (cases_eq s shard) [
@@ -73,11 +78,13 @@ module _ (m : Masters) (old new : Tables) where
     ];
   }
 
-  opened_here : (jobs : ℕ → Option (List EdgeUpdate)) (position : ℕ) (us : List EdgeUpdate) → jobs position ≡ None → with_new_job jobs (job_from position us) position ≡ opened_job us
+  opened_here : (jobs : ℕ → Option (List EdgeUpdate)) (position : ℕ) (us : List EdgeUpdate) → jobs position ≡ None
+      → with_new_job jobs (job_from position us) position ≡ opened_job us
   opened_here jobs position [] none = none
   opened_here jobs position (u ∷ us) none = ap (λ b. if b then Some (u ∷ us) else jobs position) (eq_self position)
 
-  opened_others : (jobs : ℕ → Option (List EdgeUpdate)) (position : ℕ) (us : List EdgeUpdate) (p : ℕ) → p ≢ position → with_new_job jobs (job_from position us) p ≡ jobs p
+  opened_others : (jobs : ℕ → Option (List EdgeUpdate)) (position : ℕ) (us : List EdgeUpdate) (p : ℕ) → p ≢ position
+      → with_new_job jobs (job_from position us) p ≡ jobs p
   opened_others jobs position [] p apart = refl
   opened_others jobs position (u ∷ us) p apart = ap (λ b. if b then Some (u ∷ us) else jobs p) (eq_apart p position apart)
 
@@ -113,7 +120,10 @@ module _ (m : Masters) (old new : Tables) where
       → Stays old new → MergesJob types (stores_of m old) (stores_of m new) owed
   step_merges_none types owed lt owes is stays = record {
     owes = owes;
-    merges = inl (ap (λ l. merge_of l owed.shard owed.entry.position (job_of types owed.entry)) (log_at old owed.other lt) ∙ is, logs_stay (λ s. ap (λ t. t.log) (stays (m.name s))));
+    merges = inl (
+      ap (λ l. merge_of l owed.shard owed.entry.position (job_of types owed.entry)) (log_at old owed.other lt) ∙ is,
+      logs_stay (λ s. ap (λ t. t.log) (stays (m.name s))),
+    );
     jobs = jobs_stay (λ s. ap (λ t. t.jobs) (stays (m.name s)));
   }
 

@@ -17,7 +17,8 @@ pub each_same : (f g : ℕ → List Entry) (from n : ℕ) → ((i : ℕ) → fro
 each_same f g from zero same = refl
 each_same f g from (suc n) same = λ k. same from (omega arith) k ∷ each_same f g (from + 1) n (λ i le. same i (omega (arith, le))) k
 
-pub each_set : (f g : ℕ → List Entry) (from n s : ℕ) → s < n → ((i : ℕ) → i ≢ from + s → g i ≡ f i) → each_shard g from n ≡ slice_set (each_shard f from n) s (g (from + s))
+pub each_set : (f g : ℕ → List Entry) (from n s : ℕ) → s < n → ((i : ℕ) → i ≢ from + s → g i ≡ f i)
+    → each_shard g from n ≡ slice_set (each_shard f from n) s (g (from + s))
 each_set f g from zero s lt same = absurd (omega (arith, lt))
 each_set f g from (suc n) zero lt same =
     let here : from ≡ from + 0 = omega arith in

@@ -140,14 +140,16 @@ reads_end query region tier floor critical follower = record {
       let p = new_reading query region tier floor critical follower in
       record {
         few = few_left p q stages goes;
-        hops = hops_run p q stages goes (omega arith) ∙ (let zero_first : 0 + hops_of stages ≡ hops_of stages = omega arith in ap (λ n. min n most_hops) zero_first);
+        hops = hops_run p q stages goes (omega arith) ∙ (let zero_first : 0 + hops_of stages ≡ hops_of stages = omega arith in
+            ap (λ n. min n most_hops) zero_first);
         store = store_adds p q stages goes;
         unasked = λ is. asks_none p q stages goes is tt;
       };
 }
 
 -- what ends a read with an answer
-comes_from : (critical : Bool) (bound : ℕ) (at : Standing) (outcome : ReadResult) (answer : Answer) (version : ℕ) (kept : KeptOrNot) → came_of outcome ≡ stage_of at
+comes_from : (critical : Bool) (bound : ℕ) (at : Standing) (outcome : ReadResult) (answer : Answer) (version : ℕ) (kept : KeptOrNot)
+    → came_of outcome ≡ stage_of at
     → IsAnsweredFrom at outcome → standing_after critical bound at outcome ≡ Ended (Answered answer version kept) → ComesFrom at outcome answer version
 comes_from true bound at (came.Look (Ok (Hit found v))) answer version why is answered ends = absurd (cc)
 comes_from true bound at (came.Look (Ok Miss)) answer version why is answered ends = absurd (cc)

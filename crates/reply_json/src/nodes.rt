@@ -1,6 +1,7 @@
 //! The replies about nodes: caches, stores and the links between them.
 ghost use Rattle.std.specs.Prelude.{◌≡◌, option_map};
-ghost use Rattle.reply_json.specs.Nodes.{cache_data, delivered_data, had, is_kept, item_data, needs, node_data, not_kept_why, refilled_data, repaired_data, shown_data, streamed_data};
+ghost use Rattle.reply_json.specs.Nodes.{cache_data, delivered_data, had, is_kept, item_data, needs, node_data, not_kept_why, refilled_data};
+ghost use Rattle.reply_json.specs.Nodes.{repaired_data, shown_data, streamed_data};
 ghost use Rattle.reply_json.specs.Said.{said_value};
 ghost use Rattle.reply_json.specs.Writing.{Puts};
 

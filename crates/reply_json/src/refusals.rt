@@ -1,6 +1,7 @@
 //! Refusals: each is told by its name, and by what it is about.
 ghost use Rattle.std.specs.Prelude.{◌≡◌};
-ghost use Rattle.reply_json.specs.Refusals.{about_name, about_number, is_master, line_refused, link_fault, name_refused, no_such_entry, node_down, node_refused, number_about, plan_refused, refusal_data, session_refused, store_refused, when_position};
+ghost use Rattle.reply_json.specs.Refusals.{about_name, about_number, is_master, line_refused, link_fault, name_refused, no_such_entry, node_down};
+ghost use Rattle.reply_json.specs.Refusals.{node_refused, number_about, plan_refused, refusal_data, session_refused, store_refused, when_position};
 ghost use Rattle.reply_json.specs.Writing.{Puts};
 
 use crate::said::Said;

@@ -49,7 +49,8 @@ andthen P Q (Ok a) next here there = there a here
 andthen P Q (Err refused) next here there = tt
 
 -- what holds of the next step alone
-pub whatever : {A B : Type 0} (Q : B → Type 0) (found : Result A NameRefused) (next : A → Result B NameRefused) → ((a : A) → IfOk (next a) Q) → IfOk (found >>= next) Q
+pub whatever : {A B : Type 0} (Q : B → Type 0) (found : Result A NameRefused) (next : A → Result B NameRefused) → ((a : A) → IfOk (next a) Q)
+    → IfOk (found >>= next) Q
 whatever Q (Ok a) next there = there a
 whatever Q (Err refused) next there = tt
 
@@ -98,7 +99,8 @@ module _ (s : Settings) where
 
   write_placed : (text : WriteText) → IfOk (checked_write s text) (IsPlacedWrite s)
   write_placed (ObjAdd shard name payload) =
-      whatever _ (otype_named s name) _ (λ t. andthen _ _ (configured_shard s shard) _ (shard_placed shard) (λ u here. record { configured = here; changes = tt }))
+      whatever _ (otype_named s name) _ (λ t. andthen _ _ (configured_shard s shard) _ (shard_placed shard)
+      (λ u here. record { configured = here; changes = tt }))
   write_placed (ObjUpdate id payload) = andthen _ _ (configured_id s id) _ (id_placed id) (λ u here. record { configured = here; changes = tt })
   write_placed (ObjDelete id) = andthen _ _ (configured_id s id) _ (id_placed id) (λ u here. record { configured = here; changes = tt })
   write_placed (AssocAdd edge time payload) = andthen _ _ (edge_type s edge) _ (edge_placed edge) (λ t here. record { configured = here; changes = tt })
@@ -106,11 +108,13 @@ module _ (s : Settings) where
   write_placed (AssocChangeType edge name) =
       whatever _ (atype_named s edge.list.atype) _ (λ t. whatever _ (atype_named s name) _ (λ n. andthen _ _ (configured_ends s edge) _ (ends_placed edge)
       (λ u here. andthen _ _ (refused_unless (SameType name) (not (has_type (types_of s.schema) edge t n))) _
-      (passes (SameType name) (not (has_type (types_of s.schema) edge t n)) (changes (types_of s.schema) edge t n)) (λ v other. record { configured = here; changes = other }))))
+      (passes (SameType name) (not (has_type (types_of s.schema) edge t n)) (changes (types_of s.schema) edge t n))
+      (λ v other. record { configured = here; changes = other }))))
 
   query_placed : (text : QueryText) → IfOk (checked_query s text) (λ q. IsPlacedKey s (query_key q))
   query_placed (ObjGet id) = andthen _ _ (configured_id s id) _ (id_placed id) (λ u here. here)
-  query_placed (AssocGet list ids high low) = andthen _ _ (list_type s list) _ (list_placed list) (λ t here. andthen _ _ (bounded_ids s t ids) _ (always (bounded_ids s t ids) here) (λ u there. there))
+  query_placed (AssocGet list ids high low) = andthen _ _ (list_type s list) _ (list_placed list)
+      (λ t here. andthen _ _ (bounded_ids s t ids) _ (always (bounded_ids s t ids) here) (λ u there. there))
   query_placed (AssocCount list) = andthen _ _ (list_type s list) _ (list_placed list) (λ t here. here)
   query_placed (AssocRange list pos limit) = andthen _ _ (list_type s list) _ (list_placed list) (λ t here. here)
   query_placed (AssocTimeRange list high low limit) = andthen _ _ (list_type s list) _ (list_placed list) (λ t here. here)

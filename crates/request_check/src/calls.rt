@@ -5,7 +5,10 @@ ghost use Rattle.outcomes.specs.Results.{Gives};
 ghost use Rattle.request_check.specs.Refusal.{name_unless_memory};
 ghost use Rattle.request_check.specs.Names.{settings};
 ghost use Rattle.tao_schema.specs.Schema.{types_of};
-ghost use Rattle.request_check.specs.Calls.{configured_ends, list_type, edge_type, checked_obj_add, checked_obj_update, checked_obj_delete, checked_assoc_add, checked_assoc_delete, has_type, is_type, checked_assoc_change_type, checked_write, bounded_ids, checked_obj_get, checked_assoc_get, checked_assoc_count, checked_assoc_range, checked_assoc_time_range, checked_query};
+ghost use Rattle.request_check.specs.Calls.{configured_ends, list_type, edge_type, checked_obj_add, checked_obj_update, checked_obj_delete};
+ghost use Rattle.request_check.specs.Calls.{checked_assoc_add, checked_assoc_delete, has_type, is_type, checked_assoc_change_type, checked_write};
+ghost use Rattle.request_check.specs.Calls.{bounded_ids, checked_obj_get, checked_assoc_get, checked_assoc_count, checked_assoc_range};
+ghost use Rattle.request_check.specs.Calls.{checked_assoc_time_range, checked_query};
 
 use crate::names::Names;
 use crate::refusal::NameError;

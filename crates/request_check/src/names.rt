@@ -28,7 +28,8 @@ pub(crate) struct Names<'c> {
 
 impl Names<'_> {
     ghost use Rattle.std.specs.Prelude.{◌≡◌, IfOk};
-    ghost use Rattle.request_check.specs.Names.{settings, region_named, tier_named, atype_named, otype_named, configured_shard, configured_id, tier_text, node_named};
+    ghost use Rattle.request_check.specs.Names.{settings, region_named, tier_named, atype_named, otype_named, configured_shard, configured_id};
+    ghost use Rattle.request_check.specs.Names.{tier_text, node_named};
 
     pub(crate) fn region(&self, name: &str) -> Result<u16, NameError>
         ensures { Gives name_unless_memory result (region_named (settings self.now) name.now) }

@@ -4,7 +4,8 @@ ghost use Rattle.request_check.specs.Names.{settings};
 ghost use Rattle.request_check.specs.Placed.{IsPlaced};
 ghost use Rattle.outcomes.specs.Results.{Gives};
 ghost use Rattle.request_check.specs.Refusal.{for_name, replied, reply_unless_memory, name_unless_memory};
-ghost use Rattle.request_check.specs.Requests.{checked_open, checked_write_call, checked_read_call, checked_call, checked_hold, checked_stream, checked_repair, checked_of};
+ghost use Rattle.request_check.specs.Requests.{checked_open, checked_write_call, checked_read_call, checked_call, checked_hold, checked_stream};
+ghost use Rattle.request_check.specs.Requests.{checked_repair, checked_of};
 
 use crate::calls::{checked_query, checked_write};
 use crate::checked::{Checked, CheckedCall, CheckedRead, CheckedWrite};

@@ -10,7 +10,8 @@ use Rattle.words.specs.declared.WriteWord.{WriteWord}
 use Rattle.words.specs.declared.WriteWord.TheVariants.{ObjAdd, ObjUpdate, ObjDelete, AssocAdd, AssocDelete, AssocChangeType}
 use Rattle.words.specs.declared.ReadWord.{ReadWord}
 use Rattle.words.specs.declared.ReadWord.TheVariants.{ObjGet, AssocGet, AssocCount, AssocRange, AssocTimeRange}
-use Rattle.request_json.specs.Fields.{number_field, maybe_number_field, id_field, ids_field, text_field, flag_field, only_fields, data_last, list_fields, edge_fields}
+use Rattle.request_json.specs.Fields.{number_field, maybe_number_field, id_field, ids_field, text_field, flag_field, only_fields, data_last}
+use Rattle.request_json.specs.Fields.{list_fields, edge_fields}
 use Rattle.outcomes.specs.Results.{◌>>=◌}
 
 -- a session has a number from 1, and so has each of its writes

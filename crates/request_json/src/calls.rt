@@ -2,7 +2,9 @@
 ghost use Rattle.outcomes.specs.Results.{Gives};
 ghost use Rattle.request_json.specs.Refusal.{unless_memory};
 ghost use Rattle.request_json.specs.Fields.{said};
-ghost use Rattle.request_json.specs.Calls.{session_field, seq_field, limit_field, write_of, obj_add_of, obj_update_of, obj_delete_of, assoc_add_of, assoc_delete_of, assoc_change_type_of, read_of, obj_get_of, assoc_get_of, assoc_count_of, assoc_range_of, assoc_time_range_of};
+ghost use Rattle.request_json.specs.Calls.{session_field, seq_field, limit_field, write_of, obj_add_of, obj_update_of, obj_delete_of, assoc_add_of};
+ghost use Rattle.request_json.specs.Calls.{assoc_delete_of, assoc_change_type_of, read_of, obj_get_of, assoc_get_of, assoc_count_of, assoc_range_of};
+ghost use Rattle.request_json.specs.Calls.{assoc_time_range_of};
 
 use crate::fields::Fields;
 use crate::refusal::LineRefusal;

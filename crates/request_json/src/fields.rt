@@ -28,7 +28,8 @@ pub(crate) struct Fields<'v> {
 }
 
 impl Fields<'_> {
-    ghost use Rattle.request_json.specs.Fields.{said, number_field, maybe_number_field, id_field, maybe_id_field, ids_field, data_last, text_field, maybe_text_field, flag_field, only_fields, list_fields, edge_fields};
+    ghost use Rattle.request_json.specs.Fields.{said, number_field, maybe_number_field, id_field, maybe_id_field, ids_field, data_last, text_field};
+    ghost use Rattle.request_json.specs.Fields.{maybe_text_field, flag_field, only_fields, list_fields, edge_fields};
 
     /// A whole number from `least` to `most`.
     pub(crate) fn number(&self, name: &str, least: u64, most: u64) -> Result<u64, LineRefusal>

@@ -32,32 +32,42 @@ use Rattle.sealed_item.specs.declared.content.Content.TheVariants.{Object as Obj
 
 -- first edges that decide a query answer as each list of which they are exact
 list_gives : (bound : ℕ) (query : Query) (log : List Entry) (id1 : Id) (atype : AType) (v : ℕ) (prefix : ListPrefix)
-    → IsExact log (Assocs id1 atype) v (λ part. IsPrefixOf prefix.edges prefix.total (edge_list part id1 atype)) → decides bound prefix.edges prefix.total query ≡ true
-    → IsExact log (Assocs id1 atype) v (λ part. list_answer bound prefix.edges prefix.total query ≡ list_answer bound (edge_list part id1 atype) (length (edge_list part id1 atype)) query)
+    → IsExact log (Assocs id1 atype) v (λ part. IsPrefixOf prefix.edges prefix.total (edge_list part id1 atype))
+    → decides bound prefix.edges prefix.total query ≡ true
+    → IsExact log (Assocs id1 atype) v (λ part. list_answer bound prefix.edges prefix.total query ≡ list_answer bound (edge_list part id1 atype)
+    (length (edge_list part id1 atype)) query)
 list_gives bound query log id1 atype v prefix exact decided = record {
   reached = exact.reached;
-  gives = λ n e. decides_rightly bound prefix.edges prefix.total query decided (edge_list (take n log) id1 atype) (exact.gives n e) (in_order_list (changes_of (take n log) (Assocs id1 atype)));
+  gives = λ n e. decides_rightly bound prefix.edges prefix.total query decided (edge_list (take n log) id1 atype) (exact.gives n e)
+      (in_order_list (changes_of (take n log) (Assocs id1 atype)));
 }
 
 pub content_answers : (types : EdgeTypes) (log : List Entry) (query : Query) (v : ℕ) (content : Content) → IsExactContent log (query_key query) v content
     → content_decides types content query ≡ true → IsExactAnswer types log query (content_answer types content query) v
-content_answers types log (ObjGet id) v (ObjectIs found) exact decided = record { reached = exact.reached; gives = λ n e. ap ObjectAnswer (sym (exact.gives n e)) }
+content_answers types log (ObjGet id) v (ObjectIs found) exact decided =
+    record { reached = exact.reached; gives = λ n e. ap ObjectAnswer (sym (exact.gives n e)) }
 content_answers types log (ObjGet id) v (ListIs prefix) exact decided = absurd exact
 content_answers types log (AssocGet id1 atype ids high low) v (ObjectIs found) exact decided = absurd exact
-content_answers types log (AssocGet id1 atype ids high low) v (ListIs prefix) exact decided = list_gives (types.bound atype) (AssocGet id1 atype ids high low) log id1 atype v prefix exact decided
+content_answers types log (AssocGet id1 atype ids high low) v (ListIs prefix) exact decided =
+    list_gives (types.bound atype) (AssocGet id1 atype ids high low) log id1 atype v prefix exact decided
 content_answers types log (AssocCount id1 atype) v (ObjectIs found) exact decided = absurd exact
-content_answers types log (AssocCount id1 atype) v (ListIs prefix) exact decided = list_gives (types.bound atype) (AssocCount id1 atype) log id1 atype v prefix exact decided
+content_answers types log (AssocCount id1 atype) v (ListIs prefix) exact decided =
+    list_gives (types.bound atype) (AssocCount id1 atype) log id1 atype v prefix exact decided
 content_answers types log (AssocRange id1 atype pos limit) v (ObjectIs found) exact decided = absurd exact
-content_answers types log (AssocRange id1 atype pos limit) v (ListIs prefix) exact decided = list_gives (types.bound atype) (AssocRange id1 atype pos limit) log id1 atype v prefix exact decided
+content_answers types log (AssocRange id1 atype pos limit) v (ListIs prefix) exact decided =
+    list_gives (types.bound atype) (AssocRange id1 atype pos limit) log id1 atype v prefix exact decided
 content_answers types log (AssocTimeRange id1 atype high low limit) v (ObjectIs found) exact decided = absurd exact
-content_answers types log (AssocTimeRange id1 atype high low limit) v (ListIs prefix) exact decided = list_gives (types.bound atype) (AssocTimeRange id1 atype high low limit) log id1 atype v prefix exact decided
+content_answers types log (AssocTimeRange id1 atype high low limit) v (ListIs prefix) exact decided =
+    list_gives (types.bound atype) (AssocTimeRange id1 atype high low limit) log id1 atype v prefix exact decided
 
 pub contents_answer : ContentsAnswer
 contents_answer = record { answers = content_answers }
 
 -- a longer front of a list decides what a shorter one does
-longer_edges : (bound : ℕ) (query : Query) (whole : List Edge) (short long : ListPrefix) → CanBegin whole (length whole) → IsPrefixOf short.edges short.total whole
-    → IsPrefixOf long.edges long.total whole → length short.edges ≤ length long.edges → decides bound short.edges short.total query ≡ true → decides bound long.edges long.total query ≡ true
+longer_edges : (bound : ℕ) (query : Query) (whole : List Edge) (short long : ListPrefix) → CanBegin whole (length whole)
+    → IsPrefixOf short.edges short.total whole
+    → IsPrefixOf long.edges long.total whole → length short.edges ≤ length long.edges → decides bound short.edges short.total query ≡ true
+    → decides bound long.edges long.total query ≡ true
 longer_edges bound query whole short long begins a b lt h =
     let shorter : decides bound (take (length short.edges) whole) (length whole) query ≡ true =
     subst (λ es. decides bound es (length whole) query ≡ true) a.begins (subst (λ n. decides bound short.edges n query ≡ true) a.length_is h) in
@@ -74,13 +84,15 @@ longer_lists bound query log id1 atype v short long a b lt h =
     longer_edges bound query whole short long (record { in_order = in_order_list (changes_of (take at.0 log) (Assocs id1 atype)); within = omega arith })
     (a.gives at.0 at.2) (b.gives at.0 at.2) lt h
 
-longer_by_key : (types : EdgeTypes) (log : List Entry) (query : Query) (key : Key) (v : ℕ) (short long : Content) → IsExactContent log key v short → IsExactContent log key v long
+longer_by_key : (types : EdgeTypes) (log : List Entry) (query : Query) (key : Key) (v : ℕ) (short long : Content) → IsExactContent log key v short
+    → IsExactContent log key v long
     → is_longer_content long short ≡ true → content_decides types short query ≡ true → content_decides types long query ≡ true
 longer_by_key types log query key v short (ObjectIs found) a b longer h = absurd (cc)
 longer_by_key types log query key v (ObjectIs found) (ListIs long) a b longer h = absurd (cc)
 longer_by_key types log query (Obj id) v (ListIs short) (ListIs long) a b longer h = absurd a
 longer_by_key types log query (Assocs id1 atype) v (ListIs short) (ListIs long) a b longer h =
-    longer_lists (query_bound types query) query log id1 atype v short long a b (let lt = ltb-true (length short.edges) (length long.edges) longer in omega arith) h
+    longer_lists (query_bound types query) query log id1 atype v short long a b
+    (let lt = ltb-true (length short.edges) (length long.edges) longer in omega arith) h
 
 pub longer_contents_answer : LongerContentsAnswer
 longer_contents_answer = record {
@@ -92,7 +104,8 @@ longer_contents_answer = record {
       of_one.gives n.0 n.2 ∙ sym (of_other.gives n.0 n.2);
 }
 
-front_exact : (types : EdgeTypes) (query : Query) (content front : Content) (log : List Entry) (key : Key) (v : ℕ) → IsContentFront types content query (Some front)
+front_exact : (types : EdgeTypes) (query : Query) (content front : Content) (log : List Entry) (key : Key) (v : ℕ)
+    → IsContentFront types content query (Some front)
     → IsExactContent log key v content → IsExactContent log key v front
 front_exact types query (ObjectIs found) (ObjectIs front) log (Obj id) v is exact = subst (λ o. IsExactContent log (Obj id) v (ObjectIs o)) (sym is.1) exact
 front_exact types query (ObjectIs found) (ObjectIs front) log (Assocs id1 atype) v is exact = absurd exact
@@ -102,14 +115,17 @@ front_exact types query (ListIs prefix) (ListIs front) log (Obj id) v is exact =
 front_exact types query (ListIs prefix) (ListIs front) log (Assocs id1 atype) v is exact =
     subst (λ p. IsExactContent log (Assocs id1 atype) v (ListIs p)) (sym is.is) (front_is_exact log id1 atype v is.count prefix.edges prefix.total exact)
 
-front_decides : (types : EdgeTypes) (query : Query) (content front : Content) → IsContentFront types content query (Some front) → content_decides types front query ≡ true
+front_decides : (types : EdgeTypes) (query : Query) (content front : Content) → IsContentFront types content query (Some front)
+    → content_decides types front query ≡ true
 front_decides types query (ObjectIs found) (ObjectIs front) is = is.0
 front_decides types query (ObjectIs found) (ListIs front) is = absurd is
 front_decides types query (ListIs prefix) (ObjectIs front) is = absurd is
-front_decides types query (ListIs prefix) (ListIs front) is = subst (λ p. decides (query_bound types query) p.edges p.total query ≡ true) (sym is.is) is.shortest.decided
+front_decides types query (ListIs prefix) (ListIs front) is = subst (λ p. decides (query_bound types query) p.edges p.total query ≡ true)
+    (sym is.is) is.shortest.decided
 
 -- what a front of an exact content decides the whole content does
-whole_decides : (types : EdgeTypes) (query : Query) (content front : Content) (log : List Entry) (key : Key) (v : ℕ) → IsContentFront types content query (Some front)
+whole_decides : (types : EdgeTypes) (query : Query) (content front : Content) (log : List Entry) (key : Key) (v : ℕ)
+    → IsContentFront types content query (Some front)
     → IsExactContent log key v content → content_decides types content query ≡ true
 whole_decides types query (ObjectIs found) (ObjectIs front) log key v is exact = is.0
 whole_decides types query (ObjectIs found) (ListIs front) log key v is exact = absurd is
@@ -119,7 +135,8 @@ whole_decides types query (ListIs prefix) (ListIs front) log (Assocs id1 atype) 
     let cut = front_exact types query (ListIs prefix) (ListIs front) log (Assocs id1 atype) v is exact in
     let same = ap (λ (f : ListPrefix). length f.edges) is.is in
     let fewer = length-take is.count prefix.edges in
-    longer_lists (query_bound types query) query log id1 atype v front prefix cut exact (omega arith) (front_decides types query (ListIs prefix) (ListIs front) is)
+    longer_lists (query_bound types query) query log id1 atype v front prefix cut exact (omega arith)
+    (front_decides types query (ListIs prefix) (ListIs front) is)
 
 front_few : (bound : ℕ) (query : Query) (p front : ListPrefix) → IsShortestFront p query bound front → length front.edges ≤ bound
 front_few bound query p front is =
@@ -135,15 +152,18 @@ front_within types query id1 atype (ObjectIs found) (ListIs front) same is = abs
 front_within types query id1 atype (ListIs prefix) (ObjectIs front) same is = tt
 front_within types query id1 atype (ListIs prefix) (ListIs front) same is = let few = front_few (query_bound types query) query prefix front is in omega arith
 
-within_bound : (types : EdgeTypes) (query : Query) (content front : Content) → IsContentFront types content query (Some front) → IsWithinBound types (query_key query) front
+within_bound : (types : EdgeTypes) (query : Query) (content front : Content) → IsContentFront types content query (Some front)
+    → IsWithinBound types (query_key query) front
 within_bound types (ObjGet id) content front is = tt
 within_bound types (AssocGet id1 atype ids high low) content front is = front_within types (AssocGet id1 atype ids high low) id1 atype content front refl is
 within_bound types (AssocCount id1 atype) content front is = front_within types (AssocCount id1 atype) id1 atype content front refl is
 within_bound types (AssocRange id1 atype pos limit) content front is = front_within types (AssocRange id1 atype pos limit) id1 atype content front refl is
-within_bound types (AssocTimeRange id1 atype high low limit) content front is = front_within types (AssocTimeRange id1 atype high low limit) id1 atype content front refl is
+within_bound types (AssocTimeRange id1 atype high low limit) content front is =
+    front_within types (AssocTimeRange id1 atype high low limit) id1 atype content front refl is
 
 -- what all edges leave open they don't decide
-all_open : (bound : ℕ) (query : Query) (p : ListPrefix) → IsLeftOpen bound p.edges p.total query → length p.edges ≤ bound → decides bound p.edges p.total query ≡ false
+all_open : (bound : ℕ) (query : Query) (p : ListPrefix) → IsLeftOpen bound p.edges p.total query → length p.edges ≤ bound
+    → decides bound p.edges p.total query ≡ false
 all_open bound query p open_at few =
     ap (λ es. decides bound es p.total query) (sym (take_all (length p.edges) p.edges (omega arith))) ∙ open_at (length p.edges) (omega arith)
 
@@ -154,7 +174,8 @@ none_decides types (ObjGet id) (ListIs prefix) is within = refl
 none_decides types (AssocGet id1 atype ids high low) (ListIs prefix) is within = all_open (types.bound atype) (AssocGet id1 atype ids high low) prefix is within
 none_decides types (AssocCount id1 atype) (ListIs prefix) is within = all_open (types.bound atype) (AssocCount id1 atype) prefix is within
 none_decides types (AssocRange id1 atype pos limit) (ListIs prefix) is within = all_open (types.bound atype) (AssocRange id1 atype pos limit) prefix is within
-none_decides types (AssocTimeRange id1 atype high low limit) (ListIs prefix) is within = all_open (types.bound atype) (AssocTimeRange id1 atype high low limit) prefix is within
+none_decides types (AssocTimeRange id1 atype high low limit) (ListIs prefix) is within =
+    all_open (types.bound atype) (AssocTimeRange id1 atype high low limit) prefix is within
 
 pub fronts_decide : (types : EdgeTypes) (query : Query) (content : Content) → FrontsDecide types query content
 fronts_decide types query content = record {

@@ -1,5 +1,6 @@
 -- The shard at a place is the served one of its number.
-use Rattle.std.proofs.Common.{◌≡◌, ℕ, zero, suc, ◌<◌, ◌≤◌, true, false, List, [], ◌∷◌, length, set, get_or, Option, Some, None, Result, Ok, Err, IfOk, refl, sym, ◌∙◌, ap, subst, arith, inl, inr}
+use Rattle.std.proofs.Common.{◌≡◌, ℕ, zero, suc, ◌<◌, ◌≤◌, true, false, List, [], ◌∷◌, length, set, get_or, Option, Some, None, Result, Ok, Err}
+use Rattle.std.proofs.Common.{IfOk, refl, sym, ◌∙◌, ap, subst, arith, inl, inr}
 use Rattle.std.proofs.lemmas.Bool.{cases_Bool, cases_lt, lt-ltb}
 use Rattle.std.proofs.lemmas.List.Quantifiers.{position-Some}
 use Rattle.std.specs.List.{position_or_len}
@@ -12,24 +13,29 @@ use Rattle.served_shards.specs.Meetings.{Meets, MeetsAt}
 use Rattle.served_shards.specs.Served.{ServedShard, changed_at, log_at, served_at, view_at}
 use Rattle.served_shards.specs.declared.shards.Shard.{Shard}
 
-found_in : (n : ℕ) (ss : List Shard) (i : ℕ) (d : Shard) → i < length ss → is_of_shard n (get_or ss i d) ≡ true → ((k : ℕ) → k < i → is_of_shard n (get_or ss k d) ≡ false)
+found_in : (n : ℕ) (ss : List Shard) (i : ℕ) (d : Shard) → i < length ss → is_of_shard n (get_or ss i d) ≡ true
+    → ((k : ℕ) → k < i → is_of_shard n (get_or ss k d) ≡ false)
     → served_at n (map served_of ss) ≡ Some (served_of (get_or ss i d))
 found_in n [] i d h on before = absurd (omega arith)
 found_in n (s ∷ ss) zero d h on before = rw on refl
 found_in n (s ∷ ss) (suc i) d h on before = rw (before zero (omega arith)) (found_in n ss i d (omega arith) on (λ k l. before (suc k) (omega arith)))
 
 -- where a shard stands, the node serves it
-pub served_found : (n : ℕ) (ss : List Shard) (i : ℕ) (d : Shard) → position (is_of_shard n) ss ≡ Some i → served_at n (map served_of ss) ≡ Some (served_of (get_or ss i d))
+pub served_found : (n : ℕ) (ss : List Shard) (i : ℕ) (d : Shard) → position (is_of_shard n) ss ≡ Some i
+    → served_at n (map served_of ss) ≡ Some (served_of (get_or ss i d))
 served_found n ss i d found = let p = position-Some (is_of_shard n) ss i d found in found_in n ss i d p.0 p.1 p.2
 
-set_in : (n : ℕ) (f : ServedShard → ServedShard) (ss : List Shard) (i : ℕ) (d new : Shard) → served_of new ≡ f (served_of (get_or ss i d)) → i < length ss → is_of_shard n (get_or ss i d) ≡ true
+set_in : (n : ℕ) (f : ServedShard → ServedShard) (ss : List Shard) (i : ℕ) (d new : Shard) → served_of new ≡ f (served_of (get_or ss i d)) → i < length ss
+    → is_of_shard n (get_or ss i d) ≡ true
     → ((k : ℕ) → k < i → is_of_shard n (get_or ss k d) ≡ false) → map served_of (set ss i new) ≡ changed_at n f (map served_of ss)
 set_in n f [] i d new is h on before = absurd (omega arith)
 set_in n f (s ∷ ss) zero d new is h on before = rw on (ap (λ x. x ∷ map served_of ss) is)
-set_in n f (s ∷ ss) (suc i) d new is h on before = rw (before zero (omega arith)) (ap (λ l. served_of s ∷ l) (set_in n f ss i d new is (omega arith) on (λ k l. before (suc k) (omega arith))))
+set_in n f (s ∷ ss) (suc i) d new is h on before =
+    rw (before zero (omega arith)) (ap (λ l. served_of s ∷ l) (set_in n f ss i d new is (omega arith) on (λ k l. before (suc k) (omega arith))))
 
 -- a shard written at the place changes what is had of it
-pub set_found : (n : ℕ) (f : ServedShard → ServedShard) (ss : List Shard) (i : ℕ) (d new : Shard) → position (is_of_shard n) ss ≡ Some i → served_of new ≡ f (served_of (get_or ss i d))
+pub set_found : (n : ℕ) (f : ServedShard → ServedShard) (ss : List Shard) (i : ℕ) (d new : Shard) → position (is_of_shard n) ss ≡ Some i
+    → served_of new ≡ f (served_of (get_or ss i d))
     → map served_of (set ss i new) ≡ changed_at n f (map served_of ss)
 set_found n f ss i d new found is = let p = position-Some (is_of_shard n) ss i d found in set_in n f ss i d new is p.0 p.1 p.2
 
@@ -61,13 +67,16 @@ changed_same n f (s ∷ ss) same = elim (cases_Bool (s.shard == n)) [
   | inr g ↦ rw g (ap (λ xs. s ∷ xs) (changed_same n f ss same))
 ]
 
-pub log_found : (n : ℕ) (ss : List Shard) (i : ℕ) (d : Shard) (log : LogName) → position (is_of_shard n) ss ≡ Some i → IfSome (log_at n (map served_of ss)) (λ other. other ≡ log) → (get_or ss i d).note.log ≡ log
+pub log_found : (n : ℕ) (ss : List Shard) (i : ℕ) (d : Shard) (log : LogName) → position (is_of_shard n) ss ≡ Some i
+    → IfSome (log_at n (map served_of ss)) (λ other. other ≡ log) → (get_or ss i d).note.log ≡ log
 log_found n ss i d log found same = rw (served_found n ss i d found) at same
 
-pub view_found : (n : ℕ) (ss : List Shard) (i : ℕ) (d : Shard) (view : View) → position (is_of_shard n) ss ≡ Some i → view ≡ (get_or ss i d).note → view_at n (map served_of ss) ≡ Some view
+pub view_found : (n : ℕ) (ss : List Shard) (i : ℕ) (d : Shard) (view : View) → position (is_of_shard n) ss ≡ Some i → view ≡ (get_or ss i d).note
+    → view_at n (map served_of ss) ≡ Some view
 view_found n ss i d view found is = rw (served_found n ss i d found) (ap Some (sym is))
 
-pub meets_found : (n : ℕ) (ss : List Shard) (i : ℕ) (d : Shard) (note : View) → position (is_of_shard n) ss ≡ Some i → Meets (served_of (get_or ss i d)) note → MeetsAt n note (map served_of ss)
+pub meets_found : (n : ℕ) (ss : List Shard) (i : ℕ) (d : Shard) (note : View) → position (is_of_shard n) ss ≡ Some i → Meets (served_of (get_or ss i d)) note
+    → MeetsAt n note (map served_of ss)
 meets_found n ss i d note found met = record {
   meets = λ s at.
       let e : Some (served_of (get_or ss i d)) ≡ Some s = sym (served_found n ss i d found) ∙ at in
@@ -87,14 +96,16 @@ serves_is n (s ∷ ss) = by_place (position (is_of_shard n) (s ∷ ss)) refl
     by_place (Some i) found = rw (served_found n (s ∷ ss) i s found) refl
 
 -- a met note's view is the longer one
-pub met_once : (s : ServedShard) (note w : View) → w ≡ longer_view s.view note → Grows s.view w → Grows note w → WhereTold w.log.told (IsSound w.entries) → Meets s note
+pub met_once : (s : ServedShard) (note w : View) → w ≡ longer_view s.view note → Grows s.view w → Grows note w → WhereTold w.log.told (IsSound w.entries)
+    → Meets s note
 met_once s note w is grows from sound = record {
   grows = subst (Grows s.view) is grows;
   from_note = subst (Grows note) is from;
   sound = λ told. subst (λ v. IsSound v.entries) is (sound (ap (λ v. v.log.told) is ∙ told));
 }
 
-pub split_views : {E : Type 0} (n : ℕ) (ss : List Shard) (i : ℕ) (d : Shard) (r : Result View E) → position (is_of_shard n) ss ≡ Some i → IfOk r (λ note. note ≡ (get_or ss i d).note)
+pub split_views : {E : Type 0} (n : ℕ) (ss : List Shard) (i : ℕ) (d : Shard) (r : Result View E) → position (is_of_shard n) ss ≡ Some i
+    → IfOk r (λ note. note ≡ (get_or ss i d).note)
     → IfOk r (λ note. view_at n (map served_of ss) ≡ Some note)
 split_views n ss i d (Ok note) found is = view_found n ss i d note found is
 split_views n ss i d (Err e) found is = tt

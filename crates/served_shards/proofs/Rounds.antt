@@ -1,5 +1,6 @@
 -- One more shard that begins, or begins anew.
-use Rattle.std.proofs.Common.{◌≡◌, ℕ, zero, suc, ◌+◌, ◌<◌, ◌≤◌, List, [], ◌∷◌, ◌++◌, length, take, drop, set, get_or, refl, sym, ◌∙◌, ap, subst, inl, inr, arith, add-one, append_assoc, drop-cons}
+use Rattle.std.proofs.Common.{◌≡◌, ℕ, zero, suc, ◌+◌, ◌<◌, ◌≤◌, List, [], ◌∷◌, ◌++◌, length, take, drop, set, get_or, refl, sym, ◌∙◌, ap, subst, inl}
+use Rattle.std.proofs.Common.{inr, arith, add-one, append_assoc, drop-cons}
 use Rattle.std.proofs.lemmas.Bool.{cases_lt}
 use Rattle.std.specs.List.{remove}
 use Rattle.std.specs.Prelude.{map, slice_index_or}
@@ -27,7 +28,8 @@ map-append [] ys = refl
 map-append (x ∷ xs) ys = ap (λ l. served_of x ∷ l) (map-append xs ys)
 
 -- one more shard that begins
-module _ (shards : List Shard) (new : Shard) (served lows : List ℕ) (notes rest : List View) (i : ℕ) (note : View) (in_served : i < length served) (in_lows : i < length lows) (first : notes ≡ note ∷ rest)
+module _ (shards : List Shard) (new : Shard) (served lows : List ℕ) (notes rest : List View) (i : ℕ) (note : View) (in_served : i < length served)
+    (in_lows : i < length lows) (first : notes ≡ note ∷ rest)
     (is : served_of new ≡ record { shard = get_or served i 0; marks = marks (get_or lows i 0) []; view = note })
   where
     pub begun_step : (whole : List ServedShard) → map served_of shards ++ begun_at (drop i served) (drop i lows) notes ≡ whole
@@ -93,13 +95,15 @@ drop_set [] (suc i) new = refl
 drop_set (x ∷ xs) zero new = refl
 drop_set (x ∷ xs) (suc i) new = drop_set xs i new
 
-take_set : (xs : List Shard) (i : ℕ) (new : Shard) → i < length xs → take (suc i) (map served_of (set xs i new)) ≡ take i (map served_of xs) ++ served_of new ∷ []
+take_set : (xs : List Shard) (i : ℕ) (new : Shard) → i < length xs → take (suc i) (map served_of (set xs i new)) ≡ take i (map served_of xs) ++ served_of new ∷
+    []
 take_set [] i new lt = absurd (omega arith)
 take_set (x ∷ xs) zero new lt = refl
 take_set (x ∷ xs) (suc i) new lt = ap (λ l. served_of x ∷ l) (take_set xs i new (omega arith))
 
 -- one more shard that begins anew
-module _ (shards olds : List Shard) (new d : Shard) (lows : List ℕ) (notes rest : List View) (i : ℕ) (note : View) (in_shards : i < length shards) (in_olds : i < length olds) (in_lows : i < length lows)
+module _ (shards olds : List Shard) (new d : Shard) (lows : List ℕ) (notes rest : List View) (i : ℕ) (note : View) (in_shards : i < length shards)
+    (in_olds : i < length olds) (in_lows : i < length lows)
     (first : notes ≡ note ∷ rest) (left : drop i (map served_of shards) ≡ drop i (map served_of olds))
   where
     old_first : drop i (map served_of olds) ≡ served_of (get_or shards i d) ∷ drop (i + 1) (map served_of olds)
@@ -108,7 +112,8 @@ module _ (shards olds : List Shard) (new d : Shard) (lows : List ℕ) (notes res
         let lt_olds : i < length (map served_of olds) = let same = length-served olds in omega arith in
         let a = from_place (map served_of shards) i (served_of d) lt in
         let b = from_place (map served_of olds) i (served_of d) lt_olds in
-        let e : get_or (map served_of shards) i (served_of d) ∷ drop (i + 1) (map served_of shards) ≡ get_or (map served_of olds) i (served_of d) ∷ drop (i + 1) (map served_of olds) = sym a ∙ left ∙ b in
+        let e : get_or (map served_of shards) i (served_of d) ∷ drop (i + 1) (map served_of shards) ≡ get_or (map served_of olds) i (served_of d) ∷ drop (i + 1)
+        (map served_of olds) = sym a ∙ left ∙ b in
         let heads : get_or (map served_of olds) i (served_of d) ≡ get_or (map served_of shards) i (served_of d) = cc in
         b ∙ ap (λ s. s ∷ drop (i + 1) (map served_of olds)) (heads ∙ get_served shards i d in_shards)
 
@@ -130,8 +135,10 @@ module _ (shards olds : List Shard) (new d : Shard) (lows : List ℕ) (notes res
         let f = subst (λ l. AreReached (get_or lows i 0 ∷ drop (i + 1) lows) l) first e in
         f.1
 
-    pub meets_step : (P : Type 0) → Meets (served_of (get_or shards i d)) note → (MeetEach (drop i (map served_of olds)) notes → P) → MeetEach (drop (i + 1) (map served_of olds)) rest → P
-    meets_step P meets h more = h (subst (λ l. MeetEach l notes) (sym old_first) (subst (λ l. MeetEach (served_of (get_or shards i d) ∷ drop (i + 1) (map served_of olds)) l) (sym first) (meets, more)))
+    pub meets_step : (P : Type 0) → Meets (served_of (get_or shards i d)) note → (MeetEach (drop i (map served_of olds)) notes → P)
+        → MeetEach (drop (i + 1) (map served_of olds)) rest → P
+    meets_step P meets h more = h (subst (λ l. MeetEach l notes) (sym old_first)
+        (subst (λ l. MeetEach (served_of (get_or shards i d) ∷ drop (i + 1) (map served_of olds)) l) (sym first) (meets, more)))
 
     pub rest_step : drop (i + 1) (map served_of (set shards i new)) ≡ drop (i + 1) (map served_of olds)
     rest_step =
@@ -139,7 +146,8 @@ module _ (shards olds : List Shard) (new d : Shard) (lows : List ℕ) (notes res
         let lt_olds : i < length (map served_of olds) = let same = length-served olds in omega arith in
         let a = from_place (map served_of shards) i (served_of d) lt in
         let b = from_place (map served_of olds) i (served_of d) lt_olds in
-        let e : get_or (map served_of shards) i (served_of d) ∷ drop (i + 1) (map served_of shards) ≡ get_or (map served_of olds) i (served_of d) ∷ drop (i + 1) (map served_of olds) = sym a ∙ left ∙ b in
+        let e : get_or (map served_of shards) i (served_of d) ∷ drop (i + 1) (map served_of shards) ≡ get_or (map served_of olds) i (served_of d) ∷ drop (i + 1)
+        (map served_of olds) = sym a ∙ left ∙ b in
         let tails : drop (i + 1) (map served_of shards) ≡ drop (i + 1) (map served_of olds) = cc in
         let cut : drop (i + 1) (map served_of (set shards i new)) ≡ drop (i + 1) (map served_of shards) = rw add-one (drop_set shards i new) in
         cut ∙ tails
@@ -149,7 +157,8 @@ module _ (shards olds : List Shard) (new d : Shard) (lows : List ℕ) (notes res
         → take (i + 1) (map served_of (set shards i new)) ++ restarted (drop (i + 1) (map served_of olds)) (drop (i + 1) lows) rest ≡ whole
     anew_step whole is h =
         let more : List ServedShard = restarted (drop (i + 1) (map served_of olds)) (drop (i + 1) lows) rest in
-        let cut : take (i + 1) (map served_of (set shards i new)) ≡ take i (map served_of shards) ++ served_of new ∷ [] = rw add-one (take_set shards i new in_shards) in
+        let cut : take (i + 1) (map served_of (set shards i new)) ≡ take i (map served_of shards) ++ served_of new ∷ [] =
+        rw add-one (take_set shards i new in_shards) in
         ap (λ l. l ++ more) cut
         ∙ append_assoc (take i (map served_of shards)) (served_of new ∷ []) more
         ∙ ap (λ s. take i (map served_of shards) ++ (s ∷ more)) is

@@ -1,5 +1,6 @@
 -- Floors after an entry was learnt, and that they are reached.
-use Rattle.std.proofs.Common.{◌≡◌, ℕ, zero, suc, ◌≤◌, ◌+◌, Bool, true, false, cond, List, [], ◌∷◌, Some, length, max, min, take, refl, ap, sym, ◌∙◌, inl, inr, arith, subst}
+use Rattle.std.proofs.Common.{◌≡◌, ℕ, zero, suc, ◌≤◌, ◌+◌, Bool, true, false, cond, List, [], ◌∷◌, Some, length, max, min, take, refl, ap, sym, ◌∙◌}
+use Rattle.std.proofs.Common.{inl, inr, arith, subst}
 use Rattle.std.proofs.lemmas.Bool.{cases_eq, cases_lt, false≢true}
 use Rattle.std.proofs.lemmas.List.{take_all}
 use Rattle.std.proofs.lemmas.List.Elements.{recursion_from_All}
@@ -39,7 +40,8 @@ learns_one shard t floors here = record {
 
     by : (key : Key) (b : Bool) → same_key key t.key ≡ b → floor_at (with_learnt t.key t.version floors) key ≡ max (floor_at floors key) (cond b t.version 0)
     by key true e =
-        subst (λ k. floor_at (with_learnt t.key t.version floors) k ≡ max (floor_at floors k) t.version) (sym ((same_key-Decides key t.key).0 e)) (learns floors t.key t.version).here
+        subst (λ k. floor_at (with_learnt t.key t.version floors) k ≡ max (floor_at floors k) t.version) (sym ((same_key-Decides key t.key).0 e))
+        (learns floors t.key t.version).here
     by key false e =
         (learns floors t.key t.version).others key (λ same. absurd (false≢true (sym e ∙ (same_key-Decides key t.key).1 same))) ∙ stays (floor_at floors key)
 
@@ -55,9 +57,11 @@ first_eight ts touches n is same = elim (cases_lt (length ts) 8) [
 
 -- ---- what the touches of an entry tell is reached where it stands
 
-told_below : (log : List Entry) (n : ℕ) (key : Key) (ts : List Touch) → AllByRecursion (λ t. t.version ≡ version (take n log) t.key) ts → version_told key ts ≤ version log key
+told_below : (log : List Entry) (n : ℕ) (key : Key) (ts : List Touch) → AllByRecursion (λ t. t.version ≡ version (take n log) t.key) ts
+    → version_told key ts ≤ version log key
 told_below log n key [] all = omega arith
-told_below log n key (t ∷ ts) all = most (cond (same_key key t.key) t.version 0) (version_told key ts) (version log key) (by (same_key key t.key) refl) (told_below log n key ts all.1)
+told_below log n key (t ∷ ts) all = most (cond (same_key key t.key) t.version 0) (version_told key ts) (version log key) (by (same_key key t.key) refl)
+    (told_below log n key ts all.1)
   where
     most : (a b m : ℕ) → a ≤ m → b ≤ m → max a b ≤ m
     most a b m p q = omega (arith, p, q)
@@ -69,7 +73,8 @@ told_below log n key (t ∷ ts) all = most (cond (same_key key t.key) t.version 
         omega (arith, here, rises)
     by false e = omega arith
 
-told_reached : (log : List Entry) (position : ℕ) (e : Entry) (key : Key) → IsSound log → entry_at log position ≡ Some e → version_told key (learnt_touches e) ≤ version log key
+told_reached : (log : List Entry) (position : ℕ) (e : Entry) (key : Key) → IsSound log → entry_at log position ≡ Some e
+    → version_told key (learnt_touches e) ≤ version log key
 told_reached log zero e key sound at = absurd (cc (at))
 told_reached log (suc n) e key sound at =
     told_below log (n + 1) key (take 8 e.touches) (all_take (λ t. t.version ≡ version (take (n + 1) log) t.key) 8 e.touches

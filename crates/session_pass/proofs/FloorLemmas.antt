@@ -1,5 +1,6 @@
 -- Floors after a version was learnt.
-use Rattle.std.proofs.Common.{◌≡◌, ◌≢◌, ℕ, ◌<◌, ◌≤◌, Bool, true, false, cond, List, [], ◌∷◌, Some, max, nat_lt, unwrap_or, refl, sym, ◌∙◌, inl, inr, arith, if◌then◌else◌}
+use Rattle.std.proofs.Common.{◌≡◌, ◌≢◌, ℕ, ◌<◌, ◌≤◌, Bool, true, false, cond, List, [], ◌∷◌, Some, max, nat_lt, unwrap_or, refl, sym, ◌∙◌, inl, inr}
+use Rattle.std.proofs.Common.{arith, if◌then◌else◌}
 use Rattle.std.proofs.lemmas.Bool.{cases_Bool, ltb-true, ltb-false, false≢true}
 use Rattle.std.specs.Map.{lookup}
 use Rattle.indexmap.specs.IndexMap.{insert_entry}
@@ -20,10 +21,15 @@ inserted (f ∷ fs) key v = elim (cases_Bool (same_key key f.0)) [ inl e ↦ rw 
 
 elsewhere : (floors : List (Key × ℕ)) (key other : Key) (v : ℕ) → other ≢ key → floor_at (insert_entry same_key floors key v) other ≡ floor_at floors other
 elsewhere [] key other v differs = rw (apart key other differs) refl
-elsewhere (f ∷ fs) key other v differs = elim (cases_Bool (same_key key f.0)) [ inl e ↦ rw e (rw (apart f.0 other (λ same. differs (same ∙ sym ((same_key-Decides key f.0).0 e)))) refl) | inr e ↦ rw e (next (same_key other f.0) (elsewhere fs key other v differs)) ]
+elsewhere (f ∷ fs) key other v differs = elim (cases_Bool (same_key key f.0)) [
+  | inl e ↦ rw e (rw (apart f.0 other (λ same. differs (same ∙ sym ((same_key-Decides key f.0).0 e)))) refl)
+  | inr e ↦
+      rw e (next (same_key other f.0) (elsewhere fs key other v differs))
+]
   where
     next : (b : Bool) → floor_at (insert_entry same_key fs key v) other ≡ floor_at fs other
-        → unwrap_or (cond b (Some f.1) (lookup (same_key other) (insert_entry same_key fs key v))) 0 ≡ unwrap_or (cond b (Some f.1) (lookup (same_key other) fs)) 0
+        → unwrap_or (cond b (Some f.1) (lookup (same_key other) (insert_entry same_key fs key v))) 0 ≡ unwrap_or
+        (cond b (Some f.1) (lookup (same_key other) fs)) 0
     next true later = refl
     next false later = later
 

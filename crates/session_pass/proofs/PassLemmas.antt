@@ -1,5 +1,6 @@
 -- What stays true of a pass.
-use Rattle.std.proofs.Common.{◌≡◌, ℕ, zero, suc, Bool, true, false, List, [], ◌∷◌, Option, Some, None, IfSome, IsSomeAnd, MatchOption, max, slice_get, slice_index_or, slice_set, refl, sym, ap, subst, ◌∙◌, arith}
+use Rattle.std.proofs.Common.{◌≡◌, ℕ, zero, suc, Bool, true, false, List, [], ◌∷◌, Option, Some, None, IfSome, IsSomeAnd, MatchOption, max}
+use Rattle.std.proofs.Common.{slice_get, slice_index_or, slice_set, refl, sym, ap, subst, ◌∙◌, arith}
 use Rattle.std.proofs.lemmas.Bool.{false≢true}
 use Rattle.tao_base.proofs.SameKeys.{same_key-Decides}
 use Rattle.tao_base.specs.Keys.{key_shard, same_key}
@@ -71,15 +72,20 @@ module _ (shard : ℕ) (note : View) (notes : List View) (o : Own shard note not
 pub both_reached : (notes : List View) (key : Key) (m n : ℕ) → HasReached notes key m → HasReached notes key n → HasReached notes key (max m n)
 both_reached notes key m n = by (slice_get notes (key_shard key))
   where
-    by : (o : Option View) → MatchOption o (m ≡ 0) (λ v. ReachesIn v key m) → MatchOption o (n ≡ 0) (λ v. ReachesIn v key n) → MatchOption o (max m n ≡ 0) (λ v. ReachesIn v key (max m n))
+    by : (o : Option View) → MatchOption o (m ≡ 0) (λ v. ReachesIn v key m) → MatchOption o (n ≡ 0) (λ v. ReachesIn v key n)
+        → MatchOption o (max m n ≡ 0) (λ v. ReachesIn v key (max m n))
     by None a b = omega (arith, a, b)
     by (Some v) a b = λ told. let p = a told in let q = b told in omega (arith, p, q)
 
 pub sees : (pass : SeenPass) (shard : ℕ) (note : View) → IsNoteOf shard note pass.notes → MeetsNote shard note pass.notes → IsPass pass
     → IsPass (record pass { notes = after_meeting shard note pass.notes })
-sees pass shard note known meets keeps = record { reached = λ key. reached_on shard note pass.notes (own_of shard note pass.notes known meets) key (floor_at pass.floors key) (keeps.reached key) }
+sees pass shard note known meets keeps = record {
+  reached = λ key. reached_on shard note pass.notes (own_of shard note pass.notes known meets) key
+      (floor_at pass.floors key) (keeps.reached key);
+}
 
-pub learnt_pass : (pass : SeenPass) (key : Key) (at : ℕ) (note : View) (spare : ℕ) → IsNoteOf (key_shard key) note pass.notes → MeetsNote (key_shard key) note pass.notes
+pub learnt_pass : (pass : SeenPass) (key : Key) (at : ℕ) (note : View) (spare : ℕ) → IsNoteOf (key_shard key) note pass.notes
+    → MeetsNote (key_shard key) note pass.notes
     → ReachesIn note key at → IsPass pass → IsPass (learnt key at note spare pass)
 learnt_pass pass key at note spare known meets reaches keeps = record { reached = λ k. by k (same_key k key) refl }
   where

@@ -37,9 +37,11 @@ module _ (log : List Entry) (from position : ℕ) (us : List EdgeUpdate) (ts : L
 
 -- the touches that were asked for under the store's name, and of the job's records
 pub news_at : (tables : Tables) (at name : StoreName) (us vs : List EdgeUpdate) (ts : List Touch) → at ≡ name → us ≡ vs
-    → ts ≡ map (edge_touch (tables at).log) (filter (is_news (tables at).log) us) → ts ≡ map (edge_touch (tables name).log) (filter (is_news (tables name).log) vs)
+    → ts ≡ map (edge_touch (tables at).log) (filter (is_news (tables at).log) us)
+    → ts ≡ map (edge_touch (tables name).log) (filter (is_news (tables name).log) vs)
 news_at tables at name us vs ts at_is us_is are =
-    are ∙ ap (λ n. map (edge_touch (tables n).log) (filter (is_news (tables n).log) us)) at_is ∙ ap (λ v. map (edge_touch (tables name).log) (filter (is_news (tables name).log) v)) us_is
+    are ∙ ap (λ n. map (edge_touch (tables n).log) (filter (is_news (tables n).log) us)) at_is
+    ∙ ap (λ v. map (edge_touch (tables name).log) (filter (is_news (tables name).log) v)) us_is
 
 -- the entry merges the records: it follows the log, keeps it sound, and leaves all of them there
 pub record IsMade (shard : ℕ) (log : List Entry) (from position : ℕ) (us : List EdgeUpdate) (m : Entry) : Type 0 where
@@ -65,10 +67,12 @@ module _ (tables : Tables) (at name : StoreName) (us vs : List EdgeUpdate) (ts :
 
   pub none_left : (from position : ℕ) → length ts ≡ 0 → All (HasStamp (tables name).log) vs
   none_left from position none =
-      (merges_none (tables name).log from position vs).done (none_merged (tables name).log from position vs ts (news_at tables at name us vs ts at_is us_is asked) none)
+      (merges_none (tables name).log from position vs).done
+      (none_merged (tables name).log from position vs ts (news_at tables at name us vs ts at_is us_is asked) none)
 
 -- a log that has store_with the entry, over tables that stayed before
-pub grown_log : (old mid new : Tables) (at name : StoreName) (entry made : Entry) → at ≡ name → Stays old mid → Becomes mid new at (after_commit (mid at) entry None) → entry ≡ made
+pub grown_log : (old mid new : Tables) (at name : StoreName) (entry made : Entry) → at ≡ name → Stays old mid
+    → Becomes mid new at (after_commit (mid at) entry None) → entry ≡ made
     → (new name).log ≡ (old name).log ++ made ∷ []
 grown_log old mid new at name entry made at_is stays gains same =
     ap (λ n. (new n).log) (sym at_is) ∙ ap (λ t. t.log) gains.here ∙ ap (λ t. t.log ++ entry ∷ []) (stays at) ∙ ap (λ n. (old n).log ++ entry ∷ []) at_is

@@ -1,5 +1,6 @@
 -- Reads of a store: fronts of what the keeper gives are fronts of the list, and what is sealed is true of the note's view.
-use Rattle.std.proofs.Common.{◌≡◌, ℕ, ◌+◌, ◌≤◌, ◌⊎◌, true, false, List, [], length, take, min, Option, Some, None, refl, sym, ap, ◌∙◌, subst, arith, inl, inr, leb}
+use Rattle.std.proofs.Common.{◌≡◌, ℕ, ◌+◌, ◌≤◌, ◌⊎◌, true, false, List, [], length, take, min, Option, Some, None, refl, sym, ap, ◌∙◌, subst, arith}
+use Rattle.std.proofs.Common.{inl, inr, leb}
 use Rattle.std.proofs.lemmas.Bool.{cases_Bool, leb-false, leb-true}
 use Rattle.std.proofs.lemmas.Bool.Decides.{nat_tests}
 use Rattle.std.proofs.lemmas.List.{length-take, take-take, take_all}
@@ -53,13 +54,15 @@ some_stays n bound total query list front is =
     }
 
 -- what the first edges up to the bound leave open, the list does
-bound_stays : (n bound total : ℕ) (query : Query) (list : List Edge) → n ≡ bound → IsLeftOpen bound (take n list) total query → IsLeftOpen bound list total query
+bound_stays : (n bound total : ℕ) (query : Query) (list : List Edge) → n ≡ bound → IsLeftOpen bound (take n list) total query
+    → IsLeftOpen bound list total query
 bound_stays n bound total query list is left = λ count le.
     let cut : length (take n list) ≡ min n (length list) = length-take n list in
     subst (λ xs. decides bound xs total query ≡ false) (take-take count n list (omega arith)) (left count (omega arith))
 
 -- all of the first edges leave the query undecided
-all_open : (n bound total : ℕ) (query : Query) (list : List Edge) → n ≤ bound → IsLeftOpen bound (take n list) total query → decides bound (take n list) total query ≡ false
+all_open : (n bound total : ℕ) (query : Query) (list : List Edge) → n ≤ bound → IsLeftOpen bound (take n list) total query
+    → decides bound (take n list) total query ≡ false
 all_open n bound total query list le left =
     let cut : length (take n list) ≡ min n (length list) = length-take n list in
     subst (λ xs. decides bound xs total query ≡ false) (take_all (length (take n list)) (take n list) (omega arith)) (left (length (take n list)) (omega arith))
@@ -95,11 +98,13 @@ open_stays : (bound : ℕ) (query : Query) (list : List Edge) → IsLeftOpen bou
 open_stays bound (ObjGet id) list left = λ count le. refl
 open_stays bound (AssocCount id1 atype) list left = let wrong : true ≡ false = left 0 (omega arith) in absurd (cc)
 open_stays bound (AssocRange id1 atype pos limit) list left = range_stays id1 atype pos limit bound list left
-open_stays bound (AssocTimeRange id1 atype high low limit) list left = bound_stays bound bound (length list) (AssocTimeRange id1 atype high low limit) list refl left
+open_stays bound (AssocTimeRange id1 atype high low limit) list left =
+    bound_stays bound bound (length list) (AssocTimeRange id1 atype high low limit) list refl left
 open_stays bound (AssocGet id1 atype ids high low) list left = bound_stays bound bound (length list) (AssocGet id1 atype ids high low) list refl left
 
 front_of_first : (bound : ℕ) (query : Query) (list : List Edge) (found : Option ListPrefix)
-    → IsFrontFor (list_prefix (take (needed_count bound query) list) (length list)) query bound found → IsFrontFor (list_prefix list (length list)) query bound found
+    → IsFrontFor (list_prefix (take (needed_count bound query) list) (length list)) query bound found
+    → IsFrontFor (list_prefix list (length list)) query bound found
 front_of_first bound query list (Some front) is = some_stays (needed_count bound query) bound (length list) query list front is
 front_of_first bound query list None left = open_stays bound query list left
 
@@ -108,7 +113,8 @@ front_stays : (bound : ℕ) (query : Query) (list edges : List Edge) (total : �
     → IsFrontFor (list_prefix edges total) query bound found → IsFrontFor (list_prefix list (length list)) query bound found
 front_stays bound query list edges total found are is =
     front_of_first bound query list found
-    (subst (λ p. IsFrontFor p query bound found) (ap (λ xs. list_prefix xs total) are.edges_are ∙ ap (list_prefix (take (needed_count bound query) list)) are.total_is) is)
+    (subst (λ p. IsFrontFor p query bound found) (ap (λ xs. list_prefix xs total) are.edges_are
+    ∙ ap (list_prefix (take (needed_count bound query) list)) are.total_is) is)
 
 -- a query whose key is a list is one of a list
 of_list : (query : Query) (id1 : Id) (atype : AType) → query_key query ≡ Assocs id1 atype → IsOfList query
@@ -124,7 +130,8 @@ list_at log (Assocs id1 atype) = edge_list log id1 atype
 list_at log (Obj id) = []
 
 answer_at : (types : EdgeTypes) (log : List Entry) (query : Query) → IsOfList query
-    → log_answer types log query ≡ list_answer (key_bound types (query_key query)) (list_at log (query_key query)) (length (list_at log (query_key query))) query
+    → log_answer types log query ≡ list_answer (key_bound types (query_key query)) (list_at log (query_key query))
+    (length (list_at log (query_key query))) query
 answer_at types log (ObjGet id) h = absurd h
 answer_at types log (AssocGet id1 atype ids high low) h = refl
 answer_at types log (AssocCount id1 atype) h = refl
@@ -176,7 +183,8 @@ module _ (log later : List Entry) (id1 : Id) (atype : AType) (query : Query) (bo
       rw (at, of, whole.is) (list_sealed note log id1 atype whole.count begins)
 
   -- the fill is what the log has
-  pub list_filled : (types : EdgeTypes) (note : View) (v n : ℕ) (front : ListPrefix) (fill : SealedItem) → query_key query ≡ Assocs id1 atype → bound ≡ types.bound atype
+  pub list_filled : (types : EdgeTypes) (note : View) (v n : ℕ) (front : ListPrefix) (fill : SealedItem) → query_key query ≡ Assocs id1 atype
+      → bound ≡ types.bound atype
       → v ≡ version log (Assocs id1 atype) → n ≡ length log → IsShortestFront (list_prefix edges total) query bound front
       → fill ≡ sealed_item (Assocs id1 atype) v n (ListIs front) note → IsFilled types log query fill
   list_filled types note v n front fill key bounded at of is made =
@@ -197,13 +205,15 @@ module _ (log later : List Entry) (id1 : Id) (atype : AType) (query : Query) (bo
       let whole : IsLeftOpen bound (edge_list log id1 atype) (length (edge_list log id1 atype)) query = front_in_log None is in (
         record {
           answer_is = answers ∙ ap (λ l. list_answer bound (edge_list l id1 atype) (length (edge_list l id1 atype)) query) (still ∙ same)
-              ∙ ap (λ b. list_answer b (edge_list log id1 atype) (length (edge_list log id1 atype)) query) bounded ∙ sym (answer_is types log query id1 atype key);
+              ∙ ap (λ b. list_answer b (edge_list log id1 atype) (length (edge_list log id1 atype)) query) bounded
+              ∙ sym (answer_is types log query id1 atype key);
           version_is = at ∙ ap (version log) (sym key);
         },
         record {
           total_is = subst (λ k. HasTotal (whole_content log k) total) (sym key) (needed.total_is ∙ ap (λ l. length (edge_list l id1 atype)) same);
           left_open = subst (λ k. IsContentFront types (whole_content log k) query None) (sym key)
-              (subst (λ b. IsLeftOpen b (edge_list log id1 atype) (length (edge_list log id1 atype)) query) (bounded ∙ sym (bound_is types query id1 atype key)) whole);
+              (subst (λ b. IsLeftOpen b (edge_list log id1 atype) (length (edge_list log id1 atype)) query)
+              (bounded ∙ sym (bound_is types query id1 atype key)) whole);
         },
       )
 
@@ -214,8 +224,10 @@ whole_exact log (Obj id) =
     ((beginning_is_sealed log (length log)).object_is id (omega arith)).exact
 whole_exact log (Assocs id1 atype) =
     let list : List Edge = edge_list log id1 atype in
-    subst (λ es. IsExactContent log (Assocs id1 atype) (version log (Assocs id1 atype)) (ListIs (list_prefix es (length list)))) (take_all (length list) list (omega arith))
-    (subst (λ l. IsExactContent log (Assocs id1 atype) (version l (Assocs id1 atype)) (ListIs (front_of (length list) l id1 atype))) (take_all (length log) log (omega arith))
+    subst (λ es. IsExactContent log (Assocs id1 atype) (version log (Assocs id1 atype)) (ListIs (list_prefix es (length list))))
+    (take_all (length list) list (omega arith))
+    (subst (λ l. IsExactContent log (Assocs id1 atype) (version l (Assocs id1 atype)) (ListIs (front_of (length list) l id1 atype)))
+    (take_all (length log) log (omega arith))
     ((beginning_is_sealed log (length log)).list_is id1 atype (length list) (omega arith)).exact)
 
 -- a fill of what the whole log has answers as the log
@@ -226,5 +238,6 @@ filled_answers types log query fill is =
     let law = fronts_decide types query (whole_content log (query_key query)) in
     let exact = law.exact log at fill.content is.content_is (whole_exact log (query_key query)) in
     let whole : take (length log) log ≡ log = take_all (length log) log (omega arith) in
-    (contents_answer.answers types log query at fill.content exact (law.decided fill.content is.content_is)).gives (length log) (ap (λ l. version l (query_key query)) whole)
+    (contents_answer.answers types log query at fill.content exact (law.decided fill.content is.content_is)).gives (length log)
+    (ap (λ l. version l (query_key query)) whole)
     ∙ ap (λ l. log_answer types l query) whole

@@ -43,7 +43,8 @@ pub each_found : (P : View → Entry → Type 0) (tells : Bool) (table : Table) 
     → (result : Result Wrote StoreRefusal) → IfOk result (λ w. w.note ≡ note) → IfOk result (λ w. IsTrue w.retry)
     → WhereTold tells (IfOk result (λ w. FindsJob table w.retry w.entry w.job)) → IfOk result (λ w. IfSome w.entry (P w.note))
 each_found P tells table note holds (Err refusal) noted retried found = tt
-each_found P tells table note holds (Ok wrote) noted retried found = subst (λ seen. IfSome wrote.entry (P seen)) (sym noted) (by wrote.entry wrote.retry retried found)
+each_found P tells table note holds (Ok wrote) noted retried found = subst (λ seen. IfSome wrote.entry (P seen)) (sym noted)
+    (by wrote.entry wrote.retry retried found)
   where
     by : (entry : Option Entry) (retry : Bool) → IsTrue retry → WhereTold tells (FindsJob table retry entry wrote.job) → IfSome entry (P note)
     by None retry is finds = tt
@@ -51,12 +52,15 @@ each_found P tells table note holds (Ok wrote) noted retried found = subst (λ s
     by (Some e) false is finds = absurd (cc)
 
 -- an entry that was there, in a master's log over tables that stayed since
-module _ (types : EdgeTypes) (tells : Bool) (old one : Tables) (store : Store) (at : StoreName) (note : View) (at_is : at ≡ store.name) (stays : WhereTold tells (Stays old one))
-    (master : store.role ≡ Master) (of : IsStoreOf tells old store) (sound : WhereTold tells (IsSoundOf types store.name.shard (old store.name).log)) (noted : note ≡ note_of store) where
+module _ (types : EdgeTypes) (tells : Bool) (old one : Tables) (store : Store) (at : StoreName) (note : View) (at_is : at ≡ store.name)
+    (stays : WhereTold tells (Stays old one))
+    (master : store.role ≡ Master) (of : IsStoreOf tells old store) (sound : WhereTold tells (IsSoundOf types store.name.shard (old store.name).log))
+    (noted : note ≡ note_of store) where
   is_note : note ≡ as_note store.view
   is_note = noted ∙ ap (λ r. seen_by r store.view) master
 
-  placed : (e : Entry) → Standing tells (one at).log e → WhereTold note.log.told ((entry_at note.entries e.position ≡ Some e) × All (λ t. key_shard t.key ≡ store.name.shard) e.touches)
+  placed : (e : Entry) → Standing tells (one at).log e
+      → WhereTold note.log.told ((entry_at note.entries e.position ≡ Some e) × All (λ t. key_shard t.key ≡ store.name.shard) e.touches)
   placed e there heard =
       let told : tells ≡ true = sym of.told_is ∙ ap (λ v. v.log.told) (sym is_note) ∙ heard in
       let stands : entry_at (old store.name).log (there told).0 ≡ Some e =
@@ -71,7 +75,8 @@ module _ (types : EdgeTypes) (tells : Bool) (old one : Tables) (store : Store) (
   found_lies e there = λ heard. (placed e there heard).1
 
 -- an entry that was added, where its touches are of keys of the shard
-pub new_lies : (before after : Store) (note : View) (made added : Entry) (tells : Bool) → after ≡ store_with before (Some made) → note ≡ as_note after.view → added ≡ made
+pub new_lies : (before after : Store) (note : View) (made added : Entry) (tells : Bool) → after ≡ store_with before (Some made) → note ≡ as_note after.view
+    → added ≡ made
     → before.view.log.told ≡ tells → WhereTold tells (All (λ t. key_shard t.key ≡ before.name.shard) made.touches) → LiesOn note before.name.shard added
 new_lies before after note made added tells grown noted same told_is lies = λ heard.
     let log_is = ap (λ v. v.log.told) noted ∙ ap (λ s. s.view.log.told) grown in

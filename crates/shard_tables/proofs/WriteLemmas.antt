@@ -25,7 +25,8 @@ use Rattle.shard_tables.specs.Written.{IsLogFull, WriteAnswers, asked_write, mad
 use Rattle.write_touches.specs.Touching.{AreTouches, lacks_serial}
 
 -- touches make the entry
-pub made_is : (types : EdgeTypes) (log : List Entry) (origin : Origin) (write : Write) (ts : List Touch) (n : ℕ) → AreTouches types log write ts → 0 < length ts → n ≡ length log
+pub made_is : (types : EdgeTypes) (log : List Entry) (origin : Origin) (write : Write) (ts : List Touch) (n : ℕ) → AreTouches types log write ts → 0 < length ts
+    → n ≡ length log
     → forward_entry types log origin write ≡ Some (made_entry n origin write ts)
 made_is types log origin write [] n are some count = absurd (omega arith)
 made_is types log origin write (t ∷ ts) n are some count =
@@ -43,7 +44,8 @@ here_is shard log (AssocDelete id1 atype id2) here room = here
 here_is shard log (AssocChangeType id1 atype id2 newtype) here room = here
 
 -- tables that stay, and then gain an entry
-pub becomes_from : (old mid new : Tables) (at : StoreName) (entry : Entry) (job : Option Job) → Stays old mid → Becomes mid new at (after_commit (mid at) entry job)
+pub becomes_from : (old mid new : Tables) (at : StoreName) (entry : Entry) (job : Option Job) → Stays old mid
+    → Becomes mid new at (after_commit (mid at) entry job)
     → Becomes old new at (after_commit (old at) entry job)
 becomes_from old mid new at entry job stays gains = record {
   here = gains.here ∙ ap (λ t. after_commit t entry job) (stays at);
@@ -56,7 +58,8 @@ pub has_all : (tells : Bool) (tables : Tables) (store : Store) → store.role �
 has_all tells tables store master of told = subst (λ r. HasSeen r (tables store.name).log store.view.entries) master (of.seen told)
 
 -- the touches that were asked for under the store's name
-pub touches_at : (types : EdgeTypes) (tables : Tables) (at name : StoreName) (write : Write) (ts : List Touch) → at ≡ name → AreTouches types (tables at).log write ts
+pub touches_at : (types : EdgeTypes) (tables : Tables) (at name : StoreName) (write : Write) (ts : List Touch) → at ≡ name
+    → AreTouches types (tables at).log write ts
     → AreTouches types (tables name).log write ts
 touches_at types tables at name write ts is are = subst (λ n. AreTouches types (tables n).log write ts) is are
 
@@ -79,17 +82,21 @@ module _ (types : EdgeTypes) (log : List Entry) (origin : Origin) (write : Write
       (made_is types log origin write ts n are some count)
 
 -- a write for which the log has no room, as the store said
-pub full_answers : (types : EdgeTypes) (tables : Tables) (store : Store) (origin : Origin) (write : Write) (ts : List Touch) (refusal : StoreRefusal) (result : Result Wrote StoreRefusal)
-    → AreTouches types (tables store.name).log write ts → 0 < length ts → store.view.entries ≡ (tables store.name).log → IsNewOrigin (tables store.name).log origin
+pub full_answers : (types : EdgeTypes) (tables : Tables) (store : Store) (origin : Origin) (write : Write) (ts : List Touch) (refusal : StoreRefusal)
+    (result : Result Wrote StoreRefusal)
+    → AreTouches types (tables store.name).log write ts → 0 < length ts → store.view.entries ≡ (tables store.name).log
+    → IsNewOrigin (tables store.name).log origin
     → IsFullFor store refusal → result ≡ Err refusal → WriteAnswers (asked_write types store.log_max (tables store.name).log origin write) result
 full_answers types tables store origin write ts refusal result are some all new full is =
     subst (WriteAnswers (asked_write types store.log_max (tables store.name).log origin write)) (sym (is ∙ ap (λ r. Err r) full.is))
     (full_is types (tables store.name).log origin write ts (length store.view.entries) are some (ap length all) store.log_max new full.full)
 
 -- what is answered of an entry over tables that stayed since its origin was found
-pub again_answers : (types : EdgeTypes) (most : ℕ) (old one : Tables) (name asked at : StoreName) (origin : Origin) (write : Write) (found : Option ℕ) (position : ℕ) (result : Result Wrote StoreRefusal)
+pub again_answers : (types : EdgeTypes) (most : ℕ) (old one : Tables) (name asked at : StoreName) (origin : Origin) (write : Write) (found : Option ℕ)
+    (position : ℕ) (result : Result Wrote StoreRefusal)
     → asked ≡ name → at ≡ name → Stays old one → found ≡ Some position → StandsAt (old asked).log origin found
-    → (StandsAt (one at).log origin (Some position) → WriteAnswers (asked_write types most (one at).log origin write) result) → WriteAnswers (asked_write types most (old name).log origin write) result
+    → (StandsAt (one at).log origin (Some position) → WriteAnswers (asked_write types most (one at).log origin write) result)
+    → WriteAnswers (asked_write types most (old name).log origin write) result
 again_answers types most old one name asked at origin write found position result asked_is at_is stays is stands answers =
     let stands_there : StandsAt (one at).log origin (Some position) =
     subst (λ t. StandsAt t.log origin (Some position)) (ap old (asked_is ∙ sym at_is) ∙ sym (stays at)) (subst (StandsAt (old asked).log origin) is stands) in

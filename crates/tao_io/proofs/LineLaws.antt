@@ -1,5 +1,6 @@
 -- Laws of the lines of bytes, and of what is held of a line.
-use Rattle.std.proofs.Common.{◌≡◌, ℕ, ◌+◌, ◌-◌, ◌<◌, ◌≤◌, zero, suc, nat_lt, List, [], ◌∷◌, ◌++◌, Some, inl, inr, min, length, take, drop, get_or, refl, ap, ◌∙◌, sym, subst, arith, length-take}
+use Rattle.std.proofs.Common.{◌≡◌, ℕ, ◌+◌, ◌-◌, ◌<◌, ◌≤◌, zero, suc, nat_lt, List, [], ◌∷◌, ◌++◌, Some, inl, inr, min, length, take, drop, get_or}
+use Rattle.std.proofs.Common.{refl, ap, ◌∙◌, sym, subst, arith, length-take}
 use Rattle.std.proofs.lemmas.Bool.{cases_Bool, ltb-true, ltb-false, lt-ltb, eqb-true}
 use Rattle.std.proofs.lemmas.List.{take_all, take_min, get_or-take, drop-take, drop-drop}
 use Rattle.std.proofs.Math.Seq.{take-append-add}
@@ -25,7 +26,8 @@ pub held_with : (line piece : List ℕ) → length line ≤ 1048577 → line ++ 
 unfolding held
 held_with line piece small =
     let whole : length line + (1048577 - length line) ≡ 1048577 = omega arith in
-    ap (λ rest. line ++ rest) (take_min (1048577 - length line) piece) ∙ sym (take-append-add line piece (1048577 - length line)) ∙ ap (λ n. take n (line ++ piece)) whole
+    ap (λ rest. line ++ rest) (take_min (1048577 - length line) piece) ∙ sym (take-append-add line piece (1048577 - length line))
+    ∙ ap (λ n. take n (line ++ piece)) whole
 
 -- how much is held
 pub length-held : (line : List ℕ) → length (held line) ≡ min 1048577 (length line)
@@ -52,7 +54,12 @@ position-ends bytes =
       | inl found ↦
           let within : at < length bytes = ltb-true at (length bytes) found in
           let ten : get_or bytes at 0 ≡ 10 = eqb-true _ _ (passes_at_first is_line_end bytes 0 within) in
-          rw found (within, NoLineEnd-before bytes at (omega arith), subst (λ b. bytes ≡ take at bytes ++ b ∷ drop (at + 1) bytes) ten (split_at_first is_line_end bytes 0 within))
+          rw found (
+            within,
+            NoLineEnd-before bytes at (omega arith),
+            subst (λ b. bytes ≡ take at bytes ++ b ∷ drop (at + 1) bytes) ten
+                (split_at_first is_line_end bytes 0 within),
+          )
       | inr none ↦
           let past : length bytes ≤ at = ltb-false at (length bytes) none in
           rw none (λ k d small. let before : k < at = omega arith in fails_before_first is_line_end bytes k d before)
@@ -85,7 +92,8 @@ drop-stretch chunk at end n within =
     ap (λ m. drop n (take m (drop at chunk))) parts ∙ drop-take n (end - (at + n)) (drop at chunk) ∙ ap (take (end - (at + n))) (drop-drop n at chunk)
 
 -- a line went on by the bytes before its end, and what is left of the stretch follows
-pub takes_to_end : (chunk line line' : List ℕ) (at end n : ℕ) → at + n < end → EndsLineAt (take (end - at) (drop at chunk)) (Some n) → line' ≡ held (line ++ take n (take (end - at) (drop at chunk)))
+pub takes_to_end : (chunk line line' : List ℕ) (at end n : ℕ) → at + n < end → EndsLineAt (take (end - at) (drop at chunk)) (Some n)
+    → line' ≡ held (line ++ take n (take (end - at) (drop at chunk)))
     → TakesToEnd (take (end - at) (drop at chunk)) (take (end - (at + (n + 1))) (drop (at + (n + 1)) chunk)) line line'
 takes_to_end chunk line line' at end n within ends goes =
     let ahead = take (end - at) (drop at chunk) in

@@ -25,11 +25,13 @@ module _ {X P : Type 0} (R : P → X → Bool → P → Type 0) (at : X) (p : P)
   was_there q [] xs y told (k, lt, e) = absurd (omega (arith, lt))
   was_there q (b ∷ bs) [] y told here = absurd told
   was_there q (true ∷ bs) (x ∷ xs) y (j, one, rest) (zero, lt, e) = (0, omega arith, e)
-  was_there q (true ∷ bs) (x ∷ xs) y (j, one, rest) (suc k, lt, e) = in_rest x y xs (was_there q bs xs y (goes_on q x true j bs xs one rest) (k, omega (arith, lt), e))
+  was_there q (true ∷ bs) (x ∷ xs) y (j, one, rest) (suc k, lt, e) =
+      in_rest x y xs (was_there q bs xs y (goes_on q x true j bs xs one rest) (k, omega (arith, lt), e))
   was_there q (false ∷ bs) (x ∷ xs) y (j, one, rest) here = in_rest x y xs (was_there q bs xs y (goes_on q x false j bs xs one rest) here)
 
   -- each other element is kept
-  others_stay : (q : P) (bs : List Bool) (xs : List X) (y : X) → y ≢ at → length bs ≡ length xs → ReturnsInTurn R p bs xs q → Contains xs y → Contains (items_where_true bs xs) y
+  others_stay : (q : P) (bs : List Bool) (xs : List X) (y : X) → y ≢ at → length bs ≡ length xs → ReturnsInTurn R p bs xs q → Contains xs y
+      → Contains (items_where_true bs xs) y
   others_stay q bs [] y other long told (k, lt, e) = absurd (omega (arith, lt))
   others_stay q [] (x ∷ xs) y other long told here = absurd (omega (arith, long))
   others_stay q (true ∷ bs) (x ∷ xs) y other long (j, one, rest) (zero, lt, e) = (0, omega arith, e)

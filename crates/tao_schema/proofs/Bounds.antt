@@ -10,7 +10,8 @@ use Rattle.tao_schema.specs.declared.refusal.SchemaField.TheVariants.{Assocs}
 within_rule : (lines : List AssocLine) (place : ℕ) (line : AssocLine) → keeps_assoc_rules lines place line ≡ true → (1 ≤ line.bound) × (line.bound ≤ 6000)
 within_rule lines place line kept = grind (arith, nat_tests)
 
-within_at : (lines : List AssocLine) (place : ℕ) (line : Option AssocLine) → assocs_of lines ≡ Ok lines → slice_get lines place ≡ line → (1 ≤ bound_in line) × (bound_in line ≤ 6000)
+within_at : (lines : List AssocLine) (place : ℕ) (line : Option AssocLine) → assocs_of lines ≡ Ok lines → slice_get lines place ≡ line → (1 ≤ bound_in line)
+    × (bound_in line ≤ 6000)
 within_at lines place None taken at = (omega arith, omega arith)
 within_at lines place (Some line) taken at = within_rule lines place line (kept_at Assocs (keeps_assoc_rules lines) lines lines place line taken at)
 

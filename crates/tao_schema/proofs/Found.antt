@@ -17,13 +17,15 @@ objects_found names taken = λ place name at.
     let kept : keeps_object_rules names place name ≡ true = kept_at Objects (keeps_object_rules names) names names place name taken at in
     same_place (place_of names name) place (and_parts (is_name name) (option_eq nat_eq (place_of names name) (Some place)) kept).1
 
-line_found : (lines : List AssocLine) (place : ℕ) (line : AssocLine) → assocs_of lines ≡ Ok lines → slice_get lines place ≡ Some line → place_of (names_of lines) line.name ≡ Some place
+line_found : (lines : List AssocLine) (place : ℕ) (line : AssocLine) → assocs_of lines ≡ Ok lines → slice_get lines place ≡ Some line
+    → place_of (names_of lines) line.name ≡ Some place
 line_found lines place line taken at =
     let kept : keeps_assoc_rules lines place line ≡ true = kept_at Assocs (keeps_assoc_rules lines) lines lines place line taken at in
     let rule : option_eq nat_eq (place_of (names_of lines) line.name) (Some place) ≡ true = grind arith in
     same_place (place_of (names_of lines) line.name) place rule
 
-name_found : (lines : List AssocLine) (place : ℕ) (name : List ℕ) (line : Option AssocLine) → assocs_of lines ≡ Ok lines → slice_get lines place ≡ line → option_map (λ l. l.name) line ≡ Some name → place_of (names_of lines) name ≡ Some place
+name_found : (lines : List AssocLine) (place : ℕ) (name : List ℕ) (line : Option AssocLine) → assocs_of lines ≡ Ok lines → slice_get lines place ≡ line
+    → option_map (λ l. l.name) line ≡ Some name → place_of (names_of lines) name ≡ Some place
 name_found lines place name None taken at is = absurd (none-some name is)
 name_found lines place name (Some line) taken at is = rw (← same_Some line.name name is) (line_found lines place line taken at)
 

@@ -7,7 +7,8 @@ use Rattle.std.proofs.lemmas.Option.{none-some}
 use Rattle.tao_schema.specs.Rules.{broken_from, broken, unless_broken}
 use Rattle.tao_schema.specs.declared.refusal.SchemaField.{SchemaField}
 
-kept_from : {A : Type 0} (keeps : ℕ → A → Bool) (start : ℕ) (entries : List A) (place : ℕ) (entry : A) → broken_from keeps start entries ≡ None → slice_get entries place ≡ Some entry → keeps (start + place) entry ≡ true
+kept_from : {A : Type 0} (keeps : ℕ → A → Bool) (start : ℕ) (entries : List A) (place : ℕ) (entry : A) → broken_from keeps start entries ≡ None
+    → slice_get entries place ≡ Some entry → keeps (start + place) entry ≡ true
 kept_from keeps start [] place entry none at = absurd (none-some entry at)
 kept_from keeps start (e ∷ es) zero entry none at = elim (cases_Bool (keeps start e)) [
   | inl kept ↦ grind arith
@@ -27,7 +28,8 @@ none_broken field entries taken None is = refl
 none_broken field entries taken (Some place) is = cc
 
 -- a list that is taken keeps the rules at each place
-pub kept_at : {A : Type 0} (field : SchemaField) (keeps : ℕ → A → Bool) (entries taken : List A) (place : ℕ) (entry : A) → unless_broken field entries (broken keeps entries) ≡ Ok taken → slice_get entries place ≡ Some entry → keeps place entry ≡ true
+pub kept_at : {A : Type 0} (field : SchemaField) (keeps : ℕ → A → Bool) (entries taken : List A) (place : ℕ) (entry : A)
+    → unless_broken field entries (broken keeps entries) ≡ Ok taken → slice_get entries place ≡ Some entry → keeps place entry ≡ true
 kept_at field keeps entries taken place entry is at =
     let none : broken keeps entries ≡ None = none_broken field entries taken (broken keeps entries) is in
     let from_start : broken_from keeps 0 entries ≡ None = elim (cases_Bool (nat_le 1 (length entries) && nat_le (length entries) 64)) [

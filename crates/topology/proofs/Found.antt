@@ -1,5 +1,6 @@
 -- The first that passes a test, and the numbers of a configuration's nodes.
-use Rattle.std.proofs.Common.{◌≡◌, ◌↔◌, ℕ, zero, suc, ◌+◌, ◌<◌, length, Bool, true, false, cond, List, [], ◌∷◌, All, find, map, unwrap_or, option_map, IsFalse, IsTrue, IsNone, IfSome, Some, bytes_eq, slice_get, refl, ap, arith, subst, sym}
+use Rattle.std.proofs.Common.{◌≡◌, ◌↔◌, ℕ, zero, suc, ◌+◌, ◌<◌, length, Bool, true, false, cond, List, [], ◌∷◌, All, find, map, unwrap_or}
+use Rattle.std.proofs.Common.{option_map, IsFalse, IsTrue, IsNone, IfSome, Some, bytes_eq, slice_get, refl, ap, arith, subst, sym}
 use Rattle.std.specs.List.{AllByRecursion, position_from}
 use Rattle.std.proofs.lemmas.List.Elements.{All-from_recursion, recursion_from_All}
 use Rattle.std.proofs.lemmas.Bool.{lt-ltb}
@@ -16,7 +17,8 @@ module _ {X : Type 0} (test : X → Bool) where
   find_passes [] = tt
   find_passes (x ∷ xs) = at x (test x) refl xs (find_passes xs)
     where
-      at : (x : X) (b : Bool) → test x ≡ b → (xs : List X) → IfSome (find test xs) (λ x. IsTrue (test x)) → IfSome (cond b (Some x) (find test xs)) (λ x. IsTrue (test x))
+      at : (x : X) (b : Bool) → test x ≡ b → (xs : List X) → IfSome (find test xs) (λ x. IsTrue (test x))
+          → IfSome (cond b (Some x) (find test xs)) (λ x. IsTrue (test x))
       at x true e xs later = e
       at x false e xs later = later
 

@@ -1,5 +1,6 @@
 -- Each cache node has a place of its own, and so has each suspicion.
-use Rattle.std.proofs.Common.{get_or-set_other, get_or-set_same, ◌≡◌, ◌≢◌, ℕ, ◌<◌, ◌≤◌, ◌%◌, zero, suc, Bool, true, false, not, ◌&&◌, List, [], ◌∷◌, length, All, IsTrue, slice_get, slice_set, slice_index_or, nat_lt, unwrap_or, refl, ap, arith}
+use Rattle.std.proofs.Common.{get_or-set_other, get_or-set_same, ◌≡◌, ◌≢◌, ℕ, ◌<◌, ◌≤◌, ◌%◌, zero, suc, Bool, true, false, not, ◌&&◌, List, [], ◌∷◌}
+use Rattle.std.proofs.Common.{length, All, IsTrue, slice_get, slice_set, slice_index_or, nat_lt, unwrap_or, refl, ap, arith}
 use Rattle.std.specs.List.{AllByRecursion}
 use Rattle.std.proofs.Math.Nat.{mod-lt}
 use Rattle.std.proofs.lemmas.Bool.{and_parts, lt-ltb, ltb-true}
@@ -32,7 +33,8 @@ below_count [] few tier index lt = absurd (omega (arith, lt))
 below_count (c ∷ cs) few zero index lt = (omega arith, omega (arith, lt, few.0.1))
 below_count (c ∷ cs) few (suc tier) index lt = let below = below_count cs few.1 tier index lt in (omega (arith, below.0), below.1)
 
-below_leaders : (regions : List NodeCounts) → AllByRecursion KeepCounts regions → (region index : ℕ) → index < leader_count regions region → (region < length regions) × (index < 4)
+below_leaders : (regions : List NodeCounts) → AllByRecursion KeepCounts regions → (region index : ℕ) → index < leader_count regions region
+    → (region < length regions) × (index < 4)
 below_leaders [] few region index lt = absurd (omega (arith, lt))
 below_leaders (c ∷ cs) few zero index lt = (omega arith, omega (arith, lt, few.0.leaders))
 below_leaders (c ∷ cs) few (suc region) index lt = let below = below_leaders cs few.1 region index lt in (omega (arith, below.0), below.1)
@@ -47,7 +49,8 @@ pub leads_some : (regions : List NodeCounts) → All KeepCounts regions → (reg
     → IsTrue (nat_lt (shard % leader_count regions region) (leader_count regions region))
 leads_some regions keep region shard lt = lt-ltb _ _ (mod-lt shard (some_leader regions (recursion_from_All KeepCounts regions keep) region lt))
 
-below_tiers : (regions : List NodeCounts) → AllByRecursion KeepCounts regions → (region tier : ℕ) → tier < tier_count regions region → (region < length regions) × (tier < 4)
+below_tiers : (regions : List NodeCounts) → AllByRecursion KeepCounts regions → (region tier : ℕ) → tier < tier_count regions region → (region < length regions)
+    × (tier < 4)
 below_tiers [] few region tier lt = absurd (omega (arith, lt))
 below_tiers (c ∷ cs) few zero tier lt = (omega arith, omega (arith, lt, few.0.tiers))
 below_tiers (c ∷ cs) few (suc region) tier lt = let below = below_tiers cs few.1 region tier lt in (omega (arith, below.0), below.1)
@@ -56,15 +59,18 @@ below_followers : (regions : List NodeCounts) → AllByRecursion KeepCounts regi
     → (region < length regions) × (tier < 4) × (index < 4)
 below_followers [] few region tier index lt = absurd (omega (arith, lt))
 below_followers (c ∷ cs) few zero tier index lt =
-    let below = below_count c.followers (recursion_from_All _ c.followers few.0.followers) tier index lt in (omega arith, omega (arith, below.0, few.0.tiers), below.1)
-below_followers (c ∷ cs) few (suc region) tier index lt = let below = below_followers cs few.1 region tier index lt in (omega (arith, below.0), below.1, below.2)
+    let below = below_count c.followers (recursion_from_All _ c.followers few.0.followers) tier index lt in
+    (omega arith, omega (arith, below.0, few.0.tiers), below.1)
+below_followers (c ∷ cs) few (suc region) tier index lt = let below = below_followers cs few.1 region tier index lt in
+    (omega (arith, below.0), below.1, below.2)
 
 module _ (states : NodeStates) (keep : KeepPlaces states) where
   few : AllByRecursion KeepCounts states.regions
   few = recursion_from_All KeepCounts states.regions keep.counts
 
   pub leader_below : (region index : ℕ) → IsTrue (is_cache states.regions (Leader region index)) → (region < 4) × (index < 4)
-  leader_below region index known = let below = below_leaders states.regions few region index (ltb-true _ _ known) in (omega (arith, below.0, keep.regions), below.1)
+  leader_below region index known = let below = below_leaders states.regions few region index (ltb-true _ _ known) in
+      (omega (arith, below.0, keep.regions), below.1)
 
   follower_below : (region tier index : ℕ) → IsTrue (is_cache states.regions (Follower region tier index)) → (region < 4) × (tier < 4) × (index < 4)
   follower_below region tier index known =
@@ -104,7 +110,8 @@ module _ (states : NodeStates) (keep : KeepPlaces states) where
   flag_there node known flag other differs = gate_not (is_cache states.regions other) _ _
       (λ there. get_or-set_other states.down (node_place node) (node_place other) flag false (λ e. differs (one_place other node there known e)))
 
-  pub sets_up : (node : NodeName) → IsTrue (is_cache states.regions node) → (up : Bool) → SetsUp node up states (record states { down = slice_set states.down (node_place node) (not up) })
+  pub sets_up : (node : NodeName) → IsTrue (is_cache states.regions node) → (up : Bool)
+      → SetsUp node up states (record states { down = slice_set states.down (node_place node) (not up) })
   sets_up node known up = record { here = here node known; others = others; rest = refl }
     where
       here : (n : NodeName) → IsTrue (is_cache states.regions n) → is_up (record states { down = slice_set states.down (node_place n) (not up) }) n ≡ up
@@ -140,7 +147,8 @@ module _ (states : NodeStates) (keep : KeepPlaces states) where
       let parts = and_parts _ _ may in
       let tier = tier_below s.region s.tier parts.0 in let leader = leader_index_below s.leader parts.1 in omega (arith, tier.0, tier.1, leader)
 
-  one_suspicion : (s u : Suspicion) → IsTrue (may_suspect states.regions s) → IsTrue (may_suspect states.regions u) → suspicion_place s ≡ suspicion_place u → s ≡ u
+  one_suspicion : (s u : Suspicion) → IsTrue (may_suspect states.regions s) → IsTrue (may_suspect states.regions u) → suspicion_place s ≡ suspicion_place u
+      → s ≡ u
   one_suspicion s u may other e =
       let p = and_parts _ _ may in let q = and_parts _ _ other in
       let a = tier_below s.region s.tier p.0 in let b = tier_below u.region u.tier q.0 in
@@ -153,8 +161,10 @@ module _ (states : NodeStates) (keep : KeepPlaces states) where
   pub sets_trust : (s : Suspicion) → IsTrue (may_suspect states.regions s) → (trusted : Bool)
       → SetsTrust s trusted states (record states { suspected = slice_set states.suspected (suspicion_place s) (not trusted) })
   sets_trust s may trusted = record {
-    here = rw (get_or-set_same states.suspected (suspicion_place s) (not trusted) false (omega (arith, suspicion_place_below s may, keep.suspected))) (rw may refl);
+    here = rw (get_or-set_same states.suspected (suspicion_place s) (not trusted) false (omega (arith, suspicion_place_below s may, keep.suspected)))
+        (rw may refl);
     others = λ other differs. gate_same (may_suspect states.regions other) _ _
-        (λ there. get_or-set_other states.suspected (suspicion_place s) (suspicion_place other) (not trusted) false (λ e. differs (one_suspicion other s there may e)));
+        (λ there. get_or-set_other states.suspected (suspicion_place s) (suspicion_place other) (not trusted) false
+        (λ e. differs (one_suspicion other s there may e)));
     rest = refl;
   }

@@ -1,5 +1,6 @@
 -- Tiers and nodes by their names.
-use Rattle.std.specs.Prelude.{ℕ, Bool, ◌==◌, ◌&&◌, ◌||◌, List, length, Option, option_and_then, option_map, unwrap_or, slice_get, slice_index, codes, bytes_eq, decimal, nat_lt, if◌then◌else◌}
+use Rattle.std.specs.Prelude.{ℕ, Bool, ◌==◌, ◌&&◌, ◌||◌, List, length, Option, option_and_then, option_map, unwrap_or, slice_get, slice_index, codes}
+use Rattle.std.specs.Prelude.{bytes_eq, decimal, nat_lt, if◌then◌else◌}
 use Rattle.std.specs.Bool.{then_some}
 use Rattle.std.specs.List.{position_or_len, before_first, after_first}
 use Rattle.std.specs.Str.Parse.{digits_value}

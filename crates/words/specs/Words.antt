@@ -7,7 +7,8 @@ use Rattle.words.specs.declared.PlanWord.TheVariants.{Hold, Advance}
 use Rattle.words.specs.declared.ReadWord.TheVariants.{ObjGet, AssocGet, AssocCount, AssocRange, AssocTimeRange}
 use Rattle.words.specs.declared.WriteWord.TheVariants.{ObjAdd, ObjUpdate, ObjDelete, AssocAdd, AssocDelete, AssocChangeType}
 use Rattle.words.specs.declared.Word.{Word}
-use Rattle.words.specs.declared.Word.TheVariants.{Open, Write, Read, Plan, Delivery, Drop, Refill, Stream, Repair, Evict, Show, Inbox, Health, Link, Settle, Audit}
+use Rattle.words.specs.declared.Word.TheVariants.{Open, Write, Read, Plan, Delivery, Drop, Refill, Stream, Repair, Evict, Show, Inbox, Health, Link}
+use Rattle.words.specs.declared.Word.TheVariants.{Settle, Audit}
 
 -- each word as it stands in a line
 abbrev pub word_text : Word → List ℕ

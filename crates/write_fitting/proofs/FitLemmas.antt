@@ -119,7 +119,8 @@ names_is (AssocAdd id1 atype id2 time payload) [] h = absurd (true≢false (sym 
 names_is (AssocDelete id1 atype id2) [] h = absurd (true≢false (sym h))
 names_is (AssocChangeType id1 atype id2 newtype) [] h = absurd (true≢false (sym h))
 names_is (ObjAdd shard otype payload) (t ∷ ts) h =
-    let put = puts_is (λ id object. shard_of id == shard && object.otype.0 == otype.0 && same_data object.payload payload) t.key t.change (and_parts _ true h).0 in
+    let put = puts_is (λ id object. shard_of id == shard && object.otype.0 == otype.0 && same_data object.payload payload) t.key t.change
+    (and_parts _ true h).0 in
     let tests = and_three (shard_of put.0 == shard) (put.1.otype.0 == otype.0) (same_data put.1.payload payload) put.4 in
     let types : put.1.otype.0 ≡ otype.0 = eqb-same put.1.otype.0 otype.0 tests.1 in
     let payloads : put.1.payload ≡ payload = data_is put.1.payload payload tests.2 in
@@ -169,8 +170,10 @@ names_from (AssocAdd id1 atype id2 time payload) [] n = absurd n
 names_from (AssocDelete id1 atype id2) [] n = absurd n
 names_from (AssocChangeType id1 atype id2 newtype) [] n = absurd n.0
 names_from (ObjAdd shard otype payload) (t ∷ ts) n =
-    rw (n.2, n.3) (and_from _ true (from_three (shard_of n.0 == shard) (otype.0 == otype.0) (same_data payload payload) (rw n.1 (eqb-self shard)) (eqb-self otype.0) (data_self payload)) refl)
-names_from (ObjUpdate id payload) (t ∷ ts) n = rw (n.1, n.2) (and_from _ true (and_from (id == id) (same_data payload payload) (eqb-self id) (data_self payload)) refl)
+    rw (n.2, n.3) (and_from _ true (from_three (shard_of n.0 == shard) (otype.0 == otype.0) (same_data payload payload) (rw n.1 (eqb-self shard))
+    (eqb-self otype.0) (data_self payload)) refl)
+names_from (ObjUpdate id payload) (t ∷ ts) n = rw (n.1, n.2)
+    (and_from _ true (and_from (id == id) (same_data payload payload) (eqb-self id) (data_self payload)) refl)
 names_from (ObjDelete id) (t ∷ ts) n = rw (n.0, n.1) (and_from (id == id) true (eqb-self id) refl)
 names_from (AssocAdd id1 atype id2 time payload) (t ∷ ts) n =
     rw n.3 (and_from _ true (and_from (is_list id1 atype t.key) _ (list_from id1 atype t.key n.2)
@@ -183,7 +186,8 @@ names_from (AssocChangeType id1 atype id2 newtype) (t ∷ s ∷ ts) n =
     (and_from (is_list id1 newtype s.key) (id2 == id2) (list_from id1 newtype s.key n.1.4) (eqb-self id2)))
 
 -- data that differ at a place are not the same
-pub differ_at : (ps qs : List Pair) (i : ℕ) (p q : Pair) → ((d : Pair) → p ≡ get_or ps i d) → ((d : Pair) → q ≡ get_or qs i d) → same_pair p q ≡ false → same_data ps qs ≡ false
+pub differ_at : (ps qs : List Pair) (i : ℕ) (p q : Pair) → ((d : Pair) → p ≡ get_or ps i d) → ((d : Pair) → q ≡ get_or qs i d) → same_pair p q ≡ false
+    → same_data ps qs ≡ false
 differ_at ps qs i p q first second other = elim (cases_Bool (same_data ps qs)) [
   | inl same ↦ (
       let here : p ≡ q = first p ∙ ap (λ xs. get_or xs i p) (data_is ps qs same) ∙ sym (second p) in
@@ -193,14 +197,17 @@ differ_at ps qs i p q first second other = elim (cases_Bool (same_data ps qs)) [
 ]
 
 -- data of one length that agree at each place are the same
-pub same_at_all : (ps qs : List Pair) (n : ℕ) → length ps ≡ length qs → n ≡ min (length ps) (length qs) → ((k : ℕ) (d : Pair) → k < n → get_or ps k d ≡ get_or qs k d) → same_data ps qs ≡ true
+pub same_at_all : (ps qs : List Pair) (n : ℕ) → length ps ≡ length qs → n ≡ min (length ps) (length qs)
+    → ((k : ℕ) (d : Pair) → k < n → get_or ps k d ≡ get_or qs k d) → same_data ps qs ≡ true
 same_at_all ps qs n long is agree = (data_decides ps qs).1 (same_lists ps qs long (λ k d lt. agree k d (omega arith)))
 
 -- one place more at which they agree
-pub agree_more : (ps qs : List Pair) (n m : ℕ) (p q : Pair) → ((k : ℕ) (d : Pair) → k < n → get_or ps k d ≡ get_or qs k d) → ((d : Pair) → p ≡ get_or ps n d) → ((d : Pair) → q ≡ get_or qs n d)
+pub agree_more : (ps qs : List Pair) (n m : ℕ) (p q : Pair) → ((k : ℕ) (d : Pair) → k < n → get_or ps k d ≡ get_or qs k d) → ((d : Pair) → p ≡ get_or ps n d)
+    → ((d : Pair) → q ≡ get_or qs n d)
     → same_pair p q ≡ true → m ≡ n + 1 → (k : ℕ) (d : Pair) → k < m → get_or ps k d ≡ get_or qs k d
 agree_more ps qs n m p q agree first second same is k d lt =
-    below_more (λ j. (e : Pair) → get_or ps j e ≡ get_or qs j e) n (λ j h e. agree j e h) (λ e. sym (first e) ∙ (pair_decides p q).0 same ∙ second e) k (omega arith) d
+    below_more (λ j. (e : Pair) → get_or ps j e ≡ get_or qs j e) n (λ j h e. agree j e h) (λ e. sym (first e) ∙ (pair_decides p q).0 same ∙ second e) k
+    (omega arith) d
 
 -- an entry of the write's kind fits it where the test holds of its touches
 pub fits_is : (e : Entry) (write : Write) (ts : List Touch) (b : Bool) → e.kind ≡ write_kind write → ts ≡ e.touches → b ≡ names write ts

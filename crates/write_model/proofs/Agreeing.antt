@@ -32,7 +32,8 @@ different_places : (log : List Entry) → IsSound log → (m n : ℕ) (x y : Ent
     → Contains (updates_of x) u → Contains (updates_of y) (u.0, u.1, u.2, v.3) → stamp_of u.3 ≡ stamp_of v.3 → m ≢ n → ⊥
 different_places log sound m n x y u v at_m at_n h k same apart = elim (cases_lt m n) [
   | inl lt ↦ no_rise (stamp_of u.3) (stamp_of v.3) same ((stamps_rise log).rise sound m n x y lt at_m at_n u.0 u.1 u.2 u.3 v.3 h k)
-  | inr le ↦ no_rise (stamp_of v.3) (stamp_of u.3) (sym same) ((stamps_rise log).rise sound n m y x (omega (arith, le, apart)) at_n at_m u.0 u.1 u.2 v.3 u.3 k h)
+  | inr le ↦ no_rise (stamp_of v.3) (stamp_of u.3) (sym same)
+      ((stamps_rise log).rise sound n m y x (omega (arith, le, apart)) at_n at_m u.0 u.1 u.2 v.3 u.3 k h)
 ]
   where
     no_rise : (s t : Stamp) → s ≡ t → is_earlier s t ≡ true → ⊥
@@ -55,7 +56,8 @@ one_log log sound (suc m) (suc n) x y u v at_p at_q h k one same =
     ]
 
 -- The stamps of a client's records have the shard of their key.
-own_shard : (log : List Entry) → IsSound log → (p : ℕ) (e : Entry) (u : EdgeUpdate) → entry_at log p ≡ Some e → IsTrue (is_client e.origin) → Contains (updates_of e) u
+own_shard : (log : List Entry) → IsSound log → (p : ℕ) (e : Entry) (u : EdgeUpdate) → entry_at log p ≡ Some e → IsTrue (is_client e.origin)
+    → Contains (updates_of e) u
     → (stamp_of u.3).shard ≡ shard_of u.0
 own_shard log sound zero e u at client h = absurd (cc)
 own_shard log sound (suc n) e u at client h =
@@ -68,7 +70,8 @@ cases_origin : (o : Origin) → IsTrue (is_client o) ⊎ ((from : ℕ) × (sourc
 cases_origin (Client session seq) = inl refl
 cases_origin (Merge shard position) = inr (shard, position, refl)
 
-ends_at : (types : EdgeTypes) (shard : ℕ) (log : List Entry) → IsSoundOf types shard log → (place : ℕ) (e : Entry) → slice_get log place ≡ Some e → KeepsEnds types shard e
+ends_at : (types : EdgeTypes) (shard : ℕ) (log : List Entry) → IsSoundOf types shard log → (place : ℕ) (e : Entry) → slice_get log place ≡ Some e
+    → KeepsEnds types shard e
 ends_at types shard log sound place e h =
     subst (KeepsEnds types shard) (get_or_from_slice_get log place e e h) (sound.ends place e (slice_get_within log place e h))
 
@@ -83,7 +86,8 @@ module _ (types : EdgeTypes) (stores : Stores) (match : InversesMatch types) (ke
     other : IsOtherEnd types of u
     shard_is : (stamp_of u.3).shard ≡ shard_of u.2
 
-  merge_source : (shard position : ℕ) (e : Entry) (from source : ℕ) (u : EdgeUpdate) → entry_at (log_of stores.logs shard) position ≡ Some e → e.origin ≡ Merge from source
+  merge_source : (shard position : ℕ) (e : Entry) (from source : ℕ) (u : EdgeUpdate) → entry_at (log_of stores.logs shard) position ≡ Some e
+      → e.origin ≡ Merge from source
       → Contains (updates_of e) u → FromThere u
   merge_source shard position e from source u at origin h =
       let m = kept.covered.merges shard position e from source at origin in
@@ -102,7 +106,8 @@ module _ (types : EdgeTypes) (stores : Stores) (match : InversesMatch types) (ke
         writes = of.writes;
         other = of.other;
         shard_is = ap (λ s. (stamp_of s).shard) of.other.state
-            ∙ own_shard (log_of stores.logs from) (kept.sound from).sound source m.entry of.of m.stands.stands m.stands.client of.writes ∙ ap shard_of (sym of.other.id2);
+            ∙ own_shard (log_of stores.logs from) (kept.sound from).sound source m.entry of.of m.stands.stands m.stands.client of.writes
+            ∙ ap shard_of (sym of.other.id2);
       }
 
   -- a record was written by a client at its own shard, or comes from the other end
@@ -153,7 +158,8 @@ module _ (types : EdgeTypes) (stores : Stores) (match : InversesMatch types) (ke
       let s : ℕ = shard_of u.0 in
       let place = at_place types s (log_of stores.logs s) w.position w.entry (kept.sound s) w.stands in
       let keeps = ends_at types s (log_of stores.logs s) (kept.sound s) place.0 w.entry place.1 in
-      let both = All-contains (λ x. shard_of x.2 ≡ s → IfSome (other_end types x) (Contains (updates_of w.entry))) (updates_of w.entry) u keeps.both w.writes (sym near) in
+      let both = All-contains (λ x. shard_of x.2 ≡ s → IfSome (other_end types x) (Contains (updates_of w.entry))) (updates_of w.entry) u keeps.both w.writes
+      (sym near) in
       let o = other_end_is types u v other in
       record {
         position = w.position;
@@ -169,7 +175,8 @@ module _ (types : EdgeTypes) (stores : Stores) (match : InversesMatch types) (ke
       let o = other_end_is types u (v.0, v.1, v.2, u.3) other in
       go o (source_of u w) (source_of v x)
     where
-      go : IsOtherEnd types u (v.0, v.1, v.2, u.3) → ((stamp_of u.3).shard ≡ shard_of u.0) ⊎ FromThere u → ((stamp_of v.3).shard ≡ shard_of v.0) ⊎ FromThere v → u.3 ≡ v.3
+      go : IsOtherEnd types u (v.0, v.1, v.2, u.3) → ((stamp_of u.3).shard ≡ shard_of u.0) ⊎ FromThere u → ((stamp_of v.3).shard ≡ shard_of v.0) ⊎ FromThere v
+          → u.3 ≡ v.3
       go o (inl a) (inl b) = absurd (apart (sym a ∙ ap (λ s. s.shard) same ∙ b ∙ ap shard_of o.id1))
       go o (inr f) (inr g) = absurd (apart (ap shard_of (sym o.id2) ∙ sym g.shard_is ∙ ap (λ s. s.shard) (sym same) ∙ f.shard_is))
       go o (inl a) (inr g) =
@@ -187,7 +194,8 @@ module _ (types : EdgeTypes) (stores : Stores) (match : InversesMatch types) (ke
     | inr apart ↦ agree_far u v w x other same apart
   ]
 
-  pub reached_all : (u v : EdgeUpdate) → IsWritten stores u → other_end types u ≡ Some v → (stamp_of u.3).shard ≡ shard_of v.0 → HasStamp (log_of stores.logs (shard_of v.0)) v
+  pub reached_all : (u v : EdgeUpdate) → IsWritten stores u → other_end types u ≡ Some v → (stamp_of u.3).shard ≡ shard_of v.0
+      → HasStamp (log_of stores.logs (shard_of v.0)) v
   reached_all u v w other shard = elim (cases_eq (shard_of u.0) (shard_of u.2)) [
     | inl near ↦ reached_there v (near_end u v w other near)
     | inr apart ↦ from_source (source_of u w) apart

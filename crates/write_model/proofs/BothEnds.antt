@@ -10,7 +10,9 @@ use Rattle.tao_base.specs.Stamps.{stamp_of}
 use Rattle.tao_base.specs.declared.id.AType.{AType}
 use Rattle.tao_base.specs.declared.entry.Entry.{Entry}
 use Rattle.tao_base.specs.declared.entry.Origin.{Origin}
-use Rattle.graph_model.proofs.Members.{IsIn, PairsByRecursion, if_some, in_any, in_append_cases, in_append_left, in_append_right, in_filter, in_filter_map, in_filter_map_parts, in_filter_parts, none_in, pairs_append, pairs_filter, pairs_filter_map, pairs_weaker}
+use Rattle.graph_model.proofs.Members.{IsIn, PairsByRecursion, if_some, in_any, in_append_cases, in_append_left, in_append_right, in_filter}
+use Rattle.graph_model.proofs.Members.{in_filter_map, in_filter_map_parts, in_filter_parts, none_in, pairs_append, pairs_filter, pairs_filter_map}
+use Rattle.graph_model.proofs.Members.{pairs_weaker}
 use Rattle.graph_model.proofs.NearEnds.{near_ends_are_paired}
 use Rattle.write_model.proofs.Written.{AreApart, AreWritten, CutBefore}
 use Rattle.graph_model.specs.Edges.{edge_record}
@@ -98,7 +100,8 @@ same_news : (log : List Entry) (u v : EdgeUpdate) → v.3 ≡ u.3 → edge_recor
 same_news log u v s e = λ i. is_later (s i) (e i)
 
 pub same_edge-true : (u v : EdgeUpdate) → u.0 ≡ v.0 → u.1 ≡ v.1 → u.2 ≡ v.2 → same_edge u v ≡ true
-same_edge-true u v a b c = and_from (u.0 == v.0 && u.1.0 == v.1.0) (u.2 == v.2) (and_from (u.0 == v.0) (u.1.0 == v.1.0) (eq-eqb u.0 v.0 a) (eq-eqb u.1.0 v.1.0 (ap (λ x. x.0) b))) (eq-eqb u.2 v.2 c)
+same_edge-true u v a b c = and_from (u.0 == v.0 && u.1.0 == v.1.0) (u.2 == v.2)
+    (and_from (u.0 == v.0) (u.1.0 == v.1.0) (eq-eqb u.0 v.0 a) (eq-eqb u.1.0 v.1.0 (ap (λ x. x.0) b))) (eq-eqb u.2 v.2 c)
 
 pub same_edge-parts : (u v : EdgeUpdate) → same_edge u v ≡ true → (u.0 ≡ v.0) × (u.1 ≡ v.1) × (u.2 ≡ v.2)
 same_edge-parts u v h =
@@ -118,7 +121,8 @@ module _ (types : EdgeTypes) (shard : ℕ) (log : List Entry) (id1 id2 : ℕ) (u
   near_news : (v : EdgeUpdate) → IsNearEnd types us v → is_news log v ≡ true
   near_news v n =
       let u : EdgeUpdate = n.of in
-      let there : edge_record log u.0 u.1 u.2 ≡ edge_record log u.2 v.1 u.0 = near_ends_are_paired shard log types match sound u.0 u.1 v.1 u.2 n.other.inverse (own_here u n.is_in) (n.near ∙ own_here u n.is_in) in
+      let there : edge_record log u.0 u.1 u.2 ≡ edge_record log u.2 v.1 u.0 = near_ends_are_paired shard log types match sound u.0 u.1 v.1 u.2 n.other.inverse
+      (own_here u n.is_in) (n.near ∙ own_here u n.is_in) in
       let at : edge_record log v.0 v.1 v.2 ≡ edge_record log u.2 v.1 u.0 = λ i. edge_record log (n.other.id1 i) v.1 (n.other.id2 i) in
       same_news log u v n.other.state (at ∙ sym there) ∙ w.news u n.is_in
 
@@ -128,14 +132,16 @@ module _ (types : EdgeTypes) (shard : ℕ) (log : List Entry) (id1 id2 : ℕ) (u
   own_apart : (u v : EdgeUpdate) → IsMate u v → AreApart u v
   own_apart u v m e = m.types (cc)
 
-  near_apart : (x y : EdgeUpdate) (u v : EdgeUpdate) → IsMate x y → when (is_near x) (other_end types x) ≡ Some u → when (is_near y) (other_end types y) ≡ Some v → AreApart u v
+  near_apart : (x y : EdgeUpdate) (u v : EdgeUpdate) → IsMate x y → when (is_near x) (other_end types x) ≡ Some u
+      → when (is_near y) (other_end types y) ≡ Some v → AreApart u v
   near_apart x y u v m h k e =
       let a = other_end_is types x u (when_some (is_near x) (other_end types x) u h).1 in
       let b = other_end_is types y v (when_some (is_near y) (other_end types y) v k).1 in
       let same : u.1 ≡ v.1 = cc in
       m.types (one_inverse types x.1 y.1 u.1 v.1 match a.inverse b.inverse same)
 
-  near_mates : (x y : EdgeUpdate) (u v : EdgeUpdate) → IsMate x y → when (is_near x) (other_end types x) ≡ Some u → when (is_near y) (other_end types y) ≡ Some v → CutBefore u v
+  near_mates : (x y : EdgeUpdate) (u v : EdgeUpdate) → IsMate x y → when (is_near x) (other_end types x) ≡ Some u
+      → when (is_near y) (other_end types y) ≡ Some v → CutBefore u v
   near_mates x y u v m h k =
       other_mates types x y u v (other_end_is types x u (when_some (is_near x) (other_end types x) u h).1)
       (other_end_is types y v (when_some (is_near y) (other_end types y) v k).1) m.cut
@@ -185,7 +191,8 @@ module _ (types : EdgeTypes) (shard : ℕ) (log : List Entry) (id1 id2 : ℕ) (u
       subst (λ y. IsIn y (us ++ near_ends types us)) same (in_append_left us (near_ends types us) u n.is_in))
 
   -- a fact of the records of both ends
-  of_both : (P : EdgeUpdate → Type 0) → ((u : EdgeUpdate) → IsIn u us → P u) → ((v : EdgeUpdate) → IsNearEnd types us v → P v) → (u : EdgeUpdate) → IsIn u (us ++ near_ends types us) → P u
+  of_both : (P : EdgeUpdate → Type 0) → ((u : EdgeUpdate) → IsIn u us → P u) → ((v : EdgeUpdate) → IsNearEnd types us v → P v) → (u : EdgeUpdate)
+      → IsIn u (us ++ near_ends types us) → P u
   of_both P f g u h = elim (in_append_cases us (near_ends types us) u h) [ inl k ↦ f u k | inr k ↦ g u (near_end_of types us u k) ]
 
   pub both_written : (origin : Origin) → 0 < length us → AreWritten types shard log origin (us ++ near_ends types us)

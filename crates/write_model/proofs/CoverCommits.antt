@@ -16,7 +16,8 @@ use Rattle.tao_base.specs.declared.id.AType.{AType}
 use Rattle.tao_base.specs.declared.id.Id.{Id}
 use Rattle.tao_base.specs.declared.write.Write.{Write}
 use Rattle.write_model.proofs.Forward.{forward_follows}
-use Rattle.write_model.proofs.Growing.{Grown, IsGain, entry_at-last, entry_at-within, gained_entry, gained_grown, gained_here, gained_elsewhere, gained_sound, gained_sum, job_stays, merge_stays, stamp_stays}
+use Rattle.write_model.proofs.Growing.{Grown, IsGain, entry_at-last, entry_at-within, gained_entry, gained_grown, gained_here, gained_elsewhere}
+use Rattle.write_model.proofs.Growing.{gained_sound, gained_sum, job_stays, merge_stays, stamp_stays}
 use Rattle.write_model.proofs.NextNumbers.{forward_origin, numbers_follow}
 use Rattle.graph_model.proofs.Updates.{edge_record-append, update_of_record}
 use Rattle.write_model.specs.CoverLaws.{CommitsKeep}
@@ -32,24 +33,30 @@ use Rattle.write_model.specs.WriteLaws.{IsAdmitted}
 pub record KeepsCover (types : EdgeTypes) (old new : Stores) (shard : ℕ) (e : Entry) : Type 0 where
   pub jobs : (s p : ℕ) (us : List EdgeUpdate) → new.job s p ≡ Some us → IsJob types (log_of new.logs s) p us
   pub still_open : (s p : ℕ) (x : Entry) → entry_at (log_of old.logs s) p ≡ Some x → IsSome (old.job s p) → IsSome (new.job s p)
-  pub owed : IsTrue (is_client e.origin) → All (λ u. IsSome (new.job shard (length (log_of old.logs shard) + 1)) ⊎ HasStamp (log_of new.logs (shard_of u.0)) u) (job_of types e)
-  pub merge : (from source : ℕ) → e.origin ≡ Merge from source → IsMergeAt types (log_of new.logs) (take (length (log_of old.logs shard) + 1) (log_of new.logs shard)) e from source
+  pub owed : IsTrue (is_client e.origin) → All (λ u. IsSome (new.job shard (length (log_of old.logs shard) + 1)) ⊎ HasStamp (log_of new.logs (shard_of u.0)) u)
+      (job_of types e)
+  pub merge : (from source : ℕ) → e.origin ≡ Merge from source
+      → IsMergeAt types (log_of new.logs) (take (length (log_of old.logs shard) + 1) (log_of new.logs shard)) e from source
   pub numbers : (u : EdgeUpdate) → Contains (updates_of e) u → (stamp_of u.3).number ≤ sum_by length old.logs + 1
 
-module _ (types : EdgeTypes) (old new : Stores) (shard : ℕ) (e : Entry) (g : IsGain types old.logs new.logs shard e) (was : AreSoundAndCovered types old) (k : KeepsCover types old new shard e) where
+module _ (types : EdgeTypes) (old new : Stores) (shard : ℕ) (e : Entry) (g : IsGain types old.logs new.logs shard e) (was : AreSoundAndCovered types old)
+    (k : KeepsCover types old new shard e) where
   grown : Grown old.logs new.logs
   grown = gained_grown types old.logs new.logs shard e g
 
-  owed_old : (s p : ℕ) (x : Entry) → IsClientEntry (log_of old.logs s) p x → All (λ u. IsSome (new.job s p) ⊎ HasStamp (log_of new.logs (shard_of u.0)) u) (job_of types x)
+  owed_old : (s p : ℕ) (x : Entry) → IsClientEntry (log_of old.logs s) p x → All (λ u. IsSome (new.job s p) ⊎ HasStamp (log_of new.logs (shard_of u.0)) u)
+      (job_of types x)
   owed_old s p x stands =
-      All-weaker (λ u. IsSome (old.job s p) ⊎ HasStamp (log_of old.logs (shard_of u.0)) u) (λ u. IsSome (new.job s p) ⊎ HasStamp (log_of new.logs (shard_of u.0)) u)
+      All-weaker (λ u. IsSome (old.job s p) ⊎ HasStamp (log_of old.logs (shard_of u.0)) u)
+      (λ u. IsSome (new.job s p) ⊎ HasStamp (log_of new.logs (shard_of u.0)) u)
       (λ u h. elim h [
         | inl job ↦ inl (k.still_open s p x stands.stands job)
         | inr there ↦ inr (stamp_stays types old.logs new.logs grown (gained_sound types old.logs new.logs shard e g was.sound) (shard_of u.0) u there)
       ])
       (job_of types x) (was.covered.owed s p x stands)
 
-  owed_new : (s p : ℕ) (x : Entry) → IsClientEntry (log_of new.logs s) p x → All (λ u. IsSome (new.job s p) ⊎ HasStamp (log_of new.logs (shard_of u.0)) u) (job_of types x)
+  owed_new : (s p : ℕ) (x : Entry) → IsClientEntry (log_of new.logs s) p x → All (λ u. IsSome (new.job s p) ⊎ HasStamp (log_of new.logs (shard_of u.0)) u)
+      (job_of types x)
   owed_new s p x stands = elim (gained_entry types old.logs new.logs shard e g s p x stands.stands) [
     | inl before ↦ owed_old s p x (record { stands = before; client = stands.client })
     | inr last ↦ (
@@ -66,7 +73,8 @@ module _ (types : EdgeTypes) (old new : Stores) (shard : ℕ) (e : Entry) (g : I
     | inr last ↦ (
         subst (λ y. IsMergeAt types (log_of new.logs) (take p (log_of new.logs s)) y from source) last.2
         (subst (λ i. IsMergeAt types (log_of new.logs) (take p (log_of new.logs i)) e from source) (sym last.0)
-        (subst (λ i. IsMergeAt types (log_of new.logs) (take i (log_of new.logs shard)) e from source) (sym last.1) (k.merge from source (ap (λ y. y.origin) last.2 ∙ origin)))))
+        (subst (λ i. IsMergeAt types (log_of new.logs) (take i (log_of new.logs shard)) e from source) (sym last.1)
+        (k.merge from source (ap (λ y. y.origin) last.2 ∙ origin)))))
   ]
 
   number_here : (id1 : Id) (atype : AType) (id2 : Id) (o : Option EdgeState) → edge_record (e ∷ []) id1 atype id2 ≡ o
@@ -79,15 +87,18 @@ module _ (types : EdgeTypes) (old new : Stores) (shard : ℕ) (e : Entry) (g : I
       let sum = gained_sum types old.logs new.logs shard e g in
       elim (cases_eq s shard) [
         | inl same ↦ (
-            let at : edge_record (log_of new.logs s) id1 atype id2 ≡ option_or (edge_record (e ∷ []) id1 atype id2) (edge_record (log_of old.logs shard) id1 atype id2) =
+            let at : edge_record (log_of new.logs s) id1 atype id2 ≡ option_or (edge_record (e ∷ []) id1 atype id2)
+            (edge_record (log_of old.logs shard) id1 atype id2) =
             ap (λ i. edge_record (log_of new.logs i) id1 atype id2) same
             ∙ ap (λ l. edge_record l id1 atype id2) (gained_here types old.logs new.logs shard e g)
             ∙ edge_record-append (log_of old.logs shard) e id1 atype id2 in
             let few = number_here id1 atype id2 (edge_record (e ∷ []) id1 atype id2) refl in
-            subst (λ o. number_of o ≤ sum_by length new.logs) (sym at) (subst (λ n. number_of (option_or (edge_record (e ∷ []) id1 atype id2) (edge_record (log_of old.logs shard) id1 atype id2)) ≤ n) (sym sum) few))
+            subst (λ o. number_of o ≤ sum_by length new.logs) (sym at)
+            (subst (λ n. number_of (option_or (edge_record (e ∷ []) id1 atype id2) (edge_record (log_of old.logs shard) id1 atype id2)) ≤ n) (sym sum) few))
         | inr apart ↦ (
             let n = was.covered.numbers s id1 atype id2 in
-            subst (λ l. number_of (edge_record l id1 atype id2) ≤ sum_by length new.logs) (sym (gained_elsewhere types old.logs new.logs shard e g s apart)) (omega (arith, n, sum)))
+            subst (λ l. number_of (edge_record l id1 atype id2) ≤ sum_by length new.logs) (sym (gained_elsewhere types old.logs new.logs shard e g s apart))
+            (omega (arith, n, sum)))
       ]
 
   pub stays_covered : AreSoundAndCovered types new
@@ -129,9 +140,11 @@ module _ (types : EdgeTypes) (old new : Stores) (shard : ℕ) (origin : Origin) 
   opened_at = subst (λ i. new.job shard i ≡ opened_job (job_of types e)) position_is c.opens.here
 
   last_stands : entry_at (log_of new.logs shard) (length (log_of old.logs shard) + 1) ≡ Some e
-  last_stands = subst (λ l. entry_at l (length (log_of old.logs shard) + 1) ≡ Some e) (sym (gained_here types old.logs new.logs shard e gain)) (entry_at-last (log_of old.logs shard) e)
+  last_stands = subst (λ l. entry_at l (length (log_of old.logs shard) + 1) ≡ Some e) (sym (gained_here types old.logs new.logs shard e gain))
+      (entry_at-last (log_of old.logs shard) e)
 
-  job_here : (us : List EdgeUpdate) → new.job shard (length (log_of old.logs shard) + 1) ≡ Some us → IsJob types (log_of new.logs shard) (length (log_of old.logs shard) + 1) us
+  job_here : (us : List EdgeUpdate) → new.job shard (length (log_of old.logs shard) + 1) ≡ Some us
+      → IsJob types (log_of new.logs shard) (length (log_of old.logs shard) + 1) us
   job_here us h =
       let is = opened_is (job_of types e) us (sym opened_at ∙ h) in
       record { entry = e; stands = record { stands = last_stands; client = is_clients }; job_is = is.0; some = is.1 }
@@ -151,12 +164,14 @@ module _ (types : EdgeTypes) (old new : Stores) (shard : ℕ) (origin : Origin) 
     | inr apart ↦ job_before s p us (λ q. absurd (apart q)) h
   ]
     where
-      job_before : (s p : ℕ) (us : List EdgeUpdate) → (s ≡ shard → p ≢ length (log_of old.logs shard) + 1) → new.job s p ≡ Some us → IsJob types (log_of new.logs s) p us
+      job_before : (s p : ℕ) (us : List EdgeUpdate) → (s ≡ shard → p ≢ length (log_of old.logs shard) + 1) → new.job s p ≡ Some us
+          → IsJob types (log_of new.logs s) p us
       job_before s p us apart h =
           job_stays types old new (gained_grown types old.logs new.logs shard e gain) s p us (was.covered.jobs s p us (sym (elsewhere s p apart) ∙ h))
 
   not_past : (s p : ℕ) (x : Entry) → entry_at (log_of old.logs s) p ≡ Some x → s ≡ shard → p ≢ length (log_of old.logs shard) + 1
-  not_past s p x h same at = let within = entry_at-within (log_of old.logs shard) p x (subst (λ i. entry_at (log_of old.logs i) p ≡ Some x) same h) in absurd (omega (arith, within, at))
+  not_past s p x h same at = let within = entry_at-within (log_of old.logs shard) p x (subst (λ i. entry_at (log_of old.logs i) p ≡ Some x) same h) in
+      absurd (omega (arith, within, at))
 
   numbers : (u : EdgeUpdate) → Contains (updates_of e) u → (stamp_of u.3).number ≤ sum_by length old.logs + 1
   numbers u h =
@@ -169,7 +184,8 @@ module _ (types : EdgeTypes) (old new : Stores) (shard : ℕ) (origin : Origin) 
   commit_keeps = stays_covered types old new shard e gain was (record {
     jobs = job_new;
     still_open = λ s p x at job. subst IsSome (sym (elsewhere s p (not_past s p x at))) job;
-    owed = λ q. opened_or_none (λ u. HasStamp (log_of new.logs (shard_of u.0)) u) (job_of types e) (new.job shard (length (log_of old.logs shard) + 1)) opened_at;
+    owed = λ q. opened_or_none (λ u. HasStamp (log_of new.logs (shard_of u.0)) u) (job_of types e)
+        (new.job shard (length (log_of old.logs shard) + 1)) opened_at;
     merge = λ from source h. absurd (no_merge e.origin from source is_clients h);
     numbers = numbers;
   })

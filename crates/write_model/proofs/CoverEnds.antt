@@ -42,10 +42,13 @@ module _ (types : EdgeTypes) (old new : Stores) (owed : Owed) (was : AreSoundAnd
       inr (subst (λ s. HasStamp (log_of old.logs s) u) (sym (All-in (λ w. shard_of w.0 ≡ owed.other) (job_of types owed.entry) u h.owes.there k))
       (All-in (HasStamp (log_of old.logs owed.other)) (job_of types owed.entry) u h.done k))))
 
-  still_owed : (s p : ℕ) (x : Entry) → IsClientEntry (log_of old.logs s) p x → All (λ u. IsSome (new.job s p) ⊎ HasStamp (log_of old.logs (shard_of u.0)) u) (job_of types x)
+  still_owed : (s p : ℕ) (x : Entry) → IsClientEntry (log_of old.logs s) p x → All (λ u. IsSome (new.job s p) ⊎ HasStamp (log_of old.logs (shard_of u.0)) u)
+      (job_of types x)
   still_owed s p x stands = elim (cases_job s p) [
-    | inl at ↦ all_there x (subst (λ i. entry_at (log_of old.logs owed.shard) i ≡ Some x) at.1 (subst (λ i. entry_at (log_of old.logs i) p ≡ Some x) at.0 stands.stands)) (new.job s p)
-    | inr apart ↦ subst (λ o. All (λ u. IsSome o ⊎ HasStamp (log_of old.logs (shard_of u.0)) u) (job_of types x)) (sym (h.ends.others s p apart)) (was.covered.owed s p x stands)
+    | inl at ↦ all_there x (subst (λ i. entry_at (log_of old.logs owed.shard) i ≡ Some x) at.1
+        (subst (λ i. entry_at (log_of old.logs i) p ≡ Some x) at.0 stands.stands)) (new.job s p)
+    | inr apart ↦ subst (λ o. All (λ u. IsSome o ⊎ HasStamp (log_of old.logs (shard_of u.0)) u) (job_of types x)) (sym (h.ends.others s p apart))
+        (was.covered.owed s p x stands)
   ]
 
   pub end_keeps : AreSoundAndCovered types new

@@ -32,7 +32,8 @@ record IsLeft (types : EdgeTypes) (new : Stores) (owed : Owed) : Type 0 where
   owes : IsOwed types new owed
   done : HasJob types (log_of new.logs owed.other) owed.entry
 
-module _ (types : EdgeTypes) (old new : Stores) (owed : Owed) (match : InversesMatch types) (was : AreSoundAndCovered types old) (h : MergesJob types old new owed) where
+module _ (types : EdgeTypes) (old new : Stores) (owed : Owed) (match : InversesMatch types) (was : AreSoundAndCovered types old)
+    (h : MergesJob types old new owed) where
   abbrev e : Entry
   e = owed.entry
 
@@ -61,7 +62,8 @@ module _ (types : EdgeTypes) (old new : Stores) (owed : Owed) (match : InversesM
         let first = first_of news (some_news types log owed.shard e m.merged m.is) in
         let in_job : IsIn first.0 (job_of types e) = (in_filter_parts (is_news log) (job_of types e) first.0 first.1).0 in
         subst (λ s. IsMergeable types s (log_of old.logs s) owed.shard e) (there first.0 in_job)
-        (covered_jobs_may_merge.may types old match was.sound was.covered owed.shard e.position e first.0 h.owes.stands (contains_from_in (job_of types e) first.0 in_job))
+        (covered_jobs_may_merge.may types old match was.sound was.covered owed.shard e.position e first.0 h.owes.stands
+        (contains_from_in (job_of types e) first.0 in_job))
 
     gain : IsGain types old.logs new.logs owed.other m.merged
     gain = record { within = m.gained.0; is = m.gained.1; stays = merge_stays types owed.other log owed.shard e m.merged mergeable m.is }
@@ -93,7 +95,8 @@ module _ (types : EdgeTypes) (old new : Stores) (owed : Owed) (match : InversesM
         let longer : length (log_of new.logs owed.other) ≡ length log + 1 = ap length here ∙ length-append log (m.merged ∷ []) in
         take_all (length log + 1) (log_of new.logs owed.other) (omega (arith, longer))
 
-    merge_at : (from source : ℕ) → m.merged.origin ≡ Merge from source → IsMergeAt types (log_of new.logs) (take (length log + 1) (log_of new.logs owed.other)) m.merged from source
+    merge_at : (from source : ℕ) → m.merged.origin ≡ Merge from source
+        → IsMergeAt types (log_of new.logs) (take (length log + 1) (log_of new.logs owed.other)) m.merged from source
     merge_at from source origin =
         let same : Merge owed.shard e.position ≡ Merge from source = sym origin_is ∙ origin in
         let from_is : owed.shard ≡ from = cc in
@@ -127,7 +130,8 @@ module _ (types : EdgeTypes) (old new : Stores) (owed : Owed) (match : InversesM
   left : IsLeft types new owed
   left = elim h.merges [ inl n ↦ none_left n.0 n.1 | inr m ↦ merged_left m ]
 
-pub merges_grow : (types : EdgeTypes) (old new : Stores) (owed : Owed) → InversesMatch types → AreSoundAndCovered types old → MergesJob types old new owed → Grown old.logs new.logs
+pub merges_grow : (types : EdgeTypes) (old new : Stores) (owed : Owed) → InversesMatch types → AreSoundAndCovered types old → MergesJob types old new owed
+    → Grown old.logs new.logs
 merges_grow types old new owed match was h = elim h.merges [
   | inl n ↦ grown_same old.logs new.logs n.1
   | inr m ↦ grown types old new owed match was h m

@@ -60,16 +60,19 @@ at_place types shard log (suc place) e sound h =
 done_there : (log : List Entry) (n : ℕ) (us : List EdgeUpdate) → IsSound log → All (HasStamp (take n log)) us → All (HasStamp log) us
 done_there log n us sound done =
     let whole : take n log ++ drop n log ≡ log = take-append-drop n log in
-    All-weaker (HasStamp (take n log)) (HasStamp log) (λ u h. subst (λ l. HasStamp l u) whole ((stamps_stay (take n log)).stays (drop n log) u (subst IsSound (sym whole) sound) h)) us done
+    All-weaker (HasStamp (take n log)) (HasStamp log) (λ u h. subst (λ l. HasStamp l u) whole
+    ((stamps_stay (take n log)).stays (drop n log) u (subst IsSound (sym whole) sound) h)) us done
 
-new_or_done : (types : EdgeTypes) (stores : Stores) (shard from position : ℕ) (e : Entry) → IsSoundOf types shard (log_of stores.logs shard) → AreCovered types stores
+new_or_done : (types : EdgeTypes) (stores : Stores) (shard from position : ℕ) (e : Entry) → IsSoundOf types shard (log_of stores.logs shard)
+    → AreCovered types stores
     → IsClientEntry (log_of stores.logs from) position e → e.position ≡ position → IsNewOrDone types (log_of stores.logs shard) from e
 new_or_done types stores shard from position e sound covered stands same = elim (new_or_there (log_of stores.logs shard) (Merge from e.position)) [
   | inl new ↦ inl new
   | inr there ↦ (
       let merge = covered.merges shard (suc there.place) there.entry from e.position there.stands there.is in
       let one : merge.entry ≡ e = same_Some merge.entry e (sym merge.stands.stands ∙ ap (entry_at (log_of stores.logs from)) same ∙ stands.stands) in
-      inr (done_there (log_of stores.logs shard) (suc there.place) (job_of types e) sound.sound (subst (λ x. All (HasStamp (take (suc there.place) (log_of stores.logs shard))) (job_of types x)) one merge.done)))
+      inr (done_there (log_of stores.logs shard) (suc there.place) (job_of types e) sound.sound
+      (subst (λ x. All (HasStamp (take (suc there.place) (log_of stores.logs shard))) (job_of types x)) one merge.done)))
 ]
 
 pub covered_jobs_may_merge : CoveredJobsMayMerge

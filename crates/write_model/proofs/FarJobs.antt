@@ -16,7 +16,8 @@ use Rattle.tao_base.specs.declared.entry.Change.TheVariants.{SetEdge, CutEdge}
 use Rattle.tao_base.specs.declared.entry.Entry.{Entry}
 use Rattle.tao_base.specs.declared.entry.Touch.{Touch}
 use Rattle.write_model.proofs.BothEnds.{one_inverse, other_end_is, other_mates, when_some}
-use Rattle.graph_model.proofs.Members.{IsIn, PairsByRecursion, All-from_in, All-in, all_in, in_filter_map_parts, in_from_contains, pairs_append, pairs_both, pairs_filter_map, pairs_from_in, pairs_prop, pairs_weaker, recursion_from_AllPairs}
+use Rattle.graph_model.proofs.Members.{IsIn, PairsByRecursion, All-from_in, All-in, all_in, in_filter_map_parts, in_from_contains, pairs_append}
+use Rattle.graph_model.proofs.Members.{pairs_both, pairs_filter_map, pairs_from_in, pairs_prop, pairs_weaker, recursion_from_AllPairs}
 use Rattle.graph_model.proofs.Updates.{written}
 use Rattle.write_model.proofs.Written.{AreApart, CutBefore, update_of}
 use Rattle.tao_base.specs.Keys.{key_shard}
@@ -36,7 +37,8 @@ of_records R s t u v h e k = rw (e, k) at h
 cut_then_set : (key1 : Key) (change1 : Change) (version1 : ℕ) (key2 : Key) (change2 : Change) (version2 : ℕ)
     → IsOneEnd (record { key = key1; change = change1; version = version1 } ∷ record { key = key2; change = change2; version = version2 } ∷ [])
     → OfRecords CutBefore (record { key = key1; change = change1; version = version1 }) (record { key = key2; change = change2; version = version2 })
-cut_then_set (Assocs id1 atype) (CutEdge id2 stamp was) version1 (Assocs other newtype) (SetEdge edge was2) version2 h = record { states = tt; id1 = h.0; id2 = h.1 }
+cut_then_set (Assocs id1 atype) (CutEdge id2 stamp was) version1 (Assocs other newtype) (SetEdge edge was2) version2 h =
+    record { states = tt; id1 = h.0; id2 = h.1 }
 cut_then_set key1 change1 version1 key2 change2 version2 h = absurd h
 
 one_end_pairs : (ts : List Touch) → IsOneEnd ts → PairsByRecursion (OfRecords CutBefore) ts
@@ -65,7 +67,8 @@ touch_pairs ts o =
     pairs_weaker (OfRecords CutBefore) (OfRecords Ends) part (λ s t k. of_cut (update_of s) (update_of t) k) (one_end_pairs part h) in
     subst (PairsByRecursion (OfRecords Ends)) (sym o.joined)
     (pairs_append (OfRecords Ends) o.first o.second (at_one o.first o.first_end) (at_one o.second o.second_end)
-    (λ s t h k. of_opposite (update_of s) (update_of t) (All-in (AreOpposite s) o.second t (All-in (λ x. All (AreOpposite x) o.second) o.first s o.opposite h) k)))
+    (λ s t h k. of_opposite (update_of s) (update_of t)
+    (All-in (AreOpposite s) o.second t (All-in (λ x. All (AreOpposite x) o.second) o.first s o.opposite h) k)))
 
 -- two records, a cut and then a set at one end where the first one's other end is far
 abbrev FarPair : EdgeUpdate → EdgeUpdate → Type 0
@@ -105,7 +108,8 @@ module _ (types : EdgeTypes) (from : ℕ) (e : Entry) (far : IsEntryOf from e) w
       elim (of_records Ends s t u v p.0.0 h k) [
         | inl cut ↦ (λ away. cut, apart)
         | inr o ↦ (
-            let near : is_near u ≡ true = eq-eqb (shard_of u.2) (shard_of u.0) (ap shard_of (sym o.0) ∙ key_of_record from t v p.1.1 k ∙ sym (key_of_record from s u p.1.0 h)) in
+            let near : is_near u ≡ true = eq-eqb (shard_of u.2) (shard_of u.0)
+            (ap shard_of (sym o.0) ∙ key_of_record from t v p.1.1 k ∙ sym (key_of_record from s u p.1.0 h)) in
             (λ away. absurd (both_ways (is_near u) away near), apart))
       ]
 
@@ -113,17 +117,20 @@ module _ (types : EdgeTypes) (from : ℕ) (e : Entry) (far : IsEntryOf from e) w
   record_pairs = ∥∥₁_elim far.ordered (pairs_prop FarPair far_prop (updates_of e)) (λ ordered.
       pairs_filter_map TouchPair FarPair update_of e.touches far_pair
       (pairs_both (λ s t. OfRecords Ends s t × (s.key ≢ t.key)) (λ s t. (key_shard s.key ≡ from) × (key_shard t.key ≡ from)) e.touches
-      (pairs_both (OfRecords Ends) (λ s t. s.key ≢ t.key) e.touches (touch_pairs e.touches ordered) (recursion_from_AllPairs (λ s t. s.key ≢ t.key) e.touches far.once))
+      (pairs_both (OfRecords Ends) (λ s t. s.key ≢ t.key) e.touches (touch_pairs e.touches ordered)
+      (recursion_from_AllPairs (λ s t. s.key ≢ t.key) e.touches far.once))
       (pairs_from_in (λ s t. (key_shard s.key ≡ from) × (key_shard t.key ≡ from)) e.touches
       (λ s t h k. (All-in (λ x. key_shard x.key ≡ from) e.touches s far.here h, All-in (λ x. key_shard x.key ≡ from) e.touches t far.here k)))))
 
-  job_cut : (u v x y : EdgeUpdate) → FarPair u v → when (not (is_near u)) (other_end types u) ≡ Some x → when (not (is_near v)) (other_end types v) ≡ Some y → CutBefore x y
+  job_cut : (u v x y : EdgeUpdate) → FarPair u v → when (not (is_near u)) (other_end types u) ≡ Some x → when (not (is_near v)) (other_end types v) ≡ Some y
+      → CutBefore x y
   job_cut u v x y p h k =
       let found = when_some (not (is_near u)) (other_end types u) x h in
       let also = when_some (not (is_near v)) (other_end types v) y k in
       other_mates types u v x y (other_end_is types u x found.1) (other_end_is types v y also.1) (p.0 (not-true (is_near u) found.0))
 
-  job_apart : InversesMatch types → (u v x y : EdgeUpdate) → FarPair u v → when (not (is_near u)) (other_end types u) ≡ Some x → when (not (is_near v)) (other_end types v) ≡ Some y → AreApart x y
+  job_apart : InversesMatch types → (u v x y : EdgeUpdate) → FarPair u v → when (not (is_near u)) (other_end types u) ≡ Some x
+      → when (not (is_near v)) (other_end types v) ≡ Some y → AreApart x y
   job_apart match u v x y p h k same =
       let found = when_some (not (is_near u)) (other_end types u) x h in
       let also = when_some (not (is_near v)) (other_end types v) y k in
@@ -133,7 +140,8 @@ module _ (types : EdgeTypes) (from : ℕ) (e : Entry) (far : IsEntryOf from e) w
 
   -- of a job's records none is of the edge of another, and two are a cut and then a set
   pub job_pairs : InversesMatch types → PairsByRecursion JobPair (job_of types e)
-  job_pairs match = pairs_filter_map FarPair JobPair (λ u. when (not (is_near u)) (other_end types u)) (updates_of e) (λ u v x y p h k. (job_cut u v x y p h k, job_apart match u v x y p h k)) record_pairs
+  job_pairs match = pairs_filter_map FarPair JobPair (λ u. when (not (is_near u)) (other_end types u)) (updates_of e)
+      (λ u v x y p h k. (job_cut u v x y p h k, job_apart match u v x y p h k)) record_pairs
 
   -- the other end of a job's record lies where the job is from
   pub from_there : (x : EdgeUpdate) → IsIn x (job_of types e) → shard_of x.2 ≡ from
@@ -146,7 +154,8 @@ module _ (types : EdgeTypes) (from : ℕ) (e : Entry) (far : IsEntryOf from e) w
 
   same_id : (x y : EdgeUpdate) → IsIn x (job_of types e) → IsIn y (job_of types e) → x.0 ≡ y.0
   same_id = ids_same (job_of types e)
-      (pairs_filter_map FarPair (λ x y. x.0 ≡ y.0) (λ u. when (not (is_near u)) (other_end types u)) (updates_of e) (λ u v x y p h k. (job_cut u v x y p h k).id1) record_pairs)
+      (pairs_filter_map FarPair (λ x y. x.0 ≡ y.0) (λ u. when (not (is_near u)) (other_end types u)) (updates_of e)
+      (λ u v x y p h k. (job_cut u v x y p h k).id1) record_pairs)
 
   not_from : (x : EdgeUpdate) → IsIn x (job_of types e) → from ≢ shard_of x.0
   not_from x h same =
@@ -154,7 +163,8 @@ module _ (types : EdgeTypes) (from : ℕ) (e : Entry) (far : IsEntryOf from e) w
       let u : EdgeUpdate = made.0 in
       let found = when_some (not (is_near u)) (other_end types u) x made.2 in
       let other = other_end_is types u x found.1 in
-      let near : is_near u ≡ true = eq-eqb (shard_of u.2) (shard_of u.0) (ap shard_of (sym other.id1) ∙ sym same ∙ sym (from_there x h) ∙ ap shard_of other.id2) in
+      let near : is_near u ≡ true = eq-eqb (shard_of u.2) (shard_of u.0)
+      (ap shard_of (sym other.id1) ∙ sym same ∙ sym (from_there x h) ∙ ap shard_of other.id2) in
       both_ways (is_near u) (not-true (is_near u) found.0) near
 
   far_from : (u : EdgeUpdate) → IsIn u (job_of types e) → IsFarEntry types from (shard_of u.0) e
@@ -164,7 +174,8 @@ module _ (types : EdgeTypes) (from : ℕ) (e : Entry) (far : IsEntryOf from e) w
     there = All-from_in (λ x. shard_of x.0 ≡ shard_of u.0) (job_of types e) (λ x k. ap shard_of (same_id x u k h));
   }
 
-pub entry_of_sound : (types : EdgeTypes) (from : ℕ) (source : List Entry) (place : ℕ) (e : Entry) → IsSoundOf types from source → slice_get source place ≡ Some e → IsEntryOf from e
+pub entry_of_sound : (types : EdgeTypes) (from : ℕ) (source : List Entry) (place : ℕ) (e : Entry) → IsSoundOf types from source
+    → slice_get source place ≡ Some e → IsEntryOf from e
 entry_of_sound types from source place e sound h =
     let follows = sound.sound place e h in
     let within = slice_get_within source place e h in

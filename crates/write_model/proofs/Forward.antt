@@ -16,7 +16,8 @@ use Rattle.tao_base.specs.declared.edge.EdgeState.TheVariants.{Live, Cut}
 use Rattle.tao_base.specs.declared.entry.Change.{Change}
 use Rattle.tao_base.specs.declared.entry.Change.TheVariants.{PutObject, DropObject}
 use Rattle.tao_base.specs.declared.entry.Kind.{Kind}
-use Rattle.tao_base.specs.declared.entry.Kind.TheVariants.{ObjAdd as ObjAdded, ObjUpdate as ObjUpdated, ObjDelete as ObjDeleted, AssocAdd as AssocAdded, AssocDelete as AssocDeleted, AssocChangeType as TypeChanged}
+use Rattle.tao_base.specs.declared.entry.Kind.TheVariants.{ObjAdd as ObjAdded, ObjUpdate as ObjUpdated, ObjDelete as ObjDeleted}
+use Rattle.tao_base.specs.declared.entry.Kind.TheVariants.{AssocAdd as AssocAdded, AssocDelete as AssocDeleted, AssocChangeType as TypeChanged}
 use Rattle.tao_base.specs.declared.entry.Entry.{Entry}
 use Rattle.tao_base.specs.declared.entry.Origin.{Origin}
 use Rattle.tao_base.specs.declared.entry.Touch.{Touch}
@@ -40,7 +41,15 @@ when-none true = refl
 when-none false = refl
 
 one_in_order : (t : Touch) → AreInOrder (t ∷ [])
-one_in_order t = record { first = t ∷ []; second = []; joined = refl; some = omega arith; first_end = tt; second_end = tt; opposite = λ k d h i e j. absurd (omega arith) }
+one_in_order t = record {
+  first = t ∷ [];
+  second = [];
+  joined = refl;
+  some = omega arith;
+  first_end = tt;
+  second_end = tt;
+  opposite = λ k d h i e j. absurd (omega arith);
+}
 
 -- an entry with one touch
 one_touch_follows : (log : List Entry) (kind : Kind) (origin : Origin) (t : Touch) → IsNewOrigin log origin → TouchFollows log origin t
@@ -59,14 +68,16 @@ edges_stay : (types : EdgeTypes) (shard : ℕ) (log : List Entry) (kind : Kind) 
     → next_entry log kind origin (map (edge_touch log) (with_near_ends types us)) ≡ Some e → StaysSound types shard log e
 edges_stay types shard log kind origin id1 id2 [] e match sound new here w h = absurd (cc)
 edges_stay types shard log kind origin id1 id2 (u ∷ us) e match sound new here w h =
-    written_stays types shard log kind origin (with_near_ends types (u ∷ us)) e sound new (both_written types shard log id1 id2 (u ∷ us) match sound here w origin (omega arith)) h
+    written_stays types shard log kind origin (with_near_ends types (u ∷ us)) e sound new
+    (both_written types shard log id1 id2 (u ∷ us) match sound here w origin (omega arith)) h
 
 object_touch_follows : (log : List Entry) (origin : Origin) (id : ℕ) (change : Change) → TouchFollows log origin (touch_of log (Obj id) change)
 object_touch_follows log origin id change = record { version_is = refl; was_is = tt; stamp_rises = tt; own_stamp = λ c. tt }
 
 -- the entry that writes an object
 object_stays : (types : EdgeTypes) (shard : ℕ) (log : List Entry) (kind : Kind) (origin : Origin) (id : ℕ) (change : Change)
-    → IsSoundOf types shard log → IsNewOrigin log origin → shard_of id ≡ shard → StaysSound types shard log (entry_of log kind origin (touch_of log (Obj id) change ∷ []))
+    → IsSoundOf types shard log → IsNewOrigin log origin → shard_of id ≡ shard
+    → StaysSound types shard log (entry_of log kind origin (touch_of log (Obj id) change ∷ []))
 object_stays types shard log kind origin id change sound new here =
     let t : Touch = touch_of log (Obj id) change in
     stays_sound types shard log _ sound (one_touch_follows log kind origin t new (object_touch_follows log origin id change))
@@ -126,7 +137,8 @@ cut_where_live log id1 atype id2 (Some (Live time payload stamp)) = (id1, atype,
 cut_where_live log id1 atype id2 (Some (Cut stamp)) = []
 cut_where_live log id1 atype id2 None = []
 
-cut_record : (types : EdgeTypes) (log : List Entry) (id1 : Id) (atype : AType) (id2 : Id) (found : Option EdgeState) → IsOneWrite types log id1 id2 (cut_where_live log id1 atype id2 found)
+cut_record : (types : EdgeTypes) (log : List Entry) (id1 : Id) (atype : AType) (id2 : Id) (found : Option EdgeState)
+    → IsOneWrite types log id1 id2 (cut_where_live log id1 atype id2 found)
 cut_record types log id1 atype id2 (Some (Live time payload stamp)) = one_record types log id1 atype id2 (Cut (next_stamp log id1 atype id2)) refl
 cut_record types log id1 atype id2 (Some (Cut stamp)) = no_records types log id1 id2
 cut_record types log id1 atype id2 None = no_records types log id1 id2
@@ -137,8 +149,10 @@ move_where_live log id1 atype id2 newtype (Some (Cut stamp)) = []
 move_where_live log id1 atype id2 newtype None = []
 
 moved_records : (types : EdgeTypes) (log : List Entry) (id1 : Id) (atype : AType) (id2 : Id) (newtype : AType) (found : Option EdgeState)
-    → InversesMatch types → atype ≢ newtype → (id1 ≡ id2 → types.inverse atype ≢ Some newtype) → IsOneWrite types log id1 id2 (move_where_live log id1 atype id2 newtype found)
-moved_records types log id1 atype id2 newtype (Some (Live time payload stamp)) match other apart = two_records types log id1 atype id2 newtype time payload match other apart
+    → InversesMatch types → atype ≢ newtype → (id1 ≡ id2 → types.inverse atype ≢ Some newtype)
+    → IsOneWrite types log id1 id2 (move_where_live log id1 atype id2 newtype found)
+moved_records types log id1 atype id2 newtype (Some (Live time payload stamp)) match other apart =
+    two_records types log id1 atype id2 newtype time payload match other apart
 moved_records types log id1 atype id2 newtype (Some (Cut stamp)) match other apart = no_records types log id1 id2
 moved_records types log id1 atype id2 newtype None match other apart = no_records types log id1 id2
 
@@ -146,11 +160,14 @@ abbrev pub touch_where_there : List Entry → Id → (Object → Change) → Opt
 touch_where_there log id change (Some old) = touch_of log (Obj id) (change old) ∷ []
 touch_where_there log id change None = []
 
-found_object_stays : (types : EdgeTypes) (shard : ℕ) (log : List Entry) (kind : Kind) (origin : Origin) (id : Id) (change : Object → Change) (found : Option Object) (e : Entry)
-    → IsSoundOf types shard log → IsNewOrigin log origin → shard_of id ≡ shard → next_entry log kind origin (touch_where_there log id change found ++ []) ≡ Some e → StaysSound types shard log e
+found_object_stays : (types : EdgeTypes) (shard : ℕ) (log : List Entry) (kind : Kind) (origin : Origin) (id : Id) (change : Object → Change)
+    (found : Option Object) (e : Entry)
+    → IsSoundOf types shard log → IsNewOrigin log origin → shard_of id ≡ shard
+    → next_entry log kind origin (touch_where_there log id change found ++ []) ≡ Some e → StaysSound types shard log e
 found_object_stays types shard log kind origin id change None e sound new here h = absurd (cc)
 found_object_stays types shard log kind origin id change (Some old) e sound new here h =
-    subst (StaysSound types shard log) (given_entry log kind origin (touch_of log (Obj id) (change old) ∷ []) e h).1 (object_stays types shard log kind origin id (change old) sound new here)
+    subst (StaysSound types shard log) (given_entry log kind origin (touch_of log (Obj id) (change old) ∷ []) e h).1
+    (object_stays types shard log kind origin id (change old) sound new here)
 
 -- a new id lies on its shard
 next_id-shard : (shard : ℕ) (log : List Entry) → count_by (λ e. is_addition e.kind) log + 1 < 2 ^ 48 → shard_of (next_id shard log) ≡ shard
@@ -160,7 +177,8 @@ forward_stays : (types : EdgeTypes) (shard : ℕ) (log : List Entry) (origin : O
     → forward_entry types log origin write ≡ Some e → StaysSound types shard log e
 forward_stays types shard log origin (ObjAdd on otype payload) e may h =
     let here : shard_of (next_id on log) ≡ shard = next_id-shard on log may.here.1 ∙ may.here.0 in
-    found_object_stays types shard log ObjAdded origin (next_id on log) (λ old. PutObject old) (Some (record { otype = otype; payload = payload })) e may.sound may.new here h
+    found_object_stays types shard log ObjAdded origin (next_id on log) (λ old. PutObject old)
+    (Some (record { otype = otype; payload = payload })) e may.sound may.new here h
 forward_stays types shard log origin (ObjUpdate id payload) e may h =
     found_object_stays types shard log ObjUpdated origin id (λ old. PutObject (record old { payload = payload })) (object log id) e may.sound may.new may.here h
 forward_stays types shard log origin (ObjDelete id) e may h =
@@ -169,10 +187,12 @@ forward_stays types shard log origin (AssocAdd id1 atype id2 time payload) e may
     edges_stay types shard log AssocAdded origin id1 id2 _ e may.inverses may.sound may.new may.here
     (one_record types log id1 atype id2 (Live time payload (next_stamp log id1 atype id2)) refl) h
 forward_stays types shard log origin (AssocDelete id1 atype id2) e may h =
-    edges_stay types shard log AssocDeleted origin id1 id2 (cut_where_live log id1 atype id2 (edge_record log id1 atype id2)) e may.inverses may.sound may.new may.here
+    edges_stay types shard log AssocDeleted origin id1 id2
+    (cut_where_live log id1 atype id2 (edge_record log id1 atype id2)) e may.inverses may.sound may.new may.here
     (cut_record types log id1 atype id2 (edge_record log id1 atype id2)) h
 forward_stays types shard log origin (AssocChangeType id1 atype id2 newtype) e may h =
-    edges_stay types shard log TypeChanged origin id1 id2 (move_where_live log id1 atype id2 newtype (edge_record log id1 atype id2)) e may.inverses may.sound may.new may.here
+    edges_stay types shard log TypeChanged origin id1 id2
+    (move_where_live log id1 atype id2 newtype (edge_record log id1 atype id2)) e may.inverses may.sound may.new may.here
     (moved_records types log id1 atype id2 newtype (edge_record log id1 atype id2) may.inverses may.changes.0 may.changes.1) h
 
 pub forward_follows : (shard : ℕ) (log : List Entry) (origin : Origin) (write : Write) (e : Entry) → ForwardFollows shard log origin write e

@@ -51,7 +51,8 @@ module _ (types : EdgeTypes) (old new : List (List Entry)) (grown : Grown old ne
   entry_stays shard position e h =
       subst (λ l. entry_at l position ≡ Some e) (sym (grown.is shard)) (entry_at-more (log_of old shard) (grown.more shard) position e h)
 
-  pub take_stays : (shard position : ℕ) (e : Entry) → entry_at (log_of old shard) position ≡ Some e → take position (log_of new shard) ≡ take position (log_of old shard)
+  pub take_stays : (shard position : ℕ) (e : Entry) → entry_at (log_of old shard) position ≡ Some e
+      → take position (log_of new shard) ≡ take position (log_of old shard)
   take_stays shard position e h =
       let within = entry_at-within (log_of old shard) position e h in
       ap (take position) (grown.is shard) ∙ take-append-le position (log_of old shard) (grown.more shard) (omega arith)
@@ -65,10 +66,12 @@ module _ (types : EdgeTypes) (old new : Stores) (grown : Grown old.logs new.logs
   pub client_stays : (shard position : ℕ) (e : Entry) → IsClientEntry (log_of old.logs shard) position e → IsClientEntry (log_of new.logs shard) position e
   client_stays shard position e h = record { stands = entry_stays types old.logs new.logs grown shard position e h.stands; client = h.client }
 
-  pub job_stays : (shard position : ℕ) (us : List EdgeUpdate) → IsJob types (log_of old.logs shard) position us → IsJob types (log_of new.logs shard) position us
+  pub job_stays : (shard position : ℕ) (us : List EdgeUpdate) → IsJob types (log_of old.logs shard) position us
+      → IsJob types (log_of new.logs shard) position us
   job_stays shard position us h = record { entry = h.entry; stands = client_stays shard position h.entry h.stands; job_is = h.job_is; some = h.some }
 
-  pub merge_stays : (shard position : ℕ) (e : Entry) (from source : ℕ) → entry_at (log_of old.logs shard) position ≡ Some e → IsMergeAt types (log_of old.logs) (take position (log_of old.logs shard)) e from source
+  pub merge_stays : (shard position : ℕ) (e : Entry) (from source : ℕ) → entry_at (log_of old.logs shard) position ≡ Some e
+      → IsMergeAt types (log_of old.logs) (take position (log_of old.logs shard)) e from source
       → IsMergeAt types (log_of new.logs) (take position (log_of new.logs shard)) e from source
   merge_stays shard position e from source at h = record {
     entry = h.entry;

@@ -43,16 +43,25 @@ latest_more old new s states l =
     record {
       one = elim l.one [ inl e ↦ elim joined.0 [ inl k ↦ inl (sym k ∙ e) | inr k ↦ inr (inl (sym k ∙ e)) ] | inr h ↦ inr (inr h) ];
       latest = λ x h. elim h [
-        | inl e ↦ subst (λ y. is_earlier (stamp_of s) (stamp_of y) ≡ false) e (not_later (stamp_of s) (stamp_of (later_of old new)) (stamp_of old) over joined.1)
+        | inl e ↦ subst (λ y. is_earlier (stamp_of s) (stamp_of y) ≡ false) e
+            (not_later (stamp_of s) (stamp_of (later_of old new)) (stamp_of old) over joined.1)
         | inr more ↦ elim more [
-          | inl e ↦ subst (λ y. is_earlier (stamp_of s) (stamp_of y) ≡ false) e (not_later (stamp_of s) (stamp_of (later_of old new)) (stamp_of new) over joined.2)
+          | inl e ↦ subst (λ y. is_earlier (stamp_of s) (stamp_of y) ≡ false) e
+              (not_later (stamp_of s) (stamp_of (later_of old new)) (stamp_of new) over joined.2)
           | inr k ↦ l.latest x (inr k)
         ]
       ];
     }
 
 joined_latest : (old : EdgeState) (states : List EdgeState) → (s : EdgeState) × (join_all (Some old) states ≡ Some s) × IsLatest (old ∷ states) s
-joined_latest old [] = (old, refl, record { one = inl refl; latest = λ x h. elim h [ inl e ↦ subst (λ y. is_earlier (stamp_of old) (stamp_of y) ≡ false) e (self_not_later (stamp_of old)) | inr k ↦ absurd k ] })
+joined_latest old [] = (
+  old,
+  refl,
+  record {
+    one = inl refl;
+    latest = λ x h. elim h [ inl e ↦ subst (λ y. is_earlier (stamp_of old) (stamp_of y) ≡ false) e (self_not_later (stamp_of old)) | inr k ↦ absurd k ];
+  },
+)
 joined_latest old (new ∷ states) = let r = joined_latest (later_of old new) states in (r.0, r.1, latest_more old new r.0 states r.2)
 
 -- the join of a record with others is the latest of all, or nothing where there are none
@@ -63,12 +72,19 @@ pub record IsJoin (states : List EdgeState) (found : Option EdgeState) : Type 0 
 join_is_latest : (found : Option EdgeState) (states : List EdgeState) → IsJoin (option_to_list found ++ states) (join_all found states)
 join_is_latest None [] = record { none = λ h. refl; some = λ s h. absurd (cc) }
 join_is_latest None (new ∷ states) = let r = joined_latest new states in
-    record { none = λ h. absurd (let e : None ≡ Some r.0 = sym h ∙ r.1 in cc); some = λ s h. subst (IsLatest (new ∷ states)) (same_Some r.0 s (sym r.1 ∙ h)) r.2 }
+    record {
+      none = λ h. absurd (let e : None ≡ Some r.0 = sym h ∙ r.1 in cc);
+      some = λ s h. subst (IsLatest (new ∷ states)) (same_Some r.0 s (sym r.1 ∙ h)) r.2;
+    }
 join_is_latest (Some old) states = let r = joined_latest old states in
-    record { none = λ h. absurd (let e : None ≡ Some r.0 = sym h ∙ r.1 in cc); some = λ s h. subst (IsLatest (old ∷ states)) (same_Some r.0 s (sym r.1 ∙ h)) r.2 }
+    record {
+      none = λ h. absurd (let e : None ≡ Some r.0 = sym h ∙ r.1 in cc);
+      some = λ s h. subst (IsLatest (old ∷ states)) (same_Some r.0 s (sym r.1 ∙ h)) r.2;
+    }
 
 -- two joins of the same records are one
-same_join : (xs ys : List EdgeState) (o p : Option EdgeState) → IsJoin xs o → IsJoin ys p → ((s : EdgeState) → IsIn s xs → IsIn s ys) → ((s : EdgeState) → IsIn s ys → IsIn s xs)
+same_join : (xs ys : List EdgeState) (o p : Option EdgeState) → IsJoin xs o → IsJoin ys p → ((s : EdgeState) → IsIn s xs → IsIn s ys)
+    → ((s : EdgeState) → IsIn s ys → IsIn s xs)
     → ((x y : EdgeState) → IsIn x xs → IsIn y xs → Agree x y) → o ≡ p
 same_join xs ys None None a b f g agree = refl
 same_join xs ys None (Some t) a b f g agree = absurd (subst (IsIn t) (a.none refl) (g t (b.some t refl).one))
@@ -82,8 +98,11 @@ same_join xs ys (Some s) (Some t) a b f g agree =
 pub any_order : (found : Option EdgeState) (xs ys : List EdgeState) → ((s : EdgeState) → IsIn s xs → IsIn s ys) → ((s : EdgeState) → IsIn s ys → IsIn s xs)
     → ((x y : EdgeState) → IsIn x (option_to_list found ++ xs) → IsIn y (option_to_list found ++ xs) → Agree x y) → join_all found xs ≡ join_all found ys
 any_order found xs ys f g agree =
-    same_join (option_to_list found ++ xs) (option_to_list found ++ ys) (join_all found xs) (join_all found ys) (join_is_latest found xs) (join_is_latest found ys)
+    same_join (option_to_list found ++ xs) (option_to_list found ++ ys) (join_all found xs) (join_all found ys) (join_is_latest found xs)
+    (join_is_latest found ys)
     (λ s h. among found xs ys f s h) (λ s h. among found ys xs g s h) agree
   where
-    among : (o : Option EdgeState) (states others : List EdgeState) → ((s : EdgeState) → IsIn s states → IsIn s others) → (s : EdgeState) → IsIn s (option_to_list o ++ states) → IsIn s (option_to_list o ++ others)
-    among o states others k s h = elim (in_append_cases (option_to_list o) states s h) [ inl j ↦ in_append_left (option_to_list o) others s j | inr j ↦ in_append_right (option_to_list o) others s (k s j) ]
+    among : (o : Option EdgeState) (states others : List EdgeState) → ((s : EdgeState) → IsIn s states → IsIn s others) → (s : EdgeState)
+        → IsIn s (option_to_list o ++ states) → IsIn s (option_to_list o ++ others)
+    among o states others k s h = elim (in_append_cases (option_to_list o) states s h)
+        [ inl j ↦ in_append_left (option_to_list o) others s j | inr j ↦ in_append_right (option_to_list o) others s (k s j) ]

@@ -78,7 +78,8 @@ module _ (shard : ℕ) (log : List Entry) (from position : ℕ) (us : List EdgeU
         (written_follows plain_types shard log Merged (Merge from position) news (records_written plain_types may some_records) origin_is_new)
 
     merge_of_stays : (types : EdgeTypes) → IsSoundOf types shard log → StaysSound types shard log m
-    merge_of_stays types sound = written_stays types shard log Merged (Merge from position) news m sound origin_is_new (records_written types may some_records) h
+    merge_of_stays types sound = written_stays types shard log Merged (Merge from position) news m sound origin_is_new
+        (records_written types may some_records) h
 
 pub merges_follow : (shard : ℕ) (log : List Entry) (from position : ℕ) (us : List EdgeUpdate) (m : Entry) → MergesFollow shard log from position us m
 merges_follow shard log from position us m = record {

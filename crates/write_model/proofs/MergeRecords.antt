@@ -14,7 +14,8 @@ use Rattle.tao_base.specs.declared.entry.Kind.TheVariants.{Merge as Merged}
 use Rattle.tao_base.specs.declared.entry.Origin.TheVariants.{Merge}
 use Rattle.write_model.proofs.BothEnds.{same_edge-parts, same_edge-true, update_same, when_some}
 use Rattle.write_model.proofs.FarJobs.{JobPair, job_pairs}
-use Rattle.graph_model.proofs.Members.{IsIn, PairsByRecursion, contains_from_in, in_filter, in_filter_map, in_filter_map_parts, in_filter_parts, in_from_contains, pairs_filter, pairs_filter_map, pairs_weaker}
+use Rattle.graph_model.proofs.Members.{IsIn, PairsByRecursion, contains_from_in, in_filter, in_filter_map, in_filter_map_parts, in_filter_parts}
+use Rattle.graph_model.proofs.Members.{in_from_contains, pairs_filter, pairs_filter_map, pairs_weaker}
 use Rattle.write_model.proofs.Merging.{merge_updates, nothing_given}
 use Rattle.graph_model.proofs.Updates.{edge_record-append, record_of_update, update_of_record}
 use Rattle.write_model.proofs.Written.{AreApart, given_entry, keys_apart}
@@ -31,7 +32,8 @@ join-is (Some old) s = elim (cases_Bool (is_earlier (stamp_of old) (stamp_of s))
 
 -- where at most one record is given, and it is gained exactly if it is later, the gain is the join
 join_one : (gained found : Option EdgeState) (states : List EdgeState) → PairsByRecursion (λ x y. ⊥) states
-    → ((s : EdgeState) → gained ≡ Some s → IsIn s states × (is_later s found ≡ true)) → ((s : EdgeState) → IsIn s states → is_later s found ≡ true → gained ≡ Some s)
+    → ((s : EdgeState) → gained ≡ Some s → IsIn s states × (is_later s found ≡ true))
+    → ((s : EdgeState) → IsIn s states → is_later s found ≡ true → gained ≡ Some s)
     → option_or gained found ≡ join_all found states
 join_one None found [] p f g = refl
 join_one (Some s) found [] p f g = absurd (f s refl).0
@@ -41,7 +43,8 @@ join_one gained found (s ∷ []) p f g = elim (cases_Bool (is_later s found)) [
   | inr k ↦ none_gained gained f k ∙ sym (join-is found s ∙ (rw k refl))
 ]
   where
-    none_gained : (o : Option EdgeState) → ((x : EdgeState) → o ≡ Some x → IsIn x (s ∷ []) × (is_later x found ≡ true)) → is_later s found ≡ false → option_or o found ≡ found
+    none_gained : (o : Option EdgeState) → ((x : EdgeState) → o ≡ Some x → IsIn x (s ∷ []) × (is_later x found ≡ true)) → is_later s found ≡ false
+        → option_or o found ≡ found
     none_gained None h k = refl
     none_gained (Some x) h k = absurd (other (h x refl).0 (h x refl).1)
       where
@@ -81,7 +84,8 @@ module _ (types : EdgeTypes) (from shard : ℕ) (e : Entry) (far : IsFarEntry ty
   appended None id1 atype id2 = ap (λ l. edge_record l id1 atype id2) (append-nil log)
   appended (Some m) id1 atype id2 = edge_record-append log m id1 atype id2
 
-  at_edge : (id1 : Id) (atype : AType) (id2 : Id) (u : EdgeUpdate) (s : EdgeState) → when (same_edge (id1, atype, id2, u.3) u) (Some u.3) ≡ Some s → u ≡ (id1, atype, id2, s)
+  at_edge : (id1 : Id) (atype : AType) (id2 : Id) (u : EdgeUpdate) (s : EdgeState) → when (same_edge (id1, atype, id2, u.3) u) (Some u.3) ≡ Some s
+      → u ≡ (id1, atype, id2, s)
   at_edge id1 atype id2 u s h =
       let found = when_some (same_edge (id1, atype, id2, u.3) u) (Some u.3) s h in
       let there : EdgeUpdate = (id1, atype, id2, s) in
@@ -100,7 +104,8 @@ module _ (types : EdgeTypes) (from shard : ℕ) (e : Entry) (far : IsFarEntry ty
       appended o id1 atype id2
       ∙ join_one (edge_record (option_to_list o) id1 atype id2) (edge_record log id1 atype id2) (filter_map at (job_of types e))
       (pairs_filter_map AreApart (λ x y. ⊥) at (job_of types e)
-      (λ u v s t apart h k. apart (ap (λ w. Assocs w.0 w.1) (at_edge id1 atype id2 u s h) ∙ ap (λ w. Assocs w.0 w.1) (sym (at_edge id1 atype id2 v t k)))) job_apart)
+      (λ u v s t apart h k. apart (ap (λ w. Assocs w.0 w.1) (at_edge id1 atype id2 u s h) ∙ ap (λ w. Assocs w.0 w.1) (sym (at_edge id1 atype id2 v t k))))
+      job_apart)
       (λ s h.
       let kept = in_filter_parts (is_news log) (job_of types e) (edge s) (gained_in o refl id1 atype id2 s h) in
       let found : at (edge s) ≡ Some s = ap (λ b. when b (Some s)) (same_edge-true (edge s) (edge s) refl refl refl) in

@@ -18,7 +18,8 @@ use Rattle.write_model.proofs.Merging.{merge_done, merge_stays, merges_nothing}
 use Rattle.graph_model.proofs.Rising.{stamps_stay}
 use Rattle.write_model.proofs.Written.{given_entry}
 use Rattle.graph_model.specs.Edges.{edge_record}
-use Rattle.write_model.specs.MergeLaws.{AreMergeable, AreMerged, IsFarEntry, IsMergeable, IsNewOrDone, MergesJoin, OrderIsFree, join_all, merged, merged_in_turn, records_at, records_of}
+use Rattle.write_model.specs.MergeLaws.{AreMergeable, AreMerged, IsFarEntry, IsMergeable, IsNewOrDone, MergesJoin, OrderIsFree, join_all, merged}
+use Rattle.write_model.specs.MergeLaws.{merged_in_turn, records_at, records_of}
 use Rattle.graph_model.specs.Records.{Agree, HasStamp, is_news, join}
 use Rattle.write_model.specs.Merges.{job_of, merge_entry}
 use Rattle.graph_model.specs.Soundness.{IsSound, IsSoundOf}
@@ -37,27 +38,33 @@ record Grows (types : EdgeTypes) (shard : ℕ) (jobs : List (ℕ × Entry)) (log
   longer : new ≡ log ++ more
   origins : (job : ℕ × Entry) → IsIn job jobs → IsNewOrDone types new job.0 job.1
 
-stays_done : (types : EdgeTypes) (log more : List Entry) (e : Entry) → IsSound (log ++ more) → All (HasStamp log) (job_of types e) → All (HasStamp (log ++ more)) (job_of types e)
-stays_done types log more e sound done = All-weaker (HasStamp log) (HasStamp (log ++ more)) (λ u h. (stamps_stay log).stays more u sound h) (job_of types e) done
+stays_done : (types : EdgeTypes) (log more : List Entry) (e : Entry) → IsSound (log ++ more) → All (HasStamp log) (job_of types e)
+    → All (HasStamp (log ++ more)) (job_of types e)
+stays_done types log more e sound done = All-weaker (HasStamp log) (HasStamp (log ++ more)) (λ u h. (stamps_stay log).stays more u sound h)
+    (job_of types e) done
 
 module _ (types : EdgeTypes) (shard : ℕ) (jobs : List (ℕ × Entry)) (are : AreJobs types shard jobs) where
   -- another job may still be merged after one that is merged
-  still_open : (log : List Entry) (m : Entry) (job other : ℕ × Entry) → IsIn job jobs → IsIn other jobs → IsSound (log ++ m ∷ []) → m.origin ≡ Merge job.0 job.1.position
+  still_open : (log : List Entry) (m : Entry) (job other : ℕ × Entry) → IsIn job jobs → IsIn other jobs → IsSound (log ++ m ∷ [])
+      → m.origin ≡ Merge job.0 job.1.position
       → All (HasStamp (log ++ m ∷ [])) (job_of types job.1) → IsNewOrDone types log other.0 other.1 → IsNewOrDone types (log ++ m ∷ []) other.0 other.1
   still_open log m job other h k sound origin done (inr there) = inr (stays_done types log (m ∷ []) other.1 sound there)
   still_open log m job other h k sound origin done (inl new) = elim (cases_eq job.0 other.0) [
     | inl shards ↦ elim (cases_eq job.1.position other.1.position) [
       | inl positions ↦ inr (subst (λ j. All (HasStamp (log ++ m ∷ [])) (job_of types j.1)) (are.one job other h k shards positions) done)
-      | inr apart ↦ inl (All-push (λ old. old.origin ≢ Merge other.0 other.1.position) log m new (λ e. apart (let same : Merge job.0 job.1.position ≡ Merge other.0 other.1.position = sym origin ∙ e in cc)))
+      | inr apart ↦ inl (All-push (λ old. old.origin ≢ Merge other.0 other.1.position) log m new
+          (λ e. apart (let same : Merge job.0 job.1.position ≡ Merge other.0 other.1.position = sym origin ∙ e in cc)))
     ]
-    | inr apart ↦ inl (All-push (λ old. old.origin ≢ Merge other.0 other.1.position) log m new (λ e. apart (let same : Merge job.0 job.1.position ≡ Merge other.0 other.1.position = sym origin ∙ e in cc)))
+    | inr apart ↦ inl (All-push (λ old. old.origin ≢ Merge other.0 other.1.position) log m new
+        (λ e. apart (let same : Merge job.0 job.1.position ≡ Merge other.0 other.1.position = sym origin ∙ e in cc)))
   ]
 
   merge_origin : (log : List Entry) (from : ℕ) (e m : Entry) → merge_entry types log from e ≡ Some m → m.origin ≡ Merge from e.position
   merge_origin log from e m h =
       ap (λ x. x.origin) (sym (given_entry log Merged (Merge from e.position) (map (edge_touch log) (filter (is_news log) (job_of types e))) m h).1)
 
-  one_more : (log : List Entry) (job : ℕ × Entry) → IsIn job jobs → IsSoundOf types shard log → ((other : ℕ × Entry) → IsIn other jobs → IsNewOrDone types log other.0 other.1)
+  one_more : (log : List Entry) (job : ℕ × Entry) → IsIn job jobs → IsSoundOf types shard log
+      → ((other : ℕ × Entry) → IsIn other jobs → IsNewOrDone types log other.0 other.1)
       → (o : Option Entry) → merge_entry types log job.0 job.1 ≡ o
       → Grows types shard jobs log (log ++ option_to_list o) × All (HasStamp (log ++ option_to_list o)) (job_of types job.1)
   one_more log job h sound origins None e =
@@ -78,7 +85,8 @@ module _ (types : EdgeTypes) (shard : ℕ) (jobs : List (ℕ × Entry)) (are : A
 
   in_turn : (js : List (ℕ × Entry)) → ((job : ℕ × Entry) → IsIn job js → IsIn job jobs) → (log : List Entry) → IsSoundOf types shard log
       → ((other : ℕ × Entry) → IsIn other jobs → IsNewOrDone types log other.0 other.1)
-      → Grows types shard jobs log (fold (merged types) log js) × ((job : ℕ × Entry) → IsIn job js → All (HasStamp (fold (merged types) log js)) (job_of types job.1))
+      → Grows types shard jobs log (fold (merged types) log js)
+      × ((job : ℕ × Entry) → IsIn job js → All (HasStamp (fold (merged types) log js)) (job_of types job.1))
   in_turn [] among log sound origins = (record { sound = sound; more = []; longer = sym (append-nil log); origins = origins }, λ job h. absurd h)
   in_turn (j ∷ js) among log sound origins =
       let step = one_more log j (among j (inl refl)) sound origins (merge_entry types log j.0 j.1) refl in
@@ -93,9 +101,11 @@ module _ (types : EdgeTypes) (shard : ℕ) (jobs : List (ℕ × Entry)) (are : A
       )
     where
       done_of : (part whole more : List Entry) → whole ≡ part ++ more → IsSound whole → All (HasStamp part) (job_of types j.1)
-          → ((job : ℕ × Entry) → IsIn job js → All (HasStamp whole) (job_of types job.1)) → (job : ℕ × Entry) → IsIn job (j ∷ js) → All (HasStamp whole) (job_of types job.1)
+          → ((job : ℕ × Entry) → IsIn job js → All (HasStamp whole) (job_of types job.1)) → (job : ℕ × Entry) → IsIn job (j ∷ js)
+          → All (HasStamp whole) (job_of types job.1)
       done_of part whole more e sound first later job (inl k) =
-          subst (λ x. All (HasStamp whole) (job_of types x.1)) k (subst (λ l. All (HasStamp l) (job_of types j.1)) (sym e) (stays_done types part more j.1 (subst IsSound e sound) first))
+          subst (λ x. All (HasStamp whole) (job_of types x.1)) k
+          (subst (λ l. All (HasStamp l) (job_of types j.1)) (sym e) (stays_done types part more j.1 (subst IsSound e sound) first))
       done_of part whole more e sound first later job (inr k) = later job k
 
   -- the record after jobs merged one after another
@@ -105,7 +115,8 @@ module _ (types : EdgeTypes) (shard : ℕ) (jobs : List (ℕ × Entry)) (are : A
   record_in_turn (j ∷ js) among log id1 atype id2 =
       let here : List EdgeState = records_at id1 atype id2 (job_of types j.1) in
       record_in_turn js (λ job h. among job (inr h)) (merged types log j) id1 atype id2
-      ∙ ap (λ o. join_all o (records_of types js id1 atype id2)) (record_merged types j.0 shard j.1 (are.far j (among j (inl refl))) are.match log id1 atype id2)
+      ∙ ap (λ o. join_all o (records_of types js id1 atype id2))
+      (record_merged types j.0 shard j.1 (are.far j (among j (inl refl))) are.match log id1 atype id2)
       ∙ sym (fold-append (λ old state. join old (Some state)) (edge_record log id1 atype id2) here (records_of types js id1 atype id2))
 
 are_jobs : (types : EdgeTypes) (shard : ℕ) (log : List Entry) (jobs : List (ℕ × Entry)) → AreMergeable types shard log jobs → AreJobs types shard jobs
@@ -115,7 +126,8 @@ are_jobs types shard log jobs may = record {
   one = λ job other h k. may.one job other (contains_from_in jobs job h) (contains_from_in jobs other k);
 }
 
-pub are_merged : (types : EdgeTypes) (shard : ℕ) (log : List Entry) (jobs : List (ℕ × Entry)) → AreMergeable types shard log jobs → AreMerged types shard log jobs
+pub are_merged : (types : EdgeTypes) (shard : ℕ) (log : List Entry) (jobs : List (ℕ × Entry)) → AreMergeable types shard log jobs
+    → AreMerged types shard log jobs
 are_merged types shard log jobs may =
     let are : AreJobs types shard jobs = are_jobs types shard log jobs may in
     let all = in_turn types shard jobs are jobs (λ job h. h) log may.sound (λ job h. All-in (λ j. IsNewOrDone types log j.0 j.1) jobs job may.origins h) in
@@ -134,13 +146,15 @@ other_order : (types : EdgeTypes) (shard : ℕ) (log : List Entry) (jobs others 
 other_order types shard log jobs others may from = record {
   inverses = may.inverses;
   sound = may.sound;
-  far = All-from_in (λ job. IsFarEntry types job.0 shard job.1) others (λ job h. All-contains (λ j. IsFarEntry types j.0 shard j.1) jobs job may.far (from job (contains_from_in others job h)));
+  far = All-from_in (λ job. IsFarEntry types job.0 shard job.1) others
+      (λ job h. All-contains (λ j. IsFarEntry types j.0 shard j.1) jobs job may.far (from job (contains_from_in others job h)));
   origins = All-from_in (λ job. IsNewOrDone types log job.0 job.1) others
       (λ job h. All-contains (λ j. IsNewOrDone types log j.0 j.1) jobs job may.origins (from job (contains_from_in others job h)));
   one = λ job other h k. may.one job other (from job h) (from other k);
 }
 
-same_records : (types : EdgeTypes) (jobs others : List (ℕ × Entry)) → ((job : ℕ × Entry) → Contains jobs job → Contains others job) → (id1 : Id) (atype : AType) (id2 : Id) (s : EdgeState)
+same_records : (types : EdgeTypes) (jobs others : List (ℕ × Entry)) → ((job : ℕ × Entry) → Contains jobs job → Contains others job)
+    → (id1 : Id) (atype : AType) (id2 : Id) (s : EdgeState)
     → IsIn s (records_of types jobs id1 atype id2) → IsIn s (records_of types others id1 atype id2)
 same_records types jobs others to id1 atype id2 s h =
     let at : ℕ × Entry → List EdgeState = λ job. records_at id1 atype id2 (job_of types job.1) in

@@ -23,7 +23,8 @@ use Rattle.write_model.specs.WriteLaws.{StaysSound}
 use Rattle.write_model.specs.Writes.{edge_touch, next_entry}
 
 -- the records of a job that are later than the log's are the records of an entry
-pub news_written : (types : EdgeTypes) (from shard : ℕ) (e : Entry) → IsFarEntry types from shard e → InversesMatch types → (log : List Entry) → 0 < length (filter (is_news log) (job_of types e))
+pub news_written : (types : EdgeTypes) (from shard : ℕ) (e : Entry) → IsFarEntry types from shard e → InversesMatch types → (log : List Entry)
+    → 0 < length (filter (is_news log) (job_of types e))
     → AreWritten types shard log (Merge from e.position) (filter (is_news log) (job_of types e))
 news_written types from shard e far match log some =
     let us : List EdgeUpdate = filter (is_news log) (job_of types e) in
@@ -44,7 +45,8 @@ news_written types from shard e far match log some =
     }
 
 -- an entry is made exactly of the records that are later than the log's
-pub nothing_given : (log : List Entry) (kind : Kind) (origin : Origin) (us : List EdgeUpdate) → next_entry log kind origin (map (edge_touch log) us) ≡ None → us ≡ []
+pub nothing_given : (log : List Entry) (kind : Kind) (origin : Origin) (us : List EdgeUpdate) → next_entry log kind origin (map (edge_touch log) us) ≡ None
+    → us ≡ []
 nothing_given log kind origin [] h = refl
 nothing_given log kind origin (u ∷ us) h = absurd (cc)
 
@@ -64,22 +66,27 @@ merges_nothing log from e = record {
   nothing = λ types h. ap (λ us. next_entry log Merged (Merge from e.position) (map (edge_touch log) us)) (no_news log (job_of types e) h);
 }
 
-pub some_news : (types : EdgeTypes) (log : List Entry) (from : ℕ) (e m : Entry) → merge_entry types log from e ≡ Some m → 0 < length (filter (is_news log) (job_of types e))
+pub some_news : (types : EdgeTypes) (log : List Entry) (from : ℕ) (e m : Entry) → merge_entry types log from e ≡ Some m
+    → 0 < length (filter (is_news log) (job_of types e))
 some_news types log from e m h =
     rw (length-map (filter (is_news log) (job_of types e)) (edge_touch log)) at
     (given_entry log Merged (Merge from e.position) (map (edge_touch log) (filter (is_news log) (job_of types e))) m h).0
 
-new_origin : (types : EdgeTypes) (log : List Entry) (from : ℕ) (e m : Entry) → IsNewOrDone types log from e → merge_entry types log from e ≡ Some m → IsNewOrigin log (Merge from e.position)
+new_origin : (types : EdgeTypes) (log : List Entry) (from : ℕ) (e m : Entry) → IsNewOrDone types log from e → merge_entry types log from e ≡ Some m
+    → IsNewOrigin log (Merge from e.position)
 new_origin types log from e m (inl new) h = new
 new_origin types log from e m (inr done) h = let none : merge_entry types log from e ≡ None = (merges_nothing log from e).nothing types done in absurd (cc)
 
-pub merge_stays : (types : EdgeTypes) (shard : ℕ) (log : List Entry) (from : ℕ) (e m : Entry) → IsMergeable types shard log from e → merge_entry types log from e ≡ Some m → StaysSound types shard log m
+pub merge_stays : (types : EdgeTypes) (shard : ℕ) (log : List Entry) (from : ℕ) (e m : Entry) → IsMergeable types shard log from e
+    → merge_entry types log from e ≡ Some m → StaysSound types shard log m
 merge_stays types shard log from e m may h =
-    written_stays types shard log Merged (Merge from e.position) (filter (is_news log) (job_of types e)) m may.sound (new_origin types log from e m may.origin h)
+    written_stays types shard log Merged (Merge from e.position) (filter (is_news log) (job_of types e)) m may.sound
+    (new_origin types log from e m may.origin h)
     (news_written types from shard e may.far may.inverses log (some_news types log from e m h)) h
 
 -- the records that an entry of news writes
-news_updates : (log : List Entry) (origin : Origin) (us : List EdgeUpdate) (m : Entry) → next_entry log Merged origin (map (edge_touch log) (filter (is_news log) us)) ≡ Some m
+news_updates : (log : List Entry) (origin : Origin) (us : List EdgeUpdate) (m : Entry)
+    → next_entry log Merged origin (map (edge_touch log) (filter (is_news log) us)) ≡ Some m
     → updates_of m ≡ filter (is_news log) us
 news_updates log origin us m h =
     ap updates_of (sym (given_entry log Merged origin (map (edge_touch log) (filter (is_news log) us)) m h).1) ∙ updates-touches log (filter (is_news log) us)
@@ -94,10 +101,12 @@ news_done log origin us m sound h = All-from_in (HasStamp (log ++ m ∷ [])) us 
 ])
 
 -- the records that the merge of a job writes
-pub merge_updates : (types : EdgeTypes) (log : List Entry) (from : ℕ) (e m : Entry) → merge_entry types log from e ≡ Some m → updates_of m ≡ filter (is_news log) (job_of types e)
+pub merge_updates : (types : EdgeTypes) (log : List Entry) (from : ℕ) (e m : Entry) → merge_entry types log from e ≡ Some m
+    → updates_of m ≡ filter (is_news log) (job_of types e)
 merge_updates types log from e m h = news_updates log (Merge from e.position) (job_of types e) m h
 
-pub merge_done : (types : EdgeTypes) (shard : ℕ) (log : List Entry) (from : ℕ) (e m : Entry) → IsMergeable types shard log from e → merge_entry types log from e ≡ Some m
+pub merge_done : (types : EdgeTypes) (shard : ℕ) (log : List Entry) (from : ℕ) (e m : Entry) → IsMergeable types shard log from e
+    → merge_entry types log from e ≡ Some m
     → All (HasStamp (log ++ m ∷ [])) (job_of types e)
 merge_done types shard log from e m may h = news_done log (Merge from e.position) (job_of types e) m (merge_stays types shard log from e m may h).sound.sound h
 

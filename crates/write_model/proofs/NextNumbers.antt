@@ -11,7 +11,8 @@ use Rattle.tao_base.specs.declared.entry.Change.{Change}
 use Rattle.tao_base.specs.declared.entry.Change.TheVariants.{PutObject, DropObject}
 use Rattle.tao_base.specs.declared.entry.Entry.{Entry}
 use Rattle.tao_base.specs.declared.entry.Kind.{Kind}
-use Rattle.tao_base.specs.declared.entry.Kind.TheVariants.{ObjAdd as ObjAdded, ObjUpdate as ObjUpdated, ObjDelete as ObjDeleted, AssocAdd as AssocAdded, AssocDelete as AssocDeleted, AssocChangeType as TypeChanged}
+use Rattle.tao_base.specs.declared.entry.Kind.TheVariants.{ObjAdd as ObjAdded, ObjUpdate as ObjUpdated, ObjDelete as ObjDeleted}
+use Rattle.tao_base.specs.declared.entry.Kind.TheVariants.{AssocAdd as AssocAdded, AssocDelete as AssocDeleted, AssocChangeType as TypeChanged}
 use Rattle.tao_base.specs.declared.entry.Origin.{Origin}
 use Rattle.tao_base.specs.declared.id.AType.{AType}
 use Rattle.tao_base.specs.declared.id.Id.{Id}
@@ -25,7 +26,8 @@ use Rattle.write_model.proofs.Written.{given_entry, updates-touches}
 use Rattle.graph_model.specs.Edges.{edge_record, number_of}
 use Rattle.graph_model.specs.Log.{object}
 use Rattle.graph_model.specs.Soundness.{EdgeUpdate, other_end, updates_of}
-use Rattle.write_model.specs.Writes.{edge_touch, forward_entry, is_near, next_entry, next_id, next_stamp, own_updates, same_edge, touch_of, touches_of, when, with_near_ends}
+use Rattle.write_model.specs.Writes.{edge_touch, forward_entry, is_near, next_entry, next_id, next_stamp, own_updates, same_edge, touch_of}
+use Rattle.write_model.specs.Writes.{touches_of, when, with_near_ends}
 use Rattle.tao_base.specs.Writes.{write_kind}
 
 -- the number after that of a record of the log
@@ -67,7 +69,8 @@ cut_next log id1 atype id2 (Some (Live time payload stamp)) = one_next log id1 a
 cut_next log id1 atype id2 (Some (Cut stamp)) = none_next log
 cut_next log id1 atype id2 None = none_next log
 
-move_next : (log : List Entry) (id1 : Id) (atype : AType) (id2 : Id) (newtype : AType) (found : Option EdgeState) → AllNext log (move_where_live log id1 atype id2 newtype found)
+move_next : (log : List Entry) (id1 : Id) (atype : AType) (id2 : Id) (newtype : AType) (found : Option EdgeState)
+    → AllNext log (move_where_live log id1 atype id2 newtype found)
 move_next log id1 atype id2 newtype (Some (Live time payload stamp)) u (inl e) =
     next_of log id1 atype id2 (Cut (next_stamp log id1 atype id2)) refl u (ap (λ v. v.3) (sym e))
 move_next log id1 atype id2 newtype (Some (Live time payload stamp)) u (inr (inl e)) =
@@ -85,7 +88,8 @@ own_next log (AssocDelete id1 atype id2) = cut_next log id1 atype id2 (edge_reco
 own_next log (AssocChangeType id1 atype id2 newtype) = move_next log id1 atype id2 newtype (edge_record log id1 atype id2)
 
 -- the entry of records writes them
-edges_next : (log : List Entry) (kind : Kind) (origin : Origin) (us : List EdgeUpdate) (e : Entry) → AllNext log us → next_entry log kind origin (map (edge_touch log) us) ≡ Some e
+edges_next : (log : List Entry) (kind : Kind) (origin : Origin) (us : List EdgeUpdate) (e : Entry) → AllNext log us
+    → next_entry log kind origin (map (edge_touch log) us) ≡ Some e
     → AllNext log (updates_of e)
 edges_next log kind origin us e all h =
     subst (AllNext log) (sym (updates-touches log us) ∙ ap updates_of (given_entry log kind origin (map (edge_touch log) us) e h).1) all
@@ -102,7 +106,8 @@ object_next log kind origin id change None e h = absurd (cc)
 object_next log kind origin id change (Some old) e h =
     subst (λ x. AllNext log (updates_of x)) (given_entry log kind origin (touch_of log (Obj id) (change old) ∷ []) e h).1 (none_next log)
 
-forward_next : (types : EdgeTypes) (log : List Entry) (origin : Origin) (write : Write) (e : Entry) → forward_entry types log origin write ≡ Some e → AllNext log (updates_of e)
+forward_next : (types : EdgeTypes) (log : List Entry) (origin : Origin) (write : Write) (e : Entry) → forward_entry types log origin write ≡ Some e
+    → AllNext log (updates_of e)
 forward_next types log origin (ObjAdd on otype payload) e h =
     object_next log ObjAdded origin (next_id on log) (λ old. PutObject old) (Some (record { otype = otype; payload = payload })) e h
 forward_next types log origin (ObjUpdate id payload) e h =
@@ -116,10 +121,12 @@ forward_next types log origin (AssocChangeType id1 atype id2 newtype) e h =
     edge_write_next types log TypeChanged origin (AssocChangeType id1 atype id2 newtype) e h
 
 -- each record of a write's entry has the number after that of a record of the log
-pub numbers_follow : (types : EdgeTypes) (log : List Entry) (origin : Origin) (write : Write) (e : Entry) (u : EdgeUpdate) → forward_entry types log origin write ≡ Some e
+pub numbers_follow : (types : EdgeTypes) (log : List Entry) (origin : Origin) (write : Write) (e : Entry) (u : EdgeUpdate)
+    → forward_entry types log origin write ≡ Some e
     → Contains (updates_of e) u → IsNextNumber log u
 numbers_follow types log origin write e u h k = forward_next types log origin write e h u (in_from_contains (updates_of e) u k)
 
 -- the entry has the write's origin
-pub forward_origin : (types : EdgeTypes) (log : List Entry) (origin : Origin) (write : Write) (e : Entry) → forward_entry types log origin write ≡ Some e → e.origin ≡ origin
+pub forward_origin : (types : EdgeTypes) (log : List Entry) (origin : Origin) (write : Write) (e : Entry) → forward_entry types log origin write ≡ Some e
+    → e.origin ≡ origin
 forward_origin types log origin write e h = ap (λ x. x.origin) (sym (given_entry log (write_kind write) origin (touches_of types log write) e h).1)

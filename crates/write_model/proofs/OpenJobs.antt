@@ -29,7 +29,8 @@ open_job_stands types stores owed kept h =
     let one : j.entry ≡ owed.entry = same_Some j.entry owed.entry (sym j.stands.stands ∙ h.stands) in
     subst (IsClientEntry (log_of stores.logs owed.shard) owed.entry.position) one j.stands
 
-module _ (types : EdgeTypes) (stores : Stores) (shard position : ℕ) (us : List EdgeUpdate) (kept : AreSoundAndCovered types stores) (h : stores.job shard position ≡ Some us) where
+module _ (types : EdgeTypes) (stores : Stores) (shard position : ℕ) (us : List EdgeUpdate) (kept : AreSoundAndCovered types stores)
+    (h : stores.job shard position ≡ Some us) where
   job : IsJob types (log_of stores.logs shard) position us
   job = kept.covered.jobs shard position us h
 
@@ -54,11 +55,13 @@ module _ (types : EdgeTypes) (stores : Stores) (shard position : ℕ) (us : List
   within : shard < length stores.logs
   within = elim (cases_lt shard (length stores.logs)) [
     | inl lt ↦ lt
-    | inr past ↦ absurd (nothing_at position job.entry (subst (λ l. entry_at l position ≡ Some job.entry) (get_or_past stores.logs shard [] past) job.stands.stands))
+    | inr past ↦ absurd (nothing_at position job.entry
+        (subst (λ l. entry_at l position ≡ Some job.entry) (get_or_past stores.logs shard [] past) job.stands.stands))
   ]
 
 entry_owes : (types : EdgeTypes) (stores : Stores) (shard position : ℕ) (e : Entry) (u : EdgeUpdate) → AreSoundAndCovered types stores
-    → IsClientEntry (log_of stores.logs shard) position e → Contains (job_of types e) u → IsOwed types stores (record { shard = shard; entry = e; other = shard_of u.0 })
+    → IsClientEntry (log_of stores.logs shard) position e → Contains (job_of types e) u
+    → IsOwed types stores (record { shard = shard; entry = e; other = shard_of u.0 })
 entry_owes types stores shard position e u kept stands h =
     let at = at_place types shard (log_of stores.logs shard) position e (kept.sound shard) stands.stands in
     let far = (jobs_are_far shard (log_of stores.logs shard)).far types (kept.sound shard) at.0 e u at.1 h in
@@ -68,8 +71,10 @@ owed_mergeable : (types : EdgeTypes) (stores : Stores) (owed : Owed) → Inverse
     → 0 < length (job_of types owed.entry) → IsMergeable types owed.other (log_of stores.logs owed.other) owed.shard owed.entry
 owed_mergeable types stores owed match kept owes some =
     let first = first_of (job_of types owed.entry) some in
-    subst (λ s. IsMergeable types s (log_of stores.logs s) owed.shard owed.entry) (All-in (λ x. shard_of x.0 ≡ owed.other) (job_of types owed.entry) first.0 owes.there first.1)
-    (covered_jobs_may_merge.may types stores match kept.sound kept.covered owed.shard owed.entry.position owed.entry first.0 owes.stands (contains_from_in (job_of types owed.entry) first.0 first.1))
+    subst (λ s. IsMergeable types s (log_of stores.logs s) owed.shard owed.entry)
+    (All-in (λ x. shard_of x.0 ≡ owed.other) (job_of types owed.entry) first.0 owes.there first.1)
+    (covered_jobs_may_merge.may types stores match kept.sound kept.covered owed.shard owed.entry.position owed.entry first.0 owes.stands
+    (contains_from_in (job_of types owed.entry) first.0 first.1))
 
 not_open : (o : Option (List EdgeUpdate)) → o ≡ None → IsSome o → ⊥
 not_open None e h = absurd (cc)

@@ -45,7 +45,8 @@ record WroteIt (log : List Entry) (u : EdgeUpdate) : Type 0 where
 
 wrote_it : (id1 : Id) (atype : AType) (id2 : Id) (state : EdgeState) (log : List Entry) → IsSound log → edge_record log id1 atype id2 ≡ Some state
     → WroteIt log (id1, atype, id2, state)
-wrote_it id1 atype id2 state = snoc_ind (λ xs. IsSound xs → edge_record xs id1 atype id2 ≡ Some state → WroteIt xs (id1, atype, id2, state)) (λ sound h. absurd (cc)) step
+wrote_it id1 atype id2 state = snoc_ind (λ xs. IsSound xs → edge_record xs id1 atype id2 ≡ Some state → WroteIt xs (id1, atype, id2, state))
+    (λ sound h. absurd (cc)) step
   where
     step : (xs : List Entry) (e : Entry) → (IsSound xs → edge_record xs id1 atype id2 ≡ Some state → WroteIt xs (id1, atype, id2, state))
         → IsSound (xs ++ e ∷ []) → edge_record (xs ++ e ∷ []) id1 atype id2 ≡ Some state → WroteIt (xs ++ e ∷ []) (id1, atype, id2, state)
@@ -53,7 +54,8 @@ wrote_it id1 atype id2 state = snoc_ind (λ xs. IsSound xs → edge_record xs id
       where
         by_last : (o : Option EdgeState) → edge_record (e ∷ []) id1 atype id2 ≡ o → WroteIt (xs ++ e ∷ []) (id1, atype, id2, state)
         by_last None q =
-            let before : edge_record xs id1 atype id2 ≡ Some state = ap (λ o. option_or o (edge_record xs id1 atype id2)) (sym q) ∙ sym (edge_record-append xs e id1 atype id2) ∙ h in
+            let before : edge_record xs id1 atype id2 ≡ Some state = ap (λ o. option_or o (edge_record xs id1 atype id2)) (sym q)
+            ∙ sym (edge_record-append xs e id1 atype id2) ∙ h in
             let w = ih (before_last xs e sound) before in
             record { position = w.position; entry = w.entry; stands = entry_at-more xs (e ∷ []) w.position w.entry w.stands; writes = w.writes }
         by_last (Some new) q =
@@ -74,7 +76,8 @@ same_record (Some s) None f g agree = let k = f s refl in absurd (cc)
 same_record (Some s) (Some t) f g agree = ap Some (agree s t refl refl (same_stamp (stamp_of s) (stamp_of t) (g t refl) (f s refl)))
 
 module _ (types : EdgeTypes) (stores : Stores) (sound : AreSound types stores.logs) (ends : EndsAgree types stores) (none : HaveNoJobs stores) where
-  found : (id1 : Id) (atype : AType) (id2 : Id) (s : EdgeState) → edge_record (log_of stores.logs (shard_of id1)) id1 atype id2 ≡ Some s → IsWritten stores (id1, atype, id2, s)
+  found : (id1 : Id) (atype : AType) (id2 : Id) (s : EdgeState) → edge_record (log_of stores.logs (shard_of id1)) id1 atype id2 ≡ Some s
+      → IsWritten stores (id1, atype, id2, s)
   found id1 atype id2 s h =
       let w = wrote_it id1 atype id2 s (log_of stores.logs (shard_of id1)) (sound (shard_of id1)).sound h in
       record { position = w.position; entry = w.entry; stands = w.stands; writes = w.writes }
@@ -89,7 +92,8 @@ module _ (types : EdgeTypes) (stores : Stores) (sound : AreSound types stores.lo
       let w = found id1 atype id2 s h in
       let far : not (is_near u) ≡ not false = ap not (apart-eqb (shard_of id2) (shard_of id1) apart) in
       let other : when (not (is_near u)) (other_end types u) ≡ Some v = ap (λ b. when b (other_end types u)) far ∙ other_end-is types inverse u inv in
-      let owed : Contains (job_of types w.entry) v = contains_filter_map (λ x. when (not (is_near x)) (other_end types x)) (updates_of w.entry) u v w.writes other in
+      let owed : Contains (job_of types w.entry) v = contains_filter_map (λ x. when (not (is_near x)) (other_end types x))
+      (updates_of w.entry) u v w.writes other in
       elim (All-contains (λ x. IsSome (stores.job (shard_of id1) w.position) ⊎ HasStamp (log_of stores.logs (shard_of x.0)) x) (job_of types w.entry) v
       (ends.owed (shard_of id1) w.position w.entry w.stands) owed) [
         | inl job ↦ absurd (not_open (stores.job (shard_of id1) w.position) (none (shard_of id1) w.position) job)
@@ -114,7 +118,8 @@ module _ (types : EdgeTypes) (stores : Stores) (sound : AreSound types stores.lo
 
 -- Where no job is open, working off leaves the logs.
 module _ (types : EdgeTypes) (match : InversesMatch types) where
-  all_there : (stores : Stores) (owed : Owed) → AreSoundAndCovered types stores → HaveNoJobs stores → IsOwed types stores owed → HasJob types (log_of stores.logs owed.other) owed.entry
+  all_there : (stores : Stores) (owed : Owed) → AreSoundAndCovered types stores → HaveNoJobs stores → IsOwed types stores owed
+      → HasJob types (log_of stores.logs owed.other) owed.entry
   all_there stores owed kept none owes = All-from_in (HasStamp (log_of stores.logs owed.other)) (job_of types owed.entry) (λ u h.
       subst (λ s. HasStamp (log_of stores.logs s) u) (All-in (λ x. shard_of x.0 ≡ owed.other) (job_of types owed.entry) u owes.there h)
       (elim (All-in (λ x. IsSome (stores.job owed.shard owed.entry.position) ⊎ HasStamp (log_of stores.logs (shard_of x.0)) x) (job_of types owed.entry) u
@@ -123,7 +128,8 @@ module _ (types : EdgeTypes) (match : InversesMatch types) where
         | inr there ↦ there
       ]))
 
-  rests : (old new : Stores) → AreSoundAndCovered types old → HaveNoJobs old → WorksOff types old new → (new.logs ≡ old.logs) × HaveNoJobs new × AreSoundAndCovered types new
+  rests : (old new : Stores) → AreSoundAndCovered types old → HaveNoJobs old → WorksOff types old new → (new.logs ≡ old.logs) × HaveNoJobs new
+      × AreSoundAndCovered types new
   rests old new kept none (owed, inl m) = (
     elim m.merges [
       | inl n ↦ n.1
@@ -144,7 +150,8 @@ module _ (types : EdgeTypes) (match : InversesMatch types) where
     end_keeps types old new owed kept e,
   )
 
-  all_rest : (first old : Stores) (later : List Stores) → old.logs ≡ first.logs → AreSoundAndCovered types old → HaveNoJobs old → WorksOffAll types old later → AllRest first later
+  all_rest : (first old : Stores) (later : List Stores) → old.logs ≡ first.logs → AreSoundAndCovered types old → HaveNoJobs old → WorksOffAll types old later
+      → AllRest first later
   all_rest first old [] same kept none h = tt
   all_rest first old (new ∷ later) same kept none h =
       let now = rests old new kept none h.0 in

@@ -12,7 +12,8 @@ use Rattle.write_model.specs.Steps.{AreSound, AreSoundAndCovered, JobsStay}
 
 module _ (types : EdgeTypes) (old new : Stores) (logs : new.logs ≡ old.logs) (was : AreSoundAndCovered types old)
     (back : (s p : ℕ) (us : List EdgeUpdate) → new.job s p ≡ Some us → old.job s p ≡ Some us)
-    (owed : (s p : ℕ) (x : Entry) → IsClientEntry (log_of old.logs s) p x → All (λ u. IsSome (new.job s p) ⊎ HasStamp (log_of old.logs (shard_of u.0)) u) (job_of types x)) where
+    (owed : (s p : ℕ) (x : Entry) → IsClientEntry (log_of old.logs s) p x → All (λ u. IsSome (new.job s p) ⊎ HasStamp (log_of old.logs (shard_of u.0)) u)
+    (job_of types x)) where
   abbrev between : Stores
   between = record { logs = old.logs; job = new.job }
 
@@ -20,7 +21,8 @@ module _ (types : EdgeTypes) (old new : Stores) (logs : new.logs ≡ old.logs) (
   covered_between = record {
     owed = λ s p x stands. owed s p x (record { stands = stands.stands; client = stands.client });
     jobs = λ s p us h. job_stays types old between (grown_same old.logs old.logs refl) s p us (was.covered.jobs s p us (back s p us h));
-    merges = λ s p x from source at origin. merge_stays types old between (grown_same old.logs old.logs refl) s p x from source at (was.covered.merges s p x from source at origin);
+    merges = λ s p x from source at origin. merge_stays types old between (grown_same old.logs old.logs refl) s p x from source at
+        (was.covered.merges s p x from source at origin);
     numbers = was.covered.numbers;
   }
 
@@ -30,7 +32,9 @@ module _ (types : EdgeTypes) (old new : Stores) (logs : new.logs ≡ old.logs) (
     covered = subst (λ l. AreCovered types (record { logs = l; job = new.job })) (sym logs) covered_between;
   }
 
-pub nothing_changes : (types : EdgeTypes) (old new : Stores) → new.logs ≡ old.logs → JobsStay old new → AreSoundAndCovered types old → AreSoundAndCovered types new
+pub nothing_changes : (types : EdgeTypes) (old new : Stores) → new.logs ≡ old.logs → JobsStay old new → AreSoundAndCovered types old
+    → AreSoundAndCovered types new
 nothing_changes types old new logs jobs was = same_logs_keep types old new logs was
     (λ s p us h. subst (λ o. o ≡ Some us) (jobs s p) h)
-    (λ s p x stands. subst (λ o. All (λ u. IsSome o ⊎ HasStamp (log_of old.logs (shard_of u.0)) u) (job_of types x)) (sym (jobs s p)) (was.covered.owed s p x stands))
+    (λ s p x stands. subst (λ o. All (λ u. IsSome o ⊎ HasStamp (log_of old.logs (shard_of u.0)) u) (job_of types x)) (sym (jobs s p))
+    (was.covered.owed s p x stands))

@@ -18,7 +18,8 @@ use Rattle.graph_model.specs.Soundness.{EdgeUpdate}
 use Rattle.write_model.specs.Steps.{AreSoundAndCovered, EndsJob, HaveNoJobs, IsNextJob, MergesJob, Settling}
 
 -- one more job merged in turn
-in_turn_push : (types : EdgeTypes) (a b c : List (List Entry)) (jobs : List Owed) (owed : Owed) → MergeInTurn types a b jobs → MayMerge types b c owed → MergeInTurn types a c (jobs ++ owed ∷ [])
+in_turn_push : (types : EdgeTypes) (a b c : List (List Entry)) (jobs : List Owed) (owed : Owed) → MergeInTurn types a b jobs → MayMerge types b c owed
+    → MergeInTurn types a c (jobs ++ owed ∷ [])
 in_turn_push types a b c [] owed h may = (c, subst (λ l. MayMerge types l c owed) h may, refl)
 in_turn_push types a b c (job ∷ jobs) owed h may = (h.0, h.1, in_turn_push types h.0 b c jobs owed h.2 may)
 
@@ -26,7 +27,8 @@ may_merge : (types : EdgeTypes) (a b : List (List Entry)) (owed : Owed) → Merg
 may_merge types a b owed (inl n) = inl n.1
 may_merge types a b owed (inr m) = inr m
 
-in_order_push : (jobs : List Owed) (owed : Owed) → AllPairs ComesBefore jobs → All (λ done. ComesBefore done owed) jobs → AllPairs ComesBefore (jobs ++ owed ∷ [])
+in_order_push : (jobs : List Owed) (owed : Owed) → AllPairs ComesBefore jobs → All (λ done. ComesBefore done owed) jobs
+    → AllPairs ComesBefore (jobs ++ owed ∷ [])
 in_order_push jobs owed order before =
     AllPairs-from_recursion ComesBefore (jobs ++ owed ∷ [])
     (pairs_append ComesBefore jobs (owed ∷ []) (recursion_from_AllPairs ComesBefore jobs order) (tt, tt) (λ x y h k. last x y h k))
@@ -85,7 +87,8 @@ module _ (types : EdgeTypes) (start now mid : Stores) (jobs : List Owed) (owed :
       | inl lt ↦ inl lt
       | inr le ↦ elim (cases_eq other.shard owed.shard) [
         | inl same ↦ inr (sym same, later (sym same))
-        | inr apart ↦ (let none : None ≡ Some (job_of types other.entry) = sym (next.lower other.shard other.entry.position (omega (arith, le, apart))) ∙ before.job_is in absurd (cc))
+        | inr apart ↦ (let none : None ≡ Some (job_of types other.entry) = sym (next.lower other.shard other.entry.position (omega (arith, le, apart)))
+            ∙ before.job_is in absurd (cc))
       ]
     ]
       where
@@ -115,7 +118,8 @@ module _ (types : EdgeTypes) (start now mid : Stores) (jobs : List Owed) (owed :
       left = left_now;
     }
 
-none_is_open : (types : EdgeTypes) (now : Stores) → AreSoundAndCovered types now → ((shard position : ℕ) → shard < length now.logs → now.job shard position ≡ None) → HaveNoJobs now
+none_is_open : (types : EdgeTypes) (now : Stores) → AreSoundAndCovered types now
+    → ((shard position : ℕ) → shard < length now.logs → now.job shard position ≡ None) → HaveNoJobs now
 none_is_open types now kept none shard position = by_job (now.job shard position) refl
   where
     by_job : (o : Option (List EdgeUpdate)) → now.job shard position ≡ o → now.job shard position ≡ None
@@ -124,7 +128,12 @@ none_is_open types now kept none shard position = by_job (now.job shard position
 
 pub settles_in_order : SettlesInOrder
 settles_in_order = record {
-  begins = λ types start. record { open_jobs = All-nil (IsOpenJob types start); in_order = no_pairs; merges = refl; left = λ owed h. (h, All-nil (λ done. ComesBefore done owed)) };
+  begins = λ types start. record {
+    open_jobs = All-nil (IsOpenJob types start);
+    in_order = no_pairs;
+    merges = refl;
+    left = λ owed h. (h, All-nil (λ done. ComesBefore done owed));
+  };
   goes_on = λ types start now mid new jobs owed match kept so_far next merge end. one_more types start now mid jobs owed so_far next merge new match kept end;
   stops = λ types start now jobs so_far. record { jobs = jobs; open_jobs = so_far.open_jobs; in_order = so_far.in_order; merges = so_far.merges };
   stops_within = λ types start now mid jobs owed so_far next merge. stopped types start now mid jobs owed so_far next merge;

@@ -25,12 +25,18 @@ rises (Some old) log id1 atype id2 state e h = rw e at h
 pub touch_follows : (log : List Entry) (origin : Origin) (id1 : Id) (atype : AType) (id2 : Id) (state : EdgeState) → is_news log (id1, atype, id2, state) ≡ true
     → (IsTrue (is_client origin) → (stamp_of state).shard ≡ shard_of id1) → TouchFollows log origin (edge_touch log (id1, atype, id2, state))
 touch_follows log origin id1 atype id2 (Live time payload stamp) news own =
-    record { version_is = refl; was_is = refl; stamp_rises = rises (edge_record log id1 atype id2) log id1 atype id2 (Live time payload stamp) refl news; own_stamp = own }
+    record {
+      version_is = refl;
+      was_is = refl;
+      stamp_rises = rises (edge_record log id1 atype id2) log id1 atype id2 (Live time payload stamp) refl news;
+      own_stamp = own;
+    }
 touch_follows log origin id1 atype id2 (Cut stamp) news own =
     record { version_is = refl; was_is = refl; stamp_rises = rises (edge_record log id1 atype id2) log id1 atype id2 (Cut stamp) refl news; own_stamp = own }
 
 -- the next stamp is later than the record
-later_number : (found : Option EdgeState) (shard : ℕ) → IfSome found (λ old. is_earlier (stamp_of old) (record { number = number_of found + 1; shard = shard }) ≡ true)
+later_number : (found : Option EdgeState) (shard : ℕ)
+    → IfSome found (λ old. is_earlier (stamp_of old) (record { number = number_of found + 1; shard = shard }) ≡ true)
 later_number None shard = tt
 later_number (Some old) shard = grind (arith, nat_tests)
 

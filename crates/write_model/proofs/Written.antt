@@ -13,13 +13,15 @@ use Rattle.tao_base.specs.declared.entry.Entry.{Entry}
 use Rattle.tao_base.specs.declared.entry.Kind.{Kind}
 use Rattle.tao_base.specs.declared.entry.Origin.{Origin}
 use Rattle.tao_base.specs.declared.entry.Touch.{Touch}
-use Rattle.graph_model.proofs.Members.{IsIn, PairsByRecursion, if_some, if_some_at, All-from_in, AllPairs-from_recursion, contains_from_in, in_map_parts, pairs_map}
+use Rattle.graph_model.proofs.Members.{IsIn, PairsByRecursion, if_some, if_some_at, All-from_in, AllPairs-from_recursion, contains_from_in}
+use Rattle.graph_model.proofs.Members.{in_map_parts, pairs_map}
 use Rattle.graph_model.proofs.Sound.{sound_of_grows}
 use Rattle.write_model.proofs.Touches.{touch_follows}
 use Rattle.tao_base.specs.Keys.{key_shard}
 use Rattle.write_model.specs.MergeLaws.{IsCutThenLive}
 use Rattle.graph_model.specs.Records.{is_news}
-use Rattle.graph_model.specs.Soundness.{AreInOrder, AreOpposite, CanFollow, EdgeUpdate, IsOneEnd, IsSoundOf, KeepsEnds, TouchFollows, is_client, other_end, update_at, IsNewOrigin}
+use Rattle.graph_model.specs.Soundness.{AreInOrder, AreOpposite, CanFollow, EdgeUpdate, IsOneEnd, IsSoundOf, KeepsEnds, TouchFollows, is_client}
+use Rattle.graph_model.specs.Soundness.{other_end, update_at, IsNewOrigin}
 use Rattle.write_model.specs.WriteLaws.{StaysSound}
 use Rattle.write_model.specs.Writes.{edge_touch, next_entry}
 
@@ -80,7 +82,8 @@ one_end log (u ∷ []) p = tt
 one_end log (u ∷ v ∷ []) p = two_touches log u v p.0.0
 one_end log (u ∷ v ∷ w ∷ us) p = absurd (one_cut u.3 v.3 w.3 p.0.0.states p.1.0.0.states)
 
-in_order : (types : EdgeTypes) (shard : ℕ) (log : List Entry) (origin : Origin) (us : List EdgeUpdate) → AreWritten types shard log origin us → AreInOrder (map (edge_touch log) us)
+in_order : (types : EdgeTypes) (shard : ℕ) (log : List Entry) (origin : Origin) (us : List EdgeUpdate) → AreWritten types shard log origin us
+    → AreInOrder (map (edge_touch log) us)
 in_order types shard log origin us w = record {
   first = map (edge_touch log) w.first;
   second = map (edge_touch log) w.second;
@@ -127,11 +130,13 @@ written_keeps_ends types shard log kind origin us w = record {
 }
 
 -- an entry with touches
-pub given_entry : (log : List Entry) (kind : Kind) (origin : Origin) (touches : List Touch) (e : Entry) → next_entry log kind origin touches ≡ Some e → (0 < length touches) × (entry_of log kind origin touches ≡ e)
+pub given_entry : (log : List Entry) (kind : Kind) (origin : Origin) (touches : List Touch) (e : Entry) → next_entry log kind origin touches ≡ Some e
+    → (0 < length touches) × (entry_of log kind origin touches ≡ e)
 given_entry log kind origin [] e h = absurd (cc)
 given_entry log kind origin (t ∷ ts) e h = (omega arith, same_Some (entry_of log kind origin (t ∷ ts)) e h)
 
-pub stays_sound : (types : EdgeTypes) (shard : ℕ) (log : List Entry) (e : Entry) → IsSoundOf types shard log → CanFollow log e → KeepsEnds types shard e → StaysSound types shard log e
+pub stays_sound : (types : EdgeTypes) (shard : ℕ) (log : List Entry) (e : Entry) → IsSoundOf types shard log → CanFollow log e → KeepsEnds types shard e
+    → StaysSound types shard log e
 stays_sound types shard log e sound follows ends = record {
   follows = follows;
   ends = ends;
@@ -140,7 +145,9 @@ stays_sound types shard log e sound follows ends = record {
 
 -- an entry that writes such records keeps the log sound
 pub written_stays : (types : EdgeTypes) (shard : ℕ) (log : List Entry) (kind : Kind) (origin : Origin) (us : List EdgeUpdate) (e : Entry)
-    → IsSoundOf types shard log → IsNewOrigin log origin → AreWritten types shard log origin us → next_entry log kind origin (map (edge_touch log) us) ≡ Some e → StaysSound types shard log e
+    → IsSoundOf types shard log → IsNewOrigin log origin → AreWritten types shard log origin us → next_entry log kind origin (map (edge_touch log) us) ≡ Some e
+    → StaysSound types shard log e
 written_stays types shard log kind origin us e sound new w h =
     subst (StaysSound types shard log) (given_entry log kind origin (map (edge_touch log) us) e h).1
-    (stays_sound types shard log (written_entry log kind origin us) sound (written_follows types shard log kind origin us w new) (written_keeps_ends types shard log kind origin us w))
+    (stays_sound types shard log (written_entry log kind origin us) sound (written_follows types shard log kind origin us w new)
+    (written_keeps_ends types shard log kind origin us w))

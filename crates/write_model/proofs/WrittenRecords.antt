@@ -26,7 +26,8 @@ first_of [] h = absurd (omega (arith, h))
 first_of (x ∷ xs) h = (x, inl refl)
 
 -- what an entry of a log wrote has been reached
-pub written_stamp : (log : List Entry) → IsSound log → (position : ℕ) (e : Entry) (u : EdgeUpdate) → entry_at log position ≡ Some e → Contains (updates_of e) u → HasStamp log u
+pub written_stamp : (log : List Entry) → IsSound log → (position : ℕ) (e : Entry) (u : EdgeUpdate) → entry_at log position ≡ Some e → Contains (updates_of e) u
+    → HasStamp log u
 written_stamp log sound zero e u h k = absurd (cc)
 written_stamp log sound (suc n) e u h k =
     let cut : take (n + 1) log ≡ take n log ++ e ∷ [] = take_with log n e h in

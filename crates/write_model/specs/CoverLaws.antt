@@ -7,7 +7,8 @@ use Rattle.write_model.specs.Machine.{ArePaired, ClientWrite, Owed, Settles}
 use Rattle.write_model.specs.MergeLaws.{IsMergeable}
 use Rattle.write_model.specs.Merges.{HasJob, IsClientEntry, Stores, job_of, log_of}
 use Rattle.graph_model.specs.Soundness.{EdgeUpdate, is_client}
-use Rattle.write_model.specs.Steps.{AllRest, AreSoundAndCovered, CommitsWithJob, EndsAgree, EndsJob, HaveNoJobs, IsJobOf, IsNextJob, IsOwed, MergesJob, Settling, StampsAreReached, WorksOffAll}
+use Rattle.write_model.specs.Steps.{AllRest, AreSoundAndCovered, CommitsWithJob, EndsAgree, EndsJob, HaveNoJobs, IsJobOf, IsNextJob, IsOwed}
+use Rattle.write_model.specs.Steps.{MergesJob, Settling, StampsAreReached, WorksOffAll}
 use Rattle.write_model.specs.WriteLaws.{IsAdmitted}
 
 -- stores without entries and jobs are sound and covered

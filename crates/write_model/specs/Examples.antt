@@ -1,5 +1,6 @@
 -- Worked examples: the definitions computed on small logs.
-use Rattle.std.specs.Prelude.{ℕ, suc, true, false, map, length, take, drop, flat_map, List, [], ◌∷◌, ◌++◌, Some, None, option_to_list, ◌≡◌, refl, if◌then◌else◌, ◌==◌}
+use Rattle.std.specs.Prelude.{ℕ, suc, true, false, map, length, take, drop, flat_map, List, [], ◌∷◌, ◌++◌, Some, None, option_to_list, ◌≡◌, refl}
+use Rattle.std.specs.Prelude.{if◌then◌else◌, ◌==◌}
 use Rattle.tao_base.specs.EdgeTypes.{EdgeTypes}
 use Rattle.tao_base.specs.Spelling.{spelling}
 use Rattle.tao_base.specs.declared.id.AType.{AType}

@@ -1,5 +1,6 @@
 -- Laws of merges: the entry that merges a job keeps the log sound, and leaves all of the job there.
-use Rattle.std.specs.Prelude.{ℕ, List, [], ◌∷◌, ◌++◌, fold, flat_map, filter_map, All, AllPairs, Contains, Option, Some, None, option_to_list, slice_get, ◌≡◌, ◌≢◌, ◌⊎◌, ◌↔◌, ⊤}
+use Rattle.std.specs.Prelude.{ℕ, List, [], ◌∷◌, ◌++◌, fold, flat_map, filter_map, All, AllPairs, Contains, Option, Some, None, option_to_list}
+use Rattle.std.specs.Prelude.{slice_get, ◌≡◌, ◌≢◌, ◌⊎◌, ◌↔◌, ⊤}
 use Rattle.tao_base.specs.EdgeTypes.{EdgeTypes, InversesMatch}
 use Rattle.tao_base.specs.Ids.{shard_of}
 use Rattle.tao_base.specs.declared.id.Id.{Id}

@@ -1,5 +1,6 @@
 -- The other ends of edges that lie on another shard: joins, jobs, merges, and when the stores are covered.
-use Rattle.std.specs.Prelude.{ℕ, ◌<◌, List, [], length, take, map, filter, filter_map, All, Contains, sum_by, Option, Some, IsSome, IsSomeAnd, IsTrue, slice_index_or, ◌≡◌, ◌⊎◌, ◌≤◌, not}
+use Rattle.std.specs.Prelude.{ℕ, ◌<◌, List, [], length, take, map, filter, filter_map, All, Contains, sum_by, Option, Some, IsSome, IsSomeAnd}
+use Rattle.std.specs.Prelude.{IsTrue, slice_index_or, ◌≡◌, ◌⊎◌, ◌≤◌, not}
 use Rattle.tao_base.specs.EdgeTypes.{EdgeTypes}
 use Rattle.tao_base.specs.Ids.{shard_of}
 use Rattle.tao_base.specs.declared.id.Id.{Id}

@@ -1,5 +1,6 @@
 //! What the steps of writes, merges and jobs keep of the stores of all shards.
-ghost use Rattle.write_model.specs.CoverLaws.{CommitsKeep, CoveredEndsAgree, EmptyStoresAreKept, EndsKeep, MergesKeep, NoJobsArePaired, OpenJobsAreOwed, SettlesInOrder};
+ghost use Rattle.write_model.specs.CoverLaws.{CommitsKeep, CoveredEndsAgree, EmptyStoresAreKept, EndsKeep, MergesKeep, NoJobsArePaired};
+ghost use Rattle.write_model.specs.CoverLaws.{OpenJobsAreOwed, SettlesInOrder};
 
 /// Stores without entries and jobs are sound and covered.
 #[tactic(auto, using(crate::proofs::CoverEmpty::empty_stores_are_kept))]

@@ -1,5 +1,6 @@
 //! What the entries that merge jobs of other shards keep of a log.
-ghost use Rattle.write_model.specs.MergeLaws.{CoveredJobsMayMerge, JobsMayBeMerged, JobsAreFar, MergeFollows, MergesFollow, MergesJoin, MergesNone, MergesNothing, OrderIsFree};
+ghost use Rattle.write_model.specs.MergeLaws.{CoveredJobsMayMerge, JobsMayBeMerged, JobsAreFar, MergeFollows, MergesFollow, MergesJoin, MergesNone};
+ghost use Rattle.write_model.specs.MergeLaws.{MergesNothing, OrderIsFree};
 
 use tao_base::{AType, EdgeState, Entry, Id};
 

@@ -12,8 +12,10 @@ use Rattle.tao_base.specs.declared.entry.Entry.{Entry}
 use Rattle.tao_base.specs.declared.entry.Origin.{Origin}
 use Rattle.tao_base.specs.declared.write.Write.{Write}
 use Rattle.tao_keeper.specs.declared.jobs.Job.{Job}
-use Rattle.write_plan.specs.PlanLaws.{Applies, Came, CameBack, CameOfJob, EndsInTime, EndsLate, IsPlanAfter, IsCarriedOut, IsRefusedBy, MergesLate, PlanLaws, RefusesBy, TakesResults, came, carries_of}
-use Rattle.write_plan.specs.Plans.{Writing, after_result, after_stage, back_stage, has_other, inverse_told, job_stage, begun_write, next_of, reply_of, stage_after, written_by}
+use Rattle.write_plan.specs.PlanLaws.{Applies, Came, CameBack, CameOfJob, EndsInTime, EndsLate, IsPlanAfter, IsCarriedOut, IsRefusedBy, MergesLate}
+use Rattle.write_plan.specs.PlanLaws.{PlanLaws, RefusesBy, TakesResults, came, carries_of}
+use Rattle.write_plan.specs.Plans.{Writing, after_result, after_stage, back_stage, has_other, inverse_told, job_stage, begun_write, next_of}
+use Rattle.write_plan.specs.Plans.{reply_of, stage_after, written_by}
 use Rattle.write_plan.specs.Stages.{result_stage}
 use Rattle.write_plan.specs.declared.committed.Committed.{Committed}
 use Rattle.write_plan.specs.declared.progress.OtherEnd.{OtherEnd}
@@ -194,7 +196,8 @@ module _ (b : Writing) (c : Committed) (j : OtherEnd) (o : Option Wrote) where
     way_by (Some leader) e h [] q takes =
         record { few = omega arith; done = λ d. not_yet (going b c j o Ahead h) q stage.Relay done_relay (way_next Ahead (Some leader) e) takes d }
     way_by (Some leader) e h (x ∷ rest) q takes =
-        relay_first leader h x.result x.hops rest q e (way_next Ahead (Some leader) e) (way_next Relayed (Some leader) e) (way_next Applied (Some leader) e) takes
+        relay_first leader h x.result x.hops rest q e (way_next Ahead (Some leader) e) (way_next Relayed (Some leader) e)
+        (way_next Applied (Some leader) e) takes
 
     way_part : (h : ℕ) (cs : List Came) (q : Writing) → TakesResults (going b c j o Ahead h) cs q → Part 2 cs q (WentBack b c j o cs q)
     way_part h cs q takes = way_by c.passed refl h cs q takes
@@ -261,7 +264,8 @@ module _ (b : Writing) (c : Committed) where
 
     -- the job came to this, and then came the way back
     did : (j : OtherEnd) (o : Option Wrote) (of_job cs whole : List Came) (q : Writing) → whole ≡ of_job ++ cs
-        → (EndsInTime of_job o (inverse_told (has_other c) j) ⊎ (EndsLate of_job o (inverse_told (has_other c) j) ⊎ MergesLate of_job o (inverse_told (has_other c) j)))
+        → (EndsInTime of_job o (inverse_told (has_other c) j)
+        ⊎ (EndsLate of_job o (inverse_told (has_other c) j) ⊎ MergesLate of_job o (inverse_told (has_other c) j)))
         → WentBack b c j o cs q → DidJob b c whole q
     did j o of_job cs whole q is told w = record {
       job = j;
@@ -286,7 +290,16 @@ module _ (b : Writing) (c : Committed) where
     end_first wrote m h (End (Err (Scheduled why more))) n rest q takes =
         before_part 2 (came (End (Err (Scheduled why more))) n) rest q (WentBack b c (Open why) (Some wrote) rest q) _
         (did (Open why) (Some wrote) (came (Inverse (Ok wrote)) m ∷ came (End (Err (Scheduled why more))) n ∷ []) rest _ q refl
-        (inr (inl (record { wrote = wrote; why = why; more = more; merges = m; ends = n; came_is = refl; other_is = refl; told_is = ap (λ x. inverse_told x (Open why)) has_job }))))
+        (inr (inl (record {
+          wrote = wrote;
+          why = why;
+          more = more;
+          merges = m;
+          ends = n;
+          came_is = refl;
+          other_is = refl;
+          told_is = ap (λ x. inverse_told x (Open why)) has_job;
+        }))))
         (way_part b c (Open why) (Some wrote) (nothing_left (Open why) refl) (hops_after h n) rest q takes.1)
     end_first wrote m h (End (Err (Refused reply))) n rest q takes =
         refused_here 2 (came (End (Err (Refused reply))) n) rest (after_stage (going b c Merged (Some wrote) Ahead h) (End (Err (Refused reply))) n) q reply _

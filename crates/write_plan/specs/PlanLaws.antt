@@ -1,5 +1,6 @@
 -- What a plan is, over all results that it takes: its stages in order, its carries, and what its reply tells.
-use Rattle.std.specs.Prelude.{ℕ, ◌≡◌, ◌+◌, ◌≤◌, ◌⊎◌, Bool, true, false, if◌then◌else◌, List, [], ◌∷◌, ◌++◌, length, min, Option, Some, None, IfNone, IfSome, Ok, Err}
+use Rattle.std.specs.Prelude.{ℕ, ◌≡◌, ◌+◌, ◌≤◌, ◌⊎◌, Bool, true, false, if◌then◌else◌, List, [], ◌∷◌, ◌++◌, length, min, Option, Some, None, IfNone}
+use Rattle.std.specs.Prelude.{IfSome, Ok, Err}
 use Rattle.hop_count.specs.Hops.{most_hops}
 use Rattle.node_name.specs.declared.NodeName.{NodeName}
 use Rattle.replies.specs.declared.calls.CallReply.TheVariants.{Write as OfWrite}

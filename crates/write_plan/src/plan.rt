@@ -52,7 +52,8 @@ impl Model for WritePlan {
 
 impl WritePlan {
     ghost use Rattle.replies.specs.declared.reply.Reply.{Reply};
-    ghost use Rattle.write_plan.specs.Plans.{after_late, after_result, after_stage, after_way, answered_entry, answered_job, begun_write, next_of, refused_by, reply_of, when_of, written_there};
+    ghost use Rattle.write_plan.specs.Plans.{after_late, after_result, after_stage, after_way, answered_entry, answered_job, begun_write, next_of};
+    ghost use Rattle.write_plan.specs.Plans.{refused_by, reply_of, when_of, written_there};
     ghost use Rattle.write_plan.specs.Stages.{result_stage};
     ghost use Rattle.write_plan.specs.declared.stage.WriteStage.TheVariants.{Done};
 

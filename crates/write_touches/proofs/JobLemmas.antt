@@ -21,11 +21,13 @@ use Rattle.tao_keeper.specs.Table.{job_from}
 use Rattle.tao_keeper.specs.declared.keeper.TheConstants.{STAMP_LIMIT}
 use Rattle.write_touches.specs.FarJobs.{far_record, job_for, owed_record}
 
-pub owed_is_job : (types : EdgeTypes) (touches : List Touch) → filter_map (owed_record types) touches ≡ filter_map (far_record types) (filter_map (λ t. update_at t.key t.change) touches)
+pub owed_is_job : (types : EdgeTypes) (touches : List Touch) → filter_map (owed_record types) touches ≡ filter_map (far_record types)
+    (filter_map (λ t. update_at t.key t.change) touches)
 owed_is_job types [] = refl
 owed_is_job types (t ∷ ts) = by (owed_is_job types ts) (update_at t.key t.change) refl
   where
-    by : filter_map (owed_record types) ts ≡ filter_map (far_record types) (filter_map (λ x. update_at x.key x.change) ts) → (o : Option EdgeUpdate) → update_at t.key t.change ≡ o
+    by : filter_map (owed_record types) ts ≡ filter_map (far_record types) (filter_map (λ x. update_at x.key x.change) ts) → (o : Option EdgeUpdate)
+        → update_at t.key t.change ≡ o
         → filter_map (owed_record types) (t ∷ ts) ≡ filter_map (far_record types) (filter_map (λ x. update_at x.key x.change) (t ∷ ts))
     by same None e = rw e same
     by same (Some u) e = rw e (ap (cons_option (far_record types u)) same)
@@ -48,7 +50,8 @@ small_far types w u limit h small =
     let other = other_end_is types w u (when_some (not (is_near w)) (other_end types w) u h).1 in
     subst (λ s. (stamp_of s).number < limit) (sym other.state) small
 
-small_one : (types : EdgeTypes) (key : Key) (change : Change) (version : ℕ) (u : EdgeUpdate) (limit : ℕ) → owed_record types (record { key = key; change = change; version = version }) ≡ Some u
+small_one : (types : EdgeTypes) (key : Key) (change : Change) (version : ℕ) (u : EdgeUpdate) (limit : ℕ)
+    → owed_record types (record { key = key; change = change; version = version }) ≡ Some u
     → number_of (state_left change) < limit → (stamp_of u.3).number < limit
 small_one types (Obj id) change version u limit h small = absurd (cc)
 small_one types (Assocs id1 atype) (PutObject object) version u limit h small = absurd (cc)
@@ -56,8 +59,10 @@ small_one types (Assocs id1 atype) DropObject version u limit h small = absurd (
 small_one types (Assocs id1 atype) (SetEdge edge was) version u limit h small = small_far types (id1, atype, edge.id2, state_of edge) u limit h small
 small_one types (Assocs id1 atype) (CutEdge id2 stamp was) version u limit h small = small_far types (id1, atype, id2, Cut stamp) u limit h small
 
-pub small_job : (types : EdgeTypes) (touches : List Touch) (us : List EdgeUpdate) → us ≡ filter_map (owed_record types) touches → HaveSmallStamps touches → HaveSmallRecords us
+pub small_job : (types : EdgeTypes) (touches : List Touch) (us : List EdgeUpdate) → us ≡ filter_map (owed_record types) touches → HaveSmallStamps touches
+    → HaveSmallRecords us
 small_job types touches us is small =
     subst HaveSmallRecords (sym is) (All-from_in (λ u. (stamp_of u.3).number < STAMP_LIMIT) (filter_map (owed_record types) touches) (λ u h.
     let made = in_filter_map_parts (owed_record types) touches u h in
-    small_one types made.0.key made.0.change made.0.version u STAMP_LIMIT made.2 (All-in (λ t. number_of (state_left t.change) < STAMP_LIMIT) touches made.0 small made.1)))
+    small_one types made.0.key made.0.change made.0.version u STAMP_LIMIT made.2
+    (All-in (λ t. number_of (state_left t.change) < STAMP_LIMIT) touches made.0 small made.1)))

@@ -42,7 +42,8 @@ move_same log id1 atype id2 newtype (Some (Live time payload stamp)) there e f =
 move_same log id1 atype id2 newtype (Some (Cut stamp)) there e f = refl
 move_same log id1 atype id2 newtype None there e f = refl
 
-pub set_is : (log : List Entry) (write : Write) (id1 : Id) (atype : AType) (id2 : Id) (time : ℕ) (payload : List Pair) (old : Option EdgeState) (us : List EdgeUpdate)
+pub set_is : (log : List Entry) (write : Write) (id1 : Id) (atype : AType) (id2 : Id) (time : ℕ) (payload : List Pair) (old : Option EdgeState)
+    (us : List EdgeUpdate)
     → write ≡ AssocAdd id1 atype id2 time payload → old ≡ edge_record log id1 atype id2
     → us ≡ (id1, atype, id2, Live time payload (stamp_after id1 old)) ∷ [] → us ≡ own_updates log write
 set_is log write id1 atype id2 time payload old us is e h =
@@ -54,7 +55,8 @@ cut_is log write id1 atype id2 old us is e h =
     h ∙ cut_same log id1 atype id2 old e ∙ ap (cut_found log id1 atype id2) e ∙ ap (own_updates log) (sym is)
 
 -- the second record is asked of tables that are still the same
-pub move_is : (old_tables new_tables : Table) (write : Write) (id1 : Id) (atype : AType) (id2 : Id) (newtype : AType) (old there : Option EdgeState) (us : List EdgeUpdate)
+pub move_is : (old_tables new_tables : Table) (write : Write) (id1 : Id) (atype : AType) (id2 : Id) (newtype : AType) (old there : Option EdgeState)
+    (us : List EdgeUpdate)
     → write ≡ AssocChangeType id1 atype id2 newtype → new_tables ≡ old_tables → old ≡ edge_record old_tables.log id1 atype id2
     → there ≡ edge_record new_tables.log id1 newtype id2 → us ≡ move_over id1 atype id2 newtype old there → us ≡ own_updates old_tables.log write
 move_is old_tables new_tables write id1 atype id2 newtype old there us is stays e f h =

@@ -6,7 +6,8 @@ use Rattle.graph_model.specs.Soundness.{EdgeUpdate}
 use Rattle.write_touches.specs.Edges.{WritesRecord, WriteRecords}
 
 -- one record and its touch more
-records_more : (us : List EdgeUpdate) (ts : List Touch) (u : EdgeUpdate) (t : Touch) → WriteRecords us ts → WritesRecord u t → WriteRecords (us ++ u ∷ []) (ts ++ t ∷ [])
+records_more : (us : List EdgeUpdate) (ts : List Touch) (u : EdgeUpdate) (t : Touch) → WriteRecords us ts → WritesRecord u t
+    → WriteRecords (us ++ u ∷ []) (ts ++ t ∷ [])
 records_more [] [] u t h one = (one, tt)
 records_more [] (s ∷ ts) u t h one = absurd h
 records_more (v ∷ us) [] u t h one = absurd h
@@ -16,4 +17,5 @@ pub records_done : (us : List EdgeUpdate) (i : ℕ) (u : EdgeUpdate) (ts zs : Li
     → WriteRecords (take i us) ts → WritesRecord u t → zs ≡ ts ++ t ∷ [] → WriteRecords (take (i + 1) us) zs
 records_done us i u ts zs t lt is so_far one put =
     subst (WriteRecords (take (i + 1) us)) (sym put)
-    (subst (λ v. WriteRecords v (ts ++ t ∷ [])) (sym (take_more us i u lt ∙ ap (λ y. take i us ++ y ∷ []) (sym is))) (records_more (take i us) ts u t so_far one))
+    (subst (λ v. WriteRecords v (ts ++ t ∷ [])) (sym (take_more us i u lt ∙ ap (λ y. take i us ++ y ∷ []) (sym is)))
+    (records_more (take i us) ts u t so_far one))

@@ -54,7 +54,8 @@ near_ends_stamped types us h = record {
       (All-filter (λ v. not (list_any (same_edge v) us)) Small _ (All-from_recursion Small _ (ends_small types us (recursion_from_All Small us h.each))));
 }
 
-below : (us : List EdgeUpdate) → AllByRecursion (λ u. (stamp_of u.3).number ≤ 4611686018427387904) us → list_any is_past_stamps us ≡ false → AllByRecursion Small us
+below : (us : List EdgeUpdate) → AllByRecursion (λ u. (stamp_of u.3).number ≤ 4611686018427387904) us → list_any is_past_stamps us ≡ false
+    → AllByRecursion Small us
 below [] h none = tt
 below (u ∷ us) h none =
     let parts = or_false (is_past_stamps u) (list_any is_past_stamps us) none in
@@ -103,11 +104,14 @@ own_past log (AssocAdd id1 atype id2 time payload) = rw (past_last (number_of (e
 own_past log (AssocDelete id1 atype id2) =
     cut_past log (id1, atype, id2, Cut (next_stamp log id1 atype id2)) (edge_record log id1 atype id2) (past_last (number_of (edge_record log id1 atype id2)))
 own_past log (AssocChangeType id1 atype id2 newtype) =
-    move_past log (id1, atype, id2, Cut (next_stamp log id1 atype id2)) (λ time payload. (id1, newtype, id2, Live time payload (next_stamp log id1 newtype id2)))
-    (edge_record log id1 atype id2) (past_last (number_of (edge_record log id1 atype id2))) (λ time payload. past_last (number_of (edge_record log id1 newtype id2)))
+    move_past log (id1, atype, id2, Cut (next_stamp log id1 atype id2))
+    (λ time payload. (id1, newtype, id2, Live time payload (next_stamp log id1 newtype id2)))
+    (edge_record log id1 atype id2) (past_last (number_of (edge_record log id1 atype id2)))
+    (λ time payload. past_last (number_of (edge_record log id1 newtype id2)))
 own_past log (ObjAdd shard otype payload) = refl
 own_past log (ObjUpdate id payload) = refl
 own_past log (ObjDelete id) = refl
 
-pub past_is : (log : List Entry) (write : Write) (us : List EdgeUpdate) (b : Bool) → us ≡ own_updates log write → list_any is_past_stamps us ≡ b → lacks_stamp log write ≡ b
+pub past_is : (log : List Entry) (write : Write) (us : List EdgeUpdate) (b : Bool) → us ≡ own_updates log write → list_any is_past_stamps us ≡ b
+    → lacks_stamp log write ≡ b
 past_is log write us b own h = sym (own_past log write) ∙ ap (list_any is_past_stamps) (sym own) ∙ h

@@ -44,7 +44,8 @@ pub edge_done : (types : EdgeTypes) (a b : Table) (write : Write) (own us : List
     → AreTouches types a.log write ts
 edge_done types a b write own us ts stays edge owned stamps ends made = record {
   touches_are =
-      made ∙ ap (λ x. map (edge_touch x.log) us) stays ∙ ap (map (edge_touch a.log)) (ends ∙ ap (with_near_ends types) owned) ∙ edge_touches_are types a.log write edge;
+      made ∙ ap (λ x. map (edge_touch x.log) us) stays ∙ ap (map (edge_touch a.log)) (ends ∙ ap (with_near_ends types) owned)
+      ∙ edge_touches_are types a.log write edge;
   serial = edge_serial a.log write edge;
   stamps = past_is a.log write own false owned stamps;
 }

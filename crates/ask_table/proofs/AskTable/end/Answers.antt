@@ -18,5 +18,6 @@ returns-clause-ended c =
 
 pub returns-in_err-found-clause-ended : goal.returns-in_err-found-clause-ended
 returns-in_err-found-clause-ended c =
-    let none : find (is_numbered c.args.ask) c.self.inside.asks.items ≡ None = ap (λ (t : Asks). find (is_numbered c.args.ask) t.asks) c.self.view_is ∙ sym c.in_err-found.ensures in
+    let none : find (is_numbered c.args.ask) c.self.inside.asks.items ≡ None = ap (λ (t : Asks). find (is_numbered c.args.ask) t.asks) c.self.view_is
+    ∙ sym c.in_err-found.ensures in
     rw (← c.self.view_is) (ap (λ l. asks_of l c.self.inside.given) (filter_none (is_numbered c.args.ask) c.self.inside.asks.items none))

@@ -9,4 +9,5 @@ returns-clause-copy c =
 
 pub returns-clause-same : goal.returns-clause-same
 returns-clause-same c =
-    rests_at c.args.inboxes.now c.args.name c.place_of-index.result c.index-inboxes-index.result c.copy_at.new.self c.place_of-index.ensures c.copy_at.ensures.same
+    rests_at c.args.inboxes.now c.args.name c.place_of-index.result c.index-inboxes-index.result c.copy_at.new.self c.place_of-index.ensures
+    c.copy_at.ensures.same

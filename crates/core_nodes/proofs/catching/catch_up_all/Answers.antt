@@ -36,7 +36,8 @@ catch_up_node-requires g c =
     c.args.caches.now c.loop-cache.caches c.requires.caches was.first.on in
     record {
       stores = subst (AreStoresOf g.K.Keeper.TELLS s (state c.loop-cache.keepers).told) (sym was.same)
-          (stores_here g.K.Keeper.TELLS s (state c.args.keepers.now).told (state c.loop-cache.keepers).told c.args.masters.now c.requires.stores was.reads.tables);
+          (stores_here g.K.Keeper.TELLS s (state c.args.keepers.now).told
+          (state c.loop-cache.keepers).told c.args.masters.now c.requires.stores was.reads.tables);
       cache = still.configured c.loop-cache.cache-index cache at;
       node = subst (λ (xs : List Store). IsNodeOf s (pens_of xs) cache.name (g.C.Cache.node cache.node)) (sym was.same)
           (still.each c.loop-cache.cache-index cache at);
@@ -59,7 +60,8 @@ loop-cache-preserved g c =
     let cache = slice_index_or c.loop-cache.caches c.loop-cache.cache-index c.cache-item.result in
     let goes = cache_before g.C.Cache.node g.C.Cache.refills g.K.Keeper.TELLS s start (state c.loop-cache.keepers).told pens cache c.catch_up_node.new.cache
     was.reads.tables
-    (subst (λ (xs : List Store). CacheGoesOn g.C.Cache.node g.C.Cache.refills (seen_logs g.K.Keeper.TELLS s (state c.loop-cache.keepers).told (pens_of xs)) cache
+    (subst (λ (xs : List Store). CacheGoesOn g.C.Cache.node g.C.Cache.refills
+    (seen_logs g.K.Keeper.TELLS s (state c.loop-cache.keepers).told (pens_of xs)) cache
     c.catch_up_node.new.cache) was.same done.goes) in
     record {
       first =
@@ -69,7 +71,8 @@ loop-cache-preserved g c =
           (state c.loop-cache.keepers).told (was.reads.tables told) (done.caught told));
       same = done.same ∙ was.same;
       reads =
-          reads_on g.K.Keeper.TELLS (outside (state c.args.keepers.now) (shown c.args.link.now)) (outside (state c.loop-cache.keepers) (shown c.loop-cache.link))
+          reads_on g.K.Keeper.TELLS (outside (state c.args.keepers.now) (shown c.args.link.now))
+          (outside (state c.loop-cache.keepers) (shown c.loop-cache.link))
           (outside (state c.catch_up_node.new.keepers) (shown c.catch_up_node.new.link)) was.reads done.reads;
     }
 
@@ -85,7 +88,8 @@ returns-in_err-catch_up_node-clause-on g c =
     let cache = slice_index_or c.loop-cache.caches c.loop-cache.cache-index c.cache-item.result in
     let goes = cache_before g.C.Cache.node g.C.Cache.refills g.K.Keeper.TELLS s start (state c.loop-cache.keepers).told pens cache c.catch_up_node.new.cache
     was.reads.tables
-    (subst (λ (xs : List Store). CacheGoesOn g.C.Cache.node g.C.Cache.refills (seen_logs g.K.Keeper.TELLS s (state c.loop-cache.keepers).told (pens_of xs)) cache
+    (subst (λ (xs : List Store). CacheGoesOn g.C.Cache.node g.C.Cache.refills
+    (seen_logs g.K.Keeper.TELLS s (state c.loop-cache.keepers).told (pens_of xs)) cache
     c.catch_up_node.new.cache) was.same c.in_err-catch_up_node.ensures.goes) in
     one_goes_on g.C.Cache.node g.C.Cache.refills g.K.Keeper.TELLS s start pens c.loop-cache.cache-index c.args.caches.now c.loop-cache.caches cache
     c.catch_up_node.new.cache was.first at goes

@@ -38,11 +38,13 @@ catch_up_at-requires g c =
     let here : c.loop-shard.shard < s.shards = omega (arith, shards, c.loop-shard-test.true) in
     record {
       stores = subst (AreStoresOf g.K.Keeper.TELLS s (state c.loop-shard.keepers).told) (sym was.same)
-          (stores_here g.K.Keeper.TELLS s (state c.args.keepers.now).told (state c.loop-shard.keepers).told c.args.masters.now c.requires.stores was.reads.tables);
+          (stores_here g.K.Keeper.TELLS s (state c.args.keepers.now).told
+          (state c.loop-shard.keepers).told c.args.masters.now c.requires.stores was.reads.tables);
       cache = subst (IsConfiguredCache s) (sym was.goes.name_is) c.requires.cache;
       node =
           subst (λ (n : NodeName). IsNodeOf s (pens_of c.loop-shard.masters) n (g.C.Cache.node c.loop-shard.cache.node)) (sym was.goes.name_is)
-          (subst (λ (xs : List Store). IsNodeOf s (pens_of xs) c.args.cache.now.name (g.C.Cache.node c.loop-shard.cache.node)) (sym was.same) was.goes.goes.node);
+          (subst (λ (xs : List Store). IsNodeOf s (pens_of xs) c.args.cache.now.name (g.C.Cache.node c.loop-shard.cache.node))
+          (sym was.same) was.goes.goes.node);
       here = here;
       all = λ told. c.length_at-until.ensures ∙ ap (λ (xs : List ℕ). length_at xs c.loop-shard.shard) (c.requires.lengths told)
           ∙ length_here s (state c.args.keepers.now).told (state c.loop-shard.keepers).told c.loop-shard.shard here (was.reads.tables told);
@@ -61,14 +63,16 @@ loop-shard-preserved g c =
           c.args.cache.now c.loop-shard.cache c.catch_up_at.new.cache was.goes
           (cache_before g.C.Cache.node g.C.Cache.refills g.K.Keeper.TELLS s (state c.args.keepers.now).told (state c.loop-shard.keepers).told
           (pens_of c.args.masters.now) c.loop-shard.cache c.catch_up_at.new.cache was.reads.tables
-          (subst (λ (xs : List Store). CacheGoesOn g.C.Cache.node g.C.Cache.refills (seen_logs g.K.Keeper.TELLS s (state c.loop-shard.keepers).told (pens_of xs))
+          (subst (λ (xs : List Store). CacheGoesOn g.C.Cache.node g.C.Cache.refills
+          (seen_logs g.K.Keeper.TELLS s (state c.loop-shard.keepers).told (pens_of xs))
           c.loop-shard.cache c.catch_up_at.new.cache) was.same done.goes));
       ends =
           ends_on g.K.Keeper.TELLS s (state c.args.keepers.now).told (state c.loop-shard.keepers).told c.loop-shard.shard
           (g.C.Cache.node c.loop-shard.cache.node) (g.C.Cache.node c.catch_up_at.new.cache.node) was.reads.tables was.ends done.reaches;
       same = done.same ∙ was.same;
       reads =
-          reads_on g.K.Keeper.TELLS (outside (state c.args.keepers.now) (shown c.args.link.now)) (outside (state c.loop-shard.keepers) (shown c.loop-shard.link))
+          reads_on g.K.Keeper.TELLS (outside (state c.args.keepers.now) (shown c.args.link.now))
+          (outside (state c.loop-shard.keepers) (shown c.loop-shard.link))
           (outside (state c.catch_up_at.new.keepers) (shown c.catch_up_at.new.link)) was.reads done.reads;
     }
 

@@ -12,11 +12,13 @@ among : (key : List ℕ) (names : List (Bor (List ℕ))) → list_any (λ n. byt
 among key [] = refl
 among key (n ∷ ns) = ap (λ b. bytes_eq n.now key || b) (among key ns)
 
-named : (names : List (Bor (List ℕ))) (es : List (String Global × Value)) → list_all (λ key. list_any (λ n. bytes_eq n.now (string_bytes key)) names) (map (λ e. e.0) es) ≡ are_named (map (λ n. n.now) names) (members_view es)
+named : (names : List (Bor (List ℕ))) (es : List (String Global × Value)) → list_all (λ key. list_any (λ n. bytes_eq n.now (string_bytes key)) names)
+    (map (λ e. e.0) es) ≡ are_named (map (λ n. n.now) names) (members_view es)
 named names [] = refl
 named names (e ∷ es) = rw (among (string_bytes e.0) names, named names es)
 
 pub returns : goal.returns
 returns c =
-    all_from_yields_List (λ key. list_any (λ n. bytes_eq n.now (string_bytes key)) c.args.names.now) _ _ c.all.result c.all.ensures.ran (YieldsList-from_rest {shows = deref} _ c.keys.ensures.rest) (λ x b q k. search (rules, tests))
+    all_from_yields_List (λ key. list_any (λ n. bytes_eq n.now (string_bytes key)) c.args.names.now) _ _ c.all.result c.all.ensures.ran
+    (YieldsList-from_rest {shows = deref} _ c.keys.ensures.rest) (λ x b q k. search (rules, tests))
     ∙ named c.args.names.now c.args.members.now.entries

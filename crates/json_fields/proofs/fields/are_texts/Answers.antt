@@ -15,5 +15,6 @@ texts (e ∷ es) = ap (λ b. is_some (as_str (view e.1)) && b) (texts es)
 
 pub returns : goal.returns
 returns c =
-    all_from_yields_List (λ v. is_some (as_str (view v))) _ _ c.all.result c.all.ensures.ran (YieldsList-from_rest {shows = deref} _ c.values.ensures.rest) (λ x b q k. search (rules, tests))
+    all_from_yields_List (λ v. is_some (as_str (view v))) _ _ c.all.result c.all.ensures.ran (YieldsList-from_rest {shows = deref} _ c.values.ensures.rest)
+    (λ x b q k. search (rules, tests))
     ∙ texts _

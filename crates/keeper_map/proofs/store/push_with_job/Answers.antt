@@ -9,4 +9,5 @@ pub returns-then-is_err-clause-jobs : goal.returns-then-is_err-clause-jobs
 returns-then-is_err-clause-jobs c =
     not_opened c.push-pushed.result (jobs_of c.args.jobs.now) _ _ (sym c.if-is_err.ensures.value)
     (c.end.ensures ∙ ap (λ jobs. with_job jobs c.args.job.position None) c.in_ok-open.ensures
-    ∙ (λ i position. closed_again (jobs_of c.args.jobs.now) c.args.job.position (Some c.args.job.edges) (c.requires.last c.args.job.position (omega arith)) position i))
+    ∙ (λ i position. closed_again (jobs_of c.args.jobs.now) c.args.job.position (Some c.args.job.edges)
+    (c.requires.last c.args.job.position (omega arith)) position i))

@@ -12,7 +12,8 @@ loop-at-preserved c =
     let next' : at + 1 ≡ suc at = omega arith in
     let within : at < length edges = omega arith in
     let before : AllByRecursion (StandsBefore c.index-edges-at.result) (drop (at + 1) edges) =
-    subst (AllByRecursion (StandsBefore c.index-edges-at.result)) (take_all (length edges - (at + 1)) (drop (at + 1) edges) (omega (arith, length-drop (at + 1) edges)))
+    subst (AllByRecursion (StandsBefore c.index-edges-at.result))
+    (take_all (length edges - (at + 1)) (drop (at + 1) edges) (omega (arith, length-drop (at + 1) edges)))
     (c.is_before_all.ensures c.if-not-is_before_all.false) in
     let before' = subst (λ (n : ℕ). AllByRecursion (StandsBefore c.index-edges-at.result) (drop n edges)) next' before in
     let later = subst (λ (n : ℕ). AreInOrder (drop n edges)) next c.loop-at.invariant.in_order in

@@ -13,5 +13,6 @@ returns c =
     let tokens = c.in_ok-put_reply.ensures.tokens in
     record {
       text = c.of.ensures ∙ text_of d old new _ nothing c.new-out.ensures.tokens c.put_reply.ensures.before tokens c.into_inner.ensures.items;
-      one_line = subst IsOneLine (sym c.of.ensures) (one_line d old new _ nothing c.new-out.ensures.tokens c.put_reply.ensures.before tokens c.into_inner.ensures.items);
+      one_line = subst IsOneLine (sym c.of.ensures) (one_line d old new _ nothing c.new-out.ensures.tokens c.put_reply.ensures.before tokens
+          c.into_inner.ensures.items);
     }

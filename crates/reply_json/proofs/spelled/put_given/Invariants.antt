@@ -9,5 +9,7 @@ use Rattle.reply_json.proofs.spelled.put_given.Given as goal
 abbrev pub invariant-loop-name : goal.invariant-loop-name
 invariant-loop-name g l = record {
   before : l.out.before ≡ l.fn.out.before;
-  tokens : l.out.tokens ++ members_tokens (members_outline (members (given (map (λ m. (m.0.now, option_map g.T.Spelled.value m.1)) (drop l.name-index l.members))))) ≡ l.fn.out.tokens ++ begin_object ∷ members_tokens (members_outline (members (given (map (λ m. (m.0.now, option_map g.T.Spelled.value m.1)) l.members))));
+  tokens : l.out.tokens ++ members_tokens (members_outline
+      (members (given (map (λ m. (m.0.now, option_map g.T.Spelled.value m.1)) (drop l.name-index l.members))))) ≡ l.fn.out.tokens ++ begin_object ∷
+      members_tokens (members_outline (members (given (map (λ m. (m.0.now, option_map g.T.Spelled.value m.1)) l.members))));
 }

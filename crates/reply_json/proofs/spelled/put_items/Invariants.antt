@@ -9,5 +9,6 @@ use Rattle.reply_json.proofs.spelled.put_items.Given as goal
 abbrev pub invariant-loop-item : goal.invariant-loop-item
 invariant-loop-item g l = record {
   before : l.out.before ≡ l.fn.out.before;
-  tokens : l.out.tokens ++ items_tokens (items_outline (items_of (map g.T.Spelled.value (drop l.item-index l.items)))) ≡ l.fn.out.tokens ++ begin_array ∷ items_tokens (items_outline (items_of (map g.T.Spelled.value l.items)));
+  tokens : l.out.tokens ++ items_tokens (items_outline (items_of (map g.T.Spelled.value (drop l.item-index l.items)))) ≡ l.fn.out.tokens ++ begin_array ∷
+      items_tokens (items_outline (items_of (map g.T.Spelled.value l.items)));
 }

@@ -9,5 +9,6 @@ use Rattle.reply_json.proofs.spelled.put_members.Given as goal
 abbrev pub invariant-loop-name : goal.invariant-loop-name
 invariant-loop-name g l = record {
   before : l.out.before ≡ l.fn.out.before;
-  tokens : l.out.tokens ++ members_tokens (members_outline (members (map (λ m. (m.0.now, g.T.Spelled.value m.1)) (drop l.name-index l.members)))) ≡ l.fn.out.tokens ++ begin_object ∷ members_tokens (members_outline (members (map (λ m. (m.0.now, g.T.Spelled.value m.1)) l.members)));
+  tokens : l.out.tokens ++ members_tokens (members_outline (members (map (λ m. (m.0.now, g.T.Spelled.value m.1)) (drop l.name-index l.members)))) ≡
+      l.fn.out.tokens ++ begin_object ∷ members_tokens (members_outline (members (map (λ m. (m.0.now, g.T.Spelled.value m.1)) l.members)));
 }

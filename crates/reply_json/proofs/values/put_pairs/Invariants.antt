@@ -10,5 +10,6 @@ abbrev pub invariant-loop-pair : goal.invariant-loop-pair
 invariant-loop-pair l = record {
   all : l.pair-items ≡ l.payload;
   before : l.out.before ≡ l.fn.out.before;
-  tokens : l.out.tokens ++ members_tokens (members_outline (members (map (λ p. (p.key, text p.value)) (drop l.pair-index l.pair-items)))) ≡ l.fn.out.tokens ++ begin_object ∷ members_tokens (members_outline (members (map (λ p. (p.key, text p.value)) l.payload)));
+  tokens : l.out.tokens ++ members_tokens (members_outline (members (map (λ p. (p.key, text p.value)) (drop l.pair-index l.pair-items)))) ≡ l.fn.out.tokens ++
+      begin_object ∷ members_tokens (members_outline (members (map (λ p. (p.key, text p.value)) l.payload)));
 }

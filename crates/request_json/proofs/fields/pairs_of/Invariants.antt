@@ -6,4 +6,5 @@ use Rattle.request_json.proofs.fields.pairs_of.Given as goal
 
 -- what is left adds its pairs to those that were taken
 abbrev pub invariant-loop-key : goal.invariant-loop-key
-invariant-loop-key l = option_map (λ others. map pair_of l.pairs.items ++ others) (pairs_of (members_view l.key-iterator)) ≡ pairs_of (members_view l.members.entries)
+invariant-loop-key l = option_map (λ others. map pair_of l.pairs.items ++ others) (pairs_of (members_view l.key-iterator)) ≡ pairs_of
+    (members_view l.members.entries)

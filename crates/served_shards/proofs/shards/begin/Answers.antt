@@ -18,11 +18,15 @@ loop-place-preserved c =
     let pushed = c.in_ok-push.ensures.items in
     let shards = c.loop-place.shards.items in
     record {
-      begun = subst (λ (l : List Shard). map served_of l ++ begun_at (drop (i + 1) c.args.served.now) (drop (i + 1) c.args.lows.now) c.remove.new.self.items ≡ begun_at c.args.served.now c.args.lows.now c.args.notes.items) (sym pushed)
-          (begun_step shards c.in_ok-shard.shard c.args.served.now c.args.lows.now c.loop-place.notes.items c.remove.new.self.items i c.remove.result in_served in_lows first is
+      begun = subst (λ (l : List Shard). map served_of l ++ begun_at (drop (i + 1) c.args.served.now)
+          (drop (i + 1) c.args.lows.now) c.remove.new.self.items ≡ begun_at c.args.served.now c.args.lows.now c.args.notes.items) (sym pushed)
+          (begun_step shards c.in_ok-shard.shard c.args.served.now c.args.lows.now c.loop-place.notes.items c.remove.new.self.items i c.remove.result in_served
+          in_lows first is
           (begun_at c.args.served.now c.args.lows.now c.args.notes.items) c.loop-place.invariant.begun);
       sound = subst (λ (l : List Shard). AreSeenSound (map served_of l)) (sym pushed)
-          (sound_step shards c.in_ok-shard.shard c.args.served.now c.args.lows.now c.loop-place.notes.items c.remove.new.self.items i c.remove.result in_served in_lows first is
+          (sound_step shards c.in_ok-shard.shard c.args.served.now c.args.lows.now c.loop-place.notes.items c.remove.new.self.items i c.remove.result in_served
+          in_lows first is
           c.begin_one.ensures.sound c.loop-place.invariant.sound);
-      reached = reached_step shards c.in_ok-shard.shard c.args.served.now c.args.lows.now c.loop-place.notes.items c.remove.new.self.items i c.remove.result in_served in_lows first is c.loop-place.invariant.reached;
+      reached = reached_step shards c.in_ok-shard.shard c.args.served.now c.args.lows.now c.loop-place.notes.items c.remove.new.self.items i c.remove.result
+          in_served in_lows first is c.loop-place.invariant.reached;
     }

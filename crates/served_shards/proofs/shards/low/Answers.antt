@@ -12,7 +12,8 @@ returns-in-None-clause-value c = rw (served_none c.args.shard c.args.shards.now 
 
 pub returns-in-Some-clause-marks : goal.returns-in-Some-clause-marks
 returns-in-Some-clause-marks c =
-    rw (served_found c.args.shard c.args.shards.now c.in-Some.place c.index-shards-place.result (sym c.in-Some.ensures)) (record { greatest = c.low.ensures.greatest; window = c.low.ensures.window })
+    rw (served_found c.args.shard c.args.shards.now c.in-Some.place c.index-shards-place.result (sym c.in-Some.ensures))
+    (record { greatest = c.low.ensures.greatest; window = c.low.ensures.window })
 
 pub returns-in-None-clause-marks : goal.returns-in-None-clause-marks
 returns-in-None-clause-marks c = rw (served_none c.args.shard c.args.shards.now (sym c.in-None.ensures)) tt

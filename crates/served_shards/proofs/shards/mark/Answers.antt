@@ -13,4 +13,5 @@ returns-in-Some c =
     (ap (λ m. record { shard = old.number; marks = m; view = old.note }) c.mark.ensures.after)
 
 pub returns-in_default : goal.returns-in_default
-returns-in_default c = sym (unchanged c.args.shard (marking c.args.position) (map served_of c.args.shards.now) (served_none c.args.shard c.args.shards.now (sym c.in_default.ensures)))
+returns-in_default c = sym (unchanged c.args.shard (marking c.args.position) (map served_of c.args.shards.now)
+    (served_none c.args.shard c.args.shards.now (sym c.in_default.ensures)))

@@ -19,10 +19,12 @@ pub returns-in-Some-clause-meets : goal.returns-in-Some-clause-meets
 returns-in-Some-clause-meets c =
     let old = get_or c.args.shards.now c.in-Some.place c.index-shards-place.result in
     meets_found c.args.shard c.args.shards.now c.in-Some.place c.index-shards-place.result c.args.note (sym c.in-Some.ensures)
-    (met_once (served_of old) c.args.note c.meet.new.self c.meet.ensures.longer c.meet.ensures.grows c.meet.ensures.grows_from_other c.notes_are_sound.ensures.sound)
+    (met_once (served_of old) c.args.note c.meet.new.self c.meet.ensures.longer c.meet.ensures.grows c.meet.ensures.grows_from_other
+    c.notes_are_sound.ensures.sound)
 
 pub returns-in_default-clause-met : goal.returns-in_default-clause-met
-returns-in_default-clause-met c = sym (unchanged c.args.shard (seeing c.args.note) (map served_of c.args.shards.now) (served_none c.args.shard c.args.shards.now (sym c.in_default.ensures)))
+returns-in_default-clause-met c = sym (unchanged c.args.shard (seeing c.args.note) (map served_of c.args.shards.now)
+    (served_none c.args.shard c.args.shards.now (sym c.in_default.ensures)))
 
 pub returns-in_default-clause-meets : goal.returns-in_default-clause-meets
 returns-in_default-clause-meets c = meets_none c.args.shard c.args.shards.now c.args.note (sym c.in_default.ensures)

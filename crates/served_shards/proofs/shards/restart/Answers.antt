@@ -8,14 +8,18 @@ use Rattle.served_shards.proofs.shards.restart.Goals as goal
 
 pub remove-requires : goal.remove-requires
 remove-requires c =
-    let lt : c.loop-place.place < length (map served_of c.args.shards.now) = let same = length-served c.args.shards.now in let on = c.loop-place-test.true in omega arith in
-    let some = logs_some (map served_of c.args.shards.now) c.loop-place.notes.items c.loop-place.place (served_of c.index-shards-place.result) lt c.loop-place.invariant.logs in
+    let lt : c.loop-place.place < length (map served_of c.args.shards.now) = let same = length-served c.args.shards.now in let on = c.loop-place-test.true in
+    omega arith in
+    let some = logs_some (map served_of c.args.shards.now) c.loop-place.notes.items c.loop-place.place
+    (served_of c.index-shards-place.result) lt c.loop-place.invariant.logs in
     omega arith
 
 pub bounds-lows-place : goal.bounds-lows-place
 bounds-lows-place c =
-    let lt : c.loop-place.place < length (map served_of c.args.shards.now) = let same = length-served c.args.shards.now in let on = c.loop-place-test.true in omega arith in
-    let some = logs_some (map served_of c.args.shards.now) c.loop-place.notes.items c.loop-place.place (served_of c.index-shards-place.result) lt c.loop-place.invariant.logs in
+    let lt : c.loop-place.place < length (map served_of c.args.shards.now) = let same = length-served c.args.shards.now in let on = c.loop-place-test.true in
+    omega arith in
+    let some = logs_some (map served_of c.args.shards.now) c.loop-place.notes.items c.loop-place.place
+    (served_of c.index-shards-place.result) lt c.loop-place.invariant.logs in
     lows_some c.args.lows.now c.loop-place.notes.items c.loop-place.place some c.loop-place.invariant.reached
 
 pub restart_one-requires : goal.restart_one-requires
@@ -30,7 +34,8 @@ restart_one-requires c =
     let some = logs_some (map served_of olds) c.loop-place.notes.items i (served_of d) lt c.loop-place.invariant.logs in
     let in_lows = lows_some c.args.lows.now c.loop-place.notes.items i some c.loop-place.invariant.reached in
     let first = head_is c.loop-place.notes.items c.remove.new.self.items c.remove.result some c.remove.ensures.value c.remove.ensures.items in
-    same_log shards olds d d c.args.lows.now c.loop-place.notes.items c.remove.new.self.items i c.remove.result in_shards in_olds in_lows first c.loop-place.invariant.rest c.loop-place.invariant.logs
+    same_log shards olds d d c.args.lows.now c.loop-place.notes.items c.remove.new.self.items i c.remove.result in_shards in_olds in_lows first
+    c.loop-place.invariant.rest c.loop-place.invariant.logs
 
 pub loop-place-preserved : goal.loop-place-preserved
 loop-place-preserved c =
@@ -52,8 +57,10 @@ loop-place-preserved c =
     let same = c.loop-place.invariant.rest in
     record {
       rest = rest_step shards olds new d lows notes left i note in_shards in_olds in_lows first same;
-      begun = anew_step shards olds new d lows notes left i note in_shards in_olds in_lows first same (restarted (map served_of olds) lows c.args.notes.items) c.restart_one.ensures.served c.loop-place.invariant.begun;
+      begun = anew_step shards olds new d lows notes left i note in_shards in_olds in_lows first same
+          (restarted (map served_of olds) lows c.args.notes.items) c.restart_one.ensures.served c.loop-place.invariant.begun;
       logs = logs_step shards olds new d lows notes left i note in_shards in_olds in_lows first same c.loop-place.invariant.logs;
       reached = lows_step shards olds new d lows notes left i note in_shards in_olds in_lows first same c.loop-place.invariant.reached;
-      meets = meets_step shards olds new d lows notes left i note in_shards in_olds in_lows first same (MeetEach (map served_of olds) c.args.notes.items) c.restart_one.ensures.meets c.loop-place.invariant.meets;
+      meets = meets_step shards olds new d lows notes left i note in_shards in_olds in_lows first same
+          (MeetEach (map served_of olds) c.args.notes.items) c.restart_one.ensures.meets c.loop-place.invariant.meets;
     }

@@ -10,4 +10,6 @@ loop-place-preserved c =
     let lines = c.args.lines.now in
     let line = c.index-lines-place in
     let within : c.loop-place.place < length lines = omega arith in
-    IsIndex_more (names_of lines) c.loop-place.place _ c.loop-place.places c.add.new.index (simp length-map within) (rw c.as_str.ensures (ap (λ l. l.name) line.is ∙ sym (get_or-map (λ l. l.name) lines c.loop-place.place line.result))) c.loop-place.invariant c.in_ok-add.ensures
+    IsIndex_more (names_of lines) c.loop-place.place _ c.loop-place.places c.add.new.index (simp length-map within)
+    (rw c.as_str.ensures (ap (λ l. l.name) line.is ∙ sym (get_or-map (λ l. l.name) lines c.loop-place.place line.result))) c.loop-place.invariant
+    c.in_ok-add.ensures

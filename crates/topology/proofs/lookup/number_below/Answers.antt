@@ -6,7 +6,9 @@ pub returns-then-is_padded : goal.returns-then-is_padded
 returns-then-is_padded c = sym (padded_number c.args.count c.args.text.now (omega arith) (search rules))
 
 pub returns-in_default : goal.returns-in_default
-returns-in_default c = sym (other_number _ c.args.count c.args.text.now c.in_default.field-0 c.parse.result c.parse.ensures.value.0 c.in_default.is (omega arith))
+returns-in_default c = sym (other_number _ c.args.count c.args.text.now c.in_default.field-0 c.parse.result c.parse.ensures.value.0 c.in_default.is
+    (omega arith))
 
 pub returns-then-number-count : goal.returns-then-number-count
-returns-then-number-count c = sym (found_number _ c.args.count c.in-Ok.number c.args.text.now c.parse.result c.parse.ensures.value.0 c.in-Ok.is (search rules) (search rules))
+returns-then-number-count c = sym (found_number _ c.args.count c.in-Ok.number c.args.text.now c.parse.result c.parse.ensures.value.0 c.in-Ok.is (search rules)
+    (search rules))

@@ -9,10 +9,12 @@ use Rattle.write_touches.proofs.edge_writes.edge_touches.Goals as goal
 pub loop-update-preserved : goal.loop-update-preserved
 loop-update-preserved g c = record {
   touches = λ told.
-      touch_more _ _ c.args.updates.now c.loop-update.update-index c.update-item.result _ _ _ (c.loop-update.invariant.stays told c.args.at) c.loop-update-test.true
+      touch_more _ _ c.args.updates.now c.loop-update.update-index c.update-item.result _ _ _
+      (c.loop-update.invariant.stays told c.args.at) c.loop-update-test.true
       c.update-item.is (c.loop-update.invariant.touches told) (c.in_ok-edge_touch.ensures.touch told) c.in_ok-push.ensures.items;
   write =
-      records_done c.args.updates.now c.loop-update.update-index c.update-item.result _ _ _ c.loop-update-test.true c.update-item.is c.loop-update.invariant.write
+      records_done c.args.updates.now c.loop-update.update-index c.update-item.result _ _ _ c.loop-update-test.true c.update-item.is
+      c.loop-update.invariant.write
       c.in_ok-edge_touch.ensures.writes c.in_ok-push.ensures.items;
   small =
       subst HaveSmallStamps (sym c.in_ok-push.ensures.items)

@@ -10,7 +10,8 @@ use Rattle.write_touches.proofs.far_jobs.far_job.Goals as goal
 pub returns-then-is_empty-clause-job : goal.returns-then-is_empty-clause-job
 returns-then-is_empty-clause-job c =
     let none : length c.in_ok-owed.owed.items ≡ 0 = grind (arith, nat_tests) in
-    empty_job (types_of c.args.schema.now) c.args.entry.now c.in_ok-owed.owed.items (c.in_ok-owed.ensures ∙ ap (filter_map (owed_record (types_of c.args.schema.now))) c.as_slice.ensures) none
+    empty_job (types_of c.args.schema.now) c.args.entry.now c.in_ok-owed.owed.items
+    (c.in_ok-owed.ensures ∙ ap (filter_map (owed_record (types_of c.args.schema.now))) c.as_slice.ensures) none
 
 pub returns-clause-job : goal.returns-clause-job
 returns-clause-job c =

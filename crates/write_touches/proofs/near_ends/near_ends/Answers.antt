@@ -3,4 +3,5 @@ use Rattle.write_touches.proofs.near_ends.near_ends.Goals as goal
 
 pub loop-update-preserved : goal.loop-update-preserved
 loop-update-preserved c =
-    more _ c.args.updates.now c.loop-update.update-index c.update-item.result _ _ c.loop-update-test.true c.update-item.is c.loop-update.invariant c.in_ok-add_near_end.ensures
+    more _ c.args.updates.now c.loop-update.update-index c.update-item.result _ _ c.loop-update-test.true c.update-item.is c.loop-update.invariant
+    c.in_ok-add_near_end.ensures

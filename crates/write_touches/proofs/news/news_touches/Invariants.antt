@@ -8,7 +8,8 @@ use Rattle.write_touches.proofs.news.news_touches.Given as goal
 
 abbrev pub invariant-loop-update : goal.invariant-loop-update
 invariant-loop-update g l = record {
-  touches : WhereTold g.M.Keeper.TELLS (l.touches.items ≡ filter_map (news_touch ((g.M.Keeper.state l.fn.keeper).told l.at).log) (take l.update-index l.updates));
+  touches : WhereTold g.M.Keeper.TELLS (l.touches.items ≡ filter_map (news_touch ((g.M.Keeper.state l.fn.keeper).told l.at).log)
+      (take l.update-index l.updates));
   small : HaveSmallStamps l.touches.items;
   stays : KeepsTables g.M.Keeper.TELLS (g.M.Keeper.state l.fn.keeper) (g.M.Keeper.state l.keeper);
   calls : (g.M.Keeper.state l.fn.keeper).calls ≤ (g.M.Keeper.state l.keeper).calls;

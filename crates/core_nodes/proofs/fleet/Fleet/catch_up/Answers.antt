@@ -47,7 +47,8 @@ returns g c =
     let is = all_after c.self.inside old ls fs c.deref_mut-3.result.now c.catch_up_caches.new.masters lends in
     let on_leaders =
     subst (λ (xs : List (Named Node)). CachesGoOn leader_node leader_refills (seen_logs tells s before (pens_of old.masters)) xs ls) leaders
-    (subst (λ (ms : List Store). CachesGoOn leader_node leader_refills (seen_logs tells s before (pens_of ms)) c.deref_mut.result.now ls) masters given.leaders) in
+    (subst (λ (ms : List Store). CachesGoOn leader_node leader_refills (seen_logs tells s before (pens_of ms)) c.deref_mut.result.now ls) masters
+    given.leaders) in
     let on_followers =
     subst (λ (xs : List (Named FollowerState)). CachesGoOn follower_node follower_refills (seen_logs tells s before (pens_of old.masters)) xs fs) followers
     (subst (λ (ms : List Store). CachesGoOn follower_node follower_refills (seen_logs tells s before (pens_of ms)) c.deref_mut-2.result.now fs) masters

@@ -8,4 +8,5 @@ pub returns-clause-found : goal.returns-clause-found
 returns-clause-found c = found c.args.bytes.now c.read_all.result (λ i. omega (arith, c.type_inv.bytes i)) c.read_all.ensures
 
 pub returns-clause-only : goal.returns-clause-only
-returns-clause-only c = λ entry fits spelled same. subst (λ r. Answers c.read_all.result r) (ap decoded (sym same) ∙ spelled_is_decoded entry fits spelled) c.read_all.ensures
+returns-clause-only c = λ entry fits spelled same. subst (λ r. Answers c.read_all.result r)
+    (ap decoded (sym same) ∙ spelled_is_decoded entry fits spelled) c.read_all.ensures

@@ -14,9 +14,11 @@ invariant_of-self-clause-sound c =
 
 pub invariant_of-self-clause-small : goal.invariant_of-self-clause-small
 invariant_of-self-clause-small c =
-    still_all (λ e. HaveSmallStamps e.touches) (is_ok c.push_both.result) c.args.self.now.log _ c.args.entry c.push_both.ensures.log c.args.self.now.small c.requires.stamps
+    still_all (λ e. HaveSmallStamps e.touches) (is_ok c.push_both.result) c.args.self.now.log _ c.args.entry c.push_both.ensures.log c.args.self.now.small
+    c.requires.stamps
 
 pub invariant_of-self-clause-of_entries : goal.invariant_of-self-clause-of_entries
 invariant_of-self-clause-of_entries c =
-    still_of_entries (is_ok c.push_both.result) c.args.self.now.log _ c.args.entry (jobs_of c.args.self.now.jobs) _ c.args.job c.push_both.ensures.log c.push_both.ensures.jobs
+    still_of_entries (is_ok c.push_both.result) c.args.self.now.log _ c.args.entry
+    (jobs_of c.args.self.now.jobs) _ c.args.job c.push_both.ensures.log c.push_both.ensures.jobs
     c.requires.follows c.args.self.now.of_entries c.requires.job

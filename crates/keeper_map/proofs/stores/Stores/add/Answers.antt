@@ -21,7 +21,8 @@ add-requires-clause-follows c =
 
 pub returns : goal.returns
 returns c =
-    changes_there c.add.result c.args.self.now.tables c.make_table.new.self.tables (c.get_mut.follows.lender c.add.new.self) c.args.at c.in-Some.table.now c.add.new.self
+    changes_there c.add.result c.args.self.now.tables c.make_table.new.self.tables
+    (c.get_mut.follows.lender c.add.new.self) c.args.at c.in-Some.table.now c.add.new.self
     (λ t. after_commit t c.args.entry c.args.job) c.in_ok-make_table.ensures.stays
     (found_at c.args.at c.key_of.result c.in-Some.table.now c.make_table.new.self.tables c.key_of.ensures c.in-Some.ensures.value)
     (written c.args.at c.key_of.result c.add.new.self c.make_table.new.self.tables (c.get_mut.follows.lender c.add.new.self) c.key_of.ensures

@@ -13,7 +13,8 @@ returns-clause-answer c =
 
 pub returns-clause-changes : goal.returns-clause-changes
 returns-clause-changes c =
-    changes_there c.open.result c.args.self.now.tables c.make_table.new.self.tables (c.get_mut.follows.lender c.open.new.self) c.args.at c.in-Some.table.now c.open.new.self
+    changes_there c.open.result c.args.self.now.tables c.make_table.new.self.tables
+    (c.get_mut.follows.lender c.open.new.self) c.args.at c.in-Some.table.now c.open.new.self
     (λ t. after_open t c.args.line.now) c.in_ok-make_table.ensures.stays
     (found_at c.args.at c.key_of.result c.in-Some.table.now c.make_table.new.self.tables c.key_of.ensures c.in-Some.ensures.value)
     (written c.args.at c.key_of.result c.open.new.self c.make_table.new.self.tables (c.get_mut.follows.lender c.open.new.self) c.key_of.ensures

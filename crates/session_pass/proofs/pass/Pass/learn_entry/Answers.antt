@@ -30,4 +30,5 @@ returns-clause-learns c =
     let first : take c.min.result c.as_slice-touches.result.now ≡ learnt_touches c.args.entry.now = first_eight _ _ _ least c.as_slice-touches.ensures in
     let learnt : LearnsTouches c.args.shard (learnt_touches c.args.entry.now) c.self.inside.floors.floors c.learn_touches.new.self.floors =
     rw (← first) c.learn_touches.ensures.learns in
-    rw (← c.self.view_is) (rw (with_items_is c.self.inside.notes c.meet.new.notes long) (rw c.meet.ensures.met (rw value record { floors = learnt; rest = refl })))
+    rw (← c.self.view_is) (rw (with_items_is c.self.inside.notes c.meet.new.notes long)
+    (rw c.meet.ensures.met (rw value record { floors = learnt; rest = refl })))

@@ -11,4 +11,5 @@ invariant_of-self c =
     let known : IsNoteOf c.args.shard c.args.note (pass_seen c.self.inside).notes = search rules in
     let meets : MeetsNote c.args.shard c.args.note (pass_seen c.self.inside).notes = rw (← value) c.meet.ensures.meets in
     let long : length c.meet.new.notes ≡ c.self.inside.notes.len = search rules in
-    rw (with_items_is c.self.inside.notes c.meet.new.notes long) (rw c.meet.ensures.met (rw value (sees (pass_seen c.self.inside) c.args.shard c.args.note known meets c.self.invariant)))
+    rw (with_items_is c.self.inside.notes c.meet.new.notes long)
+    (rw c.meet.ensures.met (rw value (sees (pass_seen c.self.inside) c.args.shard c.args.note known meets c.self.invariant)))

@@ -20,12 +20,14 @@ returns-in_err-look_ahead-clause-counted g c = CountsTaken-trans _ _ _ _ _ _ c.c
 pub returns-then-not-branch-clause-next : goal.returns-then-not-branch-clause-next
 returns-then-not-branch-clause-next g c =
     let end = c.look_ahead.ensures.end (c.in_ok-look_ahead.was ∙ ap Ok c.if-not-branch.true) in
-    rw (c.kind_of.ensures, c.deref.ensures.value) (Reading-end _ _ _ _ _ (Reading-kept _ _ _ _ _ _ _ c.chunks.invariant.reading c.look_ahead.ensures.same c.look_ahead.ensures.may) end).0
+    rw (c.kind_of.ensures, c.deref.ensures.value) (Reading-end _ _ _ _ _
+    (Reading-kept _ _ _ _ _ _ _ c.chunks.invariant.reading c.look_ahead.ensures.same c.look_ahead.ensures.may) end).0
 
 pub returns-then-not-branch-clause-uses : goal.returns-then-not-branch-clause-uses
 returns-then-not-branch-clause-uses g c =
     let end = c.look_ahead.ensures.end (c.in_ok-look_ahead.was ∙ ap Ok c.if-not-branch.true) in
-    rw (c.kind_of.ensures, c.deref.ensures.value) (Reading-end _ _ _ _ _ (Reading-kept _ _ _ _ _ _ _ c.chunks.invariant.reading c.look_ahead.ensures.same c.look_ahead.ensures.may) end).1
+    rw (c.kind_of.ensures, c.deref.ensures.value) (Reading-end _ _ _ _ _
+    (Reading-kept _ _ _ _ _ _ _ c.chunks.invariant.reading c.look_ahead.ensures.same c.look_ahead.ensures.may) end).1
 
 pub returns-then-not-branch-clause-counted : goal.returns-then-not-branch-clause-counted
 returns-then-not-branch-clause-counted g c = CountsTaken-trans _ _ _ _ _ _ c.chunks.invariant.counted c.look_ahead.ensures.counted
@@ -59,7 +61,8 @@ chunks-preserved g c =
             let ends = c.go_on.ensures.found (c.in_ok-go_on.was ∙ ap Ok w.if-branch.true) in
             let none : length c.go_on.new.line.items ≡ 0 = grind (arith, common_steps) in
             rw c.go_on.ensures.taken (Reading-skip _ _ _ _ _ _ _ _ before ends (nil_from_length _ none))
-        | else-branch-via-else-branch w ↦ rw c.go_on.ensures.taken (Reading-all _ _ _ _ _ _ _ _ before (c.go_on.ensures.none (c.in_ok-go_on.was ∙ ap Ok w.if-branch.false)))
+        | else-branch-via-else-branch w ↦ rw c.go_on.ensures.taken
+            (Reading-all _ _ _ _ _ _ _ _ before (c.go_on.ensures.none (c.in_ok-go_on.was ∙ ap Ok w.if-branch.false)))
       ];
       bounded = c.go_on.ensures.bounded;
       counted = rw c.go_on.ensures.taken (CountsTaken-trans _ _ _ _ _ _ c.chunks.invariant.counted c.look_ahead.ensures.counted);

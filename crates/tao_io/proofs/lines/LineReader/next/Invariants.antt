@@ -9,7 +9,8 @@ invariant-chunks g l =
     let left = g.R.Source.left in
     let faults = g.R.Source.faults in
     record {
-      reading : Reading (to_come l.initial.self (left l.initial.source)) (to_come l.self (left l.source)) l.line.items (may_give l.initial.self) (may_give l.self);
+      reading : Reading (to_come l.initial.self (left l.initial.source)) (to_come l.self (left l.source)) l.line.items (may_give l.initial.self)
+          (may_give l.self);
       bounded : vec_len l.line ≤ line_limit + 1;
       counted : CountsTaken (left l.initial.source) (left l.source) l.initial.self.taken l.self.taken;
       later : faults l.initial.source ≤ faults l.source;

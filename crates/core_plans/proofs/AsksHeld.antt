@@ -25,7 +25,7 @@ use Rattle.core_plans.specs.HeldLaws.{AsksStayHeld}
 use Rattle.core_plans.specs.Held.{AsksAreHeld, OpensNone, Plans, is_open_ask}
 use Rattle.core_plans.specs.HeldWrites.{DoesWriteStage, call_of_plan, job_by, way_by}
 use Rattle.core_plans.specs.LedBy.{led_by}
-use Rattle.core_steps.specs.CriticalReads.{ReadsCritical}
+use Rattle.core_steps.specs.CriticalReads.{ReadsCritical, follower_read}
 use Rattle.core_steps.specs.Reads.{Ends, IsAnswered, IsFailedRead, ReadsAlong, asked_by, sent_read}
 use Rattle.core_steps.specs.Routes.{Scene}
 use Rattle.core_steps.specs.OtherEnds.{ChangesKeepers, EndsOver, JobWay, LeavesJob, MergesOver, WorksOffJob, WorksOffOf, job_way, write_other_end}
@@ -369,7 +369,7 @@ read_opens_none tells s route read reply old new is = absurd is
 
 -- a critical read opens its ask at once
 pub critical_opens_none : (tells : Bool) (s : Settings) (follower : NodeName) (read : Wanted) (reply : Reply) (old new : Scene)
-    → ReadsCritical tells s follower read reply old new → OpensNone old.fleet.followers new.fleet.followers
+    → ReadsCritical tells s (follower_read follower read) reply old new → OpensNone old.fleet.followers new.fleet.followers
 critical_opens_none tells s follower read (Called (called.Read reply)) old new is =
     answered_opens_none follower old.fleet.followers new.fleet.followers (AsksAtOnce (query_key read.query) is.ask) (types_of s.schema) read is.ask
     (given_of is.out) reply is.looked (λ from to asks. asks.node) is.asks is.ends
@@ -393,7 +393,7 @@ module _ (tells : Bool) (s : Settings) (way : JobWay) (old new : Posting) where
   untouched : ChangesNoNode tells old new → followers_of new ≡ followers_of old
   untouched rests = ap (λ (f : Fleet). f.followers) rests.fleet
 
-  left_same : (why : ScheduledWhy) (wrote : Option Wrote) → LeavesJob tells s way why wrote old new → followers_of new ≡ followers_of old
+  left_same : (why : ScheduledWhy) (wrote : Option Wrote) → LeavesJob tells s way (Scheduled why wrote) old new → followers_of new ≡ followers_of old
   left_same NoServer None is = ap followers_of is.1
   left_same why.LinkFault None is = untouched is.2
   left_same why.LinkFault (Some w) is = is.2.followers

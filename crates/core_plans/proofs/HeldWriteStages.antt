@@ -5,7 +5,7 @@ use Rattle.std.specs.Prelude.{⊤, Err, IfErr, IfOk, IfSome, IsSome, Ok, OnOk, R
 use Rattle.core_model.specs.Fleet.{Fleet}
 use Rattle.core_model.specs.Jobs.{CanBeMerged, IsMergedJob, ShardJob, job_on}
 use Rattle.core_steps.specs.OtherEnds.{EndsOver, MergesOver, StandsThere, job_way, known_of}
-use Rattle.core_steps.specs.Posting.{Posting}
+use Rattle.core_steps.specs.Posting.{Posting, PostsOn}
 use Rattle.core_steps.specs.Routes.{hops_between}
 use Rattle.core_steps.specs.Writes.{AuthoredWrite, CanBeApplied, IsCommitted, RefusesCommit, client_call, sent_write}
 use Rattle.core_steps.specs.declared.routes.Route.{Route}
@@ -37,7 +37,7 @@ use Rattle.write_plan.specs.declared.results.WriteResult.{WriteResult}
 use Rattle.write_plan.specs.declared.results.WriteResult.TheVariants as came
 use Rattle.write_plan.specs.declared.stage.WriteStage.{WriteStage}
 use Rattle.write_plan.specs.declared.stage.WriteStage.TheVariants.{Commit, Inverse, End, Relay, Apply, Done}
-use Rattle.core_plans.specs.HeldWrites.{DoesWriteStage, IsAnswerTo, IsTakenAs, IsWriteUnderWay, PassesWriteStage, PostsOn, call_of_plan, job_by, way_by}
+use Rattle.core_plans.specs.HeldWrites.{DoesWriteStage, IsAnswerTo, IsTakenAs, IsWriteUnderWay, PassesWriteStage, call_of_plan, job_by, way_by}
 use Rattle.core_plans.specs.LedBy.{led_by}
 use Rattle.core_plans.proofs.WritesGoOn.{write_later}
 

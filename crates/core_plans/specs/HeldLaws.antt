@@ -14,7 +14,7 @@ use Rattle.core_plans.specs.Held.{AsksAreHeld, OpensNone, Plans}
 use Rattle.core_plans.specs.HeldReads.{HasComeTo, MissesNone, StepsRead, version_now}
 use Rattle.core_plans.specs.HeldWrites.{DoesWriteStage}
 use Rattle.core_plans.specs.LedBy.{led_by}
-use Rattle.core_steps.specs.CriticalReads.{ReadsCritical}
+use Rattle.core_steps.specs.CriticalReads.{ReadsCritical, follower_read}
 use Rattle.core_steps.specs.Reads.{ReadsAlong, sent_read}
 use Rattle.core_steps.specs.Routes.{Scene}
 use Rattle.core_steps.specs.Posting.{Posting}
@@ -73,7 +73,7 @@ pub record AsksStayHeld : Type 0 where
   pub reads : (tells : Bool) (s : Settings) (route : Route) (read : Wanted) (reply : Reply) (old new : Scene)
       → ReadsAlong tells s (sent_read route read) reply old new → OpensNone old.fleet.followers new.fleet.followers
   pub critical : (tells : Bool) (s : Settings) (follower : NodeName) (read : Wanted) (reply : Reply) (old new : Scene)
-      → ReadsCritical tells s follower read reply old new → OpensNone old.fleet.followers new.fleet.followers
+      → ReadsCritical tells s (follower_read follower read) reply old new → OpensNone old.fleet.followers new.fleet.followers
   pub writes : (tells : Bool) (s : Settings) (route : Route) (call : AuthoredWrite) (outcome : Result CarriedOut Reply) (old new : Posting)
       → WritesAlong tells s (sent_write route call) outcome old new → OpensNone old.scene.fleet.followers new.scene.fleet.followers
   -- nor does a stage of a held write

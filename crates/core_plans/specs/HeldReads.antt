@@ -17,7 +17,7 @@ use Rattle.graph_model.specs.Log.{version}
 use Rattle.graph_model.specs.Told.{WhereTold}
 use Rattle.node_name.specs.declared.NodeName.{NodeName}
 use Rattle.read_plan.specs.Ends.{EndsWith}
-use Rattle.read_plan.specs.Readings.{NeverAsks, Reading, new_reading, taken}
+use Rattle.read_plan.specs.Readings.{NeverAsks, Reading, taken}
 use Rattle.read_plan.specs.declared.end.ReadEnd.TheVariants.{Answered}
 use Rattle.read_plan.specs.declared.end.ReadEnd.TheVariants as end
 use Rattle.read_plan.specs.declared.stages.ReadResult.TheVariants as came
@@ -38,7 +38,6 @@ use Rattle.shard_tables.specs.declared.read_out.ReadOut.{ReadOut}
 use Rattle.tao_base.specs.EdgeTypes.{EdgeTypes}
 use Rattle.tao_base.specs.Queries.{query_key, query_shard}
 use Rattle.tao_base.specs.declared.query.Answer.{Answer}
-use Rattle.tao_base.specs.declared.query.Query.{Query}
 use Rattle.tao_keeper.specs.KeeperState.{KeeperState}
 use Rattle.tao_keeper.specs.Table.{Tables}
 use Rattle.tao_schema.specs.Schema.{key_bound, types_of}
@@ -49,10 +48,9 @@ use Rattle.core_plans.specs.LedBy.{LedBy}
 abbrev pub wanted_by : Reading → Wanted
 wanted_by p = wanted p.query p.floor
 
--- a read that is begun, at the bound of its type
-abbrev pub begun_read : Settings → Query → ℕ → ℕ → ℕ → Bool → NodeName → Reading
-begun_read s query region tier floor critical follower =
-    record (new_reading query region tier floor critical follower) { bound = key_bound (types_of s.schema) (query_key query) }
+-- a read at the bound of its type
+abbrev pub at_bound : Settings → Reading → Reading
+at_bound s p = record p { bound = key_bound (types_of s.schema) (query_key p.query) }
 
 -- its way, by a leader
 abbrev pub route_by : NodeName → Reading → Route

@@ -1,15 +1,11 @@
 -- A write that is held between its stages, and what each stage does.
 use Rattle.std.specs.Prelude.{ℕ, ◌≡◌, ◌<◌, ◌⊎◌, ⊤, Bool, IfSome, IsTrue, List, Option, None, Some, Result, Ok, Err, length}
-use Rattle.core_mail.specs.Inboxes.{AreInboxesOf}
-use Rattle.core_model.specs.Consistent.{GoesOn, IsConsistent}
 use Rattle.core_model.specs.Fleet.{Fleet}
-use Rattle.core_model.specs.Growing.{MastersGrow}
 use Rattle.core_model.specs.Jobs.{CanBeMerged, IsMergedJob, ShardJob, job_on}
-use Rattle.core_model.specs.Pens.{pens_of}
 use Rattle.core_model.specs.Serving.{IsFollowerFor}
 use Rattle.core_steps.specs.Routes.{FailsCarry, hops_between}
 use Rattle.core_steps.specs.OtherEnds.{EndsOver, MergesOver, StandsThere, job_way}
-use Rattle.core_steps.specs.Posting.{AppliesAlone, Posting}
+use Rattle.core_steps.specs.Posting.{AppliesAlone, Posting, PostsOn}
 use Rattle.core_steps.specs.Writes.{AuthoredWrite, CanBeApplied, FollowerTakes, IsCommitted, RefusesCommit, client_call, sent_write}
 use Rattle.core_steps.specs.declared.routes.Route.{Route}
 use Rattle.graph_model.specs.Soundness.{is_client}
@@ -24,7 +20,6 @@ use Rattle.shard_tables.specs.declared.writes.Wrote.{Wrote}
 use Rattle.tao_base.specs.Writes.{ChangesType, write_shard}
 use Rattle.tao_base.specs.declared.entry.Entry.{Entry}
 use Rattle.tao_base.specs.declared.write.Write.{Write}
-use Rattle.tao_keeper.specs.KeeperState.{IsLater}
 use Rattle.tao_keeper.specs.Table.{Tables}
 use Rattle.tao_keeper.specs.declared.jobs.Job.{Job}
 use Rattle.tao_link.specs.Shown.{after_carry}
@@ -154,14 +149,6 @@ DoesWriteStage led Relay p old q new = ⊥
 DoesWriteStage led Done p old q new = ⊥
 
 -- ---- what each of them keeps
-
--- what is consistent stays so, messages stay those of their inboxes, the nodes go on, of tables only logs of masters grow, and no count of the keepers falls
-pub record PostsOn (tells : Bool) (s : Settings) (old new : Posting) : Type 0 where
-  pub consistent : IsConsistent tells s new.scene.keepers.told new.scene.fleet
-  pub inboxes : AreInboxesOf s (pens_of new.scene.fleet.masters) new.inboxes
-  pub goes : GoesOn old.scene.fleet new.scene.fleet
-  pub grows : MastersGrow tells s old.scene.keepers.told new.scene.keepers.told
-  pub later : IsLater old.scene.keepers new.scene.keepers
 
 -- a stage of a held write was done: the write can go on, and so can all else
 pub record PassesWriteStage (led : LedBy) (at : WriteStage) (p : Writing) (old : Posting) (q : Writing) (new : Posting) : Type 0 where

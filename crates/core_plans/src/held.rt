@@ -1,17 +1,14 @@
 //! `HeldPlan`.
 ghost use Rattle.std.specs.Prelude.{◌≡◌, IsSome, None, option_and_then};
-ghost use Rattle.core_model.specs.Jobs.{far_shard};
 ghost use Rattle.core_plans.specs.Held.{IsOver, given_up, learner, next_stage, nothing_told, told_with};
 ghost use Rattle.core_steps.specs.OtherEnds.{told_entry, told_there};
 
 use crate::writes::give_up_way;
-use core_model::far_shard;
-use core_steps::ToldEntry;
+use core_steps::{ToldEntry, told_entry, told_there};
 use read_plan::ReadPlan;
 use replies::{Reply, Stage};
 use shard_tables::Wrote;
 use tao_base::Origin;
-use tao_keeper::Job;
 use write_plan::{Committed, EndedWrite, WritePlan, WriteStage};
 
 /// A read or a write between two of its stages.
@@ -59,34 +56,6 @@ impl ToldEntries {
             None => ToldEntries::none(),
         }
     }
-}
-
-/// The entry of what was written on a shard, where there is one.
-fn told_entry(shard: u16, wrote: Wrote) -> Option<ToldEntry>
-    ensures { result ≡ told_entry shard wrote }
-{
-    Some(ToldEntry {
-        shard,
-        entry: wrote.entry?,
-        note: wrote.note,
-    })
-}
-
-/// The shard on which a job's records lie; the first one where it has none.
-fn shard_there(job: &Job) -> u16
-    ensures { result ≡ far_shard job.now }
-{
-    if job.edges.as_slice().is_empty() {
-        return 0;
-    }
-    far_shard(job)
-}
-
-/// The entry that was written at the other end, where there is one.
-fn told_there(job: &Option<Job>, wrote: Option<Wrote>) -> Option<ToldEntry>
-    ensures { result ≡ told_there job.now wrote }
-{
-    told_entry(shard_there(job.as_ref()?), wrote?)
 }
 
 impl HeldPlan {

@@ -5,10 +5,9 @@ ghost use Rattle.core_model.specs.Consistent.{GoesOn, IsConsistent};
 ghost use Rattle.core_model.specs.Growing.{MastersGrow};
 ghost use Rattle.core_model.specs.Pens.{pens_of};
 ghost use Rattle.core_plans.specs.Held.{CanStep, IsThere, IsUnderWay, StepsHeld, StepsPlan};
-ghost use Rattle.core_plans.specs.HeldWrites.{PostsOn};
 ghost use Rattle.core_plans.specs.LedBy.{led_by};
 ghost use Rattle.core_steps.specs.Routes.{scene};
-ghost use Rattle.core_steps.specs.Posting.{posting};
+ghost use Rattle.core_steps.specs.Posting.{PostsOn, posting};
 ghost use Rattle.tao_keeper.specs.KeeperState.{IsLater};
 ghost use Rattle.topology.specs.States.{all_up};
 

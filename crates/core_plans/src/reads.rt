@@ -2,10 +2,10 @@
 ghost use Rattle.std.specs.Prelude.{◌≡◌, ◌-◌, IsSome, false, nat_lt, true};
 ghost use Rattle.core_model.specs.Consistent.{IsConsistent, IsFleetOf};
 ghost use Rattle.core_model.specs.Serving.{IsFollowerFor, IsLeaderFor};
-ghost use Rattle.core_plans.specs.HeldReads.{EndsAskAlone, IsReadUnderWay, PassesReadStage, begun_read};
+ghost use Rattle.core_plans.specs.HeldReads.{EndsAskAlone, IsReadUnderWay, PassesReadStage, at_bound};
 ghost use Rattle.core_plans.specs.LedBy.{led_by};
 ghost use Rattle.core_steps.specs.Routes.{scene};
-ghost use Rattle.read_plan.specs.Readings.{taken};
+ghost use Rattle.read_plan.specs.Readings.{new_reading, taken};
 ghost use Rattle.read_plan.specs.Standings.{IsAnsweredFrom, came_of, stage_named, stage_of};
 ghost use Rattle.read_plan.specs.declared.stages.ReadStage.TheVariants as stage;
 ghost use Rattle.tao_base.specs.Queries.{query_shard};
@@ -32,7 +32,7 @@ pub fn begin_read(
     critical: bool,
     follower: NodeName,
 ) -> ReadPlan
-    ensures { result ≡ begun_read config.now query region tier floor critical follower }
+    ensures { result ≡ at_bound config.now (new_reading query region tier floor critical follower) }
 {
     let bound = config.schema.bound_of(&query.key());
     let mut plan = ReadPlan::begin(query, region, tier, floor, critical, follower);

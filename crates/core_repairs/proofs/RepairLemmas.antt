@@ -19,16 +19,19 @@ use Rattle.tao_keeper.specs.declared.jobs.Job.{Job}
 use Rattle.topology.specs.Choices.{master_region, preferred_leader}
 use Rattle.topology.specs.Config.{Settings}
 use Rattle.topology.specs.States.{NodeStates, is_up}
-use Rattle.core_mail.specs.Inboxes.{Inboxes, Sends, cache_names, entry_message}
+use Rattle.core_mail.specs.Inboxes.{AreInboxesOf, Inboxes, Sends, cache_names, entry_message}
+use Rattle.core_model.specs.Consistent.{GoesOn, IsConsistent}
 use Rattle.core_model.specs.Fleet.{HasNode, follower_names, leader_names, node_names}
 use Rattle.core_model.specs.Growing.{MastersGrow}
 use Rattle.core_model.specs.Jobs.{IsFirstJobOf, ShardJob, job_on}
 use Rattle.core_model.specs.Messages.{told_of}
+use Rattle.core_model.specs.Pens.{pens_of}
 use Rattle.core_model.specs.Serving.{IsLeaderFor}
 use Rattle.core_model.specs.Stores.{master_store}
-use Rattle.core_nodes.proofs.GrowingLemmas.{becomes_masters}
+use Rattle.core_nodes.proofs.GrowingLemmas.{becomes_masters, masters_in_turn, stays_masters}
 use Rattle.core_nodes.specs.Repairs.{MergesThere, Outside, outside}
-use Rattle.core_steps.specs.Posting.{Posting}
+use Rattle.core_steps.specs.Posting.{Posting, PostsOn}
+use Rattle.core_steps.proofs.PostsLemmas.{later_trans}
 use Rattle.core_repairs.specs.Repairs.{FailsAs, FailsToMerge, FindsFirst, FindsOpenJob, IsMergedAlone, IsNotRepaired, IsNotRun}
 use Rattle.core_repairs.specs.Repairs.{LeavesRest, RunsJob, StopsRepair, TellsOfRepair, shown_of}
 use Rattle.core_repairs.specs.declared.repairs.RepairFailed.{RepairFailed}
@@ -161,3 +164,18 @@ module _ (tells : Bool) (s : Settings) (shard : ℕ) (old new : Posting) where
       not_run (Refused (LogFull count)) runs later = fails_merge (LogFull count) runs
       not_run (Refused OutOfMemory) runs later = stops OutOfMemory runs
       not_run NoServer runs later = absurd runs
+
+-- ---- what it keeps
+
+-- a job was looked up, which changes no table, and then merged and ended, as far as that went
+pub posts_repaired : (tells : Bool) (s : Settings) (old new : Posting) (found : KeeperState) → KeepsTables tells old.scene.keepers found
+    → IsLater old.scene.keepers found → IsConsistent tells s new.scene.keepers.told new.scene.fleet
+    → AreInboxesOf s (pens_of new.scene.fleet.masters) new.inboxes → GoesOn old.scene.fleet new.scene.fleet
+    → MastersGrow tells s found.told new.scene.keepers.told → IsLater found new.scene.keepers → PostsOn tells s old new
+posts_repaired tells s old new found tables finds consistent inboxes goes grows later = record {
+  consistent = consistent;
+  inboxes = inboxes;
+  goes = goes;
+  grows = masters_in_turn tells s old.scene.keepers.told found.told new.scene.keepers.told (stays_masters tells s old.scene.keepers found tables) grows;
+  later = later_trans old.scene.keepers found new.scene.keepers finds later;
+}

@@ -7,14 +7,14 @@ ghost use Rattle.core_model.specs.Jobs.{IsOwedJob, far_shard, job_on};
 ghost use Rattle.core_model.specs.Pens.{pens_of};
 ghost use Rattle.core_model.specs.Stores.{AreStores};
 ghost use Rattle.core_nodes.specs.Repairs.{outside};
-ghost use Rattle.core_steps.specs.Posting.{posting};
+ghost use Rattle.core_steps.specs.Posting.{PostsOn, posting};
 ghost use Rattle.core_repairs.specs.Repairs.{FailsAs, FindsFirst, RepairsFirst, RunsJob, TellsOfRepair};
 ghost use Rattle.core_steps.specs.Routes.{scene};
 ghost use Rattle.graph_model.specs.Told.{WhereTold};
 ghost use Rattle.shard_tables.specs.Refusals.{IsOfReads};
 ghost use Rattle.shard_tables.specs.Written.{LiesOn, StandsIn};
 ghost use Rattle.tao_keeper.specs.Given.{IsGivenJob};
-ghost use Rattle.tao_keeper.specs.KeeperState.{IsLater};
+ghost use Rattle.tao_keeper.specs.KeeperState.{IsLater, KeepsTables};
 ghost use Rattle.topology.specs.States.{all_up};
 
 use core_mail::Mail;
@@ -108,6 +108,7 @@ fn find_job<K: Keeper>(
     ensures given { IfOk result (λ found. IfSome found IsGivenJob) }
     ensures same { fleet.new ≡ fleet.old }
     ensures consistent { IsConsistent K.TELLS config.now (K.state keepers.new).told fleet.new }
+    ensures tables { KeepsTables K.TELLS (K.state keepers.old) (K.state keepers.new) }
     ensures later { IsLater (K.state keepers.old) (K.state keepers.new) }
 {
     match fleet.first_job(config, keepers, shard) {
@@ -172,11 +173,9 @@ pub fn repair_first<K: Keeper, L: Link>(
     ensures repairs { RepairsFirst K.TELLS config.now shard result
         (posting (scene fleet.old (K.state keepers.old) (L.shown link.old)) mail.old topology.now)
         (posting (scene fleet.new (K.state keepers.new) (L.shown link.new)) mail.new topology.now) }
-    ensures consistent { IsConsistent K.TELLS config.now (K.state keepers.new).told fleet.new }
-    ensures inboxes { AreInboxesOf config.now (pens_of fleet.new.masters) mail.new }
-    ensures goes { GoesOn fleet.old fleet.new }
-    ensures grows { MastersGrow K.TELLS config.now (K.state keepers.old).told (K.state keepers.new).told }
-    ensures later { IsLater (K.state keepers.old) (K.state keepers.new) }
+    ensures on { PostsOn K.TELLS config.now
+        (posting (scene fleet.old (K.state keepers.old) (L.shown link.old)) mail.old topology.now)
+        (posting (scene fleet.new (K.state keepers.new) (L.shown link.new)) mail.new topology.now) }
 {
     let found = find_job(fleet, config, keepers, shard)?;
     let Some(job) = found else { return Ok(None) };

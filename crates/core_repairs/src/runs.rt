@@ -1,14 +1,12 @@
 //! A settle's jobs: all that are open, shard by shard, each run as a repair runs one.
 ghost use Rattle.std.specs.Prelude.{◌≡◌, ◌<◌};
 ghost use Rattle.core_mail.specs.Inboxes.{AreInboxesOf};
-ghost use Rattle.core_model.specs.Consistent.{GoesOn, IsConsistent};
-ghost use Rattle.core_model.specs.Growing.{MastersGrow};
+ghost use Rattle.core_model.specs.Consistent.{IsConsistent};
 ghost use Rattle.core_model.specs.Pens.{pens_of};
 ghost use Rattle.core_nodes.specs.Settling.{IsLaterLink};
 ghost use Rattle.core_repairs.specs.Repairs.{RunsJobs, RunsShard, stop_of};
-ghost use Rattle.core_steps.specs.Posting.{posting};
+ghost use Rattle.core_steps.specs.Posting.{PostsOn, posting};
 ghost use Rattle.core_steps.specs.Routes.{scene};
-ghost use Rattle.tao_keeper.specs.KeeperState.{IsLater};
 ghost use Rattle.topology.specs.States.{all_up};
 
 use crate::repairs::{RepairFailed, repair_first};
@@ -55,12 +53,10 @@ fn run_shard<K: Keeper, L: Link>(
         (posting (scene fleet.old (K.state keepers.old) (L.shown link.old)) mail.old topology.now)
         (posting (scene fleet.new (K.state keepers.new) (L.shown link.new)) mail.new topology.now) }
     ensures rest { fleet.new ≡ record fleet.old { masters = fleet.new.masters } }
-    ensures consistent { IsConsistent K.TELLS config.now (K.state keepers.new).told fleet.new }
-    ensures inboxes { AreInboxesOf config.now (pens_of fleet.new.masters) mail.new }
-    ensures goes { GoesOn fleet.old fleet.new }
-    ensures grows { MastersGrow K.TELLS config.now (K.state keepers.old).told (K.state keepers.new).told }
+    ensures on { PostsOn K.TELLS config.now
+        (posting (scene fleet.old (K.state keepers.old) (L.shown link.old)) mail.old topology.now)
+        (posting (scene fleet.new (K.state keepers.new) (L.shown link.new)) mail.new topology.now) }
     ensures link { IsLaterLink (L.shown link.old) (L.shown link.new) }
-    ensures later { IsLater (K.state keepers.old) (K.state keepers.new) }
 {
     inverses_match(&config.schema);
     let mut last = 0;
@@ -98,12 +94,10 @@ pub fn run_jobs<K: Keeper, L: Link>(
         (posting (scene fleet.old (K.state keepers.old) (L.shown link.old)) mail.old topology.now)
         (posting (scene fleet.new (K.state keepers.new) (L.shown link.new)) mail.new topology.now) }
     ensures rest { fleet.new ≡ record fleet.old { masters = fleet.new.masters } }
-    ensures consistent { IsConsistent K.TELLS config.now (K.state keepers.new).told fleet.new }
-    ensures inboxes { AreInboxesOf config.now (pens_of fleet.new.masters) mail.new }
-    ensures goes { GoesOn fleet.old fleet.new }
-    ensures grows { MastersGrow K.TELLS config.now (K.state keepers.old).told (K.state keepers.new).told }
+    ensures on { PostsOn K.TELLS config.now
+        (posting (scene fleet.old (K.state keepers.old) (L.shown link.old)) mail.old topology.now)
+        (posting (scene fleet.new (K.state keepers.new) (L.shown link.new)) mail.new topology.now) }
     ensures link { IsLaterLink (L.shown link.old) (L.shown link.new) }
-    ensures later { IsLater (K.state keepers.old) (K.state keepers.new) }
 {
     for shard in 0..config.shards {
         run_shard(alloc, fleet, mail, config, topology, keepers, link, shard)?;

@@ -8,7 +8,8 @@ use Rattle.cache_items.specs.declared.look.Look.TheVariants.{Hit, Miss}
 use Rattle.core_model.specs.Consistent.{GoesOn, IsConsistent, IsFleetOf}
 use Rattle.core_model.specs.Fleet.{ChangesNode, Fleet}
 use Rattle.core_model.specs.Pens.{pens_of}
-use Rattle.core_model.specs.Reads.{EndsAsk, IsGivenAnswer, IsGivenFill, IsLegalLook, KeepsFill, LeaderAnswers, LooksFirst, StoreReads, Wanted, given_of, store_calls, taken_fill}
+use Rattle.core_model.specs.Reads.{EndsAsk, IsGivenAnswer, IsGivenFill, IsLegalLook, KeepsFill, LeaderAnswers, LooksFirst, StoreReads, Wanted}
+use Rattle.core_model.specs.Reads.{given_of, store_calls, taken_fill}
 use Rattle.core_model.specs.Stores.{AreStoresOf, master_store}
 use Rattle.core_model.proofs.NamedNodes.{changes_so}
 use Rattle.core_nodes.proofs.FleetLemmas.{goes_self}
@@ -76,7 +77,8 @@ pub hit_reads : (tells : Bool) (s : Settings) (route : Route) (read : Wanted) (l
     → ChangesNode route.follower (LooksFirst (types_of s.schema) read look ask) old.followers new.followers
     → new ≡ record old { followers = new.followers }
     → IsLegalLook (types_of s.schema) (pens_of new.masters) read look
-    → ReadsAlong tells s (sent_read route read) (Called (called.Read (replied read.query answer version cost Kept))) (scene old keepers link) (scene new keepers link)
+    → ReadsAlong tells s (sent_read route read) (Called (called.Read (replied read.query answer version cost Kept))) (scene old keepers link)
+    (scene new keepers link)
 hit_reads tells s route read look answer version ask cost old new keepers link is hops store are here change rest legal =
     let types = types_of s.schema in
     let query = read.query in
@@ -112,7 +114,8 @@ given_same : (types : EdgeTypes) (route : Route) (read : Wanted) (given : Leader
     → WasGiven types route read given (scene old keepers link) end
 given_same types route read given old mid keepers link end rest gives = elim gives [
   | inl g ↦ inl (record {
-    asks = subst (λ (f : Fleet). ChangesNode route.leader (LeaderAnswers types read given (store_calls f.masters keepers end.keepers)) f.leaders end.fleet.leaders)
+    asks = subst (λ (f : Fleet). ChangesNode route.leader
+        (LeaderAnswers types read given (store_calls f.masters keepers end.keepers)) f.leaders end.fleet.leaders)
         rest g.asks;
     link = g.link;
   })
@@ -206,7 +209,8 @@ read_gives tells s route read given out old mid end behind over reads reached =
         between = mid.keepers;
         out = out;
         asks = subst (λ g. ChangesNode route.leader (LeaderAnswers types read g (store_calls old.fleet.masters old.keepers mid.keepers)) old.fleet.leaders
-            end.fleet.leaders) b.1 (subst (λ ls. ChangesNode route.leader (LeaderAnswers types read given (store_calls old.fleet.masters old.keepers mid.keepers))
+            end.fleet.leaders) b.1 (subst (λ ls. ChangesNode route.leader
+            (LeaderAnswers types read given (store_calls old.fleet.masters old.keepers mid.keepers))
             old.fleet.leaders ls) (sym leaders) over.gives.asks);
         reads = subst (λ ms. StoreReads types read.query out ms mid.keepers end.keepers) masters reads.reads;
         given_is = refl;
@@ -232,7 +236,8 @@ given_on types route read given old mid end rest gives =
     let leaders : end.leaders ≡ mid.fleet.leaders = ap (λ (f : Fleet). f.leaders) rest in
     elim gives [
       | inl g ↦ inl (record {
-        asks = subst (λ ls. ChangesNode route.leader (LeaderAnswers types read given (store_calls old.fleet.masters old.keepers mid.keepers)) old.fleet.leaders ls)
+        asks = subst (λ ls. ChangesNode route.leader (LeaderAnswers types read given (store_calls old.fleet.masters old.keepers mid.keepers)) old.fleet.leaders
+            ls)
             (sym leaders) g.asks;
         link = g.link;
       })
@@ -325,7 +330,8 @@ vain_ends tells s route read ask (Refused refused) old mid end lost rest ends =
     record {
       fails = fails_then s route read.query (Refused refused) old mid end lost.fails;
       leaders = subst (λ ls. (ls ≡ old.fleet.leaders) ⊎ ((given : LeaderAnswer) × (after : KeeperState)
-          × ChangesNode route.leader (LeaderAnswers types read given (store_calls old.fleet.masters old.keepers after)) old.fleet.leaders ls)) (sym leaders) lost.leaders;
+          × ChangesNode route.leader (LeaderAnswers types read given (store_calls old.fleet.masters old.keepers after)) old.fleet.leaders ls))
+          (sym leaders) lost.leaders;
       ends = subst (λ fs. ChangesNode route.follower (EndsAsk ask) fs end.followers) (ap (λ (f : Fleet). f.followers) lost.rest) ends;
       masters = ap (λ (f : Fleet). f.masters) rest ∙ ap (λ (f : Fleet). f.masters) lost.rest;
     }
@@ -345,7 +351,8 @@ filled_ends s route read ask fill answer kept cost old new fleet given sealed ch
     record {
       ends = (kept, change, refl, refl);
       legal = subst (λ (f : Fleet). IsLegalIn types (pens_of f.masters (query_shard read.query)) read.query read.floor answer fill.version) rest legal;
-      again = λ told held place f floor first at le. is_after (Repeats types read.query answer fill.version) (KeepsFill types read.query (taken_fill ask fill answer kept))
+      again = λ told held place f floor first at le. is_after (Repeats types read.query answer fill.version)
+          (KeepsFill types read.query (taken_fill ask fill answer kept))
           route.follower old.followers new.followers change
           (filled_repeats s old new.followers route.follower read ask fill answer kept fleet change given sealed told held) place f first at floor le;
     }

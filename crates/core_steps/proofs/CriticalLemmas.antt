@@ -28,7 +28,7 @@ use Rattle.tao_base.specs.declared.entry.Entry.{Entry}
 use Rattle.tao_keeper.specs.KeeperState.{KeeperState}
 use Rattle.tao_schema.specs.Schema.{types_of}
 use Rattle.topology.specs.Config.{Settings}
-use Rattle.core_steps.specs.CriticalReads.{IsWhole, ReadsCritical}
+use Rattle.core_steps.specs.CriticalReads.{IsWhole, ReadsCritical, follower_read}
 use Rattle.core_steps.specs.Reads.{AnswersAgain, Ends, asked_by}
 use Rattle.core_steps.specs.ReadSteps.{AsksOfKey, EndsRead, IsNotRead, IsReadOver, ReadOverFails, TellsCost, missed_read}
 use Rattle.core_steps.specs.Routes.{Scene, hops_between, scene, was_called}
@@ -67,14 +67,15 @@ module _ (tells : Bool) (s : Settings) (route : Route) (read : Wanted) (ask : Op
       → query_shard read.query < s.shards → IsReadOver tells s read.query out (scene mid old.keepers old.link) over
       → EndsRead s (missed_read route read ask) (given_of out) reply over.fleet end → TellsCost read.query cost reply
       → cost.hops ≡ hops_between old.link over.link → cost.store ≡ was_called old.keepers over.keepers
-      → ReadsCritical tells s route.follower read reply old (scene end over.keepers over.link)
+      → ReadsCritical tells s (follower_read route.follower read) reply old (scene end over.keepers over.link)
   critical_ends out (Called (called.Read reply)) cost are here is ends told hops store =
       let types = types_of s.schema in
       let query = read.query in
       let own : mid.masters ≡ old.fleet.masters = ap (λ (f : Fleet). f.masters) asked in
       let masters : over.fleet.masters ≡ old.fleet.masters = ap (λ (f : Fleet). f.masters) is.same ∙ own in
       let reads = subst (λ ms. StoreReads types query out ms old.keepers over.keepers) own is.reads in
-      let there = subst (λ fs. Ends types (asked_by route.follower read ask) (given_of out) reply fs end.followers) (ap (λ (f : Fleet). f.followers) is.same) ends.ends in
+      let there = subst (λ fs. Ends types (asked_by route.follower read ask) (given_of out) reply fs end.followers)
+      (ap (λ (f : Fleet). f.followers) is.same) ends.ends in
       let legal = subst (λ ms. IsLegalIn types (pens_of ms (query_shard query)) query read.floor reply.answer reply.version) masters ends.legal in
       let again = subst (λ ms. WhereTold (pens_of ms (query_shard query)).log.told
       (reply.kept ≡ Kept → AnswersAgain types route.follower query reply end.followers)) masters ends.again in
@@ -116,7 +117,7 @@ module _ (tells : Bool) (s : Settings) (route : Route) (read : Wanted) (ask : Op
   -- nothing was read, and the ask has ended
   pub critical_vain : (reply : Reply) → IsNotRead s route.follower read.query reply (scene mid old.keepers old.link) over
       → ChangesNode route.follower (EndsAsk ask) over.fleet.followers end.followers
-      → ReadsCritical tells s route.follower read reply old (scene end over.keepers over.link)
+      → ReadsCritical tells s (follower_read route.follower read) reply old (scene end over.keepers over.link)
   critical_vain (Refused refused) lost ends = record {
     fails = over_fails route.follower _ (Refused refused) lost.fails;
     ask = ask;

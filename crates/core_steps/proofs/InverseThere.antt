@@ -116,7 +116,8 @@ told_written : (told other : InverseEnd) → told ≡ other → told ≡ Written
 told_written told other is written = sym written ∙ is
 
 module _ (s : Settings) (shard : ℕ) (e : Entry) (c : Committed) (done : OtherEndDone) (between off : Posting) (told : done.told ≡ Written) where
-  worked_off : (job : Option Job) → IsJobThen (stores_in s between.scene.keepers.told) shard e job → WorksOffOf true s (write_other_end shard c done) job between off
+  worked_off : (job : Option Job) → IsJobThen (stores_in s between.scene.keepers.told) shard e job
+      → WorksOffOf true s (write_other_end shard c done) job between off
       → (stores_in s off.scene.keepers.told).job shard e.position ≡ None
   worked_off None is works = ap (λ (p : Posting). (stores_in s p.scene.keepers.told).job shard e.position) works.2 ∙ is.open_is
   worked_off (Some job) is (inl ended) =
@@ -128,7 +129,8 @@ module _ (s : Settings) (shard : ℕ) (e : Entry) (c : Committed) (done : OtherE
 
 -- ---- the write
 
-module _ (s : Settings) (route : Route) (call : AuthoredWrite) (done : CarriedOut) (old new : Posting) (is : CompletesWrite true s (sent_write route call) done old new)
+module _ (s : Settings) (route : Route) (call : AuthoredWrite) (done : CarriedOut) (old new : Posting)
+    (is : CompletesWrite true s (sent_write route call) done old new)
     (client : IsTrue (is_client call.origin)) (here : write_shard call.write < s.shards)
     (before : IsConsistent true s old.scene.keepers.told old.scene.fleet) (after : IsConsistent true s new.scene.keepers.told new.scene.fleet) where
   abbrev shard : ℕ

@@ -2,6 +2,7 @@ pub mod AlongLemmas
 pub mod CriticalLemmas
 pub mod InverseThere
 pub mod MergeLemmas
+pub mod PostsLemmas
 pub mod ReadLemmas
 pub mod Repeats
 pub mod StepLemmas

@@ -77,7 +77,7 @@ module _ (tells : Bool) (s : Settings) (way : JobWay) (old new : Posting) (mid :
       (inr (fails_back way.leader to old.scene.link mid new.scene.link there fails))
 
   late_merge : (r : StoreRefusal) → RefusesMerge tells s way.job r old.scene.keepers new.scene.keepers → ChangesNoNode tells old new
-      → MayComeBack way.leader (merging_leader old.states way) old.scene.link new.scene.link → LeavesJob tells s way (why_late r) None old new
+      → MayComeBack way.leader (merging_leader old.states way) old.scene.link new.scene.link → LeavesJob tells s way (Scheduled (why_late r) None) old new
   late_merge KeeperFault cause same back = (cause, same, back)
   late_merge (LogFull count) cause same back = ((λ told. (count, cause told)), same, back)
   late_merge OutOfMemory cause same back = (same, back)

@@ -93,7 +93,8 @@ read_last types log query floor (store.Past answer at total note) is = elim (cas
 
 -- and what was answered of it
 ends_last : (types : EdgeTypes) (follower : NodeName) (read : Wanted) (ask : Option ℕ) (last : ℕ) (given : LeaderAnswer) (reply : ReadReply)
-    (old new : List (Named FollowerState)) → GivesLast read.floor last given → Ends types (asked_by follower read ask) given reply old new → reply.version ≡ last
+    (old new : List (Named FollowerState)) → GivesLast read.floor last given → Ends types (asked_by follower read ask) given reply old new
+    → reply.version ≡ last
 ends_last types follower read ask last (leader.Filled fill) reply old new gives ends = ends.2 ∙ gives
 ends_last types follower read ask last (leader.Past answer at total note) reply old new gives ends = ends.2 ∙ gives
 ends_last types follower read ask last (leader.Behind at) reply old new gives ends = absurd ends

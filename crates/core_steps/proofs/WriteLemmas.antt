@@ -106,7 +106,8 @@ module _ (tells : Bool) (s : Settings) (route : Route) (call : AuthoredWrite) (d
         fleet = same;
         rest = rest;
       } in
-      let refuses : WritesAlong tells s (sent_write route call) (Err (Refused (Store (LinkFault new.scene.link.faults (when_of done.committed.wrote.entry))))) old new =
+      let refuses : WritesAlong tells s (sent_write route call)
+      (Err (Refused (Store (LinkFault new.scene.link.faults (when_of done.committed.wrote.entry))))) old new =
       (refl, inr fails) in
       subst (λ r. WritesAlong tells s (sent_write route call) (Err r) old new) (sym reply_is) refuses
 
@@ -142,7 +143,8 @@ applied_later call wrote masters later rise can = record {
 -- ---- refused
 
 -- what the store refused, with nothing changed
-module _ (tells : Bool) (s : Settings) (route : Route) (call : AuthoredWrite) (old new : Posting) (stays : KeepsTables tells old.scene.keepers new.scene.keepers)
+module _ (tells : Bool) (s : Settings) (route : Route) (call : AuthoredWrite) (old new : Posting)
+    (stays : KeepsTables tells old.scene.keepers new.scene.keepers)
     (fleet : new.scene.fleet ≡ old.scene.fleet) (inboxes : new.inboxes ≡ old.inboxes) where
   same : ChangesNoNode tells old new
   same = record { fleet = fleet; inboxes = inboxes; tables = stays }

@@ -54,16 +54,16 @@ pub record IsAnsweredByMaster (tells : Bool) (s : Settings) (at : FollowerRead) 
   pub again : WhereTold tells (reply.kept ≡ Kept → AnswersAgain (types_of s.schema) at.follower at.read.query reply new.fleet.followers)
 
 -- it was refused: a carry failed, or the store's keeper, or memory was wanting. Its follower opened an ask at once, and ended it
-pub record IsRefusedByMaster (s : Settings) (follower : NodeName) (read : Wanted) (reply : Reply) (old new : Scene) : Type 0 where
-  pub fails : ReadOverFails follower (master_node s (query_shard read.query)) reply old new
+pub record IsRefusedByMaster (s : Settings) (at : FollowerRead) (reply : Reply) (old new : Scene) : Type 0 where
+  pub fails : ReadOverFails at.follower (master_node s (query_shard at.read.query)) reply old new
   pub ask : Option ℕ
   pub looked : List (Named FollowerState)
-  pub asks : ChangesNode follower (AsksAtOnce (query_key read.query) ask) old.fleet.followers looked
-  pub ends : ChangesNode follower (EndsAsk ask) looked new.fleet.followers
+  pub asks : ChangesNode at.follower (AsksAtOnce (query_key at.read.query) ask) old.fleet.followers looked
+  pub ends : ChangesNode at.follower (EndsAsk ask) looked new.fleet.followers
   pub rest : new.fleet ≡ record old.fleet { followers = new.fleet.followers }
 
 -- what a critical read is answered
-abbrev pub ReadsCritical : Bool → Settings → NodeName → Wanted → Reply → Scene → Scene → Type 0
-ReadsCritical tells s follower read (Called (called.Read reply)) old new = IsAnsweredByMaster tells s (follower_read follower read) reply old new
-ReadsCritical tells s follower read (Refused refused) old new = IsRefusedByMaster s follower read (Refused refused) old new
-ReadsCritical tells s follower read reply old new = ⊥
+abbrev pub ReadsCritical : Bool → Settings → FollowerRead → Reply → Scene → Scene → Type 0
+ReadsCritical tells s at (Called (called.Read reply)) old new = IsAnsweredByMaster tells s at reply old new
+ReadsCritical tells s at (Refused refused) old new = IsRefusedByMaster s at (Refused refused) old new
+ReadsCritical tells s at reply old new = ⊥

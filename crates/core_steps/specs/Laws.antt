@@ -19,7 +19,7 @@ use Rattle.core_model.specs.Pens.{pens_of}
 use Rattle.core_model.specs.Reads.{Wanted}
 use Rattle.core_model.specs.Stores.{stores_in}
 use Rattle.core_nodes.specs.Beginning.{AreAtEnds}
-use Rattle.core_steps.specs.CriticalReads.{IsWhole, ReadsCritical}
+use Rattle.core_steps.specs.CriticalReads.{IsWhole, ReadsCritical, follower_read}
 use Rattle.core_steps.specs.Posting.{Posting}
 use Rattle.core_steps.specs.ReadSteps.{IsReached}
 use Rattle.core_steps.specs.Reads.{ReadsAlong, sent_read}
@@ -44,4 +44,4 @@ pub record WrittenIsThere (s : Settings) (route : Route) (call : AuthoredWrite) 
 pub record ReadsAreWhole (s : Settings) (route : Route) (read : Wanted) (reply : ReadReply) (old new : Scene) : Type 0 where
   pub along : ReadsAlong true s (sent_read route read) (Called (called.Read reply)) old new → IsReached true s read old.keepers
       → IsConsistent true s old.keepers.told old.fleet → AreAtEnds s old.keepers.told old.fleet → IsWhole true s read reply old
-  pub critical : ReadsCritical true s route.follower read (Called (called.Read reply)) old new → IsWhole true s read reply old
+  pub critical : ReadsCritical true s (follower_read route.follower read) (Called (called.Read reply)) old new → IsWhole true s read reply old

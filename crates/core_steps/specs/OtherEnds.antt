@@ -71,29 +71,29 @@ pub record TakesMerge (tells : Bool) (s : Settings) (way : JobWay) (wrote : Wrot
   pub states : new.states ≡ old.states
 
 -- why a job was not merged, or its answer was lost, and what was written all the same
-abbrev pub LeavesJob : Bool → Settings → JobWay → ScheduledWhy → Option Wrote → Posting → Posting → Type 0
-LeavesJob tells s way NoServer None old new = (s.shards ≤ far_shard way.job.job) × (new ≡ old)
-LeavesJob tells s way LinkFault None old new = (way.leader ≢ merging_leader old.states way)
+abbrev pub LeavesJob : Bool → Settings → JobWay → Late → Posting → Posting → Type 0
+LeavesJob tells s way (Scheduled NoServer None) old new = (s.shards ≤ far_shard way.job.job) × (new ≡ old)
+LeavesJob tells s way (Scheduled LinkFault None) old new = (way.leader ≢ merging_leader old.states way)
     × FailsCarry way.leader (merging_leader old.states way) old.scene.link new.scene.link × ChangesNoNode tells old new
-LeavesJob tells s way LinkFault (Some wrote) old new = (way.leader ≢ merging_leader old.states way)
+LeavesJob tells s way (Scheduled LinkFault (Some wrote)) old new = (way.leader ≢ merging_leader old.states way)
     × FailsCarry (merging_leader old.states way) way.leader (after_carry old.scene.link) new.scene.link × TakesMerge tells s way wrote old new
-LeavesJob tells s way KeeperFault None old new = Rose old.scene.keepers.faults new.scene.keepers.faults × ChangesNoNode tells old new
+LeavesJob tells s way (Scheduled KeeperFault None) old new = Rose old.scene.keepers.faults new.scene.keepers.faults × ChangesNoNode tells old new
     × MayComeBack way.leader (merging_leader old.states way) old.scene.link new.scene.link
-LeavesJob tells s way LogFull None old new = WhereTold tells ((count : ℕ) × FindsNoRoom s way.job count old.scene.keepers) × ChangesNoNode tells old new
+LeavesJob tells s way (Scheduled LogFull None) old new = WhereTold tells ((count : ℕ) × FindsNoRoom s way.job count old.scene.keepers) × ChangesNoNode tells old new
     × MayComeBack way.leader (merging_leader old.states way) old.scene.link new.scene.link
-LeavesJob tells s way Memory None old new = ChangesNoNode tells old new
+LeavesJob tells s way (Scheduled Memory None) old new = ChangesNoNode tells old new
     × MayComeBack way.leader (merging_leader old.states way) old.scene.link new.scene.link
-LeavesJob tells s way NoServer (Some wrote) old new = ⊥
-LeavesJob tells s way KeeperFault (Some wrote) old new = ⊥
-LeavesJob tells s way LogFull (Some wrote) old new = ⊥
-LeavesJob tells s way Memory (Some wrote) old new = ⊥
+LeavesJob tells s way (Scheduled NoServer (Some wrote)) old new = ⊥
+LeavesJob tells s way (Scheduled KeeperFault (Some wrote)) old new = ⊥
+LeavesJob tells s way (Scheduled LogFull (Some wrote)) old new = ⊥
+LeavesJob tells s way (Scheduled Memory (Some wrote)) old new = ⊥
+LeavesJob tells s way (Refused reply) old new = ⊥
 
 -- what came of the stage `inverse`: the job was carried to the leader of the other shard, which merged it, and its answer back
 abbrev pub MergesOver : Bool → Settings → JobWay → Result Wrote Late → Posting → Posting → Type 0
 MergesOver tells s way (Ok wrote) old new =
     TakesMerge tells s way wrote old new × GoesBetween way.leader (merging_leader old.states way) old.scene.link new.scene.link
-MergesOver tells s way (Err (Scheduled why wrote)) old new = LeavesJob tells s way why wrote old new
-MergesOver tells s way (Err (Refused reply)) old new = ⊥
+MergesOver tells s way (Err late) old new = LeavesJob tells s way late old new
 
 -- what was written at the other end, as far as that is known
 abbrev pub known_of : Result Wrote Late → Option Wrote

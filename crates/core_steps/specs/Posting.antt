@@ -1,15 +1,19 @@
 -- What a write sees, and what nodes and inboxes take of it.
 use Rattle.std.specs.Prelude.{ℕ, ◌≡◌, Bool, Option, Some, None}
-use Rattle.core_mail.specs.Inboxes.{Inboxes, Sends, entry_message}
+use Rattle.core_mail.specs.Inboxes.{AreInboxesOf, Inboxes, Sends, entry_message}
+use Rattle.core_model.specs.Consistent.{GoesOn, IsConsistent}
 use Rattle.core_model.specs.Fleet.{ChangesNode, Fleet}
+use Rattle.core_model.specs.Growing.{MastersGrow}
 use Rattle.core_model.specs.Messages.{told_of}
+use Rattle.core_model.specs.Pens.{pens_of}
 use Rattle.leader_tier.specs.TakenWrites.{TakesWritten}
 use Rattle.node_name.specs.declared.NodeName.{NodeName}
 use Rattle.shard_log.specs.View.{View}
 use Rattle.tao_base.specs.EdgeTypes.{EdgeTypes}
 use Rattle.tao_base.specs.declared.entry.Entry.{Entry}
-use Rattle.tao_keeper.specs.KeeperState.{KeepsTables}
+use Rattle.tao_keeper.specs.KeeperState.{IsLater, KeepsTables}
 use Rattle.topology.specs.Choices.{master_region}
+use Rattle.topology.specs.Config.{Settings}
 use Rattle.topology.specs.States.{NodeStates}
 use Rattle.core_steps.specs.Routes.{Scene}
 
@@ -44,3 +48,11 @@ pub record AppliesAlone (old new : Posting) : Type 0 where
   pub fleet : new.scene.fleet ≡ record old.scene.fleet { followers = new.scene.fleet.followers }
   pub keepers : new.scene.keepers ≡ old.scene.keepers
   pub inboxes : new.inboxes ≡ old.inboxes
+
+-- what is consistent stays so, messages stay those of their inboxes, the nodes go on, of tables only logs of masters grow, and no count of the keepers falls
+pub record PostsOn (tells : Bool) (s : Settings) (old new : Posting) : Type 0 where
+  pub consistent : IsConsistent tells s new.scene.keepers.told new.scene.fleet
+  pub inboxes : AreInboxesOf s (pens_of new.scene.fleet.masters) new.inboxes
+  pub goes : GoesOn old.scene.fleet new.scene.fleet
+  pub grows : MastersGrow tells s old.scene.keepers.told new.scene.keepers.told
+  pub later : IsLater old.scene.keepers new.scene.keepers

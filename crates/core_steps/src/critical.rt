@@ -2,7 +2,7 @@
 ghost use Rattle.core_model.specs.Consistent.{GoesOn, IsConsistent};
 ghost use Rattle.core_model.specs.Reads.{wanted};
 ghost use Rattle.core_model.specs.Serving.{IsFollowerFor};
-ghost use Rattle.core_steps.specs.CriticalReads.{ReadsCritical};
+ghost use Rattle.core_steps.specs.CriticalReads.{ReadsCritical, follower_read};
 ghost use Rattle.core_steps.specs.ReadSteps.{IsReached};
 ghost use Rattle.core_steps.specs.Routes.{scene};
 ghost use Rattle.tao_base.specs.Queries.{query_shard};
@@ -38,7 +38,7 @@ pub fn read_critical<K: Keeper, L: Link>(
     requires consistent { IsConsistent K.TELLS config.now (K.state keepers.old).told fleet.old }
     requires follower { IsFollowerFor config.now (query_shard query.now) route.follower }
     requires reached { IsReached K.TELLS config.now (wanted query.now floor) (K.state keepers.old) }
-    ensures reads { ReadsCritical K.TELLS config.now route.follower (wanted query.now floor) result
+    ensures reads { ReadsCritical K.TELLS config.now (follower_read route.follower (wanted query.now floor)) result
         (scene fleet.old (K.state keepers.old) (L.shown link.old)) (scene fleet.new (K.state keepers.new) (L.shown link.new)) }
     ensures consistent { IsConsistent K.TELLS config.now (K.state keepers.new).told fleet.new }
     ensures goes { GoesOn fleet.old fleet.new }

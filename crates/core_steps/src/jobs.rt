@@ -7,14 +7,14 @@ ghost use Rattle.core_model.specs.Jobs.{CanBeMerged, IsMergedJob, far_shard, job
 ghost use Rattle.core_model.specs.Pens.{pens_of};
 ghost use Rattle.core_model.specs.Serving.{IsLeaderFor};
 ghost use Rattle.core_steps.specs.MergeAnswers.{IsScheduled, LeavesOpen, RefusesMerge, late_as, merge_answer, told_after, why_late};
-ghost use Rattle.core_steps.specs.OtherEnds.{Crosses, EndsOver, FailsToCross, MergesOver, StandsThere, TakesMerge, WorksOffJob, WorksOffOf, job_way, write_other_end};
-ghost use Rattle.core_steps.specs.OtherEnds.{known_of, master_leader, told_there};
-ghost use Rattle.core_steps.specs.Posting.{posting};
+ghost use Rattle.core_steps.specs.OtherEnds.{Crosses, EndsOver, FailsToCross, MergesOver, StandsThere, TakesMerge, WorksOffJob, WorksOffOf, job_way};
+ghost use Rattle.core_steps.specs.OtherEnds.{write_other_end};
+ghost use Rattle.core_steps.specs.OtherEnds.{known_of, master_leader, told_entry, told_there};
+ghost use Rattle.core_steps.specs.Posting.{PostsOn, posting};
 ghost use Rattle.core_steps.specs.Routes.{scene};
 ghost use Rattle.graph_model.specs.Told.{WhereTold};
 ghost use Rattle.node_name.specs.declared.NodeName.{NodeName as AnyNode};
 ghost use Rattle.shard_tables.specs.Jobs.{IsOfMerges};
-ghost use Rattle.tao_keeper.specs.Given.{IsGivenJob};
 ghost use Rattle.tao_keeper.specs.KeeperState.{IsLater, KeepsTables};
 ghost use Rattle.tao_link.specs.Shown.{LinkShown};
 ghost use Rattle.topology.specs.States.{NodeStates, all_up};
@@ -50,18 +50,22 @@ pub struct OtherEndDone {
     pub wrote: Option<Wrote>,
 }
 
-/// The entry that was written at the other end, where there is one.
-pub fn told_there(job: &Option<Job>, wrote: Option<Wrote>) -> Option<ToldEntry>
-    requires given { IfSome job.now IsGivenJob }
-    ensures { result ≡ told_there job.now wrote }
+/// The entry of what was written on a shard, where there is one. Takes no memory.
+pub fn told_entry(shard: u16, wrote: Wrote) -> Option<ToldEntry>
+    ensures { result ≡ told_entry shard wrote }
 {
-    let shard = far_shard(job.as_ref()?);
-    let Wrote { entry, note, .. } = wrote?;
     Some(ToldEntry {
         shard,
-        entry: entry?,
-        note,
+        entry: wrote.entry?,
+        note: wrote.note,
     })
+}
+
+/// The entry that was written at the other end, where there is one. Takes no memory.
+pub fn told_there(job: &Option<Job>, wrote: Option<Wrote>) -> Option<ToldEntry>
+    ensures { result ≡ told_there job.now wrote }
+{
+    told_entry(far_shard(job.as_ref()?), wrote?)
 }
 
 /// Carries a call, or its answer, from one node to another, unless they are one.
@@ -188,11 +192,9 @@ pub fn merge_over<K: Keeper, L: Link>(
         (posting (scene fleet.new (K.state keepers.new) (L.shown link.new)) mail.new topology.now) }
     ensures merged { WhereTold K.TELLS (OnOk result (IsMergedJob config.now (K.state keepers.new).told (job_on shard job.now))) }
     ensures stands { StandsThere config.now job.now (known_of result) fleet.new.masters }
-    ensures consistent { IsConsistent K.TELLS config.now (K.state keepers.new).told fleet.new }
-    ensures inboxes { AreInboxesOf config.now (pens_of fleet.new.masters) mail.new }
-    ensures goes { GoesOn fleet.old fleet.new }
-    ensures grows { MastersGrow K.TELLS config.now (K.state keepers.old).told (K.state keepers.new).told }
-    ensures later { IsLater (K.state keepers.old) (K.state keepers.new) }
+    ensures on { PostsOn K.TELLS config.now
+        (posting (scene fleet.old (K.state keepers.old) (L.shown link.old)) mail.old topology.now)
+        (posting (scene fleet.new (K.state keepers.new) (L.shown link.new)) mail.new topology.now) }
 {
     let far = far_shard(job);
     if far >= config.shards {
@@ -288,11 +290,9 @@ fn work_off_job<K: Keeper, L: Link>(
         (posting (scene fleet.old (K.state keepers.old) (L.shown link.old)) mail.old topology.now)
         (posting (scene fleet.new (K.state keepers.new) (L.shown link.new)) mail.new topology.now) }
     ensures stands { StandsThere config.now job.now result.wrote fleet.new.masters }
-    ensures consistent { IsConsistent K.TELLS config.now (K.state keepers.new).told fleet.new }
-    ensures inboxes { AreInboxesOf config.now (pens_of fleet.new.masters) mail.new }
-    ensures goes { GoesOn fleet.old fleet.new }
-    ensures grows { MastersGrow K.TELLS config.now (K.state keepers.old).told (K.state keepers.new).told }
-    ensures later { IsLater (K.state keepers.old) (K.state keepers.new) }
+    ensures on { PostsOn K.TELLS config.now
+        (posting (scene fleet.old (K.state keepers.old) (L.shown link.old)) mail.old topology.now)
+        (posting (scene fleet.new (K.state keepers.new) (L.shown link.new)) mail.new topology.now) }
 {
     match merge_over(
         alloc, fleet, mail, config, topology, keepers, link, leader, shard, job,
@@ -326,11 +326,9 @@ pub(crate) fn work_off<K: Keeper, L: Link>(
         (posting (scene fleet.old (K.state keepers.old) (L.shown link.old)) mail.old topology.now)
         (posting (scene fleet.new (K.state keepers.new) (L.shown link.new)) mail.new topology.now) }
     ensures stands { IfSome committed.now.wrote.job (λ job. StandsThere config.now job result.wrote fleet.new.masters) }
-    ensures consistent { IsConsistent K.TELLS config.now (K.state keepers.new).told fleet.new }
-    ensures inboxes { AreInboxesOf config.now (pens_of fleet.new.masters) mail.new }
-    ensures goes { GoesOn fleet.old fleet.new }
-    ensures grows { MastersGrow K.TELLS config.now (K.state keepers.old).told (K.state keepers.new).told }
-    ensures later { IsLater (K.state keepers.old) (K.state keepers.new) }
+    ensures on { PostsOn K.TELLS config.now
+        (posting (scene fleet.old (K.state keepers.old) (L.shown link.old)) mail.old topology.now)
+        (posting (scene fleet.new (K.state keepers.new) (L.shown link.new)) mail.new topology.now) }
 {
     match &committed.wrote.job {
         Some(job) => work_off_job(

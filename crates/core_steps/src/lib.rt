@@ -16,7 +16,7 @@ mod writes;
 
 pub use asking::{ask_over, read_over};
 pub use critical::read_critical;
-pub use jobs::{OtherEndDone, ToldEntry, end_over, merge_over, told_there};
+pub use jobs::{OtherEndDone, ToldEntry, end_over, merge_over, told_entry, told_there};
 pub use laws::written_is_there;
 pub use reads::read_along;
 pub use refusals::{link_fault, out_of_memory, refilled_as, refused_as};

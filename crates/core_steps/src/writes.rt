@@ -1,7 +1,6 @@
 //! The writes of sessions.
 ghost use Rattle.std.specs.Prelude.{◌≡◌, ◌<◌, ◌-◌, IfErr, IfOk, IfSome, IsTrue, OnErr, OnOk};
 ghost use Rattle.core_model.specs.Consistent.{GoesOn, IsConsistent, IsFleetOf};
-ghost use Rattle.core_model.specs.Growing.{MastersGrow};
 ghost use Rattle.core_model.specs.Jobs.{CanBeMerged, job_on};
 ghost use Rattle.core_model.specs.Pens.{pens_of};
 ghost use Rattle.core_model.specs.Serving.{IsFollowerFor, IsLeaderFor};
@@ -10,13 +9,11 @@ ghost use Rattle.core_steps.specs.Routes.{FailsCarry, scene};
 ghost use Rattle.core_mail.specs.Inboxes.{AreInboxesOf};
 ghost use Rattle.core_steps.specs.CarriedOut.{AnswersBack, WorksOffAs};
 ghost use Rattle.core_steps.specs.OtherEnds.{StandsThere};
-ghost use Rattle.core_steps.specs.Posting.{posting};
+ghost use Rattle.core_steps.specs.Posting.{PostsOn, posting};
 ghost use Rattle.core_steps.specs.Writes.{CanBeApplied, FollowerTakes, IsCommitted, RefusesCommit, WritesAlong, client_call, sent_write};
 ghost use Rattle.graph_model.specs.Soundness.{is_client};
 ghost use Rattle.shard_tables.specs.Written.{LiesOn, StandsIn};
 ghost use Rattle.tao_base.specs.Writes.{ChangesType, write_shard};
-ghost use Rattle.tao_keeper.specs.Given.{IsGivenJob};
-ghost use Rattle.tao_keeper.specs.KeeperState.{IsLater};
 ghost use Rattle.tao_link.specs.Shown.{after_carry};
 ghost use Rattle.tao_schema.specs.Schema.{types_of};
 ghost use Rattle.topology.specs.States.{all_up};
@@ -171,11 +168,9 @@ pub fn commit_over<K: Keeper, L: Link>(
     ensures refused { IfErr result (λ reply. RefusesCommit K.TELLS config.now (sent_write route (client_call origin write.now)) reply
         (posting (scene fleet.old (K.state keepers.old) (L.shown link.old)) mail.old topology.now)
         (posting (scene fleet.new (K.state keepers.new) (L.shown link.new)) mail.new topology.now)) }
-    ensures consistent { IsConsistent K.TELLS config.now (K.state keepers.new).told fleet.new }
-    ensures inboxes { AreInboxesOf config.now (pens_of fleet.new.masters) mail.new }
-    ensures goes { GoesOn fleet.old fleet.new }
-    ensures grows { MastersGrow K.TELLS config.now (K.state keepers.old).told (K.state keepers.new).told }
-    ensures later { IsLater (K.state keepers.old) (K.state keepers.new) }
+    ensures on { PostsOn K.TELLS config.now
+        (posting (scene fleet.old (K.state keepers.old) (L.shown link.old)) mail.old topology.now)
+        (posting (scene fleet.new (K.state keepers.new) (L.shown link.new)) mail.new topology.now) }
 {
     if let Err(LinkFailed) = carry(link, route.follower, route.leader) {
         return Err(link_fault(link.faults(), When::Before));
@@ -213,16 +208,13 @@ fn commit_and_work_off<K: Keeper, L: Link>(
         (posting (scene fleet.old (K.state keepers.old) (L.shown link.old)) mail.old topology.now)
         (posting (scene fleet.new (K.state keepers.new) (L.shown link.new)) mail.new topology.now)) }
     ensures apply { IfOk result (λ done. CanBeApplied (client_call origin write.now) done.committed.wrote fleet.new.masters) }
-    ensures given { IfOk result (λ done. IfSome done.committed.wrote.job IsGivenJob) }
     ensures other { IfOk result (λ done. IfSome done.committed.wrote.job (λ job. StandsThere config.now job done.other.wrote fleet.new.masters)) }
     ensures refused { IfErr result (λ reply. RefusesCommit K.TELLS config.now (sent_write route (client_call origin write.now)) reply
         (posting (scene fleet.old (K.state keepers.old) (L.shown link.old)) mail.old topology.now)
         (posting (scene fleet.new (K.state keepers.new) (L.shown link.new)) mail.new topology.now)) }
-    ensures consistent { IsConsistent K.TELLS config.now (K.state keepers.new).told fleet.new }
-    ensures inboxes { AreInboxesOf config.now (pens_of fleet.new.masters) mail.new }
-    ensures goes { GoesOn fleet.old fleet.new }
-    ensures grows { MastersGrow K.TELLS config.now (K.state keepers.old).told (K.state keepers.new).told }
-    ensures later { IsLater (K.state keepers.old) (K.state keepers.new) }
+    ensures on { PostsOn K.TELLS config.now
+        (posting (scene fleet.old (K.state keepers.old) (L.shown link.old)) mail.old topology.now)
+        (posting (scene fleet.new (K.state keepers.new) (L.shown link.new)) mail.new topology.now) }
 {
     let wrote = commit_over(
         alloc, fleet, mail, config, topology, keepers, link, route, origin, write,
@@ -249,7 +241,6 @@ fn come_back<L: Link>(
     requires follower { IsFollowerFor config.now shard route.follower }
     requires seen { IfSome done.committed.wrote.entry (IsSeenEntry (pens_of fleet.old.masters) shard done.committed.wrote.note) }
     requires here { IfSome done.committed.wrote.entry (LiesOn done.committed.wrote.note shard) }
-    requires given { IfSome done.committed.wrote.job IsGivenJob }
     ensures carried { OnOk result (L.shown link.new ≡ after_carry (L.shown link.old)) }
     ensures takes { OnOk result (FollowerTakes (types_of config.now.schema) route shard done.committed.wrote.entry fleet.old fleet.new) }
     ensures out { IfOk result (λ out. AnswersBack done ((L.shown link.new).carries - carries) out) }
@@ -323,11 +314,9 @@ pub fn write_along<K: Keeper, L: Link>(
     ensures stands { IfOk result (λ done. IfSome done.entry (StandsIn (pens_of fleet.new.masters (write_shard write.now)))) }
     ensures other { IfOk result (λ done. IfSome done.other (λ t.
         (t.shard < config.now.shards) × IsSeenEntry (pens_of fleet.new.masters) t.shard t.note t.entry)) }
-    ensures consistent { IsConsistent K.TELLS config.now (K.state keepers.new).told fleet.new }
-    ensures inboxes { AreInboxesOf config.now (pens_of fleet.new.masters) mail.new }
-    ensures goes { GoesOn fleet.old fleet.new }
-    ensures grows { MastersGrow K.TELLS config.now (K.state keepers.old).told (K.state keepers.new).told }
-    ensures later { IsLater (K.state keepers.old) (K.state keepers.new) }
+    ensures on { PostsOn K.TELLS config.now
+        (posting (scene fleet.old (K.state keepers.old) (L.shown link.old)) mail.old topology.now)
+        (posting (scene fleet.new (K.state keepers.new) (L.shown link.new)) mail.new topology.now) }
 {
     let carries = link.carries();
     let done = commit_and_work_off(

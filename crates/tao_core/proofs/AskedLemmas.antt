@@ -34,11 +34,11 @@ use Rattle.request_check.specs.declared.checked.CheckedCall.{CheckedCall}
 use Rattle.request_check.specs.declared.checked.CheckedCall.TheVariants as of_call
 use Rattle.request_check.specs.declared.checked.LinkPlace.{LinkPlace}
 use Rattle.request_check.specs.declared.refusal.CheckRefusal.{CheckRefusal}
-use Rattle.tao_core.specs.Asked.{CallCanBeDone, CanBeDone, admitted, held_plan, may_open, fresh_plan, open_session, asking_session}
+use Rattle.tao_core.specs.Asked.{CallCanBeDone, CanBeDone, admitted, held_plan, fresh_session, fresh_plan, open_session, asking_session}
 use Rattle.core_sessions.specs.Sessions.{Session, is_open}
 
 -- a session that may be opened isn't open
-not_open : (sessions : List Session) (session : ℕ) → may_open sessions session ≡ Ok tt → is_open sessions session ≡ false
+not_open : (sessions : List Session) (session : ℕ) → fresh_session sessions session ≡ Ok tt → is_open sessions session ≡ false
 not_open sessions session h = elim (cases_Bool (is_open sessions session)) [
   | inl is_so ↦ (let e = rw is_so at h in absurd (cc))
   | inr not_so ↦ not_so

@@ -33,7 +33,8 @@ module _ (now : Moment) (s : Settings) (sessions : List Session) (plans : Plans)
 
   -- a request that asks nothing, or for which there was no memory, is answered so
   pub answers_unasked : (tells : Bool) (asked : Request) (refusal : CheckRefusal)
-      → Gives {A = Checked} reply_unless_memory (Err refusal) (replied (asked_of s sessions plans asked)) → AnswersRequest tells now asked (reply_as refusal) now
+      → Gives {A = Checked} reply_unless_memory (Err refusal) (replied (asked_of s sessions plans asked))
+      → AnswersRequest tells now asked (reply_as refusal) now
   answers_unasked tells asked (check.Refused reply) h =
       inr (refused_so tells now (asked_of now.core.settings now.core.sessions now.core.plans asked) reply
       (lent (λ x y z. replied (asked_of x y z asked) ≡ Err reply) h))

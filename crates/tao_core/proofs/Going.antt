@@ -89,7 +89,8 @@ module _ (tells : Bool) (core : CoreState) (after : Fleet) (session : Session) (
   pub answers_read : (call : CheckedRead) (shard : ℕ) → session_at core.sessions call.session ≡ Some session → shard ≡ query_shard call.query
       → Some route.follower ≡ chosen_follower core.states session.region session.tier shard
       → route.leader ≡ preferred_leader core.states session.region shard
-      → ReadsBy tells core.settings (called_read call.critical (sent_read route (wanted_in session call.query))) reply (scene core.fleet before from) (scene after now to)
+      → ReadsBy tells core.settings (called_read call.critical (sent_read route (wanted_in session call.query))) reply (scene core.fleet before from)
+      (scene after now to)
       → KeepsTables tells before now
       → IsConsistent tells core.settings now.told after → query_shard call.query < core.settings.shards
       → AnswersRead tells (moment core before from) call reply (moment (record core { fleet = after }) now to)
@@ -180,7 +181,8 @@ module _ (tells : Bool) (core now : CoreState) (own : core ≡ now) (before : Ke
 
     -- it went along its route
     pub read_leaves : (from to : LinkShown) (reply : Reply) (fleet : Fleet) (later : KeeperState)
-        → ReadsBy tells core.settings (called_read call.critical (sent_read route (wanted call.query floor))) reply (scene core.fleet before from) (scene fleet later to)
+        → ReadsBy tells core.settings (called_read call.critical (sent_read route (wanted call.query floor))) reply (scene core.fleet before from)
+        (scene fleet later to)
         → IsConsistent tells core.settings later.told fleet → StaysHeld core.fleet fleet → KeepsTables tells before later
         → ReadLeaves tells call (moment now before from) reply (moment (record core { fleet = fleet }) later to)
     read_leaves from to reply fleet later reads consistent on stays =

@@ -3,14 +3,12 @@ use Rattle.std.proofs.Common.{◌≡◌, ℕ, Bool, true, false, List, Option, S
 use Rattle.std.specs.Prelude.{IsSome, IsSomeAnd}
 use Rattle.cache_items.specs.declared.look.Look.{Look}
 use Rattle.cache_items.specs.declared.look.Look.TheVariants.{Hit, Miss}
-use Rattle.core_model.specs.Consistent.{GoesOn}
-use Rattle.core_model.specs.Growing.{MastersGrow}
 use Rattle.core_model.specs.Pens.{pens_of}
 use Rattle.core_model.specs.declared.named.Named.{Named}
 use Rattle.core_model.proofs.Places.{one_some}
 use Rattle.core_nodes.proofs.FleetLemmas.{goes_self}
 use Rattle.core_plans.specs.Held.{AddsPlan, HoldsAsk, IsOver, IsUnderWay, Plans, StepsHeld, next_stage, plan_at}
-use Rattle.core_plans.specs.HeldReads.{DoesLook, begun_read}
+use Rattle.core_plans.specs.HeldReads.{DoesLook, at_bound}
 use Rattle.core_plans.specs.HeldWrites.{call_of_plan, way_by}
 use Rattle.core_plans.specs.declared.held.HeldPlan.{HeldPlan}
 use Rattle.core_plans.specs.declared.held.HeldPlan.TheVariants as held
@@ -25,7 +23,7 @@ use Rattle.core_steps.specs.Writes.{RefusesCommit, sent_write}
 use Rattle.follower_cache.specs.Seen.{FollowerState}
 use Rattle.node_name.specs.declared.NodeName.{NodeName}
 use Rattle.read_plan.specs.Ends.{EndsAt, EndsWith}
-use Rattle.read_plan.specs.Readings.{NeverAsks, Reading}
+use Rattle.read_plan.specs.Readings.{NeverAsks, Reading, new_reading}
 use Rattle.read_plan.specs.Standings.{after_look}
 use Rattle.read_plan.specs.declared.standing.Standing.TheVariants.{Looking}
 use Rattle.replies.specs.declared.plans.Stage.{Stage}
@@ -38,7 +36,7 @@ use Rattle.request_check.specs.declared.checked.CheckedCall.TheVariants as call
 use Rattle.tao_base.specs.Queries.{query_key, query_shard}
 use Rattle.tao_base.specs.Writes.{write_shard}
 use Rattle.tao_base.specs.declared.entry.Origin.TheVariants.{Client}
-use Rattle.tao_keeper.specs.KeeperState.{IsLater, KeeperState}
+use Rattle.tao_keeper.specs.KeeperState.{KeeperState}
 use Rattle.tao_link.specs.Shown.{LinkShown}
 use Rattle.topology.specs.Choices.{chosen_follower}
 use Rattle.topology.specs.Config.{Settings}
@@ -46,8 +44,8 @@ use Rattle.words.specs.declared.PlanWord.TheVariants as word
 use Rattle.write_plan.specs.Plans.{Writing, begun_write, reply_of}
 use Rattle.tao_core.specs.Asked.{CallCanBeDone}
 use Rattle.tao_core.specs.Calls.{posting_of}
-use Rattle.tao_core.specs.Core.{CoreState, IsCoreOf, IsOfSession, IsSessionOf, Moment, moment}
-use Rattle.tao_core.specs.HeldCalls.{AnswersHold, Held, HoldGoes, Leaves, StepsAt}
+use Rattle.tao_core.specs.Core.{CoreState, IsCoreOf, IsOfSession, IsSessionOf, Moment, StaysUsable, moment}
+use Rattle.tao_core.specs.HeldCalls.{AnswersHold, Held, HoldGoes, Leaves, StepsAt, numbered_plan}
 use Rattle.tao_core.specs.HeldCalls.{begun_plan, call_floor, call_session, call_shard, held_in, plan_leader, told_with_number}
 use Rattle.tao_core.proofs.HeldOn.{same_later}
 use Rattle.tao_core.proofs.HeldKeeping.{plans_set, set_each, set_here, with_plans}
@@ -171,7 +169,8 @@ module _ (tells : Bool) (s : Settings) (by : NodeName) (session : Session) (foll
       subst (λ reply. RefusesCommit tells s (sent_write (way_by by p) (call_of_plan p)) reply old new) same refuses.refuses
   served (call.Read read) (held.Write q) steps over = steps
   served (call.Read read) (held.Read q) steps over =
-      look_served s read.critical (begun_read s read.query session.region session.tier (call_floor session (call.Read read)) read.critical follower) q
+      look_served s read.critical
+      (at_bound s (new_reading read.query session.region session.tier (call_floor session (call.Read read)) read.critical follower)) q
       old.scene new.scene region steps.steps.does over
 
 told_refused : (number region : ℕ) (ended : Reply) → Refused (Node (NoServer region)) ≡ told_with_number number ended → ended ≡ Refused (Node (NoServer region))
@@ -179,7 +178,7 @@ told_refused number region (Called reply) h = absurd (cc)
 told_refused number region reply h = sym h
 
 leaves_served : (number region : ℕ) (after : HeldPlan) (next : Option Stage) (was now : Held) → (IsOver after (Refused (Node (NoServer region))) → ⊥)
-    → Leaves word.Hold number after next was (Refused (Node (NoServer region))) now → ⊥
+    → Leaves word.Hold (numbered_plan number after) next was (Refused (Node (NoServer region))) now → ⊥
 leaves_served number region after (Some stage) was now never leaves = (let told = leaves.told in absurd (cc))
 leaves_served number region after None was now never leaves =
     never (subst (IsOver after) (told_refused number region leaves.ended leaves.told) leaves.over)
@@ -292,10 +291,7 @@ none_found tells number old asked place called shard same at_place at none =
 -- what a call to hold leaves, and how it is replied
 pub record HoldLeaves (tells : Bool) (number : ℕ) (asked : CheckedCall) (old : Moment) (reply : Reply) (new : Moment) : Type 0 where
   pub does : AnswersHold tells number asked old reply new
-  pub keepers : IsCoreOf tells new.keepers.told new.core
-  pub goes : GoesOn old.core.fleet new.core.fleet
-  pub grows : MastersGrow tells old.core.settings old.keepers.told new.keepers.told
-  pub later : IsLater old.keepers new.keepers
+  pub usable : StaysUsable tells old.keepers new.keepers old.core new.core
 
 -- memory was wanting, and nothing changed
 pub hold_wants : (tells : Bool) (number : ℕ) (asked : CheckedCall) (core now : CoreState) (own : core ≡ now) (sessions : List Session) (plans : Plans)
@@ -308,8 +304,11 @@ hold_wants tells number asked core now own sessions plans keepers link reply of 
     subst (λ r. HoldLeaves tells number asked (moment now keepers link) r (moment after keepers link)) (sym is)
     (subst (λ x. HoldLeaves tells number asked (moment now keepers link) (Refused (Memory 0)) (moment x keepers link)) (sym stays) (record {
       does = inl (record { position_is = refl; same = refl });
-      keepers = of;
-      goes = goes_self now.fleet;
-      grows = stays_masters tells now.settings keepers keepers (λ told at. refl);
-      later = same_later keepers;
+      usable = record {
+        settings = refl;
+        keepers = of;
+        goes = goes_self now.fleet;
+        grows = stays_masters tells now.settings keepers keepers (λ told at. refl);
+        later = same_later keepers;
+      };
     }))

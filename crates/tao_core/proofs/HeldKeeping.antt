@@ -50,7 +50,8 @@ use Rattle.topology.specs.States.{is_cache}
 use Rattle.words.specs.declared.PlanWord.{PlanWord}
 use Rattle.tao_core.specs.Calls.{posting_of}
 use Rattle.tao_core.specs.Core.{CoreState, IsConsistentCore, IsCoreOf, IsOfSession, IsSessionOf, Moment, moment}
-use Rattle.tao_core.specs.HeldCalls.{DoesStage, EndsPlan, IsOfRegion, Leaves, LearnsOf, StepsAt, held_seen, held_in, next_at, plan_leader}
+use Rattle.tao_core.specs.HeldCalls.{DoesStage, EndsPlan, IsOfRegion, Leaves, LearnsOf, StepsAt, held_seen, held_in, next_at, numbered_plan}
+use Rattle.tao_core.specs.HeldCalls.{plan_leader}
 use Rattle.tao_core.proofs.HeldLearning.{author_stays, learns_ours, of_session_still}
 use Rattle.tao_core.proofs.HeldSteps.{MayHold, StepsAsks, held_after, kept, steps_asks}
 use Rattle.tao_core.proofs.Reaching.{held_reaches}
@@ -288,7 +289,8 @@ module _ (tells : Bool) (number : ℕ) (old mid : Moment) (does : DoesStage tell
 
     gone : (other : ℕ) → plan_at later other ≡ (if other == number then None else plan_at old.core.plans other)
     gone other = elim (cases_Bool (other == number)) [
-      | inl same ↦ set_same number other None mid.core.plans later ends_after.takes.sets same ∙ sym (ap (λ b. if b then None else plan_at old.core.plans other) same)
+      | inl same ↦ set_same number other None mid.core.plans later ends_after.takes.sets same
+          ∙ sym (ap (λ b. if b then None else plan_at old.core.plans other) same)
       | inr differs ↦ set_other number other None mid.core.plans later ends_after.takes.sets differs
           ∙ set_other number other (Some After) old.core.plans mid.core.plans does.steps.changes.sets differs
           ∙ sym (ap (λ b. if b then None else plan_at old.core.plans other) differs)
@@ -343,7 +345,7 @@ module _ (tells : Bool) (number : ℕ) (old mid : Moment) (does : DoesStage tell
     stands = does.steps.stands;
     steps = steps_before;
     reaches = does.reaches;
-    leaves = subst (λ n. Leaves asked number After n (held_in old.core) reply (held_seen mid.core.plans sessions)) (sym next ∙ next_is)
+    leaves = subst (λ n. Leaves asked (numbered_plan number After) n (held_in old.core) reply (held_seen mid.core.plans sessions)) (sym next ∙ next_is)
         (record { told = told; changes = does.steps.changes; sessions = same });
     rest = ap (λ (x : CoreState). record x { sessions = sessions }) rest;
   }
@@ -359,7 +361,7 @@ module _ (tells : Bool) (number : ℕ) (old mid : Moment) (does : DoesStage tell
     stands = does.steps.stands;
     steps = steps_before;
     reaches = does.reaches;
-    leaves = subst (λ n. Leaves asked number After n (held_in old.core) reply (held_seen later sessions)) (sym over ∙ next_is)
+    leaves = subst (λ n. Leaves asked (numbered_plan number After) n (held_in old.core) reply (held_seen later sessions)) (sym over ∙ next_is)
         (ends_here later sessions reply over ends);
     rest = ap (λ (x : CoreState). record x { plans = later; sessions = sessions }) rest;
   }

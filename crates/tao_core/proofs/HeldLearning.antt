@@ -63,7 +63,8 @@ use Rattle.tao_core.proofs.WriteStages.{KeepsOn, end_keeps, inverse_keeps, stage
 -- ---- the session of a write
 
 -- a write stays that of its client
-origin_stays : (tells : Bool) (s : Settings) (by : NodeName) (at : WriteStage) (p q : Writing) (old new : Posting) → DoesWriteStage (led_by tells s by) at p old q new
+origin_stays : (tells : Bool) (s : Settings) (by : NodeName) (at : WriteStage) (p q : Writing) (old new : Posting)
+    → DoesWriteStage (led_by tells s by) at p old q new
     → q.origin ≡ p.origin
 origin_stays tells s by Commit p q old new (inl commits) = ap (λ (x : Writing). x.origin) commits.then
 origin_stays tells s by Commit p q old new (inr refuses) = ap (λ (x : Writing). x.origin) refuses.then

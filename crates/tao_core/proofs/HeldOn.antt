@@ -1,6 +1,6 @@
 -- What is held goes on, whatever else is done.
 use Rattle.std.proofs.Common.{◌≡◌, ℕ, Bool, List, Option, Some, refl, ap, sym, subst, arith}
-use Rattle.core_model.specs.Consistent.{GoesOn, IsConsistent}
+use Rattle.core_model.specs.Consistent.{IsConsistent}
 use Rattle.core_model.specs.Evictions.{ChangesCache, Evicts}
 use Rattle.core_model.specs.Fleet.{Fleet}
 use Rattle.core_model.specs.Growing.{MastersGrow}
@@ -21,7 +21,7 @@ use Rattle.tao_base.specs.declared.id.Key.{Key}
 use Rattle.tao_keeper.specs.KeeperState.{IsLater, KeeperState, KeepsTables}
 use Rattle.tao_keeper.specs.Table.{Tables}
 use Rattle.topology.specs.Config.{Settings}
-use Rattle.tao_core.specs.Core.{CoreState, IsConsistentCore, IsCoreOf, IsOfSession, StaysHeld, author}
+use Rattle.tao_core.specs.Core.{CoreState, IsConsistentCore, IsCoreOf, IsOfSession, LeavesCore, StaysHeld, StaysUsable, author}
 use Rattle.tao_core.proofs.StayOpen.{StayOpen, same_open}
 use Rattle.core_sessions.specs.Sessions.{Session}
 
@@ -41,21 +41,7 @@ pub still_of : (old new : List Session) (plan : HeldPlan) → StayOpen old new �
 still_of old new (Read p) stay is = tt
 still_of old new (Write p) stay is = stay.stays (author p.origin) is
 
--- what a call leaves of a core: it is consistent, what is held can go on, and the logs grew
-pub record LeavesCore (tells : Bool) (before now : KeeperState) (old new : CoreState) : Type 0 where
-  pub is_consistent : IsConsistentCore tells now.told new
-  pub on : StaysHeld old.fleet new.fleet
-  pub grows : MastersGrow tells old.settings before.told now.told
-  pub later : IsLater before now
-
--- what a request leaves: the core may be used, as before
-pub record StaysUsable (tells : Bool) (before now : KeeperState) (old new : CoreState) : Type 0 where
-  pub settings : new.settings ≡ old.settings
-  pub keepers : IsCoreOf tells now.told new
-  pub goes : GoesOn old.fleet new.fleet
-  pub grows : MastersGrow tells old.settings before.told now.told
-  pub later : IsLater before now
-
+-- a call that leaves sessions open and plans as they are leaves a core that may be used
 pub core_goes_on : (tells : Bool) (before now : KeeperState) (old new : CoreState) → IsCoreOf tells before.told old → LeavesCore tells before now old new
     → new.settings ≡ old.settings → new.plans ≡ old.plans → StayOpen old.sessions new.sessions → StaysUsable tells before now old new
 core_goes_on tells before now old new of leaves own same stay = record {

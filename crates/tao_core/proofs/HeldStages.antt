@@ -1,17 +1,15 @@
 -- What a stage of a held plan leaves, where the plan is held on, and where it is over.
-use Rattle.std.proofs.Common.{◌≡◌, ℕ, Bool, List, Option, Some, None, refl, sym, subst}
+use Rattle.std.proofs.Common.{◌≡◌, ℕ, Bool, List, Option, Some, None, ap, refl, sym, subst}
 use Rattle.std.specs.Prelude.{All, IfSome, IsSome, option_and_then}
-use Rattle.core_mail.specs.Inboxes.{AreInboxesOf, Inboxes}
-use Rattle.core_model.specs.Consistent.{GoesOn, IsConsistent}
+use Rattle.core_mail.specs.Inboxes.{Inboxes}
 use Rattle.core_model.specs.Fleet.{Fleet}
-use Rattle.core_model.specs.Growing.{MastersGrow}
 use Rattle.core_model.specs.Pens.{pens_of}
 use Rattle.core_plans.specs.Held.{CanStep, ChangesPlan, IsUnderWay, OpensFirst, Plans, StepsPlan, learner, plan_at}
 use Rattle.core_plans.specs.declared.held.HeldPlan.{HeldPlan}
 use Rattle.core_plans.specs.LedBy.{led_by}
 use Rattle.core_sessions.specs.Sessions.{HasRoomForBoth, Session, sessions_of}
 use Rattle.core_steps.specs.Routes.{Scene, scene}
-use Rattle.core_steps.specs.Posting.{Posting, posting}
+use Rattle.core_steps.specs.Posting.{Posting, PostsOn, posting}
 use Rattle.graph_model.proofs.Members.{if_some, if_some_at}
 use Rattle.node_name.specs.declared.NodeName.{NodeName}
 use Rattle.replies.specs.declared.plans.PlanReply.TheVariants.{Next}
@@ -25,7 +23,7 @@ use Rattle.tao_link.specs.Shown.{LinkShown}
 use Rattle.topology.specs.Config.{Settings}
 use Rattle.topology.specs.States.{NodeStates}
 use Rattle.words.specs.declared.PlanWord.{PlanWord}
-use Rattle.tao_core.specs.Core.{CoreState, IsConsistentCore, IsCoreOf, IsOfSession, IsSessionOf, Moment, moment}
+use Rattle.tao_core.specs.Core.{CoreState, IsConsistentCore, IsCoreOf, IsOfSession, IsSessionOf, Moment, StaysUsable, moment}
 use Rattle.tao_core.specs.HeldCalls.{DoesStage, EndsPlan, HasRoomFor, MayLearn, StepsAt, held_seen, next_at, plan_leader}
 use Rattle.tao_core.proofs.HeldKeeping.{author_held, does_stage, end_steps, ends_core, next_core, next_steps, set_here, stepped_core}
 use Rattle.tao_core.proofs.HeldLearning.{may_learn, room_after, room_given_up}
@@ -69,9 +67,7 @@ module _ (tells : Bool) (s : Settings) (leader : NodeName) (number : ℕ) (plans
 -- what a stage leaves, and how it is replied
 pub record StageLeaves (tells : Bool) (asked : PlanWord) (number : ℕ) (old : Moment) (reply : Reply) (new : Moment) : Type 0 where
   pub steps : StepsAt tells asked number old reply new
-  pub keepers : IsCoreOf tells new.keepers.told new.core
-  pub goes : GoesOn old.core.fleet new.core.fleet
-  pub grows : MastersGrow tells old.core.settings old.keepers.told new.keepers.told
+  pub usable : StaysUsable tells old.keepers new.keepers old.core new.core
 
 module _ (tells : Bool) (number : ℕ) (core seen : CoreState) (own : core ≡ seen) (fleet : Fleet) (mail : Inboxes) (plans : Plans) (sessions : List Session)
     (before now : KeeperState) (from to : LinkShown) (plan : HeldPlan) (leader : NodeName)
@@ -79,8 +75,8 @@ module _ (tells : Bool) (number : ℕ) (core seen : CoreState) (own : core ≡ s
     (steps : StepsPlan (led_by tells core.settings leader) number core.plans (posting (scene core.fleet before from) core.mail core.states) plans
     (posting (scene fleet now to) mail core.states))
     (under : IfSome (plan_at plans number) (IsUnderWay tells core.settings now.told fleet))
-    (consistent : IsConsistent tells core.settings now.told fleet) (inboxes : AreInboxesOf core.settings (pens_of fleet.masters) mail)
-    (goes : GoesOn core.fleet fleet) (grows : MastersGrow tells core.settings before.told now.told) (same : sessions ≡ core.sessions) where
+    (posts : PostsOn tells core.settings (posting (scene core.fleet before from) core.mail core.states) (posting (scene fleet now to) mail core.states))
+    (same : sessions ≡ core.sessions) where
   abbrev Mid : CoreState
   Mid = record core { fleet = fleet; mail = mail; plans = plans }
 
@@ -91,10 +87,10 @@ module _ (tells : Bool) (number : ℕ) (core seen : CoreState) (own : core ≡ s
   leads = subst (λ (x : CoreState). leader ≡ plan_leader x plan) (sym own) leads_seen
 
   does : DoesStage tells number (moment core before from) (moment Mid now to)
-  does = does_stage tells number core fleet mail plans before now from to plan leader stands leads steps consistent under
+  does = does_stage tells number core fleet mail plans before now from to plan leader stands leads steps posts.consistent under
 
   is_mid : IsConsistentCore tells now.told Mid
-  is_mid = stepped_core tells before.told now.told core fleet mail plans of.is_consistent consistent inboxes goes grows
+  is_mid = stepped_core tells before.told now.told core fleet mail plans of.is_consistent posts.consistent posts.inboxes posts.goes posts.grows
 
   -- as its callers see the core
   leaves_so : (asked : PlanWord) (reply : Reply) (later : Plans) (learnt : List Session)
@@ -103,7 +99,16 @@ module _ (tells : Bool) (number : ℕ) (core seen : CoreState) (own : core ≡ s
       → StageLeaves tells asked number (moment seen before from) reply (moment (record Mid { plans = later; sessions = learnt }) now to)
   leaves_so asked reply later learnt at is =
       subst (λ x. StageLeaves tells asked number (moment x before from) reply (moment (record Mid { plans = later; sessions = learnt }) now to)) own
-      (record { steps = at; keepers = is; goes = goes; grows = grows })
+      (record {
+        steps = at;
+        usable = record {
+          settings = ap (λ (x : CoreState). x.settings) at.rest;
+          keepers = is;
+          goes = posts.goes;
+          grows = posts.grows;
+          later = posts.later;
+        };
+      })
 
   -- ---- it is held on
 
@@ -113,7 +118,7 @@ module _ (tells : Bool) (number : ℕ) (core seen : CoreState) (own : core ≡ s
       leaves_so asked reply plans sessions
       (next_steps tells number (moment core before from) (moment Mid now to) does asked stage sessions reply next told same refl)
       (subst (λ xs. IsCoreOf tells now.told (record Mid { sessions = xs })) (sym same)
-      (next_core tells number (moment core before from) (moment Mid now to) does of stage next is_mid refl refl goes grows under))
+      (next_core tells number (moment core before from) (moment Mid now to) does of stage next is_mid refl refl posts.goes posts.grows under))
 
   -- ---- it is over
 
@@ -135,4 +140,4 @@ module _ (tells : Bool) (number : ℕ) (core seen : CoreState) (own : core ≡ s
       subst (λ xs. IfSome (plan_at plans number) (λ held_plan. EndsPlan number held_plan (held_seen plans xs) reply (held_seen later learnt))) same ends in
       leaves_so asked reply later learnt
       (end_steps tells number (moment core before from) (moment Mid now to) does asked later learnt reply over mid refl)
-      (ends_core tells number (moment core before from) (moment Mid now to) does later learnt reply over mid of is_mid refl refl goes grows under)
+      (ends_core tells number (moment core before from) (moment Mid now to) does later learnt reply over mid of is_mid refl refl posts.goes posts.grows under)

@@ -241,7 +241,8 @@ module _ (tells : Bool) (s : Settings) (by : NodeName) (p q : Reading) (old new 
   abbrev Asks : Reading → Type 0
   Asks r = StepsAsks (Some (Read p)) (held_after (Read r)) old.fleet.followers new.fleet.followers
 
-  ended : ChangesNode p.follower (EndsAsk p.ask) old.fleet.followers new.fleet.followers → StepsAsks (Some (Read p)) None old.fleet.followers new.fleet.followers
+  ended : ChangesNode p.follower (EndsAsk p.ask) old.fleet.followers new.fleet.followers
+      → StepsAsks (Some (Read p)) None old.fleet.followers new.fleet.followers
   ended change = ask_ended p old.fleet.followers new.fleet.followers (EndsAsk p.ask) alone change (ends_open p.ask)
 
   over_given : (given : Given) → p.at ≡ Keeping given → DoesKeep s p given old q new → Asks q
@@ -250,7 +251,8 @@ module _ (tells : Bool) (s : Settings) (by : NodeName) (p q : Reading) (old new 
       let over : held_after (Read r) ≡ None =
       ap (λ a. kept (stage_named (stage_of (after_keep p.bound a (Some (from.answer, from.kept))))) (Read r)) at in
       subst Asks (sym from.then) (subst (λ held. StepsAsks (Some (Read p)) held old.fleet.followers new.fleet.followers) (sym over)
-      (ask_ended p old.fleet.followers new.fleet.followers (KeepsFill (types_of s.schema) p.query (taken_fill p.ask fill from.answer from.kept)) alone from.keeps
+      (ask_ended p old.fleet.followers new.fleet.followers
+      (KeepsFill (types_of s.schema) p.query (taken_fill p.ask fill from.answer from.kept)) alone from.keeps
       (keeps_open (types_of s.schema) p.query p.ask fill from.answer from.kept)))
   over_given (Fill fill) at (inr vain) = subst Asks (sym vain.then) (ended vain.ends)
   over_given (Past answer version total seen) at on =

@@ -127,7 +127,8 @@ evicted_masters node key old new (AtNode (Cache (Evicted held))) answers = cache
 evicted_masters node key old new reply answers = absurd answers
 
 pub evicted_core : (tells : Bool) (tables : Tables) (node : NodeName) (key : Option Key) (old new : Moment) (reply : Reply)
-    → IsConsistentCore tells tables old.core → AnswersEvict node key old reply new → IsFleetOf old.core.settings new.core.fleet → new.core ≡ record old.core { fleet = new.core.fleet }
+    → IsConsistentCore tells tables old.core → AnswersEvict node key old reply new → IsFleetOf old.core.settings new.core.fleet
+    → new.core ≡ record old.core { fleet = new.core.fleet }
     → IsConsistentCore tells tables new.core
 evicted_core tells tables node key old new reply of answers fleet rest =
     nodes_only tells tables old.core new.core of fleet (evicted_masters node key old new reply answers) rest

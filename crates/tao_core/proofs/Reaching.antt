@@ -19,7 +19,7 @@ use Rattle.core_plans.specs.Held.{IsUnderWay, StepsHeld}
 use Rattle.core_plans.specs.declared.held.HeldPlan.{HeldPlan}
 use Rattle.core_plans.specs.declared.held.HeldPlan.TheVariants as held
 use Rattle.core_plans.specs.LedBy.{led_by}
-use Rattle.core_steps.specs.CriticalReads.{ReadsCritical}
+use Rattle.core_steps.specs.CriticalReads.{ReadsCritical, follower_read}
 use Rattle.core_steps.specs.Reads.{ReadsAlong, sent_read}
 use Rattle.core_steps.specs.Posting.{Posting}
 use Rattle.core_steps.specs.Routes.{Scene}
@@ -112,7 +112,7 @@ kept_reaches tells s route read (Refused refused) old new reads consistent here 
 kept_reaches tells s route read reply old new reads consistent here = absurd reads
 
 pub critical_reaches : (tells : Bool) (s : Settings) (follower : NodeName) (read : Wanted) (reply : Reply) (old new : Scene)
-    → ReadsCritical tells s follower read reply old new → IsConsistent tells s new.keepers.told new.fleet → query_shard read.query < s.shards
+    → ReadsCritical tells s (follower_read follower read) reply old new → IsConsistent tells s new.keepers.told new.fleet → query_shard read.query < s.shards
     → KeptReaches tells s follower read.query reply new
 critical_reaches tells s follower read (Called (called.Read reply)) old new reads consistent here = λ told kept.
     reaches_mark tells s follower read.query reply.answer reply.version new told consistent here
@@ -121,7 +121,8 @@ critical_reaches tells s follower read (Refused refused) old new reads consisten
 critical_reaches tells s follower read reply old new reads consistent here = absurd reads
 
 pub kept_reaches_by : (critical tells : Bool) (s : Settings) (route : Route) (read : Wanted) (reply : Reply) (old new : Scene)
-    → ReadsBy tells s (called_read critical (sent_read route read)) reply old new → IsConsistent tells s new.keepers.told new.fleet → query_shard read.query < s.shards
+    → ReadsBy tells s (called_read critical (sent_read route read)) reply old new → IsConsistent tells s new.keepers.told new.fleet
+    → query_shard read.query < s.shards
     → KeptReaches tells s route.follower read.query reply new
 kept_reaches_by false tells s route read reply old new reads consistent here = kept_reaches tells s route read reply old new reads consistent here
 kept_reaches_by true tells s route read reply old new reads consistent here =

@@ -37,9 +37,9 @@ use Rattle.tao_schema.specs.Schema.{types_of}
 use Rattle.topology.specs.Config.{Settings}
 use Rattle.write_model.proofs.Paired.{no_jobs_are_paired}
 use Rattle.write_model.specs.Steps.{HaveNoJobs}
-use Rattle.tao_core.proofs.HeldOn.{LeavesCore, held_on}
+use Rattle.tao_core.proofs.HeldOn.{held_on}
 use Rattle.tao_core.proofs.Keeping.{written_core}
-use Rattle.tao_core.specs.Core.{CoreState, IsConsistentCore, Moment, StaysHeld, moment}
+use Rattle.tao_core.specs.Core.{CoreState, IsConsistentCore, LeavesCore, Moment, StaysHeld, moment}
 use Rattle.tao_core.specs.Settling.{HasRunJobs, IsUnsettled, SettlesCore}
 
 -- ---- asks that stay open

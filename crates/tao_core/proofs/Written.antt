@@ -33,11 +33,11 @@ use Rattle.tao_keeper.specs.Table.{Tables}
 use Rattle.tao_link.specs.Shown.{LinkShown}
 use Rattle.topology.specs.Choices.{chosen_follower, master_region, preferred_leader}
 use Rattle.tao_core.specs.Calls.{AnswersWrite, LearnsBoth, LearnsOutcome, told_both, written_as}
-use Rattle.tao_core.specs.Core.{CoreState, IsConsistentCore, IsSessionOf, Moment, moment}
+use Rattle.tao_core.specs.Core.{CoreState, IsConsistentCore, IsSessionOf, LeavesCore, Moment, moment}
 use Rattle.tao_core.specs.HeldCalls.{MayLearnBoth}
 use Rattle.tao_core.proofs.Found.{FoundAt, found_at, session_is}
 use Rattle.tao_core.proofs.Going.{answers_write}
-use Rattle.tao_core.proofs.HeldOn.{LeavesCore, same_held, same_later}
+use Rattle.tao_core.proofs.HeldOn.{same_held, same_later}
 use Rattle.tao_core.proofs.Keeping.{written_core}
 use Rattle.tao_core.proofs.LearningBoth.{AreToldOf, IsToldOf, both_ours, may_both, told_carried}
 

@@ -89,8 +89,8 @@ abbrev pub open_session : List Session → ℕ → Result ⊤ Refusal
 open_session sessions session = refused_unless (refused.Session (NoSession session)) (is_open sessions session)
 
 -- a session that is to be opened isn't open yet, and there is room for one
-abbrev pub may_open : List Session → ℕ → Result ⊤ Refusal
-may_open sessions session = do
+abbrev pub fresh_session : List Session → ℕ → Result ⊤ Refusal
+fresh_session sessions session = do
   new ← refused_unless (refused.Session (SessionThere session)) (not (is_open sessions session))
   refused_unless (refused.Session (SessionFull (length sessions))) (nat_lt (length sessions) most_sessions)
 
@@ -98,7 +98,7 @@ may_open sessions session = do
 abbrev pub session_for : List Session → Request → Result ⊤ Refusal
 session_for sessions (request.Call asked) = open_session sessions (asking_session asked)
 session_for sessions (request.Hold plan asked) = open_session sessions (asking_session asked)
-session_for sessions (request.Open opening) = may_open sessions opening.session
+session_for sessions (request.Open opening) = fresh_session sessions opening.session
 session_for sessions other = Ok tt
 
 -- ---- requests

@@ -6,7 +6,7 @@ use Rattle.core_model.specs.Reads.{Wanted, wanted}
 use Rattle.core_model.specs.Stores.{master_log}
 use Rattle.core_plans.specs.declared.held.ToldEntries.{ToldEntries}
 use Rattle.core_sessions.specs.Sessions.{Session, SessionLearns, session_at}
-use Rattle.core_steps.specs.CriticalReads.{ReadsCritical}
+use Rattle.core_steps.specs.CriticalReads.{ReadsCritical, follower_read}
 use Rattle.core_steps.specs.Reads.{ReadsAlong, SentRead, sent_read}
 use Rattle.core_steps.specs.Routes.{Scene, scene}
 use Rattle.core_steps.specs.Posting.{Posting, posting}
@@ -89,7 +89,7 @@ ReadsBy tells s read reply old new = by_way read.critical
   where
     by_way : Bool → Type 0
     by_way false = ReadsAlong tells s read.sent reply old new
-    by_way true = ReadsCritical tells s read.sent.route.follower read.sent.read reply old new
+    by_way true = ReadsCritical tells s (follower_read read.sent.route.follower read.sent.read) reply old new
 
 -- what is asked in a session, at its floor of the query's key
 abbrev pub wanted_in : Session → Query → Wanted

@@ -3,6 +3,7 @@ use Rattle.std.specs.Prelude.{ℕ, ◌≡◌, ◌<◌, ◌≤◌, ⊤, List, [],
 use Rattle.core_mail.specs.Inboxes.{AreEmpty, AreInboxesOf, Inboxes}
 use Rattle.core_model.specs.Consistent.{GoesOn, IsConsistent}
 use Rattle.core_model.specs.Fleet.{Fleet}
+use Rattle.core_model.specs.Growing.{MastersGrow}
 use Rattle.core_model.specs.Pens.{AreFirstNotes, Pens, pens_of}
 use Rattle.core_model.specs.Stores.{master_log}
 use Rattle.core_nodes.specs.Beginning.{IsEmptyFleet}
@@ -17,7 +18,7 @@ use Rattle.tao_base.specs.Keys.{key_shard}
 use Rattle.tao_base.specs.declared.entry.Origin.{Origin}
 use Rattle.tao_base.specs.declared.entry.Origin.TheVariants.{Client, Merge}
 use Rattle.tao_base.specs.declared.id.Key.{Key}
-use Rattle.tao_keeper.specs.KeeperState.{KeeperState}
+use Rattle.tao_keeper.specs.KeeperState.{IsLater, KeeperState}
 use Rattle.tao_keeper.specs.Table.{Tables}
 use Rattle.tao_link.specs.Shown.{LinkShown}
 use Rattle.topology.specs.Config.{Settings}
@@ -85,6 +86,21 @@ pub record IsCoreOf (tells : Bool) (tables : Tables) (core : CoreState) : Type 0
 pub record StaysHeld (old new : Fleet) : Type 0 where
   pub goes : GoesOn old new
   pub opens : OpensNone old.followers new.followers
+
+-- what a call leaves of a core: it is consistent, each call that is held can go on, of tables only logs of masters grew, and no count of the keepers fell
+pub record LeavesCore (tells : Bool) (before now : KeeperState) (old new : CoreState) : Type 0 where
+  pub is_consistent : IsConsistentCore tells now.told new
+  pub on : StaysHeld old.fleet new.fleet
+  pub grows : MastersGrow tells old.settings before.told now.told
+  pub later : IsLater before now
+
+-- what a request leaves: under its settings the core may be used as before, its nodes went on, and what a call leaves of the keepers
+pub record StaysUsable (tells : Bool) (before now : KeeperState) (old new : CoreState) : Type 0 where
+  pub settings : new.settings ≡ old.settings
+  pub keepers : IsCoreOf tells now.told new
+  pub goes : GoesOn old.fleet new.fleet
+  pub grows : MastersGrow tells old.settings before.told now.told
+  pub later : IsLater before now
 
 -- a core, and what its keepers and its link show, at a moment
 pub record Moment : Type 0 where

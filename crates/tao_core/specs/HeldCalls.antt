@@ -4,7 +4,7 @@ use Rattle.session_pass.specs.Passes.{IsNoteOf, SeenPass}
 use Rattle.graph_model.specs.Log.{entry_at}
 use Rattle.graph_model.specs.Told.{WhereTold}
 use Rattle.core_plans.specs.Held.{AddsPlan, ChangesPlan, IsOver, Plans, StepsHeld, StepsPlan, TakesPlan, next_stage, plan_at, told_of_write, told_with}
-use Rattle.core_plans.specs.HeldReads.{begun_read}
+use Rattle.core_plans.specs.HeldReads.{at_bound}
 use Rattle.core_plans.specs.declared.held.HeldPlan.{HeldPlan}
 use Rattle.core_plans.specs.declared.held.HeldPlan.TheVariants as of
 use Rattle.core_plans.specs.declared.held.ToldEntries.{ToldEntries}
@@ -14,6 +14,7 @@ use Rattle.core_steps.specs.Routes.{Scene}
 use Rattle.core_steps.specs.declared.jobs.ToldEntry.{ToldEntry}
 use Rattle.node_name.specs.declared.NodeName.{NodeName}
 use Rattle.read_plan.specs.Ends.{EndsWith}
+use Rattle.read_plan.specs.Readings.{new_reading}
 use Rattle.replies.specs.declared.calls.CallReply.{CallReply}
 use Rattle.replies.specs.declared.calls.CallReply.TheVariants as called
 use Rattle.replies.specs.declared.calls.ReadReply.{ReadReply}
@@ -132,10 +133,18 @@ pub record GoesOnHeld (next : Reply) (number : ℕ) (plan : HeldPlan) (old : Hel
   pub changes : ChangesPlan number plan old.plans new.plans
   pub sessions : new.sessions ≡ old.sessions
 
+-- a plan and its number
+pub record NumberedPlan : Type 0 where
+  pub number : ℕ
+  pub plan : HeldPlan
+
+abbrev pub numbered_plan : ℕ → HeldPlan → NumberedPlan
+numbered_plan number plan = record { number = number; plan = plan }
+
 -- it is held so, or over and gone
-abbrev pub Leaves : PlanWord → ℕ → HeldPlan → Option Stage → Held → Reply → Held → Type 0
-Leaves asked number plan (Some stage) old reply new = GoesOnHeld (replied.Plan (Next asked number stage)) number plan old reply new
-Leaves asked number plan None old reply new = EndsPlan number plan old reply new
+abbrev pub Leaves : PlanWord → NumberedPlan → Option Stage → Held → Reply → Held → Type 0
+Leaves asked by (Some stage) old reply new = GoesOnHeld (replied.Plan (Next asked by.number stage)) by.number by.plan old reply new
+Leaves asked by None old reply new = EndsPlan by.number by.plan old reply new
 
 -- the stage of a held plan that follows
 abbrev pub next_at : Plans → ℕ → Option Stage
@@ -161,7 +170,7 @@ pub record StepsAt (tells : Bool) (asked : PlanWord) (number : ℕ) (old : Momen
   pub stands : plan_at old.core.plans number ≡ Some before
   pub steps : StepsHeld (led_by tells old.core.settings (plan_leader old.core before)) before (posting_of old) after (posting_of new)
   pub reaches : HeldReaches tells old.core.settings after (scene_of new)
-  pub leaves : Leaves asked number after (next_stage after) (held_in old.core) reply (held_in new.core)
+  pub leaves : Leaves asked (numbered_plan number after) (next_stage after) (held_in old.core) reply (held_in new.core)
   pub rest : new.core ≡ record old.core { fleet = new.core.fleet; mail = new.core.mail; plans = new.core.plans; sessions = new.core.sessions }
 
 -- ---- advance
@@ -189,7 +198,7 @@ abbrev pub begun_plan : Settings → Session → NodeName → CheckedCall → He
 begun_plan s session follower (call.Write write) =
     of.Write (begun_write write.write (Client write.session write.seq) session.region session.tier follower)
 begun_plan s session follower (call.Read read) =
-    of.Read (begun_read s read.query session.region session.tier (call_floor session (call.Read read)) read.critical follower)
+    of.Read (at_bound s (new_reading read.query session.region session.tier (call_floor session (call.Read read)) read.critical follower))
 
 -- the session is open, and its call goes to its follower: a plan of it is held, and does its first stage
 pub record HoldGoes (tells : Bool) (number : ℕ) (asked : CheckedCall) (old : Moment) (reply : Reply) (new : Moment) : Type 0 where

@@ -210,8 +210,9 @@ impl<'c> Core<'c> {
         requires keepers { IsConsistentCore K.TELLS (K.state keepers.old).told self.old }
         requires node { Contains (follower_names self.old.settings) node }
         requires refill { IsRefillFor self.old.settings (pens_of self.old.fleet.masters) node refill }
-        ensures reads { ReadsAlong K.TELLS self.old.settings (sent_read (refill_route self.old node (query_shard refill.query))
-            (wanted refill.query refill.floor)) result (scene self.old.fleet (K.state keepers.old) (L.shown link.old)) (scene self.new.fleet (K.state keepers.new) (L.shown link.new)) }
+        ensures reads { ReadsAlong K.TELLS self.old.settings
+            (sent_read (refill_route self.old node (query_shard refill.query)) (wanted refill.query refill.floor)) result
+            (scene self.old.fleet (K.state keepers.old) (L.shown link.old)) (scene self.new.fleet (K.state keepers.new) (L.shown link.new)) }
         ensures keepers { IsConsistentCore K.TELLS (K.state keepers.new).told self.new }
         ensures on { StaysHeld self.old.fleet self.new.fleet }
         ensures tables { KeepsTables K.TELLS (K.state keepers.old) (K.state keepers.new) }

@@ -1,19 +1,17 @@
 //! Calls that are held, and go stage by stage.
 ghost use Rattle.std.specs.Prelude.{◌≡◌, IfOk, IfSome, IsSome, IsSomeAnd, IsTrue, None, OnErr, OnOk, Some, option_and_then, true};
 ghost use Rattle.core_mail.specs.Inboxes.{AreInboxesOf};
-ghost use Rattle.core_model.specs.Consistent.{GoesOn, IsConsistent};
-ghost use Rattle.core_model.specs.Growing.{MastersGrow};
+ghost use Rattle.core_model.specs.Consistent.{IsConsistent};
 ghost use Rattle.core_model.specs.Pens.{pens_of};
 ghost use Rattle.core_plans.specs.Held.{CanStep, IsOver, IsUnderWay, OpensFirst, StepsPlan, learner, next_stage, plan_at, told_with};
 ghost use Rattle.core_plans.specs.LedBy.{led_by};
 ghost use Rattle.core_sessions.specs.Sessions.{HasRoomForBoth, Session, is_open, opening_of, session_at, sessions_of};
 ghost use Rattle.core_steps.specs.Routes.{scene};
-ghost use Rattle.core_steps.specs.Posting.{posting};
+ghost use Rattle.core_steps.specs.Posting.{PostsOn, posting};
 ghost use Rattle.tao_core.specs.Asked.{CallCanBeDone};
-ghost use Rattle.tao_core.specs.Core.{IsCoreOf, IsOfSession, author, moment};
+ghost use Rattle.tao_core.specs.Core.{IsCoreOf, IsOfSession, StaysUsable, author, moment};
 ghost use Rattle.tao_core.specs.HeldCalls.{AnswersHold, EndsPlan, HasRoomFor, IsOfRegion, LearnsOf, MayLearn, StepsAt};
 ghost use Rattle.tao_core.specs.HeldCalls.{begun_plan, call_floor, call_session, call_shard, held_seen, learns_of, next_at, plan_leader, told_with_number};
-ghost use Rattle.tao_keeper.specs.KeeperState.{IsLater};
 ghost use Rattle.topology.specs.States.{all_up, is_cache};
 
 use crate::refusals::no_server;
@@ -234,11 +232,9 @@ fn step_or_give_up<K: Keeper, L: Link>(
         plans.old (posting (scene fleet.old (K.state keepers.old) (L.shown link.old)) mail.old topology.now)
         plans.new (posting (scene fleet.new (K.state keepers.new) (L.shown link.new)) mail.new topology.now) }
     ensures under_way { IfSome (plan_at plans.new number) (IsUnderWay K.TELLS config.now (K.state keepers.new).told fleet.new) }
-    ensures consistent { IsConsistent K.TELLS config.now (K.state keepers.new).told fleet.new }
-    ensures inboxes { AreInboxesOf config.now (pens_of fleet.new.masters) mail.new }
-    ensures goes { GoesOn fleet.old fleet.new }
-    ensures grows { MastersGrow K.TELLS config.now (K.state keepers.old).told (K.state keepers.new).told }
-    ensures later { IsLater (K.state keepers.old) (K.state keepers.new) }
+    ensures on { PostsOn K.TELLS config.now
+        (posting (scene fleet.old (K.state keepers.old) (L.shown link.old)) mail.old topology.now)
+        (posting (scene fleet.new (K.state keepers.new) (L.shown link.new)) mail.new topology.now) }
     ensures same { sessions_of sessions.new ≡ sessions_of sessions.old }
     ensures room { IfSome (plan_at plans.new number) (λ plan. HasRoomFor plan sessions.new) }
 {
@@ -281,10 +277,7 @@ impl<'c> Core<'c> {
         requires there { IsSome (plan_at self.old.plans number) }
         ensures steps { StepsAt K.TELLS word number (moment self.old (K.state keepers.old) (L.shown link.old)) result
             (moment self.new (K.state keepers.new) (L.shown link.new)) }
-        ensures keepers { IsCoreOf K.TELLS (K.state keepers.new).told self.new }
-        ensures goes { GoesOn self.old.fleet self.new.fleet }
-        ensures grows { MastersGrow K.TELLS self.old.settings (K.state keepers.old).told (K.state keepers.new).told }
-        ensures later { IsLater (K.state keepers.old) (K.state keepers.new) }
+        ensures usable { StaysUsable K.TELLS (K.state keepers.old) (K.state keepers.new) self.old self.new }
     {
         let Some(plan) = self.plans.at(number) else {
             unreachable!()
@@ -327,10 +320,7 @@ impl<'c> Core<'c> {
         requires can { CallCanBeDone self.old.settings self.old.sessions call.now }
         ensures does { AnswersHold K.TELLS number call.now (moment self.old (K.state keepers.old) (L.shown link.old)) result
             (moment self.new (K.state keepers.new) (L.shown link.new)) }
-        ensures keepers { IsCoreOf K.TELLS (K.state keepers.new).told self.new }
-        ensures goes { GoesOn self.old.fleet self.new.fleet }
-        ensures grows { MastersGrow K.TELLS self.old.settings (K.state keepers.old).told (K.state keepers.new).told }
-        ensures later { IsLater (K.state keepers.old) (K.state keepers.new) }
+        ensures usable { StaysUsable K.TELLS (K.state keepers.old) (K.state keepers.new) self.old self.new }
     {
         let place = self.sessions.at(call_session(call));
         let shard = call_shard(call);

@@ -3,7 +3,8 @@ ghost use Rattle.std.specs.Prelude.{◌≡◌, IfOk};
 ghost use Rattle.core_sessions.specs.Sessions.{sessions_of};
 ghost use Rattle.outcomes.specs.Results.{Gives};
 ghost use Rattle.request_check.specs.Refusal.{replied, reply_unless_memory};
-ghost use Rattle.tao_core.specs.Asked.{CanBeDone, admitted, asked_of, held_plan, is_built, may_open, fresh_plan, not_built, open_session, plan_for, session_for, asking_session};
+ghost use Rattle.tao_core.specs.Asked.{CanBeDone, admitted, asked_of, held_plan, is_built, fresh_session, fresh_plan, not_built, open_session, plan_for};
+ghost use Rattle.tao_core.specs.Asked.{session_for, asking_session};
 
 use core_plans::HeldPlans;
 use core_sessions::Sessions;
@@ -146,8 +147,8 @@ fn open_session(sessions: &Sessions, session: u32) -> Result<(), Refusal>
 }
 
 /// Refuses a session that can't be opened.
-fn may_open(sessions: &Sessions, session: u32) -> Result<(), Refusal>
-    ensures { result ≡ may_open (sessions_of sessions.now) session }
+fn fresh_session(sessions: &Sessions, session: u32) -> Result<(), Refusal>
+    ensures { result ≡ fresh_session (sessions_of sessions.now) session }
 {
     if sessions.is_open(session) {
         return Err(Refusal::Session(SessionRefused::SessionThere { session }));
@@ -167,7 +168,7 @@ fn session_for(sessions: &Sessions, request: &Request) -> Result<(), Refusal>
     match request {
         Request::Call(call) => open_session(sessions, session_of(call)),
         Request::Hold { call, .. } => open_session(sessions, session_of(call)),
-        Request::Open(opening) => may_open(sessions, opening.session),
+        Request::Open(opening) => fresh_session(sessions, opening.session),
         _ => Ok(()),
     }
 }

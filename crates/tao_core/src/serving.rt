@@ -6,12 +6,11 @@ ghost use Rattle.graph_model.specs.Told.{WhereTold};
 ghost use Rattle.request_check.specs.Placed.{IsPlacedKey, IsPlacedWrite};
 ghost use Rattle.tao_base.specs.Queries.{query_key, query_shard};
 ghost use Rattle.tao_base.specs.declared.entry.Origin.TheVariants.{Client};
-ghost use Rattle.tao_core.specs.Asked.{CanBeDone, CallCanBeDone, reply_as};
-ghost use Rattle.tao_core.specs.Core.{CoreState, IsConsistentCore, IsCoreOf, IsNewCore, StaysHeld, moment};
-ghost use Rattle.core_model.specs.Growing.{MastersGrow};
+ghost use Rattle.tao_core.specs.Asked.{CanBeDone, reply_as};
+ghost use Rattle.tao_core.specs.Core.{CoreState, IsConsistentCore, IsCoreOf, IsNewCore, LeavesCore, StaysHeld, StaysUsable, moment};
 ghost use Rattle.core_model.specs.Stores.{AreStores};
 ghost use Rattle.tao_core.specs.Calls.{AnswersRead, AnswersWrite, ReadsBy, called_read};
-ghost use Rattle.core_model.specs.Consistent.{GoesOn, IsConsistent, IsFleetOf};
+ghost use Rattle.core_model.specs.Consistent.{IsConsistent, IsFleetOf};
 ghost use Rattle.core_model.specs.Reads.{wanted};
 ghost use Rattle.core_model.specs.Serving.{IsFollowerFor, IsLeaderFor};
 ghost use Rattle.core_steps.specs.ReadSteps.{IsReached};
@@ -22,7 +21,6 @@ ghost use Rattle.tao_core.specs.Replies.{AnswersAsked, AnswersEvict, AnswersOpen
 ghost use Rattle.tao_keeper.specs.KeeperState.{KeeperState};
 ghost use Rattle.tao_link.specs.Shown.{LinkShown};
 ghost use Rattle.core_sessions.specs.Sessions.{HasRoomForBoth, is_open, session_at, sessions_of};
-ghost use Rattle.core_model.specs.Pens.{pens_of};
 ghost use Rattle.session_pass.specs.Floors.{floor_at};
 ghost use Rattle.std.specs.Option.{option_map};
 ghost use Rattle.tao_keeper.specs.Growing.{LogsGrow};
@@ -133,11 +131,7 @@ impl<'c> Core<'c> {
         requires keepers { IsCoreOf K.TELLS (K.state keepers.old).told self.old }
         ensures does { AnswersRequest K.TELLS (moment self.old (K.state keepers.old) (L.shown link.old)) request.now result
             (moment self.new (K.state keepers.new) (L.shown link.new)) }
-        ensures settings { self.new.settings ≡ self.old.settings }
-        ensures keepers { IsCoreOf K.TELLS (K.state keepers.new).told self.new }
-        ensures goes { GoesOn self.old.fleet self.new.fleet }
-        ensures grows { MastersGrow K.TELLS self.old.settings (K.state keepers.old).told (K.state keepers.new).told }
-        ensures later { IsLater (K.state keepers.old) (K.state keepers.new) }
+        ensures usable { StaysUsable K.TELLS (K.state keepers.old) (K.state keepers.new) self.old self.new }
     {
         match resolve(alloc, self.config, &self.sessions, &self.plans, request) {
             Ok(asked) => self.perform(alloc, keepers, link, request, &asked),
@@ -158,11 +152,7 @@ impl<'c> Core<'c> {
         requires can { CanBeDone self.old.settings self.old.sessions self.old.plans asked.now }
         ensures does { AnswersAsked K.TELLS (moment self.old (K.state keepers.old) (L.shown link.old)) (Ok asked.now) result
             (moment self.new (K.state keepers.new) (L.shown link.new)) }
-        ensures settings { self.new.settings ≡ self.old.settings }
-        ensures keepers { IsCoreOf K.TELLS (K.state keepers.new).told self.new }
-        ensures goes { GoesOn self.old.fleet self.new.fleet }
-        ensures grows { MastersGrow K.TELLS self.old.settings (K.state keepers.old).told (K.state keepers.new).told }
-        ensures later { IsLater (K.state keepers.old) (K.state keepers.new) }
+        ensures usable { StaysUsable K.TELLS (K.state keepers.old) (K.state keepers.new) self.old self.new }
     {
         match asked {
             Checked::Open {
@@ -254,10 +244,7 @@ impl<'c> Core<'c> {
         requires open { is_open self.old.sessions call.now.session ≡ true }
         ensures does { AnswersWrite K.TELLS (moment self.old (K.state keepers.old) (L.shown link.old)) call.now result
             (moment self.new (K.state keepers.new) (L.shown link.new)) }
-        ensures keepers { IsConsistentCore K.TELLS (K.state keepers.new).told self.new }
-        ensures on { StaysHeld self.old.fleet self.new.fleet }
-        ensures grows { MastersGrow K.TELLS self.old.settings (K.state keepers.old).told (K.state keepers.new).told }
-        ensures later { IsLater (K.state keepers.old) (K.state keepers.new) }
+        ensures leaves { LeavesCore K.TELLS (K.state keepers.old) (K.state keepers.new) self.old self.new }
     {
         let session = self.sessions.at(call.session);
         let shard = call.write.shard();

@@ -1,11 +1,8 @@
 //! Repairs and settles.
 ghost use Rattle.std.specs.Prelude.{◌≡◌, ◌<◌, IfErr, IfOk};
 ghost use Rattle.core_mail.specs.Inboxes.{AreEmpty};
-ghost use Rattle.core_model.specs.Consistent.{GoesOn};
-ghost use Rattle.core_model.specs.Growing.{MastersGrow};
-ghost use Rattle.tao_core.specs.Core.{IsConsistentCore, IsCoreOf, StaysHeld, moment};
+ghost use Rattle.tao_core.specs.Core.{IsConsistentCore, IsCoreOf, LeavesCore, StaysUsable, moment};
 ghost use Rattle.tao_core.specs.Settling.{AnswersRepair, AnswersSettle, IsUnsettled, SettlesCore, repaired_as, unsettled_as};
-ghost use Rattle.tao_keeper.specs.KeeperState.{IsLater};
 
 use crate::refusals::no_server;
 use crate::serving::Core;
@@ -79,10 +76,7 @@ impl<'c> Core<'c> {
         requires here { shard < self.old.settings.shards }
         ensures does { AnswersRepair K.TELLS shard (moment self.old (K.state keepers.old) (L.shown link.old)) result
             (moment self.new (K.state keepers.new) (L.shown link.new)) }
-        ensures keepers { IsConsistentCore K.TELLS (K.state keepers.new).told self.new }
-        ensures on { StaysHeld self.old.fleet self.new.fleet }
-        ensures grows { MastersGrow K.TELLS self.old.settings (K.state keepers.old).told (K.state keepers.new).told }
-        ensures later { IsLater (K.state keepers.old) (K.state keepers.new) }
+        ensures leaves { LeavesCore K.TELLS (K.state keepers.old) (K.state keepers.new) self.old self.new }
     {
         let outcome = repair_first(
             alloc,
@@ -115,11 +109,7 @@ impl<'c> Core<'c> {
         requires keepers { IsCoreOf K.TELLS (K.state keepers.old).told self.old }
         ensures does { AnswersSettle K.TELLS (moment self.old (K.state keepers.old) (L.shown link.old)) result
             (moment self.new (K.state keepers.new) (L.shown link.new)) }
-        ensures settings { self.new.settings ≡ self.old.settings }
-        ensures keepers { IsCoreOf K.TELLS (K.state keepers.new).told self.new }
-        ensures goes { GoesOn self.old.fleet self.new.fleet }
-        ensures grows { MastersGrow K.TELLS self.old.settings (K.state keepers.old).told (K.state keepers.new).told }
-        ensures later { IsLater (K.state keepers.old) (K.state keepers.new) }
+        ensures usable { StaysUsable K.TELLS (K.state keepers.old) (K.state keepers.new) self.old self.new }
     {
         match self.settle_all(alloc, keepers, link) {
             Ok(logs) => Reply::Settled {
@@ -142,10 +132,7 @@ impl<'c> Core<'c> {
         ensures empty { IfOk result (λ logs. AreEmpty self.new.mail) }
         ensures stops { IfErr result (λ stop. IsUnsettled K.TELLS stop (moment self.old (K.state keepers.old) (L.shown link.old))
             (moment self.new (K.state keepers.new) (L.shown link.new))) }
-        ensures keepers { IsConsistentCore K.TELLS (K.state keepers.new).told self.new }
-        ensures on { StaysHeld self.old.fleet self.new.fleet }
-        ensures grows { MastersGrow K.TELLS self.old.settings (K.state keepers.old).told (K.state keepers.new).told }
-        ensures later { IsLater (K.state keepers.old) (K.state keepers.new) }
+        ensures leaves { LeavesCore K.TELLS (K.state keepers.old) (K.state keepers.new) self.old self.new }
         ensures rest { self.new ≡ record self.old { fleet = self.new.fleet; mail = self.new.mail } }
     {
         let config = self.config;

@@ -48,7 +48,8 @@ module _ (tells : Bool) (words : List (List ℕ)) (old now : Outside) (left befo
       → StopHasCause old_faults new_faults keepers_before keepers_now stop
       → (stop ≡ Interrupted InputTooLong → IfSome left (λ bytes. 2 ^ 40 ≤ length bytes))
       → (stop_code stop ≡ 0) ⊎ (stop_code stop ≡ 7)
-  ends_well old_faults new_faults keepers_before keepers_now Configuration none refused cause long = let r = refused refl in absurd (not_refused r.field r.refused)
+  ends_well old_faults new_faults keepers_before keepers_now Configuration none refused cause long = let r = refused refl in
+      absurd (not_refused r.field r.refused)
   ends_well old_faults new_faults keepers_before keepers_now Keepers none refused cause long = absurd (none.keepers cause)
   ends_well old_faults new_faults keepers_before keepers_now (Interrupted Source) none refused cause long = absurd (none.source cause)
   ends_well old_faults new_faults keepers_before keepers_now (Interrupted Sink) none refused cause long = absurd (none.sink cause)

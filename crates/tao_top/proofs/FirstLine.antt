@@ -17,7 +17,8 @@ use Rattle.tao_top.proofs.GoingOn.{GivesLines-all, GivesLines-begin, part_none, 
 use Rattle.tao_top.proofs.OneLine.{no_configuration}
 use Rattle.tao_top.specs.Begun.{BegunInPart, EndsAtFirst, GivesOne, RefusesFirst, RefusesFor, RefusesInPart, RefusesLine}
 use Rattle.core_nodes.specs.Repairs.{Outside, outside}
-use Rattle.tao_top.specs.Served.{AppendsPart, AreLines, EndsInPart, OpensInPart, RefusesConfiguration, Served, StopsOpening, refusal_line, serves, start, streams, traces}
+use Rattle.tao_top.specs.Served.{AppendsPart, AreLines, EndsInPart, OpensInPart, RefusesConfiguration, Served, StopsOpening, refusal_line, serves}
+use Rattle.tao_top.specs.Served.{start, streams, traces}
 use Rattle.tao_top.specs.Step.{State, ended, Configures, Replies, Step, line_of, serving}
 use Rattle.topology.specs.Config.{Settings}
 
@@ -33,7 +34,8 @@ is_later : (keepers : KeeperState) → IsLater keepers keepers
 is_later keepers = record { calls = omega arith; faults = omega arith }
 
 -- a line that is no configuration is refused
-no_step : (tells : Bool) (around : Outside) (line field : List ℕ) → config_in line ≡ Err (BadConfig field) → Step tells (start around) line (BadConfiguration field) (refusing around)
+no_step : (tells : Bool) (around : Outside) (line field : List ℕ) → config_in line ≡ Err (BadConfig field)
+    → Step tells (start around) line (BadConfiguration field) (refusing around)
 no_step tells around line field is = record { does = inl (record { refused = is; same = refl }); later = is_later around.keepers }
 
 -- ---- the reading of the first line
@@ -58,7 +60,8 @@ module _ (left rest before after : Option (List ℕ)) where
       inr (part_one tells (start around) (refusing around) around left rest before after line read
       (BadConfiguration refused.0, no_step tells around line refused.0 refused.1, refused.2) (still_refl tells around (refusing around) refl))
 
-  pub ends_at_first_of : {T E : Type 0} (result : Result T E) (line : List ℕ) → GivesLines left rest (line ∷ []) → OnErr result (RefusesInPart line before after) → OnErr result (EndsAtFirst left before after)
+  pub ends_at_first_of : {T E : Type 0} (result : Result T E) (line : List ℕ) → GivesLines left rest (line ∷ [])
+      → OnErr result (RefusesInPart line before after) → OnErr result (EndsAtFirst left before after)
   ends_at_first_of (Ok x) line read part = tt
   ends_at_first_of (Err e) line read part = ends_at_first line read part
 
@@ -69,25 +72,30 @@ module _ (left rest before after : Option (List ℕ)) where
     written = refused.2;
   }
 
-  pub ends_long : ((whole : List ℕ) × IsTooLong whole × GivesLines left rest (whole ∷ [])) → AppendsPart before after (refusal_line []) → EndsAtFirst left before after
+  pub ends_long : ((whole : List ℕ) × IsTooLong whole × GivesLines left rest (whole ∷ [])) → AppendsPart before after (refusal_line [])
+      → EndsAtFirst left before after
   ends_long long written = ends_at_first long.0 long.2 (inr ([], no_configuration long.0 long.1, written))
 
-  pub refuses_long : ((whole : List ℕ) × IsTooLong whole × GivesLines left rest (whole ∷ [])) → Appends before after (refusal_line []) → RefusesFirst left before after
+  pub refuses_long : ((whole : List ℕ) × IsTooLong whole × GivesLines left rest (whole ∷ [])) → Appends before after (refusal_line [])
+      → RefusesFirst left before after
   refuses_long long written = refuses_first long.0 long.2 ([], no_configuration long.0 long.1, written)
 
   -- the input has no line
   none_left : (next : NextLine) (line : List ℕ) → NextLineIs next left rest line → next ≡ End → AreLines left []
   none_left next line is end = let h = subst (λ n. NextLineIs n left rest line) end is in GivesLines-all left rest [] h.1 h.0
 
-  pub ends_lacking : (next : NextLine) (line : List ℕ) → NextLineIs next left rest line → next ≡ End → AppendsPart before after (refusal_line []) → EndsAtFirst left before after
+  pub ends_lacking : (next : NextLine) (line : List ℕ) → NextLineIs next left rest line → next ≡ End → AppendsPart before after (refusal_line [])
+      → EndsAtFirst left before after
   ends_lacking next line is end written = λ tells around. inl (record { read = none_left next line is end; written = written; same = refl })
 
-  pub refuses_lacking : (next : NextLine) (line : List ℕ) → NextLineIs next left rest line → next ≡ End → Appends before after (refusal_line []) → RefusesFirst left before after
+  pub refuses_lacking : (next : NextLine) (line : List ℕ) → NextLineIs next left rest line → next ≡ End → Appends before after (refusal_line [])
+      → RefusesFirst left before after
   refuses_lacking next line is end written = λ tells around. record { field = []; refused = inl (none_left next line is end, refl, refl); written = written }
 
 -- ---- the opening of the stores
 
-module _ (tells : Bool) (old now : Outside) (line : List ℕ) (s : Settings) (configured : config_in line ≡ Ok s) (later : IsLater old.keepers now.keepers) (stays : now.link ≡ old.link) where
+module _ (tells : Bool) (old now : Outside) (line : List ℕ) (s : Settings) (configured : config_in line ≡ Ok s) (later : IsLater old.keepers now.keepers)
+    (stays : now.link ≡ old.link) where
   pub takes : (core : CoreState) → core.settings ≡ s → IsNewCore core → IsCoreOf tells now.keepers.told core
       → WhereTold tells (IsOpened s line old.keepers.told now.keepers.told) → Step tells (start old) line Configured (serves core now)
   takes core is begun of_core opened = record {
@@ -101,7 +109,8 @@ module _ (tells : Bool) (old now : Outside) (line : List ℕ) (s : Settings) (co
     later = later;
   }
 
-  pub other_line : WhereTold tells (IsOtherLine s line old.keepers.told now.keepers.told) → Configures tells old line (BadConfiguration (codes "file")) ended now
+  pub other_line : WhereTold tells (IsOtherLine s line old.keepers.told now.keepers.told)
+      → Configures tells old line (BadConfiguration (codes "file")) ended now
   other_line other = inr (record { settings = s; configured = configured; field_is = refl; other = other; link = stays })
 
   module _ (before after : Option (List ℕ)) where
@@ -113,20 +122,30 @@ module _ (tells : Bool) (old now : Outside) (line : List ℕ) (s : Settings) (co
     pub begun_silent : (core : CoreState) → core.settings ≡ s → IsNewCore core → IsCoreOf tells now.keepers.told core
         → WhereTold tells (IsOpened s line old.keepers.told now.keepers.told) → AppendsPart before after (line_of (serving core) Configured)
         → (code : ℕ) → BegunInPart code tells (traces old before) (traces now after) line
-    begun_silent core is begun of_core opened written code = inr (serves core now, (Configured, takes core is begun of_core opened, written), still_refl tells now (serves core now) refl)
+    begun_silent core is begun of_core opened written code =
+        inr (serves core now, (Configured, takes core is begun of_core opened, written), still_refl tells now (serves core now) refl)
 
-    pub begun_other : WhereTold tells (IsOtherLine s line old.keepers.told now.keepers.told) → AppendsPart before after (refusal_line (codes "file")) → (code : ℕ) → BegunInPart code tells (traces old before) (traces now after) line
-    begun_other other written code = inr (refusing now, (BadConfiguration (codes "file"), record { does = other_line other; later = later }, written), still_refl tells now (refusing now) refl)
+    pub begun_other : WhereTold tells (IsOtherLine s line old.keepers.told now.keepers.told) → AppendsPart before after (refusal_line (codes "file"))
+        → (code : ℕ) → BegunInPart code tells (traces old before) (traces now after) line
+    begun_other other written code = inr (
+      refusing now,
+      (BadConfiguration (codes "file"), record { does = other_line other; later = later }, written),
+      still_refl tells now (refusing now) refl,
+    )
 
-    pub refuses_other : WhereTold tells (IsOtherLine s line old.keepers.told now.keepers.told) → Appends before after (refusal_line (codes "file")) → RefusesLine tells old now line before after
+    pub refuses_other : WhereTold tells (IsOtherLine s line old.keepers.told now.keepers.told) → Appends before after (refusal_line (codes "file"))
+        → RefusesLine tells old now line before after
     refuses_other other written = record { field = codes "file"; refused = other_line other; written = written }
 
-    pub opens_in_part : WhereTold tells (IsOpenedInPart s line old.keepers.told now.keepers.told) → Appends before after [] → OpensInPart tells old now line before after
+    pub opens_in_part : WhereTold tells (IsOpenedInPart s line old.keepers.told now.keepers.told) → Appends before after []
+        → OpensInPart tells old now line before after
     opens_in_part opened written = record { settings = s; configured = configured; opened = opened; later = later; link = stays; written = written }
 
 -- so its reply was begun, whatever a link shows
-pub begun_whatever : (tells : Bool) (old now : KeeperState) (line : List ℕ) (s : Settings) (configured : config_in line ≡ Ok s) (later : IsLater old now) (before after : Option (List ℕ)) (core : CoreState)
-    → core.settings ≡ s → IsNewCore core → IsCoreOf tells now.told core → WhereTold tells (IsOpened s line old.told now.told) → AppendsPart before after (line_of (serving core) Configured)
+pub begun_whatever : (tells : Bool) (old now : KeeperState) (line : List ℕ) (s : Settings) (configured : config_in line ≡ Ok s) (later : IsLater old now)
+    (before after : Option (List ℕ)) (core : CoreState)
+    → core.settings ≡ s → IsNewCore core → IsCoreOf tells now.told core → WhereTold tells (IsOpened s line old.told now.told)
+    → AppendsPart before after (line_of (serving core) Configured)
     → (code : ℕ) (link : LinkShown) → BegunInPart code tells (traces (outside old link) before) (traces (outside now link) after) line
 begun_whatever tells old now line s configured later before after core is begun of_core opened written code link =
     begun_silent tells (outside old link) (outside now link) line s configured later refl before after core is begun of_core opened written code
@@ -137,12 +156,14 @@ module _ (tells : Bool) (old now : Outside) (left rest before after : Option (Li
   pub stops_opening : OpensInPart tells old now line before after → StopsOpening tells old now left before after
   stops_opening opens = (line, GivesLines-begin left rest (line ∷ []) read, opens)
 
-  pub begun_part : (code : ℕ) → BegunInPart code tells (traces old before) (traces now after) line → EndsInPart code tells (traces old before) (traces now after) left
+  pub begun_part : (code : ℕ) → BegunInPart code tells (traces old before) (traces now after) line
+      → EndsInPart code tells (traces old before) (traces now after) left
   begun_part code (inl opens) = inl (opens.0, stops_opening opens.1)
   begun_part code (inr said) = inr (inr (part_one tells (start old) said.0 now left rest before after line read said.1 said.2))
 
   pub refuses_line : RefusesLine tells old now line before after → RefusesConfiguration tells old now left before after
   refuses_line r = record { field = r.field; refused = inr (line, GivesLines-begin left rest (line ∷ []) read, r.refused); written = r.written }
 
-  pub begun : (core : CoreState) → Replies tells (start old) line (serves core now) (Appends before after) → Served tells (start old) (serves core now) (streams left before) (streams rest after)
+  pub begun : (core : CoreState) → Replies tells (start old) line (serves core now) (Appends before after)
+      → Served tells (start old) (serves core now) (streams left before) (streams rest after)
   begun core replied = served_one tells (start old) (serves core now) left rest before after line read replied

@@ -23,7 +23,8 @@ Run-append tells a b c (l ∷ ls) ms (t ∷ ts) us first second = (first.0, firs
 abbrev text_of : (tells : Bool) (a b : State) (line : List ℕ) (Writes : List ℕ → Type 0) → Replies tells a line b Writes → List ℕ
 text_of tells a b line Writes replied = line_of b.stage replied.0
 
-Run-one : (tells : Bool) (a b : State) (line : List ℕ) (Writes : List ℕ → Type 0) (replied : Replies tells a line b Writes) → Run tells a (line ∷ []) (text_of tells a b line Writes replied ∷ []) b
+Run-one : (tells : Bool) (a b : State) (line : List ℕ) (Writes : List ℕ → Type 0) (replied : Replies tells a line b Writes)
+    → Run tells a (line ∷ []) (text_of tells a b line Writes replied ∷ []) b
 Run-one tells a b line Writes replied = (b, (replied.0, replied.1, refl), refl)
 
 joined-append : (ts us : List (List ℕ)) → joined (ts ++ us) ≡ joined ts ++ joined us
@@ -65,7 +66,8 @@ module _ (tells : Bool) where
   pub served_none : (s : State) (left before : Option (List ℕ)) → Served tells s s (streams left before) (streams left before)
   served_none s left before = record { lines = []; texts = []; read = GivesLines-nil left; run = refl; written = Appends-nil before }
 
-  pub served_trans : (a b c : State) (left rest last before mid after : Option (List ℕ)) → Served tells a b (streams left before) (streams rest mid) → Served tells b c (streams rest mid) (streams last after) → Served tells a c (streams left before) (streams last after)
+  pub served_trans : (a b c : State) (left rest last before mid after : Option (List ℕ)) → Served tells a b (streams left before) (streams rest mid)
+      → Served tells b c (streams rest mid) (streams last after) → Served tells a c (streams left before) (streams last after)
   served_trans a b c left rest last before mid after p q = record {
     lines = p.lines ++ q.lines;
     texts = p.texts ++ q.texts;
@@ -75,7 +77,8 @@ module _ (tells : Bool) where
   }
 
   -- a line came, and its reply was written
-  pub served_one : (a b : State) (left rest before after : Option (List ℕ)) (line : List ℕ) → GivesLines left rest (line ∷ []) → Replies tells a line b (Appends before after) → Served tells a b (streams left before) (streams rest after)
+  pub served_one : (a b : State) (left rest before after : Option (List ℕ)) (line : List ℕ) → GivesLines left rest (line ∷ [])
+      → Replies tells a line b (Appends before after) → Served tells a b (streams left before) (streams rest after)
   served_one a b left rest before after line read replied = record {
     lines = line ∷ [];
     texts = text_of tells a b line (Appends before after) replied ∷ [];
@@ -84,10 +87,18 @@ module _ (tells : Bool) where
     written = subst (Appends before after) (sym (joined-one (text_of tells a b line (Appends before after) replied))) replied.2;
   }
 
-  pub served_all : (a b : State) (left rest before after : Option (List ℕ)) → Served tells a b (streams left before) (streams rest after) → IsAtEnd rest → ServedAll tells a b left before after
-  served_all a b left rest before after p end = record { lines = p.lines; texts = p.texts; read = GivesLines-all left rest p.lines p.read end; run = p.run; written = p.written }
+  pub served_all : (a b : State) (left rest before after : Option (List ℕ)) → Served tells a b (streams left before) (streams rest after) → IsAtEnd rest
+      → ServedAll tells a b left before after
+  served_all a b left rest before after p end = record {
+    lines = p.lines;
+    texts = p.texts;
+    read = GivesLines-all left rest p.lines p.read end;
+    run = p.run;
+    written = p.written;
+  }
 
-  pub served_then_all : (a b c : State) (left rest before mid after : Option (List ℕ)) → Served tells a b (streams left before) (streams rest mid) → ServedAll tells b c rest mid after → ServedAll tells a c left before after
+  pub served_then_all : (a b c : State) (left rest before mid after : Option (List ℕ)) → Served tells a b (streams left before) (streams rest mid)
+      → ServedAll tells b c rest mid after → ServedAll tells a c left before after
   served_then_all a b c left rest before mid after p q = record {
     lines = p.lines ++ q.lines;
     texts = p.texts ++ q.texts;
@@ -97,10 +108,15 @@ module _ (tells : Bool) where
   }
 
   pub still_refl : (now : Outside) → (s : State) → s.outside ≡ now → IsStill tells s now
-  still_refl now s is = subst (IsStill tells s) is (record { tables = λ told at. refl; later = record { calls = omega arith; faults = omega arith }; link = refl })
+  still_refl now s is = subst (IsStill tells s) is (record {
+    tables = λ told at. refl;
+    later = record { calls = omega arith; faults = omega arith };
+    link = refl;
+  })
 
   -- no line more was read
-  pub part_none : (s : State) (now : Outside) (left before after : Option (List ℕ)) → Appends before after [] → IsStill tells s now → ServedInPart tells s now left before after
+  pub part_none : (s : State) (now : Outside) (left before after : Option (List ℕ)) → Appends before after [] → IsStill tells s now
+      → ServedInPart tells s now left before after
   part_none s now left before after written still = record {
     last = s;
     lines = [];
@@ -116,7 +132,8 @@ module _ (tells : Bool) where
       none_begin (Some bytes) = (lines_of bytes, refl)
 
   -- a line came, and of its reply a front was written
-  pub part_one : (s last : State) (now : Outside) (left rest before after : Option (List ℕ)) (line : List ℕ) → GivesLines left rest (line ∷ []) → Replies tells s line last (AppendsPart before after) → IsStill tells last now
+  pub part_one : (s last : State) (now : Outside) (left rest before after : Option (List ℕ)) (line : List ℕ) → GivesLines left rest (line ∷ [])
+      → Replies tells s line last (AppendsPart before after) → IsStill tells last now
       → ServedInPart tells s now left before after
   part_one s last now left rest before after line read replied still = record {
     last = last;
@@ -128,7 +145,8 @@ module _ (tells : Bool) where
     still = still;
   }
 
-  pub served_then_part : (a b : State) (now : Outside) (left rest before mid after : Option (List ℕ)) → Served tells a b (streams left before) (streams rest mid) → ServedInPart tells b now rest mid after → ServedInPart tells a now left before after
+  pub served_then_part : (a b : State) (now : Outside) (left rest before mid after : Option (List ℕ))
+      → Served tells a b (streams left before) (streams rest mid) → ServedInPart tells b now rest mid after → ServedInPart tells a now left before after
   served_then_part a b now left rest before mid after p q = record {
     last = q.last;
     lines = p.lines ++ q.lines;
@@ -145,7 +163,8 @@ module _ (tells : Bool) where
   }
 
   -- what was served whole is a front of itself
-  pub served_all_part : (a b : State) (left before after : Option (List ℕ)) → ServedAll tells a b left before after → ServedInPart tells a b.outside left before after
+  pub served_all_part : (a b : State) (left before after : Option (List ℕ)) → ServedAll tells a b left before after
+      → ServedInPart tells a b.outside left before after
   served_all_part a b left before after p = record {
     last = b;
     lines = p.lines;

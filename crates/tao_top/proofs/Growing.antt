@@ -49,7 +49,8 @@ shared_or_apart s t (suc n) = elim (shared_or_apart s t n) [
 ]
 
 -- with tables of a core that serves, which are kept, a run may begin as before: with the core's configuration, or with stores that didn't change
-still_grown : (tells : Bool) (s : Settings) (old new : Tables) → MastersGrow tells s old new → tells ≡ true → AreOpenedWith s old → AreKeptIn s new → StillBegin old new
+still_grown : (tells : Bool) (s : Settings) (old new : Tables) → MastersGrow tells s old new → tells ≡ true → AreOpenedWith s old → AreKeptIn s new
+    → StillBegin old new
 still_grown tells s old new only told opened kept line may t configured ready = elim (shared_or_apart s t t.shards) [
   | inl shares ↦
       let o = opened shares.shard shares.configured in
@@ -78,19 +79,22 @@ module _ (tells : Bool) (core within next : CoreState) (old new : Outside) (is :
       subst (λ c. AnswersRequest tells (moment_of c old) request reply (moment_of next new) × KeepsServing tells (moment_of c old) (moment_of next new)) is
       (answers, record { settings = settings; goes = goes; of_core = of_core })
 
-  module _ (serving : MayServe tells core old.keepers.told) (grows : MastersGrow tells within.settings old.keepers.told new.keepers.told) (of_core : IsCoreOf tells new.keepers.told next) where
+  module _ (serving : MayServe tells core old.keepers.told) (grows : MastersGrow tells within.settings old.keepers.told new.keepers.told)
+      (of_core : IsCoreOf tells new.keepers.told next) where
     opened : tells ≡ true → AreOpenedWith within.settings old.keepers.told
     opened told = subst (λ c. AreOpenedWith c.settings old.keepers.told) (sym is) (serving.opened told)
 
     pub call_serves_on : MayServe tells next new.keepers.told
     call_serves_on = record {
       of_core = of_core;
-      opened = λ told. subst (λ s. AreOpenedWith s new.keepers.told) (sym settings) (opened_grown tells within.settings old.keepers.told new.keepers.told grows told (opened told));
+      opened = λ told. subst (λ s. AreOpenedWith s new.keepers.told) (sym settings)
+          (opened_grown tells within.settings old.keepers.told new.keepers.told grows told (opened told));
     }
 
     pub call_leaves : LeavesTables tells old.keepers new.keepers
     call_leaves = record {
       histories = grows.logs;
       still = λ told.
-          still_grown tells within.settings old.keepers.told new.keepers.told grows told (opened told) (subst (λ s. AreKeptIn s new.keepers.told) settings (of_core.is_consistent.consistent.stores.kept told));
+          still_grown tells within.settings old.keepers.told new.keepers.told grows told (opened told)
+          (subst (λ s. AreKeptIn s new.keepers.told) settings (of_core.is_consistent.consistent.stores.kept told));
     }

@@ -1,5 +1,6 @@
 -- What the keepers' tables allow, they still allow once stores were opened.
-use Rattle.std.proofs.Common.{◌≡◌, ◌≢◌, ℕ, zero, suc, ◌+◌, ◌<◌, nat_lt, ◌⊎◌, Bool, true, false, List, [], Option, Some, None, Ok, unwrap_or, refl, sym, ap, subst, ◌∙◌, inl, inr}
+use Rattle.std.proofs.Common.{◌≡◌, ◌≢◌, ℕ, zero, suc, ◌+◌, ◌<◌, nat_lt, ◌⊎◌, Bool, true, false, List, [], Option, Some, None, Ok, unwrap_or, refl}
+use Rattle.std.proofs.Common.{sym, ap, subst, ◌∙◌, inl, inr}
 use Rattle.tao_keeper.specs.KeeperState.{KeeperState}
 use Rattle.std.specs.Prelude.{if◌then◌else◌}
 use Rattle.config_json.specs.Config.{config_in}
@@ -51,7 +52,8 @@ pub empty_kept : (tables : Tables) → ((at : StoreName) → tables at ≡ empty
 empty_kept tables empty line s configured ready =
     empty_stores_are_kept.kept (types_of s.schema) (stores_in s tables)
     (λ shard. no_logs (master_log s tables) 0 s.shards shard (λ i. ap (λ t. t.log) (empty (master_store s i))))
-    (λ shard position. no_job (nat_lt shard s.shards) ((tables (master_store s shard)).jobs position) (ap (λ t. t.jobs position) (empty (master_store s shard))))
+    (λ shard position. no_job (nat_lt shard s.shards) ((tables (master_store s shard)).jobs position)
+    (ap (λ t. t.jobs position) (empty (master_store s shard))))
 
 -- with stores that were opened a run may begin as before
 pub still_opened : (s : Settings) (line : List ℕ) (count : ℕ) (old new : Tables) → AreOpened s line count old new → StillBegin old new
@@ -78,7 +80,8 @@ leaves_then tells old mid new first second = record {
 }
 
 -- so it may where the opening stopped
-pub still_refused : (tells : Bool) (s : Settings) (line : List ℕ) (old new : KeeperState) (refused : OpenRefusal) → RefusesOpening tells s line old new refused → WhereTold tells (StillBegin old.told new.told)
+pub still_refused : (tells : Bool) (s : Settings) (line : List ℕ) (old new : KeeperState) (refused : OpenRefusal) → RefusesOpening tells s line old new refused
+    → WhereTold tells (StillBegin old.told new.told)
 still_refused tells s line old new refusal.KeeperFault h = λ told. let part = h.1 told in still_opened s line part.count old.told new.told part.opened
 still_refused tells s line old new refusal.OtherLine h = λ told. let other = h told in still_opened s line (other.shard + 1) old.told new.told other.opened
 still_refused tells s line old new refusal.OutOfMemory h = λ told. let part = h told in still_opened s line part.count old.told new.told part.opened
@@ -92,7 +95,8 @@ opened_with s line old new configured opened = λ shard within. record {
   configured = configured;
 }
 
-pub serves_opened : (tells : Bool) (s : Settings) (line : List ℕ) (core : CoreState) (old new : Tables) → config_in line ≡ Ok s → core.settings ≡ s → WhereTold tells (IsOpened s line old new)
+pub serves_opened : (tells : Bool) (s : Settings) (line : List ℕ) (core : CoreState) (old new : Tables) → config_in line ≡ Ok s → core.settings ≡ s
+    → WhereTold tells (IsOpened s line old new)
     → IsCoreOf tells new core → MayServe tells core new
 serves_opened tells s line core old new configured is opened of_core = record {
   of_core = of_core;

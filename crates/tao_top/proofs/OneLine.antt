@@ -1,5 +1,6 @@
 -- One line that is served: as it was read, answered, and its reply written.
-use Rattle.std.proofs.Common.{◌≡◌, ℕ, nat_le, Bool, false, List, [], ◌∷◌, length, Option, None, Result, Ok, Err, IfErr, OnErr, OnOk, inl, inr, refl, sym, ap, subst, arith}
+use Rattle.std.proofs.Common.{◌≡◌, ℕ, nat_le, Bool, false, List, [], ◌∷◌, length, Option, None, Result, Ok, Err, IfErr, OnErr, OnOk, inl, inr, refl}
+use Rattle.std.proofs.Common.{sym, ap, subst, arith}
 use Rattle.std.proofs.lemmas.Bool.Decides.{nat_tests}
 use Rattle.std.specs.Io.KnownBytes.{Appends}
 use Rattle.std.proofs.KnownBytes.{Appends-nil}
@@ -72,12 +73,14 @@ part_unread tells s left before = part_none tells s s.outside left before before
 
 -- ---- what was answered
 
-pub replies_ok : {T E : Type 0} (result : Result T E) (tells : Bool) (old new : State) (line : List ℕ) (reply : Reply) (before after : Option (List ℕ)) → Step tells old line reply new
+pub replies_ok : {T E : Type 0} (result : Result T E) (tells : Bool) (old new : State) (line : List ℕ) (reply : Reply) (before after : Option (List ℕ))
+    → Step tells old line reply new
     → OnOk result (Appends before after (line_of new.stage reply)) → OnOk result (Replies tells old line new (Appends before after))
 replies_ok (Ok x) tells old new line reply before after step written = (reply, step, written)
 replies_ok (Err e) tells old new line reply before after step written = tt
 
-pub replies_err : {T E : Type 0} (result : Result T E) (tells : Bool) (old new : State) (line : List ℕ) (reply : Reply) (before after : Option (List ℕ)) → Step tells old line reply new
+pub replies_err : {T E : Type 0} (result : Result T E) (tells : Bool) (old new : State) (line : List ℕ) (reply : Reply) (before after : Option (List ℕ))
+    → Step tells old line reply new
     → OnErr result (AppendsPart before after (line_of new.stage reply)) → OnErr result (RepliesInPart tells old line new before after)
 replies_err (Ok x) tells old new line reply before after step written = tt
 replies_err (Err e) tells old new line reply before after step written = inr (reply, step, written)
@@ -94,13 +97,15 @@ module _ (tells : Bool) (core : CoreState) (around : Outside) (left rest before 
       (still_refl tells now (serves next now) refl)
 
   pub served_answered : (line said : List ℕ) (next : CoreState) (now : Outside) → GivesLines left rest (line ∷ []) → said ≡ line
-      → Replies tells (serves core around) said (serves next now) (Appends before after) → Served tells (serves core around) (serves next now) (streams left before) (streams rest after)
+      → Replies tells (serves core around) said (serves next now) (Appends before after)
+      → Served tells (serves core around) (serves next now) (streams left before) (streams rest after)
   served_answered line said next now read same replied =
       served_one tells (serves core around) (serves next now) left rest before after line read
       (subst (λ l. Replies tells (serves core around) l (serves next now) (Appends before after)) same replied)
 
   -- a line was too long
-  pub part_refused : ((whole : List ℕ) × IsTooLong whole × GivesLines left rest (whole ∷ [])) → AppendsPart before after (line_of (serving core) refused_whole) → ServedInPart tells (serves core around) around left before after
+  pub part_refused : ((whole : List ℕ) × IsTooLong whole × GivesLines left rest (whole ∷ [])) → AppendsPart before after (line_of (serving core) refused_whole)
+      → ServedInPart tells (serves core around) around left before after
   part_refused long written = part_answered long.0 long.0 core around long.2 refl (inr (refused_whole, long_line tells core around long.0 long.1, written))
 
   pub served_refused : ((whole : List ℕ) × IsTooLong whole × GivesLines left rest (whole ∷ [])) → Appends before after (line_of (serving core) refused_whole)

@@ -1,5 +1,6 @@
 -- A whole run: its first line, and then all others.
-use Rattle.std.proofs.Common.{◌≡◌, ℕ, ◌+◌, ◌<◌, ◌≤◌, ◌^◌, Bool, List, [], ◌∷◌, length, length-append, Option, Some, None, Ok, IfSome, inr, refl, sym, ap, subst, ◌∙◌, arith}
+use Rattle.std.proofs.Common.{◌≡◌, ℕ, ◌+◌, ◌<◌, ◌≤◌, ◌^◌, Bool, List, [], ◌∷◌, length, length-append, Option, Some, None, Ok, IfSome, inr, refl, sym}
+use Rattle.std.proofs.Common.{ap, subst, ◌∙◌, arith}
 use Rattle.std.proofs.KnownBytes.{Consumes-nil, prepend_known-nil}
 use Rattle.std.proofs.lemmas.List.{nil_from_length}
 use Rattle.std.specs.Io.KnownBytes.{Appends, IsAtEnd, prepend_known}
@@ -16,7 +17,8 @@ use Rattle.tao_top.proofs.GoingOn.{GivesLines-begin, served_then_all, served_the
 use Rattle.tao_top.specs.Begun.{BegunInPart, EndsAtFirst, GivesOne, RefusesFirst, RefusesLine}
 use Rattle.tao_top.specs.Kept.{MayRun}
 use Rattle.core_nodes.specs.Repairs.{Outside}
-use Rattle.tao_top.specs.Served.{Done, DoneInPart, EndsInPart, FailsOpening, LinesBegin, OpensInPart, RefusesConfiguration, Served, ServedAll, ServedInPart, StopsOpening, serves, start, streams, traces}
+use Rattle.tao_top.specs.Served.{Done, DoneInPart, EndsInPart, FailsOpening, LinesBegin, OpensInPart, RefusesConfiguration, Served, ServedAll}
+use Rattle.tao_top.specs.Served.{ServedInPart, StopsOpening, serves, start, streams, traces}
 use Rattle.tao_top.specs.Step.{Replies}
 use Rattle.tao_top.specs.Stop.{Faults, FaultsGrow, InterruptHasCause, StopHasCause, stop_code}
 use Rattle.tao_top.specs.Taken.{Takes, TakesFirst}
@@ -40,26 +42,34 @@ module _ (tells : Bool) (around : Outside) (known left before after : Option (Li
   first_refused refuses = subst (λ l. RefusesConfiguration tells around around l before after) is (refuses tells around)
 
 -- it was read, and nothing was written until its reply
-module _ (tells : Bool) (old mid : Outside) (known left rest before silent after : Option (List ℕ)) (line : List ℕ) (is : known ≡ left) (same : silent ≡ before) (read : GivesLines known rest (line ∷ [])) where
-  pub begun_in_part : (code : ℕ) → BegunInPart code tells (traces old silent) (traces mid after) line → EndsInPart code tells (traces old before) (traces mid after) left
+module _ (tells : Bool) (old mid : Outside) (known left rest before silent after : Option (List ℕ)) (line : List ℕ) (is : known ≡ left) (same : silent ≡ before)
+    (read : GivesLines known rest (line ∷ [])) where
+  pub begun_in_part : (code : ℕ) → BegunInPart code tells (traces old silent) (traces mid after) line
+      → EndsInPart code tells (traces old before) (traces mid after) left
   begun_in_part code part =
-      subst (λ l. EndsInPart code tells (traces old before) (traces mid after) l) is (subst (λ w. EndsInPart code tells (traces old w) (traces mid after) known) same (begun_part tells old mid known rest silent after line read code part))
+      subst (λ l. EndsInPart code tells (traces old before) (traces mid after) l) is
+      (subst (λ w. EndsInPart code tells (traces old w) (traces mid after) known) same (begun_part tells old mid known rest silent after line read code part))
 
   pub begun_opening : OpensInPart tells old mid line silent after → StopsOpening tells old mid left before after
   begun_opening opens =
-      subst (λ l. StopsOpening tells old mid l before after) is (subst (λ w. StopsOpening tells old mid known w after) same (stops_opening tells old mid known rest silent after line read opens))
+      subst (λ l. StopsOpening tells old mid l before after) is
+      (subst (λ w. StopsOpening tells old mid known w after) same (stops_opening tells old mid known rest silent after line read opens))
 
   pub begun_refused : RefusesLine tells old mid line silent after → RefusesConfiguration tells old mid left before after
-  begun_refused refuses = subst (λ l. RefusesConfiguration tells old mid l before after) is (subst (λ w. RefusesConfiguration tells old mid known w after) same (refuses_line tells old mid known rest silent after line read refuses))
+  begun_refused refuses = subst (λ l. RefusesConfiguration tells old mid l before after) is
+      (subst (λ w. RefusesConfiguration tells old mid known w after) same (refuses_line tells old mid known rest silent after line read refuses))
 
-  pub begun_well : (core : CoreState) → Replies tells (start old) line (serves core mid) (Appends silent after) → Served tells (start old) (serves core mid) (streams left before) (streams rest after)
+  pub begun_well : (core : CoreState) → Replies tells (start old) line (serves core mid) (Appends silent after)
+      → Served tells (start old) (serves core mid) (streams left before) (streams rest after)
   begun_well core replied =
       subst (λ l. Served tells (start old) (serves core mid) (streams l before) (streams rest after)) is
-      (subst (λ w. Served tells (start old) (serves core mid) (streams known w) (streams rest after)) same (begun tells old mid known rest silent after line read core replied))
+      (subst (λ w. Served tells (start old) (serves core mid) (streams known w) (streams rest after)) same
+      (begun tells old mid known rest silent after line read core replied))
 
 -- ---- all others
 
-module _ (tells : Bool) (old mid now : Outside) (core : CoreState) (left rest before middle after : Option (List ℕ)) (first : Served tells (start old) (serves core mid) (streams left before) (streams rest middle)) where
+module _ (tells : Bool) (old mid now : Outside) (core : CoreState) (left rest before middle after : Option (List ℕ))
+    (first : Served tells (start old) (serves core mid) (streams left before) (streams rest middle)) where
   pub done : (next : CoreState) → ServedAll tells (serves core mid) (serves next now) rest middle after → Done tells old now left before after
   done next all = record { core = next; served = served_then_all tells (start old) (serves core mid) (serves next now) left rest before middle after first all }
 
@@ -67,7 +77,8 @@ module _ (tells : Bool) (old mid now : Outside) (core : CoreState) (left rest be
   done_part part = inr (served_then_part tells (start old) (serves core mid) now left rest before middle after first part)
 
 -- what is done whole is done in part
-pub done_whole : (tells : Bool) (old now : Outside) (left before after : Option (List ℕ)) → Done tells old now left before after → DoneInPart tells old now left before after
+pub done_whole : (tells : Bool) (old now : Outside) (left before after : Option (List ℕ)) → Done tells old now left before after
+    → DoneInPart tells old now left before after
 done_whole tells old now left before after d = inr (served_all_part tells (start old) (serves d.core now) left before after d.served)
 
 -- ---- the cause of a stop
@@ -89,7 +100,8 @@ long_input (Some x) (Some y) k n none taken is =
     let count = taken.count in
     omega arith
 
-pub short_input : (a b : Option (List ℕ)) (ahead : List ℕ) (k n : ℕ) → k ≡ 0 → CountsTaken a b k n → IsAtEnd (prepend_known ahead b) → n < 2 ^ 40 → IfSome a (λ bytes. length bytes < 2 ^ 40)
+pub short_input : (a b : Option (List ℕ)) (ahead : List ℕ) (k n : ℕ) → k ≡ 0 → CountsTaken a b k n → IsAtEnd (prepend_known ahead b) → n < 2 ^ 40
+    → IfSome a (λ bytes. length bytes < 2 ^ 40)
 short_input None b ahead k n none taken end short = tt
 short_input (Some x) None ahead k n none taken end short = absurd taken.consumed
 short_input (Some x) (Some y) ahead k n none taken end short =
@@ -112,13 +124,15 @@ pub end_of_source : (ahead : List ℕ) (left : Option (List ℕ)) → IsAtEnd (p
 end_of_source ahead None end = tt
 end_of_source ahead (Some bytes) end = let long : length bytes ≡ 0 = omega (arith, length-append ahead bytes, ap length end) in nil_from_length bytes long
 
-pub takes_first : (known left rest : Option (List ℕ)) (ahead : List ℕ) → known ≡ left → length ahead ≤ most_ahead → GivesOne known (prepend_known ahead rest) → TakesFirst left rest
+pub takes_first : (known left rest : Option (List ℕ)) (ahead : List ℕ) → known ≡ left → length ahead ≤ most_ahead → GivesOne known (prepend_known ahead rest)
+    → TakesFirst left rest
 takes_first known left rest ahead is near one =
     subst (λ l. TakesFirst l rest) is (record { lines = one.0; past = ahead; read = one.2; one = one.1; short = near })
 
 -- ---- the first line may be opened
 
-pub may_open : (tells : Bool) (tables : Tables) (known left rest : Option (List ℕ)) (line : List ℕ) (s : Settings) → known ≡ left → GivesLines known rest (line ∷ []) → config_in line ≡ Ok s
+pub may_open : (tells : Bool) (tables : Tables) (known left rest : Option (List ℕ)) (line : List ℕ) (s : Settings) → known ≡ left
+    → GivesLines known rest (line ∷ []) → config_in line ≡ Ok s
     → WhereTold tells (MayRun left tables) → WhereTold tells (MayOpen s line tables)
 may_open tells tables known left rest line s is read configured may =
     λ told. may told line (subst (λ l. LinesBegin l (line ∷ [])) is (GivesLines-begin known rest (line ∷ []) read)) s configured
@@ -134,6 +148,10 @@ only_keepers (Interrupted Memory) is = absurd (omega arith)
 only_keepers (Interrupted InputTooLong) is = absurd (omega arith)
 
 pub fails_opening : (tells : Bool) (old now : Outside) (left before after : Option (List ℕ)) (old_faults new_faults : Faults) (stop : Stop) → stop_code stop ≡ 6
-    → (stop ≡ Keepers → StopsOpening tells old now left before after) → StopHasCause old_faults new_faults old.keepers.faults now.keepers.faults stop → FailsOpening tells old now left before after
+    → (stop ≡ Keepers → StopsOpening tells old now left before after) → StopHasCause old_faults new_faults old.keepers.faults now.keepers.faults stop
+    → FailsOpening tells old now left before after
 fails_opening tells old now left before after old_faults new_faults stop is opening cause =
-    let same = only_keepers stop is in record { opening = opening same; rose = subst (StopHasCause old_faults new_faults old.keepers.faults now.keepers.faults) same cause }
+    let same = only_keepers stop is in record {
+      opening = opening same;
+      rose = subst (StopHasCause old_faults new_faults old.keepers.faults now.keepers.faults) same cause;
+    }

@@ -20,7 +20,7 @@ returns g c =
     let hops : c.saturating_sub-hops.result ≡ hops_between old.scene.link new.scene.link =
     omega (arith, c.saturating_sub-hops.ensures, c.carries.ensures, c.carries-carries.ensures) in
     commits_pass g.K.Keeper.TELLS s c.args.leader p c.take.new.self old new c.requires.write
-    (record { consistent = over.consistent; inboxes = over.inboxes; goes = over.goes; grows = over.grows; later = over.later })
+    over.on
     c.follower.result c.origin.result c.write.result.now wrote outcome c.saturating_sub-hops.result c.requires.stage
     (record { follower_is = c.follower.ensures; origin_is = c.origin.ensures; write_is = c.write.ensures })
     (record { committed = over.committed; apply = over.apply; job = over.job; refused = over.refused })

@@ -30,7 +30,7 @@ returns g c =
     let hops : c.saturating_sub-hops.result ≡ hops_between old.scene.link new.scene.link =
     omega (arith, c.saturating_sub-hops.ensures, c.carries.ensures, c.carries-carries.ensures) in
     merges_pass g.K.Keeper.TELLS c.args.config.now c.args.leader p c.take.new.self old new c.requires.write
-    (record { consistent = over.consistent; inboxes = over.inboxes; goes = over.goes; grows = over.grows; later = over.later })
+    over.on
     c.in-Some.job.now c.shard-shard.result result c.saturating_sub-hops.result (sym c.job.ensures ∙ ap option_copied c.in-Some.is)
     (c.shard-shard.ensures ∙ ap write_shard c.write.ensures) over.merges over.merged over.stands
     hops (c.take.ensures.next (sym c.requires.stage))

@@ -1,19 +1,14 @@
-use Rattle.std.proofs.Common.{subst, sym}
-use Rattle.core_mail.specs.Inboxes.{AreInboxesOf}
-use Rattle.core_model.specs.Consistent.{GoesOn}
-use Rattle.core_model.specs.Fleet.{Fleet}
-use Rattle.core_model.specs.Pens.{pens_of}
-use Rattle.core_nodes.proofs.FleetLemmas.{goes_self}
+use Rattle.std.proofs.Common.{refl}
+use Rattle.core_steps.specs.Posting.{posting}
+use Rattle.core_steps.specs.Routes.{scene}
+use Rattle.core_steps.proofs.PostsLemmas.{posts_same}
 use Rattle.core_plans.proofs.writes.write_stage.Goals as goal
 
 pub returns-in-End-clause-on : goal.returns-in-End-clause-on
 returns-in-End-clause-on g c =
+    let state = g.K.Keeper.state in
+    let link = g.L.Link.shown c.args.link.now in
+    let old = posting (scene c.args.fleet.now (state c.args.keepers.now) link) c.args.mail.now c.args.topology.now in
+    let new = posting (scene c.end_stage.new.fleet (state c.end_stage.new.keepers) link) c.args.mail.now c.args.topology.now in
     let end = c.end_stage.ensures in
-    let before = c.args.fleet.now in
-    record {
-      consistent = end.consistent;
-      inboxes = subst (λ (f : Fleet). AreInboxesOf c.args.config.now (pens_of f.masters) c.args.mail.now) (sym end.same) c.requires.inboxes;
-      goes = subst (GoesOn before) (sym end.same) (goes_self before);
-      grows = end.grows;
-      later = end.later;
-    }
+    posts_same g.K.Keeper.TELLS c.args.config.now old new c.requires.inboxes end.same refl end.consistent end.grows end.later

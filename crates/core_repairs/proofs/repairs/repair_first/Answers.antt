@@ -1,14 +1,13 @@
 use Rattle.std.proofs.Common.{◌≡◌, Ok, refl, sym, subst}
 use Rattle.std.proofs.lemmas.Result.{err_from_is_err_and}
 use Rattle.core_mail.proofs.InboxLemmas.{inboxes_stay}
-use Rattle.core_model.specs.Consistent.{GoesOn}
+use Rattle.core_model.specs.Consistent.{GoesOn, IsConsistent}
 use Rattle.core_model.specs.Fleet.{Fleet}
 use Rattle.core_model.specs.Pens.{pens_of}
-use Rattle.core_nodes.proofs.GrowingLemmas.{masters_in_turn, stays_masters}
 use Rattle.core_steps.specs.Posting.{posting}
 use Rattle.core_repairs.specs.Repairs.{FindsFirst, FindsOpenJob, IsNotRepaired}
 use Rattle.core_steps.specs.Routes.{scene}
-use Rattle.core_repairs.proofs.RepairLemmas.{not_run}
+use Rattle.core_repairs.proofs.RepairLemmas.{not_run, posts_repaired}
 use Rattle.core_repairs.proofs.repairs.repair_first.Goals as goal
 
 pub returns-in_err-wrote-clause-repairs : goal.returns-in_err-wrote-clause-repairs
@@ -30,11 +29,20 @@ returns-in_err-wrote-clause-repairs g c =
     c.find_job.ensures.later in
     rw p.1 (subst (λ f. IsNotRepaired tells s c.args.shard f old new) (sym p.2) fails)
 
-pub returns-in_err-wrote-clause-inboxes : goal.returns-in_err-wrote-clause-inboxes
-returns-in_err-wrote-clause-inboxes g c =
-    let goes = subst (λ f. GoesOn f c.merge_and_end.new.fleet) c.find_job.ensures.same c.merge_and_end.ensures.goes in
-    (inboxes_stay c.args.config.now (pens_of c.args.fleet.now.masters) c.args.mail.now).rises (pens_of c.merge_and_end.new.fleet.masters) goes.rise
-    c.requires.inboxes
+pub returns-in_err-wrote-clause-on : goal.returns-in_err-wrote-clause-on
+returns-in_err-wrote-clause-on g c =
+    let tells = g.K.Keeper.TELLS in
+    let state = g.K.Keeper.state in
+    let shown = g.L.Link.shown in
+    let s = c.args.config.now in
+    let found = state c.find_job.new.keepers in
+    let old = posting (scene c.args.fleet.now (state c.args.keepers.now) (shown c.args.link.now)) c.args.mail.now c.args.topology.now in
+    let fleet = c.merge_and_end.new.fleet in
+    let new = posting (scene fleet (state c.merge_and_end.new.keepers) (shown c.merge_and_end.new.link)) c.args.mail.now c.args.topology.now in
+    let goes = subst (λ f. GoesOn f fleet) c.find_job.ensures.same c.merge_and_end.ensures.goes in
+    let inboxes = (inboxes_stay s (pens_of c.args.fleet.now.masters) c.args.mail.now).rises (pens_of fleet.masters) goes.rise c.requires.inboxes in
+    posts_repaired tells s old new found c.find_job.ensures.tables c.find_job.ensures.later c.merge_and_end.ensures.consistent inboxes goes
+    c.merge_and_end.ensures.grows c.merge_and_end.ensures.later
 
 pub tell_of_repair-requires-clause-inboxes : goal.tell_of_repair-requires-clause-inboxes
 tell_of_repair-requires-clause-inboxes g c =
@@ -42,14 +50,19 @@ tell_of_repair-requires-clause-inboxes g c =
     (inboxes_stay c.args.config.now (pens_of c.args.fleet.now.masters) c.args.mail.now).rises (pens_of c.merge_and_end.new.fleet.masters) goes.rise
     c.requires.inboxes
 
-pub returns-clause-grows : goal.returns-clause-grows
-returns-clause-grows g c =
+pub returns-clause-on : goal.returns-clause-on
+returns-clause-on g c =
     let tells = g.K.Keeper.TELLS in
     let state = g.K.Keeper.state in
+    let shown = g.L.Link.shown in
     let s = c.args.config.now in
-    let old = state c.args.keepers.now in
     let found = state c.find_job.new.keepers in
-    let finds : FindsOpenJob tells s c.args.shard c.in-Some.job old found =
-    subst (λ f. FindsFirst tells s c.args.shard (Ok f) old found) c.in-Some.is c.in_ok-found.ensures.finds in
-    masters_in_turn tells s old.told found.told (state c.merge_and_end.new.keepers).told (stays_masters tells s old found finds.tables)
-    c.merge_and_end.ensures.grows
+    let old = posting (scene c.args.fleet.now (state c.args.keepers.now) (shown c.args.link.now)) c.args.mail.now c.args.topology.now in
+    let merged = state c.merge_and_end.new.keepers in
+    let fleet = c.tell_of_repair.new.fleet in
+    let new = posting (scene fleet merged (shown c.merge_and_end.new.link)) c.tell_of_repair.new.mail c.args.topology.now in
+    let same = sym c.tell_of_repair.ensures.same in
+    let goes = subst (λ f. GoesOn f c.merge_and_end.new.fleet) c.find_job.ensures.same c.merge_and_end.ensures.goes in
+    posts_repaired tells s old new found c.find_job.ensures.tables c.find_job.ensures.later
+    (subst (IsConsistent tells s merged.told) same c.merge_and_end.ensures.consistent) c.tell_of_repair.ensures.inboxes
+    (subst (GoesOn c.args.fleet.now) same goes) c.merge_and_end.ensures.grows c.merge_and_end.ensures.later

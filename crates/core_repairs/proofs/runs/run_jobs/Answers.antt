@@ -1,12 +1,10 @@
 use Rattle.std.proofs.Common.{◌≡◌, refl, sym, ap, subst, arith}
 use Rattle.std.proofs.lemmas.Result.{err_from_is_err_and}
 use Rattle.topology.specs.Config.{Settings}
-use Rattle.core_nodes.proofs.FleetLemmas.{goes_self}
-use Rattle.core_nodes.proofs.GrowingLemmas.{masters_in_turn, stays_masters}
 use Rattle.core_steps.specs.Posting.{posting}
 use Rattle.core_repairs.specs.Repairs.{RunsTo, StopsRun}
 use Rattle.core_steps.specs.Routes.{scene}
-use Rattle.core_steps.proofs.ReadLemmas.{goes_trans}
+use Rattle.core_steps.proofs.PostsLemmas.{posts_none, posts_trans}
 use Rattle.core_repairs.proofs.RunLemmas.{link_stays, link_trans, rest_trans, runs_all, runs_none}
 use Rattle.core_repairs.proofs.runs.run_jobs.Goals as goal
 
@@ -18,12 +16,8 @@ loop-shard-init g c =
     record {
       runs = runs_none g.K.Keeper.TELLS c.args.config.now start;
       rest = refl;
-      consistent = c.requires.consistent;
-      inboxes = c.requires.inboxes;
-      goes = goes_self c.args.fleet.now;
-      grows = stays_masters g.K.Keeper.TELLS c.args.config.now (state c.args.keepers.now) (state c.args.keepers.now) (λ told at. refl);
+      on = posts_none g.K.Keeper.TELLS c.args.config.now start c.requires.consistent c.requires.inboxes;
       link = link_stays (shown c.args.link.now) (shown c.args.link.now) refl;
-      later = record { calls = omega arith; faults = omega arith };
     }
 
 pub loop-shard-preserved : goal.loop-shard-preserved
@@ -34,17 +28,13 @@ loop-shard-preserved g c =
     let was = c.loop-shard.invariant in
     let done = c.in_ok-run_shard.ensures in
     let start = posting (scene c.args.fleet.now (state c.args.keepers.now) (shown c.args.link.now)) c.args.mail.now c.args.topology.now in
+    let now = posting (scene c.loop-shard.fleet (state c.loop-shard.keepers) (shown c.loop-shard.link)) c.loop-shard.mail c.args.topology.now in
+    let new = posting (scene c.run_shard.new.fleet (state c.run_shard.new.keepers) (shown c.run_shard.new.link)) c.run_shard.new.mail c.args.topology.now in
     record {
       runs = done.runs.on start was.runs;
       rest = rest_trans c.args.fleet.now c.loop-shard.fleet c.run_shard.new.fleet was.rest done.rest;
-      consistent = done.consistent;
-      inboxes = done.inboxes;
-      goes = goes_trans c.args.fleet.now c.loop-shard.fleet c.run_shard.new.fleet was.goes done.goes;
-      grows =
-          masters_in_turn tells c.args.config.now (state c.args.keepers.now).told (state c.loop-shard.keepers).told (state c.run_shard.new.keepers).told
-          was.grows done.grows;
+      on = posts_trans tells c.args.config.now start now new was.on done.on;
       link = link_trans (shown c.args.link.now) (shown c.loop-shard.link) (shown c.run_shard.new.link) was.link done.link;
-      later = record { calls = omega arith; faults = omega arith };
     }
 
 pub returns-in_err-run_shard-clause-runs : goal.returns-in_err-run_shard-clause-runs
@@ -61,15 +51,14 @@ pub returns-in_err-run_shard-clause-rest : goal.returns-in_err-run_shard-clause-
 returns-in_err-run_shard-clause-rest g c =
     rest_trans c.args.fleet.now c.loop-shard.fleet c.run_shard.new.fleet c.loop-shard.invariant.rest c.run_shard.ensures.rest
 
-pub returns-in_err-run_shard-clause-goes : goal.returns-in_err-run_shard-clause-goes
-returns-in_err-run_shard-clause-goes g c =
-    goes_trans c.args.fleet.now c.loop-shard.fleet c.run_shard.new.fleet c.loop-shard.invariant.goes c.run_shard.ensures.goes
-
-pub returns-in_err-run_shard-clause-grows : goal.returns-in_err-run_shard-clause-grows
-returns-in_err-run_shard-clause-grows g c =
+pub returns-in_err-run_shard-clause-on : goal.returns-in_err-run_shard-clause-on
+returns-in_err-run_shard-clause-on g c =
     let state = g.K.Keeper.state in
-    masters_in_turn g.K.Keeper.TELLS c.args.config.now (state c.args.keepers.now).told (state c.loop-shard.keepers).told
-    (state c.run_shard.new.keepers).told c.loop-shard.invariant.grows c.run_shard.ensures.grows
+    let shown = g.L.Link.shown in
+    let start = posting (scene c.args.fleet.now (state c.args.keepers.now) (shown c.args.link.now)) c.args.mail.now c.args.topology.now in
+    let now = posting (scene c.loop-shard.fleet (state c.loop-shard.keepers) (shown c.loop-shard.link)) c.loop-shard.mail c.args.topology.now in
+    let new = posting (scene c.run_shard.new.fleet (state c.run_shard.new.keepers) (shown c.run_shard.new.link)) c.run_shard.new.mail c.args.topology.now in
+    posts_trans g.K.Keeper.TELLS c.args.config.now start now new c.loop-shard.invariant.on c.run_shard.ensures.on
 
 pub returns-in_err-run_shard-clause-link : goal.returns-in_err-run_shard-clause-link
 returns-in_err-run_shard-clause-link g c =
@@ -87,4 +76,4 @@ returns-clause-runs g c =
     let now = posting (scene c.loop-shard.fleet (state c.loop-shard.keepers) (shown c.loop-shard.link)) c.loop-shard.mail c.args.topology.now in
     let shards : c.config.inside.shards ≡ s.shards = ap (λ (x : Settings). x.shards) c.config.view_is in
     let all : c.loop-shard.shard ≡ s.shards = omega (arith, shards, c.loop-shard-test.false) in
-    runs_all tells s start now was.consistent.stores.kept (subst (λ n. RunsTo tells s n start now) all was.runs)
+    runs_all tells s start now was.on.consistent.stores.kept (subst (λ n. RunsTo tells s n start now) all was.runs)

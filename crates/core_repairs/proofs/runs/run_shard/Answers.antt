@@ -1,12 +1,10 @@
-use Rattle.std.proofs.Common.{Ok, refl, ap, subst, arith}
+use Rattle.std.proofs.Common.{Ok, refl, ap, subst}
 use Rattle.tao_base.specs.EdgeTypes.{InversesMatch}
 use Rattle.tao_schema.specs.Schema.{types_of}
-use Rattle.core_nodes.proofs.FleetLemmas.{goes_self}
-use Rattle.core_nodes.proofs.GrowingLemmas.{masters_in_turn, stays_masters}
 use Rattle.core_steps.specs.Posting.{posting}
 use Rattle.core_repairs.specs.Repairs.{FindsNoJob, IsRepaired, RepairsFirst}
 use Rattle.core_steps.specs.Routes.{scene}
-use Rattle.core_steps.proofs.ReadLemmas.{goes_trans}
+use Rattle.core_steps.proofs.PostsLemmas.{posts_none, posts_trans}
 use Rattle.core_repairs.proofs.RunLemmas.{first_leaves, given_again, link_stays, link_trans, no_more, none_at_zero, none_left, not_again}
 use Rattle.core_repairs.proofs.RunLemmas.{rest_trans, runs_one, stops_run}
 use Rattle.core_repairs.proofs.runs.run_shard.Goals as goal
@@ -15,17 +13,14 @@ pub loop-found-init : goal.loop-found-init
 loop-found-init g c =
     let state = g.K.Keeper.state in
     let shown = g.L.Link.shown in
+    let start = posting (scene c.args.fleet.now (state c.args.keepers.now) (shown c.args.link.now)) c.args.mail.now c.args.topology.now in
     record {
       runs = record { more = λ begin so. so };
       none =
           none_at_zero g.K.Keeper.TELLS c.args.config.now (state c.args.keepers.now).told c.args.shard c.requires.consistent.stores.kept;
       rest = refl;
-      consistent = c.requires.consistent;
-      inboxes = c.requires.inboxes;
-      goes = goes_self c.args.fleet.now;
-      grows = stays_masters g.K.Keeper.TELLS c.args.config.now (state c.args.keepers.now) (state c.args.keepers.now) (λ told at. refl);
+      on = posts_none g.K.Keeper.TELLS c.args.config.now start c.requires.consistent c.requires.inboxes;
       link = link_stays (shown c.args.link.now) (shown c.args.link.now) refl;
-      later = record { calls = omega arith; faults = omega arith };
     }
 
 pub loop-found-preserved : goal.loop-found-preserved
@@ -36,6 +31,7 @@ loop-found-preserved g c =
     let s = c.args.config.now in
     let shard = c.args.shard in
     let was = c.loop-found.invariant in
+    let start = posting (scene c.args.fleet.now (state c.args.keepers.now) (shown c.args.link.now)) c.args.mail.now c.args.topology.now in
     let now = posting (scene c.loop-found.fleet (state c.loop-found.keepers) (shown c.loop-found.link)) c.loop-found.mail c.args.topology.now in
     let new = posting (scene c.repair_first.new.fleet (state c.repair_first.new.keepers) (shown c.repair_first.new.link)) c.repair_first.new.mail
     c.args.topology.now in
@@ -47,18 +43,12 @@ loop-found-preserved g c =
     record {
       runs = record {
         more = λ begin so.
-            runs_one tells s shard now new ran match was.consistent.stores.kept is c.repair_first.ensures.later begin (was.runs.more begin so);
+            runs_one tells s shard now new ran match was.on.consistent.stores.kept is c.repair_first.ensures.on.later begin (was.runs.more begin so);
       };
-      none = none_left tells s shard now new ran match was.consistent.stores.kept is;
+      none = none_left tells s shard now new ran match was.on.consistent.stores.kept is;
       rest = rest_trans c.args.fleet.now c.loop-found.fleet c.repair_first.new.fleet was.rest leaves.fleet;
-      consistent = c.repair_first.ensures.consistent;
-      inboxes = c.repair_first.ensures.inboxes;
-      goes = goes_trans c.args.fleet.now c.loop-found.fleet c.repair_first.new.fleet was.goes c.repair_first.ensures.goes;
-      grows =
-          masters_in_turn tells s (state c.args.keepers.now).told (state c.loop-found.keepers).told (state c.repair_first.new.keepers).told was.grows
-          c.repair_first.ensures.grows;
+      on = posts_trans tells s start now new was.on c.repair_first.ensures.on;
       link = link_trans (shown c.args.link.now) (shown c.loop-found.link) (shown c.repair_first.new.link) was.link leaves.link;
-      later = record { calls = omega arith; faults = omega arith };
     }
 
 pub returns-in-Err-clause-runs : goal.returns-in-Err-clause-runs
@@ -74,11 +64,15 @@ returns-in-Err-clause-runs g c =
           c.in-Err.ensures.repairs begin (c.loop-found.invariant.runs.more begin so);
     }
 
-pub returns-in-Err-clause-grows : goal.returns-in-Err-clause-grows
-returns-in-Err-clause-grows g c =
+pub returns-in-Err-clause-on : goal.returns-in-Err-clause-on
+returns-in-Err-clause-on g c =
     let state = g.K.Keeper.state in
-    masters_in_turn g.K.Keeper.TELLS c.args.config.now (state c.args.keepers.now).told (state c.loop-found.keepers).told
-    (state c.repair_first.new.keepers).told c.loop-found.invariant.grows c.repair_first.ensures.grows
+    let shown = g.L.Link.shown in
+    let start = posting (scene c.args.fleet.now (state c.args.keepers.now) (shown c.args.link.now)) c.args.mail.now c.args.topology.now in
+    let now = posting (scene c.loop-found.fleet (state c.loop-found.keepers) (shown c.loop-found.link)) c.loop-found.mail c.args.topology.now in
+    let new = posting (scene c.repair_first.new.fleet (state c.repair_first.new.keepers) (shown c.repair_first.new.link)) c.repair_first.new.mail
+    c.args.topology.now in
+    posts_trans g.K.Keeper.TELLS c.args.config.now start now new c.loop-found.invariant.on c.repair_first.ensures.on
 
 pub returns-in_default-clause-runs : goal.returns-in_default-clause-runs
 returns-in_default-clause-runs g c =
@@ -93,7 +87,7 @@ returns-in_default-clause-runs g c =
     subst (λ f. RepairsFirst tells s c.args.shard (Ok f) now new) c.in_default.is c.in-Ok.ensures.repairs in
     record {
       on = λ begin so.
-          no_more tells s c.args.shard now new c.requires.here finds c.repair_first.ensures.later begin (c.loop-found.invariant.runs.more begin so);
+          no_more tells s c.args.shard now new c.requires.here finds c.repair_first.ensures.on.later begin (c.loop-found.invariant.runs.more begin so);
     }
 
 pub returns-then-position-last-clause-runs : goal.returns-then-position-last-clause-runs
@@ -111,16 +105,30 @@ returns-then-position-last-clause-runs g c =
     let is : IsRepaired tells s shard ran now new =
     subst (λ f. RepairsFirst tells s shard (Ok f) now new) c.in-Some.is c.in-Ok.ensures.repairs in
     let match = subst (λ k. InversesMatch (types_of k)) (ap (λ s. s.schema) c.config.view_is) c.inverses_match.ensures in
-    let kept = was.consistent.stores.kept in
+    let kept = was.on.consistent.stores.kept in
     let untold = not_again tells s shard now new ran match kept is c.loop-found.last was.none c.if-position-last.true in
     record {
       on = λ begin so.
           given_again tells s shard begin new untold
-          (runs_one tells s shard now new ran match kept is c.repair_first.ensures.later begin (was.runs.more begin so));
+          (runs_one tells s shard now new ran match kept is c.repair_first.ensures.on.later begin (was.runs.more begin so));
     }
 
-pub returns-then-position-last-clause-grows : goal.returns-then-position-last-clause-grows
-returns-then-position-last-clause-grows g c =
+pub returns-in_default-clause-on : goal.returns-in_default-clause-on
+returns-in_default-clause-on g c =
     let state = g.K.Keeper.state in
-    masters_in_turn g.K.Keeper.TELLS c.args.config.now (state c.args.keepers.now).told (state c.loop-found.keepers).told
-    (state c.repair_first.new.keepers).told c.loop-found.invariant.grows c.repair_first.ensures.grows
+    let shown = g.L.Link.shown in
+    let start = posting (scene c.args.fleet.now (state c.args.keepers.now) (shown c.args.link.now)) c.args.mail.now c.args.topology.now in
+    let now = posting (scene c.loop-found.fleet (state c.loop-found.keepers) (shown c.loop-found.link)) c.loop-found.mail c.args.topology.now in
+    let new = posting (scene c.repair_first.new.fleet (state c.repair_first.new.keepers) (shown c.repair_first.new.link)) c.repair_first.new.mail
+    c.args.topology.now in
+    posts_trans g.K.Keeper.TELLS c.args.config.now start now new c.loop-found.invariant.on c.repair_first.ensures.on
+
+pub returns-then-position-last-clause-on : goal.returns-then-position-last-clause-on
+returns-then-position-last-clause-on g c =
+    let state = g.K.Keeper.state in
+    let shown = g.L.Link.shown in
+    let start = posting (scene c.args.fleet.now (state c.args.keepers.now) (shown c.args.link.now)) c.args.mail.now c.args.topology.now in
+    let now = posting (scene c.loop-found.fleet (state c.loop-found.keepers) (shown c.loop-found.link)) c.loop-found.mail c.args.topology.now in
+    let new = posting (scene c.repair_first.new.fleet (state c.repair_first.new.keepers) (shown c.repair_first.new.link)) c.repair_first.new.mail
+    c.args.topology.now in
+    posts_trans g.K.Keeper.TELLS c.args.config.now start now new c.loop-found.invariant.on c.repair_first.ensures.on

@@ -10,7 +10,8 @@ pub returns-in-Hit-clause-reads : goal.returns-in-Hit-clause-reads
 returns-in-Hit-clause-reads g c =
     let state = g.K.Keeper.state c.args.keepers.now in
     let shown = g.L.Link.shown c.args.link.now in
-    subst (λ r. ReadsAlong g.K.Keeper.TELLS c.args.config.now (sent_read c.args.route (wanted c.args.query.now c.args.floor)) r (scene c.args.fleet.now state shown)
+    subst (λ r. ReadsAlong g.K.Keeper.TELLS c.args.config.now (sent_read c.args.route (wanted c.args.query.now c.args.floor)) r
+    (scene c.args.fleet.now state shown)
     (scene c.look.new.self state shown)) (sym c.read_reply.ensures)
     (hit_reads g.K.Keeper.TELLS c.args.config.now c.args.route (wanted c.args.query.now c.args.floor)
     c.in-Ok.field-0.look c.in-Hit.answer c.in-Hit.version c.in-Ok.field-0.ask _

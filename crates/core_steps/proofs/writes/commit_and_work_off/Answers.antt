@@ -9,8 +9,7 @@ use Rattle.core_steps.specs.OtherEnds.{WorksOffOf, write_other_end}
 use Rattle.core_steps.specs.Posting.{posting}
 use Rattle.core_steps.specs.Routes.{scene}
 use Rattle.core_steps.specs.Writes.{CanBeApplied, IsCommitted, client_call, sent_write}
-use Rattle.core_nodes.proofs.GrowingLemmas.{masters_in_turn}
-use Rattle.core_steps.proofs.ReadLemmas.{goes_trans}
+use Rattle.core_steps.proofs.PostsLemmas.{posts_trans}
 use Rattle.core_steps.proofs.WriteLemmas.{applied_later}
 use Rattle.core_steps.proofs.writes.commit_and_work_off.Goals as goal
 
@@ -48,7 +47,8 @@ returns-clause-works g c =
           paired = c.of-committed.ensures.paired ∙ ap (λ (n : Settings). has_inverse (types_of n.schema) c.args.write.now) c.config.view_is;
         };
         commits = subst (λ w. IsCommitted tells s (sent_write c.args.route call) w old mid) (sym c.of-committed.ensures.wrote) c.in_ok-wrote.ensures.committed;
-        works_off = subst (λ n. WorksOffOf tells s (write_other_end n committed other) committed.wrote.job mid new) c.shard-shard.ensures c.work_off-other.ensures.works;
+        works_off = subst (λ n. WorksOffOf tells s (write_other_end n committed other) committed.wrote.job mid new) c.shard-shard.ensures
+            c.work_off-other.ensures.works;
       };
       committed_is = refl;
       other_is = refl;
@@ -58,15 +58,16 @@ returns-clause-works g c =
 pub returns-clause-apply : goal.returns-clause-apply
 returns-clause-apply g c =
     let call = client_call c.args.origin c.args.write.now in
-    applied_later call c.of-committed.result.wrote c.commit_over.new.fleet.masters c.work_off-other.new.fleet.masters c.work_off-other.ensures.goes.rise
+    applied_later call c.of-committed.result.wrote c.commit_over.new.fleet.masters c.work_off-other.new.fleet.masters c.work_off-other.ensures.on.goes.rise
     (subst (λ w. CanBeApplied call w c.commit_over.new.fleet.masters) (sym c.of-committed.ensures.wrote) c.in_ok-wrote.ensures.apply)
 
-pub returns-clause-goes : goal.returns-clause-goes
-returns-clause-goes g c =
-    goes_trans c.args.fleet.now c.commit_over.new.fleet c.work_off-other.new.fleet c.commit_over.ensures.goes c.work_off-other.ensures.goes
-
-pub returns-clause-grows : goal.returns-clause-grows
-returns-clause-grows g c =
+pub returns-clause-on : goal.returns-clause-on
+returns-clause-on g c =
     let state = g.K.Keeper.state in
-    masters_in_turn g.K.Keeper.TELLS c.args.config.now (state c.args.keepers.now).told (state c.commit_over.new.keepers).told
-    (state c.work_off-other.new.keepers).told c.commit_over.ensures.grows c.work_off-other.ensures.grows
+    let shown = g.L.Link.shown in
+    let old = posting (scene c.args.fleet.now (state c.args.keepers.now) (shown c.args.link.now)) c.args.mail.now c.args.topology.now in
+    let mid = posting (scene c.commit_over.new.fleet (state c.commit_over.new.keepers) (shown c.commit_over.new.link)) c.commit_over.new.mail
+    c.args.topology.now in
+    let new = posting (scene c.work_off-other.new.fleet (state c.work_off-other.new.keepers) (shown c.work_off-other.new.link)) c.work_off-other.new.mail
+    c.args.topology.now in
+    posts_trans g.K.Keeper.TELLS c.args.config.now old mid new c.commit_over.ensures.on c.work_off-other.ensures.on

@@ -78,17 +78,19 @@ returns-in-Ok-clause-job g c =
     subst (λ w. IfSome w.job (λ job. CanBeMerged g.K.Keeper.TELLS s tables (job_on shard job))) (sym c.tell_of_new.ensures.same)
     (can_merge g.K.Keeper.TELLS s tables shard c.in-Ok.wrote.job c.in-Ok.ensures.given c.in-Ok.ensures.owes)
 
-pub returns-in-Ok-clause-inboxes : goal.returns-in-Ok-clause-inboxes
-returns-in-Ok-clause-inboxes g c =
+pub returns-in-Ok-clause-on : goal.returns-in-Ok-clause-on
+returns-in-Ok-clause-on g c =
     let pens = pens_of c.commit.new.self.masters in
-    c.tell_of_new.ensures.of pens (subst (λ n. IsSeen pens n c.in-Ok.wrote.note) (sym c.shard.ensures) c.in-Ok.ensures.seen)
-    ((inboxes_stay c.args.config.now (pens_of c.args.fleet.now.masters) c.args.mail.now).rises pens c.commit.ensures.goes.rise c.requires.inboxes)
-
-pub returns-in-Ok-clause-grows : goal.returns-in-Ok-clause-grows
-returns-in-Ok-clause-grows g c =
     let added = added_entry c.commit.result in
-    gains_masters g.K.Keeper.TELLS c.args.config.now (g.K.Keeper.state c.args.keepers.now) (g.K.Keeper.state c.commit.new.keepers)
-    (write_shard c.args.write.now) added (job_with (types_of c.args.config.now.schema) added) c.requires.leader.here c.commit.ensures.tables
+    record {
+      consistent = c.commit.ensures.consistent;
+      inboxes = c.tell_of_new.ensures.of pens (subst (λ n. IsSeen pens n c.in-Ok.wrote.note) (sym c.shard.ensures) c.in-Ok.ensures.seen)
+          ((inboxes_stay c.args.config.now (pens_of c.args.fleet.now.masters) c.args.mail.now).rises pens c.commit.ensures.goes.rise c.requires.inboxes);
+      goes = c.commit.ensures.goes;
+      grows = gains_masters g.K.Keeper.TELLS c.args.config.now (g.K.Keeper.state c.args.keepers.now) (g.K.Keeper.state c.commit.new.keepers)
+          (write_shard c.args.write.now) added (job_with (types_of c.args.config.now.schema) added) c.requires.leader.here c.commit.ensures.tables;
+      later = record { calls = c.commit.ensures.calls.calls; faults = c.commit.ensures.calls.faults };
+    }
 
 pub returns-in-Err-commit-clause-refused : goal.returns-in-Err-commit-clause-refused
 returns-in-Err-commit-clause-refused g c =
@@ -103,13 +105,16 @@ returns-in-Err-commit-clause-refused g c =
     (refused g.K.Keeper.TELLS c.args.config.now c.args.route call old new c.in-Err-commit.ensures.tables c.in-Err-commit.ensures.err refl
     c.in-Err-commit.refusal c.in-Err-commit.ensures.answer (λ is. c.in-Err-commit.ensures.calls.failed (ap (λ r. Err r) is)))
 
-pub returns-in-Err-commit-clause-inboxes : goal.returns-in-Err-commit-clause-inboxes
-returns-in-Err-commit-clause-inboxes g c =
+pub returns-in-Err-commit-clause-on : goal.returns-in-Err-commit-clause-on
+returns-in-Err-commit-clause-on g c =
     let pens = pens_of c.args.fleet.now.masters in
-    (inboxes_stay c.args.config.now pens c.args.mail.now).rises (pens_of c.commit.new.self.masters) c.commit.ensures.goes.rise c.requires.inboxes
-
-pub returns-in-Err-commit-clause-grows : goal.returns-in-Err-commit-clause-grows
-returns-in-Err-commit-clause-grows g c =
     let added = added_entry c.commit.result in
-    gains_masters g.K.Keeper.TELLS c.args.config.now (g.K.Keeper.state c.args.keepers.now) (g.K.Keeper.state c.commit.new.keepers)
-    (write_shard c.args.write.now) added (job_with (types_of c.args.config.now.schema) added) c.requires.leader.here c.commit.ensures.tables
+    record {
+      consistent = c.commit.ensures.consistent;
+      inboxes =
+          (inboxes_stay c.args.config.now pens c.args.mail.now).rises (pens_of c.commit.new.self.masters) c.commit.ensures.goes.rise c.requires.inboxes;
+      goes = c.commit.ensures.goes;
+      grows = gains_masters g.K.Keeper.TELLS c.args.config.now (g.K.Keeper.state c.args.keepers.now) (g.K.Keeper.state c.commit.new.keepers)
+          (write_shard c.args.write.now) added (job_with (types_of c.args.config.now.schema) added) c.requires.leader.here c.commit.ensures.tables;
+      later = record { calls = c.commit.ensures.calls.calls; faults = c.commit.ensures.calls.faults };
+    }

@@ -3,15 +3,14 @@ use Rattle.std.specs.Prelude.{IfOk, OnOk}
 use Rattle.shard_tables.specs.Written.{LiesOn, StandsIn}
 use Rattle.tao_base.specs.Writes.{write_shard}
 use Rattle.tao_schema.specs.Schema.{types_of}
-use Rattle.core_mail.specs.Inboxes.{AreInboxesOf}
 use Rattle.core_model.specs.Pens.{pens_of}
 use Rattle.core_model.specs.Serving.{IsFollowerFor}
 use Rattle.core_model.specs.Writes.{IsSeenEntry}
 use Rattle.core_steps.specs.CarriedOut.{AnswersBack}
-use Rattle.core_steps.specs.Posting.{posting}
+use Rattle.core_steps.specs.Posting.{AppliesAlone, posting}
 use Rattle.core_steps.specs.Routes.{scene}
 use Rattle.core_steps.specs.Writes.{FollowerTakes, client_call}
-use Rattle.core_steps.proofs.ReadLemmas.{goes_trans}
+use Rattle.core_steps.proofs.PostsLemmas.{posts_applied, posts_trans}
 use Rattle.core_steps.proofs.WriteLemmas.{comes_back, entry_out, masters_stay, stands_in_log}
 use Rattle.core_steps.proofs.writes.write_along.Goals as goal
 
@@ -58,11 +57,17 @@ returns-clause-stands g c =
     (subst (λ masters. IfSome wrote.entry (StandsIn (pens_of masters shard)))
     (sym (masters_stay c.commit_and_work_off.new.fleet c.come_back.new.fleet c.come_back.ensures.rest)) stands)
 
-pub returns-clause-inboxes : goal.returns-clause-inboxes
-returns-clause-inboxes g c =
-    subst (λ masters. AreInboxesOf c.args.config.now (pens_of masters) c.commit_and_work_off.new.mail)
-    (sym (masters_stay c.commit_and_work_off.new.fleet c.come_back.new.fleet c.come_back.ensures.rest)) c.commit_and_work_off.ensures.inboxes
-
-pub returns-clause-goes : goal.returns-clause-goes
-returns-clause-goes g c =
-    goes_trans c.args.fleet.now c.commit_and_work_off.new.fleet c.come_back.new.fleet c.commit_and_work_off.ensures.goes c.come_back.ensures.goes
+pub returns-clause-on : goal.returns-clause-on
+returns-clause-on g c =
+    let tells = g.K.Keeper.TELLS in
+    let state = g.K.Keeper.state in
+    let shown = g.L.Link.shown in
+    let s = c.args.config.now in
+    let old = posting (scene c.args.fleet.now (state c.args.keepers.now) (shown c.args.link.now)) c.args.mail.now c.args.topology.now in
+    let off = c.commit_and_work_off.new in
+    let mid = posting (scene off.fleet (state off.keepers) (shown off.link)) off.mail c.args.topology.now in
+    let back = c.come_back.ensures in
+    let new = posting (scene c.come_back.new.fleet (state off.keepers) (shown c.come_back.new.link)) off.mail c.args.topology.now in
+    let on = c.commit_and_work_off.ensures.on in
+    let alone : AppliesAlone mid new = record { fleet = back.rest; keepers = refl; inboxes = refl } in
+    posts_trans tells s old mid new on (posts_applied tells s mid new on.consistent on.inboxes alone back.fleet back.goes)

@@ -1,10 +1,7 @@
-use Rattle.std.proofs.Common.{refl}
-use Rattle.core_nodes.proofs.FleetLemmas.{goes_self}
 use Rattle.core_plans.specs.Held.{plan_at}
-use Rattle.core_nodes.proofs.GrowingLemmas.{stays_masters}
 use Rattle.core_steps.specs.Routes.{scene}
 use Rattle.core_steps.specs.Posting.{posting}
-use Rattle.tao_core.proofs.HeldOn.{same_later}
+use Rattle.core_steps.proofs.PostsLemmas.{posts_none}
 use Rattle.tao_core.proofs.HeldStages.{can_under, fresh_link, room_given, room_stepped}
 use Rattle.tao_core.proofs.holding.step_or_give_up.Goals as goal
 
@@ -27,15 +24,11 @@ returns-in-Err g c =
     let ends = c.give_up.ensures in
     let can = can_under g.K.Keeper.TELLS s keepers.told fleet leader (plan_at c.args.plans.now c.args.number) c.requires.can in
     let sight = scene fleet keepers fresh_link in
+    let now = posting (scene fleet keepers (g.L.Link.shown c.args.link.now)) c.args.mail.now c.args.topology.now in
     record {
-      steps = ends.steps g.K.Keeper.TELLS s leader
-          (posting (scene fleet keepers (g.L.Link.shown c.args.link.now)) c.args.mail.now c.args.topology.now);
+      steps = ends.steps g.K.Keeper.TELLS s leader now;
       under_way = ends.under_way g.K.Keeper.TELLS s keepers.told fleet can;
-      consistent = c.requires.consistent;
-      inboxes = c.requires.inboxes;
-      goes = goes_self fleet;
-      grows = stays_masters g.K.Keeper.TELLS s keepers keepers (λ told at. refl);
-      later = same_later keepers;
+      on = posts_none g.K.Keeper.TELLS s now c.requires.consistent c.requires.inboxes;
       same = c.room_for_last.ensures.same;
       room = room_given g.K.Keeper.TELLS s leader c.args.number c.args.plans.now c.give_up.new.self c.room_for_last.new.sessions sight c.args.mail.now
           c.args.topology.now (ends.steps g.K.Keeper.TELLS s leader (posting sight c.args.mail.now c.args.topology.now)) c.in-Err.ensures.learner;

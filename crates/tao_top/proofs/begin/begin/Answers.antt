@@ -11,31 +11,48 @@ use Rattle.tao_top.proofs.begin.begin.Goals as goal
 pub returns-in_err-say-in-Ok-clause-err : goal.returns-in_err-say-in-Ok-clause-err
 returns-in_err-say-in-Ok-clause-err g c =
     let keepers = g.K.Keeper.state in
-    let opened = subst (λ l. WhereTold g.K.Keeper.TELLS (IsOpened c.args.first.now.config l (g.K.Keeper.state c.args.keepers.now).told (g.K.Keeper.state c.open.new.keepers).told)) c.deref.ensures.value c.in-Ok.ensures.opened in
-    IfErr-any _ _ (λ stop. begun_whatever g.K.Keeper.TELLS (keepers c.args.keepers.now) (keepers c.open.new.keepers) c.args.first.now.line.items c.args.first.now.config c.requires.configured c.in-Ok.ensures.later _ _
+    let opened = subst (λ l. WhereTold g.K.Keeper.TELLS
+    (IsOpened c.args.first.now.config l (g.K.Keeper.state c.args.keepers.now).told (g.K.Keeper.state c.open.new.keepers).told)) c.deref.ensures.value
+    c.in-Ok.ensures.opened in
+    IfErr-any _ _ (λ stop. begun_whatever g.K.Keeper.TELLS (keepers c.args.keepers.now)
+    (keepers c.open.new.keepers) c.args.first.now.line.items c.args.first.now.config c.requires.configured c.in-Ok.ensures.later _ _
     c.in-Ok.serving c.in-Ok.ensures.settings c.in-Ok.ensures.begun c.in-Ok.ensures.serving.of_core opened c.in_err-say-in-Ok.ensures.err (stop_code stop))
 
 pub returns-in_ok-say-in-Ok-clause-ok : goal.returns-in_ok-say-in-Ok-clause-ok
 returns-in_ok-say-in-Ok-clause-ok g c =
     let keepers = g.K.Keeper.state in
-    let opened = subst (λ l. WhereTold g.K.Keeper.TELLS (IsOpened c.args.first.now.config l (g.K.Keeper.state c.args.keepers.now).told (g.K.Keeper.state c.open.new.keepers).told)) c.deref.ensures.value c.in-Ok.ensures.opened in
-    λ link. begins g.K.Keeper.TELLS (outside (keepers c.args.keepers.now) link) (outside (keepers c.open.new.keepers) link) c.args.first.now.line.items c.args.first.now.config c.requires.configured c.in-Ok.ensures.later refl _ _
+    let opened = subst (λ l. WhereTold g.K.Keeper.TELLS
+    (IsOpened c.args.first.now.config l (g.K.Keeper.state c.args.keepers.now).told (g.K.Keeper.state c.open.new.keepers).told)) c.deref.ensures.value
+    c.in-Ok.ensures.opened in
+    λ link. begins g.K.Keeper.TELLS (outside (keepers c.args.keepers.now) link)
+    (outside (keepers c.open.new.keepers) link) c.args.first.now.line.items c.args.first.now.config c.requires.configured c.in-Ok.ensures.later refl _ _
     c.in-Ok.serving c.in-Ok.ensures.settings c.in-Ok.ensures.begun c.in-Ok.ensures.serving.of_core opened c.in_ok-say-in-Ok.ensures.ok
 
 pub returns-in-Err-OtherLine-clause-err : goal.returns-in-Err-OtherLine-clause-err
 returns-in-Err-OtherLine-clause-err g c =
     let keepers = g.K.Keeper.state in
-    let refused = subst (λ r. RefusesOpening g.K.Keeper.TELLS c.args.first.now.config c.deref.result.now (keepers c.args.keepers.now) (keepers c.open.new.keepers) r) c.in-Err-OtherLine.field-0-is c.in-Err-OtherLine.ensures.refused in
-    let other = subst (λ l. WhereTold g.K.Keeper.TELLS (IsOtherLine c.args.first.now.config l (g.K.Keeper.state c.args.keepers.now).told (g.K.Keeper.state c.open.new.keepers).told)) c.deref.ensures.value refused in
-    λ link. begun_other g.K.Keeper.TELLS (outside (keepers c.args.keepers.now) link) (outside (keepers c.open.new.keepers) link) c.args.first.now.line.items c.args.first.now.config c.requires.configured c.in-Err-OtherLine.ensures.later refl _ _ other c.refuse.ensures.part (stop_code c.refuse.result)
+    let refused = subst (λ r. RefusesOpening g.K.Keeper.TELLS c.args.first.now.config c.deref.result.now (keepers c.args.keepers.now)
+    (keepers c.open.new.keepers) r) c.in-Err-OtherLine.field-0-is c.in-Err-OtherLine.ensures.refused in
+    let other = subst (λ l. WhereTold g.K.Keeper.TELLS
+    (IsOtherLine c.args.first.now.config l (g.K.Keeper.state c.args.keepers.now).told (g.K.Keeper.state c.open.new.keepers).told)) c.deref.ensures.value
+    refused in
+    λ link. begun_other g.K.Keeper.TELLS (outside (keepers c.args.keepers.now) link)
+    (outside (keepers c.open.new.keepers) link) c.args.first.now.line.items c.args.first.now.config c.requires.configured c.in-Err-OtherLine.ensures.later refl
+    _ _ other c.refuse.ensures.part (stop_code c.refuse.result)
 
 pub returns-in-Err-OtherLine-clause-refused : goal.returns-in-Err-OtherLine-clause-refused
 returns-in-Err-OtherLine-clause-refused g c = λ e.
     let keepers = g.K.Keeper.state in
-    let refused = subst (λ r. RefusesOpening g.K.Keeper.TELLS c.args.first.now.config c.deref.result.now (keepers c.args.keepers.now) (keepers c.open.new.keepers) r) c.in-Err-OtherLine.field-0-is c.in-Err-OtherLine.ensures.refused in
-    let other = subst (λ l. WhereTold g.K.Keeper.TELLS (IsOtherLine c.args.first.now.config l (g.K.Keeper.state c.args.keepers.now).told (g.K.Keeper.state c.open.new.keepers).told)) c.deref.ensures.value refused in
+    let refused = subst (λ r. RefusesOpening g.K.Keeper.TELLS c.args.first.now.config c.deref.result.now (keepers c.args.keepers.now)
+    (keepers c.open.new.keepers) r) c.in-Err-OtherLine.field-0-is c.in-Err-OtherLine.ensures.refused in
+    let other = subst (λ l. WhereTold g.K.Keeper.TELLS
+    (IsOtherLine c.args.first.now.config l (g.K.Keeper.state c.args.keepers.now).told (g.K.Keeper.state c.open.new.keepers).told)) c.deref.ensures.value
+    refused in
     let whole : c.refuse.result ≡ Configuration = cc e in
-    λ link. refuses_other g.K.Keeper.TELLS (outside (keepers c.args.keepers.now) link) (outside (keepers c.open.new.keepers) link) c.args.first.now.line.items c.args.first.now.config c.requires.configured c.in-Err-OtherLine.ensures.later refl _ _ other (c.refuse.ensures.whole whole)
+    λ link. refuses_other g.K.Keeper.TELLS (outside (keepers c.args.keepers.now) link)
+    (outside (keepers c.open.new.keepers) link) c.args.first.now.line.items c.args.first.now.config c.requires.configured c.in-Err-OtherLine.ensures.later refl
+    _ _ other (c.refuse.ensures.whole whole)
 
 pub open-requires-clause-kept : goal.open-requires-clause-kept
-open-requires-clause-kept g c = subst (λ l. WhereTold g.K.Keeper.TELLS (MayOpen c.args.first.now.config l (g.K.Keeper.state c.args.keepers.now).told)) (sym c.deref.ensures.value) c.requires.kept
+open-requires-clause-kept g c = subst (λ l. WhereTold g.K.Keeper.TELLS (MayOpen c.args.first.now.config l (g.K.Keeper.state c.args.keepers.now).told))
+    (sym c.deref.ensures.value) c.requires.kept

@@ -6,7 +6,13 @@ use Rattle.tao_top.proofs.GoingOn.{served_all, served_none, served_then_part, se
 use Rattle.tao_top.proofs.serve.serve.Goals as goal
 
 pub lines-init : goal.lines-init
-lines-init g c = record { served = served_none _ _ _ _; serving = c.requires.serving; counted = CountsTaken-nil _ _; tables = leaves_same _ _; later = record { source = omega arith; sink = omega arith } }
+lines-init g c = record {
+  served = served_none _ _ _ _;
+  serving = c.requires.serving;
+  counted = CountsTaken-nil _ _;
+  tables = leaves_same _ _;
+  later = record { source = omega arith; sink = omega arith };
+}
 
 pub returns-in_err-serve_line-clause-err : goal.returns-in_err-serve_line-clause-err
 returns-in_err-serve_line-clause-err g c = OnErr-any _ _ (served_then_part _ _ _ _ _ _ _ _ _ c.lines.invariant.served c.in_err-serve_line.ensures.err)
@@ -22,7 +28,8 @@ returns-then-not-branch-clause-tables g c = leaves_then _ _ _ _ c.lines.invarian
 
 pub returns-then-not-branch-clause-ok : goal.returns-then-not-branch-clause-ok
 returns-then-not-branch-clause-ok g c =
-    served_all _ _ _ _ _ _ _ (served_trans _ _ _ _ _ _ _ _ _ _ c.lines.invariant.served c.in_ok-serve_line.ensures.ok) (c.in_ok-serve_line.ensures.end (ap (λ b. Ok b) c.if-not-branch.true))
+    served_all _ _ _ _ _ _ _ (served_trans _ _ _ _ _ _ _ _ _ _ c.lines.invariant.served c.in_ok-serve_line.ensures.ok)
+    (c.in_ok-serve_line.ensures.end (ap (λ b. Ok b) c.if-not-branch.true))
 
 pub returns-then-not-branch-clause-counted : goal.returns-then-not-branch-clause-counted
 returns-then-not-branch-clause-counted g c = CountsTaken-trans _ _ _ _ _ _ c.lines.invariant.counted c.serve_line.ensures.counted

@@ -14,7 +14,8 @@ invariant-lines g l =
     let shown = g.L.Link.shown in
     record {
       served : Served g.K.Keeper.TELLS (serves l.fn.serving (outside (keepers l.fn.keepers) (shown l.fn.link)))
-          (serves l.serving (outside (keepers l.keepers) (shown l.link))) (streams (to_come l.fn.reader (left l.fn.input)) (taken l.fn.output)) (streams (to_come l.reader (left l.input)) (taken l.output));
+          (serves l.serving (outside (keepers l.keepers) (shown l.link))) (streams (to_come l.fn.reader (left l.fn.input)) (taken l.fn.output))
+          (streams (to_come l.reader (left l.input)) (taken l.output));
       serving : MayServe g.K.Keeper.TELLS l.serving (g.K.Keeper.state l.keepers).told;
       counted : CountsTaken (left l.fn.input) (left l.input) l.fn.reader.taken l.reader.taken;
       tables : LeavesTables g.K.Keeper.TELLS (keepers l.fn.keepers) (keepers l.keepers);

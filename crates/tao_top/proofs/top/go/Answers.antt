@@ -4,7 +4,8 @@ use Rattle.tao_io.proofs.GivenLines.{CountsTaken-trans}
 use Rattle.tao_top.proofs.FirstLine.{gives_one}
 use Rattle.tao_top.proofs.Keeping.{leaves_then}
 use Rattle.tao_top.proofs.OneLine.{IfErr-any, part_unread}
-use Rattle.tao_top.proofs.WholeRun.{begun_in_part, begun_opening, begun_refused, begun_well, done, done_part, end_of_source, first_in_part, first_refused, fresh, interrupt_later, long_input, may_open, short_input, takes_counted, takes_first, takes_none}
+use Rattle.tao_top.proofs.WholeRun.{begun_in_part, begun_opening, begun_refused, begun_well, done, done_part, end_of_source, first_in_part}
+use Rattle.tao_top.proofs.WholeRun.{first_refused, fresh, interrupt_later, long_input, may_open, short_input, takes_counted, takes_first, takes_none}
 use Rattle.core_nodes.specs.Repairs.{outside}
 use Rattle.tao_top.specs.Served.{EndsInPart, start, traces}
 use Rattle.tao_top.specs.Stop.{FaultsGrow, InterruptHasCause, StopHasCause, faults, stop_code}
@@ -13,17 +14,20 @@ use Rattle.tao_top.specs.declared.stop.Stop.TheVariants.{Configuration, Keepers}
 use Rattle.tao_top.proofs.top.go.Goals as goal
 
 pub returns-in_err-reader-clause-err : goal.returns-in_err-reader-clause-err
-returns-in_err-reader-clause-err g c = IfErr-any _ _ (λ stop. inr (inr (part_unread g.K.Keeper.TELLS (start (outside (g.K.Keeper.state c.args.keepers.now) (g.L.Link.shown c.args.link.now))) _ _)))
+returns-in_err-reader-clause-err g c = IfErr-any _ _
+    (λ stop. inr (inr (part_unread g.K.Keeper.TELLS (start (outside (g.K.Keeper.state c.args.keepers.now) (g.L.Link.shown c.args.link.now))) _ _)))
 
 pub returns-in_err-first-clause-err : goal.returns-in_err-first-clause-err
 returns-in_err-first-clause-err g c =
-    IfErr-any _ _ (λ stop. inr (first_in_part g.K.Keeper.TELLS (outside (g.K.Keeper.state c.args.keepers.now) (g.L.Link.shown c.args.link.now)) _ _ _ _ (fresh c.in_ok-reader.reader _ c.in_ok-reader.ensures.ahead) c.in_err-first.ensures.err))
+    IfErr-any _ _ (λ stop. inr (first_in_part g.K.Keeper.TELLS (outside (g.K.Keeper.state c.args.keepers.now) (g.L.Link.shown c.args.link.now)) _ _ _ _
+    (fresh c.in_ok-reader.reader _ c.in_ok-reader.ensures.ahead) c.in_err-first.ensures.err))
 
 pub returns-in_err-first-clause-refused : goal.returns-in_err-first-clause-refused
 returns-in_err-first-clause-refused g c = λ e.
     let p = err_from_is_err_and c.from_residual-in_err-first.result c.from_residual-in_err-first.ensures.1 in
     let same : c.in_err-first.field-0.0 ≡ Configuration = cc (e, p.1, p.2) in
-    first_refused g.K.Keeper.TELLS (outside (g.K.Keeper.state c.args.keepers.now) (g.L.Link.shown c.args.link.now)) _ _ _ _ (fresh c.in_ok-reader.reader _ c.in_ok-reader.ensures.ahead)
+    first_refused g.K.Keeper.TELLS (outside (g.K.Keeper.state c.args.keepers.now) (g.L.Link.shown c.args.link.now)) _ _ _ _
+    (fresh c.in_ok-reader.reader _ c.in_ok-reader.ensures.ahead)
     (c.in_err-first.ensures.refused (ap (λ s. Err s) same))
 
 pub returns-in_err-serving-clause-err : goal.returns-in_err-serving-clause-err
@@ -33,10 +37,12 @@ returns-in_err-serving-clause-err g c =
     let p = err_from_is_err_and c.from_residual-in_err-serving.result c.from_residual-in_err-serving.ensures.1 in
     let part =
     begun_in_part g.K.Keeper.TELLS before begun _ _ _ _ _ _ c.in_ok-first.first.line.items
-    (fresh c.in_ok-reader.reader _ c.in_ok-reader.ensures.ahead) (ap g.S.Sink.taken c.in_ok-first.ensures.silent) c.in_ok-first.ensures.line (stop_code c.in_err-serving.field-0.0)
+    (fresh c.in_ok-reader.reader _ c.in_ok-reader.ensures.ahead) (ap g.S.Sink.taken c.in_ok-first.ensures.silent) c.in_ok-first.ensures.line
+    (stop_code c.in_err-serving.field-0.0)
     (c.in_err-serving.ensures.err (g.L.Link.shown c.args.link.now)) in
     rw p.1 (subst
-    (λ stop. EndsInPart (stop_code stop) g.K.Keeper.TELLS (traces before (g.S.Sink.taken c.args.output.now)) (traces begun (g.S.Sink.taken c.begin.new.output)) (g.R.Source.left c.args.input.now))
+    (λ stop. EndsInPart (stop_code stop) g.K.Keeper.TELLS (traces before (g.S.Sink.taken c.args.output.now)) (traces begun (g.S.Sink.taken c.begin.new.output))
+    (g.R.Source.left c.args.input.now))
     (sym p.2) part)
 
 pub returns-in_err-serving-clause-refused : goal.returns-in_err-serving-clause-refused
@@ -46,7 +52,8 @@ returns-in_err-serving-clause-refused g c = λ e.
     let p = err_from_is_err_and c.from_residual-in_err-serving.result c.from_residual-in_err-serving.ensures.1 in
     let same : c.in_err-serving.field-0.0 ≡ Configuration = cc (e, p.1, p.2) in
     begun_refused g.K.Keeper.TELLS before begun _ _ _ _ _ _ c.in_ok-first.first.line.items
-    (fresh c.in_ok-reader.reader _ c.in_ok-reader.ensures.ahead) (ap g.S.Sink.taken c.in_ok-first.ensures.silent) c.in_ok-first.ensures.line (c.in_err-serving.ensures.refused (ap (λ s. Err s) same) (g.L.Link.shown c.args.link.now))
+    (fresh c.in_ok-reader.reader _ c.in_ok-reader.ensures.ahead) (ap g.S.Sink.taken c.in_ok-first.ensures.silent) c.in_ok-first.ensures.line
+    (c.in_err-serving.ensures.refused (ap (λ s. Err s) same) (g.L.Link.shown c.args.link.now))
 
 pub returns-in_err-serve-clause-err : goal.returns-in_err-serve-clause-err
 returns-in_err-serve-clause-err g c =
@@ -55,14 +62,17 @@ returns-in_err-serve-clause-err g c =
     let served = outside (g.K.Keeper.state c.serve.new.keepers) (g.L.Link.shown c.serve.new.link) in
     IfErr-any _ _ (λ stop. inr (done_part g.K.Keeper.TELLS before begun served c.in_ok-serving.serving _ _ _ _ _
     (begun_well g.K.Keeper.TELLS before begun _ _ _ _ _ _ c.in_ok-first.first.line.items
-    (fresh c.in_ok-reader.reader _ c.in_ok-reader.ensures.ahead) (ap g.S.Sink.taken c.in_ok-first.ensures.silent) c.in_ok-first.ensures.line c.in_ok-serving.serving (c.in_ok-serving.ensures.ok (g.L.Link.shown c.args.link.now)))
+    (fresh c.in_ok-reader.reader _ c.in_ok-reader.ensures.ahead)
+    (ap g.S.Sink.taken c.in_ok-first.ensures.silent) c.in_ok-first.ensures.line c.in_ok-serving.serving
+    (c.in_ok-serving.ensures.ok (g.L.Link.shown c.args.link.now)))
     c.in_err-serve.ensures.err))
 
 pub returns-in_err-serve-clause-long : goal.returns-in_err-serve-clause-long
 returns-in_err-serve-clause-long g c = λ e.
     let p = err_from_is_err_and c.from_residual-in_err-serve.result c.from_residual-in_err-serve.ensures.1 in
     let same : c.in_err-serve.field-0.0 ≡ InputTooLong = cc (e, p.1, p.2) in
-    long_input _ _ _ _ c.in_ok-reader.ensures.taken (CountsTaken-trans _ _ _ _ _ _ c.read_first.ensures.counted c.serve.ensures.counted) (c.in_err-serve.ensures.long (ap (λ i. Err i) same))
+    long_input _ _ _ _ c.in_ok-reader.ensures.taken (CountsTaken-trans _ _ _ _ _ _ c.read_first.ensures.counted c.serve.ensures.counted)
+    (c.in_err-serve.ensures.long (ap (λ i. Err i) same))
 
 pub returns-in_err-serve-clause-cause : goal.returns-in_err-serve-clause-cause
 returns-in_err-serve-clause-cause g c =
@@ -74,7 +84,8 @@ returns-in_err-serve-clause-cause g c =
     let after = faults (source c.serve.new.input) (sink c.serve.new.output) in
     let first = c.read_first.ensures.later in
     let grew : FaultsGrow before begun = record { source = first.source; sink = omega (arith, first.sink, c.begin.ensures.later) } in
-    let cause : InterruptHasCause before after c.in_err-serve.field-0.0 = interrupt_later before begun after c.in_err-serve.field-0.0 grew c.in_err-serve.ensures.cause in
+    let cause : InterruptHasCause before after c.in_err-serve.field-0.0 =
+    interrupt_later before begun after c.in_err-serve.field-0.0 grew c.in_err-serve.ensures.cause in
     rw p.1 (subst (StopHasCause before after (g.K.Keeper.state c.args.keepers.now).faults (g.K.Keeper.state c.serve.new.keepers).faults) (sym p.2) cause)
 
 pub returns-clause-ok : goal.returns-clause-ok
@@ -84,7 +95,9 @@ returns-clause-ok g c =
     let served = outside (g.K.Keeper.state c.serve.new.keepers) (g.L.Link.shown c.serve.new.link) in
     done g.K.Keeper.TELLS before begun served c.in_ok-serving.serving _ _ _ _ _
     (begun_well g.K.Keeper.TELLS before begun _ _ _ _ _ _ c.in_ok-first.first.line.items
-    (fresh c.in_ok-reader.reader _ c.in_ok-reader.ensures.ahead) (ap g.S.Sink.taken c.in_ok-first.ensures.silent) c.in_ok-first.ensures.line c.in_ok-serving.serving (c.in_ok-serving.ensures.ok (g.L.Link.shown c.args.link.now)))
+    (fresh c.in_ok-reader.reader _ c.in_ok-reader.ensures.ahead)
+    (ap g.S.Sink.taken c.in_ok-first.ensures.silent) c.in_ok-first.ensures.line c.in_ok-serving.serving
+    (c.in_ok-serving.ensures.ok (g.L.Link.shown c.args.link.now)))
     c.serve.new.serving c.in_ok-serve.ensures.ok
 
 pub returns-clause-short : goal.returns-clause-short
@@ -94,7 +107,8 @@ returns-clause-short g c =
 
 pub begin-requires-clause-kept : goal.begin-requires-clause-kept
 begin-requires-clause-kept g c =
-    may_open g.K.Keeper.TELLS (g.K.Keeper.state c.args.keepers.now).told _ _ _ c.in_ok-first.first.line.items c.in_ok-first.first.config (fresh c.in_ok-reader.reader _ c.in_ok-reader.ensures.ahead)
+    may_open g.K.Keeper.TELLS (g.K.Keeper.state c.args.keepers.now).told _ _ _ c.in_ok-first.first.line.items c.in_ok-first.first.config
+    (fresh c.in_ok-reader.reader _ c.in_ok-reader.ensures.ahead)
     c.in_ok-first.ensures.line c.in_ok-first.ensures.configured c.requires.kept
 
 pub returns-in_err-serving-clause-keepers : goal.returns-in_err-serving-clause-keepers
@@ -104,7 +118,8 @@ returns-in_err-serving-clause-keepers g c = λ e.
     let p = err_from_is_err_and c.from_residual-in_err-serving.result c.from_residual-in_err-serving.ensures.1 in
     let same : c.in_err-serving.field-0.0 ≡ Keepers = cc (e, p.1, p.2) in
     begun_opening g.K.Keeper.TELLS before begun _ _ _ _ _ _ c.in_ok-first.first.line.items
-    (fresh c.in_ok-reader.reader _ c.in_ok-reader.ensures.ahead) (ap g.S.Sink.taken c.in_ok-first.ensures.silent) c.in_ok-first.ensures.line (c.in_err-serving.ensures.keepers (ap (λ s. Err s) same) (g.L.Link.shown c.args.link.now))
+    (fresh c.in_ok-reader.reader _ c.in_ok-reader.ensures.ahead) (ap g.S.Sink.taken c.in_ok-first.ensures.silent) c.in_ok-first.ensures.line
+    (c.in_err-serving.ensures.keepers (ap (λ s. Err s) same) (g.L.Link.shown c.args.link.now))
 
 -- ---- what was taken
 
@@ -118,25 +133,29 @@ pub returns-in_err-first-clause-at_first : goal.returns-in_err-first-clause-at_f
 returns-in_err-first-clause-at_first g c = λ e.
     let p = err_from_is_err_and c.from_residual-in_err-first.result c.from_residual-in_err-first.ensures.1 in
     let same : c.in_err-first.field-0.0 ≡ Configuration = cc (e, p.1, p.2) in
-    takes_first _ _ _ _ (fresh c.in_ok-reader.reader _ c.in_ok-reader.ensures.ahead) c.read_first.ensures.near (c.in_err-first.ensures.once (ap (λ s. Err s) same))
+    takes_first _ _ _ _ (fresh c.in_ok-reader.reader _ c.in_ok-reader.ensures.ahead) c.read_first.ensures.near
+    (c.in_err-first.ensures.once (ap (λ s. Err s) same))
 
 pub returns-in_err-serving-clause-taken : goal.returns-in_err-serving-clause-taken
 returns-in_err-serving-clause-taken g c = takes_counted _ _ _ _ c.in_ok-reader.ensures.taken c.read_first.ensures.counted c.read_first.ensures.limited
 
 pub returns-in_err-serving-clause-at_first : goal.returns-in_err-serving-clause-at_first
 returns-in_err-serving-clause-at_first g c = λ _.
-    takes_first _ _ _ _ (fresh c.in_ok-reader.reader _ c.in_ok-reader.ensures.ahead) c.read_first.ensures.near (gives_one _ _ c.in_ok-first.first.line.items c.in_ok-first.ensures.line)
+    takes_first _ _ _ _ (fresh c.in_ok-reader.reader _ c.in_ok-reader.ensures.ahead) c.read_first.ensures.near
+    (gives_one _ _ c.in_ok-first.first.line.items c.in_ok-first.ensures.line)
 
 pub returns-in_err-serve-clause-taken : goal.returns-in_err-serve-clause-taken
 returns-in_err-serve-clause-taken g c =
-    takes_counted _ _ _ _ c.in_ok-reader.ensures.taken (CountsTaken-trans _ _ _ _ _ _ c.read_first.ensures.counted c.serve.ensures.counted) c.serve.ensures.limited
+    takes_counted _ _ _ _ c.in_ok-reader.ensures.taken
+    (CountsTaken-trans _ _ _ _ _ _ c.read_first.ensures.counted c.serve.ensures.counted) c.serve.ensures.limited
 
 pub returns-in_err-serve-clause-tables : goal.returns-in_err-serve-clause-tables
 returns-in_err-serve-clause-tables g c = leaves_then _ _ _ _ c.begin.ensures.tables c.serve.ensures.tables
 
 pub returns-clause-taken : goal.returns-clause-taken
 returns-clause-taken g c =
-    takes_counted _ _ _ _ c.in_ok-reader.ensures.taken (CountsTaken-trans _ _ _ _ _ _ c.read_first.ensures.counted c.serve.ensures.counted) c.serve.ensures.limited
+    takes_counted _ _ _ _ c.in_ok-reader.ensures.taken
+    (CountsTaken-trans _ _ _ _ _ _ c.read_first.ensures.counted c.serve.ensures.counted) c.serve.ensures.limited
 
 pub returns-clause-at_end : goal.returns-clause-at_end
 returns-clause-at_end g c = end_of_source c.serve.new.reader.ahead _ c.in_ok-serve.ensures.end

@@ -8,7 +8,8 @@ use Rattle.tao_top.specs.Status.{IsStatus}
 use Rattle.tao_top.proofs.top.run.Goals as goal
 
 pub returns-in-Some-clause-in_part : goal.returns-in-Some-clause-in_part
-returns-in-Some-clause-in_part g c = inr (inr (part_unread g.K.Keeper.TELLS (start (outside (g.K.Keeper.state c.args.keepers.now) (g.L.Link.shown c.args.link.now))) _ _))
+returns-in-Some-clause-in_part g c = inr (inr (part_unread g.K.Keeper.TELLS
+    (start (outside (g.K.Keeper.state c.args.keepers.now) (g.L.Link.shown c.args.link.now))) _ _))
 
 pub returns-in-Ok-clause-in_part : goal.returns-in-Ok-clause-in_part
 returns-in-Ok-clause-in_part g c =
@@ -20,14 +21,16 @@ pub returns-in-Err-clause-in_part : goal.returns-in-Err-clause-in_part
 returns-in-Err-clause-in_part g c =
     let before = outside (g.K.Keeper.state c.args.keepers.now) (g.L.Link.shown c.args.link.now) in
     let after = outside (g.K.Keeper.state c.go.new.keepers) (g.L.Link.shown c.go.new.link) in
-    subst (λ code. EndsInPart code g.K.Keeper.TELLS (traces before (g.S.Sink.taken c.args.output.now)) (traces after (g.S.Sink.taken c.go.new.output)) (g.R.Source.left c.args.input.now))
+    subst (λ code. EndsInPart code g.K.Keeper.TELLS (traces before (g.S.Sink.taken c.args.output.now)) (traces after (g.S.Sink.taken c.go.new.output))
+    (g.R.Source.left c.args.input.now))
     (sym c.code.ensures) c.in-Err.ensures.err
 
 pub returns-in-Err-clause-keepers : goal.returns-in-Err-clause-keepers
 returns-in-Err-clause-keepers g c = λ is.
     let before = outside (g.K.Keeper.state c.args.keepers.now) (g.L.Link.shown c.args.link.now) in
     let after = outside (g.K.Keeper.state c.go.new.keepers) (g.L.Link.shown c.go.new.link) in
-    fails_opening g.K.Keeper.TELLS before after _ _ _ _ _ c.in-Err.stop (sym c.code.ensures ∙ is) (λ same. c.in-Err.ensures.keepers (ap (λ s. Err s) same)) c.in-Err.ensures.cause
+    fails_opening g.K.Keeper.TELLS before after _ _ _ _ _ c.in-Err.stop (sym c.code.ensures ∙ is)
+    (λ same. c.in-Err.ensures.keepers (ap (λ s. Err s) same)) c.in-Err.ensures.cause
 
 pub returns-in-Some-clause-taken : goal.returns-in-Some-clause-taken
 returns-in-Some-clause-taken g c = takes_none (g.R.Source.left c.args.input.now)

@@ -39,7 +39,7 @@ returns-in_default-make_room g c =
     hold_wants g.K.Keeper.TELLS c.args.number c.args.call.now (core_state c.self.inside) c.args.self.now c.self.view_is (sessions_of c.make_room.new.sessions)
     c.self.inside.plans (g.K.Keeper.state c.args.keepers.now) (g.L.Link.shown c.args.link.now) c.out_of_memory-in_default-make_room.result
     c.requires.keepers c.make_room.ensures refl c.out_of_memory-in_default-make_room.ensures in
-    record { does = done.does; keepers = done.keepers; goes = done.goes; grows = done.grows; later = done.later }
+    record { does = done.does; usable = done.usable }
 
 pub returns-in-Err : goal.returns-in-Err
 returns-in-Err g c =
@@ -47,4 +47,4 @@ returns-in-Err g c =
     hold_wants g.K.Keeper.TELLS c.args.number c.args.call.now (core_state c.self.inside) c.args.self.now c.self.view_is (sessions_of c.make_room.new.sessions)
     c.add.new.self (g.K.Keeper.state c.args.keepers.now) (g.L.Link.shown c.args.link.now) c.out_of_memory-in-Err.result c.requires.keepers c.make_room.ensures
     c.in-Err.ensures.err c.out_of_memory-in-Err.ensures in
-    record { does = done.does; keepers = done.keepers; goes = done.goes; grows = done.grows; later = done.later }
+    record { does = done.does; usable = done.usable }

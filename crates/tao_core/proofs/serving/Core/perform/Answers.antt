@@ -21,17 +21,11 @@ returns-in-Open g c =
     let opened : OpenSession = record { session = c.in-Open.session; region = c.in-Open.region; tier = c.in-Open.tier } in
     let ends = c.open_session.ensures in
     let new = c.open_session.new.self in
-    let done =
-    core_opened g.K.Keeper.TELLS keepers core new c.requires.keepers (ends.keepers g.K.Keeper.TELLS keepers.told c.requires.keepers.is_consistent) ends.rest
-    (opens_stay opened core.sessions c.open_session.result new.sessions can.0 ends.does) in
     record {
       does = subst (λ a. AnswersAsked g.K.Keeper.TELLS (moment core keepers link) (Ok a) c.open_session.result (moment new keepers link)) (sym c.in-Open.is)
           (ends.does, ap (λ x. moment x keepers link) ends.rest);
-      settings = done.settings;
-      keepers = done.keepers;
-      goes = done.goes;
-      grows = done.grows;
-      later = done.later;
+      usable = core_opened g.K.Keeper.TELLS keepers core new c.requires.keepers (ends.keepers g.K.Keeper.TELLS keepers.told c.requires.keepers.is_consistent) ends.rest
+          (opens_stay opened core.sessions c.open_session.result new.sessions can.0 ends.does);
     }
 
 pub returns-in-Evict : goal.returns-in-Evict
@@ -41,18 +35,12 @@ returns-in-Evict g c =
     let core = c.args.self.now in
     let ends = c.evict.ensures in
     let new = c.evict.new.self in
-    let done =
-    core_kept g.K.Keeper.TELLS keepers core new c.requires.keepers
-    (evicted_core g.K.Keeper.TELLS keepers.told c.in-Evict.node c.in-Evict.key (moment core keepers link) (moment new keepers link) c.evict.result
-    c.requires.keepers.is_consistent (ends.does keepers link) ends.fleet ends.rest) ends.on (only_nodes core new ends.rest) in
     record {
       does = subst (λ a. AnswersAsked g.K.Keeper.TELLS (moment core keepers link) (Ok a) c.evict.result (moment new keepers link)) (sym c.in-Evict.is)
           (ends.does keepers link, ap (λ x. moment x keepers link) ends.rest);
-      settings = done.settings;
-      keepers = done.keepers;
-      goes = done.goes;
-      grows = done.grows;
-      later = done.later;
+      usable = core_kept g.K.Keeper.TELLS keepers core new c.requires.keepers
+          (evicted_core g.K.Keeper.TELLS keepers.told c.in-Evict.node c.in-Evict.key (moment core keepers link) (moment new keepers link) c.evict.result
+          c.requires.keepers.is_consistent (ends.does keepers link) ends.fleet ends.rest) ends.on (only_nodes core new ends.rest);
     }
 
 pub returns-in-Audit : goal.returns-in-Audit
@@ -62,19 +50,13 @@ returns-in-Audit g c =
     let link = g.L.Link.shown c.args.link.now in
     let core = c.args.self.now in
     let ends = c.audit.ensures in
-    let done =
-    core_held g.K.Keeper.TELLS old new core core c.requires.keepers
-    (core_stays g.K.Keeper.TELLS old.told new.told core c.requires.keepers.is_consistent ends.stays) (same_held core.fleet) ends.stays ends.later refl in
     record {
       does = subst (λ a. AnswersAsked g.K.Keeper.TELLS (moment core old link) (Ok a) c.audit.result (moment core new link)) (sym c.in-Audit.is) (
         subst (λ s. AnswersAudit g.K.Keeper.TELLS s old c.in-Audit.call c.audit.result new) (ap (λ (x : CoreState). x.settings) c.self.view_is) ends.does,
         refl,
       );
-      settings = done.settings;
-      keepers = done.keepers;
-      goes = done.goes;
-      grows = done.grows;
-      later = done.later;
+      usable = core_held g.K.Keeper.TELLS old new core core c.requires.keepers
+          (core_stays g.K.Keeper.TELLS old.told new.told core c.requires.keepers.is_consistent ends.stays) (same_held core.fleet) ends.stays ends.later refl;
     }
 
 pub returns-in-Deliver : goal.returns-in-Deliver
@@ -84,18 +66,12 @@ returns-in-Deliver g c =
     let core = c.args.self.now in
     let ends = c.deliver.ensures in
     let new = c.deliver.new.self in
-    let done =
-    core_kept g.K.Keeper.TELLS keepers core new c.requires.keepers
-    (delivered_core g.K.Keeper.TELLS keepers.told core new c.requires.keepers.is_consistent ends.fleet ends.masters ends.inboxes ends.rest)
-    ends.on ends.rest in
     record {
       does = subst (λ a. AnswersAsked g.K.Keeper.TELLS (moment core keepers link) (Ok a) c.deliver.result (moment new keepers link)) (sym c.in-Deliver.is)
           (ends.does, ap (λ x. moment x keepers link) ends.rest);
-      settings = done.settings;
-      keepers = done.keepers;
-      goes = done.goes;
-      grows = done.grows;
-      later = done.later;
+      usable = core_kept g.K.Keeper.TELLS keepers core new c.requires.keepers
+          (delivered_core g.K.Keeper.TELLS keepers.told core new c.requires.keepers.is_consistent ends.fleet ends.masters ends.inboxes ends.rest)
+          ends.on ends.rest;
     }
 
 pub returns-in-Again : goal.returns-in-Again
@@ -106,17 +82,11 @@ returns-in-Again g c =
     let ends = c.deliver_again.ensures in
     let new = c.deliver_again.new.self in
     let rest = only_nodes core new ends.rest in
-    let done =
-    core_kept g.K.Keeper.TELLS keepers core new c.requires.keepers
-    (nodes_only g.K.Keeper.TELLS keepers.told core new c.requires.keepers.is_consistent ends.fleet ends.masters ends.rest) ends.on rest in
     record {
       does = subst (λ a. AnswersAsked g.K.Keeper.TELLS (moment core keepers link) (Ok a) c.deliver_again.result (moment new keepers link)) (sym c.in-Again.is)
           (ends.does, ap (λ x. moment x keepers link) rest);
-      settings = done.settings;
-      keepers = done.keepers;
-      goes = done.goes;
-      grows = done.grows;
-      later = done.later;
+      usable = core_kept g.K.Keeper.TELLS keepers core new c.requires.keepers
+          (nodes_only g.K.Keeper.TELLS keepers.told core new c.requires.keepers.is_consistent ends.fleet ends.masters ends.rest) ends.on rest;
     }
 
 pub returns-in-Drop : goal.returns-in-Drop
@@ -127,18 +97,12 @@ returns-in-Drop g c =
     let ends = c.lose.ensures in
     let new = c.lose.new.self in
     let rest = only_mail core new ends.rest in
-    let done =
-    core_kept g.K.Keeper.TELLS keepers core new c.requires.keepers
-    (mail_only g.K.Keeper.TELLS keepers.told core new c.requires.keepers.is_consistent ends.inboxes ends.rest)
-    (fleet_stays core.fleet new.fleet (ap (λ (x : CoreState). x.fleet) ends.rest)) rest in
     record {
       does = subst (λ a. AnswersAsked g.K.Keeper.TELLS (moment core keepers link) (Ok a) c.lose.result (moment new keepers link)) (sym c.in-Drop.is)
           (ends.does, ap (λ x. moment x keepers link) rest);
-      settings = done.settings;
-      keepers = done.keepers;
-      goes = done.goes;
-      grows = done.grows;
-      later = done.later;
+      usable = core_kept g.K.Keeper.TELLS keepers core new c.requires.keepers
+          (mail_only g.K.Keeper.TELLS keepers.told core new c.requires.keepers.is_consistent ends.inboxes ends.rest)
+          (fleet_stays core.fleet new.fleet (ap (λ (x : CoreState). x.fleet) ends.rest)) rest;
     }
 
 pub returns-in-Show-clause-does : goal.returns-in-Show-clause-does
@@ -159,42 +123,36 @@ returns-in-Refill g c =
     let core = c.args.self.now in
     let ends = c.refill.ensures in
     let new = c.refill.new.self in
-    let done =
-    core_held g.K.Keeper.TELLS old now core new c.requires.keepers ends.keepers ends.on ends.tables ends.later (only_nodes core new ends.rest) in
     record {
       does = subst (λ a. AnswersAsked g.K.Keeper.TELLS (moment core old (g.L.Link.shown c.args.link.now)) (Ok a) c.refill.result
           (moment new now (g.L.Link.shown c.refill.new.link))) (sym c.in-Refill.is) (ends.does, ends.tables, ends.rest);
-      settings = done.settings;
-      keepers = done.keepers;
-      goes = done.goes;
-      grows = done.grows;
-      later = done.later;
+      usable = core_held g.K.Keeper.TELLS old now core new c.requires.keepers ends.keepers ends.on ends.tables ends.later (only_nodes core new ends.rest);
     }
 
-pub returns-in-Call-Write-clause-keepers : goal.returns-in-Call-Write-clause-keepers
-returns-in-Call-Write-clause-keepers g c =
+pub returns-in-Call-Write-clause-usable : goal.returns-in-Call-Write-clause-usable
+returns-in-Call-Write-clause-usable g c =
     let old = g.K.Keeper.state c.args.keepers.now in
     let now = g.K.Keeper.state c.write.new.keepers in
     let core = c.args.self.now in
     let ends = c.write.ensures in
-    (core_goes_on g.K.Keeper.TELLS old now core c.write.new.self c.requires.keepers
-    (record { is_consistent = ends.keepers; on = ends.on; grows = ends.grows; later = ends.later })
+    core_goes_on g.K.Keeper.TELLS old now core c.write.new.self c.requires.keepers
+    ends.leaves
     (ap (λ (x : CoreState). x.settings) ends.does.rest) (ap (λ (x : CoreState). x.plans) ends.does.rest)
     (writes_stay g.K.Keeper.TELLS (moment core old (g.L.Link.shown c.args.link.now)) c.in-Call-Write.call c.write.result
-    (moment c.write.new.self now (g.L.Link.shown c.write.new.link)) ends.does.replies)).keepers
+    (moment c.write.new.self now (g.L.Link.shown c.write.new.link)) ends.does.replies)
 
-pub returns-in-Call-Read-clause-keepers : goal.returns-in-Call-Read-clause-keepers
-returns-in-Call-Read-clause-keepers g c =
+pub returns-in-Call-Read-clause-usable : goal.returns-in-Call-Read-clause-usable
+returns-in-Call-Read-clause-usable g c =
     let ends = c.read.ensures in
-    (core_held g.K.Keeper.TELLS (g.K.Keeper.state c.args.keepers.now) (g.K.Keeper.state c.read.new.keepers) c.args.self.now c.read.new.self
-    c.requires.keepers ends.keepers ends.on ends.does.tables ends.later (only_nodes c.args.self.now c.read.new.self ends.does.rest)).keepers
+    core_held g.K.Keeper.TELLS (g.K.Keeper.state c.args.keepers.now) (g.K.Keeper.state c.read.new.keepers) c.args.self.now c.read.new.self
+    c.requires.keepers ends.keepers ends.on ends.does.tables ends.later (only_nodes c.args.self.now c.read.new.self ends.does.rest)
 
-pub returns-in-Repair-clause-keepers : goal.returns-in-Repair-clause-keepers
-returns-in-Repair-clause-keepers g c =
+pub returns-in-Repair-clause-usable : goal.returns-in-Repair-clause-usable
+returns-in-Repair-clause-usable g c =
     let core = c.args.self.now in
     let ends = c.repair.ensures in
     let new = c.repair.new.self in
-    (core_goes_on g.K.Keeper.TELLS (g.K.Keeper.state c.args.keepers.now) (g.K.Keeper.state c.repair.new.keepers) core new c.requires.keepers
-    (record { is_consistent = ends.keepers; on = ends.on; grows = ends.grows; later = ends.later })
+    core_goes_on g.K.Keeper.TELLS (g.K.Keeper.state c.args.keepers.now) (g.K.Keeper.state c.repair.new.keepers) core new c.requires.keepers
+    ends.leaves
     (ap (λ (x : CoreState). x.settings) ends.does.rest) (ap (λ (x : CoreState). x.plans) ends.does.rest)
-    (same_open core.sessions new.sessions (ap (λ (x : CoreState). x.sessions) ends.does.rest))).keepers
+    (same_open core.sessions new.sessions (ap (λ (x : CoreState). x.sessions) ends.does.rest))

@@ -40,7 +40,7 @@ end_plan-requires-clause-may g c =
     may_here g.K.Keeper.TELLS c.args.number (core_state c.self.inside) c.args.self.now c.self.view_is did.new.fleet did.new.mail did.new.plans
     (sessions_of did.new.sessions) (state c.args.keepers.now) (state did.new.keepers) (shown c.args.link.now) (shown did.new.link) c.in-Some.plan.now
     c.plan_leader-leader.result c.requires.keepers (sym c.at.ensures ∙ ap option_copied c.in-Some.is) c.plan_leader-leader.ensures.is did.ensures.steps
-    did.ensures.under_way did.ensures.consistent did.ensures.inboxes did.ensures.goes did.ensures.grows did.ensures.same
+    did.ensures.under_way did.ensures.on did.ensures.same
     did.new.sessions did.ensures.same did.ensures.room
 
 pub returns-in-Some-next_at : goal.returns-in-Some-next_at
@@ -52,9 +52,9 @@ returns-in-Some-next_at g c =
     next_leaves g.K.Keeper.TELLS c.args.number (core_state c.self.inside) c.args.self.now c.self.view_is did.new.fleet did.new.mail did.new.plans
     (sessions_of did.new.sessions) (state c.args.keepers.now) (state did.new.keepers) (shown c.args.link.now) (shown did.new.link) c.in-Some.plan.now
     c.plan_leader-leader.result c.requires.keepers (sym c.at.ensures ∙ ap option_copied c.in-Some.is) c.plan_leader-leader.ensures.is did.ensures.steps
-    did.ensures.under_way did.ensures.consistent did.ensures.inboxes did.ensures.goes did.ensures.grows did.ensures.same
+    did.ensures.under_way did.ensures.on did.ensures.same
     c.args.word c.in-Some-next_at.next _ (sym c.next_at.ensures ∙ c.in-Some-next_at.is) refl in
-    record { steps = done.steps; keepers = done.keepers; goes = done.goes; grows = done.grows; later = did.ensures.later }
+    record { steps = done.steps; usable = done.usable }
 
 pub returns-in-None : goal.returns-in-None
 returns-in-None g c =
@@ -65,6 +65,6 @@ returns-in-None g c =
     end_leaves g.K.Keeper.TELLS c.args.number (core_state c.self.inside) c.args.self.now c.self.view_is did.new.fleet did.new.mail did.new.plans
     (sessions_of did.new.sessions) (state c.args.keepers.now) (state did.new.keepers) (shown c.args.link.now) (shown did.new.link) c.in-Some.plan.now
     c.plan_leader-leader.result c.requires.keepers (sym c.at.ensures ∙ ap option_copied c.in-Some.is) c.plan_leader-leader.ensures.is did.ensures.steps
-    did.ensures.under_way did.ensures.consistent did.ensures.inboxes did.ensures.goes did.ensures.grows did.ensures.same
+    did.ensures.under_way did.ensures.on did.ensures.same
     c.args.word c.end_plan.new.plans (sessions_of c.end_plan.new.sessions) c.end_plan.result (sym c.next_at.ensures ∙ c.in-None.is) c.end_plan.ensures in
-    record { steps = done.steps; keepers = done.keepers; goes = done.goes; grows = done.grows; later = did.ensures.later }
+    record { steps = done.steps; usable = done.usable }

@@ -28,7 +28,7 @@ returns-in_default-ready g c =
     (g.L.Link.shown c.args.link.now) c.args.call.now c.at-session.result c.shard-shard.result c.in-Some.follower c.requires.keepers
     c.at-session.ensures c.shard-shard.ensures c.in-Some.ensures.chosen
     (sessions_of c.ready.new.sessions) c.out_of_memory.result c.in_default-ready.ensures.same c.out_of_memory.ensures in
-    record { does = done.does; keepers = done.leaves.is_consistent; on = done.leaves.on; grows = done.leaves.grows; later = done.leaves.later }
+    record { does = done.does; leaves = done.leaves }
 
 pub write_along-requires-clause-follower : goal.write_along-requires-clause-follower
 write_along-requires-clause-follower g c =
@@ -54,7 +54,7 @@ learn_written-requires-clause-one_log g c =
     let found = found_at core.sessions c.args.call.now.session c.at-session.result c.at-session.ensures in
     note_of_log g.K.Keeper.TELLS tables core of c.args.call.now.session c.shard-shard.result found.session found.at
     (subst (λ n. n < core.settings.shards) (sym c.shard-shard.ensures) here.configured)
-    c.in-Ok.note c.write_along.new.fleet c.write_along.ensures.goes c.in-Ok.ensures.note
+    c.in-Ok.note c.write_along.new.fleet c.write_along.ensures.on.goes c.in-Ok.ensures.note
 
 pub learn_written-requires-clause-may : goal.learn_written-requires-clause-may
 learn_written-requires-clause-may g c =
@@ -65,8 +65,8 @@ learn_written-requires-clause-may g c =
     let of = subst (IsConsistentCore g.K.Keeper.TELLS before) (sym c.self.view_is) c.requires.keepers in
     let here = subst (λ (x : CoreState). IsPlacedWrite x.settings c.args.call.now.write) (sym c.self.view_is) c.requires.placed in
     let done = c.in-Ok-write_along.done in
-    may_written g.K.Keeper.TELLS before now core of c.write_along.new.fleet c.write_along.new.mail shard done c.write_along.ensures.consistent
-    c.write_along.ensures.inboxes c.write_along.ensures.goes c.write_along.ensures.grows.logs
+    may_written g.K.Keeper.TELLS before now core of c.write_along.new.fleet c.write_along.new.mail shard done c.write_along.ensures.on.consistent
+    c.write_along.ensures.on.inboxes c.write_along.ensures.on.goes c.write_along.ensures.on.grows.logs
     (subst (λ n. n < core.settings.shards) (sym c.shard-shard.ensures) here.configured)
     (subst (λ n. IfSome done.entry (StandsIn (pens_of c.write_along.new.fleet.masters n))) (sym c.shard-shard.ensures) c.in-Ok-write_along.ensures.stands)
     c.in-Ok-write_along.ensures.other c.args.call.now.session (sessions_of c.ready.new.sessions) c.in-Ok.ensures.same
@@ -74,6 +74,7 @@ learn_written-requires-clause-may g c =
 pub returns-in-Ok-write_along : goal.returns-in-Ok-write_along
 returns-in-Ok-write_along g c =
     let went = c.write_along in
+    let on = went.ensures.on in
     let learnt = c.learn_written in
     let done =
     write_carried g.K.Keeper.TELLS (core_state c.self.inside) c.args.self.now c.self.view_is (g.K.Keeper.state c.args.keepers.now)
@@ -81,21 +82,22 @@ returns-in-Ok-write_along g c =
     c.at-session.ensures c.shard-shard.ensures c.in-Some.ensures.chosen
     c.preferred.result c.master-master.result c.client_of.result went.new.fleet went.new.mail (g.K.Keeper.state went.new.keepers)
     (g.L.Link.shown went.new.link) went.result c.master-master.ensures.master c.preferred.ensures.preferred c.client_of.ensures went.ensures.writes
-    went.ensures.consistent went.ensures.inboxes went.ensures.goes went.ensures.grows went.ensures.later
+    on.consistent on.inboxes on.goes on.grows on.later
     (sessions_of c.ready.new.sessions) (sessions_of learnt.new.sessions) learnt.new.fleet c.in-Ok-write_along.done learnt.result
     c.in-Ok-write_along.is learnt.ensures.reply c.requires.placed c.in-Ok-write_along.ensures.stands c.in-Ok-write_along.ensures.other
     c.in-Ok.ensures.same learnt.ensures.learns learnt.ensures.same in
-    record { does = done.does; keepers = done.leaves.is_consistent; on = done.leaves.on; grows = done.leaves.grows; later = done.leaves.later }
+    record { does = done.does; leaves = done.leaves }
 
 pub returns-in-Err : goal.returns-in-Err
 returns-in-Err g c =
     let went = c.write_along in
+    let on = went.ensures.on in
     let done =
     write_refused g.K.Keeper.TELLS (core_state c.self.inside) c.args.self.now c.self.view_is (g.K.Keeper.state c.args.keepers.now)
     (g.L.Link.shown c.args.link.now) c.args.call.now c.at-session.result c.shard-shard.result c.in-Some.follower c.requires.keepers
     c.at-session.ensures c.shard-shard.ensures c.in-Some.ensures.chosen
     c.preferred.result c.master-master.result c.client_of.result went.new.fleet went.new.mail (g.K.Keeper.state went.new.keepers)
     (g.L.Link.shown went.new.link) went.result c.master-master.ensures.master c.preferred.ensures.preferred c.client_of.ensures went.ensures.writes
-    went.ensures.consistent went.ensures.inboxes went.ensures.goes went.ensures.grows went.ensures.later
+    on.consistent on.inboxes on.goes on.grows on.later
     (sessions_of c.ready.new.sessions) c.in-Err.reply c.in-Err.is c.in-Ok.ensures.same in
-    record { does = done.does; keepers = done.leaves.is_consistent; on = done.leaves.on; grows = done.leaves.grows; later = done.leaves.later }
+    record { does = done.does; leaves = done.leaves }

@@ -7,21 +7,24 @@ returns-clause-does g c =
     let state = g.K.Keeper.state in
     let shown = g.L.Link.shown in
     call_answers g.K.Keeper.TELLS c.args.self.now c.self.inside.core c.call.new.self
-    (outside (state c.args.keepers.now) (shown c.args.link.now)) (outside (state c.call.new.keepers) (shown c.call.new.link)) c.self.view_is c.call.ensures.settings
-    c.args.request.now c.call.result c.call.ensures.does c.call.ensures.goes c.call.ensures.keepers
+    (outside (state c.args.keepers.now) (shown c.args.link.now))
+    (outside (state c.call.new.keepers) (shown c.call.new.link)) c.self.view_is c.call.ensures.usable.settings
+    c.args.request.now c.call.result c.call.ensures.does c.call.ensures.usable.goes c.call.ensures.usable.keepers
 
 pub returns-clause-serving : goal.returns-clause-serving
 returns-clause-serving g c =
     let state = g.K.Keeper.state in
     let shown = g.L.Link.shown in
     call_serves_on g.K.Keeper.TELLS c.args.self.now c.self.inside.core c.call.new.self
-    (outside (state c.args.keepers.now) (shown c.args.link.now)) (outside (state c.call.new.keepers) (shown c.call.new.link)) c.self.view_is c.call.ensures.settings
-    c.requires.serving c.call.ensures.grows c.call.ensures.keepers
+    (outside (state c.args.keepers.now) (shown c.args.link.now))
+    (outside (state c.call.new.keepers) (shown c.call.new.link)) c.self.view_is c.call.ensures.usable.settings
+    c.requires.serving c.call.ensures.usable.grows c.call.ensures.usable.keepers
 
 pub returns-clause-tables : goal.returns-clause-tables
 returns-clause-tables g c =
     let state = g.K.Keeper.state in
     let shown = g.L.Link.shown in
     call_leaves g.K.Keeper.TELLS c.args.self.now c.self.inside.core c.call.new.self
-    (outside (state c.args.keepers.now) (shown c.args.link.now)) (outside (state c.call.new.keepers) (shown c.call.new.link)) c.self.view_is c.call.ensures.settings
-    c.requires.serving c.call.ensures.grows c.call.ensures.keepers
+    (outside (state c.args.keepers.now) (shown c.args.link.now))
+    (outside (state c.call.new.keepers) (shown c.call.new.link)) c.self.view_is c.call.ensures.usable.settings
+    c.requires.serving c.call.ensures.usable.grows c.call.ensures.usable.keepers

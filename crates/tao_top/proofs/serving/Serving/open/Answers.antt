@@ -5,12 +5,14 @@ pub returns-in_err-core-clause-tables : goal.returns-in_err-core-clause-tables
 returns-in_err-core-clause-tables g c =
     let keepers = g.K.Keeper.state in record {
       histories = c.open.ensures.grows;
-      still = still_refused g.K.Keeper.TELLS c.args.config.now c.args.line.now (keepers c.args.keepers.now) (keepers c.open.new.keepers) _ c.in_err-core.ensures.refused;
+      still = still_refused g.K.Keeper.TELLS c.args.config.now c.args.line.now (keepers c.args.keepers.now)
+          (keepers c.open.new.keepers) _ c.in_err-core.ensures.refused;
     }
 
 pub returns-clause-serving : goal.returns-clause-serving
 returns-clause-serving g c =
-    serves_opened g.K.Keeper.TELLS c.args.config.now c.args.line.now c.in_ok-core.core (g.K.Keeper.state c.args.keepers.now).told (g.K.Keeper.state c.open.new.keepers).told
+    serves_opened g.K.Keeper.TELLS c.args.config.now c.args.line.now c.in_ok-core.core (g.K.Keeper.state c.args.keepers.now).told
+    (g.K.Keeper.state c.open.new.keepers).told
     c.requires.configured c.in_ok-core.ensures.settings c.in_ok-core.ensures.opened c.in_ok-core.ensures.keepers
 
 pub returns-clause-tables : goal.returns-clause-tables

@@ -1,0 +1,73 @@
+-- What each step of a write keeps is kept by one after another.
+use Rattle.std.proofs.Common.{◌≡◌, Bool, ap, arith, refl, sym, subst}
+use Rattle.core_mail.specs.Inboxes.{AreInboxesOf}
+use Rattle.core_model.specs.Consistent.{GoesOn, IsConsistent, IsFleetOf}
+use Rattle.core_model.specs.Fleet.{Fleet}
+use Rattle.core_model.specs.Growing.{MastersGrow}
+use Rattle.core_model.specs.Pens.{pens_of}
+use Rattle.core_model.specs.Stores.{AreStoresOf}
+use Rattle.core_nodes.proofs.FleetLemmas.{goes_self}
+use Rattle.core_nodes.proofs.GrowingLemmas.{masters_in_turn, stays_masters}
+use Rattle.tao_keeper.specs.KeeperState.{IsLater, KeeperState}
+use Rattle.topology.specs.Config.{Settings}
+use Rattle.core_steps.specs.Posting.{AppliesAlone, Posting, PostsOn}
+use Rattle.core_steps.proofs.ReadLemmas.{goes_trans}
+
+pub later_trans : (a b c : KeeperState) → IsLater a b → IsLater b c → IsLater a c
+later_trans a b c p q = record { calls = omega (arith, p.calls, q.calls); faults = omega (arith, p.faults, q.faults) }
+
+module _ (tells : Bool) (s : Settings) where
+  -- nothing was done
+  pub posts_none : (now : Posting) → IsConsistent tells s now.scene.keepers.told now.scene.fleet
+      → AreInboxesOf s (pens_of now.scene.fleet.masters) now.inboxes → PostsOn tells s now now
+  posts_none now consistent inboxes = record {
+    consistent = consistent;
+    inboxes = inboxes;
+    goes = goes_self now.scene.fleet;
+    grows = stays_masters tells s now.scene.keepers now.scene.keepers (λ told at. refl);
+    later = record { calls = omega arith; faults = omega arith };
+  }
+
+  -- one step after another
+  pub posts_trans : (old mid new : Posting) → PostsOn tells s old mid → PostsOn tells s mid new → PostsOn tells s old new
+  posts_trans old mid new p q = record {
+    consistent = q.consistent;
+    inboxes = q.inboxes;
+    goes = goes_trans old.scene.fleet mid.scene.fleet new.scene.fleet p.goes q.goes;
+    grows = masters_in_turn tells s old.scene.keepers.told mid.scene.keepers.told new.scene.keepers.told p.grows q.grows;
+    later = later_trans old.scene.keepers mid.scene.keepers new.scene.keepers p.later q.later;
+  }
+
+  -- a step that changes no node and no inbox
+  pub posts_same : (old new : Posting) → AreInboxesOf s (pens_of old.scene.fleet.masters) old.inboxes → new.scene.fleet ≡ old.scene.fleet
+      → new.inboxes ≡ old.inboxes → IsConsistent tells s new.scene.keepers.told new.scene.fleet
+      → MastersGrow tells s old.scene.keepers.told new.scene.keepers.told → IsLater old.scene.keepers new.scene.keepers → PostsOn tells s old new
+  posts_same old new inboxes fleet mail consistent grows later = record {
+    consistent = consistent;
+    inboxes = subst (AreInboxesOf s (pens_of new.scene.fleet.masters)) (sym mail)
+        (subst (λ (f : Fleet). AreInboxesOf s (pens_of f.masters) old.inboxes) (sym fleet) inboxes);
+    goes = subst (GoesOn old.scene.fleet) (sym fleet) (goes_self old.scene.fleet);
+    grows = grows;
+    later = later;
+  }
+
+  -- a step that changes followers alone
+  pub posts_applied : (old new : Posting) → IsConsistent tells s old.scene.keepers.told old.scene.fleet
+      → AreInboxesOf s (pens_of old.scene.fleet.masters) old.inboxes → AppliesAlone old new → IsFleetOf s new.scene.fleet
+      → GoesOn old.scene.fleet new.scene.fleet → PostsOn tells s old new
+  posts_applied old new consistent inboxes alone fleet goes =
+      let masters = ap (λ (f : Fleet). f.masters) alone.fleet in
+      let keepers = sym alone.keepers in
+      record {
+        consistent = record {
+          stores = subst (λ (k : KeeperState). AreStoresOf tells s k.told new.scene.fleet.masters) keepers
+              (subst (AreStoresOf tells s old.scene.keepers.told) (sym masters) consistent.stores);
+          fleet = fleet;
+        };
+        inboxes = subst (AreInboxesOf s (pens_of new.scene.fleet.masters)) (sym alone.inboxes)
+            (subst (λ ms. AreInboxesOf s (pens_of ms) old.inboxes) (sym masters) inboxes);
+        goes = goes;
+        grows = subst (λ (k : KeeperState). MastersGrow tells s old.scene.keepers.told k.told) keepers
+            (stays_masters tells s old.scene.keepers old.scene.keepers (λ told at. refl));
+        later = subst (IsLater old.scene.keepers) keepers (record { calls = omega arith; faults = omega arith });
+      }

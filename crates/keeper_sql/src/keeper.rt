@@ -3,9 +3,9 @@ ghost use Rattle.std.specs.Prelude.{◌≡◌, ◌≤◌, IsErrOf};
 ghost use Rattle.counts.specs.Count.{Rose};
 ghost use Rattle.tao_keeper.specs.declared.keeper.KeepFail.TheVariants.{Failed};
 
+use crate::rows::Tables;
 use crate::{reading, writing};
 use counts::Count;
-use sqlite::{Alter, Connection};
 use std::alloc::Global;
 use tao_base::{AType, EdgeState, Edges, Entry, Id, Key, Object, Origin, StoreName};
 use tao_keeper::{Commit, Job, KeepFail, Keeper, Opened};
@@ -15,22 +15,28 @@ use tao_keeper::{Commit, Job, KeepFail, Keeper, Opened};
 ///
 /// A commit is one transaction, and on the disk when it is answered.
 #[derive(Drop)]
-pub struct SqlKeeper<S: Alter + Drop> {
+pub struct SqlKeeper {
     alloc: Global,
-    conn: Connection<S>,
+    tables: Tables,
     calls: Count,
     faults: Count,
 }
 
-impl<S: Alter + Drop> SqlKeeper<S> {
-    /// A keeper of the tables of a connection, which was not called yet.
-    pub(crate) fn over(alloc: Global, conn: Connection<S>) -> SqlKeeper<S> {
+impl SqlKeeper {
+    /// A keeper of these tables, which was not called yet.
+    pub(crate) fn over(alloc: Global, tables: Tables) -> SqlKeeper {
         SqlKeeper {
             alloc,
-            conn,
+            tables,
             calls: Count::new(),
             faults: Count::new(),
         }
+    }
+
+    /// Lets go of the tables; a file may then be opened again. Dropping does the same, but a crate that drops a keeper proves anew
+    /// how all that SQL holds is dropped.
+    pub fn close(self) {
+        drop(self);
     }
 }
 
@@ -47,12 +53,8 @@ fn counted<T>(faults: &mut Count, outcome: Result<T, KeepFail>) -> Result<T, Kee
 }
 
 /// Whether a store takes a line: its first is the same, or is kept now.
-fn open_with<S: Alter>(
-    conn: &mut Connection<S>,
-    at: StoreName,
-    line: &[u8],
-) -> Result<Opened, KeepFail> {
-    match reading::first_line(conn, at)? {
+fn open_with(tables: &mut Tables, at: StoreName, line: &[u8]) -> Result<Opened, KeepFail> {
+    match reading::first_line(tables, at)? {
         Some(first) => {
             if first.as_slice() == line {
                 Ok(Opened::Ready)
@@ -61,13 +63,13 @@ fn open_with<S: Alter>(
             }
         }
         None => {
-            writing::keep_line(conn, at, line)?;
+            writing::keep_line(tables, at, line)?;
             Ok(Opened::Ready)
         }
     }
 }
 
-impl<S: Alter + Drop> Keeper for SqlKeeper<S> {
+impl Keeper for SqlKeeper {
     ghost use Rattle.std.specs.Prelude.{false};
     ghost use Rattle.keeper_sql.specs.Untold.{of_nothing_told};
     ghost use Rattle.tao_keeper.specs.Table.{empty_table};
@@ -84,7 +86,7 @@ impl<S: Alter + Drop> Keeper for SqlKeeper<S> {
 
     fn open(&mut self, at: StoreName, line: &[u8]) -> Result<Opened, KeepFail> {
         self.calls.rise();
-        let opened = open_with(&mut self.conn, at, line);
+        let opened = open_with(&mut self.tables, at, line);
         counted(&mut self.faults, opened)
     }
 
@@ -96,7 +98,7 @@ impl<S: Alter + Drop> Keeper for SqlKeeper<S> {
         id2: Id,
     ) -> Result<Option<EdgeState>, KeepFail> {
         self.calls.rise();
-        let found = reading::edge(self.alloc, &mut self.conn, at, id1, atype, id2);
+        let found = reading::edge(self.alloc, &mut self.tables, at, id1, atype, id2);
         counted(&mut self.faults, found)
     }
 
@@ -109,73 +111,73 @@ impl<S: Alter + Drop> Keeper for SqlKeeper<S> {
         most: u64,
     ) -> Result<Edges, KeepFail> {
         self.calls.rise();
-        let edges = reading::edges(self.alloc, &mut self.conn, at, id1, atype, pos, most);
+        let edges = reading::edges(self.alloc, &mut self.tables, at, id1, atype, pos, most);
         counted(&mut self.faults, edges)
     }
 
     fn object(&mut self, at: StoreName, id: Id) -> Result<Option<Object>, KeepFail> {
         self.calls.rise();
-        let found = reading::object(self.alloc, &mut self.conn, at, id);
+        let found = reading::object(self.alloc, &mut self.tables, at, id);
         counted(&mut self.faults, found)
     }
 
     fn count(&mut self, at: StoreName, id1: Id, atype: AType) -> Result<u64, KeepFail> {
         self.calls.rise();
-        let count = reading::count(&mut self.conn, at, id1, atype);
+        let count = reading::count(&mut self.tables, at, id1, atype);
         counted(&mut self.faults, count)
     }
 
     fn version(&mut self, at: StoreName, key: Key) -> Result<u64, KeepFail> {
         self.calls.rise();
-        let version = reading::version(&mut self.conn, at, key);
+        let version = reading::version(&mut self.tables, at, key);
         counted(&mut self.faults, version)
     }
 
     fn length(&mut self, at: StoreName) -> Result<u64, KeepFail> {
         self.calls.rise();
-        let length = reading::length(&mut self.conn, at);
+        let length = reading::length(&mut self.tables, at);
         counted(&mut self.faults, length)
     }
 
     fn entry(&mut self, at: StoreName, position: u64) -> Result<Option<Entry>, KeepFail> {
         self.calls.rise();
-        let found = reading::entry(self.alloc, &mut self.conn, at, position);
+        let found = reading::entry(self.alloc, &mut self.tables, at, position);
         counted(&mut self.faults, found)
     }
 
     fn last_serial(&mut self, at: StoreName) -> Result<u64, KeepFail> {
         self.calls.rise();
-        let serial = reading::last_serial(&mut self.conn, at);
+        let serial = reading::last_serial(&mut self.tables, at);
         counted(&mut self.faults, serial)
     }
 
     fn origin(&mut self, at: StoreName, origin: Origin) -> Result<Option<u64>, KeepFail> {
         self.calls.rise();
-        let found = reading::origin(&mut self.conn, at, origin);
+        let found = reading::origin(&mut self.tables, at, origin);
         counted(&mut self.faults, found)
     }
 
     fn first_job(&mut self, at: StoreName) -> Result<Option<Job>, KeepFail> {
         self.calls.rise();
-        let found = reading::first_job(self.alloc, &mut self.conn, at);
+        let found = reading::first_job(self.alloc, &mut self.tables, at);
         counted(&mut self.faults, found)
     }
 
     fn job(&mut self, at: StoreName, position: u64) -> Result<Option<Job>, KeepFail> {
         self.calls.rise();
-        let found = reading::job(self.alloc, &mut self.conn, at, position);
+        let found = reading::job(self.alloc, &mut self.tables, at, position);
         counted(&mut self.faults, found)
     }
 
     fn end_job(&mut self, at: StoreName, position: u64) -> Result<(), KeepFail> {
         self.calls.rise();
-        let ended = writing::end_job(&mut self.conn, at, position);
+        let ended = writing::end_job(&mut self.tables, at, position);
         counted(&mut self.faults, ended)
     }
 
     fn commit(&mut self, at: StoreName, commit: &Commit) -> Result<(), KeepFail> {
         self.calls.rise();
-        let added = writing::add(self.alloc, &mut self.conn, at, commit);
+        let added = writing::add(self.alloc, &mut self.tables, at, commit);
         counted(&mut self.faults, added)
     }
 

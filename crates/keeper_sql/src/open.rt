@@ -1,29 +1,28 @@
 //! Making a keeper. Neither call hands back a keeper that could count a fault, so what they fail for stands on the tests.
 use crate::columns::fail_of;
 use crate::keeper::SqlKeeper;
+use crate::rows::Tables;
 use crate::schema::make_tables;
-use sqlite::{Connection, File, FileStore, MemStore};
+use sqlite::Connection;
 use std::alloc::Global;
 use tao_keeper::KeepFail;
 
-impl SqlKeeper<MemStore> {
+impl SqlKeeper {
     /// A keeper of stores that nothing was written to, in memory.
-    pub fn open_memory(alloc: Global) -> Result<SqlKeeper<MemStore>, KeepFail> {
-        let mut conn = Connection::open_in_memory(alloc)?;
-        make_tables(&mut conn)?;
-        Ok(SqlKeeper::over(alloc, conn))
+    pub fn open_memory(alloc: Global) -> Result<SqlKeeper, KeepFail> {
+        let mut tables = Tables::Memory(Connection::open_in_memory(alloc)?);
+        make_tables(&mut tables)?;
+        Ok(SqlKeeper::over(alloc, tables))
     }
-}
 
-impl SqlKeeper<FileStore<File>> {
     /// A keeper of the tables in a file, which is made where it isn't there. `Failed` where the file can't be opened, is held
     /// by another, or is no database that tables can be kept in. Reads the whole file.
-    pub fn open_file(rt: &HostRuntime, path: &str) -> Result<SqlKeeper<FileStore<File>>, KeepFail> {
-        let mut conn = match Connection::open(rt, path) {
-            Ok(conn) => conn,
+    pub fn open_file(rt: &HostRuntime, path: &str) -> Result<SqlKeeper, KeepFail> {
+        let mut tables = match Connection::open(rt, path) {
+            Ok(conn) => Tables::File(conn),
             Err(error) => return Err(fail_of(error)),
         };
-        make_tables(&mut conn)?;
-        Ok(SqlKeeper::over(rt.alloc(), conn))
+        make_tables(&mut tables)?;
+        Ok(SqlKeeper::over(rt.alloc(), tables))
     }
 }

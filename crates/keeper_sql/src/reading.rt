@@ -4,9 +4,9 @@ ghost use Rattle.graph_model.specs.Edges.{number_of};
 ghost use Rattle.tao_keeper.specs.Given.{AreGiven, IsGivenEntry, IsGivenJob, IsPosition};
 
 use crate::columns::{bytes, id, maybe_bytes, number, short, word};
-use crate::rows::{all, first, place};
+use crate::rows::{Tables, place};
 use crate::{given, spelled};
-use sqlite::{Alter, Connection, Row, params};
+use sqlite::{Row, params};
 use std::alloc::Global;
 use tao_base::{
     AType, Edge, EdgeState, Edges, Entry, Id, Key, OType, Object, Origin, Stamp, StoreName,
@@ -14,13 +14,10 @@ use tao_base::{
 use tao_keeper::{Job, KeepFail, MOST_ENTRIES, SERIAL_LIMIT, STAMP_LIMIT};
 
 /// The line that a store was first opened with, where it was.
-pub(crate) fn first_line<S: Alter>(
-    conn: &mut Connection<S>,
-    at: StoreName,
-) -> Result<Option<Vec<u8>>, KeepFail> {
+pub(crate) fn first_line(tables: &mut Tables, at: StoreName) -> Result<Option<Vec<u8>>, KeepFail> {
     let (region, shard) = place(at);
     let sql = "SELECT line FROM store WHERE region = ?1 AND shard = ?2";
-    match first(conn, sql, params![region, shard])? {
+    match tables.first(sql, params![region, shard])? {
         Some(row) => maybe_bytes(&row, 0),
         None => Ok(None),
     }
@@ -51,8 +48,8 @@ fn record_of(alloc: Global, row: &Row) -> Result<EdgeState, KeepFail> {
 }
 
 /// The row of an edge.
-fn edge_row<S: Alter>(
-    conn: &mut Connection<S>,
+fn edge_row(
+    tables: &mut Tables,
     at: StoreName,
     id1: Id,
     atype: AType,
@@ -62,17 +59,13 @@ fn edge_row<S: Alter>(
     let (id1, id2) = (id1.number().cast_signed(), id2.number().cast_signed());
     let sql = "SELECT live, time, number, sshard, data FROM edge \
         WHERE region = ?1 AND shard = ?2 AND id1 = ?3 AND atype = ?4 AND id2 = ?5";
-    first(
-        conn,
-        sql,
-        params![region, shard, id1, i64::from(atype.0), id2],
-    )
+    tables.first(sql, params![region, shard, id1, i64::from(atype.0), id2])
 }
 
 /// The record of an edge.
-pub(crate) fn edge<S: Alter>(
+pub(crate) fn edge(
     alloc: Global,
-    conn: &mut Connection<S>,
+    tables: &mut Tables,
     at: StoreName,
     id1: Id,
     atype: AType,
@@ -80,15 +73,15 @@ pub(crate) fn edge<S: Alter>(
 ) -> Result<Option<EdgeState>, KeepFail>
     ensures { IfOk result (λ found. number_of found < STAMP_LIMIT) }
 {
-    match edge_row(conn, at, id1, atype, id2)? {
+    match edge_row(tables, at, id1, atype, id2)? {
         Some(row) => Ok(Some(given::state(record_of(alloc, &row)?)?)),
         None => Ok(None),
     }
 }
 
 /// The rows of a list's live edges at the places from `pos` on, at most `most`.
-fn edge_rows<S: Alter>(
-    conn: &mut Connection<S>,
+fn edge_rows(
+    tables: &mut Tables,
     at: StoreName,
     id1: Id,
     atype: AType,
@@ -101,8 +94,7 @@ fn edge_rows<S: Alter>(
     let sql = "SELECT id2, time, number, sshard, data FROM edge \
         WHERE region = ?1 AND shard = ?2 AND id1 = ?3 AND atype = ?4 AND live = 1 \
         ORDER BY time DESC, idkey DESC LIMIT ?5 OFFSET ?6";
-    all(
-        conn,
+    tables.all(
         sql,
         params![region, shard, id1, i64::from(atype.0), most, pos],
     )
@@ -118,9 +110,9 @@ fn edge_of(alloc: Global, row: &Row) -> Result<Edge, KeepFail> {
 }
 
 /// The live edges of a list at the places from `pos` on, at most `most`.
-pub(crate) fn edges<S: Alter>(
+pub(crate) fn edges(
     alloc: Global,
-    conn: &mut Connection<S>,
+    tables: &mut Tables,
     at: StoreName,
     id1: Id,
     atype: AType,
@@ -129,7 +121,7 @@ pub(crate) fn edges<S: Alter>(
 ) -> Result<Edges, KeepFail>
     ensures { IfOk result (AreGiven most) }
 {
-    let rows = edge_rows(conn, at, id1, atype, pos, most)?;
+    let rows = edge_rows(tables, at, id1, atype, pos, most)?;
     let mut edges = Vec::new(alloc);
     for row in &rows {
         edges.push(edge_of(alloc, row)?)?;
@@ -145,15 +137,15 @@ fn object_of(alloc: Global, row: &Row) -> Result<Object, KeepFail> {
 }
 
 /// The object of an id.
-pub(crate) fn object<S: Alter>(
+pub(crate) fn object(
     alloc: Global,
-    conn: &mut Connection<S>,
+    tables: &mut Tables,
     at: StoreName,
     id: Id,
 ) -> Result<Option<Object>, KeepFail> {
     let (region, shard) = place(at);
     let sql = "SELECT otype, data FROM object WHERE region = ?1 AND shard = ?2 AND id = ?3";
-    match first(conn, sql, params![region, shard, id.number().cast_signed()])? {
+    match tables.first(sql, params![region, shard, id.number().cast_signed()])? {
         Some(row) => Ok(Some(object_of(alloc, &row)?)),
         None => Ok(None),
     }
@@ -168,8 +160,8 @@ fn number_or_none(row: Option<Row>) -> Result<u64, KeepFail> {
 }
 
 /// The length of a list.
-pub(crate) fn count<S: Alter>(
-    conn: &mut Connection<S>,
+pub(crate) fn count(
+    tables: &mut Tables,
     at: StoreName,
     id1: Id,
     atype: AType,
@@ -179,7 +171,7 @@ pub(crate) fn count<S: Alter>(
     let (region, shard) = place(at);
     let id1 = id1.number().cast_signed();
     let sql = "SELECT n FROM size WHERE region = ?1 AND shard = ?2 AND id1 = ?3 AND atype = ?4";
-    let row = first(conn, sql, params![region, shard, id1, i64::from(atype.0)])?;
+    let row = tables.first(sql, params![region, shard, id1, i64::from(atype.0)])?;
     given::few(number_or_none(row)?)
 }
 
@@ -192,36 +184,32 @@ pub(crate) fn key_columns(key: Key) -> (i64, i64, i64) {
 }
 
 /// The version of a key.
-pub(crate) fn version<S: Alter>(
-    conn: &mut Connection<S>,
-    at: StoreName,
-    key: Key,
-) -> Result<u64, KeepFail>
+pub(crate) fn version(tables: &mut Tables, at: StoreName, key: Key) -> Result<u64, KeepFail>
     ensures { IfOk result (λ count. count ≤ MOST_ENTRIES) }
 {
     let (region, shard) = place(at);
     let (tag, id, atype) = key_columns(key);
     let sql = "SELECT n FROM version \
         WHERE region = ?1 AND shard = ?2 AND tag = ?3 AND id = ?4 AND atype = ?5";
-    let row = first(conn, sql, params![region, shard, tag, id, atype])?;
+    let row = tables.first(sql, params![region, shard, tag, id, atype])?;
     given::few(number_or_none(row)?)
 }
 
 /// The length of the log.
-pub(crate) fn length<S: Alter>(conn: &mut Connection<S>, at: StoreName) -> Result<u64, KeepFail>
+pub(crate) fn length(tables: &mut Tables, at: StoreName) -> Result<u64, KeepFail>
     ensures { IfOk result (λ count. count ≤ MOST_ENTRIES) }
 {
     let (region, shard) = place(at);
     let sql = "SELECT position FROM log WHERE region = ?1 AND shard = ?2 \
         ORDER BY position DESC LIMIT 1";
-    let row = first(conn, sql, params![region, shard])?;
+    let row = tables.first(sql, params![region, shard])?;
     given::few(number_or_none(row)?)
 }
 
 /// The entry at a position.
-pub(crate) fn entry<S: Alter>(
+pub(crate) fn entry(
     alloc: Global,
-    conn: &mut Connection<S>,
+    tables: &mut Tables,
     at: StoreName,
     position: u64,
 ) -> Result<Option<Entry>, KeepFail>
@@ -229,7 +217,7 @@ pub(crate) fn entry<S: Alter>(
 {
     let (region, shard) = place(at);
     let sql = "SELECT entry FROM log WHERE region = ?1 AND shard = ?2 AND position = ?3";
-    match first(conn, sql, params![region, shard, position.cast_signed()])? {
+    match tables.first(sql, params![region, shard, position.cast_signed()])? {
         Some(row) => {
             let entry = spelled::entry_of(alloc, &bytes(&row, 0)?)?;
             Ok(Some(given::entry(entry, position)?))
@@ -239,15 +227,12 @@ pub(crate) fn entry<S: Alter>(
 }
 
 /// The serial of the last object that was added.
-pub(crate) fn last_serial<S: Alter>(
-    conn: &mut Connection<S>,
-    at: StoreName,
-) -> Result<u64, KeepFail>
+pub(crate) fn last_serial(tables: &mut Tables, at: StoreName) -> Result<u64, KeepFail>
     ensures { IfOk result (λ serial. serial < SERIAL_LIMIT) }
 {
     let (region, shard) = place(at);
     let sql = "SELECT serial FROM store WHERE region = ?1 AND shard = ?2";
-    let row = first(conn, sql, params![region, shard])?;
+    let row = tables.first(sql, params![region, shard])?;
     given::serial(number_or_none(row)?)
 }
 
@@ -260,8 +245,8 @@ pub(crate) fn origin_columns(origin: Origin) -> (i64, i64, i64) {
 }
 
 /// Where the entry of an origin stands.
-pub(crate) fn origin<S: Alter>(
-    conn: &mut Connection<S>,
+pub(crate) fn origin(
+    tables: &mut Tables,
     at: StoreName,
     origin: Origin,
 ) -> Result<Option<u64>, KeepFail>
@@ -271,7 +256,7 @@ pub(crate) fn origin<S: Alter>(
     let (tag, a, b) = origin_columns(origin);
     let sql = "SELECT position FROM log \
         WHERE region = ?1 AND shard = ?2 AND tag = ?3 AND a = ?4 AND b = ?5";
-    match first(conn, sql, params![region, shard, tag, a, b])? {
+    match tables.first(sql, params![region, shard, tag, a, b])? {
         Some(row) => Ok(Some(given::position(number(&row, 0)?)?)),
         None => Ok(None),
     }
@@ -291,9 +276,9 @@ fn job_of(alloc: Global, row: Option<Row>) -> Result<Option<Job>, KeepFail>
 }
 
 /// The open job of the least position.
-pub(crate) fn first_job<S: Alter>(
+pub(crate) fn first_job(
     alloc: Global,
-    conn: &mut Connection<S>,
+    tables: &mut Tables,
     at: StoreName,
 ) -> Result<Option<Job>, KeepFail>
     ensures { IfOk result (λ found. IfSome found IsGivenJob) }
@@ -301,14 +286,14 @@ pub(crate) fn first_job<S: Alter>(
     let (region, shard) = place(at);
     let sql = "SELECT position, edges FROM job WHERE region = ?1 AND shard = ?2 \
         ORDER BY position LIMIT 1";
-    let row = first(conn, sql, params![region, shard])?;
+    let row = tables.first(sql, params![region, shard])?;
     job_of(alloc, row)
 }
 
 /// The open job of a position.
-pub(crate) fn job<S: Alter>(
+pub(crate) fn job(
     alloc: Global,
-    conn: &mut Connection<S>,
+    tables: &mut Tables,
     at: StoreName,
     position: u64,
 ) -> Result<Option<Job>, KeepFail>
@@ -316,6 +301,6 @@ pub(crate) fn job<S: Alter>(
 {
     let (region, shard) = place(at);
     let sql = "SELECT position, edges FROM job WHERE region = ?1 AND shard = ?2 AND position = ?3";
-    let row = first(conn, sql, params![region, shard, position.cast_signed()])?;
+    let row = tables.first(sql, params![region, shard, position.cast_signed()])?;
     job_of(alloc, row)
 }

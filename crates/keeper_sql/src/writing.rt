@@ -1,7 +1,7 @@
 //! What is written to the tables.
 use crate::columns::fail_of;
 use crate::reading::{key_columns, length, origin_columns};
-use crate::rows::{place, run};
+use crate::rows::{Tables, place};
 use crate::spelled::{job_bytes, job_of};
 use entry_codec::{Spelled, encode_data};
 use sqlite::types::ValueRef;
@@ -11,26 +11,18 @@ use tao_base::{AType, Change, Data, Edge, Entry, Id, Key, Kind, Object, Stamp, S
 use tao_keeper::{Commit, Job, KeepFail};
 
 /// Keeps the line of a store that is opened first.
-pub(crate) fn keep_line<S: Alter>(
-    conn: &mut Connection<S>,
-    at: StoreName,
-    line: &[u8],
-) -> Result<(), KeepFail> {
+pub(crate) fn keep_line(tables: &mut Tables, at: StoreName, line: &[u8]) -> Result<(), KeepFail> {
     let (region, shard) = place(at);
     let sql = "INSERT INTO store (region, shard, line, serial) VALUES (?1, ?2, ?3, 0) \
         ON CONFLICT (region, shard) DO UPDATE SET line = ?3";
-    run(conn, sql, params![region, shard, line])
+    tables.run(sql, params![region, shard, line])
 }
 
 /// Takes away the job of a position.
-pub(crate) fn end_job<S: Alter>(
-    conn: &mut Connection<S>,
-    at: StoreName,
-    position: u64,
-) -> Result<(), KeepFail> {
+pub(crate) fn end_job(tables: &mut Tables, at: StoreName, position: u64) -> Result<(), KeepFail> {
     let (region, shard) = place(at);
     let sql = "DELETE FROM job WHERE region = ?1 AND shard = ?2 AND position = ?3";
-    run(conn, sql, params![region, shard, position.cast_signed()])
+    tables.run(sql, params![region, shard, position.cast_signed()])
 }
 
 /// One statement of a transaction.
@@ -333,15 +325,14 @@ fn add_all<S: Alter>(
     }
 }
 
-/// The entry at the end of the log, what it touches, and its job, in one transaction.
-pub(crate) fn add<S: Alter>(
+/// An entry, what it touches, and its job, in one transaction.
+fn add_to<S: Alter>(
     alloc: Global,
     conn: &mut Connection<S>,
     at: StoreName,
     commit: &Commit,
 ) -> Result<(), KeepFail> {
-    let last = length(conn, at)?;
-    if last.wrapping_add(1) != commit.entry.position || !conn.is_autocommit() {
+    if !conn.is_autocommit() {
         return Err(KeepFail::Failed);
     }
     let mut tx = conn.transaction();
@@ -349,5 +340,22 @@ pub(crate) fn add<S: Alter>(
     match tx.commit() {
         Ok(()) => Ok(()),
         Err(error) => Err(fail_of(error)),
+    }
+}
+
+/// The entry at the end of the log, what it touches, and its job, in one transaction.
+pub(crate) fn add(
+    alloc: Global,
+    tables: &mut Tables,
+    at: StoreName,
+    commit: &Commit,
+) -> Result<(), KeepFail> {
+    let last = length(tables, at)?;
+    if last.wrapping_add(1) != commit.entry.position {
+        return Err(KeepFail::Failed);
+    }
+    match tables {
+        Tables::Memory(conn) => add_to(alloc, conn, at, commit),
+        Tables::File(conn) => add_to(alloc, conn, at, commit),
     }
 }

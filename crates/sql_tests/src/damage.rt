@@ -2,7 +2,7 @@
 use crate::files::{faults_over, remove};
 use crate::playing::FIRST;
 use keeper_sql::SqlKeeper;
-use sqlite::{Alter, Connection};
+use sqlite::Connection;
 use std::fs;
 use std::test::Fail;
 use tao_base::{AType, Id, Key, Origin, StoreName};
@@ -91,7 +91,7 @@ fn failed<T: Drop>(outcome: Result<T, KeepFail>) -> bool {
 }
 
 /// Whether a call of a log, an object or a job fails.
-fn log_fails<S: Alter + Drop>(keepers: &mut SqlKeeper<S>, call: Call, id: Id) -> bool {
+fn log_fails(keepers: &mut SqlKeeper, call: Call, id: Id) -> bool {
     match call {
         Call::Entry => failed(keepers.entry(AT, 1)),
         Call::Length => failed(keepers.length(AT)),
@@ -103,7 +103,7 @@ fn log_fails<S: Alter + Drop>(keepers: &mut SqlKeeper<S>, call: Call, id: Id) ->
 }
 
 /// Whether a call fails: of the object 1, of its list of likes, or of its edge to 2.
-fn call_fails<S: Alter + Drop>(keepers: &mut SqlKeeper<S>, call: Call, id: Id, to: Id) -> bool {
+fn call_fails(keepers: &mut SqlKeeper, call: Call, id: Id, to: Id) -> bool {
     let likes = AType(0);
     match call {
         Call::Edge => failed(keepers.edge(AT, id, likes, to)),
@@ -115,23 +115,26 @@ fn call_fails<S: Alter + Drop>(keepers: &mut SqlKeeper<S>, call: Call, id: Id, t
 }
 
 /// Whether the call fails over the file, and that is counted as the one fault; or it answers, and none is counted.
-fn is_as_told(rt: &HostRuntime, path: &str, call: Call, fault: bool) -> Result<bool, Fail> {
+fn check_call(rt: &HostRuntime, path: &str, call: Call, fault: bool) -> Result<bool, Fail> {
     let id = Id::read(1).ok_or("an id")?;
     let to = Id::read(2).ok_or("an id")?;
     let mut keepers = SqlKeeper::open_file(rt, path)?;
     let fails = call_fails(&mut keepers, call, id, to);
-    Ok(fails == fault && keepers.faults() == u64::from(fault))
+    let faults = keepers.faults();
+    keepers.close();
+    Ok(fails == fault && faults == u64::from(fault))
 }
 
 fn spoil(rt: &HostRuntime, path: &str, damage: &str) -> Result<(), Fail> {
     let mut conn = Connection::open(rt, path)?;
-    conn.execute(damage, &[])?;
+    let done = conn.execute(damage, &[]);
     conn.close()?;
+    let _ = done?;
     Ok(())
 }
 
 /// Whether what is told of the call holds over a copy of the file on which this was done.
-fn is_found(
+fn check_damage(
     rt: &HostRuntime,
     from: &str,
     damage: &str,
@@ -141,13 +144,13 @@ fn is_found(
     let path = "spoilt.test.db";
     let _ = fs::copy(rt, from, path)?;
     spoil(rt, path, damage)?;
-    let found = is_as_told(rt, path, call, fault)?;
+    let found = check_call(rt, path, call, fault)?;
     remove(rt, path)?;
     Ok(found)
 }
 
-/// Whether a file was made by a run that went well.
-fn is_made(rt: &HostRuntime, path: &str) -> Result<bool, Fail> {
+/// Makes a file by a run, and answers whether that went well.
+fn make_file(rt: &HostRuntime, path: &str) -> Result<bool, Fail> {
     remove(rt, path)?;
     Ok(faults_over(rt, path, &FIRST, 0)?.is_empty())
 }
@@ -155,11 +158,11 @@ fn is_made(rt: &HostRuntime, path: &str) -> Result<bool, Fail> {
 #[test]
 fn damaged_rows_are_counted_faults(rt: HostRuntime) -> Result<(), Fail> {
     let path = "damaged.test.db";
-    assert!(rt; is_made(&rt, path)?);
+    assert!(rt; make_file(&rt, path)?);
     // What was written stands in a log beside the file, which isn't copied, until the file is closed.
     spoil(&rt, path, HARMLESS)?;
     for (damage, call, fault) in ROWS {
-        assert!(rt; is_found(&rt, path, damage, call, fault)?, "{damage}");
+        assert!(rt; check_damage(&rt, path, damage, call, fault)?, "{damage}");
     }
     remove(&rt, path)
 }

@@ -29,7 +29,9 @@ pub fn faults_over(
     code: u8,
 ) -> Result<String, Fail> {
     let mut keepers = SqlKeeper::open_file(rt, path)?;
-    faults_of(rt.alloc(), &mut keepers, rows, code)
+    let faults = faults_of(rt.alloc(), &mut keepers, rows, code);
+    keepers.close();
+    faults
 }
 
 #[test]

@@ -1,6 +1,5 @@
 //! Runs over a keeper of tables by SQL, which tells nothing: no contract that speaks of a log says anything there.
 use keeper_sql::SqlKeeper;
-use sqlite::Alter;
 use std::alloc::Global;
 use std::test::Fail;
 use tao_io::{MemorySink, MemorySource, Sink, Source, Status};
@@ -147,12 +146,12 @@ const EACH_WORD: [(&str, &str); 17] = [
 ];
 
 /// The status of a run.
-fn run_over<R: Source, T: Sink, S: Alter + Drop>(
+fn run_over<R: Source, T: Sink>(
     alloc: Global,
     words: &[String],
     input: &mut R,
     output: &mut T,
-    keepers: &mut SqlKeeper<S>,
+    keepers: &mut SqlKeeper,
 ) -> Status {
     tao_top::run(
         alloc,
@@ -165,11 +164,7 @@ fn run_over<R: Source, T: Sink, S: Alter + Drop>(
 }
 
 /// The status of a run over these lines, and what it wrote.
-fn play<S: Alter + Drop>(
-    alloc: Global,
-    keepers: &mut SqlKeeper<S>,
-    lines: &str,
-) -> Result<(Status, MemorySink), Fail> {
+fn play(alloc: Global, keepers: &mut SqlKeeper, lines: &str) -> Result<(Status, MemorySink), Fail> {
     let words = vec![in alloc; String::from_str(alloc, "run")?]?;
     let mut input = MemorySource::of(lines.as_bytes().to_vec(alloc)?, Vec::new(alloc));
     let mut output = MemorySink::make(alloc, Vec::new(alloc));
@@ -189,9 +184,9 @@ fn lines_of(alloc: Global, rows: &[(&str, &str)]) -> Result<(String, String), Fa
 }
 
 /// What went wrong in a run over the lines of the rows: nothing where it ended with this status, with their replies.
-pub fn faults_of<S: Alter + Drop>(
+pub fn faults_of(
     alloc: Global,
-    keepers: &mut SqlKeeper<S>,
+    keepers: &mut SqlKeeper,
     rows: &[(&str, &str)],
     code: u8,
 ) -> Result<String, Fail> {
@@ -206,7 +201,9 @@ pub fn faults_of<S: Alter + Drop>(
 
 fn faults_in_memory(alloc: Global, rows: &[(&str, &str)]) -> Result<String, Fail> {
     let mut keepers = SqlKeeper::open_memory(alloc)?;
-    faults_of(alloc, &mut keepers, rows, 0)
+    let faults = faults_of(alloc, &mut keepers, rows, 0);
+    keepers.close();
+    faults
 }
 
 #[test]

@@ -7,8 +7,12 @@ use tao_keeper::KeepFail;
 
 fn is_refused(rt: &HostRuntime, path: &str) -> bool {
     match SqlKeeper::open_file(rt, path) {
+        Ok(keepers) => {
+            keepers.close();
+            false
+        }
         Err(KeepFail::Failed) => true,
-        _ => false,
+        Err(KeepFail::OutOfMemory) => false,
     }
 }
 

@@ -2,69 +2,29 @@
 //! writes one reply a line to standard output, over stores in memory or, with `--sql FILE`, in a file.
 #![tactic(auto)]
 
-mod run;
-
-use command_words::{Words, WordsRefusal, asked_text, read_words};
-use std::env;
-use std::io::{self, ErrorKind};
+use keeper_sql::SqlKeeper;
+use standard_run::{FileRuns, NO_FILE, NO_MEMORY, over, start};
 use std::process::ExitCode;
-use tao_base::Text;
-use tao_io::{StdSink, write_all};
+use tao_keeper::KeepFail;
 
-/// The status of a faulty command line.
-const FAULTY_WORDS: u8 = 2;
+/// Stores in a file are tables by SQL.
+struct SqlRuns;
 
-/// The status where standard output failed.
-const FAULTY_OUTPUT: u8 = 5;
-
-/// The status where there was no memory.
-const NO_MEMORY: u8 = 7;
-
-/// The words after the program's name. A word that isn't text is an error.
-fn words(rt: &HostRuntime) -> io::Result<Vec<String>> {
-    let mut words = Vec::new(rt.alloc());
-    for word in env::args(rt)?.skip(1) {
-        words.push(word)?;
-    }
-    Ok(words)
-}
-
-/// Writes a text that the words asked for.
-fn show(rt: &HostRuntime, text: &Text) -> u8 {
-    match write_all(&mut StdSink::of(rt.stdout()), text.as_str().as_bytes()) {
-        Ok(()) => 0,
-        Err(_) => FAULTY_OUTPUT,
-    }
-}
-
-/// Shows help or the version, where the words ask for these.
-fn answer(rt: &HostRuntime, words: &[String]) -> u8 {
-    match asked_text(rt.alloc(), words) {
-        Ok(Some(text)) => show(rt, &text),
-        Ok(None) => FAULTY_WORDS,
-        Err(_) => NO_MEMORY,
-    }
-}
-
-/// Does what the words ask for.
-fn obey(rt: &HostRuntime, words: &[String]) -> u8 {
-    match read_words(rt.alloc(), words) {
-        Ok(Words::Run { sql: None }) => run::in_memory(rt, words),
-        Ok(Words::Run { sql: Some(file) }) => run::in_file(rt, words, file.as_str()),
-        Err(WordsRefusal::Usage) => answer(rt, words),
-        Err(WordsRefusal::OutOfMemory) => NO_MEMORY,
+impl FileRuns for SqlRuns {
+    fn in_file(rt: &HostRuntime, words: &[String], path: &str) -> u8 {
+        match SqlKeeper::open_file(rt, path) {
+            Ok(keepers) => {
+                let mut keepers = keepers;
+                let code = over(rt, words, &mut keepers);
+                keepers.close();
+                code
+            }
+            Err(KeepFail::Failed) => NO_FILE,
+            Err(KeepFail::OutOfMemory) => NO_MEMORY,
+        }
     }
 }
 
 fn main(rt: HostRuntime) -> ExitCode {
-    let code = match words(&rt) {
-        Ok(words) => obey(&rt, &words),
-        Err(error) if error.kind() == ErrorKind::OutOfMemory => NO_MEMORY,
-        Err(_) => FAULTY_WORDS,
-    };
-    if code == FAULTY_WORDS {
-        // Where standard error takes nothing, the status alone tells.
-        let _ = eprintln!(rt; "usage: tao run|gen|load|serve");
-    }
-    ExitCode::from(code)
+    start::<SqlRuns>(&rt)
 }

@@ -10,13 +10,13 @@ ghost use Rattle.config_json.specs.Stage.{are_built};
 
 use super::stage::are_built;
 use json_fields::fields::{has_only, short_or, text_at};
-use json_fields::items::{Reader, TextReader, each_at};
+use json_fields::items::{ItemReader, TextReader, each_at};
 use serde_json::Value;
 use std::alloc::{AllocError, Global};
 use tao_base::Text;
 use topology::regions::MAX_LEADERS;
 use topology::tiers::MAX_FOLLOWERS;
-use topology::{Masters, Name, Region, Regions, Tier, Tiers};
+use topology::{MasterRegions, Name, Region, Regions, Tier, Tiers};
 
 /// The leaders of a region that says none.
 const DEFAULT_LEADERS: u16 = 1;
@@ -37,7 +37,7 @@ fn read_name(alloc: Global, value: &Value) -> Result<Option<Name>, AllocError>
 /// Reads tiers.
 struct TierReader;
 
-impl Reader<Tier> for TierReader {
+impl ItemReader<Tier> for TierReader {
     ghost said = { tier_of };
 
     fn read(alloc: Global, value: &Value) -> Result<Option<Tier>, AllocError> {
@@ -64,7 +64,7 @@ fn tiers_at(alloc: Global, value: &Value) -> Result<Option<Tiers>, AllocError>
 /// Reads regions.
 struct RegionReader;
 
-impl Reader<Region> for RegionReader {
+impl ItemReader<Region> for RegionReader {
     ghost said = { region_of };
 
     fn read(alloc: Global, value: &Value) -> Result<Option<Region>, AllocError> {
@@ -109,12 +109,12 @@ pub(crate) fn masters_at(
     alloc: Global,
     value: &Value,
     regions: &Regions,
-) -> Result<Option<Masters>, AllocError>
+) -> Result<Option<MasterRegions>, AllocError>
     ensures { IfOk result (λ masters. masters ≡ masters_at regions.now (view value.now)) }
 {
     match value.get("masters") {
         Some(_) => named_masters(alloc, value, regions),
-        None => Ok(Masters::of(vec![in alloc; 0]?)),
+        None => Ok(MasterRegions::of(vec![in alloc; 0]?)),
     }
 }
 
@@ -122,14 +122,14 @@ fn named_masters(
     alloc: Global,
     value: &Value,
     regions: &Regions,
-) -> Result<Option<Masters>, AllocError>
+) -> Result<Option<MasterRegions>, AllocError>
     ensures { IfOk result (λ masters. masters ≡ named_masters regions.now (view value.now)) }
 {
     let Some(names) = each_at::<Text, TextReader>(alloc, value, "masters")? else {
         return Ok(None);
     };
     match places_of(alloc, regions, names.as_slice())? {
-        Some(places) => Ok(Masters::of(places)),
+        Some(places) => Ok(MasterRegions::of(places)),
         None => Ok(None),
     }
 }

@@ -7,7 +7,7 @@ ghost use Rattle.tao_schema.specs.ObjectTypes.{objects_of};
 ghost use Rattle.config_json.specs.Types.{objects_at, assoc_of, assocs_at};
 
 use json_fields::fields::{has_only, maybe_text_at, number_or, text_at};
-use json_fields::items::{Reader, TextReader, each_at};
+use json_fields::items::{ItemReader, TextReader, each_at};
 use serde_json::Value;
 use std::alloc::{AllocError, Global};
 use tao_base::Text;
@@ -40,7 +40,7 @@ fn object_types(alloc: Global, names: &[Text]) -> Result<Option<ObjectTypes>, Al
 /// Reads association types.
 struct AssocReader;
 
-impl Reader<AssocLine> for AssocReader {
+impl ItemReader<AssocLine> for AssocReader {
     ghost said = { assoc_of };
 
     fn read(alloc: Global, value: &Value) -> Result<Option<AssocLine>, AllocError> {

@@ -18,15 +18,13 @@ use Rattle.core_model.proofs.Turns.{named_follower}
 use Rattle.core_mail.specs.Inboxes.{Inboxes, Sends, cache_names}
 
 -- who is told, from a tier on
-abbrev pub told_from : NodeStates → ℕ → ℕ → ℕ → ℕ → List NodeName
-told_from states region shard tier count =
-    filter (is_up states) (map (λ t. serving_follower states.regions region t shard) (range_with_len tier (count - tier)))
+abbrev pub told_from : NodeStates → ℕ → ℕ → ℕ → List NodeName
+told_from states region shard tier =
+    filter (is_up states) (map (λ t. serving_follower states.regions region t shard) (range_with_len tier (tier_count states.regions region - tier)))
 
--- what is sent from a tier on, after what was sent before, comes to the whole
-abbrev pub SendsRest : NodeStates → ℕ → ℕ → SeenMaint → ℕ → Inboxes → Inboxes → Type 0
-SendsRest states region shard m tier start now =
-    (new : Inboxes) → Sends (told_from states region shard tier (tier_count states.regions region)) m now new
-    → Sends (told_of states region shard) m start new
+-- what is sent to the rest, after what was sent before, comes to all
+abbrev pub SendsRest : List NodeName → List NodeName → SeenMaint → Inboxes → Inboxes → Type 0
+SendsRest all rest m start now = (new : Inboxes) → Sends rest m now new → Sends all m start new
 
 module _ (states : NodeStates) (region shard : ℕ) (m : SeenMaint) where
   abbrev count : ℕ
@@ -38,39 +36,44 @@ module _ (states : NodeStates) (region shard : ℕ) (m : SeenMaint) where
   abbrev told_at : List ℕ → List NodeName
   told_at tiers = filter (is_up states) (map (λ t. serving_follower states.regions region t shard) tiers)
 
-  pub none_yet : (start : Inboxes) → SendsRest states region shard m 0 start start
+  abbrev all : List NodeName
+  all = told_of states region shard
+
+  abbrev rest : ℕ → List NodeName
+  rest tier = told_from states region shard tier
+
+  pub none_yet : (start : Inboxes) → SendsRest all (rest 0) m start start
   none_yet start new sends =
       let none : min 0 count ≡ 0 = omega arith in
-      let all : range_with_len 0 (count - 0) ++ range_with_len 0 (min 0 count) ≡ range_with_len 0 (count - 0) =
+      let whole : range_with_len 0 (count - 0) ++ range_with_len 0 (min 0 count) ≡ range_with_len 0 (count - 0) =
       ap (λ n. range_with_len 0 (count - 0) ++ range_with_len 0 n) none ∙ append-nil (range_with_len 0 (count - 0)) in
-      subst (λ names. Sends names m start new) (sym (ap told_at all)) sends
+      subst (λ names. Sends names m start new) (sym (ap told_at whole)) sends
 
   next_tier : (tier : ℕ) → tier < count → range_with_len tier (count - tier) ≡ tier ∷ range_with_len (tier + 1) (count - (tier + 1))
   next_tier tier lt = (let e : count - tier ≡ suc (count - (tier + 1)) = omega arith in ap (range_with_len tier) e)
 
   pub one_told : (tier : ℕ) (start now after : Inboxes) (name : NodeName) → tier < count → name ≡ serving_follower states.regions region tier shard
-      → is_up states name ≡ true → ChangesNode name (IsSent m) now after → SendsRest states region shard m tier start now
-      → SendsRest states region shard m (tier + 1) start after
-  one_told tier start now after name lt called up change rest new later =
+      → is_up states name ≡ true → ChangesNode name (IsSent m) now after → SendsRest all (rest tier) m start now
+      → SendsRest all (rest (tier + 1)) m start after
+  one_told tier start now after name lt called up change sends new later =
       let is_told : is_up states (turn tier) ≡ true = subst (λ n. is_up states n ≡ true) called up in
       let next : told_at (range_with_len tier (count - tier)) ≡ turn tier ∷ told_at (range_with_len (tier + 1) (count - (tier + 1))) =
       ap told_at (next_tier tier lt) ∙ rw is_told refl in
       let changes : ChangesNode (turn tier) (IsSent m) now after = subst (λ n. ChangesNode n (IsSent m) now after) called change in
-      rest new (subst (λ names. Sends names m now new) (sym next) (after, changes, later))
+      sends new (subst (λ names. Sends names m now new) (sym next) (after, changes, later))
 
   pub one_down : (tier : ℕ) (start now : Inboxes) (name : NodeName) → tier < count → name ≡ serving_follower states.regions region tier shard
-      → is_up states name ≡ false → SendsRest states region shard m tier start now → SendsRest states region shard m (tier + 1) start now
-  one_down tier start now name lt called down rest new later =
+      → is_up states name ≡ false → SendsRest all (rest tier) m start now → SendsRest all (rest (tier + 1)) m start now
+  one_down tier start now name lt called down sends new later =
       let is_down : is_up states (turn tier) ≡ false = subst (λ n. is_up states n ≡ false) called down in
       let next : told_at (range_with_len tier (count - tier)) ≡ told_at (range_with_len (tier + 1) (count - (tier + 1))) =
       ap told_at (next_tier tier lt) ∙ rw is_down refl in
-      rest new (subst (λ names. Sends names m now new) (sym next) later)
+      sends new (subst (λ names. Sends names m now new) (sym next) later)
 
-  pub all_told : (tier : ℕ) (start now : Inboxes) → count ≤ tier → SendsRest states region shard m tier start now
-      → Sends (told_of states region shard) m start now
-  all_told tier start now past rest =
+  pub all_told : (tier : ℕ) (start now : Inboxes) → count ≤ tier → SendsRest all (rest tier) m start now → Sends all m start now
+  all_told tier start now past sends =
       let none : count - tier ≡ 0 = omega arith in
-      rest now (subst (λ n. Sends (told_at (range_with_len tier n)) m now now) (sym none) refl)
+      sends now (subst (λ n. Sends (told_at (range_with_len tier n)) m now now) (sym none) refl)
 
 -- a follower that is up has an inbox
 pub told_there : (s : Settings) (states : NodeStates) (region tier shard : ℕ) (inboxes : Inboxes) → states.regions ≡ regions_of s

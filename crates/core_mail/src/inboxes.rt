@@ -5,7 +5,7 @@ ghost use Rattle.core_model.specs.Fleet.{ChangesNode, HasNode};
 ghost use Rattle.maint_msg.specs.Inbox.{IsSent};
 ghost use Rattle.shard_tables.specs.Written.{LiesOn, StandsIn};
 
-use core_model::{Named, place_of};
+use core_model::{Named, named_place};
 use maint_msg::{Inbox, Maint};
 use node_name::NodeName;
 use replies::Message;
@@ -72,7 +72,7 @@ pub(crate) fn send_at(
     ensures sends { ChangesNode name (IsSent (entry_message shard entry.now note.old)) inboxes.old inboxes.new }
     ensures note { note.new ≡ note.old }
 {
-    let place = place_of(inboxes, name);
+    let place = named_place(inboxes, name);
     send_to(&mut inboxes[place].node, alloc, shard, entry, note);
 }
 
@@ -87,7 +87,7 @@ pub(crate) fn take_at(inboxes: &mut [Named<Inbox>], name: NodeName, place: usize
     requires { HasNode name inboxes.old }
     ensures { ChangesNode name (TakesOut place result) inboxes.old inboxes.new }
 {
-    let index = place_of(inboxes, name);
+    let index = named_place(inboxes, name);
     take_from(&mut inboxes[index].node, place)
 }
 
@@ -101,7 +101,7 @@ pub(crate) fn copy_at(
     ensures copy { IfOk result (λ copy. WaitsAt name place copy inboxes.old) }
     ensures same { inboxes.new ≡ inboxes.old }
 {
-    let index = place_of(inboxes, name);
+    let index = named_place(inboxes, name);
     inboxes[index].node.copy_at(place)
 }
 

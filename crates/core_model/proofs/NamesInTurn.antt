@@ -36,12 +36,12 @@ tiers_more region (n ∷ ns) first (suc place) at lt is =
     ap (λ names. here ++ names) (tiers_more region ns (first + 1) place at (omega (arith, lt)) (omega (arith, is)))
     ∙ sym (append_assoc here (tiers_from region (first + 1) (take place ns)) (map (Follower region at) (range_with_len 0 (unwrap_or (slice_get ns place) 0))))
 
-abbrev pub tiers_at : List NodeCounts → ℕ → List ℕ
-tiers_at regions place = unwrap_or (option_map (λ r. r.followers) (slice_get regions place)) []
+abbrev pub tiers_in : List NodeCounts → ℕ → List ℕ
+tiers_in regions place = unwrap_or (option_map (λ r. r.followers) (slice_get regions place)) []
 
 -- one more region's followers
 pub followers_more : (regions : List NodeCounts) (first place at : ℕ) → place < length regions → first + place ≡ at
-    → followers_from first (take (suc place) regions) ≡ followers_from first (take place regions) ++ tiers_from at 0 (tiers_at regions place)
+    → followers_from first (take (suc place) regions) ≡ followers_from first (take place regions) ++ tiers_from at 0 (tiers_in regions place)
 followers_more [] first place at lt is = absurd (omega (arith, lt))
 followers_more (r ∷ rs) first zero at lt is =
     let here : first ≡ at = omega (arith, is) in
@@ -49,7 +49,7 @@ followers_more (r ∷ rs) first zero at lt is =
 followers_more (r ∷ rs) first (suc place) at lt is =
     let here = tiers_from first 0 r.followers in
     ap (λ names. here ++ names) (followers_more rs (first + 1) place at (omega (arith, lt)) (omega (arith, is)))
-    ∙ sym (append_assoc here (followers_from (first + 1) (take place rs)) (tiers_from at 0 (tiers_at rs place)))
+    ∙ sym (append_assoc here (followers_from (first + 1) (take place rs)) (tiers_from at 0 (tiers_in rs place)))
 
 -- ---- counts
 

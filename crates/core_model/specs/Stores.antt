@@ -7,7 +7,7 @@ use Rattle.graph_model.specs.Told.{WhereTold}
 use Rattle.master_tables.specs.Masters.{Masters, stores_of}
 use Rattle.shard_tables.specs.StoreView.{Store}
 use Rattle.shard_tables.specs.Stores.{IsStoreOf}
-use Rattle.shard_tables.specs.declared.store.Role.TheVariants.{Master}
+use Rattle.shard_tables.specs.declared.store.StoreRole.TheVariants.{Master}
 use Rattle.tao_keeper.specs.Table.{Tables}
 use Rattle.tao_schema.specs.Schema.{types_of}
 use Rattle.topology.specs.Config.{Settings}

@@ -10,7 +10,7 @@ mod named;
 mod names;
 
 pub use jobs::far_shard;
-pub use named::{Named, find_node, place_of};
+pub use named::{Named, find_node, named_place};
 pub use names::{
     follower_names, leader_names, served_by, serves_in_turn, serving_follower, tier_count,
 };

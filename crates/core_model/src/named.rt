@@ -21,7 +21,7 @@ fn first_named<N>(nodes: &[Named<N>], name: NodeName) -> Option<usize>
 }
 
 /// The place of the node of that name. Looks through the names: a core has at most 16 leaders and 64 followers.
-pub fn place_of<N>(nodes: &[Named<N>], name: NodeName) -> usize
+pub fn named_place<N>(nodes: &[Named<N>], name: NodeName) -> usize
     requires there { HasNode name nodes.now }
     ensures { IsFirstAt name nodes.now result }
 {

@@ -18,7 +18,7 @@ use Rattle.shard_tables.specs.declared.leader_answer.LeaderAnswer.TheVariants.{F
 use Rattle.shard_tables.specs.declared.read_out.ReadOut.{ReadOut}
 use Rattle.shard_tables.specs.declared.read_out.ReadOut.TheVariants as out
 use Rattle.shard_tables.specs.declared.refusal.StoreRefusal.{StoreRefusal}
-use Rattle.shard_tables.specs.declared.store.Role.TheVariants.{Master}
+use Rattle.shard_tables.specs.declared.store.StoreRole.TheVariants.{Master}
 use Rattle.tao_base.specs.EdgeTypes.{EdgeTypes}
 use Rattle.tao_base.specs.Queries.{query_shard}
 use Rattle.tao_keeper.specs.KeeperState.{KeeperState, KeepsTables}
@@ -62,6 +62,15 @@ leader_log s f shard name fleet is place node first at = λ store there.
     let was = fleet.leaders place name node at in
     log_of_shard (pens_of f.masters) shard s name node was ((serves_its_turn s (pens_of f.masters) name node shard).serves was is.here is.serves)
     ∙ ap (λ (o : Option Store). Some (view_or_none o).log) there
+
+-- the same where the leaders and the stores were lent
+pub lent_log : (s : Settings) (f : Fleet) (shard : ℕ) (name : NodeName) (leaders : List (Named Node)) (masters : List Store) → leaders ≡ f.leaders
+    → masters ≡ f.masters → IsFleetOf s f → IsLeaderFor s shard name
+    → NodeIs name (λ (node : Node). (store : Store) → slice_get masters shard ≡ Some store → log_at shard node.served ≡ Some store.view.log) leaders
+lent_log s f shard name leaders masters own stores fleet is =
+    let Logs : List Store → List (Named Node) → Type 0 =
+    λ xs ls. NodeIs name (λ (node : Node). (x : Store) → slice_get xs shard ≡ Some x → log_at shard node.served ≡ Some x.view.log) ls in
+    subst (Logs masters) (sym own) (subst (λ xs. Logs xs f.leaders) (sym stores) (leader_log s f shard name fleet is))
 
 view_found : (pens : Pens) (shard : ℕ) (served : List ServedShard) (note : View) (found : Option ServedShard) → served_at shard served ≡ found
     → ((s : ServedShard) → served_at shard served ≡ Some s → IsSeen pens shard s.view) → view_at shard served ≡ Some note → IsSeen pens shard note
@@ -122,20 +131,29 @@ is_given types pens read (Behind version) legal seen = legal
 
 -- ---- ask
 
-pub record AskStep (tells : Bool) (s : Settings) (name : NodeName) (read : Wanted) (before after : KeeperState) (old new : Fleet)
-    (r : Result LeaderAnswer StoreRefusal) : Type 0 where
-  pub answers : IfOk r (λ given. ChangesNode name (LeaderAnswers (types_of s.schema) read given (store_calls old.masters before after))
-      old.leaders new.leaders)
-  pub consistent : IsConsistent tells s after.told new
-  pub goes : GoesOn old new
-  pub given : IfOk r (IsGivenAnswer (types_of s.schema) (pens_of new.masters) read)
+-- the keepers and the nodes of a core, before a call and after it
+pub record NodesCall : Type 0 where
+  pub before : KeeperState
+  pub after : KeeperState
+  pub old : Fleet
+  pub new : Fleet
+
+abbrev pub nodes_call : KeeperState → KeeperState → Fleet → Fleet → NodesCall
+nodes_call before after old new = record { before = before; after = after; old = old; new = new }
+
+pub record AskStep (tells : Bool) (s : Settings) (name : NodeName) (read : Wanted) (call : NodesCall) (r : Result LeaderAnswer StoreRefusal) : Type 0 where
+  pub answers : IfOk r (λ given.
+      ChangesNode name (LeaderAnswers (types_of s.schema) read given (store_calls call.old.masters call.before call.after)) call.old.leaders call.new.leaders)
+  pub consistent : IsConsistent tells s call.after.told call.new
+  pub goes : GoesOn call.old call.new
+  pub given : IfOk r (IsGivenAnswer (types_of s.schema) (pens_of call.new.masters) read)
 
 pub ask_step : (tells : Bool) (s : Settings) (name : NodeName) (read : Wanted) (before after : KeeperState) (old : Fleet) (ls : List (Named Node))
     (r : Result LeaderAnswer StoreRefusal)
     → IsConsistent tells s before.told old
     → IfOk r (λ given. ChangesNode name (LeaderDoes (LeaderAnswers (types_of s.schema) read given (store_calls old.masters before after))) old.leaders ls)
     → IfOk r (IsLegalAt (types_of s.schema) read.query read.floor) → OnErr r (ls ≡ old.leaders) → KeepsTables tells before after
-    → AskStep tells s name read before after old (record old { leaders = ls }) r
+    → AskStep tells s name read (nodes_call before after old (record old { leaders = ls })) r
 ask_step tells s name read before after old ls (Ok given) is change legal err stays =
     let types = types_of s.schema in
     let Does = LeaderAnswers types read given (store_calls old.masters before after) in
@@ -153,10 +171,10 @@ ask_step tells s name read before after old ls (Ok given) is change legal err st
       given = of_read;
     }
 ask_step tells s name read before after old ls (Err e) is change legal err stays =
-    let there : AskStep tells s name read before after old old (Err e) = record {
+    let there : AskStep tells s name read (nodes_call before after old old) (Err e) = record {
       answers = tt;
       consistent = record { stores = stores_here tells s before.told after.told old.masters is.stores stays; fleet = is.fleet };
       goes = goes_self old;
       given = tt;
     } in
-    subst (λ l. AskStep tells s name read before after old (record old { leaders = l }) (Err e)) (sym err) there
+    subst (λ l. AskStep tells s name read (nodes_call before after old (record old { leaders = l })) (Err e)) (sym err) there

@@ -17,8 +17,8 @@ use Rattle.shard_log.proofs.GrowthLemmas.{grows-self}
 use Rattle.shard_log.specs.View.{Grows, View}
 use Rattle.shard_tables.specs.StoreView.{Store}
 use Rattle.shard_tables.specs.Stores.{HasSeen, IsStoreOf, note_of, seen_by}
-use Rattle.shard_tables.specs.declared.store.Role.{Role}
-use Rattle.shard_tables.specs.declared.store.Role.TheVariants.{Master, Slave}
+use Rattle.shard_tables.specs.declared.store.StoreRole.{StoreRole}
+use Rattle.shard_tables.specs.declared.store.StoreRole.TheVariants.{Master, Slave}
 use Rattle.tao_base.specs.declared.entry.Entry.{Entry}
 use Rattle.tao_keeper.specs.Table.{Tables}
 use Rattle.topology.specs.Config.{Settings}
@@ -100,11 +100,11 @@ measured tells tables s xs ls count are seen all lengths = record {
 
 -- ---- what a note has seen
 
-seen_log : (role : Role) (v : View) → (seen_by role v).log ≡ v.log
+seen_log : (role : StoreRole) (v : View) → (seen_by role v).log ≡ v.log
 seen_log Master v = refl
 seen_log Slave v = refl
 
-seen_entries : (role : Role) (v : View) → (seen_by role v).entries ≡ v.entries
+seen_entries : (role : StoreRole) (v : View) → (seen_by role v).entries ≡ v.entries
 seen_entries Master v = refl
 seen_entries Slave v = refl
 
@@ -173,7 +173,7 @@ pub shards_begun : (lengths shards : List ℕ) (masters : List Store)
 shards_begun lengths [] masters = refl
 shards_begun lengths (shard ∷ shards) masters = ap (λ xs. shard ∷ xs) (shards_begun lengths shards masters)
 
-role_grows : (role : Role) (v : View) → Grows (seen_by role v) v
+role_grows : (role : StoreRole) (v : View) → Grows (seen_by role v) v
 role_grows Master v = record { log_is = refl; begins = begins-self v.entries }
 role_grows Slave v = grows-self v
 
@@ -201,7 +201,7 @@ seen_begun lengths [] masters = tt
 seen_begun lengths (shard ∷ shards) masters = (note_grows (slice_get masters shard), seen_begun lengths shards masters)
 
 -- where the keeper tells, a length is that of the keeper's log
-log_of_role : (role : Role) (log entries : List Entry) → role ≡ Master → HasSeen role log entries → entries ≡ log
+log_of_role : (role : StoreRole) (log entries : List Entry) → role ≡ Master → HasSeen role log entries → entries ≡ log
 log_of_role Master log entries is seen = seen
 log_of_role Slave log entries is seen = absurd (cc)
 

@@ -1,5 +1,5 @@
 -- The marks of a node that processes entries.
-use Rattle.std.proofs.Common.{◌≡◌, ℕ, zero, suc, ◌+◌, ◌-◌, ◌≤◌, true, false, List, [], ◌∷◌, drop, length, Some, refl, ap, sym, ◌∙◌, subst, arith}
+use Rattle.std.proofs.Common.{◌≡◌, ℕ, zero, suc, ◌+◌, ◌≤◌, true, false, List, [], ◌∷◌, drop, length, Some, refl, ap, sym, ◌∙◌, subst, arith}
 use Rattle.std.proofs.lemmas.Bool.{eq-eqb, or_right}
 use Rattle.std.proofs.lemmas.List.{length-drop, length-take}
 use Rattle.std.proofs.lemmas.Option.{slice_get_within}
@@ -40,12 +40,13 @@ processes_elsewhere shard other es note old new does apart =
 -- ---- the shard itself
 
 -- what the node then has of it
-pub record StandsAt (shard : ℕ) (s : ServedShard) (served : List ServedShard) : Type 0 where
+pub record StillServes (shard : ℕ) (s : ServedShard) (served : List ServedShard) : Type 0 where
   pub after : ServedShard
   pub at : served_at shard served ≡ Some after
   pub window : IsWindow s.marks → IsWindow after.marks
 
-there_stands : (shard : ℕ) (es : List Entry) (n : Node) (s : ServedShard) → served_at shard n.served ≡ Some s → StandsAt shard s (caught_up shard es n).served
+there_stands : (shard : ℕ) (es : List Entry) (n : Node) (s : ServedShard) → served_at shard n.served ≡ Some s
+    → StillServes shard s (caught_up shard es n).served
 there_stands shard [] n s at = record { after = s; at = at; window = λ w. w }
 there_stands shard (e ∷ es) n s at =
     let adds = mark_adds s.marks e.position in
@@ -59,7 +60,7 @@ met_there : (shard : ℕ) (note : View) (n : Node) (s : ServedShard) → served_
 met_there shard note n s at = changed_there shard (seeing note) (λ t. refl) n.served ∙ ap (option_map (seeing note)) at
 
 pub processes_there : (shard : ℕ) (es : List Entry) (note : View) (old new : Node) (s : ServedShard) → Processes shard es note old new
-    → served_at shard old.served ≡ Some s → StandsAt shard s new.served
+    → served_at shard old.served ≡ Some s → StillServes shard s new.served
 processes_there shard es note old new s does at =
     let rises = there_stands shard es (met shard note old) (seeing note s) (met_there shard note old s at) in
     record { after = rises.after; at = ap (λ (n : Node). served_at shard n.served) does ∙ rises.at; window = rises.window }

@@ -87,16 +87,6 @@ note_seen v = record { log_is = refl; begins = begins-self v.entries }
 
 -- ---- commit
 
-pub record CommitStep (tells : Bool) (s : Settings) (name : NodeName) (shard : ℕ) (after : Tables) (old new : Fleet) (r : Result Wrote StoreRefusal)
-    : Type 0 where
-  pub node : IfOk r (λ wrote. ChangesNode name (TakesWritten (types_of s.schema) shard wrote.entry wrote.note) old.leaders new.leaders)
-  pub err : OnErr r (new ≡ old)
-  pub consistent : IsConsistent tells s after new
-  pub goes : GoesOn old new
-  pub followers : new.followers ≡ old.followers
-  pub seen : IfOk r (λ wrote. IsSeen (pens_of new.masters) shard wrote.note)
-  pub stands : IfOk r (λ wrote. IfSome wrote.entry (IsSeenEntry (pens_of new.masters) shard wrote.note))
-
 -- the leader and the store after it
 abbrev pub Written : Settings → ℕ → List Store → Result Wrote StoreRefusal → Node → Node → Type 0
 Written s shard xs r = LeaderDoes (TakesWritten (types_of s.schema) shard (taken_entry true r) (as_note (pens_of xs shard)))
@@ -105,63 +95,7 @@ if_some : {X : Type 0} (o : Option X) (P Q : X → Type 0) → ((x : X) → P x 
 if_some None P Q f h = tt
 if_some (Some x) P Q f h = f x h
 
-module _ (tells : Bool) (s : Settings) (name : NodeName) (shard : ℕ) (after : Tables) (old : Fleet) (ls : List (Named Node)) (xs : List Store) where
-  wrote_node : (r : Result Wrote StoreRefusal) → ChangesNode name (Written s shard xs r) old.leaders ls
-      → IfOk r (λ wrote. wrote.note ≡ as_note (pens_of xs shard))
-      → IfOk r (λ wrote. ChangesNode name (TakesWritten (types_of s.schema) shard wrote.entry wrote.note) old.leaders ls)
-  wrote_node (Ok wrote) change note =
-      changes_so (Written s shard xs (Ok wrote)) (TakesWritten (types_of s.schema) shard wrote.entry wrote.note) name old.leaders ls
-      (λ from to by. subst (λ v. TakesWritten (types_of s.schema) shard wrote.entry v from to) (sym note) by.does) change
-  wrote_node (Err e) change note = tt
-
-  rests : (r : Result Wrote StoreRefusal) → ChangesNode name (Written s shard xs r) old.leaders ls → OnErr r (xs ≡ old.masters)
-      → OnErr r (record old { leaders = ls; masters = xs } ≡ old)
-  rests (Ok wrote) change rest = tt
-  rests (Err e) change rest =
-      let same : change.to ≡ change.from = change.by.does in
-      let leaders : ls ≡ old.leaders =
-      change.is ∙ (ap (λ to. slice_set old.leaders change.place (named name to)) same ∙ set_same old.leaders change.place (named name change.from)
-      change.stands) in
-      ap (λ l. record old { leaders = l; masters = xs }) leaders ∙ ap (λ l. record old { masters = l }) rest
-
-  note_of_pen : (r : Result Wrote StoreRefusal) → IfOk r (λ wrote. wrote.note ≡ as_note (pens_of xs shard))
-      → IfOk r (λ wrote. IsSeen (pens_of xs) shard wrote.note)
-  note_of_pen (Ok wrote) note = subst (λ v. Grows v (pens_of xs shard)) (sym note) (note_seen (pens_of xs shard))
-  note_of_pen (Err e) note = tt
-
-  stands_seen : (r : Result Wrote StoreRefusal) → IfOk r (λ wrote. IsSeen (pens_of xs) shard wrote.note)
-      → IfOk r (λ wrote. IfSome wrote.entry (StandsIn wrote.note))
-      → IfOk r (λ wrote. IfSome wrote.entry (IsSeenEntry (pens_of xs) shard wrote.note))
-  stands_seen (Ok wrote) seen stands =
-      if_some wrote.entry (StandsIn wrote.note) (IsSeenEntry (pens_of xs) shard wrote.note) (λ e in_note. record { seen = seen; stands = in_note }) stands
-  stands_seen (Err e) seen stands = tt
-
-  pub commit_step : (r : Result Wrote StoreRefusal) → IsFleetOf s old → ChangesNode name (Written s shard xs r) old.leaders ls → OnErr r (xs ≡ old.masters)
-      → AreStoresOf tells s after xs → Rise (pens_of old.masters) (pens_of xs) → IfOk r (λ wrote. wrote.note ≡ as_note (pens_of xs shard))
-      → IfOk r (λ wrote. IfSome wrote.entry (StandsIn wrote.note)) → CommitStep tells s name shard after old (record old { leaders = ls; masters = xs }) r
-  commit_step r fleet change rest stores rise note stands =
-      let step = leader_step (Written s shard xs r) s (record old { masters = xs }) name ls (fleet_risen s old xs fleet rise) change
-      (λ from to by was. (nodes_stay s (pens_of xs) name).writes shard (taken_entry true r) (as_note (pens_of xs shard)) from to by.does
-      (note_seen (pens_of xs shard)) by.apart by.truth was)
-      (λ from to by. nodes_mark_on.writes (types_of s.schema) shard (taken_entry true r) (as_note (pens_of xs shard)) from to by.does) in
-      let seen = note_of_pen r note in
-      record {
-        node = wrote_node r change note;
-        err = rests r change rest;
-        consistent = record { stores = stores; fleet = step.fleet };
-        goes = record {
-          rise = rise;
-          leaders = step.goes.leaders;
-          followers = refl;
-          asks = step.goes.asks;
-          marks = record { leaders = step.goes.marks.leaders; followers = step.goes.marks.followers };
-        };
-        followers = refl;
-        seen = seen;
-        stands = stands_seen r seen stands;
-      }
-
--- the leaders and the stores were lent as slices
+-- where the leaders and the stores were lent as slices
 nodes_with : (inside : Inside) (f : Fleet) (ls : List (Named Node)) (xs : List Store) → fleet_seen inside ≡ f → length ls ≡ inside.leaders.len
     → length xs ≡ inside.masters.len
     → after_both inside ls xs ≡ record f { leaders = ls; masters = xs }
@@ -170,45 +104,111 @@ nodes_with inside f ls xs is long many =
     ∙ ap (λ items. record (fleet_seen inside) { leaders = ls; masters = items }) (with_items_is inside.masters xs many)
     ∙ ap (λ (g : Fleet). record g { leaders = ls; masters = xs }) is
 
-pub commit_lent : (tells : Bool) (s : Settings) (name : NodeName) (shard : ℕ) (after : Tables) (inside : Inside) (f : Fleet)
-    (lent ls : List (Named Node)) (stores xs : List Store)
-    (r : Result Wrote StoreRefusal) → fleet_seen inside ≡ f → length ls ≡ inside.leaders.len → length xs ≡ inside.masters.len → lent ≡ f.leaders
-    → stores ≡ f.masters → IsFleetOf s f
-    → ChangesNode name (Written s shard xs r) lent ls → OnErr r (xs ≡ stores) → AreStoresOf tells s after xs → Rise (pens_of stores) (pens_of xs)
-    → IfOk r (λ wrote. wrote.note ≡ as_note (pens_of xs shard)) → IfOk r (λ wrote. IfSome wrote.entry (StandsIn wrote.note))
-    → CommitStep tells s name shard after f (after_both inside ls xs) r
-commit_lent tells s name shard after inside f lent ls stores xs r is long many own own_stores fleet change rest are rise note stands =
-    subst (λ g. CommitStep tells s name shard after f g r) (sym (nodes_with inside f ls xs is long many))
-    (commit_step tells s name shard after f ls xs r fleet (subst (λ l. ChangesNode name (Written s shard xs r) l ls) own change)
-    (subst (λ l. OnErr r (xs ≡ l)) own_stores rest) are (subst (λ l. Rise (pens_of l) (pens_of xs)) own_stores rise) note stands)
+module _ (tells : Bool) (s : Settings) (name : NodeName) (shard : ℕ) where
+  pub record CommitStep (after : Tables) (old new : Fleet) (r : Result Wrote StoreRefusal) : Type 0 where
+    pub node : IfOk r (λ wrote. ChangesNode name (TakesWritten (types_of s.schema) shard wrote.entry wrote.note) old.leaders new.leaders)
+    pub err : OnErr r (new ≡ old)
+    pub consistent : IsConsistent tells s after new
+    pub goes : GoesOn old new
+    pub followers : new.followers ≡ old.followers
+    pub seen : IfOk r (λ wrote. IsSeen (pens_of new.masters) shard wrote.note)
+    pub stands : IfOk r (λ wrote. IfSome wrote.entry (IsSeenEntry (pens_of new.masters) shard wrote.note))
+
+  module _ (after : Tables) (old : Fleet) (ls : List (Named Node)) (xs : List Store) where
+    wrote_node : (r : Result Wrote StoreRefusal) → ChangesNode name (Written s shard xs r) old.leaders ls
+        → IfOk r (λ wrote. wrote.note ≡ as_note (pens_of xs shard))
+        → IfOk r (λ wrote. ChangesNode name (TakesWritten (types_of s.schema) shard wrote.entry wrote.note) old.leaders ls)
+    wrote_node (Ok wrote) change note =
+        changes_so (Written s shard xs (Ok wrote)) (TakesWritten (types_of s.schema) shard wrote.entry wrote.note) name old.leaders ls
+        (λ from to by. subst (λ v. TakesWritten (types_of s.schema) shard wrote.entry v from to) (sym note) by.does) change
+    wrote_node (Err e) change note = tt
+
+    rests : (r : Result Wrote StoreRefusal) → ChangesNode name (Written s shard xs r) old.leaders ls → OnErr r (xs ≡ old.masters)
+        → OnErr r (record old { leaders = ls; masters = xs } ≡ old)
+    rests (Ok wrote) change rest = tt
+    rests (Err e) change rest =
+        let same : change.to ≡ change.from = change.by.does in
+        let leaders : ls ≡ old.leaders =
+        change.is ∙ (ap (λ to. slice_set old.leaders change.place (named name to)) same ∙ set_same old.leaders change.place (named name change.from)
+        change.stands) in
+        ap (λ l. record old { leaders = l; masters = xs }) leaders ∙ ap (λ l. record old { masters = l }) rest
+
+    note_of_pen : (r : Result Wrote StoreRefusal) → IfOk r (λ wrote. wrote.note ≡ as_note (pens_of xs shard))
+        → IfOk r (λ wrote. IsSeen (pens_of xs) shard wrote.note)
+    note_of_pen (Ok wrote) note = subst (λ v. Grows v (pens_of xs shard)) (sym note) (note_seen (pens_of xs shard))
+    note_of_pen (Err e) note = tt
+
+    stands_seen : (r : Result Wrote StoreRefusal) → IfOk r (λ wrote. IsSeen (pens_of xs) shard wrote.note)
+        → IfOk r (λ wrote. IfSome wrote.entry (StandsIn wrote.note))
+        → IfOk r (λ wrote. IfSome wrote.entry (IsSeenEntry (pens_of xs) shard wrote.note))
+    stands_seen (Ok wrote) seen stands =
+        if_some wrote.entry (StandsIn wrote.note) (IsSeenEntry (pens_of xs) shard wrote.note) (λ e in_note. record { seen = seen; stands = in_note }) stands
+    stands_seen (Err e) seen stands = tt
+
+    pub commit_step : (r : Result Wrote StoreRefusal) → IsFleetOf s old → ChangesNode name (Written s shard xs r) old.leaders ls → OnErr r (xs ≡ old.masters)
+        → AreStoresOf tells s after xs → Rise (pens_of old.masters) (pens_of xs) → IfOk r (λ wrote. wrote.note ≡ as_note (pens_of xs shard))
+        → IfOk r (λ wrote. IfSome wrote.entry (StandsIn wrote.note)) → CommitStep after old (record old { leaders = ls; masters = xs }) r
+    commit_step r fleet change rest stores rise note stands =
+        let step = leader_step (Written s shard xs r) s (record old { masters = xs }) name ls (fleet_risen s old xs fleet rise) change
+        (λ from to by was. (nodes_stay s (pens_of xs) name).writes shard (taken_entry true r) (as_note (pens_of xs shard)) from to by.does
+        (note_seen (pens_of xs shard)) by.apart by.truth was)
+        (λ from to by. nodes_mark_on.writes (types_of s.schema) shard (taken_entry true r) (as_note (pens_of xs shard)) from to by.does) in
+        let seen = note_of_pen r note in
+        record {
+          node = wrote_node r change note;
+          err = rests r change rest;
+          consistent = record { stores = stores; fleet = step.fleet };
+          goes = record {
+            rise = rise;
+            leaders = step.goes.leaders;
+            followers = refl;
+            asks = step.goes.asks;
+            marks = record { leaders = step.goes.marks.leaders; followers = step.goes.marks.followers };
+          };
+          followers = refl;
+          seen = seen;
+          stands = stands_seen r seen stands;
+        }
+
+  -- the leaders and the stores were lent as slices
+  pub commit_lent : (after : Tables) (inside : Inside) (f : Fleet) (lent ls : List (Named Node)) (stores xs : List Store)
+      (r : Result Wrote StoreRefusal) → fleet_seen inside ≡ f → length ls ≡ inside.leaders.len → length xs ≡ inside.masters.len → lent ≡ f.leaders
+      → stores ≡ f.masters → IsFleetOf s f
+      → ChangesNode name (Written s shard xs r) lent ls → OnErr r (xs ≡ stores) → AreStoresOf tells s after xs → Rise (pens_of stores) (pens_of xs)
+      → IfOk r (λ wrote. wrote.note ≡ as_note (pens_of xs shard)) → IfOk r (λ wrote. IfSome wrote.entry (StandsIn wrote.note))
+      → CommitStep after f (after_both inside ls xs) r
+  commit_lent after inside f lent ls stores xs r is long many own own_stores fleet change rest are rise note stands =
+      subst (λ g. CommitStep after f g r) (sym (nodes_with inside f ls xs is long many))
+      (commit_step after f ls xs r fleet (subst (λ l. ChangesNode name (Written s shard xs r) l ls) own change)
+      (subst (λ l. OnErr r (xs ≡ l)) own_stores rest) are (subst (λ l. Rise (pens_of l) (pens_of xs)) own_stores rise) note stands)
 
 -- ---- apply
 
-pub record ApplyStep (s : Settings) (name : NodeName) (shard : ℕ) (entry : Entry) (note : View) (old new : Fleet) : Type 0 where
-  pub applies : ChangesNode name (AppliesTo (types_of s.schema) shard entry note) old.followers new.followers
-  pub step : FleetStep s old new
+module _ (s : Settings) (name : NodeName) (shard : ℕ) (entry : Entry) (note : View) where
+  pub record ApplyStep (old new : Fleet) : Type 0 where
+    pub applies : ChangesNode name (AppliesTo (types_of s.schema) shard entry note) old.followers new.followers
+    pub step : FleetStep s old new
 
-pub apply_step : (s : Settings) (name : NodeName) (shard : ℕ) (entry : Entry) (note : View) (old : Fleet) (fs : List (Named FollowerState)) → IsFleetOf s old
-    → IsSeen (pens_of old.masters) shard note → ChangesNode name (FollowerDoes (AppliesTo (types_of s.schema) shard entry note)) old.followers fs
-    → ApplyStep s name shard entry note old (record old { followers = fs })
-apply_step s name shard entry note old fs fleet seen change = record {
-  applies =
-      changes_so (FollowerDoes (AppliesTo (types_of s.schema) shard entry note)) (AppliesTo (types_of s.schema) shard entry note) name old.followers
-      fs (λ from to by. by.does) change;
-  step =
-      follower_step (FollowerDoes (AppliesTo (types_of s.schema) shard entry note)) s old name fs fleet change
-      (λ from to by was. (nodes_stay s (pens_of old.masters) name).applies shard entry note from to by.does seen by.apart by.truth was)
-      (λ from to by. by.does.refills)
-      (λ from to by. nodes_ask_on.applies (types_of s.schema) shard entry note from to by.does)
-      (λ from to by. nodes_mark_on.applies (types_of s.schema) shard entry note from to by.does);
-}
+  pub apply_step : (old : Fleet) (fs : List (Named FollowerState)) → IsFleetOf s old → IsSeen (pens_of old.masters) shard note
+      → ChangesNode name (FollowerDoes (AppliesTo (types_of s.schema) shard entry note)) old.followers fs
+      → ApplyStep old (record old { followers = fs })
+  apply_step old fs fleet seen change = record {
+    applies =
+        changes_so (FollowerDoes (AppliesTo (types_of s.schema) shard entry note)) (AppliesTo (types_of s.schema) shard entry note) name old.followers
+        fs (λ from to by. by.does) change;
+    step =
+        follower_step (FollowerDoes (AppliesTo (types_of s.schema) shard entry note)) s old name fs fleet change
+        (λ from to by was. (nodes_stay s (pens_of old.masters) name).applies shard entry note from to by.does seen by.apart by.truth was)
+        (λ from to by. by.does.refills)
+        (λ from to by. nodes_ask_on.applies (types_of s.schema) shard entry note from to by.does)
+        (λ from to by. nodes_mark_on.applies (types_of s.schema) shard entry note from to by.does);
+  }
 
-pub apply_lent : (s : Settings) (name : NodeName) (shard : ℕ) (entry : Entry) (note : View) (inside : Inside) (f : Fleet)
-    (lent fs : List (Named FollowerState))
-    → LendsFollowers inside f lent fs → IsFleetOf s f → IsSeen (pens_of f.masters) shard note
-    → ChangesNode name (FollowerDoes (AppliesTo (types_of s.schema) shard entry note)) lent fs
-    → ApplyStep s name shard entry note f (after_followers inside fs)
-apply_lent s name shard entry note inside f lent fs lends fleet seen change =
-    subst (ApplyStep s name shard entry note f) (sym (followers_after inside f lent fs lends))
-    (apply_step s name shard entry note f fs fleet seen (subst (λ l. ChangesNode name (FollowerDoes (AppliesTo (types_of s.schema) shard entry note))
-    l fs) lends.own change))
+  pub apply_lent : (inside : Inside) (f : Fleet) (lent fs : List (Named FollowerState))
+      → LendsFollowers inside f lent fs → IsFleetOf s f → IsSeen (pens_of f.masters) shard note
+      → ChangesNode name (FollowerDoes (AppliesTo (types_of s.schema) shard entry note)) lent fs
+      → ApplyStep f (after_followers inside fs)
+  apply_lent inside f lent fs lends fleet seen change =
+      subst (ApplyStep f) (sym (followers_after inside f lent fs lends))
+      (apply_step f fs fleet seen (subst (λ l. ChangesNode name (FollowerDoes (AppliesTo (types_of s.schema) shard entry note))
+      l fs) lends.own change))

@@ -11,14 +11,14 @@ use Rattle.core_model.specs.Stores.{AreKeptIn, AreStoresOf, IsMasterOf, master_l
 use Rattle.core_nodes.proofs.GrowingLemmas.{gains_masters, stays_masters}
 use Rattle.core_nodes.proofs.JobLemmas.{due, is_merged, may_be_merged, merge_keeps, merges_owed}
 use Rattle.core_nodes.proofs.StoreLemmas.{OthersStay, master_gained, others_stay, stores_changed}
-use Rattle.core_nodes.specs.Repairs.{ComesBack, FindsNoRoom, MergesOrRests, MergesThere, WritesDueEntry, carry_back, carry_there, outside}
+use Rattle.core_nodes.specs.Repairs.{ComesBack, FindsNoRoom, MergesOrRests, MergesThere, Outside, WritesDueEntry, carry_back, carry_there, outside}
 use Rattle.edge_repair.specs.Calls.{MayTakeJob}
 use Rattle.edge_repair.specs.Carries.{CarriesBack, CarriesBy, FailsAt}
 use Rattle.edge_repair.specs.JobBetween.{JobBetween, job_between, way_back, way_there}
 use Rattle.edge_repair.specs.Merging.{GainsBy, LacksRoom, MergesBy, MergesDue, WritesDue, due_entry}
 use Rattle.edge_repair.specs.declared.refusal.RepairRefusal.{RepairRefusal}
 use Rattle.edge_repair.specs.declared.refusal.RepairRefusal.TheVariants.{KeeperFault, LinkFault, LogFull, OutOfMemory}
-use Rattle.edge_repair.specs.declared.repairs.Repaired.{Repaired}
+use Rattle.edge_repair.specs.declared.repairs.RepairOutcome.{RepairOutcome}
 use Rattle.graph_model.specs.Log.{entry_at}
 use Rattle.graph_model.specs.Soundness.{IsSoundOf, KeepsEnds}
 use Rattle.graph_model.specs.Told.{WhereTold}
@@ -91,15 +91,15 @@ module _ (tells : Bool) (s : Settings) (shard : ℕ) (tables : Tables) (x y : St
   wrote_lies None grown = tt
   wrote_lies (Some e) grown = λ heard. last_lies (types_of s.schema) shard x.view.entries e (sound_seen e grown heard)
 
-  stands_by : (r : Result Repaired RepairRefusal) → GainsBy x y r → IfOk r (λ repaired. IfSome repaired.wrote (StandsIn y.view))
+  stands_by : (r : Result RepairOutcome RepairRefusal) → GainsBy x y r → IfOk r (λ repaired. IfSome repaired.wrote (StandsIn y.view))
   stands_by (Ok repaired) grown = wrote_stands repaired.wrote grown
   stands_by (Err e) grown = tt
 
-  lies_by : (r : Result Repaired RepairRefusal) → GainsBy x y r → IfOk r (λ repaired. IfSome repaired.wrote (LiesOn y.view shard))
+  lies_by : (r : Result RepairOutcome RepairRefusal) → GainsBy x y r → IfOk r (λ repaired. IfSome repaired.wrote (LiesOn y.view shard))
   lies_by (Ok repaired) grown = wrote_lies repaired.wrote grown
   lies_by (Err e) grown = tt
 
-  gained : (r : Result Repaired RepairRefusal) → GainsBy x y r → IsMasterOf s shard y
+  gained : (r : Result RepairOutcome RepairRefusal) → GainsBy x y r → IsMasterOf s shard y
   gained (Ok repaired) grown = master_gained s shard x y repaired.wrote is grown
   gained (Err (LogFull count)) same = subst (IsMasterOf s shard) (sym same) is
   gained (Err LinkFault) may = master_gained s shard x y may.0 is may.1
@@ -147,7 +147,7 @@ module _ (s : Settings) (j : ShardJob) (from : StoreName) (x : Store) (from_is :
   merges_back failed old new apart at (inl there) = absurd (ways_differ apart (one_carry (way_there taken) (way_back taken) (sym there.0 ∙ at)))
   merges_back failed old new apart at (inr back) = back.1
 
-  stays_or_merges : (failed : Option Carry) (old new : Tables) (r : Result Repaired RepairRefusal) → MergesBy taken failed old new r
+  stays_or_merges : (failed : Option Carry) (old new : Tables) (r : Result RepairOutcome RepairRefusal) → MergesBy taken failed old new r
       → Stays old new ⊎ MergesDue taken old new
   stays_or_merges failed old new (Ok repaired) merges = inr merges.merges
   stays_or_merges failed old new (Err (LogFull count)) merges = inl merges.stays
@@ -219,7 +219,7 @@ module _ (s : Settings) (j : ShardJob) (from : StoreName) (x : Store) (from_is :
     ]
     may_merge false unheard h = inl (λ told. absurd (cc))
 
-    merges_there : (before after : LinkShown) (r : Result Repaired RepairRefusal)
+    merges_there : (before after : LinkShown) (r : Result RepairOutcome RepairRefusal)
         → WhereTold tells (MergesBy taken after.failed old.told new.told r) → CarriesBy taken before after r
         → MergesThere tells s j r (outside old before) (outside new after)
     merges_there before after (Ok repaired) merges carries = (λ told. wrote_due told repaired.wrote (merges told), carries)
@@ -253,43 +253,44 @@ may_take_job tells s tables j from x from_is is of far match kept given owed = r
       subst (λ n. MayBeMerged x.name.shard (tables x.name).log n j.job.position j.job.edges) (sym (ap (λ (at : StoreName). at.shard) from_is)) named;
 }
 
-pub record FarMerged (tells : Bool) (s : Settings) (j : ShardJob) (old new : KeeperState) (before after : LinkShown) (xs : List Store)
-    (r : Result Repaired RepairRefusal) : Type 0 where
-  pub merges : MergesThere tells s j r (outside old before) (outside new after)
-  pub stands : IfOk r (λ repaired. IfSome repaired.wrote (StandsIn (pens_of xs (far_shard j.job))))
-  pub lies : IfOk r (λ repaired. IfSome repaired.wrote (LiesOn (pens_of xs (far_shard j.job)) (far_shard j.job)))
-  pub stores : AreStoresOf tells s new.told xs
-  pub grows : MastersGrow tells s old.told new.told
-
 -- what the store was asked, and what it answered
-pub record TakesJob (tells : Bool) (b : JobBetween) (old new : KeeperState) (before after : LinkShown) (y : Store) (r : Result Repaired RepairRefusal)
-    : Type 0 where
-  pub merges : WhereTold tells (MergesBy b after.failed old.told new.told r)
+pub record TakesJob (tells : Bool) (b : JobBetween) (old new : Outside) (y : Store) (r : Result RepairOutcome RepairRefusal) : Type 0 where
+  pub merges : WhereTold tells (MergesBy b new.link.failed old.keepers.told new.keepers.told r)
   pub to : GainsBy b.to y r
-  pub keeper : IsStoreOf tells new.told y
-  pub carries : CarriesBy b before after r
-  pub logs : LogsGrow tells old.told new.told
+  pub keeper : IsStoreOf tells new.keepers.told y
+  pub carries : CarriesBy b old.link new.link r
+  pub logs : LogsGrow tells old.keepers.told new.keepers.told
 
-pub far_merged : (tells : Bool) (s : Settings) (j : ShardJob) (from : StoreName) (xs : List Store) (place : ℕ) (x y : Store) (old new : KeeperState)
-    (before after : LinkShown) (r : Result Repaired RepairRefusal)
-    → AreStoresOf tells s old.told xs → place ≡ far_shard j.job → far_shard j.job < s.shards → from ≡ master_store s j.shard
-    → IsMasterOf s (far_shard j.job) x → pens_of (slice_set xs place y) (far_shard j.job) ≡ y.view → InversesMatch (types_of s.schema)
-    → WhereTold tells (IsOwedJob s old.told j) → 0 < length j.job.edges → TakesJob tells (job_between from x j.job) old new before after y r
-    → FarMerged tells s j old new before after (slice_set xs place y) r
-far_merged tells s j from xs place x y old new before after r are at far from_is is pen match owed some took =
-    let far_at = far_shard j.job in
-    let ways : WhereTold tells (Stays old.told new.told ⊎ MergesDue (job_between from x j.job) old.told new.told) =
-    λ told. stays_or_merges s j from x from_is is after.failed old.told new.told r (took.merges told) in
-    let kept : WhereTold tells (AreKeptIn s new.told) =
-    λ told. kept_after s j from x from_is is tells old new far owed match are.kept some told (ways told) in
-    record {
-      merges = merges_there s j from x from_is is tells old new far owed match are.kept some before after r took.merges took.carries;
-      stands = subst (λ v. IfOk r (λ repaired. IfSome repaired.wrote (StandsIn v))) (sym pen)
-          (stands_by tells s far_at new.told x y far is took.keeper kept r took.to);
-      lies = subst (λ v. IfOk r (λ repaired. IfSome repaired.wrote (LiesOn v far_at))) (sym pen)
-          (lies_by tells s far_at new.told x y far is took.keeper kept r took.to);
-      stores = stores_changed tells s old.told new.told xs place far_at y are at
-          (gained tells s far_at new.told x y far is took.keeper kept r took.to) took.keeper
-          (λ told. others s j from x from_is is old.told new.told (ways told)) kept;
-      grows = grown_there s j from x from_is is tells old new far took.logs tells refl ways;
-    }
+module _ (tells : Bool) (s : Settings) (j : ShardJob) where
+  pub record FarMerged (old new : Outside) (xs : List Store) (r : Result RepairOutcome RepairRefusal) : Type 0 where
+    pub merges : MergesThere tells s j r old new
+    pub stands : IfOk r (λ repaired. IfSome repaired.wrote (StandsIn (pens_of xs (far_shard j.job))))
+    pub lies : IfOk r (λ repaired. IfSome repaired.wrote (LiesOn (pens_of xs (far_shard j.job)) (far_shard j.job)))
+    pub stores : AreStoresOf tells s new.keepers.told xs
+    pub grows : MastersGrow tells s old.keepers.told new.keepers.told
+
+  pub far_merged : (from : StoreName) (xs : List Store) (place : ℕ) (x y : Store) (old new : Outside) (r : Result RepairOutcome RepairRefusal)
+      → AreStoresOf tells s old.keepers.told xs → place ≡ far_shard j.job → far_shard j.job < s.shards → from ≡ master_store s j.shard
+      → IsMasterOf s (far_shard j.job) x → pens_of (slice_set xs place y) (far_shard j.job) ≡ y.view → InversesMatch (types_of s.schema)
+      → WhereTold tells (IsOwedJob s old.keepers.told j) → 0 < length j.job.edges → TakesJob tells (job_between from x j.job) old new y r
+      → FarMerged old new (slice_set xs place y) r
+  far_merged from xs place x y old new r are at far from_is is pen match owed some took =
+      let far_at = far_shard j.job in
+      let before = old.keepers.told in
+      let after = new.keepers.told in
+      let ways : WhereTold tells (Stays before after ⊎ MergesDue (job_between from x j.job) before after) =
+      λ told. stays_or_merges s j from x from_is is new.link.failed before after r (took.merges told) in
+      let kept : WhereTold tells (AreKeptIn s after) =
+      λ told. kept_after s j from x from_is is tells old.keepers new.keepers far owed match are.kept some told (ways told) in
+      record {
+        merges = merges_there s j from x from_is is tells old.keepers new.keepers far owed match are.kept some old.link new.link r took.merges
+            took.carries;
+        stands = subst (λ v. IfOk r (λ repaired. IfSome repaired.wrote (StandsIn v))) (sym pen)
+            (stands_by tells s far_at after x y far is took.keeper kept r took.to);
+        lies = subst (λ v. IfOk r (λ repaired. IfSome repaired.wrote (LiesOn v far_at))) (sym pen)
+            (lies_by tells s far_at after x y far is took.keeper kept r took.to);
+        stores = stores_changed tells s before after xs place far_at y are at
+            (gained tells s far_at after x y far is took.keeper kept r took.to) took.keeper
+            (λ told. others s j from x from_is is before after (ways told)) kept;
+        grows = grown_there s j from x from_is is tells old.keepers new.keepers far took.logs tells refl ways;
+      }

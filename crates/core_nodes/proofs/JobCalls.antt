@@ -18,32 +18,32 @@ use Rattle.topology.specs.Config.{Settings}
 -- ---- the end of a job
 
 -- the job's own table without it
-abbrev pub Ends : {T : Type 0} → Settings → Tables → Tables → ShardJob → Result T StoreRefusal → Type 0
-Ends s before after j r = Changes r before after (master_store s j.shard) (after_end (before (master_store s j.shard)) j.job.position)
+abbrev pub TakesOutJob : {T : Type 0} → Settings → Tables → Tables → ShardJob → Result T StoreRefusal → Type 0
+TakesOutJob s before after j r = Changes r before after (master_store s j.shard) (after_end (before (master_store s j.shard)) j.job.position)
 
 pub record EndedAfter {T : Type 0} (tells : Bool) (s : Settings) (before after : Tables) (j : ShardJob) (xs : List Store) (r : Result T StoreRefusal) : Type 0
   where
     pub stores : AreStoresOf tells s after xs
     pub step : WhereTold tells (OnOk r (EndsOwed s before after j))
 
-ends_others : {T : Type 0} (s : Settings) (before after : Tables) (j : ShardJob) (r : Result T StoreRefusal) → Ends s before after j r
+ends_others : {T : Type 0} (s : Settings) (before after : Tables) (j : ShardJob) (r : Result T StoreRefusal) → TakesOutJob s before after j r
     → OthersStay before after (master_store s j.shard)
 ends_others s before after j (Ok t) ends other apart = ends.others other apart
 ends_others s before after j (Err e) ends other apart = ends other
 
 module _ (s : Settings) (before after : Tables) (j : ShardJob) (here : j.shard < s.shards) (is : IsMergedJob s before j) where
-  ends_step : {T : Type 0} (r : Result T StoreRefusal) → Ends s before after j r → OnOk r (EndsOwed s before after j)
+  ends_step : {T : Type 0} (r : Result T StoreRefusal) → TakesOutJob s before after j r → OnOk r (EndsOwed s before after j)
   ends_step (Ok t) ends = ends_owed s before after j here is ends
   ends_step (Err e) ends = tt
 
-  ends_kept : {T : Type 0} (r : Result T StoreRefusal) → AreKeptIn s before → Ends s before after j r → AreKeptIn s after
+  ends_kept : {T : Type 0} (r : Result T StoreRefusal) → AreKeptIn s before → TakesOutJob s before after j r → AreKeptIn s after
   ends_kept (Ok t) kept ends = end_keeps s before after j kept (ends_owed s before after j here is ends)
   ends_kept (Err e) kept ends = kept_stays s before after ends kept
 
 pub ended_after : {T : Type 0} (tells : Bool) (s : Settings) (before after : Tables) (xs : List Store) (place : ℕ) (j : ShardJob) (y : Store)
     (r : Result T StoreRefusal)
     → AreStoresOf tells s before xs → place ≡ j.shard → j.shard < s.shards → IsMasterOf s j.shard y → WhereTold tells (IsMergedJob s before j)
-    → WhereTold tells (Ends s before after j r) → IsStoreOf tells after y → EndedAfter tells s before after j (slice_set xs place y) r
+    → WhereTold tells (TakesOutJob s before after j r) → IsStoreOf tells after y → EndedAfter tells s before after j (slice_set xs place y) r
 ended_after tells s before after xs place j y r are at here is merged ends of = record {
   stores = stores_changed tells s before after xs place j.shard y are at is of (λ told. ends_others s before after j r (ends told))
       (λ told. ends_kept s before after j here (merged told) r (are.kept told) (ends told));

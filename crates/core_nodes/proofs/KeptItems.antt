@@ -1,9 +1,9 @@
 -- The items that a node keeps when it processes entries.
-use Rattle.std.proofs.Common.{◌≡◌, ℕ, ◌≤◌, Bool, true, false, not, cond, List, [], ◌∷◌, Option, Some, None, refl, ap, sym, ◌∙◌, subst, inl, inr, arith}
-use Rattle.std.proofs.lemmas.Bool.{both_ways, cases_Bool, ltb-true}
+use Rattle.std.proofs.Common.{◌≡◌, ℕ, Bool, true, false, not, cond, List, [], ◌∷◌, Some, None, refl, ap, sym, ◌∙◌, subst, inl, inr}
+use Rattle.std.proofs.lemmas.Bool.{both_ways, cases_Bool}
 use Rattle.std.specs.List.{AllByRecursion, IsDistinct}
-use Rattle.std.specs.Map.{keys_of as keys_held, lookup, remove_entry}
-use Rattle.std.specs.Prelude.{◌&&◌, filter, if◌then◌else◌, nat_lt}
+use Rattle.std.specs.Map.{keys_of as keys_held, remove_entry}
+use Rattle.std.specs.Prelude.{◌&&◌, filter, nat_lt}
 use Rattle.cache_items.specs.Node.{Items, Node, caught_up, dropped, is_stale, item_at, processed, without_stale}
 use Rattle.cache_items.specs.declared.item.Item.{Item}
 use Rattle.cache_node.proofs.Processing.{distinct_dropped}

@@ -23,30 +23,30 @@ use Rattle.core_model.specs.Consistent.{IsConsistent, IsFleetOf}
 use Rattle.core_model.specs.Evictions.{Evicts}
 use Rattle.core_model.specs.Fleet.{ChangesNode, Fleet}
 use Rattle.core_model.specs.Pens.{pens_of}
-use Rattle.core_model.specs.Reads.{AsksAtOnce, EndsAsk, IsGivenFill, KeepsFill, LeaderAnswers, Wanted, store_calls, taken_fill, wanted}
+use Rattle.core_model.specs.Reads.{AsksAtOnce, EndsAsk, IsGivenFill, KeepsFill, LeaderAnswers, Wanted, store_calls, taken_fill}
 use Rattle.core_model.specs.Serving.{IsFollowerFor}
 use Rattle.core_model.specs.declared.named.Named.{Named}
 use Rattle.core_nodes.specs.Stages.{EvictsThere, FollowerDoes, LeaderDoes, LooksTrue}
 use Rattle.core_nodes.specs.declared.fleet.Fleet.TheInside.{Inside}
 use Rattle.core_nodes.specs.declared.reads.FirstLook.{FirstLook}
-use Rattle.core_nodes.proofs.AskLemmas.{AskStep, ask_step}
+use Rattle.core_nodes.proofs.AskLemmas.{AskStep, ask_step, nodes_call}
 use Rattle.core_nodes.proofs.EvictLemmas.{FollowerDrops, LeaderDrops, follower_evicts, leader_evicts}
-use Rattle.core_nodes.proofs.ReadLemmas.{AtOnceStep, EndStep, KeepStep, LookStep, at_once_step, end_step, keep_step, look_step}
+use Rattle.core_nodes.proofs.ReadLemmas.{AtOnceStep, EndStep, KeepStep, LookStep, at_once_step, brought_fill, end_step, keep_step, look_step}
 use Rattle.core_nodes.proofs.ViewLemmas.{LendsBoth, LendsFollowers, LendsLeaders, after_both, after_followers, after_leaders, both_after}
 use Rattle.core_nodes.proofs.ViewLemmas.{followers_after, leaders_after}
 
-pub look_lent : (s : Settings) (schema : Schema) (name : NodeName) (query : Query) (floor : ℕ) (inside : Inside) (old : Fleet)
-    (lent left : List (Named FollowerState))
-    (r : Result FirstLook OutOfMemory) → LendsFollowers inside old lent left → schema ≡ s.schema → IsFleetOf s old → IsFollowerFor s (query_shard query) name
-    → IfOk r (λ first. ChangesNode name (FollowerDoes (LooksTrue (types_of schema) (wanted query floor) first.look first.ask)) lent left)
+pub look_lent : (s : Settings) (schema : Schema) (name : NodeName) (read : Wanted) (inside : Inside) (old : Fleet) (lent left : List (Named FollowerState))
+    (r : Result FirstLook OutOfMemory) → LendsFollowers inside old lent left → schema ≡ s.schema → IsFleetOf s old
+    → IsFollowerFor s (query_shard read.query) name
+    → IfOk r (λ first. ChangesNode name (FollowerDoes (LooksTrue (types_of schema) read first.look first.ask)) lent left)
     → OnErr r (left ≡ lent)
-    → LookStep s name query floor old (after_followers inside left) r
-look_lent s schema name query floor inside old lent left r lends of fleet for change err =
+    → LookStep s name read old (after_followers inside left) r
+look_lent s schema name read inside old lent left r lends of fleet for change err =
     let Looks : Schema → List (Named FollowerState) → Type 0 =
-    λ k xs. IfOk r (λ first. ChangesNode name (FollowerDoes (LooksTrue (types_of k) (wanted query floor) first.look first.ask)) xs left) in
+    λ k xs. IfOk r (λ first. ChangesNode name (FollowerDoes (LooksTrue (types_of k) read first.look first.ask)) xs left) in
     let looks = subst (λ k. Looks k old.followers) of (subst (Looks schema) lends.own change) in
-    subst (λ n. LookStep s name query floor old n r) (sym (followers_after inside old lent left lends))
-    (look_step s name query floor old left r fleet for looks (subst (λ xs. OnErr r (left ≡ xs)) lends.own err))
+    subst (λ n. LookStep s name read old n r) (sym (followers_after inside old lent left lends))
+    (look_step s name read old left r fleet for looks (subst (λ xs. OnErr r (left ≡ xs)) lends.own err))
 
 pub ask_lent : (tells : Bool) (s : Settings) (schema : Schema) (name : NodeName) (read : Wanted) (before after : KeeperState) (inside : Inside) (old : Fleet)
     (lent left : List (Named Node))
@@ -54,13 +54,13 @@ pub ask_lent : (tells : Bool) (s : Settings) (schema : Schema) (name : NodeName)
     → IsConsistent tells s before.told old
     → IfOk r (λ given. ChangesNode name (LeaderDoes (LeaderAnswers (types_of schema) read given (store_calls stores before after))) lent left)
     → IfOk r (IsLegalAt (types_of schema) read.query read.floor) → OnErr r (left ≡ lent) → KeepsTables tells before after
-    → AskStep tells s name read before after old (after_both inside left same) r
+    → AskStep tells s name read (nodes_call before after old (after_both inside left same)) r
 ask_lent tells s schema name read before after inside old lent left stores same r lends of is change legal err stays =
     let Gives : Schema → List Store → List (Named Node) → Type 0 =
     λ k ms xs. IfOk r (λ given. ChangesNode name (LeaderDoes (LeaderAnswers (types_of k) read given (store_calls ms before after))) xs left) in
     let gives = subst (λ k. Gives k old.masters old.leaders) of
     (subst (λ ms. Gives schema ms old.leaders) lends.own (subst (Gives schema stores) lends.leaders.own change)) in
-    subst (λ n. AskStep tells s name read before after old n r) (sym (both_after inside old lent left stores same lends))
+    subst (λ n. AskStep tells s name read (nodes_call before after old n) r) (sym (both_after inside old lent left stores same lends))
     (ask_step tells s name read before after old left r is gives (subst (λ k. IfOk r (IsLegalAt (types_of k) read.query read.floor)) of legal)
     (subst (λ xs. OnErr r (left ≡ xs)) lends.leaders.own err) stays)
 
@@ -70,12 +70,12 @@ pub keep_lent : (s : Settings) (schema : Schema) (name : NodeName) (read : Wante
     → IsGivenFill (types_of s.schema) (pens_of old.masters) read fill
     → IfOk r (λ a. ChangesNode name (FollowerDoes (KeepsFill (types_of schema) read.query (taken_fill ask fill a.0 a.1))) lent left)
     → OnErr r (ChangesNode name (FollowerDoes (EndsAsk ask)) lent left) → IfOk r (λ a. ViewAnswers (types_of schema) fill.note read.query a.0 fill.version)
-    → KeepStep s name read ask fill old (after_followers inside left) r
+    → KeepStep s name (brought_fill read ask fill) old (after_followers inside left) r
 keep_lent s schema name read ask fill inside old lent left r lends of fleet given change err answers =
     let Keeps : Schema → List (Named FollowerState) → Type 0 =
     λ k xs. IfOk r (λ a. ChangesNode name (FollowerDoes (KeepsFill (types_of k) read.query (taken_fill ask fill a.0 a.1))) xs left) in
     let keeps = subst (λ k. Keeps k old.followers) of (subst (Keeps schema) lends.own change) in
-    subst (λ n. KeepStep s name read ask fill old n r) (sym (followers_after inside old lent left lends))
+    subst (λ n. KeepStep s name (brought_fill read ask fill) old n r) (sym (followers_after inside old lent left lends))
     (keep_step s name read ask fill old left r fleet given keeps (subst (λ xs. OnErr r (ChangesNode name (FollowerDoes (EndsAsk ask)) xs left)) lends.own err)
     (subst (λ k. IfOk r (λ a. ViewAnswers (types_of k) fill.note read.query a.0 fill.version)) of answers))
 

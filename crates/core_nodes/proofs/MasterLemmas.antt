@@ -27,7 +27,7 @@ use Rattle.core_model.specs.Pens.{IsSeen, pens_of}
 use Rattle.core_model.specs.Reads.{IsGivenAnswer, StoreReads, given_of, wanted}
 use Rattle.core_model.specs.Stores.{AreStoresOf, master_log}
 use Rattle.core_nodes.specs.declared.fleet.Fleet.TheInside.{Inside}
-use Rattle.core_nodes.proofs.AskLemmas.{master_seen, stores_here}
+use Rattle.core_nodes.proofs.AskLemmas.{NodesCall, master_seen, nodes_call, stores_here}
 use Rattle.core_nodes.proofs.ViewLemmas.{LendsMasters, after_masters, masters_after}
 
 -- what is given of a read at the floors that the shard's log has come to
@@ -37,12 +37,11 @@ GivesAtFloors tells s before stores query read = (floor : ℕ)
     → IsGivenAnswer (types_of s.schema) (pens_of stores) (wanted query floor) (given_of read)
 
 -- what was read of a store, by these types
-pub record WasRead (tells : Bool) (types : EdgeTypes) (query : Query) (store : Store) (before after : KeeperState) (r : Result ReadOut StoreRefusal)
+pub record ReadOfStore (tells : Bool) (types : EdgeTypes) (query : Query) (store : Store) (before : KeeperState) (r : Result ReadOut StoreRefusal)
     : Type 0 where
   pub found : WhereTold tells (IfOk r (IsReadOutOf types (before.told store.name).log query))
   pub fits : IfOk r (IsFor types query)
   pub note : IfOk r (λ read. read_note read ≡ note_of store)
-  pub called : IfOk r (λ read. Rose before.calls after.calls)
 
 module _ (tells : Bool) (s : Settings) (before : KeeperState) (stores : List Store) (query : Query) (store : Store)
     (are : AreStoresOf tells s before.told stores)
@@ -80,41 +79,40 @@ module _ (tells : Bool) (s : Settings) (before : KeeperState) (stores : List Sto
             (master_seen stores (query_shard query) store stands (are.masters.each (query_shard query) store stands).role_is),
       )
 
-  pub gives_at_floors : (after : KeeperState) (r : Result ReadOut StoreRefusal) → WasRead tells (types_of s.schema) query store before after r
+  pub gives_at_floors : (r : Result ReadOut StoreRefusal) → ReadOfStore tells (types_of s.schema) query store before r
       → IfOk r (GivesAtFloors tells s before stores query)
-  gives_at_floors after (Ok read) was = read_given read was.note was.fits was.found
-  gives_at_floors after (Err e) was = tt
+  gives_at_floors (Ok read) was = read_given read was.note was.fits was.found
+  gives_at_floors (Err e) was = tt
 
-  pub store_reads : (after : KeeperState) (r : Result ReadOut StoreRefusal) → WasRead tells (types_of s.schema) query store before after r
-      → IfOk r (λ read. StoreReads (types_of s.schema) query read stores before after)
-  store_reads after (Ok read) was = record {
+  pub store_reads : (after : KeeperState) (r : Result ReadOut StoreRefusal) → ReadOfStore tells (types_of s.schema) query store before r
+      → IfOk r (λ read. Rose before.calls after.calls) → IfOk r (λ read. StoreReads (types_of s.schema) query read stores before after)
+  store_reads after (Ok read) was called = record {
     store = store;
     stands = stands;
     reads = λ told. was.found (sym (are.seen (query_shard query) store stands).told_is ∙ told);
     note_is = was.note;
-    called = was.called;
+    called = called;
   }
-  store_reads after (Err e) was = tt
+  store_reads after (Err e) was called = tt
 
 -- ---- the nodes of a core
 
-pub record MasterStep (tells : Bool) (s : Settings) (query : Query) (before after : KeeperState) (old new : Fleet) (r : Result ReadOut StoreRefusal)
-    : Type 0 where
-  pub reads : IfOk r (λ read. StoreReads (types_of s.schema) query read old.masters before after)
-  pub given : IfOk r (GivesAtFloors tells s before new.masters query)
-  pub same : new ≡ old
-  pub consistent : IsConsistent tells s after.told new
+pub record MasterStep (tells : Bool) (s : Settings) (query : Query) (call : NodesCall) (r : Result ReadOut StoreRefusal) : Type 0 where
+  pub reads : IfOk r (λ read. StoreReads (types_of s.schema) query read call.old.masters call.before call.after)
+  pub given : IfOk r (GivesAtFloors tells s call.before call.new.masters query)
+  pub same : call.new ≡ call.old
+  pub consistent : IsConsistent tells s call.after.told call.new
 
 -- the stores were lent as a slice
 pub master_lent : (tells : Bool) (s : Settings) (query : Query) (before after : KeeperState) (inside : Inside) (old : Fleet) (lent same : List Store)
     (r : Result ReadOut StoreRefusal) → LendsMasters inside old lent same → IsConsistent tells s before.told old
     → IfOk r (λ read. StoreReads (types_of s.schema) query read lent before after) → IfOk r (GivesAtFloors tells s before lent query)
-    → KeepsTables tells before after → MasterStep tells s query before after old (after_masters inside same) r
+    → KeepsTables tells before after → MasterStep tells s query (nodes_call before after old (after_masters inside same)) r
 master_lent tells s query before after inside old lent same r lends is reads given stays =
-    let there : MasterStep tells s query before after old old r = record {
+    let there : MasterStep tells s query (nodes_call before after old old) r = record {
       reads = subst (λ xs. IfOk r (λ read. StoreReads (types_of s.schema) query read xs before after)) lends.own reads;
       given = subst (λ xs. IfOk r (GivesAtFloors tells s before xs query)) lends.own given;
       same = refl;
       consistent = record { stores = stores_here tells s before.told after.told old.masters is.stores stays; fleet = is.fleet };
     } in
-    subst (λ n. MasterStep tells s query before after old n r) (sym (masters_after inside old lent same lends)) there
+    subst (λ n. MasterStep tells s query (nodes_call before after old n) r) (sym (masters_after inside old lent same lends)) there

@@ -37,25 +37,27 @@ module _ (s : Settings) (before after : Tables) (j : ShardJob) (far : far_shard 
       record { step = step; merged = is_merged s before after j match kept step; kept = merge_keeps s before after j match kept step }
   merge_leaves (Err e) new answer gains = record { step = tt; merged = tt; kept = kept_stays s before after gains kept }
 
-pub record MergedAfter (tells : Bool) (s : Settings) (before after : Tables) (j : ShardJob) (xs : List Store) (r : Result Wrote StoreRefusal) : Type 0 where
-  pub stores : AreStoresOf tells s after xs
-  pub step : WhereTold tells (OnOk r (MergesOwed s before after j))
-  pub merged : WhereTold tells (OnOk r (IsMergedJob s after j))
+module _ (tells : Bool) (s : Settings) (before after : Tables) where
+  pub record MergedAfter (j : ShardJob) (xs : List Store) (r : Result Wrote StoreRefusal) : Type 0 where
+    pub stores : AreStoresOf tells s after xs
+    pub step : WhereTold tells (OnOk r (MergesOwed s before after j))
+    pub merged : WhereTold tells (OnOk r (IsMergedJob s after j))
 
--- the store of the shard where the job is owed has merged it
-pub merged_after : (tells : Bool) (s : Settings) (before after : Tables) (xs : List Store) (place : ℕ) (j : ShardJob) (x y : Store)
-    (r : Result Wrote StoreRefusal) → AreStoresOf tells s before xs → place ≡ far_shard j.job → far_shard j.job < s.shards → IsMasterOf s (far_shard j.job) x
-    → InversesMatch (types_of s.schema) → WhereTold tells (IsOwedJob s before j) → IfOk r (λ wrote. wrote.retry ≡ false)
-    → WhereTold tells (MergesAs s.log_max (master_log s before (far_shard j.job)) j.shard j.job.position j.job.edges r)
-    → WhereTold tells (TableGains before after (master_store s (far_shard j.job)) (added_entry r) None) → y ≡ store_with x (added_entry r)
-    → IsStoreOf tells after y → MergedAfter tells s before after j (slice_set xs place y) r
-merged_after tells s before after xs place j x y r are here far is match owed new answer gains grown of =
-    let left : WhereTold tells (MergeLeaves s before after j r) =
-    λ told. merge_leaves s before after j far match (are.kept told) (owed told) r new (answer told) (gains told) in
-    record {
-      stores = stores_changed tells s before after xs place (far_shard j.job) y are here (master_gained s (far_shard j.job) x y (added_entry r) is grown) of
-          (λ told. others_stay before after (master_store s (far_shard j.job)) (added_entry r) None (gains told))
-          (λ told. (left told).kept);
-      step = λ told. (left told).step;
-      merged = λ told. (left told).merged;
-    }
+  -- the store of the shard where the job is owed has merged it
+  pub merged_after : (xs : List Store) (place : ℕ) (j : ShardJob) (x y : Store) (r : Result Wrote StoreRefusal) → AreStoresOf tells s before xs
+      → place ≡ far_shard j.job → far_shard j.job < s.shards → IsMasterOf s (far_shard j.job) x
+      → InversesMatch (types_of s.schema) → WhereTold tells (IsOwedJob s before j) → IfOk r (λ wrote. wrote.retry ≡ false)
+      → WhereTold tells (MergesAs s.log_max (master_log s before (far_shard j.job)) j.shard j.job.position j.job.edges r)
+      → WhereTold tells (TableGains before after (master_store s (far_shard j.job)) (added_entry r) None) → y ≡ store_with x (added_entry r)
+      → IsStoreOf tells after y → MergedAfter j (slice_set xs place y) r
+  merged_after xs place j x y r are here far is match owed new answer gains grown of =
+      let left : WhereTold tells (MergeLeaves s before after j r) =
+      λ told. merge_leaves s before after j far match (are.kept told) (owed told) r new (answer told) (gains told) in
+      record {
+        stores =
+            stores_changed tells s before after xs place (far_shard j.job) y are here (master_gained s (far_shard j.job) x y (added_entry r) is grown) of
+            (λ told. others_stay before after (master_store s (far_shard j.job)) (added_entry r) None (gains told))
+            (λ told. (left told).kept);
+        step = λ told. (left told).step;
+        merged = λ told. (left told).merged;
+      }

@@ -135,21 +135,19 @@ looked_legal s pens read look ask name from to does is serves =
     (λ answer version hit. hit_reaches (types_of s.schema) (item_at from.node.items (query_key read.query)) read.query read.floor version answer
     (sym does.looks.look_is ∙ hit))
 
-pub record LookStep (s : Settings) (name : NodeName) (query : Query) (floor : ℕ) (old new : Fleet) (r : Result FirstLook OutOfMemory) : Type 0 where
+pub record LookStep (s : Settings) (name : NodeName) (read : Wanted) (old new : Fleet) (r : Result FirstLook OutOfMemory) : Type 0 where
   pub step : FleetStep s old new
-  pub looks : IfOk r (λ first. ChangesNode name (LooksFirst (types_of s.schema) (wanted query floor) first.look first.ask) old.followers new.followers)
-  pub ask : IfOk r (λ first. IfSome first.ask (λ number. HasAsk name number (query_key query) new.followers))
-  pub legal : IfOk r (λ first. IsLegalLook (types_of s.schema) (pens_of new.masters) (wanted query floor) first.look)
+  pub looks : IfOk r (λ first. ChangesNode name (LooksFirst (types_of s.schema) read first.look first.ask) old.followers new.followers)
+  pub ask : IfOk r (λ first. IfSome first.ask (λ number. HasAsk name number (query_key read.query) new.followers))
+  pub legal : IfOk r (λ first. IsLegalLook (types_of s.schema) (pens_of new.masters) read first.look)
 
-pub look_step : (s : Settings) (name : NodeName) (query : Query) (floor : ℕ) (old : Fleet) (fs : List (Named FollowerState))
-    (r : Result FirstLook OutOfMemory) → IsFleetOf s old
-    → IsFollowerFor s (query_shard query) name
-    → IfOk r (λ first. ChangesNode name (FollowerDoes (LooksTrue (types_of s.schema) (wanted query floor) first.look first.ask)) old.followers fs)
+pub look_step : (s : Settings) (name : NodeName) (read : Wanted) (old : Fleet) (fs : List (Named FollowerState)) (r : Result FirstLook OutOfMemory)
+    → IsFleetOf s old → IsFollowerFor s (query_shard read.query) name
+    → IfOk r (λ first. ChangesNode name (FollowerDoes (LooksTrue (types_of s.schema) read first.look first.ask)) old.followers fs)
     → OnErr r (fs ≡ old.followers)
-    → LookStep s name query floor old (record old { followers = fs }) r
-look_step s name query floor old fs (Ok first) fleet for change err =
+    → LookStep s name read old (record old { followers = fs }) r
+look_step s name read old fs (Ok first) fleet for change err =
     let types = types_of s.schema in
-    let read = wanted query floor in
     record {
       step = follower_step (FollowerDoes (LooksTrue types read first.look first.ask)) s old name fs fleet change
           (λ from to by is. (nodes_stay s (pens_of old.masters) name).looks read first.look first.ask from to by.does.looks by.apart by.truth is)
@@ -161,11 +159,11 @@ look_step s name query floor old fs (Ok first) fleet for change err =
       ask = looked_ask types read first.look first.ask name old.followers fs change;
       legal = looked_legal s (pens_of old.masters) read first.look first.ask name change.from change.to change.by.does
           (fleet.followers change.place name change.from change.stands).node
-          (follower_serves s old (query_shard query) name fleet for change.place change.from change.first change.stands);
+          (follower_serves s old (query_shard read.query) name fleet for change.place change.from change.first change.stands);
     }
-look_step s name query floor old fs (Err e) fleet for change err =
-    let there : LookStep s name query floor old old (Err e) = record { step = fleet_rests s old fleet; looks = tt; ask = tt; legal = tt } in
-    subst (λ l. LookStep s name query floor old (record old { followers = l }) (Err e)) (sym err) there
+look_step s name read old fs (Err e) fleet for change err =
+    let there : LookStep s name read old old (Err e) = record { step = fleet_rests s old fleet; looks = tt; ask = tt; legal = tt } in
+    subst (λ l. LookStep s name read old (record old { followers = l }) (Err e)) (sym err) there
 
 -- ---- an ask without a look
 
@@ -256,12 +254,20 @@ end_step s name ask old fs fleet change = record {
   ends = changes_so (FollowerDoes (EndsAsk ask)) (EndsAsk ask) name old.followers fs (λ from to by. by.does) change;
 }
 
-pub record KeepStep (s : Settings) (name : NodeName) (read : Wanted) (ask : Option ℕ) (fill : SealedItem) (old new : Fleet)
-    (r : Result (Answer × Kept) OutOfMemory) : Type 0 where
+-- a fill that was brought for a read, and the follower's ask
+pub record BroughtFill : Type 0 where
+  pub read : Wanted
+  pub ask : Option ℕ
+  pub fill : SealedItem
+
+abbrev pub brought_fill : Wanted → Option ℕ → SealedItem → BroughtFill
+brought_fill read ask fill = record { read = read; ask = ask; fill = fill }
+
+pub record KeepStep (s : Settings) (name : NodeName) (b : BroughtFill) (old new : Fleet) (r : Result (Answer × Kept) OutOfMemory) : Type 0 where
   pub step : FleetStep s old new
-  pub keeps : IfOk r (λ a. ChangesNode name (KeepsFill (types_of s.schema) read.query (taken_fill ask fill a.0 a.1)) old.followers new.followers)
-  pub err : OnErr r (ChangesNode name (EndsAsk ask) old.followers new.followers)
-  pub legal : IfOk r (λ a. IsLegalIn (types_of s.schema) (pens_of new.masters (query_shard read.query)) read.query read.floor a.0 fill.version)
+  pub keeps : IfOk r (λ a. ChangesNode name (KeepsFill (types_of s.schema) b.read.query (taken_fill b.ask b.fill a.0 a.1)) old.followers new.followers)
+  pub err : OnErr r (ChangesNode name (EndsAsk b.ask) old.followers new.followers)
+  pub legal : IfOk r (λ a. IsLegalIn (types_of s.schema) (pens_of new.masters (query_shard b.read.query)) b.read.query b.read.floor a.0 b.fill.version)
 
 pub keep_step : (s : Settings) (name : NodeName) (read : Wanted) (ask : Option ℕ) (fill : SealedItem) (old : Fleet) (fs : List (Named FollowerState))
     (r : Result (Answer × Kept) OutOfMemory)
@@ -269,7 +275,7 @@ pub keep_step : (s : Settings) (name : NodeName) (read : Wanted) (ask : Option �
     → IfOk r (λ a. ChangesNode name (FollowerDoes (KeepsFill (types_of s.schema) read.query (taken_fill ask fill a.0 a.1))) old.followers fs)
     → OnErr r (ChangesNode name (FollowerDoes (EndsAsk ask)) old.followers fs)
     → IfOk r (λ a. ViewAnswers (types_of s.schema) fill.note read.query a.0 fill.version)
-    → KeepStep s name read ask fill old (record old { followers = fs }) r
+    → KeepStep s name (brought_fill read ask fill) old (record old { followers = fs }) r
 keep_step s name read ask fill old fs (Ok (answer, kept)) fleet given change err answers =
     let types = types_of s.schema in
     record {

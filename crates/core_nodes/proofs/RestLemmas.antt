@@ -33,13 +33,13 @@ rest_more old one low place e es zs found stays le so_far asked is put =
     ∙ sym (ap (λ n. take n (drop low old.log)) more)
 
 -- the store that code reads at a shard's place is its master, and has seen its log
-pub record ReadsStore (tells : Bool) (s : Settings) (tables : Tables) (stores : List Store) (shard : ℕ) (store : Store) : Type 0 where
+pub record IsMasterInPlace (tells : Bool) (s : Settings) (tables : Tables) (stores : List Store) (shard : ℕ) (store : Store) : Type 0 where
   pub master : IsMasterOf s shard store
   pub seen : IsStoreOf tells tables store
   pub pen : pens_of stores shard ≡ store.view
 
 pub store_read : (tells : Bool) (s : Settings) (tables : Tables) (stores : List Store) (place shard : ℕ) (d : Store) → AreStoresOf tells s tables stores
-    → place ≡ shard → shard < s.shards → ReadsStore tells s tables stores shard (slice_index_or stores place d)
+    → place ≡ shard → shard < s.shards → IsMasterInPlace tells s tables stores shard (slice_index_or stores place d)
 store_read tells s tables stores place shard d are here lt =
     let within : shard < length stores = omega (arith, are.masters.long) in
     let at : slice_get stores shard ≡ Some (slice_index_or stores place d) = at_index stores shard place d here within in

@@ -1,10 +1,8 @@
 -- What settling asks of keepers and links, step by step, and why it stops.
-use Rattle.std.proofs.Common.{◌≡◌, ℕ, ◌<◌, ◌≤◌, Bool, refl, ap, sym, ◌∙◌, subst, arith}
+use Rattle.std.proofs.Common.{ℕ, ◌<◌, Bool, refl, sym, ◌∙◌, subst, arith}
 use Rattle.counts.proofs.Rises.{Rose-earlier}
-use Rattle.counts.specs.Count.{Rose}
-use Rattle.graph_model.specs.Told.{WhereTold}
-use Rattle.replies.specs.declared.opening.OpenRefusal.{OpenRefusal}
 use Rattle.replies.specs.declared.refusals.UnsettledWhy.TheVariants.{KeeperFault, LinkFault, LogFull}
+use Rattle.tao_keeper.proofs.Later.{keeps_trans, later_self, later_trans}
 use Rattle.tao_keeper.specs.KeeperState.{IsLater, KeeperState}
 use Rattle.topology.specs.Config.{Settings}
 use Rattle.core_nodes.specs.Opening.{IsUnmade}
@@ -16,23 +14,19 @@ use Rattle.core_nodes.specs.declared.settling.SettleStop.TheVariants.{NoServer, 
 pub reads_none : (tells : Bool) (o : Outside) → OnlyReads tells o o
 reads_none tells o = record {
   tables = λ told at. refl;
-  keepers = record { calls = omega arith; faults = omega arith };
+  keepers = later_self o.keepers;
   link = record { carries = omega arith; faults = omega arith; cuts = refl };
 }
 
 pub reads_on : (tells : Bool) (o p q : Outside) → OnlyReads tells o p → OnlyReads tells p q → OnlyReads tells o q
 reads_on tells o p q first second =
-    let calls = first.keepers.calls in
-    let more_calls = second.keepers.calls in
-    let faults = first.keepers.faults in
-    let more_faults = second.keepers.faults in
     let carries = first.link.carries in
     let more_carries = second.link.carries in
     let lost = first.link.faults in
     let more_lost = second.link.faults in
     record {
-      tables = λ told at. second.tables told at ∙ first.tables told at;
-      keepers = record { calls = omega arith; faults = omega arith };
+      tables = keeps_trans tells o.keepers p.keepers q.keepers first.tables second.tables;
+      keepers = later_trans o.keepers p.keepers q.keepers first.keepers second.keepers;
       link = record { carries = omega arith; faults = omega arith; cuts = second.link.cuts ∙ first.link.cuts };
     }
 

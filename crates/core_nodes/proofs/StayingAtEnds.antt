@@ -42,11 +42,11 @@ all_caught_up s tables old new catches = record {
 
 -- ---- what is held
 
-abbrev EndsAt : Settings → Tables → ℕ → ServedShard → Type 0
-EndsAt s tables shard t = t.marks ≡ marks (length (master_log s tables shard)) []
+abbrev IsMarkedToEnd : Settings → Tables → ℕ → ServedShard → Type 0
+IsMarkedToEnd s tables shard t = t.marks ≡ marks (length (master_log s tables shard)) []
 
 first_ends : (s : Settings) (tables : Tables) (count : ℕ) (node : Node) → IsAtEnds s tables node → IsAtFirstEnds s tables count node
-first_ends s tables count node ends = record { ends = λ shard t lt at. at_served (EndsAt s tables) node.served ends shard t at }
+first_ends s tables count node ends = record { ends = λ shard t lt at. at_served (IsMarkedToEnd s tables) node.served ends shard t at }
 
 node_last : (s : Settings) (tables : Tables) (f : Fleet) (name : NodeName) (node : Node) → IsConsistent true s tables f
     → IsNodeOf s (pens_of f.masters) name node → IsAtEnds s tables node → HoldsLast s tables node
@@ -77,12 +77,12 @@ module _ (s : Settings) (before after : Tables) (old new : Fleet) (was : IsConsi
   node_stays : (name : NodeName) (from to : Node) → IsNodeOf s (pens_of old.masters) name from → IsNodeOf s (pens_of new.masters) name to
       → MarksGoOn from to → IsAtEnds s before from → IsAtEnds s after to
   node_stays name from to was_of is_of goes ends =
-      each_served (EndsAt s after) to.served
+      each_served (IsMarkedToEnd s after) to.served
       (subst Rises (sym is_of.shards) (range_rises (serves_in_turn (regions_of s) name) 0 s.shards))
       (λ shard u at.
       let has = has_of true s after new.masters name are.stores to shard u is_of refl at in
       let some = some_served from.served shard ((serves_its_turn s (pens_of old.masters) name from shard).serves was_of has.here has.serves) in
-      let end : EndsAt s before shard some.0 = at_served (EndsAt s before) from.served ends shard some.0 some.1 in
+      let end : IsMarkedToEnd s before shard some.0 = at_served (IsMarkedToEnd s before) from.served ends shard some.0 some.1 in
       let log = master_log s after shard in
       let now : some.0.marks ≡ marks (length log) [] = subst (λ (l : List Entry). some.0.marks ≡ marks (length l) []) (sym (same shard has.here)) end in
       let rise : MarksRise some.0.marks u.marks = rises_at shard from.served to.served some.0 u some.1 at (goes shard) in

@@ -3,7 +3,7 @@ use Rattle.std.specs.Prelude.{ℕ, ◌≡◌, ◌≤◌, ◌<◌, ◌⊎◌, Boo
 use Rattle.edge_repair.specs.Carries.{FailsAt}
 use Rattle.edge_repair.specs.declared.refusal.RepairRefusal.{RepairRefusal}
 use Rattle.edge_repair.specs.declared.refusal.RepairRefusal.TheVariants.{KeeperFault, LinkFault, LogFull, OutOfMemory}
-use Rattle.edge_repair.specs.declared.repairs.Repaired.{Repaired}
+use Rattle.edge_repair.specs.declared.repairs.RepairOutcome.{RepairOutcome}
 use Rattle.graph_model.specs.Told.{WhereTold}
 use Rattle.node_name.specs.declared.NodeName.TheVariants.{Store as StoreName_}
 use Rattle.tao_base.specs.declared.entry.Entry.{Entry}
@@ -57,7 +57,7 @@ abbrev pub MergesOrRests : Bool → Settings → ShardJob → KeeperState → Ke
 MergesOrRests tells s j old new = KeepsTables tells old new ⊎ WhereTold tells (MergesOwed s old.told new.told j)
 
 -- what the merge of a job from store to store is answered
-abbrev pub MergesThere : Bool → Settings → ShardJob → Result Repaired RepairRefusal → Outside → Outside → Type 0
+abbrev pub MergesThere : Bool → Settings → ShardJob → Result RepairOutcome RepairRefusal → Outside → Outside → Type 0
 MergesThere tells s j (Ok repaired) old new =
     WhereTold tells (WritesDueEntry s j repaired.wrote old.keepers new.keepers) × (new.link ≡ after_carry (after_carry old.link))
 MergesThere tells s j (Err (LogFull count)) old new =

@@ -8,7 +8,7 @@ ghost use Rattle.core_nodes.specs.Opening.{IsUnmade};
 ghost use Rattle.core_nodes.specs.Settling.{StopsLengths, StopsReads, unmade_for};
 ghost use Rattle.graph_model.specs.Told.{WhereTold};
 ghost use Rattle.shard_tables.specs.Stores.{IsStoreOf};
-ghost use Rattle.shard_tables.specs.declared.store.Role.TheVariants.{Master};
+ghost use Rattle.shard_tables.specs.declared.store.StoreRole.TheVariants.{Master};
 ghost use Rattle.tao_keeper.specs.KeeperState.{IsLater, KeepsTables};
 
 use crate::settling::{SettleStop, stop_at};

@@ -18,7 +18,7 @@ ghost use Rattle.shard_log.specs.View.{as_note};
 ghost use Rattle.shard_tables.specs.Refusals.{IsOfReads};
 ghost use Rattle.shard_tables.specs.Stores.{IsStoreOf};
 ghost use Rattle.tao_base.specs.Keys.{key_shard, same_key};
-ghost use Rattle.shard_tables.specs.declared.store.Role.TheVariants.{Master};
+ghost use Rattle.shard_tables.specs.declared.store.StoreRole.TheVariants.{Master};
 ghost use Rattle.tao_keeper.specs.KeeperState.{CallsKeeper, IsLater, KeepsTables};
 ghost use Rattle.tao_link.specs.Shown.{after_carry};
 

@@ -10,7 +10,7 @@ ghost use Rattle.served_shards.specs.Served.{log_at};
 ghost use Rattle.tao_schema.specs.Schema.{types_of};
 
 use crate::fleet::Fleet;
-use core_model::{Named, place_of};
+use core_model::{Named, named_place};
 use follower_cache::{Follower, Refill, followers_are_true};
 use leader_tier::{Leader, leaders_are_true};
 use maint_msg::Maint;
@@ -33,7 +33,7 @@ fn deliver_at_leader(leaders: &mut [Named<Leader>], name: NodeName, message: Mai
     requires log { NodeIs name (λ node. log_at message.shard node.served ≡ Some message.note.log) leaders.old }
     ensures { ChangesNode name (LeaderDoes (Delivers message result)) leaders.old leaders.new }
 {
-    let place = place_of(leaders, name);
+    let place = named_place(leaders, name);
     deliver_to_leader(&mut leaders[place].node, message)
 }
 
@@ -57,7 +57,7 @@ fn deliver_at_follower(
     requires log { NodeIs name (λ f. log_at message.shard f.node.served ≡ Some message.note.log) followers.old }
     ensures { ChangesNode name (FollowerDoes (DeliversThere (types_of schema.now) message result)) followers.old followers.new }
 {
-    let place = place_of(followers, name);
+    let place = named_place(followers, name);
     deliver_to_follower(&mut followers[place].node, schema, message)
 }
 
@@ -74,7 +74,7 @@ fn refill_at(followers: &mut [Named<Follower>], name: NodeName) -> Option<Refill
     requires { HasNode name followers.old }
     ensures { ChangesNode name (FollowerDoes (TakesRefill result)) followers.old followers.new }
 {
-    let place = place_of(followers, name);
+    let place = named_place(followers, name);
     take_refill(&mut followers[place].node)
 }
 

@@ -6,7 +6,7 @@ ghost use Rattle.core_model.specs.Fleet.{ChangesNode, HasNode};
 ghost use Rattle.core_nodes.specs.Stages.{EvictsThere, FollowerDoes, LeaderDoes};
 
 use crate::fleet::Fleet;
-use core_model::{Named, place_of};
+use core_model::{Named, named_place};
 use follower_cache::{Follower, followers_are_true};
 use leader_tier::{Leader, leaders_are_true};
 use node_name::NodeName;
@@ -35,7 +35,7 @@ fn evict_at_leader(leaders: &mut [Named<Leader>], name: NodeName, key: Option<Ke
     requires { HasNode name leaders.old }
     ensures { ChangesNode name (LeaderDoes (Evicts key result)) leaders.old leaders.new }
 {
-    let place = place_of(leaders, name);
+    let place = named_place(leaders, name);
     evict_from_leader(&mut leaders[place].node, key)
 }
 
@@ -61,7 +61,7 @@ fn evict_at_follower(followers: &mut [Named<Follower>], name: NodeName, key: Opt
     requires { HasNode name followers.old }
     ensures { ChangesNode name (FollowerDoes (EvictsThere key result)) followers.old followers.new }
 {
-    let place = place_of(followers, name);
+    let place = named_place(followers, name);
     evict_from_follower(&mut followers[place].node, key)
 }
 

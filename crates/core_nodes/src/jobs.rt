@@ -20,7 +20,7 @@ ghost use Rattle.shard_tables.specs.Refusals.{IsOfReads};
 ghost use Rattle.shard_tables.specs.StoreView.{Store as StoreSeen};
 ghost use Rattle.shard_tables.specs.Stores.{IsStoreOf, store_with};
 ghost use Rattle.shard_tables.specs.Written.{LiesOn, StandsIn, TableGains, added_entry};
-ghost use Rattle.shard_tables.specs.declared.store.Role.TheVariants.{Master};
+ghost use Rattle.shard_tables.specs.declared.store.StoreRole.TheVariants.{Master};
 ghost use Rattle.tao_keeper.specs.Given.{IsGivenJob};
 ghost use Rattle.tao_keeper.specs.Growing.{LogsGrow};
 ghost use Rattle.tao_keeper.specs.KeeperState.{CallsKeeper, KeepsTables};
@@ -30,8 +30,8 @@ ghost use Rattle.write_model.specs.MergeLaws.{MayBeMerged};
 
 use crate::fleet::Fleet;
 use crate::opening::master_store;
-use core_model::{Named, far_shard, place_of};
-use edge_repair::{RepairRefusal, Repaired, merge_there};
+use core_model::{Named, far_shard, named_place};
+use edge_repair::{RepairOutcome, RepairRefusal, merge_there};
 use leader_tier::{Leader, leaders_are_true};
 use node_name::NodeName;
 use shard_tables::{StoreNode, StoreRefusal, Wrote, inverses_match};
@@ -116,7 +116,7 @@ fn merge_at<K: Keeper>(
     ensures calls { CallsKeeper StoreRefusal.KeeperFault (K.state keepers.old) (K.state keepers.new) result }
 {
     inverses_match(&config.schema);
-    let place = place_of(leaders, name);
+    let place = named_place(leaders, name);
     let shard = usize::from(far_shard(job));
     let leader = &mut leaders[place].node;
     let store = &mut masters[shard];
@@ -182,7 +182,7 @@ fn merge_over<K: Keeper, L: Link>(
     config: &Config,
     from: u16,
     job: &Job,
-) -> Result<Repaired, RepairRefusal>
+) -> Result<RepairOutcome, RepairRefusal>
     requires stores { AreStoresOf K.TELLS config.now (K.state keepers.old).told masters.old }
     requires here { from < config.now.shards }
     requires there { far_shard job.now < config.now.shards }
@@ -316,7 +316,7 @@ impl Fleet {
         link: &mut L,
         from: u16,
         job: &Job,
-    ) -> Result<Repaired, RepairRefusal>
+    ) -> Result<RepairOutcome, RepairRefusal>
         requires consistent { IsConsistent K.TELLS config.now (K.state keepers.old).told self.old }
         requires here { from < config.now.shards }
         requires there { far_shard job.now < config.now.shards }

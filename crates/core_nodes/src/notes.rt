@@ -4,7 +4,7 @@ ghost use Rattle.core_model.specs.Pens.{AreFirstNotes, pens_of};
 ghost use Rattle.core_model.specs.Stores.{AreStores};
 ghost use Rattle.shard_log.specs.View.{as_note};
 ghost use Rattle.shard_tables.specs.StoreView.{Store};
-ghost use Rattle.shard_tables.specs.declared.store.Role.TheVariants.{Master};
+ghost use Rattle.shard_tables.specs.declared.store.StoreRole.TheVariants.{Master};
 
 use crate::beginning::note_at;
 use crate::fleet::Fleet;

@@ -25,7 +25,7 @@ ghost use Rattle.tao_schema.specs.Schema.{types_of};
 
 use crate::fleet::Fleet;
 use ask_table::AskNo;
-use core_model::{Named, place_of};
+use core_model::{Named, named_place};
 use follower_cache::{Follower, Kept, Look, followers_are_true};
 use leader_tier::{Leader, leaders_are_true};
 use node_name::NodeName;
@@ -105,7 +105,7 @@ fn look_at(
         (FollowerDoes (LooksTrue (types_of schema.now) (wanted query.now floor) first.look first.ask)) followers.old followers.new) }
     ensures err { OnErr result (followers.new ≡ followers.old) }
 {
-    let place = place_of(followers, name);
+    let place = named_place(followers, name);
     look_first(&mut followers[place].node, schema, query, floor)
 }
 
@@ -132,7 +132,7 @@ fn open_at(followers: &mut [Named<Follower>], name: NodeName, query: &Query) -> 
     requires serves { NodeIs name (λ f. IsSome (served_at (query_shard query.now) f.node.served)) followers.old }
     ensures { ChangesNode name (FollowerDoes (AsksAtOnce (query_key query.now) result)) followers.old followers.new }
 {
-    let place = place_of(followers, name);
+    let place = named_place(followers, name);
     open_true(&mut followers[place].node, query.key())
 }
 
@@ -189,7 +189,7 @@ fn ask_at<K: Keeper>(
     ensures logs { LogsGrow K.TELLS (K.state keepers.old).told (K.state keepers.new).told }
     ensures calls { CallsKeeper StoreRefusal.KeeperFault (K.state keepers.old) (K.state keepers.new) result }
 {
-    let place = place_of(leaders, name);
+    let place = named_place(leaders, name);
     let shard = usize::from(query.shard());
     let leader = &mut leaders[place].node;
     let store = &mut masters[shard];
@@ -235,7 +235,7 @@ fn keep_at(
     ensures err { OnErr result (ChangesNode name (FollowerDoes (EndsAsk ask)) followers.old followers.new) }
     ensures legal { IfOk result (λ r. ViewAnswers (types_of schema.now) fill.note query.now r.0 fill.version) }
 {
-    let place = place_of(followers, name);
+    let place = named_place(followers, name);
     keep_fill(&mut followers[place].node, schema, query, ask, fill)
 }
 
@@ -260,7 +260,7 @@ fn end_at(followers: &mut [Named<Follower>], name: NodeName, ask: Option<AskNo>)
     requires { HasNode name followers.old }
     ensures { ChangesNode name (FollowerDoes (EndsAsk ask)) followers.old followers.new }
 {
-    let place = place_of(followers, name);
+    let place = named_place(followers, name);
     end_open_ask(&mut followers[place].node, ask);
 }
 

@@ -17,7 +17,7 @@ ghost use Rattle.shard_tables.specs.Jobs.{FindsJob, OpensJob, job_with};
 ghost use Rattle.shard_tables.specs.Stores.{IsStoreOf, store_with};
 ghost use Rattle.shard_tables.specs.StoreView.{Store as StoreSeen};
 ghost use Rattle.shard_tables.specs.Written.{HasEntry, LiesOn, StandsIn, TableGains, WriteAnswers, added_entry, asked_write};
-ghost use Rattle.shard_tables.specs.declared.store.Role.TheVariants.{Master};
+ghost use Rattle.shard_tables.specs.declared.store.StoreRole.TheVariants.{Master};
 ghost use Rattle.tao_base.specs.Writes.{ChangesType, write_shard};
 ghost use Rattle.tao_keeper.specs.Given.{IsGivenJob};
 ghost use Rattle.tao_keeper.specs.Growing.{LogsGrow};
@@ -26,7 +26,7 @@ ghost use Rattle.tao_schema.specs.Schema.{types_of};
 ghost use Rattle.write_model.specs.Writes.{FitsWrite};
 
 use crate::fleet::Fleet;
-use core_model::{Named, place_of};
+use core_model::{Named, named_place};
 use follower_cache::{Follower, followers_are_true};
 use leader_tier::{Leader, leaders_are_true};
 use node_name::NodeName;
@@ -122,7 +122,7 @@ fn commit_at<K: Keeper>(
     ensures lies { IfOk result (λ wrote. IfSome wrote.entry (LiesOn wrote.note (write_shard write.now))) }
     ensures calls { CallsKeeper StoreRefusal.KeeperFault (K.state keepers.old) (K.state keepers.new) result }
 {
-    let place = place_of(leaders, name);
+    let place = named_place(leaders, name);
     let shard = usize::from(write.shard());
     let leader = &mut leaders[place].node;
     let store = &mut masters[shard];
@@ -157,7 +157,7 @@ fn apply_at(
     requires here { LiesOn note shard entry.now }
     ensures { ChangesNode name (FollowerDoes (AppliesTo (types_of schema.now) shard entry.now note)) followers.old followers.new }
 {
-    let place = place_of(followers, name);
+    let place = named_place(followers, name);
     apply_of(&mut followers[place].node, schema, shard, entry, note);
 }
 

@@ -386,15 +386,15 @@ follower_takes_none types route shard (Some e) old new takes =
 
 -- ---- the other end of a write
 
-abbrev pub followers_of : Posting → List (Named FollowerState)
-followers_of x = x.scene.fleet.followers
+abbrev pub followers_in : Posting → List (Named FollowerState)
+followers_in x = x.scene.fleet.followers
 
 module _ (tells : Bool) (s : Settings) (way : JobWay) (old new : Posting) where
-  untouched : ChangesNoNode tells old new → followers_of new ≡ followers_of old
+  untouched : ChangesNoNode tells old new → followers_in new ≡ followers_in old
   untouched rests = ap (λ (f : Fleet). f.followers) rests.fleet
 
-  left_same : (why : ScheduledWhy) (wrote : Option Wrote) → LeavesJob tells s way (Scheduled why wrote) old new → followers_of new ≡ followers_of old
-  left_same NoServer None is = ap followers_of is.1
+  left_same : (why : ScheduledWhy) (wrote : Option Wrote) → LeavesJob tells s way (Scheduled why wrote) old new → followers_in new ≡ followers_in old
+  left_same NoServer None is = ap followers_in is.1
   left_same why.LinkFault None is = untouched is.2
   left_same why.LinkFault (Some w) is = is.2.followers
   left_same why.KeeperFault None is = untouched is.1
@@ -406,16 +406,16 @@ module _ (tells : Bool) (s : Settings) (way : JobWay) (old new : Posting) where
   left_same why.Memory (Some w) is = absurd is
 
   -- a merge changes no follower
-  pub merge_same : (result : Result Wrote Late) → MergesOver tells s way result old new → followers_of new ≡ followers_of old
+  pub merge_same : (result : Result Wrote Late) → MergesOver tells s way result old new → followers_in new ≡ followers_in old
   merge_same (Ok wrote) is = is.0.followers
   merge_same (Err (Scheduled why wrote)) is = left_same why wrote is
   merge_same (Err (late.Refused reply)) is = absurd is
 
-changed_keepers : (old new : Posting) → ChangesKeepers old new → followers_of new ≡ followers_of old
-changed_keepers old new is = ap followers_of is
+changed_keepers : (old new : Posting) → ChangesKeepers old new → followers_in new ≡ followers_in old
+changed_keepers old new is = ap followers_in is
 
 late_same : (tells : Bool) (s : Settings) (j : ShardJob) (why : ScheduledWhy) (wrote : Option Wrote) (old new : Posting)
-    → EndsOver tells s j (Err (Scheduled why wrote)) old new → followers_of new ≡ followers_of old
+    → EndsOver tells s j (Err (Scheduled why wrote)) old new → followers_in new ≡ followers_in old
 late_same tells s j why.KeeperFault None old new is = changed_keepers old new is.2
 late_same tells s j why.Memory None old new is = changed_keepers old new is.1
 late_same tells s j why.KeeperFault (Some w) old new is = absurd is
@@ -426,13 +426,13 @@ late_same tells s j NoServer wrote old new is = absurd is
 
 -- nor does the end of a job
 pub end_same : (tells : Bool) (s : Settings) (j : ShardJob) (result : Result ⊤ Late) (old new : Posting) → EndsOver tells s j result old new
-    → followers_of new ≡ followers_of old
+    → followers_in new ≡ followers_in old
 end_same tells s j (Ok done) old new is = changed_keepers old new is.1
 end_same tells s j (Err (Scheduled why wrote)) old new is = late_same tells s j why wrote old new is
 end_same tells s j (Err (late.Refused reply)) old new is = absurd is
 
 job_same : (tells : Bool) (s : Settings) (way : JobWay) (done : OtherEndDone) (old new : Posting) → WorksOffJob tells s way done old new
-    → followers_of new ≡ followers_of old
+    → followers_in new ≡ followers_in old
 job_same tells s way done old new (inl both) =
     end_same tells s way.job (Ok tt) both.between new both.ends ∙ merge_same tells s way old both.between (Ok both.wrote) both.merges
 job_same tells s way done old new (inr (inl open_still)) =
@@ -441,13 +441,13 @@ job_same tells s way done old new (inr (inl open_still)) =
 job_same tells s way done old new (inr (inr left)) = merge_same tells s way old new (Err (Scheduled left.why done.wrote)) left.merges
 
 other_end_same : (tells : Bool) (s : Settings) (shard : ℕ) (c : Committed) (job : Option Job) (done : OtherEndDone) (old new : Posting)
-    → WorksOffOf tells s (write_other_end shard c done) job old new → followers_of new ≡ followers_of old
-other_end_same tells s shard c None done old new is = ap followers_of is.2
+    → WorksOffOf tells s (write_other_end shard c done) job old new → followers_in new ≡ followers_in old
+other_end_same tells s shard c None done old new is = ap followers_in is.2
 other_end_same tells s shard c (Some job) done old new is = job_same tells s (job_way c.leader (job_on shard job)) done old new is
 
 -- a write changes none up to its way back
 worked_off_same : (tells : Bool) (s : Settings) (route : Route) (call : AuthoredWrite) (old new : Posting) → IsWorkedOff tells s (sent_write route call) old new
-    → followers_of new ≡ followers_of old
+    → followers_in new ≡ followers_in old
 worked_off_same tells s route call old new is =
     other_end_same tells s (write_shard call.write) is.committed is.committed.wrote.job is.other_end is.between new is.works_off
     ∙ is.commits.followers
@@ -499,10 +499,10 @@ module _ (tells : Bool) (s : Settings) (leader : NodeName) (p q : Writing) (old 
   uncommitted_none (Refused (Memory position)) is = is.1
   uncommitted_none reply is = absurd is
 
-  alone : followers_of new ≡ followers_of old → OpensNone (followers_of old) (followers_of new)
-  alone = same_opens_none (followers_of old) (followers_of new)
+  alone : followers_in new ≡ followers_in old → OpensNone (followers_in old) (followers_in new)
+  alone = same_opens_none (followers_in old) (followers_in new)
 
-  pub stage_opens_none : (at : WriteStage) → DoesWriteStage (led_by tells s leader) at p old q new → OpensNone (followers_of old) (followers_of new)
+  pub stage_opens_none : (at : WriteStage) → DoesWriteStage (led_by tells s leader) at p old q new → OpensNone (followers_in old) (followers_in new)
   stage_opens_none Commit (inl commits) = alone commits.commits.followers
   stage_opens_none Commit (inr refuses) = alone (ap (λ (f : Fleet). f.followers) (uncommitted_none refuses.reply refuses.refuses).fleet)
   stage_opens_none Inverse merges = alone (merge_same tells s (job_way leader (job_by p merges.job)) old new merges.result merges.merges)
@@ -511,7 +511,7 @@ module _ (tells : Bool) (s : Settings) (leader : NodeName) (p q : Writing) (old 
       follower_takes_none (types_of s.schema) (way_by leader p) (write_shard p.write) applies.committed.wrote.entry old.scene.fleet new.scene.fleet
       applies.takes
   stage_opens_none Apply (inr (inl loses)) = alone (ap (λ (f : Fleet). f.followers) loses.fleet)
-  stage_opens_none Apply (inr (inr vain)) = alone (ap followers_of vain.same)
+  stage_opens_none Apply (inr (inr vain)) = alone (ap followers_in vain.same)
   stage_opens_none Relay does = absurd does
   stage_opens_none Done does = absurd does
 

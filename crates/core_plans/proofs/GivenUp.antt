@@ -3,7 +3,7 @@ use Rattle.std.proofs.Common.{◌≡◌, ℕ, Bool, Option, Some, None, refl, sy
 use Rattle.std.specs.Prelude.{Err, IsSome}
 use Rattle.core_model.specs.Fleet.{Fleet}
 use Rattle.core_plans.specs.Held.{IsUnderWay, StepsHeld, given_up, learner, learner_at}
-use Rattle.core_plans.specs.HeldWrites.{DoesWriteStage, position_of, way_given_up}
+use Rattle.core_plans.specs.HeldWrites.{DoesWriteStage, entry_position, way_given_up}
 use Rattle.core_plans.specs.declared.held.HeldPlan.{HeldPlan}
 use Rattle.core_plans.specs.declared.held.HeldPlan.TheVariants.{Read, Write}
 use Rattle.core_plans.proofs.HeldWriteStages.{applied_still}
@@ -46,5 +46,5 @@ gives_up tells s leader (Read p) now is = absurd (cc)
 
 pub under_way_still : (tells : Bool) (s : Settings) (tables : Tables) (f : Fleet) (plan : HeldPlan) → IsUnderWay tells s tables f plan
     → IsUnderWay tells s tables f (given_up plan)
-under_way_still tells s tables f (Write p) is = applied_still tells s tables f p is (Err (Refused (Memory (position_of (answered_entry p))))) 0
+under_way_still tells s tables f (Write p) is = applied_still tells s tables f p is (Err (Refused (Memory (entry_position (answered_entry p))))) 0
 under_way_still tells s tables f (Read p) is = is

@@ -1,5 +1,5 @@
 -- What each stage of a held read comes to.
-use Rattle.std.proofs.Common.{◌≡◌, ℕ, ◌<◌, false, true, Bool, Option, Some, None, refl, ap, sym, ◌∙◌, subst, inl, inr, arith}
+use Rattle.std.proofs.Common.{◌≡◌, ℕ, ◌<◌, false, true, Bool, Option, Some, None, refl, ap, sym, ◌∙◌, subst, inl, inr}
 use Rattle.std.specs.Prelude.{◌-◌, IfSome, Ok, Err, nat_lt}
 use Rattle.cache_items.specs.declared.look.Kept.{Kept as KeptWhy}
 use Rattle.cache_items.specs.declared.look.Look.{Look}
@@ -7,7 +7,7 @@ use Rattle.cache_items.specs.declared.look.Look.TheVariants.{Hit, Miss}
 use Rattle.core_model.specs.Consistent.{GoesOn, IsConsistent, IsFleetOf}
 use Rattle.core_model.specs.Fleet.{ChangesNode, Fleet, HasAsk}
 use Rattle.core_model.specs.Pens.{pens_of}
-use Rattle.core_model.specs.Reads.{AsksAtOnce, EndsAsk, IsGivenFill, IsLegalLook, KeepsFill, LeaderAnswers, LooksFirst, Wanted, store_calls, taken_fill, wanted}
+use Rattle.core_model.specs.Reads.{AsksAtOnce, EndsAsk, IsGivenFill, IsLegalLook, KeepsFill, LeaderAnswers, LooksFirst, store_calls, taken_fill, wanted}
 use Rattle.core_model.specs.Stores.{AreStoresOf}
 use Rattle.core_steps.specs.Reads.{MayAnswer}
 use Rattle.core_steps.specs.ReadSteps.{IsGivenOver, IsNotGiven, IsNotRead, IsReadOver, ReadOverFails, ReadsOn}
@@ -15,10 +15,9 @@ use Rattle.core_steps.specs.Routes.{Scene, hops_between, master_node, scene, was
 use Rattle.core_model.proofs.NamedNodes.{changes_so}
 use Rattle.core_nodes.specs.Stages.{NodeIs}
 use Rattle.core_nodes.proofs.NodesOfNames.{is_after}
-use Rattle.core_steps.proofs.AlongLemmas.{on_after, on_same}
+use Rattle.core_steps.proofs.AlongLemmas.{hit_alone, not_past, on_after, on_same}
 use Rattle.core_steps.proofs.ReadLemmas.{legal_in_log, where_told}
-use Rattle.core_steps.proofs.Repeats.{Repeats, filled_repeats, hit_repeats}
-use Rattle.follower_cache.specs.Seen.{FollowerState}
+use Rattle.core_steps.proofs.Repeats.{RepeatsHit, filled_repeats, hit_repeats}
 use Rattle.shard_log.proofs.GrowthLemmas.{legal-grows}
 use Rattle.node_name.specs.declared.NodeName.{NodeName}
 use Rattle.read_plan.proofs.RunLemmas.{answers_are_given}
@@ -51,6 +50,7 @@ use Rattle.shard_tables.specs.declared.read_out.ReadOut.TheVariants as out
 use Rattle.tao_base.specs.Queries.{query_key, query_shard}
 use Rattle.tao_base.specs.declared.query.Answer.{Answer}
 use Rattle.tao_base.specs.declared.query.Query.{Query}
+use Rattle.tao_keeper.proofs.Later.{later_self}
 use Rattle.tao_keeper.specs.KeeperState.{KeeperState}
 use Rattle.tao_link.specs.Shown.{LinkShown}
 use Rattle.tao_schema.specs.Schema.{types_of}
@@ -138,13 +138,9 @@ follower_on : (tells : Bool) (s : Settings) (p : Reading) (keepers : KeeperState
 follower_on tells s p keepers old new link there =
     let from : Scene = scene old keepers link in
     on_after tells s from from new (on_same tells s from old keepers link refl there.consistent (λ told store. refl)
-    (record { calls = omega arith; faults = omega arith })) there.rest there.fleet there.goes
+    (later_self keepers)) there.rest there.fleet there.goes
 
 -- ---- look
-
-hit_alone : (s : Settings) (read : Wanted) (answer : Answer) (version : ℕ) (ask : Option ℕ) (from to : FollowerState)
-    → LooksFirst (types_of s.schema) read (Hit answer version) ask from to → LooksFirst (types_of s.schema) read (Hit answer version) None from to
-hit_alone s read answer version ask from to looks = subst (λ a. LooksFirst (types_of s.schema) read (Hit answer version) a from to) looks.node.0 looks
 
 look_legal : (tells : Bool) (s : Settings) (p : Reading) (old new : Fleet) (keepers : KeeperState) (link : LinkShown) (look : Look) (ask : Option ℕ)
     → p.critical ≡ false → AreStoresOf tells s keepers.told old.masters → query_shard p.query < s.shards
@@ -159,7 +155,7 @@ look_legal tells s p old new keepers link (Hit answer version) ask plain are her
     let alone = changes_so (LooksFirst types (wanted_by p) (Hit answer version) ask) (LooksFirst types (wanted_by p) (Hit answer version) None)
     p.follower old.followers new.followers (hit_alone s (wanted_by p) answer version ask) change in
     let was = subst (λ (f : Fleet). IsLegalIn types (pens_of f.masters shard) p.query p.floor answer version) rest legal in
-    let repeats = is_after (Repeats types p.query answer version) (LooksFirst types (wanted_by p) (Hit answer version) None) p.follower
+    let repeats = is_after (RepeatsHit types p.query answer version) (LooksFirst types (wanted_by p) (Hit answer version) None) p.follower
     old.followers new.followers alone (hit_repeats types (wanted_by p) answer version alone.from alone.to alone.by) in
     legally tells s q (scene new keepers link) (Ended (ended.Answered answer version Kept)) (ap (λ c. after_look c (Hit answer version)) plain) (
       legal_in_log tells s keepers.told old.masters shard types p.query p.floor answer version are here was,
@@ -282,9 +278,9 @@ module _ (tells : Bool) (s : Settings) (leader : NodeName) (p q : Reading) (keep
       (of_plan (λ f q n. ChangesNode f (KeepsFill types q (taken_fill ask fill answer kept)) old.followers new.followers) p follower query floor of change) in
       let right = of_plan (λ f q n. IsLegalIn types (pens_of new.masters (query_shard q)) q n answer fill.version) p follower query floor of legal in
       let was = subst (λ (f : Fleet). IsLegalIn types (pens_of f.masters shard) p.query p.floor answer fill.version) there.rest right in
-      let again = where_told (kept_or_not kept ≡ Kept → NodeIs p.follower (Repeats types p.query answer fill.version) new.followers)
+      let again = where_told (kept_or_not kept ≡ Kept → NodeIs p.follower (RepeatsHit types p.query answer fill.version) new.followers)
       tells s keepers.told old.masters shard are here
-      (λ told held. is_after (Repeats types p.query answer fill.version) (KeepsFill types p.query (taken_fill p.ask fill answer kept)) p.follower
+      (λ told held. is_after (RepeatsHit types p.query answer fill.version) (KeepsFill types p.query (taken_fill p.ask fill answer kept)) p.follower
       old.followers new.followers keeps
       (filled_repeats s old new.followers p.follower (wanted_by p) p.ask fill answer kept there.consistent.fleet keeps given sealed told held)) in
       let now = version_now s p keepers in
@@ -309,10 +305,6 @@ module _ (tells : Bool) (s : Settings) (leader : NodeName) (p q : Reading) (keep
       refused_there (came.Keep (Err (Refused (Memory 0)))) (Keeping (Fill fill)) (filled p.at fill found) refl
       (took ∙ ap (taken (came.Keep (Err reply)) 0 false) out_is ∙ ap (λ r. taken (came.Keep (Err r)) 0 false p) said)
       (inr (record { ends = ends; rest = ap (λ f. scene f keepers link) there.rest; then = refl }))
-
--- an answer past the bound is never kept
-not_past : (bound total : ℕ) (P : Type 0) → past_bound bound total ≡ Kept → P
-not_past bound total P h = absurd (cc)
 
 pub hands_done : (tells : Bool) (s : Settings) (leader : NodeName) (p q : Reading) (keepers : KeeperState) (link : LinkShown) (old new : Fleet)
     (handed : Reading) → IsConsistent tells s keepers.told old → IsReadUnderWay tells s keepers.told old p → fill_of p.at ≡ None

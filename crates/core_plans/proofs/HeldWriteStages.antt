@@ -7,7 +7,7 @@ use Rattle.core_model.specs.Jobs.{CanBeMerged, IsMergedJob, ShardJob, job_on}
 use Rattle.core_steps.specs.OtherEnds.{EndsOver, MergesOver, StandsThere, job_way, known_of}
 use Rattle.core_steps.specs.Posting.{Posting, PostsOn}
 use Rattle.core_steps.specs.Routes.{hops_between}
-use Rattle.core_steps.specs.Writes.{AuthoredWrite, CanBeApplied, IsCommitted, RefusesCommit, client_call, sent_write}
+use Rattle.core_steps.specs.Writes.{AuthoredWrite, CanBeApplied, IsCommitted, RefusesCommit, SentWrite, client_call, sent_write}
 use Rattle.core_steps.specs.declared.routes.Route.{Route}
 use Rattle.graph_model.specs.Told.{WhereTold}
 use Rattle.node_name.specs.declared.NodeName.{NodeName}
@@ -264,12 +264,11 @@ of_write leader p follower origin write P of h =
     (subst (λ w. P (record { follower = follower; leader = leader }) (client_call origin w)) of.write_is h))
 
 -- what a commit came to: its follower may take it, its job may be merged, or it was refused
-pub record ComesOfCommit (tells : Bool) (s : Settings) (route : Route) (call : AuthoredWrite) (wrote : Result Wrote Reply) (old new : Posting)
-    : Type 0 where
-  pub committed : IfOk wrote (λ w. IsCommitted tells s (sent_write route call) w old new)
-  pub apply : IfOk wrote (λ w. CanBeApplied call w new.scene.fleet.masters)
-  pub job : IfOk wrote (λ w. IfSome w.job (λ j. CanBeMerged tells s new.scene.keepers.told (job_on (write_shard call.write) j)))
-  pub refused : IfErr wrote (λ reply. RefusesCommit tells s (sent_write route call) reply old new)
+pub record ComesOfCommit (tells : Bool) (s : Settings) (sent : SentWrite) (wrote : Result Wrote Reply) (old new : Posting) : Type 0 where
+  pub committed : IfOk wrote (λ w. IsCommitted tells s sent w old new)
+  pub apply : IfOk wrote (λ w. CanBeApplied sent.call w new.scene.fleet.masters)
+  pub job : IfOk wrote (λ w. IfSome w.job (λ j. CanBeMerged tells s new.scene.keepers.told (job_on (write_shard sent.call.write) j)))
+  pub refused : IfErr wrote (λ reply. RefusesCommit tells s sent reply old new)
 
 -- what the leader answered, its follower may take
 answer_of : (s : Settings) (masters : List Store) (p : Writing) (wrote : Result Wrote Reply) (outcome : Result Committed Reply)
@@ -293,7 +292,7 @@ job_of_answer s write P (Err refusal) (Ok c) taken job = absurd taken
 job_of_answer s write P (Err refusal) (Err reply) taken job = tt
 
 commits_done : (tells : Bool) (s : Settings) (leader : NodeName) (p q : Writing) (old new : Posting) (wrote : Result Wrote Reply)
-    (outcome : Result Committed Reply) → IsTakenAs s p.write wrote outcome → ComesOfCommit tells s (way_by leader p) (call_of_plan p) wrote old new
+    (outcome : Result Committed Reply) → IsTakenAs s p.write wrote outcome → ComesOfCommit tells s (sent_write (way_by leader p) (call_of_plan p)) wrote old new
     → q ≡ after_stage p (came.Commit outcome) (hops_between old.scene.link new.scene.link) → DoesWriteStage (led_by tells s leader) Commit p old q new
 commits_done tells s leader p q old new (Ok w) (Ok c) taken comes then = inl (record {
   committed = c;
@@ -351,13 +350,13 @@ module _ (tells : Bool) (s : Settings) (leader : NodeName) (p q : Writing) (old 
 
   pub commits_pass : (follower : NodeName) (origin : Origin) (write : Write) (wrote : Result Wrote Reply) (outcome : Result Committed Reply) (took : ℕ)
       → next_of p ≡ Commit → IsOfWriting p follower origin write
-      → ComesOfCommit tells s (record { follower = follower; leader = leader }) (client_call origin write) wrote old new
+      → ComesOfCommit tells s (sent_write (record { follower = follower; leader = leader }) (client_call origin write)) wrote old new
       → IsTakenAs s p.write wrote outcome → took ≡ hops → q ≡ after_stage p (came.Commit outcome) took
       → PassesWriteStage (led_by tells s leader) Commit p old q new
   commits_pass follower origin write wrote outcome took at of comes_so taken took_is took_so =
       let tables = new.scene.keepers.told in
       let then = took_so ∙ ap (after_stage p (came.Commit outcome)) took_is in
-      let comes = of_write leader p follower origin write (λ way call. ComesOfCommit tells s way call wrote old new) of comes_so in
+      let comes = of_write leader p follower origin write (λ way call. ComesOfCommit tells s (sent_write way call) wrote old new) of comes_so in
       passes Commit (came.Commit outcome) then (commits_done tells s leader p q old new wrote outcome taken comes then)
       (committed_still tells s tables new.scene.fleet p later outcome hops (before_commit p at)
       (answer_of s new.scene.fleet.masters p wrote outcome taken comes.apply)

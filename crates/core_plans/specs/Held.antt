@@ -54,6 +54,7 @@ abbrev pub IsOver : HeldPlan → Reply → Type 0
 IsOver (Read p) reply = EndsWith p reply
 IsOver (Write p) reply = reply_of p ≡ Some reply
 
+-- it is under way, as its kind is
 abbrev pub IsUnderWay : Bool → Settings → Tables → Fleet → HeldPlan → Type 0
 IsUnderWay tells s tables f (Read p) = IsReadUnderWay tells s tables f p
 IsUnderWay tells s tables f (Write p) = IsWriteUnderWay tells s tables f p
@@ -83,6 +84,7 @@ learner_at Apply (Client session seq) = Some session
 learner_at Apply (Merge shard position) = None
 learner_at next origin = None
 
+-- the same of a plan; a read teaches none
 abbrev pub learner : HeldPlan → Option ℕ
 learner (Write p) = learner_at (next_of p) p.origin
 learner (Read p) = None
@@ -101,6 +103,7 @@ Plans = List (ℕ × HeldPlan)
 abbrev pub plans_seen : Inside → Plans
 plans_seen p = p.plans.entries
 
+-- the plan of that number
 abbrev pub plan_at : Plans → ℕ → Option HeldPlan
 plan_at plans number = lookup (is_at (nat_cmp number)) plans
 
@@ -140,6 +143,7 @@ pub record IsThere (tells : Bool) (s : Settings) (tables : Tables) (f : Fleet) (
   pub goes_on : IsSome (next_stage plan)
   pub leader_is : IsLeaderOf s leader plan
 
+-- a plan is held there, and that leader may do its next stage
 abbrev pub CanStep : Bool → Settings → Tables → Fleet → NodeName → Option HeldPlan → Type 0
 CanStep tells s tables f leader None = ⊥
 CanStep tells s tables f leader (Some plan) = IsThere tells s tables f leader plan
@@ -167,6 +171,7 @@ pub record StepsPlan (led : LedBy) (number : ℕ) (plans : Plans) (old : Posting
 
 -- ---- asks
 
+-- an ask of that number is open
 abbrev pub is_open_ask : ℕ → Asks → Bool
 is_open_ask number t = list_any (λ a. a.number == number) t.asks
 

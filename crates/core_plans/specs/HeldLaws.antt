@@ -41,6 +41,7 @@ use Rattle.topology.specs.Config.{Settings}
 use Rattle.write_plan.specs.Plans.{Writing}
 use Rattle.write_plan.specs.declared.stage.WriteStage.{WriteStage}
 
+-- the followers, each with its name
 abbrev pub Followers : Type 0
 Followers = List (Named FollowerState)
 

@@ -65,6 +65,7 @@ IsGivenTo types pens read (Past answer version total (Some note)) = IsGivenAnswe
 IsGivenTo types pens read (Past answer version total None) = ⊥
 IsGivenTo types pens read (HandedOut version) = ⊥
 
+-- so where it stands: only a read that is to keep has been given something
 abbrev pub StandsSo : EdgeTypes → Pens → Wanted → Standing → Type 0
 StandsSo types pens read (Keeping given) = IsGivenTo types pens read given
 StandsSo types pens read Looking = ⊤
@@ -120,6 +121,7 @@ pub record LooksInVain (p : Reading) (old : Scene) (q : Reading) (new : Scene) :
   pub same : new ≡ old
   pub then : q ≡ taken (came.Look (Err (Refused (Memory 0)))) 0 false p
 
+-- what `look` does, which is critical or not
 abbrev pub DoesLook : Settings → Bool → Reading → Scene → Reading → Scene → Type 0
 DoesLook s false p old q new = LooksThere s p old q new ⊎ LooksInVain p old q new
 DoesLook s true p old q new = LooksPast p old q new
@@ -173,6 +175,7 @@ pub record HandsPast (p : Reading) (old : Scene) (q : Reading) (new : Scene) : T
   pub rest : ChangesFollowers old new
   pub then : q ≡ taken (came.Keep (Ok None)) 0 false p
 
+-- what `keep` does with what was given; it is never handed out before
 abbrev pub DoesKeep : Settings → Reading → Given → Scene → Reading → Scene → Type 0
 DoesKeep s p (Fill fill) old q new = AnswersFrom s p fill old q new ⊎ KeepsInVain p old q new
 DoesKeep s p (Past answer version total seen) old q new = HandsPast p old q new

@@ -43,9 +43,9 @@ abbrev pub way_by : NodeName → Writing → Route
 way_by leader p = record { follower = p.follower; leader = leader }
 
 -- the position of an entry, or 0
-abbrev pub position_of : Option Entry → ℕ
-position_of None = 0
-position_of (Some e) = e.position
+abbrev pub entry_position : Option Entry → ℕ
+entry_position None = 0
+entry_position (Some e) = e.position
 
 -- what its commit answered: its follower may take it, and it passed no other leader
 pub record IsAnswerTo (s : Settings) (masters : List StoreSeen) (p : Writing) (c : Committed) : Type 0 where
@@ -131,7 +131,7 @@ pub record LosesWayBack (leader : NodeName) (p : Writing) (old : Posting) (q : W
 
 -- memory was wanting for the way back: the plan ends, at the position of what its commit answered
 abbrev pub way_given_up : Writing → Writing
-way_given_up p = after_stage p (came.Apply (Err (Refused (Memory (position_of (answered_entry p)))))) 0
+way_given_up p = after_stage p (came.Apply (Err (Refused (Memory (entry_position (answered_entry p)))))) 0
 
 -- so the write stands as well
 pub record AppliesInVain (p : Writing) (old : Posting) (q : Writing) (new : Posting) : Type 0 where

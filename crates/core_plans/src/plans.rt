@@ -1,15 +1,9 @@
 //! `HeldPlans`.
 ghost use Rattle.std.specs.Prelude.{◌≡◌, IfSome};
-ghost use Rattle.core_mail.specs.Inboxes.{AreInboxesOf};
-ghost use Rattle.core_model.specs.Consistent.{GoesOn, IsConsistent};
-ghost use Rattle.core_model.specs.Growing.{MastersGrow};
-ghost use Rattle.core_model.specs.Pens.{pens_of};
 ghost use Rattle.core_plans.specs.Held.{CanStep, IsThere, IsUnderWay, StepsHeld, StepsPlan};
 ghost use Rattle.core_plans.specs.LedBy.{led_by};
 ghost use Rattle.core_steps.specs.Routes.{scene};
-ghost use Rattle.core_steps.specs.Posting.{PostsOn, posting};
-ghost use Rattle.tao_keeper.specs.KeeperState.{IsLater};
-ghost use Rattle.topology.specs.States.{all_up};
+ghost use Rattle.core_steps.specs.Posting.{CanPost, PostsOn, posting};
 
 use crate::held::HeldPlan;
 use crate::reads::read_stage;
@@ -42,9 +36,7 @@ fn held_stage<K: Keeper, L: Link>(
     leader: NodeName,
     plan: &mut HeldPlan,
 )
-    requires consistent { IsConsistent K.TELLS config.now (K.state keepers.old).told fleet.old }
-    requires inboxes { AreInboxesOf config.now (pens_of fleet.old.masters) mail.old }
-    requires states { topology.now ≡ all_up config.now }
+    requires ready { CanPost K.TELLS config.now (posting (scene fleet.old (K.state keepers.old) (L.shown link.old)) mail.old topology.now) }
     requires there { IsThere K.TELLS config.now (K.state keepers.old).told fleet.old leader plan.old }
     ensures steps { StepsHeld (led_by K.TELLS config.now leader)
         plan.old (posting (scene fleet.old (K.state keepers.old) (L.shown link.old)) mail.old topology.now)
@@ -172,19 +164,15 @@ impl HeldPlans {
         leader: NodeName,
         number: u32,
     )
-        requires consistent { IsConsistent K.TELLS config.now (K.state keepers.old).told fleet.old }
-        requires inboxes { AreInboxesOf config.now (pens_of fleet.old.masters) mail.old }
-        requires states { topology.now ≡ all_up config.now }
+        requires ready { CanPost K.TELLS config.now (posting (scene fleet.old (K.state keepers.old) (L.shown link.old)) mail.old topology.now) }
         requires can { CanStep K.TELLS config.now (K.state keepers.old).told fleet.old leader (plan_at self.old number) }
         ensures steps { StepsPlan (led_by K.TELLS config.now leader) number
             self.old (posting (scene fleet.old (K.state keepers.old) (L.shown link.old)) mail.old topology.now)
             self.new (posting (scene fleet.new (K.state keepers.new) (L.shown link.new)) mail.new topology.now) }
         ensures under_way { IfSome (plan_at self.new number) (IsUnderWay K.TELLS config.now (K.state keepers.new).told fleet.new) }
-        ensures consistent { IsConsistent K.TELLS config.now (K.state keepers.new).told fleet.new }
-        ensures inboxes { AreInboxesOf config.now (pens_of fleet.new.masters) mail.new }
-        ensures goes { GoesOn fleet.old fleet.new }
-        ensures grows { MastersGrow K.TELLS config.now (K.state keepers.old).told (K.state keepers.new).told }
-        ensures later { IsLater (K.state keepers.old) (K.state keepers.new) }
+        ensures on { PostsOn K.TELLS config.now
+            (posting (scene fleet.old (K.state keepers.old) (L.shown link.old)) mail.old topology.now)
+            (posting (scene fleet.new (K.state keepers.new) (L.shown link.new)) mail.new topology.now) }
     {
         match self.plans.get_mut(&number) {
             Some(plan) => held_stage(

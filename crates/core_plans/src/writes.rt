@@ -1,14 +1,13 @@
 //! The stages of held writes.
 ghost use Rattle.std.specs.Prelude.{◌≡◌, Bool, IfErr, IfOk, IfSome, IsSome, OnErr, OnOk, true};
-ghost use Rattle.core_mail.specs.Inboxes.{AreInboxesOf, Inboxes};
+ghost use Rattle.core_mail.specs.Inboxes.{Inboxes};
 ghost use Rattle.core_model.specs.Consistent.{GoesOn, IsConsistent, IsFleetOf};
 ghost use Rattle.core_model.specs.Growing.{MastersGrow};
-ghost use Rattle.core_model.specs.Pens.{pens_of};
 ghost use Rattle.core_model.specs.Serving.{IsFollowerFor, IsLeaderFor};
-ghost use Rattle.core_plans.specs.HeldWrites.{DoesWriteStage, IsAnswerTo, IsTakenAs, IsWriteUnderWay, PassesWriteStage, position_of, way_given_up};
+ghost use Rattle.core_plans.specs.HeldWrites.{DoesWriteStage, IsAnswerTo, IsTakenAs, IsWriteUnderWay, PassesWriteStage, entry_position, way_given_up};
 ghost use Rattle.core_plans.specs.LedBy.{led_by};
 ghost use Rattle.core_steps.specs.Routes.{FailsCarry, scene};
-ghost use Rattle.core_steps.specs.Posting.{PostsOn, posting};
+ghost use Rattle.core_steps.specs.Posting.{CanPost, PostsOn, posting};
 ghost use Rattle.core_steps.specs.Writes.{FollowerTakes};
 ghost use Rattle.shard_tables.specs.Written.{HasEntry};
 ghost use Rattle.tao_base.specs.Writes.{write_shard};
@@ -16,7 +15,7 @@ ghost use Rattle.tao_keeper.specs.KeeperState.{IsLater, KeeperState};
 ghost use Rattle.tao_keeper.specs.Table.{Tables};
 ghost use Rattle.tao_link.specs.Shown.{LinkShown, after_carry};
 ghost use Rattle.tao_schema.specs.Schema.{types_of};
-ghost use Rattle.topology.specs.States.{NodeStates, all_up};
+ghost use Rattle.topology.specs.States.{NodeStates};
 ghost use Rattle.write_model.specs.Writes.{FitsWrite};
 ghost use Rattle.write_plan.specs.Plans.{answered_entry, next_of, when_of};
 ghost use Rattle.write_plan.specs.Stages.{told_stage};
@@ -65,9 +64,7 @@ fn commit_stage<K: Keeper, L: Link>(
     leader: NodeName,
     plan: &mut WritePlan,
 )
-    requires consistent { IsConsistent K.TELLS config.now (K.state keepers.old).told fleet.old }
-    requires inboxes { AreInboxesOf config.now (pens_of fleet.old.masters) mail.old }
-    requires states { topology.now ≡ all_up config.now }
+    requires ready { CanPost K.TELLS config.now (posting (scene fleet.old (K.state keepers.old) (L.shown link.old)) mail.old topology.now) }
     requires leader { IsLeaderFor config.now (write_shard plan.old.write) leader }
     requires write { IsWriteUnderWay K.TELLS config.now (K.state keepers.old).told fleet.old plan.old }
     requires stage { next_of plan.old ≡ stage.Commit }
@@ -109,9 +106,7 @@ fn inverse_stage<K: Keeper, L: Link>(
     leader: NodeName,
     plan: &mut WritePlan,
 )
-    requires consistent { IsConsistent K.TELLS config.now (K.state keepers.old).told fleet.old }
-    requires inboxes { AreInboxesOf config.now (pens_of fleet.old.masters) mail.old }
-    requires states { topology.now ≡ all_up config.now }
+    requires ready { CanPost K.TELLS config.now (posting (scene fleet.old (K.state keepers.old) (L.shown link.old)) mail.old topology.now) }
     requires write { IsWriteUnderWay K.TELLS config.now (K.state keepers.old).told fleet.old plan.old }
     requires stage { next_of plan.old ≡ stage.Inverse }
     ensures { PassesWriteStage (led_by K.TELLS config.now leader) stage.Inverse
@@ -160,7 +155,7 @@ fn end_stage<K: Keeper>(
 
 /// The reply that memory is wanting for the way back of what a plan's commit answered: the write stands, at the position that it tells.
 fn out_of_memory_back(plan: &WritePlan) -> Reply
-    ensures { result ≡ Reply.Refused (Refusal.Memory (position_of (answered_entry plan.now))) }
+    ensures { result ≡ Reply.Refused (Refusal.Memory (entry_position (answered_entry plan.now))) }
 {
     let position = match plan.entry() {
         Some(entry) => entry.position,
@@ -183,7 +178,7 @@ fn answer_note(plan: &mut WritePlan) -> Result<Note, Reply>
     requires { IsSome plan.old.committed }
     ensures same { plan.new ≡ plan.old }
     ensures note { IfOk result (λ note. IfSome plan.old.committed (λ c. note ≡ c.wrote.note)) }
-    ensures err { IfErr result (λ reply. reply ≡ Reply.Refused (Refusal.Memory (position_of (answered_entry plan.old)))) }
+    ensures err { IfErr result (λ reply. reply ≡ Reply.Refused (Refusal.Memory (entry_position (answered_entry plan.old)))) }
 {
     match plan.note() {
         Ok(Some(note)) => Ok(note),
@@ -285,9 +280,7 @@ pub fn write_stage<K: Keeper, L: Link>(
     leader: NodeName,
     plan: &mut WritePlan,
 )
-    requires consistent { IsConsistent K.TELLS config.now (K.state keepers.old).told fleet.old }
-    requires inboxes { AreInboxesOf config.now (pens_of fleet.old.masters) mail.old }
-    requires states { topology.now ≡ all_up config.now }
+    requires ready { CanPost K.TELLS config.now (posting (scene fleet.old (K.state keepers.old) (L.shown link.old)) mail.old topology.now) }
     requires leader { IsLeaderFor config.now (write_shard plan.old.write) leader }
     requires write { IsWriteUnderWay K.TELLS config.now (K.state keepers.old).told fleet.old plan.old }
     requires goes_on { IsSome (told_stage (next_of plan.old)) }

@@ -12,6 +12,7 @@ use Rattle.shard_log.specs.View.{View}
 use Rattle.shard_tables.specs.declared.refusal.StoreRefusal.{StoreRefusal}
 use Rattle.shard_tables.specs.declared.refusal.StoreRefusal.TheVariants as store
 use Rattle.tao_base.specs.declared.entry.Entry.{Entry}
+use Rattle.tao_keeper.proofs.Later.{later_trans}
 use Rattle.tao_keeper.specs.Growing.{LogsGrow}
 use Rattle.tao_keeper.specs.KeeperState.{IsLater, KeeperState, KeepsTables}
 use Rattle.tao_keeper.specs.Table.{Changes, IsLeastJob, Table, Tables, after_end}
@@ -31,7 +32,6 @@ use Rattle.core_model.specs.Stores.{master_store}
 use Rattle.core_nodes.proofs.GrowingLemmas.{becomes_masters, masters_in_turn, stays_masters}
 use Rattle.core_nodes.specs.Repairs.{MergesThere, Outside, outside}
 use Rattle.core_steps.specs.Posting.{Posting, PostsOn}
-use Rattle.core_steps.proofs.PostsLemmas.{later_trans}
 use Rattle.core_repairs.specs.Repairs.{FailsAs, FailsToMerge, FindsFirst, FindsOpenJob, IsMergedAlone, IsNotRepaired, IsNotRun}
 use Rattle.core_repairs.specs.Repairs.{LeavesRest, RunsJob, StopsRepair, TellsOfRepair, shown_of}
 use Rattle.core_repairs.specs.declared.repairs.RepairFailed.{RepairFailed}

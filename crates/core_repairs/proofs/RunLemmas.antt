@@ -14,6 +14,7 @@ use Rattle.graph_model.specs.Told.{WhereTold}
 use Rattle.master_tables.proofs.Calls.{tables_are_stores}
 use Rattle.master_tables.proofs.Each.{each_length}
 use Rattle.tao_base.specs.EdgeTypes.{InversesMatch}
+use Rattle.tao_keeper.proofs.Later.{later_self}
 use Rattle.tao_keeper.specs.KeeperState.{IsLater}
 use Rattle.tao_keeper.specs.Table.{Tables}
 use Rattle.tao_keeper.specs.declared.jobs.Job.{Job}
@@ -419,7 +420,7 @@ runs_none tells s start = record {
   settling = λ told. ([], settles_in_order.begins (types_of s.schema) (stores_in s start.scene.keepers.told));
   none = λ told lower position lt. absurd (omega (arith, lt));
   link = link_stays start.scene.link start.scene.link refl;
-  keepers = record { calls = omega arith; faults = omega arith };
+  keepers = later_self start.scene.keepers;
 }
 
 -- and ends behind the last shard

@@ -275,5 +275,6 @@ abbrev pub RunsOn : Bool → Settings → ℕ → Result ⊤ SettleStop → Post
 RunsOn tells s shard (Ok done) start new = RunsTo tells s (shard + 1) start new
 RunsOn tells s shard (Err given) start new = StopsRun tells s given start new
 
+-- the jobs of the shard were run, in whichever settle came to it
 pub record RunsShard (tells : Bool) (s : Settings) (shard : ℕ) (result : Result ⊤ SettleStop) (old new : Posting) : Type 0 where
   pub on : (start : Posting) → RunsTo tells s shard start old → RunsOn tells s shard result start new

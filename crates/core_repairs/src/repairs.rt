@@ -7,7 +7,7 @@ ghost use Rattle.core_model.specs.Jobs.{IsOwedJob, far_shard, job_on};
 ghost use Rattle.core_model.specs.Pens.{pens_of};
 ghost use Rattle.core_model.specs.Stores.{AreStores};
 ghost use Rattle.core_nodes.specs.Repairs.{outside};
-ghost use Rattle.core_steps.specs.Posting.{PostsOn, posting};
+ghost use Rattle.core_steps.specs.Posting.{CanPost, PostsOn, posting};
 ghost use Rattle.core_repairs.specs.Repairs.{FailsAs, FindsFirst, RepairsFirst, RunsJob, TellsOfRepair};
 ghost use Rattle.core_steps.specs.Routes.{scene};
 ghost use Rattle.graph_model.specs.Told.{WhereTold};
@@ -166,9 +166,7 @@ pub fn repair_first<K: Keeper, L: Link>(
     link: &mut L,
     shard: u16,
 ) -> Result<Option<Ran>, RepairFailed>
-    requires consistent { IsConsistent K.TELLS config.now (K.state keepers.old).told fleet.old }
-    requires inboxes { AreInboxesOf config.now (pens_of fleet.old.masters) mail.old }
-    requires states { topology.now ≡ all_up config.now }
+    requires ready { CanPost K.TELLS config.now (posting (scene fleet.old (K.state keepers.old) (L.shown link.old)) mail.old topology.now) }
     requires here { shard < config.now.shards }
     ensures repairs { RepairsFirst K.TELLS config.now shard result
         (posting (scene fleet.old (K.state keepers.old) (L.shown link.old)) mail.old topology.now)

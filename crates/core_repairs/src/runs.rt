@@ -1,13 +1,9 @@
 //! A settle's jobs: all that are open, shard by shard, each run as a repair runs one.
 ghost use Rattle.std.specs.Prelude.{◌≡◌, ◌<◌};
-ghost use Rattle.core_mail.specs.Inboxes.{AreInboxesOf};
-ghost use Rattle.core_model.specs.Consistent.{IsConsistent};
-ghost use Rattle.core_model.specs.Pens.{pens_of};
 ghost use Rattle.core_nodes.specs.Settling.{IsLaterLink};
 ghost use Rattle.core_repairs.specs.Repairs.{RunsJobs, RunsShard, stop_of};
-ghost use Rattle.core_steps.specs.Posting.{PostsOn, posting};
+ghost use Rattle.core_steps.specs.Posting.{CanPost, PostsOn, posting};
 ghost use Rattle.core_steps.specs.Routes.{scene};
-ghost use Rattle.topology.specs.States.{all_up};
 
 use crate::repairs::{RepairFailed, repair_first};
 use core_mail::Mail;
@@ -45,9 +41,7 @@ fn run_shard<K: Keeper, L: Link>(
     link: &mut L,
     shard: u16,
 ) -> Result<(), SettleStop>
-    requires consistent { IsConsistent K.TELLS config.now (K.state keepers.old).told fleet.old }
-    requires inboxes { AreInboxesOf config.now (pens_of fleet.old.masters) mail.old }
-    requires states { topology.now ≡ all_up config.now }
+    requires ready { CanPost K.TELLS config.now (posting (scene fleet.old (K.state keepers.old) (L.shown link.old)) mail.old topology.now) }
     requires here { shard < config.now.shards }
     ensures runs { RunsShard K.TELLS config.now shard result
         (posting (scene fleet.old (K.state keepers.old) (L.shown link.old)) mail.old topology.now)
@@ -87,9 +81,7 @@ pub fn run_jobs<K: Keeper, L: Link>(
     keepers: &mut K,
     link: &mut L,
 ) -> Result<(), SettleStop>
-    requires consistent { IsConsistent K.TELLS config.now (K.state keepers.old).told fleet.old }
-    requires inboxes { AreInboxesOf config.now (pens_of fleet.old.masters) mail.old }
-    requires states { topology.now ≡ all_up config.now }
+    requires ready { CanPost K.TELLS config.now (posting (scene fleet.old (K.state keepers.old) (L.shown link.old)) mail.old topology.now) }
     ensures runs { RunsJobs K.TELLS config.now result
         (posting (scene fleet.old (K.state keepers.old) (L.shown link.old)) mail.old topology.now)
         (posting (scene fleet.new (K.state keepers.new) (L.shown link.new)) mail.new topology.now) }

@@ -52,10 +52,10 @@ use Rattle.core_steps.specs.Routes.{Scene, hops_between, scene, there_and_back, 
 use Rattle.core_steps.specs.declared.reads.Cost.{Cost}
 use Rattle.core_steps.specs.declared.routes.Route.{Route}
 use Rattle.core_steps.proofs.ReadLemmas.{goes_trans, legal_in_log, where_told}
-use Rattle.core_steps.proofs.Repeats.{Repeats, filled_repeats, hit_repeats}
+use Rattle.core_steps.proofs.Repeats.{RepeatsHit, filled_repeats, hit_repeats}
 
-abbrev pub replied : Query → Answer → ℕ → Cost → KeptOrNot → ReadReply
-replied query answer version cost kept =
+abbrev pub read_replied : Query → Answer → ℕ → Cost → KeptOrNot → ReadReply
+read_replied query answer version cost kept =
     record { word = query_word query; answer = answer; version = version; hops = cost.hops; store = cost.store; kept = kept }
 
 less_self : (n : ℕ) → false ≡ nat_lt n n
@@ -66,7 +66,8 @@ none_taken n = omega arith
 
 -- ---- the follower answers
 
-hit_alone : (s : Settings) (read : Wanted) (answer : Answer) (version : ℕ) (ask : Option ℕ) (from to : FollowerState)
+-- a hit opened no ask
+pub hit_alone : (s : Settings) (read : Wanted) (answer : Answer) (version : ℕ) (ask : Option ℕ) (from to : FollowerState)
     → LooksFirst (types_of s.schema) read (Hit answer version) ask from to → LooksFirst (types_of s.schema) read (Hit answer version) None from to
 hit_alone s read answer version ask from to looks = subst (λ a. LooksFirst (types_of s.schema) read (Hit answer version) a from to) looks.node.0 looks
 
@@ -77,7 +78,7 @@ pub hit_reads : (tells : Bool) (s : Settings) (route : Route) (read : Wanted) (l
     → ChangesNode route.follower (LooksFirst (types_of s.schema) read look ask) old.followers new.followers
     → new ≡ record old { followers = new.followers }
     → IsLegalLook (types_of s.schema) (pens_of new.masters) read look
-    → ReadsAlong tells s (sent_read route read) (Called (called.Read (replied read.query answer version cost Kept))) (scene old keepers link)
+    → ReadsAlong tells s (sent_read route read) (Called (called.Read (read_replied read.query answer version cost Kept))) (scene old keepers link)
     (scene new keepers link)
 hit_reads tells s route read look answer version ask cost old new keepers link is hops store are here change rest legal =
     let types = types_of s.schema in
@@ -87,7 +88,7 @@ hit_reads tells s route read look answer version ask cost old new keepers link i
     route.follower old.followers new.followers (hit_alone s read answer version ask) hit in
     let of_hit = subst (IsLegalLook types (pens_of new.masters) read) is legal in
     let of_old = subst (λ (f : Fleet). IsLegalIn types (pens_of f.masters (query_shard query)) query read.floor answer version) rest of_hit in
-    let repeats = is_after (Repeats types query answer version) (LooksFirst types read (Hit answer version) None) route.follower
+    let repeats = is_after (RepeatsHit types query answer version) (LooksFirst types read (Hit answer version) None) route.follower
     old.followers new.followers alone (hit_repeats types read answer version alone.from alone.to alone.by) in
     record {
       word_is = refl;
@@ -345,19 +346,20 @@ pub filled_ends : (s : Settings) (route : Route) (read : Wanted) (ask : Option �
     → ChangesNode route.follower (KeepsFill (types_of s.schema) read.query (taken_fill ask fill answer kept)) old.followers new.followers
     → new ≡ record old { followers = new.followers }
     → IsLegalIn (types_of s.schema) (pens_of new.masters (query_shard read.query)) read.query read.floor answer fill.version
-    → EndsRead s (missed_read route read ask) (Filled fill) (Called (called.Read (replied read.query answer fill.version cost (kept_or_not kept)))) old new
+    → EndsRead s (missed_read route read ask) (Filled fill) (Called (called.Read (read_replied read.query answer fill.version cost (kept_or_not kept)))) old new
 filled_ends s route read ask fill answer kept cost old new fleet given sealed change rest legal =
     let types = types_of s.schema in
     record {
       ends = (kept, change, refl, refl);
       legal = subst (λ (f : Fleet). IsLegalIn types (pens_of f.masters (query_shard read.query)) read.query read.floor answer fill.version) rest legal;
-      again = λ told held place f floor first at le. is_after (Repeats types read.query answer fill.version)
+      again = λ told held place f floor first at le. is_after (RepeatsHit types read.query answer fill.version)
           (KeepsFill types read.query (taken_fill ask fill answer kept))
           route.follower old.followers new.followers change
           (filled_repeats s old new.followers route.follower read ask fill answer kept fleet change given sealed told held) place f first at floor le;
     }
 
-not_past : (bound total : ℕ) (P : Type 0) → past_bound bound total ≡ Kept → P
+-- an answer past the bound is never kept
+pub not_past : (bound total : ℕ) (P : Type 0) → past_bound bound total ≡ Kept → P
 not_past bound total P h = absurd (cc)
 
 pub past_ends : (s : Settings) (route : Route) (read : Wanted) (ask : Option ℕ) (given : LeaderAnswer) (answer : Answer) (version total : ℕ) (note : View)
@@ -365,11 +367,11 @@ pub past_ends : (s : Settings) (route : Route) (read : Wanted) (ask : Option ℕ
     → IsGivenAnswer (types_of s.schema) (pens_of old.masters) read given
     → ChangesNode route.follower (EndsAsk ask) old.followers new.followers
     → EndsRead s (missed_read route read ask) given
-    (Called (called.Read (replied read.query answer version cost (past_bound (key_bound (types_of s.schema) (query_key read.query)) total)))) old new
+    (Called (called.Read (read_replied read.query answer version cost (past_bound (key_bound (types_of s.schema) (query_key read.query)) total)))) old new
 past_ends s route read ask given answer version total note cost old new is legal change =
     let types = types_of s.schema in
     let bound = key_bound types (query_key read.query) in
-    let reply = replied read.query answer version cost (past_bound bound total) in
+    let reply = read_replied read.query answer version cost (past_bound bound total) in
     let of_past = subst (IsGivenAnswer types (pens_of old.masters) read) is legal in
     let past : EndsRead s (missed_read route read ask) (Past answer version total note) (Called (called.Read reply)) old new = record {
       ends = (change, refl, refl, refl);

@@ -1,6 +1,5 @@
 -- What a critical read is answered, by its steps.
-use Rattle.std.proofs.Common.{◌≡◌, ℕ, ◌<◌, true, false, Bool, List, Option, refl, ap, sym, ◌∙◌, subst}
-use Rattle.core_model.specs.Consistent.{GoesOn}
+use Rattle.std.proofs.Common.{◌≡◌, ℕ, ◌<◌, Bool, List, Option, ap, sym, ◌∙◌, subst}
 use Rattle.core_model.specs.Fleet.{ChangesNode, Fleet}
 use Rattle.core_model.specs.Pens.{pens_of}
 use Rattle.core_model.specs.Reads.{AsksAtOnce, EndsAsk, StoreReads, Wanted, given_of}

@@ -9,6 +9,7 @@ use Rattle.graph_model.specs.Soundness.{EdgeUpdate, IsSoundOf, is_client}
 use Rattle.master_tables.proofs.Calls.{tables_are_stores}
 use Rattle.replies.specs.declared.calls.InverseEnd.{InverseEnd}
 use Rattle.replies.specs.declared.calls.InverseEnd.TheVariants.{Written}
+use Rattle.shard_tables.proofs.WriteSteps.{job_edges}
 use Rattle.shard_tables.specs.Jobs.{FindsJob, HasOpenJob, OpensJob}
 use Rattle.shard_tables.specs.Written.{AnswersAs, AskedWrite, StandsIn}
 use Rattle.tao_base.specs.EdgeTypes.{EdgeTypes}
@@ -68,10 +69,6 @@ opened_at position (u ∷ us) job is =
     let same : job ≡ record { position = position; edges = u ∷ us } = cc in
     ap (λ j. j.position) same
 
-open_edges : (jobs : Jobs) (position : ℕ) (job : Option Job) → IsJobAt jobs position job → jobs position ≡ option_map (λ j. j.edges) job
-open_edges jobs position None is = is
-open_edges jobs position (Some job) is = is.1
-
 -- it is the open job of the entry, none where none is open
 pub record IsJobThen (stores : Stores) (shard : ℕ) (e : Entry) (job : Option Job) : Type 0 where
   pub open_is : stores.job shard e.position ≡ option_map (λ j. j.edges) job
@@ -92,7 +89,7 @@ module _ (s : Settings) (old new : Tables) (shard : ℕ) (e : Entry) (here : sha
   found_job job found same = record {
     open_is = same ∙ (tables_are_stores (masters_of s) old).job_is shard e.position here
         ∙ ap (old (master_store s shard)).jobs (entry_is_at found.position found.stands)
-        ∙ open_edges (old (master_store s shard)).jobs found.position job found.job_is;
+        ∙ job_edges (old (master_store s shard)).jobs found.position job found.job_is;
     position_is = found_position job found;
   }
 

@@ -1,5 +1,5 @@
 -- What each step of a write keeps is kept by one after another.
-use Rattle.std.proofs.Common.{◌≡◌, Bool, ap, arith, refl, sym, subst}
+use Rattle.std.proofs.Common.{◌≡◌, ◌∙◌, Bool, ap, refl, sym, subst}
 use Rattle.core_mail.specs.Inboxes.{AreInboxesOf}
 use Rattle.core_model.specs.Consistent.{GoesOn, IsConsistent, IsFleetOf}
 use Rattle.core_model.specs.Fleet.{Fleet}
@@ -8,25 +8,26 @@ use Rattle.core_model.specs.Pens.{pens_of}
 use Rattle.core_model.specs.Stores.{AreStoresOf}
 use Rattle.core_nodes.proofs.FleetLemmas.{goes_self}
 use Rattle.core_nodes.proofs.GrowingLemmas.{masters_in_turn, stays_masters}
+use Rattle.tao_keeper.proofs.Later.{later_self, later_trans}
 use Rattle.tao_keeper.specs.KeeperState.{IsLater, KeeperState}
 use Rattle.topology.specs.Config.{Settings}
-use Rattle.core_steps.specs.Posting.{AppliesAlone, Posting, PostsOn}
+use Rattle.core_steps.specs.Posting.{AppliesAlone, CanPost, Posting, PostsOn}
 use Rattle.core_steps.proofs.ReadLemmas.{goes_trans}
-
-pub later_trans : (a b c : KeeperState) → IsLater a b → IsLater b c → IsLater a c
-later_trans a b c p q = record { calls = omega (arith, p.calls, q.calls); faults = omega (arith, p.faults, q.faults) }
 
 module _ (tells : Bool) (s : Settings) where
   -- nothing was done
-  pub posts_none : (now : Posting) → IsConsistent tells s now.scene.keepers.told now.scene.fleet
-      → AreInboxesOf s (pens_of now.scene.fleet.masters) now.inboxes → PostsOn tells s now now
-  posts_none now consistent inboxes = record {
-    consistent = consistent;
-    inboxes = inboxes;
+  pub posts_none : (now : Posting) → CanPost tells s now → PostsOn tells s now now
+  posts_none now ready = record {
+    consistent = ready.consistent;
+    inboxes = ready.inboxes;
     goes = goes_self now.scene.fleet;
     grows = stays_masters tells s now.scene.keepers now.scene.keepers (λ told at. refl);
-    later = record { calls = omega arith; faults = omega arith };
+    later = later_self now.scene.keepers;
   }
+
+  -- what a step leaves, the next begins with
+  pub can_post_on : (old new : Posting) → CanPost tells s old → PostsOn tells s old new → new.states ≡ old.states → CanPost tells s new
+  can_post_on old new ready on states = record { consistent = on.consistent; inboxes = on.inboxes; states = states ∙ ready.states }
 
   -- one step after another
   pub posts_trans : (old mid new : Posting) → PostsOn tells s old mid → PostsOn tells s mid new → PostsOn tells s old new
@@ -69,5 +70,5 @@ module _ (tells : Bool) (s : Settings) where
         goes = goes;
         grows = subst (λ (k : KeeperState). MastersGrow tells s old.scene.keepers.told k.told) keepers
             (stays_masters tells s old.scene.keepers old.scene.keepers (λ told at. refl));
-        later = subst (IsLater old.scene.keepers) keepers (record { calls = omega arith; faults = omega arith });
+        later = subst (IsLater old.scene.keepers) keepers (later_self old.scene.keepers);
       }

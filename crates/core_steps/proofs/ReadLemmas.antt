@@ -16,7 +16,7 @@ use Rattle.shard_log.proofs.GrowthLemmas.{grows-trans}
 use Rattle.shard_log.specs.GrowthLaws.{IsLegalIn}
 use Rattle.shard_tables.specs.StoreView.{Store}
 use Rattle.shard_tables.specs.Stores.{HasSeen}
-use Rattle.shard_tables.specs.declared.store.Role.TheVariants.{Master}
+use Rattle.shard_tables.specs.declared.store.StoreRole.TheVariants.{Master}
 use Rattle.tao_base.specs.EdgeTypes.{EdgeTypes}
 use Rattle.tao_base.specs.declared.entry.Entry.{Entry}
 use Rattle.tao_base.specs.declared.query.Answer.{Answer}

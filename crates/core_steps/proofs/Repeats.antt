@@ -33,12 +33,13 @@ use Rattle.tao_schema.specs.Schema.{types_of}
 use Rattle.topology.specs.Config.{Settings}
 
 -- the follower answers the query so, with each floor that the version has
-abbrev pub Repeats : EdgeTypes → Query → Answer → ℕ → FollowerState → Type 0
-Repeats types query answer version f = (floor : ℕ) → floor ≤ version → look_of types (item_at f.node.items (query_key query)) query floor ≡ Hit answer version
+abbrev pub RepeatsHit : EdgeTypes → Query → Answer → ℕ → FollowerState → Type 0
+RepeatsHit types query answer version f =
+    (floor : ℕ) → floor ≤ version → look_of types (item_at f.node.items (query_key query)) query floor ≡ Hit answer version
 
 -- after a hit
 pub hit_repeats : (types : EdgeTypes) (read : Wanted) (answer : Answer) (version : ℕ) (from to : FollowerState)
-    → LooksFirst types read (Hit answer version) None from to → Repeats types read.query answer version to
+    → LooksFirst types read (Hit answer version) None from to → RepeatsHit types read.query answer version to
 hit_repeats types read answer version from to looks floor le =
     subst (λ (n : Node). look_of types (item_at n.items (query_key read.query)) read.query floor ≡ Hit answer version) (sym looks.node.1)
     (answers_repeat.hit types from.node.items read.query read.floor floor version answer (sym looks.look_is) le)
@@ -81,7 +82,7 @@ given_exact types pens read fill given sealed told =
 kept_repeats : (s : Settings) (pens : Pens) (name : NodeName) (read : Wanted) (ask : Option ℕ) (fill : SealedItem) (answer : Answer) (from to : FollowerState)
     → KeepsFill (types_of s.schema) read.query (taken_fill ask fill answer was.Yes) from to → IsNodeOf s pens name from.node
     → IsGivenFill (types_of s.schema) pens read fill → IsSealed fill → (pens (query_shard read.query)).log.told ≡ true
-    → Repeats (types_of s.schema) read.query answer fill.version to
+    → RepeatsHit (types_of s.schema) read.query answer fill.version to
 kept_repeats s pens name read ask fill answer from to keeps is given sealed told floor le =
     let types = types_of s.schema in
     let query = read.query in
@@ -103,7 +104,7 @@ pub filled_repeats : (s : Settings) (old : Fleet) (fs : List (Named FollowerStat
     → IsFleetOf s old → (change : ChangesNode name (KeepsFill (types_of s.schema) read.query (taken_fill ask fill answer kept)) old.followers fs)
     → IsGivenFill (types_of s.schema) (pens_of old.masters) read fill → IsSealed fill
     → WhereTold (pens_of old.masters (query_shard read.query)).log.told
-    (kept_or_not kept ≡ Kept → Repeats (types_of s.schema) read.query answer fill.version change.to)
+    (kept_or_not kept ≡ Kept → RepeatsHit (types_of s.schema) read.query answer fill.version change.to)
 filled_repeats s old fs name read ask fill answer kept fleet change given sealed told held =
     let by : KeepsFill (types_of s.schema) read.query (taken_fill ask fill answer was.Yes) change.from change.to =
     subst (λ k. KeepsFill (types_of s.schema) read.query (taken_fill ask fill answer k) change.from change.to) (kept_yes kept held) change.by in

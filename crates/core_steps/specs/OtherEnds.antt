@@ -79,8 +79,8 @@ LeavesJob tells s way (Scheduled LinkFault (Some wrote)) old new = (way.leader �
     × FailsCarry (merging_leader old.states way) way.leader (after_carry old.scene.link) new.scene.link × TakesMerge tells s way wrote old new
 LeavesJob tells s way (Scheduled KeeperFault None) old new = Rose old.scene.keepers.faults new.scene.keepers.faults × ChangesNoNode tells old new
     × MayComeBack way.leader (merging_leader old.states way) old.scene.link new.scene.link
-LeavesJob tells s way (Scheduled LogFull None) old new = WhereTold tells ((count : ℕ) × FindsNoRoom s way.job count old.scene.keepers) × ChangesNoNode tells old new
-    × MayComeBack way.leader (merging_leader old.states way) old.scene.link new.scene.link
+LeavesJob tells s way (Scheduled LogFull None) old new = WhereTold tells ((count : ℕ) × FindsNoRoom s way.job count old.scene.keepers)
+    × ChangesNoNode tells old new × MayComeBack way.leader (merging_leader old.states way) old.scene.link new.scene.link
 LeavesJob tells s way (Scheduled Memory None) old new = ChangesNoNode tells old new
     × MayComeBack way.leader (merging_leader old.states way) old.scene.link new.scene.link
 LeavesJob tells s way (Scheduled NoServer (Some wrote)) old new = ⊥
@@ -147,11 +147,12 @@ pub record StaysOwed (tells : Bool) (s : Settings) (way : JobWay) (done : OtherE
   pub merges : MergesOver tells s way (Err (Scheduled why done.wrote)) old new
   pub told_is : done.told ≡ inverse.Scheduled why
 
--- what came of the other end of a write of the shard: without a job the inverse is written where the write's type has one
+-- what came of the other end of a write of the shard that owes a job
 abbrev pub WorksOffJob : Bool → Settings → JobWay → OtherEndDone → Posting → Posting → Type 0
 WorksOffJob tells s way done old new = IsMergedAndEnded tells s way done old new
     ⊎ (IsMergedAndLate tells s way done old new ⊎ StaysOwed tells s way done old new)
 
+-- without a job nothing is done: the inverse is told as written where the write's type has one
 abbrev pub HasNoJob : Bool → OtherEndDone → Posting → Posting → Type 0
 HasNoJob paired done old new = (done.told ≡ (if paired then inverse.Written else inverse.None)) × (done.wrote ≡ None) × (new ≡ old)
 

@@ -14,7 +14,7 @@ use Rattle.tao_base.specs.declared.entry.Entry.{Entry}
 use Rattle.tao_keeper.specs.KeeperState.{IsLater, KeepsTables}
 use Rattle.topology.specs.Choices.{master_region}
 use Rattle.topology.specs.Config.{Settings}
-use Rattle.topology.specs.States.{NodeStates}
+use Rattle.topology.specs.States.{NodeStates, all_up}
 use Rattle.core_steps.specs.Routes.{Scene}
 
 -- what a write sees: its scene, the messages that wait, and which nodes are up
@@ -48,6 +48,12 @@ pub record AppliesAlone (old new : Posting) : Type 0 where
   pub fleet : new.scene.fleet ≡ record old.scene.fleet { followers = new.scene.fleet.followers }
   pub keepers : new.scene.keepers ≡ old.scene.keepers
   pub inboxes : new.inboxes ≡ old.inboxes
+
+-- what a write, a merge or a repair begins with: what is consistent, the messages of the inboxes, and every node up
+pub record CanPost (tells : Bool) (s : Settings) (now : Posting) : Type 0 where
+  pub consistent : IsConsistent tells s now.scene.keepers.told now.scene.fleet
+  pub inboxes : AreInboxesOf s (pens_of now.scene.fleet.masters) now.inboxes
+  pub states : now.states ≡ all_up s
 
 -- what is consistent stays so, messages stay those of their inboxes, the nodes go on, of tables only logs of masters grow, and no count of the keepers falls
 pub record PostsOn (tells : Bool) (s : Settings) (old new : Posting) : Type 0 where

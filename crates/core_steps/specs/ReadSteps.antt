@@ -163,7 +163,7 @@ pub record IsAnsweredThere (tells : Bool) (s : Settings) (missed : MissedRead) (
       (reply.kept ≡ Kept → AnswersAgain (types_of s.schema) missed.route.follower missed.read.query reply new.fleet.followers)
 
 -- it was refused, and the ask has ended
-pub record IsAskedInVain (s : Settings) (missed : MissedRead) (reply : Reply) (old new : Scene) : Type 0 where
+pub record IsRefusedThere (s : Settings) (missed : MissedRead) (reply : Reply) (old new : Scene) : Type 0 where
   pub fails : ReadFails s missed.route missed.read.query reply old new
   pub leaders : MayAnswer (types_of s.schema) missed.route missed.read old new
   pub ends : ChangesNode missed.route.follower (EndsAsk missed.ask) old.fleet.followers new.fleet.followers
@@ -172,5 +172,5 @@ pub record IsAskedInVain (s : Settings) (missed : MissedRead) (reply : Reply) (o
 -- what a read is answered that its follower could not answer
 abbrev pub AsksAlong : Bool → Settings → MissedRead → Reply → Scene → Scene → Type 0
 AsksAlong tells s missed (Called (called.Read reply)) old new = IsAnsweredThere tells s missed reply old new
-AsksAlong tells s missed (Refused refused) old new = IsAskedInVain s missed (Refused refused) old new
+AsksAlong tells s missed (Refused refused) old new = IsRefusedThere s missed (Refused refused) old new
 AsksAlong tells s missed reply old new = ⊥

@@ -150,6 +150,7 @@ pub record LeavesNodes (types : EdgeTypes) (route : Route) (read : Wanted) (old 
   pub leaders : MayAnswer types route read old new
   pub masters : new.fleet.masters ≡ old.fleet.masters
 
+-- a step of a read failed, and that is what its reply says
 pub record IsFailedRead (s : Settings) (route : Route) (read : Wanted) (reply : Reply) (old new : Scene) : Type 0 where
   pub fails : ReadFails s route read.query reply old new
   pub nodes : LeavesNodes (types_of s.schema) route read old new

@@ -189,6 +189,7 @@ NotCommitted tells s sent (LinkFault count when) old new = (count ≡ new.scene.
 NotCommitted tells s sent refused old new =
     StoreRefuses tells (asked_of_log s old.scene.keepers sent.call) refused old.scene.keepers new.scene.keepers × ChangesNoNode tells old new
 
+-- how that is replied; memory may have been wanting too, with nothing changed
 abbrev pub RefusesCommit : Bool → Settings → SentWrite → Reply → Posting → Posting → Type 0
 RefusesCommit tells s sent (Refused (Store refused)) old new = NotCommitted tells s sent refused old new
 RefusesCommit tells s sent (Refused (Memory position)) old new = (position ≡ 0) × ChangesNoNode tells old new

@@ -6,7 +6,7 @@ ghost use Rattle.core_model.specs.Pens.{pens_of};
 ghost use Rattle.core_model.specs.Reads.{IsGivenAnswer, LeaderAnswers, StoreReads, given_of, store_calls, wanted};
 ghost use Rattle.core_model.specs.Serving.{IsLeaderFor};
 ghost use Rattle.core_steps.specs.ReadSteps.{AskFails, IsGivenOver, IsNotGiven, IsNotRead, IsReached, IsReadOver, ReadsOn};
-ghost use Rattle.core_steps.specs.Routes.{FailsCarry, master_node, scene};
+ghost use Rattle.core_steps.specs.Routes.{FailsCarry, scene};
 ghost use Rattle.tao_base.specs.Queries.{query_shard};
 ghost use Rattle.tao_keeper.specs.KeeperState.{IsLater, KeepsTables};
 ghost use Rattle.tao_link.specs.Shown.{after_carry};

@@ -1,7 +1,7 @@
 //! The stages of a write's other end: its job is merged at the other shard, and then ended.
 ghost use Rattle.std.specs.Prelude.{◌≡◌, ◌<◌, IfErr, IfOk, IfSome, OnErr, OnOk, Some};
 ghost use Rattle.core_mail.specs.Inboxes.{AreInboxesOf, Inboxes};
-ghost use Rattle.core_model.specs.Consistent.{GoesOn, IsConsistent};
+ghost use Rattle.core_model.specs.Consistent.{IsConsistent};
 ghost use Rattle.core_model.specs.Growing.{MastersGrow};
 ghost use Rattle.core_model.specs.Jobs.{CanBeMerged, IsMergedJob, far_shard, job_on};
 ghost use Rattle.core_model.specs.Pens.{pens_of};
@@ -10,7 +10,7 @@ ghost use Rattle.core_steps.specs.MergeAnswers.{IsScheduled, LeavesOpen, Refuses
 ghost use Rattle.core_steps.specs.OtherEnds.{Crosses, EndsOver, FailsToCross, MergesOver, StandsThere, TakesMerge, WorksOffJob, WorksOffOf, job_way};
 ghost use Rattle.core_steps.specs.OtherEnds.{write_other_end};
 ghost use Rattle.core_steps.specs.OtherEnds.{known_of, master_leader, told_entry, told_there};
-ghost use Rattle.core_steps.specs.Posting.{PostsOn, posting};
+ghost use Rattle.core_steps.specs.Posting.{CanPost, PostsOn, posting};
 ghost use Rattle.core_steps.specs.Routes.{scene};
 ghost use Rattle.graph_model.specs.Told.{WhereTold};
 ghost use Rattle.node_name.specs.declared.NodeName.{NodeName as AnyNode};
@@ -153,11 +153,9 @@ fn merge_at<K: Keeper>(
     ensures tables { OnErr result (KeepsTables K.TELLS (K.state keepers.old) (K.state keepers.new)) }
     ensures merged { WhereTold K.TELLS (OnOk result (IsMergedJob config.now (K.state keepers.new).told (job_on shard job.now))) }
     ensures stands { IfOk result (λ wrote. StandsThere config.now job.now (Some wrote) fleet.new.masters) }
-    ensures consistent { IsConsistent K.TELLS config.now (K.state keepers.new).told fleet.new }
-    ensures inboxes { AreInboxesOf config.now (pens_of fleet.new.masters) mail.new }
-    ensures goes { GoesOn fleet.old fleet.new }
-    ensures grows { MastersGrow K.TELLS config.now (K.state keepers.old).told (K.state keepers.new).told }
-    ensures later { IsLater (K.state keepers.old) (K.state keepers.new) }
+    ensures on { (before after : LinkShown) → PostsOn K.TELLS config.now
+        (posting (scene fleet.old (K.state keepers.old) before) mail.old topology.now)
+        (posting (scene fleet.new (K.state keepers.new) after) mail.new topology.now) }
 {
     let mut wrote = fleet.merge(alloc, config, keepers, leader, shard, job)?;
     tell_of(alloc, mail, config, topology, far_shard(job), &mut wrote);
@@ -183,9 +181,7 @@ pub fn merge_over<K: Keeper, L: Link>(
     shard: u16,
     job: &Job,
 ) -> Result<Wrote, Late>
-    requires consistent { IsConsistent K.TELLS config.now (K.state keepers.old).told fleet.old }
-    requires inboxes { AreInboxesOf config.now (pens_of fleet.old.masters) mail.old }
-    requires states { topology.now ≡ all_up config.now }
+    requires ready { CanPost K.TELLS config.now (posting (scene fleet.old (K.state keepers.old) (L.shown link.old)) mail.old topology.now) }
     requires job { CanBeMerged K.TELLS config.now (K.state keepers.old).told (job_on shard job.now) }
     ensures merges { MergesOver K.TELLS config.now (job_way leader (job_on shard job.now)) result
         (posting (scene fleet.old (K.state keepers.old) (L.shown link.old)) mail.old topology.now)
@@ -281,9 +277,7 @@ fn work_off_job<K: Keeper, L: Link>(
     shard: u16,
     job: &Job,
 ) -> OtherEndDone
-    requires consistent { IsConsistent K.TELLS config.now (K.state keepers.old).told fleet.old }
-    requires inboxes { AreInboxesOf config.now (pens_of fleet.old.masters) mail.old }
-    requires states { topology.now ≡ all_up config.now }
+    requires ready { CanPost K.TELLS config.now (posting (scene fleet.old (K.state keepers.old) (L.shown link.old)) mail.old topology.now) }
     requires here { shard < config.now.shards }
     requires job { CanBeMerged K.TELLS config.now (K.state keepers.old).told (job_on shard job.now) }
     ensures works { WorksOffJob K.TELLS config.now (job_way leader (job_on shard job.now)) result
@@ -317,9 +311,7 @@ pub(crate) fn work_off<K: Keeper, L: Link>(
     shard: u16,
     committed: &Committed,
 ) -> OtherEndDone
-    requires consistent { IsConsistent K.TELLS config.now (K.state keepers.old).told fleet.old }
-    requires inboxes { AreInboxesOf config.now (pens_of fleet.old.masters) mail.old }
-    requires states { topology.now ≡ all_up config.now }
+    requires ready { CanPost K.TELLS config.now (posting (scene fleet.old (K.state keepers.old) (L.shown link.old)) mail.old topology.now) }
     requires here { shard < config.now.shards }
     requires job { IfSome committed.now.wrote.job (λ job. CanBeMerged K.TELLS config.now (K.state keepers.old).told (job_on shard job)) }
     ensures works { WorksOffOf K.TELLS config.now (write_other_end shard committed.now result) committed.now.wrote.job

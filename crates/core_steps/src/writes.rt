@@ -1,22 +1,20 @@
 //! The writes of sessions.
 ghost use Rattle.std.specs.Prelude.{◌≡◌, ◌<◌, ◌-◌, IfErr, IfOk, IfSome, IsTrue, OnErr, OnOk};
-ghost use Rattle.core_model.specs.Consistent.{GoesOn, IsConsistent, IsFleetOf};
+ghost use Rattle.core_model.specs.Consistent.{GoesOn, IsFleetOf};
 ghost use Rattle.core_model.specs.Jobs.{CanBeMerged, job_on};
 ghost use Rattle.core_model.specs.Pens.{pens_of};
 ghost use Rattle.core_model.specs.Serving.{IsFollowerFor, IsLeaderFor};
 ghost use Rattle.core_model.specs.Writes.{IsSeenEntry};
 ghost use Rattle.core_steps.specs.Routes.{FailsCarry, scene};
-ghost use Rattle.core_mail.specs.Inboxes.{AreInboxesOf};
 ghost use Rattle.core_steps.specs.CarriedOut.{AnswersBack, WorksOffAs};
 ghost use Rattle.core_steps.specs.OtherEnds.{StandsThere};
-ghost use Rattle.core_steps.specs.Posting.{PostsOn, posting};
+ghost use Rattle.core_steps.specs.Posting.{CanPost, PostsOn, posting};
 ghost use Rattle.core_steps.specs.Writes.{CanBeApplied, FollowerTakes, IsCommitted, RefusesCommit, WritesAlong, client_call, sent_write};
 ghost use Rattle.graph_model.specs.Soundness.{is_client};
 ghost use Rattle.shard_tables.specs.Written.{LiesOn, StandsIn};
 ghost use Rattle.tao_base.specs.Writes.{ChangesType, write_shard};
 ghost use Rattle.tao_link.specs.Shown.{after_carry};
 ghost use Rattle.tao_schema.specs.Schema.{types_of};
-ghost use Rattle.topology.specs.States.{all_up};
 ghost use Rattle.write_plan.specs.Plans.{when_of, written_by};
 
 use crate::jobs::{OtherEndDone, ToldEntry, told_there, work_off};
@@ -153,9 +151,7 @@ pub fn commit_over<K: Keeper, L: Link>(
     origin: Origin,
     write: &Write,
 ) -> Result<Wrote, Reply>
-    requires consistent { IsConsistent K.TELLS config.now (K.state keepers.old).told fleet.old }
-    requires inboxes { AreInboxesOf config.now (pens_of fleet.old.masters) mail.old }
-    requires states { topology.now ≡ all_up config.now }
+    requires ready { CanPost K.TELLS config.now (posting (scene fleet.old (K.state keepers.old) (L.shown link.old)) mail.old topology.now) }
     requires client { IsTrue (is_client origin) }
     requires changes { ChangesType (types_of config.now.schema) write.now }
     requires leader { IsLeaderFor config.now (write_shard write.now) route.leader }
@@ -198,9 +194,7 @@ fn commit_and_work_off<K: Keeper, L: Link>(
     origin: Origin,
     write: &Write,
 ) -> Result<WorkedOff, Reply>
-    requires consistent { IsConsistent K.TELLS config.now (K.state keepers.old).told fleet.old }
-    requires inboxes { AreInboxesOf config.now (pens_of fleet.old.masters) mail.old }
-    requires states { topology.now ≡ all_up config.now }
+    requires ready { CanPost K.TELLS config.now (posting (scene fleet.old (K.state keepers.old) (L.shown link.old)) mail.old topology.now) }
     requires client { IsTrue (is_client origin) }
     requires changes { ChangesType (types_of config.now.schema) write.now }
     requires leader { IsLeaderFor config.now (write_shard write.now) route.leader }
@@ -301,9 +295,7 @@ pub fn write_along<K: Keeper, L: Link>(
     origin: Origin,
     write: &Write,
 ) -> Result<CarriedOut, Reply>
-    requires consistent { IsConsistent K.TELLS config.now (K.state keepers.old).told fleet.old }
-    requires inboxes { AreInboxesOf config.now (pens_of fleet.old.masters) mail.old }
-    requires states { topology.now ≡ all_up config.now }
+    requires ready { CanPost K.TELLS config.now (posting (scene fleet.old (K.state keepers.old) (L.shown link.old)) mail.old topology.now) }
     requires client { IsTrue (is_client origin) }
     requires changes { ChangesType (types_of config.now.schema) write.now }
     requires follower { IsFollowerFor config.now (write_shard write.now) route.follower }

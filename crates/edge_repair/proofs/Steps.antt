@@ -7,7 +7,7 @@ use Rattle.edge_repair.specs.Laws.{IsOwedBetween, MergesAndEnds, NothingHappens,
 use Rattle.edge_repair.specs.Merging.{MergesBy, MergesDue, RepairsAs, due_entry}
 use Rattle.edge_repair.specs.declared.refusal.RepairRefusal.{RepairRefusal}
 use Rattle.edge_repair.specs.declared.refusal.RepairRefusal.TheVariants.{KeeperFault, LinkFault, LogFull, OutOfMemory}
-use Rattle.edge_repair.specs.declared.repairs.Repaired.{Repaired}
+use Rattle.edge_repair.specs.declared.repairs.RepairOutcome.{RepairOutcome}
 use Rattle.master_tables.proofs.Calls.{calls_are_steps}
 use Rattle.master_tables.specs.Masters.{Masters, stores_of}
 use Rattle.shard_tables.specs.Written.{TableGains}
@@ -51,7 +51,7 @@ module _ (types : EdgeTypes) (m : Masters) (old new : Tables) (owed : Owed) (j :
       (calls_are_steps m mid new).ends types owed p.within.0 left.0 left.1
       (subst (λ q. Becomes mid new (m.name owed.shard) (after_end (mid (m.name owed.shard)) q)) p.position_is here)
 
-  repaired_steps : (failed : Option Carry) (repaired : Repaired) → RepairsAs j failed old new (Ok repaired)
+  repaired_steps : (failed : Option Carry) (repaired : RepairOutcome) → RepairsAs j failed old new (Ok repaired)
       → MergesAndEnds types (stores_of m old) (stores_of m new) owed
   repaired_steps failed repaired is =
       let merges = merges_step is.between is.merges.merges in
@@ -76,7 +76,7 @@ module _ (types : EdgeTypes) (m : Masters) (old new : Tables) (owed : Owed) (j :
       → NothingHappens (stores_of m old) (stores_of m new) ⊎ MergesJob types (stores_of m old) (stores_of m new) owed
   refused_steps failed refusal is = at_most is.between is.ends (merged_at_most failed is.between refusal is.merges)
 
-  first_repairs : (failed : Option Carry) (repaired : Repaired) → RepairsAs j failed old new (Ok repaired) → IsFirstJob types (stores_of m old) owed
+  first_repairs : (failed : Option Carry) (repaired : RepairOutcome) → RepairsAs j failed old new (Ok repaired) → IsFirstJob types (stores_of m old) owed
       → Repairs types (stores_of m old) (stores_of m new).logs owed
   first_repairs failed repaired is first =
       let steps = repaired_steps failed repaired is in
@@ -87,7 +87,8 @@ module _ (types : EdgeTypes) (m : Masters) (old new : Tables) (owed : Owed) (j :
   kept_at_most (inl nothing) = same_stores_are_kept types (stores_of m old) (stores_of m new) nothing p.kept
   kept_at_most (inr merges) = merges_keep.keep types (stores_of m old) (stores_of m new) owed p.inverses p.kept merges
 
-  stay_kept : (failed : Option Carry) (result : Result Repaired RepairRefusal) → RepairsAs j failed old new result → AreSoundAndCovered types (stores_of m new)
+  stay_kept : (failed : Option Carry) (result : Result RepairOutcome RepairRefusal) → RepairsAs j failed old new result
+      → AreSoundAndCovered types (stores_of m new)
   stay_kept failed (Ok repaired) is =
       let steps = repaired_steps failed repaired is in
       ends_keep.keep types steps.mid (stores_of m new) owed (merges_keep.keep types (stores_of m old) steps.mid owed p.inverses p.kept steps.merges) steps.ends

@@ -4,7 +4,7 @@ use Rattle.std.specs.Prelude.{Option, Some, None, Result, Ok, Err, IsErr}
 use Rattle.edge_repair.specs.JobBetween.{JobBetween}
 use Rattle.edge_repair.specs.Merging.{MergesBy, RepairsAs}
 use Rattle.edge_repair.specs.declared.refusal.RepairRefusal.{RepairRefusal}
-use Rattle.edge_repair.specs.declared.repairs.Repaired.{Repaired}
+use Rattle.edge_repair.specs.declared.repairs.RepairOutcome.{RepairOutcome}
 use Rattle.shard_tables.specs.Written.{TableGains}
 use Rattle.tao_base.specs.declared.entry.Entry.{Entry}
 use Rattle.tao_base.specs.declared.id.StoreName.{StoreName}
@@ -18,7 +18,7 @@ gains_and_stays old mid new at None gains stays = λ s. stays s ∙ gains s
 gains_and_stays old mid new at (Some e) gains stays = record { here = stays at ∙ gains.here; others = λ s apart. stays s ∙ gains.others s apart }
 
 -- a repair that is refused before the end of the job
-pub refused_repairs : (j : JobBetween) (failed : Option Carry) (old new : Tables) (result : Result Repaired RepairRefusal) → IsErr result
+pub refused_repairs : (j : JobBetween) (failed : Option Carry) (old new : Tables) (result : Result RepairOutcome RepairRefusal) → IsErr result
     → MergesBy j failed old new result → RepairsAs j failed old new result
 refused_repairs j failed old new (Ok repaired) err merges = absurd (cc)
 refused_repairs j failed old new (Err refusal) err merges = record { between = new; merges = merges; ends = λ s. refl }

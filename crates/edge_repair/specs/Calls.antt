@@ -9,7 +9,7 @@ use Rattle.graph_model.specs.Told.{WhereTold}
 use Rattle.shard_tables.specs.Stores.{IsStoreOf}
 use Rattle.shard_tables.specs.declared.refusal.StoreRefusal.{StoreRefusal}
 use Rattle.shard_tables.specs.declared.refusal.StoreRefusal.TheVariants as refusal
-use Rattle.shard_tables.specs.declared.store.Role.TheVariants.{Master}
+use Rattle.shard_tables.specs.declared.store.StoreRole.TheVariants.{Master}
 use Rattle.tao_keeper.specs.Given.{HaveSmallRecords}
 use Rattle.tao_keeper.specs.Table.{Tables}
 use Rattle.write_model.specs.MergeLaws.{MayBeMerged}

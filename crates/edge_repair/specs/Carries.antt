@@ -4,7 +4,7 @@ use Rattle.counts.specs.Count.{Counted, Rose}
 use Rattle.edge_repair.specs.JobBetween.{JobBetween, way_back, way_there}
 use Rattle.edge_repair.specs.declared.refusal.RepairRefusal.{RepairRefusal}
 use Rattle.edge_repair.specs.declared.refusal.RepairRefusal.TheVariants.{KeeperFault, LinkFault, LogFull, OutOfMemory}
-use Rattle.edge_repair.specs.declared.repairs.Repaired.{Repaired}
+use Rattle.edge_repair.specs.declared.repairs.RepairOutcome.{RepairOutcome}
 use Rattle.tao_link.specs.Shown.{LinkShown, after_carry}
 use Rattle.tao_link.specs.declared.link.Carry.{Carry}
 
@@ -20,7 +20,7 @@ abbrev pub CarriesBack : JobBetween → LinkShown → LinkShown → Type 0
 CarriesBack j old new = (new ≡ after_carry (after_carry old)) ⊎ FailsAt (way_back j) (after_carry old) new
 
 -- the two carries of a repair, by its answer
-abbrev pub CarriesBy : JobBetween → LinkShown → LinkShown → Result Repaired RepairRefusal → Type 0
+abbrev pub CarriesBy : JobBetween → LinkShown → LinkShown → Result RepairOutcome RepairRefusal → Type 0
 CarriesBy j old new (Ok repaired) = new ≡ after_carry (after_carry old)
 CarriesBy j old new (Err LinkFault) = FailsAt (way_there j) old new ⊎ FailsAt (way_back j) (after_carry old) new
 CarriesBy j old new (Err KeeperFault) = CarriesBack j old new

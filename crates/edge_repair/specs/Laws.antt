@@ -3,7 +3,7 @@ use Rattle.std.specs.Prelude.{◌≡◌, ◌<◌, ◌⊎◌, Option, Result, Ok,
 use Rattle.edge_repair.specs.JobBetween.{JobBetween}
 use Rattle.edge_repair.specs.Merging.{RepairsAs}
 use Rattle.edge_repair.specs.declared.refusal.RepairRefusal.{RepairRefusal}
-use Rattle.edge_repair.specs.declared.repairs.Repaired.{Repaired}
+use Rattle.edge_repair.specs.declared.repairs.RepairOutcome.{RepairOutcome}
 use Rattle.master_tables.specs.Masters.{Masters, stores_of}
 use Rattle.tao_base.specs.EdgeTypes.{EdgeTypes, InversesMatch}
 use Rattle.tao_keeper.specs.Table.{Tables}
@@ -37,13 +37,14 @@ pub record NothingHappens (old new : Stores) : Type 0 where
 -- a repair merges the job and then ends it, and a refused one merges it at most; of a first job it is the plain machine's repair.
 -- Whatever its answer, the stores stay sound and covered
 pub record RepairsAreSteps (types : EdgeTypes) (m : Masters) (old new : Tables) (owed : Owed) (j : JobBetween) : Type 0 where
-  pub repaired : (failed : Option Carry) (repaired : Repaired) → RepairsAs j failed old new (Ok repaired)
+  pub repaired : (failed : Option Carry) (repaired : RepairOutcome) → RepairsAs j failed old new (Ok repaired)
       → MergesAndEnds types (stores_of m old) (stores_of m new) owed
   pub refused : (failed : Option Carry) (refusal : RepairRefusal) → RepairsAs j failed old new (Err refusal)
       → NothingHappens (stores_of m old) (stores_of m new) ⊎ MergesJob types (stores_of m old) (stores_of m new) owed
-  pub first : (failed : Option Carry) (repaired : Repaired) → RepairsAs j failed old new (Ok repaired) → IsFirstJob types (stores_of m old) owed
+  pub first : (failed : Option Carry) (repaired : RepairOutcome) → RepairsAs j failed old new (Ok repaired) → IsFirstJob types (stores_of m old) owed
       → Repairs types (stores_of m old) (stores_of m new).logs owed
-  pub kept : (failed : Option Carry) (result : Result Repaired RepairRefusal) → RepairsAs j failed old new result → AreSoundAndCovered types (stores_of m new)
+  pub kept : (failed : Option Carry) (result : Result RepairOutcome RepairRefusal) → RepairsAs j failed old new result
+      → AreSoundAndCovered types (stores_of m new)
 
 -- so each job that is owed
 pub record RepairLaws : Type 0 where

@@ -3,7 +3,7 @@ use Rattle.std.specs.Prelude.{◌≡◌, ◌≤◌, ◌<◌, ◌⊎◌, ℕ, len
 use Rattle.edge_repair.specs.JobBetween.{JobBetween, way_back, way_there}
 use Rattle.edge_repair.specs.declared.refusal.RepairRefusal.{RepairRefusal}
 use Rattle.edge_repair.specs.declared.refusal.RepairRefusal.TheVariants.{KeeperFault, LinkFault, LogFull, OutOfMemory}
-use Rattle.edge_repair.specs.declared.repairs.Repaired.{Repaired}
+use Rattle.edge_repair.specs.declared.repairs.RepairOutcome.{RepairOutcome}
 use Rattle.shard_tables.specs.StoreView.{Store}
 use Rattle.shard_tables.specs.Stores.{store_with}
 use Rattle.shard_tables.specs.Written.{TableGains}
@@ -34,7 +34,7 @@ pub record LacksRoom (j : JobBetween) (old new : Tables) (count : ℕ) : Type 0 
   pub stays : Stays old new
 
 -- the merge at the other store, by the answer and the last carry that failed; a job that wasn't merged changes nothing
-abbrev pub MergesBy : JobBetween → Option Carry → Tables → Tables → Result Repaired RepairRefusal → Type 0
+abbrev pub MergesBy : JobBetween → Option Carry → Tables → Tables → Result RepairOutcome RepairRefusal → Type 0
 MergesBy j failed old new (Ok repaired) = WritesDue j old new repaired.wrote
 MergesBy j failed old new (Err (LogFull count)) = LacksRoom j old new count
 MergesBy j failed old new (Err LinkFault) = ((failed ≡ Some (way_there j)) × Stays old new) ⊎ ((failed ≡ Some (way_back j)) × MergesDue j old new)
@@ -42,7 +42,7 @@ MergesBy j failed old new (Err KeeperFault) = Stays old new ⊎ MergesDue j old 
 MergesBy j failed old new (Err OutOfMemory) = Stays old new ⊎ MergesDue j old new
 
 -- a repair over one keeper: the merge at the other store, and after it the end of the job at its own, which no refusal ends
-pub record RepairsAs (j : JobBetween) (failed : Option Carry) (old new : Tables) (result : Result Repaired RepairRefusal) : Type 0 where
+pub record RepairsAs (j : JobBetween) (failed : Option Carry) (old new : Tables) (result : Result RepairOutcome RepairRefusal) : Type 0 where
   pub between : Tables
   pub merges : MergesBy j failed old between result
   pub ends : Changes result between new j.from (after_end (between j.from) j.job.position)
@@ -52,7 +52,7 @@ abbrev pub MayGain : Store → Store → Type 0
 MayGain old new = (added : Option Entry) × (new ≡ store_with old added)
 
 -- the other store has what was written, by the answer
-abbrev pub GainsBy : Store → Store → Result Repaired RepairRefusal → Type 0
+abbrev pub GainsBy : Store → Store → Result RepairOutcome RepairRefusal → Type 0
 GainsBy old new (Ok repaired) = new ≡ store_with old repaired.wrote
 GainsBy old new (Err (LogFull count)) = new ≡ old
 GainsBy old new (Err LinkFault) = MayGain old new

@@ -7,4 +7,4 @@ mod repairs;
 
 pub use laws::repairs_are_steps;
 pub use refusal::RepairRefusal;
-pub use repairs::{Repaired, end_here, merge_there, passed_on, run_between, run_first};
+pub use repairs::{RepairOutcome, end_here, merge_there, passed_on, run_between, run_first};

@@ -10,7 +10,7 @@ ghost use Rattle.graph_model.specs.Told.{WhereTold};
 ghost use Rattle.shard_log.specs.View.{Grows};
 ghost use Rattle.shard_tables.specs.Jobs.{IsOfMerges};
 ghost use Rattle.shard_tables.specs.Stores.{IsStoreOf};
-ghost use Rattle.shard_tables.specs.declared.store.Role.TheVariants.{Master};
+ghost use Rattle.shard_tables.specs.declared.store.StoreRole.TheVariants.{Master};
 ghost use Rattle.tao_keeper.specs.Growing.{LogsGrow};
 ghost use Rattle.tao_keeper.specs.KeeperState.{CallsKeeper};
 ghost use Rattle.tao_keeper.specs.Table.{Changes, after_end};
@@ -25,7 +25,7 @@ use tao_link::Link;
 
 /// What a repair wrote.
 #[derive(Debug, Drop)]
-pub struct Repaired {
+pub struct RepairOutcome {
     /// The entry that merged the job at the other store; none where all of its records were there.
     pub wrote: Option<Entry>,
 }
@@ -56,7 +56,7 @@ pub fn merge_there<M: Keeper, L: Link>(
     keeper: &mut M,
     link: &mut L,
     job: &Job,
-) -> Result<Repaired, RepairRefusal>
+) -> Result<RepairOutcome, RepairRefusal>
     requires { MayTakeJob M.TELLS (M.state keeper.old).told (job_between from to.old job.now) }
     ensures merges { WhereTold M.TELLS
         (MergesBy (job_between from to.old job.now) (L.shown link.new).failed (M.state keeper.old).told (M.state keeper.new).told result) }
@@ -75,7 +75,7 @@ pub fn merge_there<M: Keeper, L: Link>(
     let back = link.carry(there, here);
     let wrote = merged.map_err(passed_on)?;
     back?;
-    Ok(Repaired { wrote: wrote.entry })
+    Ok(RepairOutcome { wrote: wrote.entry })
 }
 
 /// Ends the job of a position at its own store, once it is merged at the other one. A refusal leaves it open. Costs one call of the
@@ -115,7 +115,7 @@ pub fn run_first<M: Keeper, L: Link>(
     keeper: &mut M,
     link: &mut L,
     job: &Job,
-) -> Result<Repaired, RepairRefusal>
+) -> Result<RepairOutcome, RepairRefusal>
     requires master { from.old.role ≡ Master }
     requires keeper { IsStoreOf M.TELLS (M.state keeper.old).told from.old }
     requires other { MayTakeJob M.TELLS (M.state keeper.old).told (job_between from.old.name to.old job.now) }
@@ -151,7 +151,7 @@ pub fn run_between<F: Keeper, T: Keeper, L: Link>(
     to_keeper: &mut T,
     link: &mut L,
     job: &Job,
-) -> Result<Repaired, RepairRefusal>
+) -> Result<RepairOutcome, RepairRefusal>
     requires master { from.old.role ≡ Master }
     requires keeper { IsStoreOf F.TELLS (F.state from_keeper.old).told from.old }
     requires other { MayTakeJob T.TELLS (T.state to_keeper.old).told (job_between from.old.name to.old job.now) }

@@ -13,7 +13,7 @@ use tao_base::{Id, Text};
 
 /// How values of a type are read from JSON. A type of the reader's own stands for it, since the values
 /// are mostly of other crates' types.
-pub trait Reader<T> {
+pub trait ItemReader<T> {
     ghost said: { Data → Option T };
 
     /// What the value says: nothing where it is of another kind or breaks a rule.
@@ -24,7 +24,7 @@ pub trait Reader<T> {
 /// Reads ids.
 pub struct IdReader;
 
-impl Reader<Id> for IdReader {
+impl ItemReader<Id> for IdReader {
     ghost said = { id_of };
 
     fn read(_alloc: Global, value: &Value) -> Result<Option<Id>, AllocError> {
@@ -35,7 +35,7 @@ impl Reader<Id> for IdReader {
 /// Reads texts, and copies them.
 pub struct TextReader;
 
-impl Reader<Text> for TextReader {
+impl ItemReader<Text> for TextReader {
     ghost said = { as_str };
 
     fn read(alloc: Global, value: &Value) -> Result<Option<Text>, AllocError> {
@@ -47,7 +47,7 @@ impl Reader<Text> for TextReader {
 }
 
 /// What the items of an array say: nothing where it is no array or one of them says nothing.
-pub fn each_at<T: Drop, R: Reader<T>>(
+pub fn each_at<T: Drop, R: ItemReader<T>>(
     alloc: Global,
     value: &Value,
     name: &str,
@@ -60,7 +60,10 @@ pub fn each_at<T: Drop, R: Reader<T>>(
     }
 }
 
-fn each<T: Drop, R: Reader<T>>(alloc: Global, items: &[Value]) -> Result<Option<Vec<T>>, AllocError>
+fn each<T: Drop, R: ItemReader<T>>(
+    alloc: Global,
+    items: &[Value],
+) -> Result<Option<Vec<T>>, AllocError>
     ensures { IfOk result (λ read. option_map (λ v. v.items) read ≡ each R.said (items_view items.now)) }
 {
     let mut read = Vec::new(alloc);

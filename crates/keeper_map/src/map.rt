@@ -12,7 +12,7 @@ ghost use Rattle.tao_keeper.specs.Table.{Changes, IsLeastJob, IsJobAt, OpensAs, 
 
 use crate::log;
 use crate::plan::{Fails, FaultPlan};
-use crate::stores::Stores;
+use crate::stores::StoreTables;
 use std::alloc::{AllocError, Global};
 use tao_base::{AType, EdgeState, Edges, Entry, Id, Key, Object, Origin, StoreName};
 use tao_keeper::{Commit, Job, KeepFail, Keeper, MOST_ENTRIES, Opened, SERIAL_LIMIT, STAMP_LIMIT};
@@ -24,7 +24,7 @@ use tao_keeper::{Commit, Job, KeepFail, Keeper, MOST_ENTRIES, Opened, SERIAL_LIM
 /// Where there was no memory for the index each call reads the log itself, until the next commit makes the index anew.
 #[derive(Drop)]
 pub struct MapKeeper {
-    stores: Stores,
+    stores: StoreTables,
     plan: FaultPlan,
 }
 
@@ -38,7 +38,7 @@ impl MapKeeper {
         ensures faults { (call_plan result).faults ≡ 0 }
     {
         MapKeeper {
-            stores: Stores::new(alloc),
+            stores: StoreTables::new(alloc),
             plan: FaultPlan::of(fails),
         }
     }

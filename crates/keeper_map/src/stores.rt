@@ -16,18 +16,18 @@ use tao_keeper::{Job, MOST_ENTRIES, Opened};
 
 /// The tables of the stores that something was written to.
 #[derive(Drop)]
-pub struct Stores {
+pub struct StoreTables {
     alloc: Global,
     tables: BTreeMap<(u16, u16), StoreTable>,
     empty: IndexedLog,
     ghost empty_is: { empty ≡ [] },
 }
 
-impl Stores {
-    pub fn new(alloc: Global) -> Stores
+impl StoreTables {
+    pub fn new(alloc: Global) -> StoreTables
         ensures { (name : Store) → tables_of result.tables name ≡ empty_table }
     {
-        Stores {
+        StoreTables {
             alloc,
             tables: BTreeMap::new(alloc),
             empty: IndexedLog::new(alloc),

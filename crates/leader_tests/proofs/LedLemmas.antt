@@ -35,8 +35,8 @@ use Rattle.shard_tables.specs.Stores.{IsStoreOf, note_of, seen_by, store_with}
 use Rattle.shard_tables.specs.declared.leader_answer.LeaderAnswer.{LeaderAnswer}
 use Rattle.shard_tables.specs.declared.leader_answer.LeaderAnswer.TheVariants.{Filled, Past, Behind}
 use Rattle.shard_tables.specs.declared.refusal.StoreRefusal.{StoreRefusal}
-use Rattle.shard_tables.specs.declared.store.Role.{Role}
-use Rattle.shard_tables.specs.declared.store.Role.TheVariants.{Master, Slave}
+use Rattle.shard_tables.specs.declared.store.StoreRole.{StoreRole}
+use Rattle.shard_tables.specs.declared.store.StoreRole.TheVariants.{Master, Slave}
 use Rattle.leader_tier.specs.LeaderReads.{GivesAnswer, AskedRead, KeepsGiven}
 use Rattle.leader_tier.specs.TakenWrites.{TakesWritten}
 use Rattle.leader_tests.specs.Led.{IsLed, ServesOne, store_named}
@@ -160,7 +160,7 @@ notes_of shard note [] logs = absurd (cc)
 notes_of shard note (s ∷ []) logs = (cc, tt)
 notes_of shard note (s ∷ t ∷ ss) logs = absurd (cc)
 
-same_log : (role : Role) (view : View) → (seen_by role view).log ≡ view.log
+same_log : (role : StoreRole) (view : View) → (seen_by role view).log ≡ view.log
 same_log Master view = refl
 same_log Slave view = refl
 

@@ -8,7 +8,7 @@ use Rattle.cache_items.specs.Node.{Node}
 use Rattle.tao_keeper.specs.Table.{Tables}
 use Rattle.shard_tables.specs.StoreView.{Store}
 use Rattle.shard_tables.specs.Stores.{IsStoreOf}
-use Rattle.shard_tables.specs.declared.store.Role.TheVariants.{Master}
+use Rattle.shard_tables.specs.declared.store.StoreRole.TheVariants.{Master}
 
 -- the store of a shard in the first region
 abbrev pub store_named : ℕ → StoreName

@@ -5,7 +5,7 @@ ghost use Rattle.graph_model.specs.Soundness.{IsNewOrigin};
 ghost use Rattle.keeper_map.specs.MapKeeper.{told_by};
 ghost use Rattle.leader_tests.specs.Led.{ServesOne};
 ghost use Rattle.shard_tables.specs.Stores.{IsStoreOf};
-ghost use Rattle.shard_tables.specs.declared.store.Role.TheVariants.{Master};
+ghost use Rattle.shard_tables.specs.declared.store.StoreRole.TheVariants.{Master};
 ghost use Rattle.tao_base.specs.Ids.{shard_of};
 ghost use Rattle.tao_base.specs.Stamps.{stamp_of};
 ghost use Rattle.tao_base.specs.declared.entry.Origin.TheVariants.{Merge};
@@ -32,7 +32,7 @@ const THERE: StoreName = StoreName {
 const FAR: u64 = (1 << 48) + 1;
 
 /// Whether no job of the position was merged with an entry.
-fn misses_merge(keeper: &mut MapKeeper, position: u64) -> Result<bool, KeepFail>
+fn find_no_merge(keeper: &mut MapKeeper, position: u64) -> Result<bool, KeepFail>
     ensures new { IfOk result (λ new. IsTrue new → IsNewOrigin (told_by keeper.old THERE).log (Merge 0 position)) }
     ensures stays { Stays (told_by keeper.old) (told_by keeper.new) }
 {
@@ -87,7 +87,7 @@ fn merge(
     ensures one { OnOk result (ServesOne 1 store.new.view.log leader.new) }
 {
     let end = cut_end(position)?;
-    if position == 0 || !is_of_there(&end) || !misses_merge(keeper, position)? {
+    if position == 0 || !is_of_there(&end) || !find_no_merge(keeper, position)? {
         return Err("a job that may not be merged")?;
     }
     let job = job_of(alloc, position, end)?;

@@ -4,7 +4,7 @@ ghost use Rattle.graph_model.specs.Soundness.{IsSoundOf};
 ghost use Rattle.keeper_map.specs.MapKeeper.{told_by};
 ghost use Rattle.leader_tests.specs.Led.{IsLed, ServesOne};
 ghost use Rattle.shard_tables.specs.Written.{LiesOn, StandsIn};
-ghost use Rattle.shard_tables.specs.declared.store.Role.TheVariants.{Master};
+ghost use Rattle.shard_tables.specs.declared.store.StoreRole.TheVariants.{Master};
 ghost use Rattle.tao_base.specs.EdgeTypes.{EdgeTypes};
 ghost use Rattle.tao_base.specs.Ids.{shard_of};
 ghost use Rattle.tao_base.specs.Queries.{query_shard};

@@ -1,7 +1,7 @@
 //! A slave, and the texts of what no line tells.
 use crate::rig::NAME;
 use shard_log::ShardLog;
-use shard_tables::{Role, StoreNode, StoreRefusal};
+use shard_tables::{StoreNode, StoreRefusal, StoreRole};
 use std::test::Fail;
 
 #[test]
@@ -11,7 +11,7 @@ fn a_slave_has_its_note(rt: HostRuntime) -> Result<(), Fail> {
     let mut store = StoreNode::slave(NAME, pen.note()?, 9);
     assert_eq!(rt;
         (store.role(), store.name(), store.log_max()),
-        (Role::Slave, NAME, 9)
+        (StoreRole::Slave, NAME, 9)
     );
     assert_eq!(rt; store.note()?.look(), 0);
     Ok(())

@@ -27,8 +27,8 @@ use Rattle.shard_tables.specs.StoreView.{Store}
 use Rattle.shard_tables.specs.Stores.{HasSeen, IsStoreOf, note_of, seen_by}
 use Rattle.shard_tables.specs.declared.read_out.ReadOut.{ReadOut}
 use Rattle.shard_tables.specs.declared.read_out.ReadOut.TheVariants as out
-use Rattle.shard_tables.specs.declared.store.Role.{Role}
-use Rattle.shard_tables.specs.declared.store.Role.TheVariants.{Master, Slave}
+use Rattle.shard_tables.specs.declared.store.StoreRole.{StoreRole}
+use Rattle.shard_tables.specs.declared.store.StoreRole.TheVariants.{Master, Slave}
 use Rattle.leader_tier.specs.LeaderReads.{AreAnswersSeen, IsFillAt}
 
 -- a fill that a store read, which has come to the floor
@@ -73,11 +73,11 @@ answer_is_exact types log seen query given at begins answers =
       gives = λ n h. answers.answer_is ∙ ap (λ l. log_answer types l query) begins ∙ version_fixes seen query types (length log) n (sym version ∙ sym h);
     }
 
-begins_seen : (role : Role) (log : List Entry) (view : View) → HasSeen role log view.entries → Begins log (seen_by role view).entries
+begins_seen : (role : StoreRole) (log : List Entry) (view : View) → HasSeen role log view.entries → Begins log (seen_by role view).entries
 begins_seen Master log view seen = subst (λ l. Begins l view.entries) seen (begins-self view.entries)
 begins_seen Slave log view seen = seen
 
-same_name : (role : Role) (view : View) → (seen_by role view).log ≡ view.log
+same_name : (role : StoreRole) (view : View) → (seen_by role view).log ≡ view.log
 same_name Master view = refl
 same_name Slave view = refl
 

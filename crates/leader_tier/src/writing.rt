@@ -11,7 +11,7 @@ ghost use Rattle.shard_log.specs.View.{Grows, as_note};
 ghost use Rattle.shard_tables.specs.Jobs.{FindsJob, IsOfMerges, MergesAs, OpensJob, job_with};
 ghost use Rattle.shard_tables.specs.Stores.{IsStoreOf, store_with};
 ghost use Rattle.shard_tables.specs.Written.{HasEntry, LiesOn, StandsIn, TableGains, WriteAnswers, added_entry, asked_write};
-ghost use Rattle.shard_tables.specs.declared.store.Role.TheVariants.{Master};
+ghost use Rattle.shard_tables.specs.declared.store.StoreRole.TheVariants.{Master};
 ghost use Rattle.tao_base.specs.EdgeTypes.{EdgeTypes};
 ghost use Rattle.tao_base.specs.Keys.{key_shard};
 ghost use Rattle.tao_base.specs.Writes.{ChangesType, write_shard};

@@ -47,7 +47,7 @@ fn node_of(alloc: Global, note: Note) -> Result<CacheNode, OutOfMemory>
 }
 
 /// Whether the node keeps that there is no object, and answers so.
-fn keeps(node: &mut CacheNode, schema: &Schema, id: Id, note: Note) -> Result<bool, OutOfMemory>
+fn keep_at(node: &mut CacheNode, schema: &Schema, id: Id, note: Note) -> Result<bool, OutOfMemory>
     requires here { shard_of id ≡ 0 }
     requires log { log_at 0 node.old.served ≡ Some note.log }
     requires untold { note.log.told ≡ false }
@@ -58,7 +58,7 @@ fn keeps(node: &mut CacheNode, schema: &Schema, id: Id, note: Note) -> Result<bo
 }
 
 /// The same of a node and a log that are made for it.
-fn keeps_its_own(alloc: Global, schema: &Schema, id: Id) -> Result<bool, OutOfMemory> {
+fn keep_own_of_new(alloc: Global, schema: &Schema, id: Id) -> Result<bool, OutOfMemory> {
     let mut pen = ShardLog::make(alloc, Vec::new(alloc), false)?;
     let mut node = node_of(alloc, pen.note()?)?;
     let mut given = no_object(id, pen.note()?);
@@ -66,13 +66,13 @@ fn keeps_its_own(alloc: Global, schema: &Schema, id: Id) -> Result<bool, OutOfMe
     if id.shard() != 0 {
         return Ok(false);
     }
-    keeps(&mut node, schema, id, note)
+    keep_at(&mut node, schema, id, note)
 }
 
 #[test]
 fn a_leader_keeps_what_it_reads_for_itself(rt: HostRuntime) -> Result<(), Fail> {
     let id = Id::read(1).ok_or("an id")?;
     let schema = schema(rt.alloc())?;
-    assert!(rt; keeps_its_own(rt.alloc(), &schema, id)?);
+    assert!(rt; keep_own_of_new(rt.alloc(), &schema, id)?);
     Ok(())
 }

@@ -5,13 +5,13 @@ ghost use Rattle.edge_repair.specs.JobBetween.{job_between};
 ghost use Rattle.graph_model.specs.Soundness.{IsNewOrigin};
 ghost use Rattle.keeper_map.specs.MapKeeper.{told_by};
 ghost use Rattle.shard_tables.specs.Stores.{IsStoreOf};
-ghost use Rattle.shard_tables.specs.declared.store.Role.TheVariants.{Master};
+ghost use Rattle.shard_tables.specs.declared.store.StoreRole.TheVariants.{Master};
 ghost use Rattle.tao_base.specs.Ids.{shard_of};
 ghost use Rattle.tao_base.specs.Stamps.{stamp_of};
 ghost use Rattle.tao_base.specs.declared.entry.Origin.TheVariants.{Merge};
 ghost use Rattle.tao_keeper.specs.Table.{Stays};
 
-use edge_repair::{RepairRefusal, Repaired, run_between, run_first};
+use edge_repair::{RepairOutcome, RepairRefusal, run_between, run_first};
 use keeper_map::{Fails, MapKeeper};
 use shard_tables::StoreNode;
 use std::alloc::{AllocError, Global};
@@ -68,7 +68,7 @@ fn is_of_there(end: &JobEdge) -> bool
 }
 
 /// Whether no job of the position was merged with an entry.
-fn is_new(keeper: &mut MapKeeper) -> Result<bool, KeepFail>
+fn find_no_merge(keeper: &mut MapKeeper) -> Result<bool, KeepFail>
     ensures new { IfOk result (λ new. IsTrue new → IsNewOrigin (told_by keeper.old THERE).log (Merge 0 POSITION)) }
     ensures stays { Stays (told_by keeper.old) (told_by keeper.new) }
 {
@@ -99,16 +99,16 @@ fn due_job(alloc: Global, keeper: &mut MapKeeper, to: &StoreNode) -> Result<Job,
     ensures stays { Stays (told_by keeper.old) (told_by keeper.new) }
 {
     let end = cut_end()?;
-    if !is_of_there(&end) || !is_new(keeper)? {
+    if !is_of_there(&end) || !find_no_merge(keeper)? {
         return Err("a job that may not be merged")?;
     }
     Ok(job_of(alloc, end)?)
 }
 
 /// Whether the repair wrote the first entry, over two carries.
-fn is_written(repaired: &Result<Repaired, RepairRefusal>, link: &SteadyLink) -> bool {
+fn is_written(repaired: &Result<RepairOutcome, RepairRefusal>, link: &SteadyLink) -> bool {
     match repaired {
-        Ok(Repaired { wrote: Some(entry) }) => entry.position == 1 && link.carries() == 2,
+        Ok(RepairOutcome { wrote: Some(entry) }) => entry.position == 1 && link.carries() == 2,
         _ => false,
     }
 }

@@ -15,8 +15,8 @@ pub use calls::{
 };
 pub use lists::{Lengths, Message, Messages};
 pub use nodes::{
-    CacheReply, Delivered, KeptOrNot, NodeReply, NotKept, NotKeptWhy, Refilled, Repaired, Shown,
-    ShownItem, StreamVerdict, Streamed,
+    CacheReply, DeliveredReply, KeptOrNot, NodeReply, NotKept, NotKeptWhy, Refilled, Repaired,
+    Shown, ShownItem, StreamVerdict, Streamed,
 };
 pub use opening::OpenRefusal;
 pub use plans::{PlanReply, Stage};

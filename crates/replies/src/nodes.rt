@@ -37,7 +37,7 @@ pub struct Repaired {
 /// The reply about a cache node.
 #[derive(Debug, Drop)]
 pub enum CacheReply {
-    Delivered(Delivered),
+    Delivered(DeliveredReply),
     /// A message was taken out of the inbox and dropped.
     Lost(Message),
     Refilled(Refilled),
@@ -52,7 +52,7 @@ pub enum CacheReply {
 /// A message was delivered: how many items it dropped, and the node's mark for the shard, up to which it
 /// has seen all entries.
 #[derive(Clone, Copy, Debug, PartialEq, Eq)]
-pub struct Delivered {
+pub struct DeliveredReply {
     pub word: DeliveryWord,
     pub dropped: u64,
     pub mark: u64,

@@ -5,7 +5,7 @@ use Rattle.words.specs.Words.{word_text}
 use Rattle.words.specs.declared.Word.TheVariants as word
 use Rattle.replies.specs.declared.nodes.CacheReply.{CacheReply}
 use Rattle.replies.specs.declared.nodes.CacheReply.TheVariants as cache
-use Rattle.replies.specs.declared.nodes.Delivered.{Delivered}
+use Rattle.replies.specs.declared.nodes.DeliveredReply.{DeliveredReply}
 use Rattle.replies.specs.declared.nodes.KeptOrNot.{KeptOrNot}
 use Rattle.replies.specs.declared.nodes.KeptOrNot.TheVariants.{Kept, Not}
 use Rattle.replies.specs.declared.nodes.NodeReply.{NodeReply}
@@ -46,7 +46,7 @@ not_kept_why (Not n) = Some (text (not_kept_text n.why))
 -- ---- cache nodes
 
 -- a delivery is told by the items that it dropped, the node's mark, its word, and its message
-abbrev pub delivered_data : Delivered → Data
+abbrev pub delivered_data : DeliveredReply → Data
 delivered_data d =
     fields ((codes "dropped", whole d.dropped) ∷ (codes "mark", whole d.mark) ∷ (codes "ok", text (word_text (word.Delivery d.word)))
     ∷ (codes "position", whole d.message.position) ∷ (codes "shard", whole d.message.shard) ∷ [])

@@ -10,7 +10,8 @@ use crate::spelled::{put_given, put_members};
 use crate::texts::{not_kept_text, verdict_text};
 use json::Writer;
 use replies::{
-    CacheReply, Delivered, KeptOrNot, NodeReply, Refilled, Repaired, Shown, ShownItem, Streamed,
+    CacheReply, DeliveredReply, KeptOrNot, NodeReply, Refilled, Repaired, Shown, ShownItem,
+    Streamed,
 };
 use std::alloc::AllocError;
 use topology::Config;
@@ -110,7 +111,7 @@ fn put_cache(out: &mut Writer, config: &Config, reply: &CacheReply) -> Result<()
     }
 }
 
-fn put_delivered(out: &mut Writer, delivered: &Delivered) -> Result<(), AllocError>
+fn put_delivered(out: &mut Writer, delivered: &DeliveredReply) -> Result<(), AllocError>
     ensures { Puts result out.old out.new (delivered_data delivered.now) }
 {
     let message = delivered.message;

@@ -10,7 +10,7 @@ use Rattle.requests.specs.declared.request.KeyName.{KeyName}
 use Rattle.requests.specs.declared.request.KeyName.TheVariants.{Object, List as Assocs}
 use Rattle.requests.specs.declared.request.LeaderName.{LeaderName}
 use Rattle.requests.specs.declared.request.LinkName.{LinkName}
-use Rattle.requests.specs.declared.request.Opening.{Opening}
+use Rattle.requests.specs.declared.request.OpenCall.{OpenCall}
 use Rattle.requests.specs.declared.request.ReadCall.{ReadCall}
 use Rattle.requests.specs.declared.request.WriteCall.{WriteCall}
 use Rattle.requests.specs.declared.request.Request.{Request}
@@ -30,7 +30,7 @@ use Rattle.outcomes.specs.Results.{◌>>=◌}
 
 -- ---- sessions and plans
 
-abbrev pub checked_open : Settings → Opening → Result Checked NameRefused
+abbrev pub checked_open : Settings → OpenCall → Result Checked NameRefused
 checked_open s opening = do
   found ← tier_named s opening.region opening.tier
   Ok (checked.Open opening.session found.region found.tier)

@@ -15,7 +15,7 @@ use crate::nodes::{
     checked_refill, checked_show, checked_up, leader_place, link_place,
 };
 use crate::refusal::{CheckRefusal, NameError};
-use requests::{Call, Opening, ReadCall, Request, WriteCall};
+use requests::{Call, OpenCall, ReadCall, Request, WriteCall};
 use std::alloc::Global;
 use tao_base::Text;
 use topology::Config;
@@ -68,7 +68,7 @@ fn checked_of(names: &Names<'_>, request: &Request) -> Result<Checked, NameError
 
 // ---- sessions and plans
 
-fn checked_open(names: &Names<'_>, opening: &Opening) -> Result<Checked, NameError>
+fn checked_open(names: &Names<'_>, opening: &OpenCall) -> Result<Checked, NameError>
     ensures { Gives name_unless_memory result (checked_open (settings names.now) opening.now) }
 {
     let place = names.tier(opening.region.as_str(), opening.tier.as_str())?;

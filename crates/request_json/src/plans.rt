@@ -13,13 +13,13 @@ use crate::fields::{Fields, bad_line};
 use crate::refusal::LineRefusal;
 use crate::word::word_of;
 use json_fields::fields::object_at;
-use requests::{Call, Opening, ReadCall, Request};
+use requests::{Call, OpenCall, ReadCall, Request};
 use words::Word;
 
 pub(crate) fn open_of(fields: &Fields<'_>) -> Result<Request, LineRefusal>
     ensures { Gives unless_memory result (open_of (said fields.now)) }
 {
-    let opening = Opening {
+    let opening = OpenCall {
         session: session_field(fields)?,
         region: fields.text("region")?,
         tier: fields.text("tier")?,

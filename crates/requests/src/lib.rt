@@ -5,6 +5,6 @@
 mod request;
 
 pub use request::{
-    Call, EdgeName, KeyName, LeaderName, LinkName, ListName, MessageName, Opening, QueryText,
+    Call, EdgeName, KeyName, LeaderName, LinkName, ListName, MessageName, OpenCall, QueryText,
     ReadCall, Request, WriteCall, WriteText,
 };

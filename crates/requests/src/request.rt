@@ -108,7 +108,7 @@ pub enum Call {
 
 /// A tier of a region, which a session opens in.
 #[derive(Debug, Drop)]
-pub struct Opening {
+pub struct OpenCall {
     pub session: u32,
     pub region: Text,
     pub tier: Text,
@@ -139,7 +139,7 @@ pub struct LinkName {
 /// What a line asks.
 #[derive(Debug, Drop)]
 pub enum Request {
-    Open(Opening),
+    Open(OpenCall),
     Call(Call),
     /// The call, stage by stage, in a plan of that number.
     Hold {

@@ -22,7 +22,7 @@ use Rattle.shard_tables.specs.StoreView.{Store}
 use Rattle.shard_tables.specs.Stores.{IsStoreOf, note_of, seen_by, store_with}
 use Rattle.shard_tables.specs.Written.{LiesOn, StandsIn}
 use Rattle.shard_tables.specs.declared.refusal.StoreRefusal.{StoreRefusal}
-use Rattle.shard_tables.specs.declared.store.Role.TheVariants.{Master}
+use Rattle.shard_tables.specs.declared.store.StoreRole.TheVariants.{Master}
 use Rattle.shard_tables.specs.declared.writes.Wrote.{Wrote}
 
 -- an entry of a sound log stands at its own position, and lies on the log's shard

@@ -19,7 +19,7 @@ use Rattle.tao_keeper.specs.declared.jobs.Job.{Job}
 use Rattle.shard_tables.specs.Stores.{HasSeen, IsFullFor, IsStoreOf}
 use Rattle.shard_tables.specs.StoreView.{Store}
 use Rattle.shard_tables.specs.declared.refusal.StoreRefusal.{StoreRefusal}
-use Rattle.shard_tables.specs.declared.store.Role.TheVariants.{Master}
+use Rattle.shard_tables.specs.declared.store.StoreRole.TheVariants.{Master}
 use Rattle.shard_tables.specs.declared.writes.Wrote.{Wrote}
 use Rattle.shard_tables.specs.Written.{IsLogFull, WriteAnswers, asked_write, made_entry}
 use Rattle.write_touches.specs.Touching.{AreTouches, lacks_serial}

@@ -29,7 +29,7 @@ next_past log kind origin (t ∷ ts) e is =
     let same : length log + 1 ≡ e.position = cc in
     omega (arith, same)
 
-job_edges : (jobs : Jobs) (position : ℕ) (job : Option Job) → IsJobAt jobs position job → jobs position ≡ option_map (λ j. j.edges) job
+pub job_edges : (jobs : Jobs) (position : ℕ) (job : Option Job) → IsJobAt jobs position job → jobs position ≡ option_map (λ j. j.edges) job
 job_edges jobs position None is = is
 job_edges jobs position (Some job) is = is.1
 

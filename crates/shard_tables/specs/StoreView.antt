@@ -4,19 +4,19 @@ use Rattle.tao_base.specs.declared.id.StoreName.{StoreName}
 use Rattle.shard_log.specs.View.{View}
 use Rattle.shard_tables.specs.declared.store.Held.{Held}
 use Rattle.shard_tables.specs.declared.store.Held.TheVariants.{Whole, Seen}
-use Rattle.shard_tables.specs.declared.store.Role.{Role}
-use Rattle.shard_tables.specs.declared.store.Role.TheVariants.{Master, Slave}
+use Rattle.shard_tables.specs.declared.store.StoreRole.{StoreRole}
+use Rattle.shard_tables.specs.declared.store.StoreRole.TheVariants.{Master, Slave}
 use Rattle.shard_tables.specs.declared.store.StoreNode.TheInside.{Inside}
 
 -- its name, how many entries its log may have, its role, and what it has seen of the log: a master the whole
 pub record Store : Type 0 where
   pub name : StoreName
   pub log_max : ℕ
-  pub role : Role
+  pub role : StoreRole
   pub view : View
 
 -- who has the pen is the master
-abbrev pub role_of : Held → Role
+abbrev pub role_of : Held → StoreRole
 role_of (Whole pen) = Master
 role_of (Seen note) = Slave
 

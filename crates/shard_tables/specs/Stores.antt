@@ -6,12 +6,12 @@ use Rattle.shard_log.specs.View.{View, Begins, as_note}
 use Rattle.tao_keeper.specs.Table.{Tables}
 use Rattle.shard_tables.specs.declared.refusal.StoreRefusal.{StoreRefusal}
 use Rattle.shard_tables.specs.declared.refusal.StoreRefusal.TheVariants.{LogFull}
-use Rattle.shard_tables.specs.declared.store.Role.{Role}
-use Rattle.shard_tables.specs.declared.store.Role.TheVariants.{Master, Slave}
+use Rattle.shard_tables.specs.declared.store.StoreRole.{StoreRole}
+use Rattle.shard_tables.specs.declared.store.StoreRole.TheVariants.{Master, Slave}
 use Rattle.shard_tables.specs.StoreView.{Store}
 
 -- a master has seen its keeper's log, a slave that and maybe more
-abbrev pub HasSeen : Role → List Entry → List Entry → Type 0
+abbrev pub HasSeen : StoreRole → List Entry → List Entry → Type 0
 HasSeen Master log seen = seen ≡ log
 HasSeen Slave log seen = Begins log seen
 
@@ -30,7 +30,7 @@ abbrev pub store_with : Store → Option Entry → Store
 store_with store added = record store { view = record store.view { entries = with_added store.view.entries added } }
 
 -- what a note sees that has seen all that a store of this role has
-abbrev pub seen_by : Role → View → View
+abbrev pub seen_by : StoreRole → View → View
 seen_by Master view = as_note view
 seen_by Slave view = view
 

@@ -8,7 +8,7 @@ ghost use Rattle.shard_log.specs.View.{Grows, as_note, most_entries};
 ghost use Rattle.shard_tables.specs.Jobs.{IsOfMerges, MergesAs, made_merge};
 ghost use Rattle.shard_tables.specs.Stores.{IsStoreOf, store_with};
 ghost use Rattle.shard_tables.specs.Written.{LiesOn, StandsIn, TableGains, added_entry};
-ghost use Rattle.shard_tables.specs.declared.store.Role.TheVariants.{Master};
+ghost use Rattle.shard_tables.specs.declared.store.StoreRole.TheVariants.{Master};
 ghost use Rattle.tao_base.specs.EdgeTypes.{EdgeTypes};
 ghost use Rattle.tao_keeper.specs.KeeperState.{CallsKeeper};
 ghost use Rattle.tao_keeper.specs.Given.{HaveSmallRecords};

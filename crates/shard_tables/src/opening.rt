@@ -4,7 +4,7 @@ ghost use Rattle.graph_model.specs.Log.{entry_at};
 ghost use Rattle.graph_model.specs.Told.{WhereTold};
 ghost use Rattle.shard_tables.specs.Refusals.{IsOfReads};
 ghost use Rattle.shard_tables.specs.Stores.{IsStoreOf};
-ghost use Rattle.shard_tables.specs.declared.store.Role.TheVariants.{Master};
+ghost use Rattle.shard_tables.specs.declared.store.StoreRole.TheVariants.{Master};
 ghost use Rattle.tao_keeper.specs.Growing.{LogsGrow};
 ghost use Rattle.tao_keeper.specs.KeeperState.{CallsKeeper, KeepsTables};
 ghost use Rattle.tao_keeper.specs.Given.{IsGivenEntry};
@@ -45,7 +45,7 @@ fn first_entries<M: Keeper>(
 /// All entries of the log that a keeper has under the name, in order. `Failed` comes only where the keeper's count of
 /// faults rose, and `OutOfMemory` where there was no memory. No table changes. Costs a call of the keeper for the length,
 /// and one for each entry.
-pub fn log_of<M: Keeper>(
+pub fn whole_log<M: Keeper>(
     alloc: Global,
     keeper: &mut M,
     at: StoreName,
@@ -81,7 +81,7 @@ impl StoreNode {
         ensures logs { LogsGrow M.TELLS (M.state keeper.old).told (M.state keeper.new).told }
         ensures calls { CallsKeeper StoreRefusal.KeeperFault (M.state keeper.old) (M.state keeper.new) result }
     {
-        let log = log_of(alloc, keeper, name)?;
+        let log = whole_log(alloc, keeper, name)?;
         let pen = ShardLog::make(alloc, log, M::TELLS)?;
         Ok(StoreNode::master(name, pen, log_max))
     }

@@ -5,7 +5,7 @@ ghost use Rattle.graph_model.specs.Told.{WhereTold};
 ghost use Rattle.shard_log.specs.View.{as_note, most_entries};
 ghost use Rattle.shard_tables.specs.StoreView.{Store};
 ghost use Rattle.shard_tables.specs.Stores.{IsFullFor, length_of, note_of, store_with};
-ghost use Rattle.shard_tables.specs.declared.store.Role.TheVariants.{Master, Slave};
+ghost use Rattle.shard_tables.specs.declared.store.StoreRole.TheVariants.{Master, Slave};
 
 use super::refusal::StoreRefusal;
 use shard_log::{Note, Pen};
@@ -14,7 +14,7 @@ use tao_base::{Entry, OutOfMemory, StoreName};
 
 /// What a store is for its shard.
 #[derive(Clone, Copy, Debug, PartialEq, Eq)]
-pub enum Role {
+pub enum StoreRole {
     /// It makes the writes.
     Master,
     /// It takes the master's entries.
@@ -90,12 +90,12 @@ impl StoreNode {
     }
 
     /// Whether the store makes the writes of its shard, or takes those of its master.
-    pub fn role(&self) -> Role
+    pub fn role(&self) -> StoreRole
         ensures { result ≡ self.now.role }
     {
         match &self.held {
-            Held::Whole(_) => Role::Master,
-            Held::Seen(_) => Role::Slave,
+            Held::Whole(_) => StoreRole::Master,
+            Held::Seen(_) => StoreRole::Slave,
         }
     }
 

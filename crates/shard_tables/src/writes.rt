@@ -8,7 +8,7 @@ ghost use Rattle.shard_log.specs.View.{Grows, as_note, most_entries};
 ghost use Rattle.shard_tables.specs.Jobs.{FindsJob, OpensJob, job_with};
 ghost use Rattle.shard_tables.specs.Stores.{IsStoreOf, store_with};
 ghost use Rattle.shard_tables.specs.Written.{HasEntry, LiesOn, StandsIn, TableGains, WriteAnswers, added_entry, asked_write, made_entry};
-ghost use Rattle.shard_tables.specs.declared.store.Role.TheVariants.{Master};
+ghost use Rattle.shard_tables.specs.declared.store.StoreRole.TheVariants.{Master};
 ghost use Rattle.tao_base.specs.EdgeTypes.{EdgeTypes, InversesMatch};
 ghost use Rattle.tao_base.specs.declared.entry.Origin.{Origin};
 ghost use Rattle.tao_keeper.specs.KeeperState.{CallsKeeper, KeepsTables};

@@ -36,6 +36,7 @@ use Rattle.request_check.specs.declared.checked.CheckedCall.TheVariants as call
 use Rattle.tao_base.specs.Queries.{query_key, query_shard}
 use Rattle.tao_base.specs.Writes.{write_shard}
 use Rattle.tao_base.specs.declared.entry.Origin.TheVariants.{Client}
+use Rattle.tao_keeper.proofs.Later.{later_self}
 use Rattle.tao_keeper.specs.KeeperState.{KeeperState}
 use Rattle.tao_link.specs.Shown.{LinkShown}
 use Rattle.topology.specs.Choices.{chosen_follower}
@@ -47,7 +48,6 @@ use Rattle.tao_core.specs.Calls.{posting_of}
 use Rattle.tao_core.specs.Core.{CoreState, IsCoreOf, IsOfSession, IsSessionOf, Moment, StaysUsable, moment}
 use Rattle.tao_core.specs.HeldCalls.{AnswersHold, Held, HoldGoes, Leaves, StepsAt, numbered_plan}
 use Rattle.tao_core.specs.HeldCalls.{begun_plan, call_floor, call_session, call_shard, held_in, plan_leader, told_with_number}
-use Rattle.tao_core.proofs.HeldOn.{same_later}
 use Rattle.tao_core.proofs.HeldKeeping.{plans_set, set_each, set_here, with_plans}
 use Rattle.tao_core.proofs.Found.{found_at, open_found, session_is}
 use Rattle.tao_core.proofs.HeldSteps.{MayHold, StepsAsks, holds_none}
@@ -309,6 +309,6 @@ hold_wants tells number asked core now own sessions plans keepers link reply of 
         keepers = of;
         goes = goes_self now.fleet;
         grows = stays_masters tells now.settings keepers keepers (λ told at. refl);
-        later = same_later keepers;
+        later = later_self keepers;
       };
     }))

@@ -1,5 +1,5 @@
 -- What is held goes on, whatever else is done.
-use Rattle.std.proofs.Common.{◌≡◌, ℕ, Bool, List, Option, Some, refl, ap, sym, subst, arith}
+use Rattle.std.proofs.Common.{◌≡◌, ℕ, Bool, List, Option, Some, refl, ap, sym, subst}
 use Rattle.core_model.specs.Consistent.{IsConsistent}
 use Rattle.core_model.specs.Evictions.{ChangesCache, Evicts}
 use Rattle.core_model.specs.Fleet.{Fleet}
@@ -18,6 +18,7 @@ use Rattle.node_name.specs.declared.NodeName.{NodeName}
 use Rattle.node_name.specs.declared.NodeName.TheVariants.{Store as StoreName_, Leader, Follower}
 use Rattle.tao_base.specs.EdgeTypes.{EdgeTypes}
 use Rattle.tao_base.specs.declared.id.Key.{Key}
+use Rattle.tao_keeper.proofs.Later.{later_self}
 use Rattle.tao_keeper.specs.KeeperState.{IsLater, KeeperState, KeepsTables}
 use Rattle.tao_keeper.specs.Table.{Tables}
 use Rattle.topology.specs.Config.{Settings}
@@ -60,6 +61,17 @@ core_goes_on tells before now old new of leaves own same stay = record {
   later = leaves.later;
 }
 
+-- nothing was done
+pub core_unchanged : (tells : Bool) (keepers : KeeperState) (core : CoreState) → IsCoreOf tells keepers.told core
+    → StaysUsable tells keepers keepers core core
+core_unchanged tells keepers core of = record {
+  settings = refl;
+  keepers = of;
+  goes = goes_self core.fleet;
+  grows = stays_masters tells core.settings keepers keepers (λ told at. refl);
+  later = later_self keepers;
+}
+
 -- no table changed
 pub core_held : (tells : Bool) (before now : KeeperState) (old new : CoreState) → IsCoreOf tells before.told old
     → IsConsistentCore tells now.told new → StaysHeld old.fleet new.fleet → KeepsTables tells before now → IsLater before now
@@ -70,13 +82,10 @@ core_held tells before now old new of is on stays later rest =
     (ap (λ (x : CoreState). x.settings) rest) (ap (λ (x : CoreState). x.plans) rest)
     (same_open old.sessions new.sessions (ap (λ (x : CoreState). x.sessions) rest))
 
-pub same_later : (keepers : KeeperState) → IsLater keepers keepers
-same_later keepers = record { calls = omega arith; faults = omega arith }
-
 -- no keeper was called
 pub core_kept : (tells : Bool) (keepers : KeeperState) (old new : CoreState) → IsCoreOf tells keepers.told old → IsConsistentCore tells keepers.told new
     → StaysHeld old.fleet new.fleet → new ≡ record old { fleet = new.fleet; mail = new.mail } → StaysUsable tells keepers keepers old new
-core_kept tells keepers old new of is on rest = core_held tells keepers keepers old new of is on (λ told at. refl) (same_later keepers) rest
+core_kept tells keepers old new of is on rest = core_held tells keepers keepers old new of is on (λ told at. refl) (later_self keepers) rest
 
 -- ---- what opens no ask that stays open
 
@@ -94,7 +103,7 @@ core_opened tells keepers old new of is rest stay =
       is_consistent = is;
       on = fleet_stays old.fleet new.fleet (ap (λ (x : CoreState). x.fleet) rest);
       grows = stays_masters tells old.settings keepers keepers (λ told at. refl);
-      later = same_later keepers;
+      later = later_self keepers;
     }) (ap (λ (x : CoreState). x.settings) rest) (ap (λ (x : CoreState). x.plans) rest) stay
 
 pub held_on : (f g h : Fleet) → StaysHeld f g → StaysHeld g h → StaysHeld f h

@@ -1,14 +1,14 @@
 -- What the stage of a held plan does to the asks that are open.
-use Rattle.std.proofs.Common.{◌≡◌, ◌⊎◌, ℕ, Bool, true, false, List, Option, Some, None, Ok, refl, ap, sym, ◌∙◌, subst, inl, inr, arith}
+use Rattle.std.proofs.Common.{◌≡◌, ◌⊎◌, ℕ, Bool, true, false, Option, Some, None, Ok, refl, ap, sym, ◌∙◌, subst, inl, inr, arith}
 use Rattle.std.specs.Prelude.{⊤, slice_get, slice_set}
 use Rattle.cache_items.specs.declared.look.Look.{Look}
 use Rattle.cache_items.specs.declared.look.Look.TheVariants.{Hit, Miss}
 use Rattle.cache_items.specs.Node.{Node}
 use Rattle.core_model.specs.Fleet.{ChangesNode, Fleet, HasAsk, named}
 use Rattle.core_model.specs.Reads.{AfterLook, AsksAtOnce, EndsAsk, KeepsFill, LooksFirst, taken_fill}
-use Rattle.core_model.specs.declared.named.Named.{Named}
 use Rattle.core_model.proofs.Places.{get_set, one_some}
 use Rattle.core_plans.specs.Held.{HasNoneAt, HoldsAsk, IsBefore, IsOpenAt, OpensFirst, OpensNone, StepsHeld, is_open_ask, next_stage}
+use Rattle.core_plans.specs.HeldLaws.{Followers}
 use Rattle.core_plans.specs.HeldReads.{DoesLook, DoesReadStage, DoesKeep, wanted_by}
 use Rattle.core_plans.specs.HeldWrites.{DoesWriteStage}
 use Rattle.core_plans.specs.declared.held.HeldPlan.{HeldPlan}
@@ -50,9 +50,6 @@ use Rattle.write_plan.specs.declared.stage.WriteStage.{WriteStage}
 use Rattle.write_plan.specs.declared.stage.WriteStage.TheVariants.{Commit, Inverse, End, Relay, Apply, Done}
 use Rattle.tao_core.proofs.NamesOnce.{StandAlone}
 use Rattle.tao_core.proofs.WriteStages.{applied_over, end_keeps, inverse_keeps}
-
-abbrev Followers : Type 0
-Followers = List (Named FollowerState)
 
 -- ---- a plan that did a stage
 

@@ -13,6 +13,8 @@ use Rattle.core_nodes.proofs.FleetLemmas.{goes_self}
 use Rattle.core_nodes.proofs.AskLemmas.{stores_here}
 use Rattle.core_sessions.specs.Sessions.{Session, new_session, with_session}
 use Rattle.core_sessions.specs.declared.sessions.OpenSession.{OpenSession}
+use Rattle.core_steps.specs.Posting.{CanPost, posting}
+use Rattle.core_steps.specs.Routes.{scene}
 use Rattle.graph_model.specs.Told.{WhereTold}
 use Rattle.node_name.specs.declared.NodeName.{NodeName}
 use Rattle.node_name.specs.declared.NodeName.TheVariants.{Store as StoreName_, Leader, Follower}
@@ -24,11 +26,19 @@ use Rattle.shard_log.specs.View.{View}
 use Rattle.tao_base.specs.declared.id.Key.{Key}
 use Rattle.tao_keeper.proofs.Growing.{growing_laws}
 use Rattle.tao_keeper.specs.Growing.{LogsGrow}
+use Rattle.tao_keeper.specs.KeeperState.{KeeperState}
 use Rattle.tao_keeper.specs.Table.{Tables, Stays}
+use Rattle.tao_link.specs.Shown.{LinkShown}
 use Rattle.tao_core.specs.Core.{CoreState, IsConsistentCore, IsSessionOf, Moment}
 use Rattle.tao_core.specs.Replies.{AnswersEvict}
 use Rattle.tao_core.proofs.Told.{sessions_later}
 use Rattle.tao_core.proofs.Ways.{with_session_too}
+
+-- ---- a write or a repair begins
+
+pub core_can_post : (tells : Bool) (core : CoreState) (keepers : KeeperState) (link : LinkShown) → IsConsistentCore tells keepers.told core
+    → CanPost tells core.settings (posting (scene core.fleet keepers link) core.mail core.states)
+core_can_post tells core keepers link of = record { consistent = of.consistent; inboxes = of.mail; states = of.up }
 
 -- ---- a session is opened
 

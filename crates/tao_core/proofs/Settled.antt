@@ -30,6 +30,7 @@ use Rattle.follower_cache.specs.Seen.{FollowerState}
 use Rattle.graph_model.specs.Told.{WhereTold}
 use Rattle.replies.specs.declared.refusals.UnsettledWhy.TheVariants as why
 use Rattle.tao_base.specs.EdgeTypes.{InversesMatch}
+use Rattle.tao_keeper.proofs.Later.{keeps_trans, later_trans}
 use Rattle.tao_keeper.specs.KeeperState.{IsLater, KeeperState, KeepsTables}
 use Rattle.tao_keeper.specs.Table.{Tables}
 use Rattle.tao_link.specs.Shown.{LinkShown}
@@ -95,15 +96,6 @@ module _ (tells : Bool) (s : Settings) (shard : ℕ) (old new : Posting) where
   repaired_same (Err failed) is = not_repaired_same failed is
 
 -- ---- settles
-
-later_on : (a b c : KeeperState) → IsLater a b → IsLater b c → IsLater a c
-later_on a b c one two = record {
-  calls = (let p = one.calls in let q = two.calls in omega arith);
-  faults = (let p = one.faults in let q = two.faults in omega arith);
-}
-
-keeps_on : (tells : Bool) (a b c : KeeperState) → KeepsTables tells a b → KeepsTables tells b c → KeepsTables tells a c
-keeps_on tells a b c one two told at = two told at ∙ one told at
 
 -- a cause is one from an earlier moment on too
 cause_before : (s : Settings) (ran mid now : KeeperState) (to last : LinkShown) (given : SettleStop) → IsLater ran mid
@@ -175,7 +167,7 @@ module _ (tells : Bool) (core seen : CoreState) (own : core ≡ seen) (before ra
           (subst (GoesOn core.fleet) (sym fleet_is) goes) mid_grows.logs;
       on = subst (StaysHeld core.fleet) (sym fleet_is) ran_along.on;
       grows = mid_grows;
-      later = later_on before ran mid later read_later;
+      later = later_trans before ran mid later read_later;
     }
 
     pub stops_at_lengths : (given : SettleStop) → StopsLengths core.settings ran mid given
@@ -209,7 +201,7 @@ module _ (tells : Bool) (core seen : CoreState) (own : core ≡ seen) (before ra
                 held.goes ends.logs;
             on = held;
             grows = ends;
-            later = later_on before mid now (later_on before ran mid later read_later) reads.keepers;
+            later = later_trans before mid now (later_trans before ran mid later read_later) reads.keepers;
           }
 
       pub stops_at_node : (given : SettleStop) → StopsCatchUp core.settings (outside mid to) (outside now last) given
@@ -217,7 +209,7 @@ module _ (tells : Bool) (core seen : CoreState) (own : core ≡ seen) (before ra
       stops_at_node given stops = leaves_so (IsUnsettled tells given) now last next mail (inr (inr (record {
         ran = moment (left_core core fleet mail) ran to;
         jobs = has_run;
-        asked = keeps_on tells ran mid now tables reads.tables;
+        asked = keeps_trans tells ran mid now tables reads.tables;
         stops = cause_before core.settings ran mid now to last given read_later stops;
         on = on_from;
         rest = refl;
@@ -225,7 +217,7 @@ module _ (tells : Bool) (core seen : CoreState) (own : core ≡ seen) (before ra
 
       -- what is so of the tables once jobs were run is so at the end
       at_the_end : (P : Tables → Type 0) → tells ≡ true → P ran.told → P now.told
-      at_the_end P told is = so_before P now.told ran.told (λ at. sym (keeps_on tells ran mid now tables reads.tables told at)) is
+      at_the_end P told is = so_before P now.told ran.told (λ at. sym (keeps_trans tells ran mid now tables reads.tables told at)) is
 
       -- it came to its end
       pub settles_core : (logs : List ℕ) (left : Inboxes) → WhereTold tells (logs ≡ log_lengths core.settings mid.told) → AreEmpty left
@@ -236,8 +228,8 @@ module _ (tells : Bool) (core seen : CoreState) (own : core ≡ seen) (before ra
         ran = moment (left_core core fleet mail) ran to;
         jobs = has_run;
         reads = record {
-          tables = keeps_on tells ran mid now tables reads.tables;
-          keepers = later_on ran mid now read_later reads.keepers;
+          tables = keeps_trans tells ran mid now tables reads.tables;
+          keepers = later_trans ran mid now read_later reads.keepers;
           link = reads.link;
         };
         on = on_from;

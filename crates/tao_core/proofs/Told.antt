@@ -1,16 +1,14 @@
 -- What sessions were told of: each key has come to their floors, and stays there while logs grow.
-use Rattle.std.proofs.Common.{◌≡◌, ◌≤◌, ℕ, Bool, true, List, [], ◌∷◌, refl, arith}
+use Rattle.std.proofs.Common.{ℕ, Bool, List, [], ◌∷◌, arith}
 use Rattle.std.specs.Prelude.{All}
 use Rattle.std.specs.List.{AllByRecursion}
 use Rattle.std.proofs.lemmas.List.Elements.{All-from_recursion, recursion_from_All}
-use Rattle.core_model.specs.Pens.{AreFirstNotes, Pens, Rise, no_view}
-use Rattle.core_model.specs.Stores.{master_log, master_store}
+use Rattle.core_model.specs.Pens.{AreFirstNotes, Pens, Rise}
+use Rattle.core_plans.proofs.Missing.{version_later}
 use Rattle.core_sessions.specs.Sessions.{Session}
-use Rattle.graph_model.specs.Log.{version}
-use Rattle.shard_log.proofs.GrowthLemmas.{grows-trans, versions_stay}
+use Rattle.shard_log.proofs.GrowthLemmas.{grows-trans}
 use Rattle.shard_log.specs.View.{View}
 use Rattle.tao_base.specs.Keys.{key_shard}
-use Rattle.tao_base.specs.declared.id.Key.{Key}
 use Rattle.tao_keeper.specs.Growing.{LogsGrow}
 use Rattle.tao_keeper.specs.Table.{Tables}
 use Rattle.topology.specs.Config.{Settings}
@@ -20,14 +18,6 @@ use Rattle.tao_core.specs.Core.{IsSessionOf}
 all_then : {X : Type 0} (P Q : X → Type 0) (xs : List X) → ((x : X) → P x → Q x) → AllByRecursion P xs → AllByRecursion Q xs
 all_then P Q [] then all = tt
 all_then P Q (x ∷ xs) then all = (then x all.0, all_then P Q xs then all.1)
-
--- a key's version never falls
-pub version_later : (tells : Bool) (s : Settings) (old new : Tables) (key : Key) → LogsGrow tells old new → tells ≡ true
-    → version (master_log s old (key_shard key)) key ≤ version (master_log s new (key_shard key)) key
-version_later tells s old new key grows told =
-    let at = master_store s (key_shard key) in
-    versions_stay.version_rises (record no_view { entries = (old at).log }) (record no_view { entries = (new at).log }) key
-    (record { log_is = refl; begins = grows.begins told at })
 
 pub notes_later : (pens later : Pens) (count : ℕ) (notes : List View) → Rise pens later → AreFirstNotes pens count notes → AreFirstNotes later count notes
 notes_later pens later count notes rise are = record {
@@ -40,7 +30,7 @@ pub session_later : (tells : Bool) (s : Settings) (old new : Tables) (pens later
 session_later tells s old new pens later session grows rise is = record {
   region = is.region;
   notes = notes_later pens later s.shards session.notes rise is.notes;
-  floors = λ told key. let le = is.floors told key in let rises = version_later tells s old new key grows told in omega (arith, le, rises);
+  floors = λ told key. let le = is.floors told key in let rises = version_later tells s old new key (key_shard key) grows told in omega (arith, le, rises);
 }
 
 -- so it is of all sessions

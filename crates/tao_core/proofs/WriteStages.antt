@@ -8,12 +8,13 @@ use Rattle.core_plans.specs.declared.held.HeldPlan.TheVariants.{Write}
 use Rattle.core_plans.specs.LedBy.{led_by}
 use Rattle.core_steps.specs.OtherEnds.{EndsOver, JobWay, MergesOver, job_way}
 use Rattle.core_steps.specs.Posting.{Posting}
+use Rattle.hop_count.specs.Hops.{hops_after}
 use Rattle.node_name.specs.declared.NodeName.{NodeName}
 use Rattle.replies.specs.declared.reply.Reply.{Reply}
 use Rattle.shard_tables.specs.declared.writes.Wrote.{Wrote}
 use Rattle.tao_keeper.specs.declared.jobs.Job.{Job}
 use Rattle.topology.specs.Config.{Settings}
-use Rattle.write_plan.specs.Plans.{Writing, after_stage, back_stage, job_stage, next_of, stage_from as stage_by}
+use Rattle.write_plan.specs.Plans.{Writing, after_stage, back_stage, job_stage, next_of, stage_from as stage_by, written_there}
 use Rattle.write_plan.specs.Stages.{told_stage}
 use Rattle.write_plan.specs.declared.committed.Committed.{Committed}
 use Rattle.write_plan.specs.declared.progress.OtherEnd.{OtherEnd}
@@ -35,35 +36,24 @@ pub record KeepsAnswer (p q : Writing) : Type 0 where
   pub back : q.back ≡ p.back
 
 module _ (tells : Bool) (s : Settings) (old new : Posting) (p q : Writing) (hops : ℕ) where
+  -- it changes how far the job has come, what was written at the other end, and the carries
+  keeps_answer : (job : OtherEnd) (other : Option Wrote) (count : ℕ) → q ≡ record p { job = job; other = other; hops = count } → KeepsAnswer p q
+  keeps_answer job other count is = record {
+    origin = ap (λ (x : Writing). x.origin) is;
+    refused = ap (λ (x : Writing). x.refused) is;
+    committed = ap (λ (x : Writing). x.committed) is;
+    back = ap (λ (x : Writing). x.back) is;
+  }
+
   merged_keeps : (way : JobWay) (result : Result Wrote Late) → MergesOver tells s way result old new → q ≡ after_stage p (came.Inverse result) hops
       → KeepsAnswer p q
-  merged_keeps way (Ok wrote) merges is = record {
-    origin = ap (λ (x : Writing). x.origin) is;
-    refused = ap (λ (x : Writing). x.refused) is;
-    committed = ap (λ (x : Writing). x.committed) is;
-    back = ap (λ (x : Writing). x.back) is;
-  }
-  merged_keeps way (Err (Scheduled why wrote)) merges is = record {
-    origin = ap (λ (x : Writing). x.origin) is;
-    refused = ap (λ (x : Writing). x.refused) is;
-    committed = ap (λ (x : Writing). x.committed) is;
-    back = ap (λ (x : Writing). x.back) is;
-  }
+  merged_keeps way (Ok wrote) merges is = keeps_answer Merged (written_there p.other (Some wrote)) (hops_after p.hops hops) is
+  merged_keeps way (Err (Scheduled why wrote)) merges is = keeps_answer (Open why) (written_there p.other wrote) (hops_after p.hops hops) is
   merged_keeps way (Err (Refused reply)) merges is = absurd merges
 
   ended_keeps : (j : ShardJob) (result : Result ⊤ Late) → EndsOver tells s j result old new → q ≡ after_stage p (came.End result) hops → KeepsAnswer p q
-  ended_keeps j (Ok done) ends is = record {
-    origin = ap (λ (x : Writing). x.origin) is;
-    refused = ap (λ (x : Writing). x.refused) is;
-    committed = ap (λ (x : Writing). x.committed) is;
-    back = ap (λ (x : Writing). x.back) is;
-  }
-  ended_keeps j (Err (Scheduled why wrote)) ends is = record {
-    origin = ap (λ (x : Writing). x.origin) is;
-    refused = ap (λ (x : Writing). x.refused) is;
-    committed = ap (λ (x : Writing). x.committed) is;
-    back = ap (λ (x : Writing). x.back) is;
-  }
+  ended_keeps j (Ok done) ends is = keeps_answer Ended p.other (hops_after p.hops hops) is
+  ended_keeps j (Err (Scheduled why wrote)) ends is = keeps_answer (Open why) (written_there p.other wrote) (hops_after p.hops hops) is
   ended_keeps j (Err (Refused reply)) ends is = absurd ends
 
 -- what a commit answered whose job it is

@@ -28,6 +28,7 @@ use Rattle.tao_base.specs.Writes.{write_shard}
 use Rattle.tao_base.specs.declared.entry.Origin.{Origin}
 use Rattle.tao_base.specs.declared.entry.Origin.TheVariants.{Client}
 use Rattle.tao_keeper.specs.Growing.{LogsGrow}
+use Rattle.tao_keeper.proofs.Later.{later_self}
 use Rattle.tao_keeper.specs.KeeperState.{IsLater, KeeperState}
 use Rattle.tao_keeper.specs.Table.{Tables}
 use Rattle.tao_link.specs.Shown.{LinkShown}
@@ -37,7 +38,7 @@ use Rattle.tao_core.specs.Core.{CoreState, IsConsistentCore, IsSessionOf, Leaves
 use Rattle.tao_core.specs.HeldCalls.{MayLearnBoth}
 use Rattle.tao_core.proofs.Found.{FoundAt, found_at, session_is}
 use Rattle.tao_core.proofs.Going.{answers_write}
-use Rattle.tao_core.proofs.HeldOn.{same_held, same_later}
+use Rattle.tao_core.proofs.HeldOn.{same_held}
 use Rattle.tao_core.proofs.Keeping.{written_core}
 use Rattle.tao_core.proofs.LearningBoth.{AreToldOf, IsToldOf, both_ours, may_both, told_carried}
 
@@ -132,7 +133,7 @@ module _ (tells : Bool) (core now : CoreState) (own : core ≡ now) (before : Ke
           is_consistent = sessions_same tells before.told core of_core sessions same;
           on = same_held core.fleet;
           grows = stays_masters tells core.settings before before (λ told at. refl);
-          later = same_later before;
+          later = later_self before;
         };
       })
 

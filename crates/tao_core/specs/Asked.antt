@@ -80,6 +80,7 @@ plan_for plans other = Ok tt
 
 -- ---- sessions
 
+-- the session that a call names
 abbrev pub asking_session : Call → ℕ
 asking_session (call.Write write) = write.session
 asking_session (call.Read read) = read.session

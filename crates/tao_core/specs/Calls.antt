@@ -105,6 +105,7 @@ pub record ReadGoes (tells : Bool) (old : Moment) (call : CheckedRead) (reply : 
       (scene_of old) (scene_of new)
   pub reaches : KeptReaches tells old.core.settings route.follower call.query reply (scene_of new)
 
+-- a read is refused where no follower can be chosen for it, and answered along its way otherwise
 abbrev pub RepliesToRead : Bool → Moment → CheckedRead → Reply → Moment → Type 0
 RepliesToRead tells old call (Refused (Node (NoServer region))) new = FindsNoServer old call.session (query_shard call.query) region new
 RepliesToRead tells old call reply new = ReadGoes tells old call reply new
@@ -161,6 +162,7 @@ pub record WriteGoes (tells : Bool) (old : Moment) (call : CheckedWrite) (reply 
   pub writes : WritesAlong tells old.core.settings (sent_write route (client_write_of call)) outcome (posting_of old) (posting_of new)
   pub learns : LearnsOutcome call.session (write_shard call.write) outcome old.core.sessions new.core.sessions
 
+-- a write is refused where no follower can be chosen for its session, and carried along its way otherwise
 abbrev pub RepliesToWrite : Bool → Moment → CheckedWrite → Reply → Moment → Type 0
 RepliesToWrite tells old call (Refused (Node (NoServer region))) new = FindsNoServer old call.session (write_shard call.write) region new
 RepliesToWrite tells old call reply new = WriteGoes tells old call reply new

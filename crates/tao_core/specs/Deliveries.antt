@@ -19,7 +19,7 @@ use Rattle.maint_msg.specs.Maints.{SeenMaint}
 use Rattle.node_name.specs.declared.NodeName.{NodeName}
 use Rattle.node_name.specs.declared.NodeName.TheVariants as name
 use Rattle.replies.specs.declared.nodes.CacheReply.TheVariants.{Delivered, Inbox, Lost, Shown}
-use Rattle.replies.specs.declared.nodes.Delivered.{Delivered as DeliveredReply}
+use Rattle.replies.specs.declared.nodes.DeliveredReply.{DeliveredReply}
 use Rattle.replies.specs.declared.nodes.NodeReply.TheVariants.{Cache}
 use Rattle.replies.specs.declared.nodes.Shown.{Shown as ShownAs}
 use Rattle.replies.specs.declared.nodes.Shown.TheVariants.{Nothing, Held}
@@ -100,6 +100,7 @@ abbrev pub shown_content : Content → ShownItem
 shown_content (content.Object found) = shown.Object found
 shown_content (content.List prefix) = shown.List prefix.edges prefix.total
 
+-- what is shown of a place: its item with its version, or that none is held
 abbrev pub shown_item : Option Item → ShownAs
 shown_item None = Nothing
 shown_item (Some item) = Held item.version (shown_content item.content)
@@ -118,6 +119,7 @@ pub record IsShown (tells : Bool) (node : NodeName) (key : Key) (mark : ℕ) (it
   pub exact : IsExactNow tells now.core now.keepers key found
   pub mark_is : IsMarkAt now.core.fleet node (key_shard key) (Some mark)
 
+-- what the reply to a show says: what the node holds at the key, unless memory was wanting
 abbrev pub AnswersShow : Bool → NodeName → Key → Moment → Reply → Type 0
 AnswersShow tells node key now (Node (Cache (Shown mark item))) = IsShown tells node key mark item now
 AnswersShow tells node key now (Refused (Memory position)) = position ≡ 0
@@ -152,6 +154,7 @@ pub record HasNoRefill (node : NodeName) (told : NodeName) (old new : Moment) : 
   pub none : ChangesNode node (TakesRefill None) old.core.fleet.followers new.core.fleet.followers
   pub same : new ≡ old
 
+-- what the reply to a refill says: how the follower's oldest one was read, or that none waits
 abbrev pub AnswersRefill : Bool → NodeName → Moment → Reply → Moment → Type 0
 AnswersRefill tells node old (Refused (OfNode (NoRefill told))) new = HasNoRefill node told old new
 AnswersRefill tells node old reply new = RefillGoes tells node old reply new

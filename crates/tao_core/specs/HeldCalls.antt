@@ -110,6 +110,7 @@ pub record MayLearnOf (p : Writing) (passes : List SeenPass) : Type 0 where
   pub room : HasRoomFor (of.Write p) passes
   pub told : MayLearnBoth (told_of_write p) (author p.origin) (sessions_of passes)
 
+-- so it is of the session of a held plan; a read teaches nothing
 abbrev pub MayLearn : HeldPlan → List SeenPass → Type 0
 MayLearn (of.Read p) passes = ⊤
 MayLearn (of.Write p) passes = MayLearnOf p passes
@@ -175,15 +176,18 @@ pub record StepsAt (tells : Bool) (asked : PlanWord) (number : ℕ) (old : Momen
 
 -- ---- advance
 
+-- what the reply to `advance` says: the plan did the stage that follows
 abbrev pub AnswersAdvance : Bool → ℕ → Moment → Reply → Moment → Type 0
 AnswersAdvance tells number old reply new = StepsAt tells word.Advance number old reply new
 
 -- ---- hold
 
+-- the session of a call
 abbrev pub call_session : CheckedCall → ℕ
 call_session (call.Write write) = write.session
 call_session (call.Read read) = read.session
 
+-- the shard of what a call writes or asks
 abbrev pub call_shard : CheckedCall → ℕ
 call_shard (call.Write write) = write_shard write.write
 call_shard (call.Read read) = query_shard read.query
@@ -215,6 +219,7 @@ pub record HoldsNone (position : ℕ) (old new : Moment) : Type 0 where
   pub position_is : position ≡ 0
   pub same : new ≡ old
 
+-- what the reply to `hold` says: no follower could be chosen, memory was wanting for the plan, or it did its first stage
 abbrev pub AnswersHold : Bool → ℕ → CheckedCall → Moment → Reply → Moment → Type 0
 AnswersHold tells number asked old (Refused (Node (NoServer region))) new = FindsNoServer old (call_session asked) (call_shard asked) region new
 AnswersHold tells number asked old (Refused (Memory position)) new =

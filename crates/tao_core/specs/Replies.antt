@@ -48,7 +48,7 @@ use Rattle.tao_core.specs.Settling.{AnswersRepair, AnswersSettle}
 -- ---- refusals
 
 -- a call of a keeper failed: the count that the reply tells rose, and no table changed
-pub record Fails (tells : Bool) (old new : KeeperState) (count : ℕ) : Type 0 where
+pub record KeeperFails (tells : Bool) (old new : KeeperState) (count : ℕ) : Type 0 where
   pub count_is : count ≡ new.faults
   pub rose : Rose old.faults new.faults
   pub tables : KeepsTables tells old new
@@ -76,7 +76,7 @@ log_for s keepers asked = master_log s keepers.told (key_shard (query_key asked)
 
 -- a read is refused by a fault that came now, and in no other way
 abbrev pub AuditRefused : Bool → KeeperState → StoreRefused → KeeperState → Type 0
-AuditRefused tells old (KeeperFault count) new = Fails tells old new count
+AuditRefused tells old (KeeperFault count) new = KeeperFails tells old new count
 AuditRefused tells old refused new = ⊥
 
 -- what the reply to an audit says
@@ -113,8 +113,8 @@ abbrev pub KeepsRest : Moment → Moment → Type 0
 KeepsRest old new = new ≡ record old { core = record old.core { sessions = new.core.sessions } }
 
 -- nothing changed but the core's nodes and their messages
-abbrev pub ChangesNodes : Moment → Moment → Type 0
-ChangesNodes old new = new ≡ record old { core = record old.core { fleet = new.core.fleet; mail = new.core.mail } }
+abbrev pub OnlyNodesChange : Moment → Moment → Type 0
+OnlyNodesChange old new = new ≡ record old { core = record old.core { fleet = new.core.fleet; mail = new.core.mail } }
 
 -- what the reply to what is asked says
 abbrev pub AnswersAsked : Bool → Moment → Result Checked Refusal → Reply → Moment → Type 0
@@ -125,9 +125,9 @@ AnswersAsked tells old (Ok (checked.Call (checked_call.Write call))) reply new =
 AnswersAsked tells old (Ok (checked.Call (checked_call.Read call))) reply new = AnswersRead tells old call reply new
 AnswersAsked tells old (Ok (checked.Hold plan call)) reply new = AnswersHold tells plan call old reply new
 AnswersAsked tells old (Ok (checked.Advance plan)) reply new = AnswersAdvance tells plan old reply new
-AnswersAsked tells old (Ok (checked.Deliver node message)) reply new = AnswersDeliver node message old.core reply new.core × ChangesNodes old new
-AnswersAsked tells old (Ok (checked.Again node message)) reply new = AnswersSecond node message old.core reply new.core × ChangesNodes old new
-AnswersAsked tells old (Ok (checked.Drop node message)) reply new = AnswersLoss node message old.core reply new.core × ChangesNodes old new
+AnswersAsked tells old (Ok (checked.Deliver node message)) reply new = AnswersDeliver node message old.core reply new.core × OnlyNodesChange old new
+AnswersAsked tells old (Ok (checked.Again node message)) reply new = AnswersSecond node message old.core reply new.core × OnlyNodesChange old new
+AnswersAsked tells old (Ok (checked.Drop node message)) reply new = AnswersLoss node message old.core reply new.core × OnlyNodesChange old new
 AnswersAsked tells old (Ok (checked.Refill node)) reply new = AnswersRefill tells node old reply new × KeepsTables tells old.keepers new.keepers
     × (new.core ≡ record old.core { fleet = new.core.fleet })
 AnswersAsked tells old (Ok (checked.Show node key)) reply new = AnswersShow tells node key old reply × (new ≡ old)

@@ -1,5 +1,4 @@
 //! Audits.
-ghost use Rattle.std.specs.Prelude.{◌≡◌};
 ghost use Rattle.tao_core.specs.Replies.{AnswersAudit};
 ghost use Rattle.tao_keeper.specs.KeeperState.{IsLater, KeepsTables};
 
@@ -9,7 +8,7 @@ use core_steps::out_of_memory;
 use plain_graph::answer;
 use replies::Reply;
 use request_check::CheckedRead;
-use shard_tables::log_of;
+use shard_tables::whole_log;
 use std::alloc::Global;
 use tao_base::OutOfMemory;
 use tao_keeper::Keeper;
@@ -28,7 +27,7 @@ pub(crate) fn audit<K: Keeper>(
     ensures later { IsLater (K.state keepers.old) (K.state keepers.new) }
 {
     let at = master_store(config, call.query.shard());
-    let log = match log_of(alloc, keepers, at) {
+    let log = match whole_log(alloc, keepers, at) {
         Ok(log) => log,
         Err(fail) => return failed_as(fail, keepers.faults()),
     };

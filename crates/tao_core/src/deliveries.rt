@@ -23,7 +23,7 @@ use core_steps::{Route, out_of_memory, read_along, refilled_as};
 use follower_cache::Refill;
 use maint_msg::Maint;
 use node_name::NodeName;
-use replies::{CacheReply, Delivered, Message, NodeReply, Reply, Shown, ShownItem};
+use replies::{CacheReply, DeliveredReply, Message, NodeReply, Reply, Shown, ShownItem};
 use sealed_item::Content;
 use std::alloc::Global;
 use tao_base::{Edges, Key, OutOfMemory};
@@ -111,7 +111,7 @@ impl<'c> Core<'c> {
         let message_told = told(&message);
         let dropped = self.fleet.deliver(self.config, node, message);
         match self.fleet.mark(node, message_told.shard) {
-            Some(mark) => Reply::Node(NodeReply::Cache(CacheReply::Delivered(Delivered {
+            Some(mark) => Reply::Node(NodeReply::Cache(CacheReply::Delivered(DeliveredReply {
                 word,
                 dropped,
                 mark,

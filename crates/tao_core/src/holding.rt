@@ -1,18 +1,15 @@
 //! Calls that are held, and go stage by stage.
 ghost use Rattle.std.specs.Prelude.{◌≡◌, IfOk, IfSome, IsSome, IsSomeAnd, IsTrue, None, OnErr, OnOk, Some, option_and_then, true};
-ghost use Rattle.core_mail.specs.Inboxes.{AreInboxesOf};
-ghost use Rattle.core_model.specs.Consistent.{IsConsistent};
-ghost use Rattle.core_model.specs.Pens.{pens_of};
 ghost use Rattle.core_plans.specs.Held.{CanStep, IsOver, IsUnderWay, OpensFirst, StepsPlan, learner, next_stage, plan_at, told_with};
 ghost use Rattle.core_plans.specs.LedBy.{led_by};
 ghost use Rattle.core_sessions.specs.Sessions.{HasRoomForBoth, Session, is_open, opening_of, session_at, sessions_of};
 ghost use Rattle.core_steps.specs.Routes.{scene};
-ghost use Rattle.core_steps.specs.Posting.{PostsOn, posting};
+ghost use Rattle.core_steps.specs.Posting.{CanPost, PostsOn, posting};
 ghost use Rattle.tao_core.specs.Asked.{CallCanBeDone};
 ghost use Rattle.tao_core.specs.Core.{IsCoreOf, IsOfSession, StaysUsable, author, moment};
 ghost use Rattle.tao_core.specs.HeldCalls.{AnswersHold, EndsPlan, HasRoomFor, IsOfRegion, LearnsOf, MayLearn, StepsAt};
 ghost use Rattle.tao_core.specs.HeldCalls.{begun_plan, call_floor, call_session, call_shard, held_seen, learns_of, next_at, plan_leader, told_with_number};
-ghost use Rattle.topology.specs.States.{all_up, is_cache};
+ghost use Rattle.topology.specs.States.{is_cache};
 
 use crate::refusals::no_server;
 use crate::serving::{Core, client_of};
@@ -222,9 +219,7 @@ fn step_or_give_up<K: Keeper, L: Link>(
     leader: NodeName,
     number: u32,
 )
-    requires consistent { IsConsistent K.TELLS config.now (K.state keepers.old).told fleet.old }
-    requires inboxes { AreInboxesOf config.now (pens_of fleet.old.masters) mail.old }
-    requires states { topology.now ≡ all_up config.now }
+    requires ready { CanPost K.TELLS config.now (posting (scene fleet.old (K.state keepers.old) (L.shown link.old)) mail.old topology.now) }
     requires can { CanStep K.TELLS config.now (K.state keepers.old).told fleet.old leader (plan_at plans.old number) }
     requires author { IfSome (plan_at plans.old number) (IsOfSession (sessions_of sessions.old)) }
     requires begun { IfSome (plan_at plans.old number) OpensFirst }

@@ -1,5 +1,6 @@
 -- The first line of a run: taken as its configuration, or refused.
 use Rattle.std.proofs.Common.{◌≡◌, ℕ, Bool, List, [], ◌∷◌, length, Option, Result, Ok, Err, OnErr, inl, inr, refl, sym, subst, codes, arith}
+use Rattle.tao_keeper.proofs.Later.{later_self}
 use Rattle.tao_keeper.specs.KeeperState.{KeeperState, IsLater}
 use Rattle.std.proofs.lemmas.List.{take_all}
 use Rattle.std.specs.Io.KnownBytes.{Appends}
@@ -19,7 +20,7 @@ use Rattle.tao_top.specs.Begun.{BegunInPart, EndsAtFirst, GivesOne, RefusesFirst
 use Rattle.core_nodes.specs.Repairs.{Outside, outside}
 use Rattle.tao_top.specs.Served.{AppendsPart, AreLines, EndsInPart, OpensInPart, RefusesConfiguration, Served, StopsOpening, refusal_line, serves}
 use Rattle.tao_top.specs.Served.{start, streams, traces}
-use Rattle.tao_top.specs.Step.{State, ended, Configures, Replies, Step, line_of, serving}
+use Rattle.tao_top.specs.Step.{State, ended, Configures, Replies, Step, reply_line, serving}
 use Rattle.topology.specs.Config.{Settings}
 
 -- what was written whole is a front of itself
@@ -30,13 +31,10 @@ whole_part before after bytes written = (length bytes, subst (Appends before aft
 abbrev pub refusing : Outside → State
 refusing now = record { stage = ended; outside = now }
 
-is_later : (keepers : KeeperState) → IsLater keepers keepers
-is_later keepers = record { calls = omega arith; faults = omega arith }
-
 -- a line that is no configuration is refused
 no_step : (tells : Bool) (around : Outside) (line field : List ℕ) → config_in line ≡ Err (BadConfig field)
     → Step tells (start around) line (BadConfiguration field) (refusing around)
-no_step tells around line field is = record { does = inl (record { refused = is; same = refl }); later = is_later around.keepers }
+no_step tells around line field is = record { does = inl (record { refused = is; same = refl }); later = later_self around.keepers }
 
 -- ---- the reading of the first line
 
@@ -115,12 +113,12 @@ module _ (tells : Bool) (old now : Outside) (line : List ℕ) (s : Settings) (co
 
   module _ (before after : Option (List ℕ)) where
     pub begins : (core : CoreState) → core.settings ≡ s → IsNewCore core → IsCoreOf tells now.keepers.told core
-        → WhereTold tells (IsOpened s line old.keepers.told now.keepers.told) → Appends before after (line_of (serving core) Configured)
+        → WhereTold tells (IsOpened s line old.keepers.told now.keepers.told) → Appends before after (reply_line (serving core) Configured)
         → Replies tells (start old) line (serves core now) (Appends before after)
     begins core is begun of_core opened written = (Configured, takes core is begun of_core opened, written)
 
     pub begun_silent : (core : CoreState) → core.settings ≡ s → IsNewCore core → IsCoreOf tells now.keepers.told core
-        → WhereTold tells (IsOpened s line old.keepers.told now.keepers.told) → AppendsPart before after (line_of (serving core) Configured)
+        → WhereTold tells (IsOpened s line old.keepers.told now.keepers.told) → AppendsPart before after (reply_line (serving core) Configured)
         → (code : ℕ) → BegunInPart code tells (traces old before) (traces now after) line
     begun_silent core is begun of_core opened written code =
         inr (serves core now, (Configured, takes core is begun of_core opened, written), still_refl tells now (serves core now) refl)
@@ -145,7 +143,7 @@ module _ (tells : Bool) (old now : Outside) (line : List ℕ) (s : Settings) (co
 pub begun_whatever : (tells : Bool) (old now : KeeperState) (line : List ℕ) (s : Settings) (configured : config_in line ≡ Ok s) (later : IsLater old now)
     (before after : Option (List ℕ)) (core : CoreState)
     → core.settings ≡ s → IsNewCore core → IsCoreOf tells now.told core → WhereTold tells (IsOpened s line old.told now.told)
-    → AppendsPart before after (line_of (serving core) Configured)
+    → AppendsPart before after (reply_line (serving core) Configured)
     → (code : ℕ) (link : LinkShown) → BegunInPart code tells (traces (outside old link) before) (traces (outside now link) after) line
 begun_whatever tells old now line s configured later before after core is begun of_core opened written code link =
     begun_silent tells (outside old link) (outside now link) line s configured later refl before after core is begun of_core opened written code

@@ -9,23 +9,24 @@ use Rattle.tao_io.proofs.GivenLines.{GivesLines-nil, GivesLines-trans}
 use Rattle.tao_io.specs.Lines.{lines_of, GivesLines}
 use Rattle.core_nodes.specs.Repairs.{Outside}
 use Rattle.tao_top.specs.Served.{AreLines, LinesBegin, AppendsPart, IsStill, Served, ServedAll, ServedInPart, joined, streams}
-use Rattle.tao_top.specs.Step.{State, Replies, Run, line_of}
+use Rattle.tao_top.specs.Step.{State, Replies, RunsLines, reply_line}
 
 -- ---- the parts of a run
 
-pub Run-append : (tells : Bool) (a b c : State) (ls ms ts us : List (List ℕ)) → Run tells a ls ts b → Run tells b ms us c → Run tells a (ls ++ ms) (ts ++ us) c
-Run-append tells a b c [] ms [] us first second = subst (λ s. Run tells s ms us c) first second
-Run-append tells a b c [] ms (t ∷ ts) us first second = absurd first
-Run-append tells a b c (l ∷ ls) ms [] us first second = absurd first
-Run-append tells a b c (l ∷ ls) ms (t ∷ ts) us first second = (first.0, first.1, Run-append tells first.0 b c ls ms ts us first.2 second)
+pub RunsLines-append : (tells : Bool) (a b c : State) (ls ms ts us : List (List ℕ)) → RunsLines tells a ls ts b → RunsLines tells b ms us c
+    → RunsLines tells a (ls ++ ms) (ts ++ us) c
+RunsLines-append tells a b c [] ms [] us first second = subst (λ s. RunsLines tells s ms us c) first second
+RunsLines-append tells a b c [] ms (t ∷ ts) us first second = absurd first
+RunsLines-append tells a b c (l ∷ ls) ms [] us first second = absurd first
+RunsLines-append tells a b c (l ∷ ls) ms (t ∷ ts) us first second = (first.0, first.1, RunsLines-append tells first.0 b c ls ms ts us first.2 second)
 
 -- the text of a line's reply
 abbrev text_of : (tells : Bool) (a b : State) (line : List ℕ) (Writes : List ℕ → Type 0) → Replies tells a line b Writes → List ℕ
-text_of tells a b line Writes replied = line_of b.stage replied.0
+text_of tells a b line Writes replied = reply_line b.stage replied.0
 
-Run-one : (tells : Bool) (a b : State) (line : List ℕ) (Writes : List ℕ → Type 0) (replied : Replies tells a line b Writes)
-    → Run tells a (line ∷ []) (text_of tells a b line Writes replied ∷ []) b
-Run-one tells a b line Writes replied = (b, (replied.0, replied.1, refl), refl)
+RunsLines-one : (tells : Bool) (a b : State) (line : List ℕ) (Writes : List ℕ → Type 0) (replied : Replies tells a line b Writes)
+    → RunsLines tells a (line ∷ []) (text_of tells a b line Writes replied ∷ []) b
+RunsLines-one tells a b line Writes replied = (b, (replied.0, replied.1, refl), refl)
 
 joined-append : (ts us : List (List ℕ)) → joined (ts ++ us) ≡ joined ts ++ joined us
 joined-append ts us = flat_map-append (λ t. t) ts us
@@ -72,7 +73,7 @@ module _ (tells : Bool) where
     lines = p.lines ++ q.lines;
     texts = p.texts ++ q.texts;
     read = GivesLines-trans left rest last p.lines q.lines p.read q.read;
-    run = Run-append tells a b c p.lines q.lines p.texts q.texts p.run q.run;
+    run = RunsLines-append tells a b c p.lines q.lines p.texts q.texts p.run q.run;
     written = subst (Appends before after) (sym (joined-append p.texts q.texts)) (Appends-trans before mid after _ _ p.written q.written);
   }
 
@@ -83,7 +84,7 @@ module _ (tells : Bool) where
     lines = line ∷ [];
     texts = text_of tells a b line (Appends before after) replied ∷ [];
     read = read;
-    run = Run-one tells a b line (Appends before after) replied;
+    run = RunsLines-one tells a b line (Appends before after) replied;
     written = subst (Appends before after) (sym (joined-one (text_of tells a b line (Appends before after) replied))) replied.2;
   }
 
@@ -103,7 +104,7 @@ module _ (tells : Bool) where
     lines = p.lines ++ q.lines;
     texts = p.texts ++ q.texts;
     read = AreLines-after left rest p.lines q.lines p.read q.read;
-    run = Run-append tells a b c p.lines q.lines p.texts q.texts p.run q.run;
+    run = RunsLines-append tells a b c p.lines q.lines p.texts q.texts p.run q.run;
     written = subst (Appends before after) (sym (joined-append p.texts q.texts)) (Appends-trans before mid after _ _ p.written q.written);
   }
 
@@ -140,7 +141,7 @@ module _ (tells : Bool) where
     lines = line ∷ [];
     texts = text_of tells s last line (AppendsPart before after) replied ∷ [];
     read = GivesLines-begin left rest (line ∷ []) read;
-    run = Run-one tells s last line (AppendsPart before after) replied;
+    run = RunsLines-one tells s last line (AppendsPart before after) replied;
     written = subst (AppendsPart before after) (sym (joined-one (text_of tells s last line (AppendsPart before after) replied))) replied.2;
     still = still;
   }
@@ -152,7 +153,7 @@ module _ (tells : Bool) where
     lines = p.lines ++ q.lines;
     texts = p.texts ++ q.texts;
     read = LinesBegin-after left rest p.lines q.lines p.read q.read;
-    run = Run-append tells a b q.last p.lines q.lines p.texts q.texts p.run q.run;
+    run = RunsLines-append tells a b q.last p.lines q.lines p.texts q.texts p.run q.run;
     written =
         let texts = joined p.texts in
         let size = q.written.0 in

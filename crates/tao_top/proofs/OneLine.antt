@@ -22,7 +22,7 @@ use Rattle.tao_top.specs.Begun.{RepliesInPart}
 use Rattle.core_nodes.specs.Repairs.{Outside}
 use Rattle.tao_top.specs.Moments.{moment_of}
 use Rattle.tao_top.specs.Served.{AppendsPart, Served, ServedInPart, serves, streams}
-use Rattle.tao_top.specs.Step.{AnswersLine, State, Replies, Step, line_of, serving}
+use Rattle.tao_top.specs.Step.{AnswersLine, State, Replies, Step, reply_line, serving}
 
 -- what holds, holds where there was an error
 pub OnErr-any : {T E : Type 0} (result : Result T E) (P : Type 0) → P → OnErr result P
@@ -75,13 +75,13 @@ part_unread tells s left before = part_none tells s s.outside left before before
 
 pub replies_ok : {T E : Type 0} (result : Result T E) (tells : Bool) (old new : State) (line : List ℕ) (reply : Reply) (before after : Option (List ℕ))
     → Step tells old line reply new
-    → OnOk result (Appends before after (line_of new.stage reply)) → OnOk result (Replies tells old line new (Appends before after))
+    → OnOk result (Appends before after (reply_line new.stage reply)) → OnOk result (Replies tells old line new (Appends before after))
 replies_ok (Ok x) tells old new line reply before after step written = (reply, step, written)
 replies_ok (Err e) tells old new line reply before after step written = tt
 
 pub replies_err : {T E : Type 0} (result : Result T E) (tells : Bool) (old new : State) (line : List ℕ) (reply : Reply) (before after : Option (List ℕ))
     → Step tells old line reply new
-    → OnErr result (AppendsPart before after (line_of new.stage reply)) → OnErr result (RepliesInPart tells old line new before after)
+    → OnErr result (AppendsPart before after (reply_line new.stage reply)) → OnErr result (RepliesInPart tells old line new before after)
 replies_err (Ok x) tells old new line reply before after step written = tt
 replies_err (Err e) tells old new line reply before after step written = inr (reply, step, written)
 
@@ -104,10 +104,11 @@ module _ (tells : Bool) (core : CoreState) (around : Outside) (left rest before 
       (subst (λ l. Replies tells (serves core around) l (serves next now) (Appends before after)) same replied)
 
   -- a line was too long
-  pub part_refused : ((whole : List ℕ) × IsTooLong whole × GivesLines left rest (whole ∷ [])) → AppendsPart before after (line_of (serving core) refused_whole)
+  pub part_refused : ((whole : List ℕ) × IsTooLong whole × GivesLines left rest (whole ∷ []))
+      → AppendsPart before after (reply_line (serving core) refused_whole)
       → ServedInPart tells (serves core around) around left before after
   part_refused long written = part_answered long.0 long.0 core around long.2 refl (inr (refused_whole, long_line tells core around long.0 long.1, written))
 
-  pub served_refused : ((whole : List ℕ) × IsTooLong whole × GivesLines left rest (whole ∷ [])) → Appends before after (line_of (serving core) refused_whole)
+  pub served_refused : ((whole : List ℕ) × IsTooLong whole × GivesLines left rest (whole ∷ [])) → Appends before after (reply_line (serving core) refused_whole)
       → Served tells (serves core around) (serves core around) (streams left before) (streams rest after)
   served_refused long written = served_answered long.0 long.0 core around long.2 refl (refused_whole, long_line tells core around long.0 long.1, written)

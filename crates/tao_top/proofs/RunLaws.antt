@@ -9,7 +9,7 @@ use Rattle.requests.specs.declared.request.Request.{Request}
 use Rattle.tao_core.specs.Core.{CoreState, IsCoreOf, Moment}
 use Rattle.tao_top.specs.Laws.{MayGoOn, MayServeAt, RunsGoOn}
 use Rattle.tao_top.specs.Moments.{moment_of}
-use Rattle.tao_top.specs.Step.{AnswersLine, Configures, Run, Stage, State, Step, StepIn, ended, serving, waiting}
+use Rattle.tao_top.specs.Step.{AnswersLine, Configures, RunsLines, RunStage, State, Step, StepIn, ended, serving, waiting}
 
 -- the first line
 configured_on : (tells : Bool) (old new : Outside) (line : List ℕ) (reply : Reply) (core : CoreState) → Configures tells old line reply (serving core) new
@@ -31,7 +31,7 @@ answered_on : (tells : Bool) (old new : Moment) (asked : Result Request LineRefu
 answered_on tells old new (Err refused) reply step may = subst (λ (m : Moment). IsCoreOf tells m.keepers.told m.core) (sym step.1) may
 answered_on tells old new (Ok request) reply step may = step.1.of_core
 
-by_stages : (tells : Bool) (a b : Stage) (old new : Outside) (line : List ℕ) (reply : Reply)
+by_stages : (tells : Bool) (a b : RunStage) (old new : Outside) (line : List ℕ) (reply : Reply)
     → StepIn tells (record { stage = a; outside = old }) line reply (record { stage = b; outside = new })
     → MayServeAt tells a old → MayServeAt tells b new
 by_stages tells a waiting old new line reply step may = tt
@@ -41,7 +41,7 @@ by_stages tells (serving core) (serving next) old new line reply step may =
     answered_on tells (moment_of core old) (moment_of next new) (request_in line) reply step may
 by_stages tells ended (serving next) old new line reply step may = absurd step
 
-goes_on : (tells : Bool) (old new : State) (lines texts : List (List ℕ)) → MayGoOn tells old → Run tells old lines texts new → MayGoOn tells new
+goes_on : (tells : Bool) (old new : State) (lines texts : List (List ℕ)) → MayGoOn tells old → RunsLines tells old lines texts new → MayGoOn tells new
 goes_on tells old new [] [] may run = subst (MayGoOn tells) (sym run) may
 goes_on tells old new (line ∷ lines) (text ∷ texts) may run =
     let mid = run.0 in

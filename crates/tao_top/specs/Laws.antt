@@ -1,11 +1,11 @@
 -- What holds at each state of a run.
 use Rattle.std.specs.Prelude.{ℕ, ⊤, Bool, List}
 use Rattle.tao_core.specs.Core.{IsCoreOf}
-use Rattle.tao_top.specs.Step.{Run, Stage, State, ended, serving, waiting}
+use Rattle.tao_top.specs.Step.{RunsLines, RunStage, State, ended, serving, waiting}
 use Rattle.core_nodes.specs.Repairs.{Outside}
 
 -- the core that serves may be used with the keepers' tables, at a stage
-abbrev pub MayServeAt : Bool → Stage → Outside → Type 0
+abbrev pub MayServeAt : Bool → RunStage → Outside → Type 0
 MayServeAt tells waiting around = ⊤
 MayServeAt tells (serving core) around = IsCoreOf tells around.keepers.told core
 MayServeAt tells ended around = ⊤
@@ -16,4 +16,4 @@ MayGoOn tells state = MayServeAt tells state.stage state.outside
 
 -- what may go on at first may go on after every line
 pub record RunsGoOn (tells : Bool) : Type 0 where
-  pub on : (old new : State) (lines texts : List (List ℕ)) → MayGoOn tells old → Run tells old lines texts new → MayGoOn tells new
+  pub on : (old new : State) (lines texts : List (List ℕ)) → MayGoOn tells old → RunsLines tells old lines texts new → MayGoOn tells new

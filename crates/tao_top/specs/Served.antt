@@ -11,7 +11,7 @@ use Rattle.tao_core.specs.Core.{CoreState}
 use Rattle.core_nodes.specs.Opening.{IsOpenedInPart}
 use Rattle.tao_io.specs.Lines.{lines_of, GivesLines}
 use Rattle.core_nodes.specs.Repairs.{Outside}
-use Rattle.tao_top.specs.Step.{State, waiting, serving, ended, Configures, Run, line_of}
+use Rattle.tao_top.specs.Step.{State, waiting, serving, ended, Configures, RunsLines, reply_line}
 use Rattle.topology.specs.Config.{Settings}
 
 -- the lines of the known bytes are these
@@ -59,7 +59,7 @@ pub record Served (tells : Bool) (old new : State) (before after : Streams) : Ty
   pub lines : List (List ℕ)
   pub texts : List (List ℕ)
   pub read : GivesLines before.left after.left lines
-  pub run : Run tells old lines texts new
+  pub run : RunsLines tells old lines texts new
   pub written : Appends before.written after.written (joined texts)
 
 -- each line of the known bytes has its reply, and the replies' texts were written, in order
@@ -67,7 +67,7 @@ pub record ServedAll (tells : Bool) (old new : State) (left before after : Optio
   pub lines : List (List ℕ)
   pub texts : List (List ℕ)
   pub read : AreLines left lines
-  pub run : Run tells old lines texts new
+  pub run : RunsLines tells old lines texts new
   pub written : Appends before after (joined texts)
 
 -- some first lines of the known bytes have their replies, of whose texts a front was written; since the last reply no table changed
@@ -76,7 +76,7 @@ pub record ServedInPart (tells : Bool) (old : State) (now : Outside) (left befor
   pub lines : List (List ℕ)
   pub texts : List (List ℕ)
   pub read : LinesBegin left lines
-  pub run : Run tells old lines texts last
+  pub run : RunsLines tells old lines texts last
   pub written : AppendsPart before after (joined texts)
   pub still : IsStill tells last now
 
@@ -91,7 +91,7 @@ pub record OpensInPart (tells : Bool) (old now : Outside) (line : List ℕ) (bef
 
 -- the line that refuses the configuration for this field
 abbrev pub refusal_line : List ℕ → List ℕ
-refusal_line field = line_of ended (BadConfiguration field)
+refusal_line field = reply_line ended (BadConfiguration field)
 
 -- the input has no line, and of the refusal of its configuration a front was written
 pub record LacksConfiguration (old now : Outside) (left before after : Option (List ℕ)) : Type 0 where

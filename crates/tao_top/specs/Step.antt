@@ -24,14 +24,14 @@ use Rattle.topology.specs.Config.{Settings}
 -- ---- states
 
 -- how far a run has come: it waits for its configuration, serves by it, or has refused it
-pub data Stage : Type 0 where
-  waiting : Stage
-  serving : CoreState → Stage
-  ended : Stage
+pub data RunStage : Type 0 where
+  waiting : RunStage
+  serving : CoreState → RunStage
+  ended : RunStage
 
 -- between two lines: the stage, and what the keepers and the link show
 pub record State : Type 0 where
-  pub stage : Stage
+  pub stage : RunStage
   pub outside : Outside
 
 -- ---- the text of a reply
@@ -41,14 +41,14 @@ abbrev pub no_settings : Settings
 no_settings = record { schema = record { objects = []; assocs = [] }; shards = 0; regions = []; masters = []; log_max = 0; cache_items = 0 }
 
 -- the settings that names are spelled by. There are none before the configuration, and no name is spelled then
-abbrev pub spelled_by : Stage → Settings
+abbrev pub spelled_by : RunStage → Settings
 spelled_by waiting = no_settings
 spelled_by (serving core) = core.settings
 spelled_by ended = no_settings
 
 -- a reply's line: its text and a line feed
-abbrev pub line_of : Stage → Reply → List ℕ
-line_of stage reply = reply_text (spelled_by stage) reply ++ 10 ∷ []
+abbrev pub reply_line : RunStage → Reply → List ℕ
+reply_line stage reply = reply_text (spelled_by stage) reply ++ 10 ∷ []
 
 -- ---- the first line
 
@@ -74,7 +74,7 @@ pub record IsAnotherLine (tells : Bool) (old : Outside) (line field : List ℕ) 
   pub link : new.link ≡ old.link
 
 -- what the reply to the first line says
-abbrev pub Configures : Bool → Outside → List ℕ → Reply → Stage → Outside → Type 0
+abbrev pub Configures : Bool → Outside → List ℕ → Reply → RunStage → Outside → Type 0
 Configures tells old line Configured (serving core) new = TakesLine tells old line core new
 Configures tells old line (BadConfiguration field) ended new = IsNoConfiguration old line field new ⊎ IsAnotherLine tells old line field new
 Configures tells old line reply stage new = ⊥
@@ -104,7 +104,7 @@ AnswersLine tells old (Ok request) reply new = AnswersRequest tells old request 
 abbrev pub StepIn : Bool → State → List ℕ → Reply → State → Type 0
 StepIn tells old line reply new = by_stage old.stage new.stage
   where
-    by_stage : Stage → Stage → Type 0
+    by_stage : RunStage → RunStage → Type 0
     by_stage waiting next = Configures tells old.outside line reply next new.outside
     by_stage (serving core) (serving next) = AnswersLine tells (moment_of core old.outside) (request_in line) reply (moment_of next new.outside)
     by_stage (serving core) waiting = ⊥
@@ -118,11 +118,11 @@ pub record Step (tells : Bool) (old : State) (line : List ℕ) (reply : Reply) (
 
 -- the line has a reply, whose text is written so
 abbrev pub Replies : Bool → State → List ℕ → State → (List ℕ → Type 0) → Type 0
-Replies tells old line new Writes = (reply : Reply) × Step tells old line reply new × Writes (line_of new.stage reply)
+Replies tells old line new Writes = (reply : Reply) × Step tells old line reply new × Writes (reply_line new.stage reply)
 
 -- each line gets one reply, one after another, with these texts
-abbrev pub Run : Bool → State → List (List ℕ) → List (List ℕ) → State → Type 0
-Run tells old [] [] new = new ≡ old
-Run tells old (line ∷ lines) (text ∷ texts) new = (mid : State) × Replies tells old line mid (λ said. text ≡ said) × Run tells mid lines texts new
-Run tells old [] (text ∷ texts) new = ⊥
-Run tells old (line ∷ lines) [] new = ⊥
+abbrev pub RunsLines : Bool → State → List (List ℕ) → List (List ℕ) → State → Type 0
+RunsLines tells old [] [] new = new ≡ old
+RunsLines tells old (line ∷ lines) (text ∷ texts) new = (mid : State) × Replies tells old line mid (λ said. text ≡ said) × RunsLines tells mid lines texts new
+RunsLines tells old [] (text ∷ texts) new = ⊥
+RunsLines tells old (line ∷ lines) [] new = ⊥

@@ -8,17 +8,20 @@ use Rattle.tao_top.specs.declared.stop.Interrupt.TheVariants as interrupt
 use Rattle.tao_top.specs.declared.stop.Stop.{Stop}
 use Rattle.tao_top.specs.declared.stop.Stop.TheVariants as stop
 
+-- how a fault of the source interrupts a run
 abbrev pub interrupt_from : ReadFault → Interrupt
 interrupt_from read.Failed = interrupt.Source
 interrupt_from read.InputTooLong = interrupt.InputTooLong
 interrupt_from read.OutOfMemory = interrupt.Memory
 
+-- the status of a run that was interrupted
 abbrev pub interrupt_code : Interrupt → ℕ
 interrupt_code interrupt.Source = 4
 interrupt_code interrupt.Sink = 5
 interrupt_code interrupt.Memory = 7
 interrupt_code interrupt.InputTooLong = 9
 
+-- the status of a run that stopped
 abbrev pub stop_code : Stop → ℕ
 stop_code stop.Configuration = 3
 stop_code stop.Keepers = 6

@@ -1,7 +1,6 @@
 //! The lines of a run after its first, each with its reply.
 ghost use Rattle.std.specs.Prelude.{◌≡◌, ◌<◌, ◌≤◌, ◌^◌, Ok, true, false, IfErr, OnOk, OnErr, IsErrOf};
 ghost use Rattle.std.specs.Io.KnownBytes.{IsAtEnd};
-ghost use Rattle.graph_model.specs.Told.{WhereTold};
 ghost use Rattle.tao_io.specs.LineReader.{may_give, to_come};
 ghost use Rattle.tao_io.specs.Lines.{CountsTaken};
 ghost use Rattle.tao_top.specs.Kept.{LeavesTables, MayServe};

@@ -11,7 +11,7 @@ ghost use Rattle.tao_top.specs.Begun.{RepliesInPart};
 ghost use Rattle.tao_top.specs.Kept.{LeavesTables, MayServe};
 ghost use Rattle.core_nodes.specs.Repairs.{outside};
 ghost use Rattle.tao_top.specs.Served.{AppendsPart, serves};
-ghost use Rattle.tao_top.specs.Step.{AnswersLine, Replies, line_of, serving};
+ghost use Rattle.tao_top.specs.Step.{AnswersLine, Replies, reply_line, serving};
 ghost use Rattle.tao_top.specs.Stop.{InterruptsWriting};
 
 use crate::lines::say;
@@ -82,8 +82,8 @@ impl<'c> Serving<'c> {
         output: &mut S,
         reply: &Reply,
     ) -> Result<(), Interrupt>
-        ensures ok { OnOk result (Appends (S.taken output.old) (S.taken output.new) (line_of (serving self.now) reply.now)) }
-        ensures err { OnErr result (AppendsPart (S.taken output.old) (S.taken output.new) (line_of (serving self.now) reply.now)) }
+        ensures ok { OnOk result (Appends (S.taken output.old) (S.taken output.new) (reply_line (serving self.now) reply.now)) }
+        ensures err { OnErr result (AppendsPart (S.taken output.old) (S.taken output.new) (reply_line (serving self.now) reply.now)) }
         ensures cause { IfErr result (InterruptsWriting (S.faults output.old) (S.faults output.new)) }
         ensures later { S.faults output.old ≤ S.faults output.new }
     {
@@ -167,9 +167,9 @@ impl<'c> Serving<'c> {
         output: &mut S,
     ) -> Result<(), Interrupt>
         ensures ok { OnOk result (Appends
-            (S.taken output.old) (S.taken output.new) (line_of (serving self.now) (Reply.Refused (Refusal.Line (LineRefused.BadLine []))))) }
+            (S.taken output.old) (S.taken output.new) (reply_line (serving self.now) (Reply.Refused (Refusal.Line (LineRefused.BadLine []))))) }
         ensures err { OnErr result (AppendsPart
-            (S.taken output.old) (S.taken output.new) (line_of (serving self.now) (Reply.Refused (Refusal.Line (LineRefused.BadLine []))))) }
+            (S.taken output.old) (S.taken output.new) (reply_line (serving self.now) (Reply.Refused (Refusal.Line (LineRefused.BadLine []))))) }
         ensures cause { IfErr result (InterruptsWriting (S.faults output.old) (S.faults output.new)) }
         ensures later { S.faults output.old ≤ S.faults output.new }
     {

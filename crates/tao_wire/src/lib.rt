@@ -4,7 +4,7 @@
 
 pub use config_json::{ConfigRefusal, read_config};
 pub use replies::{
-    CacheReply, CallReply, Delivered, InverseEnd, KeptOrNot, Lengths, LineRefused, Message,
+    CacheReply, CallReply, DeliveredReply, InverseEnd, KeptOrNot, Lengths, LineRefused, Message,
     Messages, NameRefused, NodeRefused, NodeReply, NotKept, NotKeptWhy, OpenRefusal, PlanRefused,
     PlanReply, ReadReply, Refilled, Refusal, Repaired, Reply, ScheduledWhy, SessionRefused, Shown,
     ShownItem, Stage, StoreRefused, StreamVerdict, Streamed, UnsettledWhy, When, WriteKind,
@@ -13,7 +13,7 @@ pub use replies::{
 pub use reply_json::{bad_configuration_text, reply_text};
 pub use request_json::{LineRefusal, read_request};
 pub use requests::{
-    Call, EdgeName, KeyName, LeaderName, LinkName, ListName, MessageName, Opening, QueryText,
+    Call, EdgeName, KeyName, LeaderName, LinkName, ListName, MessageName, OpenCall, QueryText,
     ReadCall, Request, WriteCall, WriteText,
 };
 pub use words::{DeliveryWord, HealthWord, LinkWord, PlanWord, ReadWord, Word, WriteWord};

@@ -1,5 +1,5 @@
 //! The configuration.
-use super::masters::Masters;
+use super::masters::MasterRegions;
 use super::regions::Regions;
 use std::marker::Model;
 use tao_schema::Schema;
@@ -21,7 +21,7 @@ pub struct Config {
     pub schema: Schema,
     pub shards: u16,
     pub regions: Regions,
-    pub masters: Masters,
+    pub masters: MasterRegions,
     pub log_max: u64,
     pub cache_items: usize,
 }

@@ -19,7 +19,7 @@ mod states;
 pub mod tiers;
 
 pub use config::Config;
-pub use masters::Masters;
+pub use masters::MasterRegions;
 pub use name::Name;
 pub use regions::{Region, Regions};
 pub use states::Topology;

@@ -9,11 +9,11 @@ pub const MAX_MASTERS: usize = 64;
 /// The places of the master regions, 1 to 64: the master of a shard is the entry at the shard modulo
 /// their number.
 #[derive(Drop)]
-pub struct Masters {
+pub struct MasterRegions {
     places: Vec<u16>,
 }
 
-impl Model for Masters {
+impl Model for MasterRegions {
     ghost use Rattle.std.specs.Prelude.{List, ℕ, IsTrue, length};
     ghost use Rattle.topology.specs.Named.{in_range};
 
@@ -24,19 +24,19 @@ impl Model for Masters {
     ghost invariant = { λ m. IsTrue (in_range 1 64 (length m.places.items)) };
 }
 
-impl Masters {
+impl MasterRegions {
     ghost use Rattle.std.specs.Prelude.{IsTrue, length};
     ghost use Rattle.std.specs.Bool.{then_some};
     ghost use Rattle.topology.specs.Named.{in_range};
 
     /// The masters of a vector, unless it is empty or too long. Takes no memory.
-    pub fn of(places: Vec<u16>) -> Option<Masters>
+    pub fn of(places: Vec<u16>) -> Option<MasterRegions>
         ensures { result ≡ then_some (in_range 1 64 (length places.items)) places.items }
     {
         if places.is_empty() || MAX_MASTERS < places.len() {
             None
         } else {
-            Some(Masters { places })
+            Some(MasterRegions { places })
         }
     }
 

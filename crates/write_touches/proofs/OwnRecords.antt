@@ -11,31 +11,20 @@ use Rattle.tao_base.specs.declared.write.Write.{Write}
 use Rattle.tao_base.specs.declared.write.Write.TheVariants.{AssocAdd, AssocDelete, AssocChangeType}
 use Rattle.graph_model.specs.Edges.{edge_record}
 use Rattle.graph_model.specs.Soundness.{EdgeUpdate}
+use Rattle.write_model.proofs.Forward.{cut_where_live, move_where_live}
 use Rattle.write_model.specs.Writes.{next_stamp, own_updates}
 use Rattle.tao_keeper.specs.Table.{Table}
 use Rattle.write_touches.specs.Edges.{cut_over, move_over, stamp_after}
 
--- what the log gives where the edge's record is this
-abbrev cut_found : List Entry → Id → AType → Id → Option EdgeState → List EdgeUpdate
-cut_found log id1 atype id2 (Some (Live time payload stamp)) = (id1, atype, id2, Cut (next_stamp log id1 atype id2)) ∷ []
-cut_found log id1 atype id2 (Some (Cut stamp)) = []
-cut_found log id1 atype id2 None = []
-
-abbrev move_found : List Entry → Id → AType → Id → AType → Option EdgeState → List EdgeUpdate
-move_found log id1 atype id2 newtype (Some (Live time payload stamp)) =
-    (id1, atype, id2, Cut (next_stamp log id1 atype id2)) ∷ (id1, newtype, id2, Live time payload (next_stamp log id1 newtype id2)) ∷ []
-move_found log id1 atype id2 newtype (Some (Cut stamp)) = []
-move_found log id1 atype id2 newtype None = []
-
 cut_same : (log : List Entry) (id1 : Id) (atype : AType) (id2 : Id) (old : Option EdgeState) → old ≡ edge_record log id1 atype id2
-    → cut_over id1 atype id2 old ≡ cut_found log id1 atype id2 old
+    → cut_over id1 atype id2 old ≡ cut_where_live log id1 atype id2 old
 cut_same log id1 atype id2 (Some (Live time payload stamp)) e = ap (λ o. (id1, atype, id2, Cut (stamp_after id1 o)) ∷ []) e
 cut_same log id1 atype id2 (Some (Cut stamp)) e = refl
 cut_same log id1 atype id2 None e = refl
 
 move_same : (log : List Entry) (id1 : Id) (atype : AType) (id2 : Id) (newtype : AType) (old there : Option EdgeState)
     → old ≡ edge_record log id1 atype id2 → there ≡ edge_record log id1 newtype id2
-    → move_over id1 atype id2 newtype old there ≡ move_found log id1 atype id2 newtype old
+    → move_over id1 atype id2 newtype old there ≡ move_where_live log id1 atype id2 newtype old
 move_same log id1 atype id2 newtype (Some (Live time payload stamp)) there e f =
     ap (λ o. (id1, atype, id2, Cut (stamp_after id1 o)) ∷ (id1, newtype, id2, Live time payload (stamp_after id1 there)) ∷ []) e
     ∙ ap (λ o. (id1, atype, id2, Cut (next_stamp log id1 atype id2)) ∷ (id1, newtype, id2, Live time payload (stamp_after id1 o)) ∷ []) f
@@ -52,7 +41,7 @@ set_is log write id1 atype id2 time payload old us is e h =
 pub cut_is : (log : List Entry) (write : Write) (id1 : Id) (atype : AType) (id2 : Id) (old : Option EdgeState) (us : List EdgeUpdate)
     → write ≡ AssocDelete id1 atype id2 → old ≡ edge_record log id1 atype id2 → us ≡ cut_over id1 atype id2 old → us ≡ own_updates log write
 cut_is log write id1 atype id2 old us is e h =
-    h ∙ cut_same log id1 atype id2 old e ∙ ap (cut_found log id1 atype id2) e ∙ ap (own_updates log) (sym is)
+    h ∙ cut_same log id1 atype id2 old e ∙ ap (cut_where_live log id1 atype id2) e ∙ ap (own_updates log) (sym is)
 
 -- the second record is asked of tables that are still the same
 pub move_is : (old_tables new_tables : Table) (write : Write) (id1 : Id) (atype : AType) (id2 : Id) (newtype : AType) (old there : Option EdgeState)
@@ -61,4 +50,4 @@ pub move_is : (old_tables new_tables : Table) (write : Write) (id1 : Id) (atype 
     → there ≡ edge_record new_tables.log id1 newtype id2 → us ≡ move_over id1 atype id2 newtype old there → us ≡ own_updates old_tables.log write
 move_is old_tables new_tables write id1 atype id2 newtype old there us is stays e f h =
     h ∙ move_same old_tables.log id1 atype id2 newtype old there e (f ∙ ap (λ t. edge_record t.log id1 newtype id2) stays)
-    ∙ ap (move_found old_tables.log id1 atype id2 newtype) e ∙ ap (own_updates old_tables.log) (sym is)
+    ∙ ap (move_where_live old_tables.log id1 atype id2 newtype) e ∙ ap (own_updates old_tables.log) (sym is)

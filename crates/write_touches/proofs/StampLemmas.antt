@@ -72,25 +72,25 @@ next_stamped us h none = record { each = All-from_recursion Small us (below us h
 abbrev had_last : List Entry → EdgeUpdate → Bool
 had_last log u = number_of (edge_record log u.0 u.1 u.2) == 4611686018427387903
 
-abbrev cut_found : List Entry → EdgeUpdate → Option EdgeState → List EdgeUpdate
-cut_found log cut (Some (Live time payload stamp)) = cut ∷ []
-cut_found log cut (Some (Cut stamp)) = []
-cut_found log cut None = []
+abbrev cut_of_live : List Entry → EdgeUpdate → Option EdgeState → List EdgeUpdate
+cut_of_live log cut (Some (Live time payload stamp)) = cut ∷ []
+cut_of_live log cut (Some (Cut stamp)) = []
+cut_of_live log cut None = []
 
 cut_past : (log : List Entry) (cut : EdgeUpdate) (found : Option EdgeState) → is_past_stamps cut ≡ had_last log cut
-    → list_any is_past_stamps (cut_found log cut found) ≡ list_any (had_last log) (cut_found log cut found)
+    → list_any is_past_stamps (cut_of_live log cut found) ≡ list_any (had_last log) (cut_of_live log cut found)
 cut_past log cut (Some (Live time payload stamp)) e = rw e refl
 cut_past log cut (Some (Cut stamp)) e = refl
 cut_past log cut None e = refl
 
-abbrev move_found : List Entry → EdgeUpdate → (ℕ → List Pair → EdgeUpdate) → Option EdgeState → List EdgeUpdate
-move_found log cut set (Some (Live time payload stamp)) = cut ∷ set time payload ∷ []
-move_found log cut set (Some (Cut stamp)) = []
-move_found log cut set None = []
+abbrev move_of_live : List Entry → EdgeUpdate → (ℕ → List Pair → EdgeUpdate) → Option EdgeState → List EdgeUpdate
+move_of_live log cut set (Some (Live time payload stamp)) = cut ∷ set time payload ∷ []
+move_of_live log cut set (Some (Cut stamp)) = []
+move_of_live log cut set None = []
 
 move_past : (log : List Entry) (cut : EdgeUpdate) (set : ℕ → List Pair → EdgeUpdate) (found : Option EdgeState) → is_past_stamps cut ≡ had_last log cut
     → ((time : ℕ) (payload : List Pair) → is_past_stamps (set time payload) ≡ had_last log (set time payload))
-    → list_any is_past_stamps (move_found log cut set found) ≡ list_any (had_last log) (move_found log cut set found)
+    → list_any is_past_stamps (move_of_live log cut set found) ≡ list_any (had_last log) (move_of_live log cut set found)
 move_past log cut set (Some (Live time payload stamp)) e f = rw (e, f time payload) refl
 move_past log cut set (Some (Cut stamp)) e f = refl
 move_past log cut set None e f = refl

@@ -13,12 +13,13 @@ ghost use Rattle.graph_model.specs.Told.{WhereTold};
 ghost use Rattle.tao_schema.specs.Schema.{types_of};
 
 use super::near_ends::with_near_ends;
-use super::own_records::{EdgeUpdate, own_updates};
+use super::own_records::own_updates;
 use super::refusal::TouchRefusal;
 use std::alloc::{AllocError, Global};
 use tao_base::{Change, Edge, EdgeState, Id, Key, StoreName, Time, Touch, Write};
 use tao_keeper::{KeepFail, Keeper, STAMP_LIMIT};
 use tao_schema::Schema;
+use write_model::merges::EdgeUpdate;
 
 /// The time of an edge that is live.
 fn live_time(old: &Option<EdgeState>) -> Option<Time>

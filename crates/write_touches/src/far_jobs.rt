@@ -6,11 +6,11 @@ ghost use Rattle.write_touches.specs.FarJobs.{far_record, job_for, owed_record};
 ghost use Rattle.tao_keeper.specs.Given.{HaveSmallStamps, IsGivenJob, IsPosition};
 ghost use Rattle.tao_schema.specs.Schema.{types_of};
 
-use super::own_records::EdgeUpdate;
 use std::alloc::{AllocError, Global};
 use tao_base::{Change, EdgeState, Entry, Key, Touch};
 use tao_keeper::{Job, JobEdge, JobEdges};
 use tao_schema::Schema;
+use write_model::merges::EdgeUpdate;
 
 /// The record that a touch writes, where it writes one of an edge.
 fn update_of(touch: &Touch) -> Result<Option<EdgeUpdate>, AllocError>

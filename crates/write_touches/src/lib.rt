@@ -13,6 +13,5 @@ mod touches;
 
 pub use far_jobs::far_job;
 pub use news::news_touches;
-pub use own_records::EdgeUpdate;
 pub use refusal::TouchRefusal;
 pub use touches::touches_of;

@@ -7,9 +7,9 @@ ghost use Rattle.write_model.specs.Writes.{is_near, same_edge, when, with_near_e
 ghost use Rattle.write_touches.specs.Edges.{AreStamped};
 ghost use Rattle.tao_schema.specs.Schema.{types_of};
 
-use super::own_records::EdgeUpdate;
 use std::alloc::{AllocError, Global};
 use tao_schema::Schema;
+use write_model::merges::EdgeUpdate;
 
 /// The same record at the edge's other end, where that lies on the same shard and the type has an
 /// inverse.

@@ -10,10 +10,10 @@ ghost use Rattle.write_model.specs.Writes.{edge_touch};
 ghost use Rattle.write_touches.specs.Edges.{news_touch};
 
 use super::edge_writes::touch_over;
-use super::own_records::EdgeUpdate;
 use std::alloc::Global;
 use tao_base::{EdgeState, StoreName, Touch};
 use tao_keeper::{KeepFail, Keeper, STAMP_LIMIT};
+use write_model::merges::EdgeUpdate;
 
 /// Whether the record is later than the one that stands there.
 fn is_later(state: &EdgeState, found: &Option<EdgeState>) -> bool

@@ -9,9 +9,7 @@ ghost use Rattle.graph_model.specs.Told.{WhereTold};
 use std::alloc::{AllocError, Global};
 use tao_base::{AType, Data, EdgeState, Id, Stamp, StoreName, Time, Write};
 use tao_keeper::{KeepFail, Keeper, STAMP_LIMIT};
-
-/// A record of an edge at one end: its id1, type and id2, and the record.
-pub type EdgeUpdate = (Id, AType, Id, EdgeState);
+use write_model::merges::EdgeUpdate;
 
 /// The stamp after that of a record: the first where there is none.
 fn stamp_after(id1: Id, old: &Option<EdgeState>) -> Stamp

@@ -5,6 +5,6 @@ use Rattle.core_mail.proofs.inboxes.send_at.Goals as goal
 
 pub returns-clause-sends : goal.returns-clause-sends
 returns-clause-sends c =
-    changes_at (IsSent (entry_message c.args.shard c.args.entry.now c.args.note.now)) c.args.inboxes.now c.args.name c.place_of-place.result
+    changes_at (IsSent (entry_message c.args.shard c.args.entry.now c.args.note.now)) c.args.inboxes.now c.args.name c.named_place-place.result
     c.index-inboxes-place.result
-    c.send_to.new.inbox c.place_of-place.ensures c.send_to.ensures.sends
+    c.send_to.new.inbox c.named_place-place.ensures c.send_to.ensures.sends

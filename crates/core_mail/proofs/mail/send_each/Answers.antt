@@ -1,12 +1,14 @@
-use Rattle.std.proofs.Common.{◌≡◌, ◌+◌, ◌<◌, ◌≤◌, true, List, ap, sym, subst, ◌∙◌, arith}
+use Rattle.std.proofs.Common.{◌≡◌, ℕ, ◌+◌, ◌<◌, ◌≤◌, true, List, ap, sym, subst, ◌∙◌, arith}
 use Rattle.maint_msg.specs.Inbox.{IsSent}
+use Rattle.node_name.specs.declared.NodeName.{NodeName}
 use Rattle.topology.specs.Choices.{serving_follower}
 use Rattle.topology.specs.Counts.{NodeCounts, tier_count}
 use Rattle.topology.specs.States.{is_up}
 use Rattle.core_model.specs.Fleet.{ChangesNode, HasNode, node_names}
+use Rattle.core_model.specs.Messages.{told_of}
 use Rattle.core_mail.specs.Inboxes.{entry_message}
 use Rattle.core_mail.proofs.InboxLemmas.{names_kept}
-use Rattle.core_mail.proofs.Telling.{SendsRest, all_told, one_down, one_told, told_there}
+use Rattle.core_mail.proofs.Telling.{SendsRest, all_told, one_down, one_told, told_from, told_there}
 use Rattle.core_mail.proofs.mail.send_each.Goals.{then-is_up, else-is_up}
 use Rattle.core_mail.proofs.mail.send_each.Goals as goal
 
@@ -26,6 +28,8 @@ loop-tier-preserved c =
     let start = c.args.inboxes.now in
     let m = entry_message c.args.shard c.args.entry.now c.args.note.now in
     let name = c.serving_follower-follower.result in
+    let all = told_of states c.args.region c.args.shard in
+    let left : ℕ → List NodeName = told_from states c.args.region c.args.shard in
     let many : c.tier_count-tier-end.result ≡ tier_count states.regions c.args.region =
     c.tier_count-tier-end.ensures ∙ ap (λ (rs : List NodeCounts). tier_count rs c.args.region) (sym c.requires.own) in
     let within : tier < tier_count states.regions c.args.region = omega (arith, c.loop-tier-test.true, many) in
@@ -38,7 +42,7 @@ loop-tier-preserved c =
           c.loop-tier.invariant.same w.send_at.ensures.sends in
           record {
             sends =
-                subst (SendsRest states c.args.region c.args.shard m (tier + 1) start) (sym w.inboxes-is)
+                subst (SendsRest all (left (tier + 1)) m start) (sym w.inboxes-is)
                 (one_told states c.args.region c.args.shard m tier start c.loop-tier.inboxes w.send_at.new.inboxes name within called
                 (sym c.is_up.ensures ∙ w.if-is_up.true) change c.loop-tier.invariant.sends);
             names = ap node_names w.inboxes-is ∙ (names_kept (IsSent m) name c.loop-tier.inboxes w.send_at.new.inboxes change ∙ c.loop-tier.invariant.names);
@@ -46,7 +50,7 @@ loop-tier-preserved c =
           })
       | else-is_up w ↦ record {
         sends =
-            subst (SendsRest states c.args.region c.args.shard m (tier + 1) start) (sym w.inboxes-is)
+            subst (SendsRest all (left (tier + 1)) m start) (sym w.inboxes-is)
             (one_down states c.args.region c.args.shard m tier start c.loop-tier.inboxes name within called (sym c.is_up.ensures ∙ w.if-is_up.false)
             c.loop-tier.invariant.sends);
         names = ap node_names w.inboxes-is ∙ c.loop-tier.invariant.names;

@@ -4,6 +4,6 @@ use Rattle.core_nodes.proofs.evictions.evict_at_follower.Goals as goal
 
 pub returns : goal.returns
 returns c =
-    changes_at (FollowerDoes (EvictsThere c.args.key c.evict_from_follower.result)) c.args.followers.now c.args.name c.place_of-place.result
+    changes_at (FollowerDoes (EvictsThere c.args.key c.evict_from_follower.result)) c.args.followers.now c.args.name c.named_place-place.result
     c.index-followers-place.result
-    c.evict_from_follower.new.follower c.place_of-place.ensures c.evict_from_follower.ensures
+    c.evict_from_follower.new.follower c.named_place-place.ensures c.evict_from_follower.ensures

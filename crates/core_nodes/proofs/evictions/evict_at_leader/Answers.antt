@@ -5,6 +5,7 @@ use Rattle.core_nodes.proofs.evictions.evict_at_leader.Goals as goal
 
 pub returns : goal.returns
 returns c =
-    changes_at (LeaderDoes (Evicts c.args.key c.evict_from_leader.result)) c.args.leaders.now c.args.name c.place_of-place.result c.index-leaders-place.result
+    changes_at (LeaderDoes (Evicts c.args.key c.evict_from_leader.result)) c.args.leaders.now c.args.name c.named_place-place.result
+    c.index-leaders-place.result
     c.evict_from_leader.new.leader
-    c.place_of-place.ensures c.evict_from_leader.ensures
+    c.named_place-place.ensures c.evict_from_leader.ensures

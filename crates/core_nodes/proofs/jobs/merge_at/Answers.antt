@@ -52,7 +52,7 @@ returns g c =
     let is = master_at s xs c.from-shard.result shard c.index-masters-shard.result c.requires.stores.masters here c.requires.shard in
     let at = place_is s xs shard c.from-shard.result c.index-masters-shard.result c.requires.stores.masters here c.requires.shard in
     let pen = pen_set xs shard c.from-shard.result store made here at in
-    let from = (slice_index_or c.args.leaders.now c.place_of-place.result c.index-leaders-place.result).node in
+    let from = (slice_index_or c.args.leaders.now c.named_place-place.result c.index-leaders-place.result).node in
     let took = of_master s c.config.inside.schema of_s store shard is
     (λ types most name. LeaderDoes (TakesWritten types name.shard (taken_entry true r) (as_note made.view)) from c.merge_of.new.leader)
     c.merge_of.ensures.node in
@@ -64,8 +64,8 @@ returns g c =
     let left = merged_after g.K.Keeper.TELLS s before after xs c.from-shard.result j store made r c.requires.stores here c.requires.shard is
     match c.requires.owed c.merge_of.ensures.new answer gains c.merge_of.ensures.log c.merge_of.ensures.keeper in
     record {
-      node = changes_at (Written s shard (slice_set xs c.from-shard.result made) r) c.args.leaders.now c.args.name c.place_of-place.result
-          c.index-leaders-place.result c.merge_of.new.leader c.place_of-place.ensures
+      node = changes_at (Written s shard (slice_set xs c.from-shard.result made) r) c.args.leaders.now c.args.name c.named_place-place.result
+          c.index-leaders-place.result c.merge_of.new.leader c.named_place-place.ensures
           (subst (λ v. LeaderDoes (TakesWritten (types_of s.schema) shard (taken_entry true r) (as_note v)) from c.merge_of.new.leader) (sym pen) took);
       rest = err_rests s xs shard c.from-shard.result c.index-masters-shard.result made r c.requires.stores.masters here c.requires.shard
           c.merge_of.ensures.log;

@@ -6,7 +6,7 @@ use Rattle.tao_schema.specs.Schema.{types_of}
 use Rattle.tao_schema.specs.declared.schema.Schema.{Schema}
 use Rattle.topology.specs.Config.{Settings}
 use Rattle.core_nodes.proofs.CommitLemmas.{place_is}
-use Rattle.core_nodes.proofs.MasterLemmas.{WasRead, gives_at_floors, store_reads}
+use Rattle.core_nodes.proofs.MasterLemmas.{ReadOfStore, gives_at_floors, store_reads}
 use Rattle.core_model.proofs.Places.{set_back}
 use Rattle.core_nodes.proofs.StoreLemmas.{seen_at}
 use Rattle.core_nodes.proofs.masters.read_master.Goals as goal
@@ -25,12 +25,11 @@ returns-clause-reads g c =
     let store : Store = slice_index_or c.args.masters.now c.from-shard.result c.index-masters-shard.result in
     let at = place_is c.args.config.now c.args.masters.now (query_shard c.args.query.now) c.from-shard.result c.index-masters-shard.result
     c.requires.stores.masters here c.requires.here in
-    let Read : Schema → Type 0 = λ k. WasRead g.K.Keeper.TELLS (types_of k) c.args.query.now store (state c.args.keepers.now) (state c.read.new.keeper)
-    c.read.result in
+    let Read : Schema → Type 0 = λ k. ReadOfStore g.K.Keeper.TELLS (types_of k) c.args.query.now store (state c.args.keepers.now) c.read.result in
     let was : Read c.config.inside.schema =
-    record { found = c.read.ensures.found; fits = c.read.ensures.fits; note = c.read.ensures.note; called = c.read.ensures.asked } in
+    record { found = c.read.ensures.found; fits = c.read.ensures.fits; note = c.read.ensures.note } in
     store_reads g.K.Keeper.TELLS c.args.config.now (state c.args.keepers.now) c.args.masters.now c.args.query.now store c.requires.stores at
-    (state c.read.new.keeper) c.read.result (subst Read (ap (λ (s : Settings). s.schema) c.config.view_is) was)
+    (state c.read.new.keeper) c.read.result (subst Read (ap (λ (s : Settings). s.schema) c.config.view_is) was) c.read.ensures.asked
 
 pub returns-clause-given : goal.returns-clause-given
 returns-clause-given g c =
@@ -39,12 +38,11 @@ returns-clause-given g c =
     let store : Store = slice_index_or c.args.masters.now c.from-shard.result c.index-masters-shard.result in
     let at = place_is c.args.config.now c.args.masters.now (query_shard c.args.query.now) c.from-shard.result c.index-masters-shard.result
     c.requires.stores.masters here c.requires.here in
-    let Read : Schema → Type 0 = λ k. WasRead g.K.Keeper.TELLS (types_of k) c.args.query.now store (state c.args.keepers.now) (state c.read.new.keeper)
-    c.read.result in
+    let Read : Schema → Type 0 = λ k. ReadOfStore g.K.Keeper.TELLS (types_of k) c.args.query.now store (state c.args.keepers.now) c.read.result in
     let was : Read c.config.inside.schema =
-    record { found = c.read.ensures.found; fits = c.read.ensures.fits; note = c.read.ensures.note; called = c.read.ensures.asked } in
+    record { found = c.read.ensures.found; fits = c.read.ensures.fits; note = c.read.ensures.note } in
     gives_at_floors g.K.Keeper.TELLS c.args.config.now (state c.args.keepers.now) c.args.masters.now c.args.query.now store c.requires.stores at
-    (state c.read.new.keeper) c.read.result (subst Read (ap (λ (s : Settings). s.schema) c.config.view_is) was)
+    c.read.result (subst Read (ap (λ (s : Settings). s.schema) c.config.view_is) was)
 
 pub returns-clause-same : goal.returns-clause-same
 returns-clause-same g c =

@@ -17,7 +17,7 @@ ask_leader-requires-clause-log g c =
     let store : Store = slice_index_or c.args.masters.now c.from-shard.result c.index-masters-shard.result in
     holds_at (λ (node : Node). (x : Store) → slice_get c.args.masters.now (query_shard c.args.query.now) ≡ Some x
     → log_at (query_shard c.args.query.now) node.served ≡ Some x.view.log) c.args.leaders.now
-    c.args.name c.place_of-place.result c.index-leaders-place.result c.place_of-place.ensures c.requires.logs store
+    c.args.name c.named_place-place.result c.index-leaders-place.result c.named_place-place.ensures c.requires.logs store
     (at_index c.args.masters.now (query_shard c.args.query.now) c.from-shard.result c.index-masters-shard.result here c.requires.here)
 
 pub ask_leader-requires-clause-keeper : goal.ask_leader-requires-clause-keeper
@@ -33,15 +33,15 @@ returns-clause-given g c =
     let here = c.from-shard.ensures ∙ c.shard.ensures in
     let store : Store = slice_index_or c.args.masters.now c.from-shard.result c.index-masters-shard.result in
     answers_at (types_of c.args.schema.now) (wanted c.args.query.now c.args.floor) c.args.masters.now (state c.args.keepers.now)
-    (state c.ask_leader.new.keepers) c.args.leaders.now c.args.name c.place_of-place.result
-    c.index-leaders-place.result c.ask_leader.new.leader store c.ask_leader.result c.place_of-place.ensures
+    (state c.ask_leader.new.keepers) c.args.leaders.now c.args.name c.named_place-place.result
+    c.index-leaders-place.result c.ask_leader.new.leader store c.ask_leader.result c.named_place-place.ensures
     (at_index c.args.masters.now (query_shard c.args.query.now) c.from-shard.result c.index-masters-shard.result here c.requires.here)
     c.ask_leader.ensures.given
 
 pub returns-clause-err : goal.returns-clause-err
 returns-clause-err g c =
-    rests_err c.args.leaders.now c.args.name c.place_of-place.result c.index-leaders-place.result c.ask_leader.new.leader c.ask_leader.result
-    c.place_of-place.ensures c.ask_leader.ensures.err
+    rests_err c.args.leaders.now c.args.name c.named_place-place.result c.index-leaders-place.result c.ask_leader.new.leader c.ask_leader.result
+    c.named_place-place.ensures c.ask_leader.ensures.err
 
 pub returns-clause-same : goal.returns-clause-same
 returns-clause-same g c =

@@ -5,6 +5,6 @@ use Rattle.core_nodes.proofs.reads.end_at.Goals as goal
 
 pub returns : goal.returns
 returns c =
-    changes_at (FollowerDoes (EndsAsk c.args.ask)) c.args.followers.now c.args.name c.place_of-place.result c.index-followers-place.result
-    c.end_open_ask.new.follower c.place_of-place.ensures
+    changes_at (FollowerDoes (EndsAsk c.args.ask)) c.args.followers.now c.args.name c.named_place-place.result c.index-followers-place.result
+    c.end_open_ask.new.follower c.named_place-place.ensures
     c.end_open_ask.ensures

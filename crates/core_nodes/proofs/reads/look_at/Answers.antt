@@ -12,17 +12,18 @@ use Rattle.core_nodes.proofs.reads.look_at.Goals as goal
 
 pub look_first-requires : goal.look_first-requires
 look_first-requires c =
-    holds_at (λ (f : FollowerState). IsSome (served_at (query_shard c.args.query.now) f.node.served)) c.args.followers.now c.args.name c.place_of-place.result
-    c.index-followers-place.result
-    c.place_of-place.ensures c.requires.serves
+    holds_at (λ (f : FollowerState). IsSome (served_at (query_shard c.args.query.now) f.node.served)) c.args.followers.now c.args.name
+    c.named_place-place.result c.index-followers-place.result
+    c.named_place-place.ensures c.requires.serves
 
 pub returns-clause-looks : goal.returns-clause-looks
 returns-clause-looks c =
     changes_ok (λ (first : FirstLook). FollowerDoes (LooksTrue (types_of c.args.schema.now) (wanted c.args.query.now c.args.floor) first.look first.ask))
     c.args.followers.now c.args.name
-    c.place_of-place.result c.index-followers-place.result c.look_first.new.follower c.look_first.result c.place_of-place.ensures c.look_first.ensures.looks
+    c.named_place-place.result c.index-followers-place.result c.look_first.new.follower c.look_first.result
+    c.named_place-place.ensures c.look_first.ensures.looks
 
 pub returns-clause-err : goal.returns-clause-err
 returns-clause-err c =
-    rests_err c.args.followers.now c.args.name c.place_of-place.result c.index-followers-place.result c.look_first.new.follower c.look_first.result
-    c.place_of-place.ensures c.look_first.ensures.err
+    rests_err c.args.followers.now c.args.name c.named_place-place.result c.index-followers-place.result c.look_first.new.follower c.look_first.result
+    c.named_place-place.ensures c.look_first.ensures.err

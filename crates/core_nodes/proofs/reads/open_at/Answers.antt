@@ -11,15 +11,15 @@ use Rattle.core_nodes.proofs.reads.open_at.Goals as goal
 
 pub open_true-requires : goal.open_true-requires
 open_true-requires c =
-    subst (λ k. IsSome (served_at (key_shard k) (get_or c.args.followers.now c.place_of-place.result c.index-followers-place.result).node.node.served))
+    subst (λ k. IsSome (served_at (key_shard k) (get_or c.args.followers.now c.named_place-place.result c.index-followers-place.result).node.node.served))
     (sym c.key.ensures)
-    (holds_at (λ (f : FollowerState). IsSome (served_at (query_shard c.args.query.now) f.node.served)) c.args.followers.now c.args.name c.place_of-place.result
-    c.index-followers-place.result
-    c.place_of-place.ensures c.requires.serves)
+    (holds_at (λ (f : FollowerState). IsSome (served_at (query_shard c.args.query.now) f.node.served)) c.args.followers.now c.args.name
+    c.named_place-place.result c.index-followers-place.result
+    c.named_place-place.ensures c.requires.serves)
 
 pub returns : goal.returns
 returns c =
-    changes_at (FollowerDoes (AsksAtOnce (query_key c.args.query.now) c.open_true.result)) c.args.followers.now c.args.name c.place_of-place.result
-    c.index-followers-place.result c.open_true.new.follower c.place_of-place.ensures
+    changes_at (FollowerDoes (AsksAtOnce (query_key c.args.query.now) c.open_true.result)) c.args.followers.now c.args.name
+    c.named_place-place.result c.index-followers-place.result c.open_true.new.follower c.named_place-place.ensures
     (subst (λ k. FollowerDoes (AsksAtOnce k c.open_true.result)
-    (get_or c.args.followers.now c.place_of-place.result c.index-followers-place.result).node c.open_true.new.follower) c.key.ensures c.open_true.ensures)
+    (get_or c.args.followers.now c.named_place-place.result c.index-followers-place.result).node c.open_true.new.follower) c.key.ensures c.open_true.ensures)

@@ -32,9 +32,9 @@ commit_of-requires-clause-log g c =
     c.requires.shard in
     let found =
     holds_at (λ (node : Node). (x : Store) → slice_get c.args.masters.now shard ≡ Some x
-    → log_at shard node.served ≡ Some x.view.log) c.args.leaders.now c.args.name c.place_of-place.result
-    c.index-leaders-place.result c.place_of-place.ensures c.requires.logs store at in
-    subst (λ k. log_at k (slice_index_or c.args.leaders.now c.place_of-place.result c.index-leaders-place.result).node.served ≡ Some store.view.log)
+    → log_at shard node.served ≡ Some x.view.log) c.args.leaders.now c.args.name c.named_place-place.result
+    c.index-leaders-place.result c.named_place-place.ensures c.requires.logs store at in
+    subst (λ k. log_at k (slice_index_or c.args.leaders.now c.named_place-place.result c.index-leaders-place.result).node.served ≡ Some store.view.log)
     (sym (ap (λ n. n.shard) is.name_is)) found
 
 pub commit_of-requires-clause-master : goal.commit_of-requires-clause-master
@@ -82,7 +82,7 @@ returns g c =
     let is = master_at s c.args.masters.now c.from-shard.result shard c.index-masters-shard.result c.requires.stores.masters here c.requires.shard in
     let at = place_is s c.args.masters.now shard c.from-shard.result c.index-masters-shard.result c.requires.stores.masters here c.requires.shard in
     let pen = sym (pen_set c.args.masters.now shard c.from-shard.result store c.commit_of.new.store here at) in
-    let from = (slice_index_or c.args.leaders.now c.place_of-place.result c.index-leaders-place.result).node in
+    let from = (slice_index_or c.args.leaders.now c.named_place-place.result c.index-leaders-place.result).node in
     let words = of_master s c.config.inside.schema (ap (λ s. s.schema) c.config.view_is) store shard is in
     let node = words (λ types most name. LeaderDoes (TakesWritten types name.shard (taken_entry true c.commit_of.result)
     (as_note c.commit_of.new.store.view)) from c.commit_of.new.leader) made.node in
@@ -98,7 +98,7 @@ returns g c =
     c.requires.stores.kept (g.met.K.Keeper.of_entries c.args.keepers.now (master_store s shard)) c.commit_of.result answer gains opens finds in
     record {
       node = changes_at (Written s shard (slice_set c.args.masters.now c.from-shard.result c.commit_of.new.store) c.commit_of.result)
-          c.args.leaders.now c.args.name c.place_of-place.result c.index-leaders-place.result c.commit_of.new.leader c.place_of-place.ensures
+          c.args.leaders.now c.args.name c.named_place-place.result c.index-leaders-place.result c.commit_of.new.leader c.named_place-place.ensures
           (subst (λ v. LeaderDoes (TakesWritten (types_of s.schema) shard (taken_entry true c.commit_of.result) (as_note v)) from c.commit_of.new.leader)
           pen node);
       rest = err_rests s c.args.masters.now shard c.from-shard.result c.index-masters-shard.result c.commit_of.new.store c.commit_of.result

@@ -11,4 +11,4 @@ returns-in-End-clause-on g c =
     let old = posting (scene c.args.fleet.now (state c.args.keepers.now) link) c.args.mail.now c.args.topology.now in
     let new = posting (scene c.end_stage.new.fleet (state c.end_stage.new.keepers) link) c.args.mail.now c.args.topology.now in
     let end = c.end_stage.ensures in
-    posts_same g.K.Keeper.TELLS c.args.config.now old new c.requires.inboxes end.same refl end.consistent end.grows end.later
+    posts_same g.K.Keeper.TELLS c.args.config.now old new c.requires.ready.inboxes end.same refl end.consistent end.grows end.later

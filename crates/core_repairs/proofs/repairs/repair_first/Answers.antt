@@ -40,7 +40,7 @@ returns-in_err-wrote-clause-on g c =
     let fleet = c.merge_and_end.new.fleet in
     let new = posting (scene fleet (state c.merge_and_end.new.keepers) (shown c.merge_and_end.new.link)) c.args.mail.now c.args.topology.now in
     let goes = subst (λ f. GoesOn f fleet) c.find_job.ensures.same c.merge_and_end.ensures.goes in
-    let inboxes = (inboxes_stay s (pens_of c.args.fleet.now.masters) c.args.mail.now).rises (pens_of fleet.masters) goes.rise c.requires.inboxes in
+    let inboxes = (inboxes_stay s (pens_of c.args.fleet.now.masters) c.args.mail.now).rises (pens_of fleet.masters) goes.rise c.requires.ready.inboxes in
     posts_repaired tells s old new found c.find_job.ensures.tables c.find_job.ensures.later c.merge_and_end.ensures.consistent inboxes goes
     c.merge_and_end.ensures.grows c.merge_and_end.ensures.later
 
@@ -48,7 +48,7 @@ pub tell_of_repair-requires-clause-inboxes : goal.tell_of_repair-requires-clause
 tell_of_repair-requires-clause-inboxes g c =
     let goes = subst (λ f. GoesOn f c.merge_and_end.new.fleet) c.find_job.ensures.same c.merge_and_end.ensures.goes in
     (inboxes_stay c.args.config.now (pens_of c.args.fleet.now.masters) c.args.mail.now).rises (pens_of c.merge_and_end.new.fleet.masters) goes.rise
-    c.requires.inboxes
+    c.requires.ready.inboxes
 
 pub returns-clause-on : goal.returns-clause-on
 returns-clause-on g c =

@@ -4,7 +4,7 @@ use Rattle.topology.specs.Config.{Settings}
 use Rattle.core_steps.specs.Posting.{posting}
 use Rattle.core_repairs.specs.Repairs.{RunsTo, StopsRun}
 use Rattle.core_steps.specs.Routes.{scene}
-use Rattle.core_steps.proofs.PostsLemmas.{posts_none, posts_trans}
+use Rattle.core_steps.proofs.PostsLemmas.{can_post_on, posts_none, posts_trans}
 use Rattle.core_repairs.proofs.RunLemmas.{link_stays, link_trans, rest_trans, runs_all, runs_none}
 use Rattle.core_repairs.proofs.runs.run_jobs.Goals as goal
 
@@ -16,9 +16,17 @@ loop-shard-init g c =
     record {
       runs = runs_none g.K.Keeper.TELLS c.args.config.now start;
       rest = refl;
-      on = posts_none g.K.Keeper.TELLS c.args.config.now start c.requires.consistent c.requires.inboxes;
+      on = posts_none g.K.Keeper.TELLS c.args.config.now start c.requires.ready;
       link = link_stays (shown c.args.link.now) (shown c.args.link.now) refl;
     }
+
+pub run_shard-requires-clause-ready : goal.run_shard-requires-clause-ready
+run_shard-requires-clause-ready g c =
+    let state = g.K.Keeper.state in
+    let shown = g.L.Link.shown in
+    let start = posting (scene c.args.fleet.now (state c.args.keepers.now) (shown c.args.link.now)) c.args.mail.now c.args.topology.now in
+    let now = posting (scene c.loop-shard.fleet (state c.loop-shard.keepers) (shown c.loop-shard.link)) c.loop-shard.mail c.args.topology.now in
+    can_post_on g.K.Keeper.TELLS c.args.config.now start now c.requires.ready c.loop-shard.invariant.on refl
 
 pub loop-shard-preserved : goal.loop-shard-preserved
 loop-shard-preserved g c =

@@ -4,7 +4,7 @@ use Rattle.tao_schema.specs.Schema.{types_of}
 use Rattle.core_steps.specs.Posting.{posting}
 use Rattle.core_repairs.specs.Repairs.{FindsNoJob, IsRepaired, RepairsFirst}
 use Rattle.core_steps.specs.Routes.{scene}
-use Rattle.core_steps.proofs.PostsLemmas.{posts_none, posts_trans}
+use Rattle.core_steps.proofs.PostsLemmas.{can_post_on, posts_none, posts_trans}
 use Rattle.core_repairs.proofs.RunLemmas.{first_leaves, given_again, link_stays, link_trans, no_more, none_at_zero, none_left, not_again}
 use Rattle.core_repairs.proofs.RunLemmas.{rest_trans, runs_one, stops_run}
 use Rattle.core_repairs.proofs.runs.run_shard.Goals as goal
@@ -17,11 +17,19 @@ loop-found-init g c =
     record {
       runs = record { more = λ begin so. so };
       none =
-          none_at_zero g.K.Keeper.TELLS c.args.config.now (state c.args.keepers.now).told c.args.shard c.requires.consistent.stores.kept;
+          none_at_zero g.K.Keeper.TELLS c.args.config.now (state c.args.keepers.now).told c.args.shard c.requires.ready.consistent.stores.kept;
       rest = refl;
-      on = posts_none g.K.Keeper.TELLS c.args.config.now start c.requires.consistent c.requires.inboxes;
+      on = posts_none g.K.Keeper.TELLS c.args.config.now start c.requires.ready;
       link = link_stays (shown c.args.link.now) (shown c.args.link.now) refl;
     }
+
+pub repair_first-requires-clause-ready : goal.repair_first-requires-clause-ready
+repair_first-requires-clause-ready g c =
+    let state = g.K.Keeper.state in
+    let shown = g.L.Link.shown in
+    let start = posting (scene c.args.fleet.now (state c.args.keepers.now) (shown c.args.link.now)) c.args.mail.now c.args.topology.now in
+    let now = posting (scene c.loop-found.fleet (state c.loop-found.keepers) (shown c.loop-found.link)) c.loop-found.mail c.args.topology.now in
+    can_post_on g.K.Keeper.TELLS c.args.config.now start now c.requires.ready c.loop-found.invariant.on refl
 
 pub loop-found-preserved : goal.loop-found-preserved
 loop-found-preserved g c =

@@ -11,7 +11,7 @@ use Rattle.core_steps.proofs.jobs.merge_over.Goals as goal
 pub merge_at-merged-requires-clause-leader : goal.merge_at-merged-requires-clause-leader
 merge_at-merged-requires-clause-leader g c =
     subst (λ n. IsLeaderFor c.args.config.now n c.preferred-merging.result) c.far_shard-far.ensures
-    (merging_leads c.args.config.now c.args.topology.now c.master.result c.far_shard-far.result c.preferred-merging.result c.requires.states
+    (merging_leads c.args.config.now c.args.topology.now c.master.result c.far_shard-far.result c.preferred-merging.result c.requires.ready.states
     (subst (λ (s : Settings). c.far_shard-far.result < s.shards) c.config.view_is c.if-far-config.false)
     c.preferred-merging.ensures.preferred (c.preferred-merging.ensures.configured c.master.ensures.configured))
 
@@ -19,6 +19,9 @@ pub merge_at-merged-requires-clause-preferred : goal.merge_at-merged-requires-cl
 merge_at-merged-requires-clause-preferred g c =
     master_prefers c.args.topology.now (far_shard c.args.job.now) c.far_shard-far.result c.master.result c.preferred-merging.result c.far_shard-far.ensures
     c.master.ensures.master c.preferred-merging.ensures.preferred
+
+pub returns-clause-on : goal.returns-clause-on
+returns-clause-on g c = c.merge_at-merged.ensures.on (g.L.Link.shown c.args.link.now) (g.L.Link.shown c.carry_between-back.new.link)
 
 pub returns-clause-merges : goal.returns-clause-merges
 returns-clause-merges g c =

@@ -9,9 +9,18 @@ use Rattle.core_steps.specs.OtherEnds.{WorksOffOf, write_other_end}
 use Rattle.core_steps.specs.Posting.{posting}
 use Rattle.core_steps.specs.Routes.{scene}
 use Rattle.core_steps.specs.Writes.{CanBeApplied, IsCommitted, client_call, sent_write}
-use Rattle.core_steps.proofs.PostsLemmas.{posts_trans}
+use Rattle.core_steps.proofs.PostsLemmas.{can_post_on, posts_trans}
 use Rattle.core_steps.proofs.WriteLemmas.{applied_later}
 use Rattle.core_steps.proofs.writes.commit_and_work_off.Goals as goal
+
+pub work_off-other-requires-clause-ready : goal.work_off-other-requires-clause-ready
+work_off-other-requires-clause-ready g c =
+    let state = g.K.Keeper.state in
+    let shown = g.L.Link.shown in
+    let old = posting (scene c.args.fleet.now (state c.args.keepers.now) (shown c.args.link.now)) c.args.mail.now c.args.topology.now in
+    let mid = posting (scene c.commit_over.new.fleet (state c.commit_over.new.keepers) (shown c.commit_over.new.link)) c.commit_over.new.mail
+    c.args.topology.now in
+    can_post_on g.K.Keeper.TELLS c.args.config.now old mid c.requires.ready c.commit_over.ensures.on refl
 
 pub work_off-other-requires-clause-job : goal.work_off-other-requires-clause-job
 work_off-other-requires-clause-job g c =

@@ -22,10 +22,10 @@ pub tell_of_new-requires-clause-here : goal.tell_of_new-requires-clause-here
 tell_of_new-requires-clause-here g c = subst (λ n. n < c.args.config.now.shards) (sym c.shard.ensures) c.requires.leader.here
 
 pub tell_of_new-requires-clause-own : goal.tell_of_new-requires-clause-own
-tell_of_new-requires-clause-own g c = ap (λ states. states.regions) c.requires.states
+tell_of_new-requires-clause-own g c = ap (λ states. states.regions) c.requires.ready.states
 
 pub tell_of_new-requires-clause-names : goal.tell_of_new-requires-clause-names
-tell_of_new-requires-clause-names g c = c.requires.inboxes.names
+tell_of_new-requires-clause-names g c = c.requires.ready.inboxes.names
 
 pub tell_of_new-requires-clause-stands : goal.tell_of_new-requires-clause-stands
 tell_of_new-requires-clause-stands g c =
@@ -46,7 +46,7 @@ returns-in-Ok-clause-committed g c =
     let new = posting (scene c.commit.new.self (state c.commit.new.keepers) (g.L.Link.shown c.carry.new.link)) c.tell_of_new.new.mail c.args.topology.now in
     let is : IsCommitted g.K.Keeper.TELLS s (sent_write c.args.route call) wrote old new = record {
       commits = commits s (state c.args.keepers.now) (state c.commit.new.keepers) call c.requires.leader.here g.K.Keeper.TELLS wrote.retry wrote.entry
-          (λ told. sound_logs s (state c.args.keepers.now).told (c.requires.consistent.stores.kept told) shard c.requires.leader.here)
+          (λ told. sound_logs s (state c.args.keepers.now).told (c.requires.ready.consistent.stores.kept told) shard c.requires.leader.here)
           (λ told. g.met.K.Keeper.of_entries c.args.keepers.now (master_store s shard) told) c.in-Ok.ensures.answer c.in-Ok.ensures.tables;
       leader = record { note = wrote.note; takes = c.in-Ok.ensures.node };
       followers = c.in-Ok.ensures.followers;
@@ -85,7 +85,7 @@ returns-in-Ok-clause-on g c =
     record {
       consistent = c.commit.ensures.consistent;
       inboxes = c.tell_of_new.ensures.of pens (subst (λ n. IsSeen pens n c.in-Ok.wrote.note) (sym c.shard.ensures) c.in-Ok.ensures.seen)
-          ((inboxes_stay c.args.config.now (pens_of c.args.fleet.now.masters) c.args.mail.now).rises pens c.commit.ensures.goes.rise c.requires.inboxes);
+          ((inboxes_stay c.args.config.now (pens_of c.args.fleet.now.masters) c.args.mail.now).rises pens c.commit.ensures.goes.rise c.requires.ready.inboxes);
       goes = c.commit.ensures.goes;
       grows = gains_masters g.K.Keeper.TELLS c.args.config.now (g.K.Keeper.state c.args.keepers.now) (g.K.Keeper.state c.commit.new.keepers)
           (write_shard c.args.write.now) added (job_with (types_of c.args.config.now.schema) added) c.requires.leader.here c.commit.ensures.tables;
@@ -112,7 +112,7 @@ returns-in-Err-commit-clause-on g c =
     record {
       consistent = c.commit.ensures.consistent;
       inboxes =
-          (inboxes_stay c.args.config.now pens c.args.mail.now).rises (pens_of c.commit.new.self.masters) c.commit.ensures.goes.rise c.requires.inboxes;
+          (inboxes_stay c.args.config.now pens c.args.mail.now).rises (pens_of c.commit.new.self.masters) c.commit.ensures.goes.rise c.requires.ready.inboxes;
       goes = c.commit.ensures.goes;
       grows = gains_masters g.K.Keeper.TELLS c.args.config.now (g.K.Keeper.state c.args.keepers.now) (g.K.Keeper.state c.commit.new.keepers)
           (write_shard c.args.write.now) added (job_with (types_of c.args.config.now.schema) added) c.requires.leader.here c.commit.ensures.tables;

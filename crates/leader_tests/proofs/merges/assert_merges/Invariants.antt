@@ -4,7 +4,7 @@ use Rattle.keeper_map.specs.MapKeeper.{told_by}
 use Rattle.leader_tests.specs.Led.{ServesOne}
 use Rattle.leader_tests.specs.declared.merges.TheConstants.{THERE}
 use Rattle.shard_tables.specs.Stores.{IsStoreOf}
-use Rattle.shard_tables.specs.declared.store.Role.TheVariants.{Master}
+use Rattle.shard_tables.specs.declared.store.StoreRole.TheVariants.{Master}
 use Rattle.leader_tests.proofs.merges.assert_merges.Given as goal
 
 -- the leader still serves the store's shard

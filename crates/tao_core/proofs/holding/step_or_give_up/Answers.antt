@@ -28,7 +28,7 @@ returns-in-Err g c =
     record {
       steps = ends.steps g.K.Keeper.TELLS s leader now;
       under_way = ends.under_way g.K.Keeper.TELLS s keepers.told fleet can;
-      on = posts_none g.K.Keeper.TELLS s now c.requires.consistent c.requires.inboxes;
+      on = posts_none g.K.Keeper.TELLS s now c.requires.ready;
       same = c.room_for_last.ensures.same;
       room = room_given g.K.Keeper.TELLS s leader c.args.number c.args.plans.now c.give_up.new.self c.room_for_last.new.sessions sight c.args.mail.now
           c.args.topology.now (ends.steps g.K.Keeper.TELLS s leader (posting sight c.args.mail.now c.args.topology.now)) c.in-Err.ensures.learner;

@@ -1,15 +1,10 @@
-use Rattle.std.proofs.Common.{◌≡◌, List, Some, slice_get, ap, arith, ◌∙◌, subst, sym}
-use Rattle.cache_items.specs.Node.{Node}
-use Rattle.served_shards.specs.Served.{log_at}
-use Rattle.shard_tables.specs.StoreView.{Store}
+use Rattle.std.proofs.Common.{ap, arith, ◌∙◌, subst, sym}
 use Rattle.tao_base.specs.Queries.{query_shard}
 use Rattle.topology.specs.Config.{Settings}
 use Rattle.core_model.specs.Fleet.{Fleet}
 use Rattle.core_model.specs.Reads.{wanted}
 use Rattle.core_model.specs.Stores.{HaveSeen}
-use Rattle.core_model.specs.declared.named.Named.{Named}
-use Rattle.core_nodes.specs.Stages.{NodeIs}
-use Rattle.core_nodes.proofs.AskLemmas.{leader_log}
+use Rattle.core_nodes.proofs.AskLemmas.{lent_log}
 use Rattle.core_nodes.proofs.LentLemmas.{ask_lent}
 use Rattle.core_nodes.proofs.ViewLemmas.{LendsBoth, both_back, both_rest}
 use Rattle.std.proofs.lemmas.Result.{on_err_weaker}
@@ -19,11 +14,8 @@ pub ask_at-requires-clause-logs : goal.ask_at-requires-clause-logs
 ask_at-requires-clause-logs g c =
     let own = c.deref_mut.ensures.value ∙ ap (λ (f : Fleet). f.leaders) c.self.view_is in
     let stores = c.deref_mut-2.ensures.value ∙ ap (λ (f : Fleet). f.masters) c.self.view_is in
-    let Logs : List Store → List (Named Node) → Type 0 = λ xs ls. NodeIs c.args.leader
-    (λ (node : Node). (store : Store) → slice_get xs (query_shard c.args.query.now) ≡ Some store
-    → log_at (query_shard c.args.query.now) node.served ≡ Some store.view.log) ls in
-    subst (Logs c.deref_mut-2.result.now) (sym own) (subst (λ xs. Logs xs c.args.self.now.leaders) (sym stores)
-    (leader_log c.args.config.now c.args.self.now (query_shard c.args.query.now) c.args.leader c.requires.consistent.fleet c.requires.leader))
+    lent_log c.args.config.now c.args.self.now (query_shard c.args.query.now) c.args.leader c.deref_mut.result.now c.deref_mut-2.result.now own stores
+    c.requires.consistent.fleet c.requires.leader
 
 pub ask_at-requires-clause-keeper : goal.ask_at-requires-clause-keeper
 ask_at-requires-clause-keeper g c =

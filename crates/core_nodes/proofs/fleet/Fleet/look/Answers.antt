@@ -4,6 +4,7 @@ use Rattle.served_shards.specs.Served.{served_at}
 use Rattle.tao_base.specs.Queries.{query_shard}
 use Rattle.topology.specs.Config.{Settings}
 use Rattle.core_model.specs.Fleet.{Fleet}
+use Rattle.core_model.specs.Reads.{wanted}
 use Rattle.core_nodes.specs.Stages.{NodeIs}
 use Rattle.core_nodes.proofs.LentLemmas.{look_lent}
 use Rattle.core_nodes.proofs.ReadLemmas.{follower_serves}
@@ -24,7 +25,7 @@ returns c =
     let lends : LendsFollowers c.self.inside c.args.self.now c.deref_mut.result.now c.look_at.new.followers =
     record { view = c.self.view_is; own = own; long = omega arith } in
     let done =
-    look_lent c.args.config.now c.config.inside.schema c.args.follower c.args.query.now c.args.floor c.self.inside c.args.self.now
+    look_lent c.args.config.now c.config.inside.schema c.args.follower (wanted c.args.query.now c.args.floor) c.self.inside c.args.self.now
     c.deref_mut.result.now c.look_at.new.followers c.look_at.result lends (ap (λ (s : Settings). s.schema) c.config.view_is) c.requires.fleet
     c.requires.follower given.looks given.err in
     record {

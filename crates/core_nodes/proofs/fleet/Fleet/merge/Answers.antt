@@ -1,13 +1,8 @@
-use Rattle.std.proofs.Common.{◌≡◌, length, ap, sym, subst, ◌∙◌, arith, Some}
-use Rattle.std.specs.Prelude.{slice_get}
-use Rattle.cache_items.specs.Node.{Node}
-use Rattle.served_shards.specs.Served.{log_at}
-use Rattle.shard_tables.specs.StoreView.{Store}
+use Rattle.std.proofs.Common.{◌≡◌, length, ap, sym, subst, ◌∙◌, arith}
 use Rattle.core_model.specs.Fleet.{Fleet, HasNode}
 use Rattle.core_model.specs.Jobs.{far_shard}
 use Rattle.core_model.specs.Stores.{AreStoresOf}
-use Rattle.core_nodes.specs.Stages.{NodeIs}
-use Rattle.core_nodes.proofs.AskLemmas.{leader_log}
+use Rattle.core_nodes.proofs.AskLemmas.{lent_log}
 use Rattle.core_nodes.proofs.CommitLemmas.{commit_lent}
 use Rattle.core_nodes.proofs.FleetLemmas.{leader_here}
 use Rattle.core_nodes.proofs.fleet.Fleet.merge.Goals as goal
@@ -20,14 +15,10 @@ merge_at-requires-clause-there g c =
 
 pub merge_at-requires-clause-logs : goal.merge_at-requires-clause-logs
 merge_at-requires-clause-logs g c =
-    let shard = far_shard c.args.job.now in
     let leaders = c.deref_mut.ensures.value ∙ ap (λ (f : Fleet). f.leaders) c.self.view_is in
     let masters = c.deref_mut-2.ensures.value ∙ ap (λ (f : Fleet). f.masters) c.self.view_is in
-    let own = leader_log c.args.config.now c.args.self.now shard c.args.leader c.requires.consistent.fleet c.requires.leader in
-    subst (λ xs. NodeIs c.args.leader (λ (node : Node). (x : Store) → slice_get xs shard ≡ Some x
-    → log_at shard node.served ≡ Some x.view.log) c.deref_mut.result.now) (sym masters)
-    (subst (NodeIs c.args.leader (λ (node : Node). (x : Store) → slice_get c.args.self.now.masters shard ≡ Some x
-    → log_at shard node.served ≡ Some x.view.log)) (sym leaders) own)
+    lent_log c.args.config.now c.args.self.now (far_shard c.args.job.now) c.args.leader c.deref_mut.result.now c.deref_mut-2.result.now leaders masters
+    c.requires.consistent.fleet c.requires.leader
 
 pub merge_at-requires-clause-stores : goal.merge_at-requires-clause-stores
 merge_at-requires-clause-stores g c =

@@ -3,7 +3,7 @@ use Rattle.tao_core.specs.Asked.{CanBeDone}
 use Rattle.tao_core.specs.Core.{CoreState, moment}
 use Rattle.tao_core.specs.Replies.{AnswersAsked, AnswersAudit}
 use Rattle.core_sessions.specs.declared.sessions.OpenSession.{OpenSession}
-use Rattle.tao_core.proofs.HeldOn.{core_goes_on, core_held, core_kept, core_opened, fleet_stays, same_held}
+use Rattle.tao_core.proofs.HeldOn.{core_goes_on, core_held, core_kept, core_opened, core_unchanged, fleet_stays, same_held}
 use Rattle.tao_core.proofs.StayOpen.{opens_stay, same_open, writes_stay}
 use Rattle.tao_core.proofs.Keeping.{core_stays, delivered_core, evicted_core, mail_only, nodes_only, only_mail, only_nodes}
 use Rattle.tao_core.proofs.serving.Core.perform.Goals as goal
@@ -24,9 +24,16 @@ returns-in-Open g c =
     record {
       does = subst (λ a. AnswersAsked g.K.Keeper.TELLS (moment core keepers link) (Ok a) c.open_session.result (moment new keepers link)) (sym c.in-Open.is)
           (ends.does, ap (λ x. moment x keepers link) ends.rest);
-      usable = core_opened g.K.Keeper.TELLS keepers core new c.requires.keepers (ends.keepers g.K.Keeper.TELLS keepers.told c.requires.keepers.is_consistent) ends.rest
+      usable = core_opened g.K.Keeper.TELLS keepers core new c.requires.keepers
+          (ends.keepers g.K.Keeper.TELLS keepers.told c.requires.keepers.is_consistent) ends.rest
           (opens_stay opened core.sessions c.open_session.result new.sessions can.0 ends.does);
     }
+
+pub returns-in-Cut-clause-usable : goal.returns-in-Cut-clause-usable
+returns-in-Cut-clause-usable g c = core_unchanged g.K.Keeper.TELLS (g.K.Keeper.state c.args.keepers.now) c.args.self.now c.requires.keepers
+
+pub returns-in-Mend-clause-usable : goal.returns-in-Mend-clause-usable
+returns-in-Mend-clause-usable g c = core_unchanged g.K.Keeper.TELLS (g.K.Keeper.state c.args.keepers.now) c.args.self.now c.requires.keepers
 
 pub returns-in-Evict : goal.returns-in-Evict
 returns-in-Evict g c =
@@ -111,10 +118,16 @@ returns-in-Show-clause-does g c =
     subst (λ a. AnswersAsked g.K.Keeper.TELLS now (Ok a) c.show.result now) (sym c.in-Show.is)
     (c.show.ensures g.K.Keeper.TELLS now.keepers now.link c.requires.keepers.is_consistent, refl)
 
+pub returns-in-Show-clause-usable : goal.returns-in-Show-clause-usable
+returns-in-Show-clause-usable g c = core_unchanged g.K.Keeper.TELLS (g.K.Keeper.state c.args.keepers.now) c.args.self.now c.requires.keepers
+
 pub returns-in-Inbox-clause-does : goal.returns-in-Inbox-clause-does
 returns-in-Inbox-clause-does g c =
     let now = moment c.args.self.now (g.K.Keeper.state c.args.keepers.now) (g.L.Link.shown c.args.link.now) in
     subst (λ a. AnswersAsked g.K.Keeper.TELLS now (Ok a) c.show_inbox.result now) (sym c.in-Inbox.is) (c.show_inbox.ensures, refl)
+
+pub returns-in-Inbox-clause-usable : goal.returns-in-Inbox-clause-usable
+returns-in-Inbox-clause-usable g c = core_unchanged g.K.Keeper.TELLS (g.K.Keeper.state c.args.keepers.now) c.args.self.now c.requires.keepers
 
 pub returns-in-Refill : goal.returns-in-Refill
 returns-in-Refill g c =
@@ -156,3 +169,6 @@ returns-in-Repair-clause-usable g c =
     ends.leaves
     (ap (λ (x : CoreState). x.settings) ends.does.rest) (ap (λ (x : CoreState). x.plans) ends.does.rest)
     (same_open core.sessions new.sessions (ap (λ (x : CoreState). x.sessions) ends.does.rest))
+
+pub returns-in_default-clause-usable : goal.returns-in_default-clause-usable
+returns-in_default-clause-usable g c = core_unchanged g.K.Keeper.TELLS (g.K.Keeper.state c.args.keepers.now) c.args.self.now c.requires.keepers

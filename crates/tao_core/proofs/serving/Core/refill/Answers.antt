@@ -4,7 +4,7 @@ use Rattle.core_model.specs.Messages.{IsRefillFor}
 use Rattle.core_model.specs.Pens.{pens_of}
 use Rattle.tao_core.specs.Core.{CoreState, core_state}
 use Rattle.tao_core.proofs.Delivering.{follower_has, left_consistent, refill_found, refill_missed}
-use Rattle.tao_core.proofs.HeldOn.{same_later}
+use Rattle.tao_keeper.proofs.Later.{later_self}
 use Rattle.tao_core.proofs.serving.Core.refill.Goals as goal
 
 pub next_refill-requires-clause-follower : goal.next_refill-requires-clause-follower
@@ -42,4 +42,4 @@ returns-in-None g c =
     refill_missed g.K.Keeper.TELLS c.args.node (core_state c.self.inside) c.args.self.now c.self.view_is keepers (g.L.Link.shown c.args.link.now)
     next.new.self c.requires.keepers next.result next.ensures.takes next.ensures.rest next.ensures.fleet next.ensures.goes c.no_refill.result c.in-None.is
     c.no_refill.ensures in
-    record { does = done.does; keepers = done.is_consistent; on = done.on; tables = λ told at. refl; later = same_later keepers; rest = done.rest }
+    record { does = done.does; keepers = done.is_consistent; on = done.on; tables = λ told at. refl; later = later_self keepers; rest = done.rest }

@@ -2,9 +2,15 @@ use Rattle.std.proofs.Common.{subst, sym}
 use Rattle.core_steps.specs.Posting.{posting}
 use Rattle.core_steps.specs.Routes.{scene}
 use Rattle.tao_core.specs.Core.{CoreState, IsConsistentCore, LeavesCore, core_state}
-use Rattle.tao_core.proofs.Keeping.{written_core}
+use Rattle.tao_core.proofs.Keeping.{core_can_post, written_core}
 use Rattle.tao_core.proofs.Settled.{left_core, masters_held, repaired_same}
 use Rattle.tao_core.proofs.serving.Core.repair.Goals as goal
+
+pub repair_first-outcome-requires-clause-ready : goal.repair_first-outcome-requires-clause-ready
+repair_first-outcome-requires-clause-ready g c =
+    let keepers = g.K.Keeper.state c.args.keepers.now in
+    core_can_post g.K.Keeper.TELLS (core_state c.self.inside) keepers (g.L.Link.shown c.args.link.now)
+    (subst (IsConsistentCore g.K.Keeper.TELLS keepers.told) (sym c.self.view_is) c.requires.keepers)
 
 pub returns-clause-leaves : goal.returns-clause-leaves
 returns-clause-leaves g c =

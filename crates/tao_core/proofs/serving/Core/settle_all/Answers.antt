@@ -9,9 +9,18 @@ use Rattle.core_steps.specs.Routes.{scene}
 use Rattle.tao_base.specs.EdgeTypes.{InversesMatch}
 use Rattle.tao_schema.specs.Schema.{types_of}
 use Rattle.topology.specs.Config.{Settings}
-use Rattle.tao_core.specs.Core.{core_state}
+use Rattle.tao_core.specs.Core.{IsConsistentCore, core_state}
+use Rattle.tao_core.proofs.Keeping.{core_can_post}
 use Rattle.tao_core.proofs.Settled.{settles_core, stops_at_jobs, stops_at_lengths, stops_at_node}
 use Rattle.tao_core.proofs.serving.Core.settle_all.Goals as goal
+
+pub run_jobs-requires : goal.run_jobs-requires
+run_jobs-requires g c =
+    let keepers = g.K.Keeper.state c.args.keepers.now in
+    record {
+      ready = core_can_post g.K.Keeper.TELLS (core_state c.self.inside) keepers (g.L.Link.shown c.args.link.now)
+          (subst (IsConsistentCore g.K.Keeper.TELLS keepers.told) (sym c.self.view_is) c.requires.keepers);
+    }
 
 pub returns-in_err-run_jobs : goal.returns-in_err-run_jobs
 returns-in_err-run_jobs g c =

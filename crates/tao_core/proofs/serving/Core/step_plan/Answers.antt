@@ -7,8 +7,15 @@ use Rattle.topology.specs.States.{is_cache}
 use Rattle.tao_core.specs.Core.{CoreState, IsCoreOf, IsOfSession, core_state}
 use Rattle.tao_core.specs.HeldCalls.{IsOfRegion, plan_leader}
 use Rattle.tao_core.proofs.HeldKeeping.{can_step}
+use Rattle.tao_core.proofs.Keeping.{core_can_post}
 use Rattle.tao_core.proofs.HeldStages.{end_leaves, may_here, next_leaves}
 use Rattle.tao_core.proofs.serving.Core.step_plan.Goals as goal
+
+pub step_or_give_up-requires-clause-ready : goal.step_or_give_up-requires-clause-ready
+step_or_give_up-requires-clause-ready g c =
+    let keepers = g.K.Keeper.state c.args.keepers.now in
+    let of = subst (IsCoreOf g.K.Keeper.TELLS keepers.told) (sym c.self.view_is) c.requires.keepers in
+    core_can_post g.K.Keeper.TELLS (core_state c.self.inside) keepers (g.L.Link.shown c.args.link.now) of.is_consistent
 
 pub step_or_give_up-requires-clause-can : goal.step_or_give_up-requires-clause-can
 step_or_give_up-requires-clause-can g c =

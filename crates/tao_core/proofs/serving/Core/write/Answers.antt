@@ -7,6 +7,7 @@ use Rattle.std.specs.Prelude.{IfSome}
 use Rattle.tao_base.specs.Writes.{write_shard}
 use Rattle.tao_core.specs.Core.{CoreState, IsConsistentCore, core_state}
 use Rattle.tao_core.proofs.Found.{found_at}
+use Rattle.tao_core.proofs.Keeping.{core_can_post}
 use Rattle.tao_core.proofs.Ways.{follower_for, leader_for}
 use Rattle.tao_core.proofs.Written.{may_written, note_of_log, note_there, write_carried, write_refused, write_unready}
 use Rattle.tao_core.proofs.serving.Core.write.Goals as goal
@@ -29,6 +30,12 @@ returns-in_default-ready g c =
     c.at-session.ensures c.shard-shard.ensures c.in-Some.ensures.chosen
     (sessions_of c.ready.new.sessions) c.out_of_memory.result c.in_default-ready.ensures.same c.out_of_memory.ensures in
     record { does = done.does; leaves = done.leaves }
+
+pub write_along-requires-clause-ready : goal.write_along-requires-clause-ready
+write_along-requires-clause-ready g c =
+    let keepers = g.K.Keeper.state c.args.keepers.now in
+    core_can_post g.K.Keeper.TELLS (core_state c.self.inside) keepers (g.L.Link.shown c.args.link.now)
+    (subst (IsConsistentCore g.K.Keeper.TELLS keepers.told) (sym c.self.view_is) c.requires.keepers)
 
 pub write_along-requires-clause-follower : goal.write_along-requires-clause-follower
 write_along-requires-clause-follower g c =

@@ -2,7 +2,7 @@ use Rattle.std.specs.Prelude.{IfOk}
 use Rattle.std.proofs.Common.{subst}
 use Rattle.keeper_map.proofs.StoreLemmas.{changes_there, found_at, is_there, told_there, written}
 use Rattle.tao_keeper.specs.Table.{OpensAs, Table, after_open}
-use Rattle.keeper_map.proofs.stores.Stores.open.Goals as goal
+use Rattle.keeper_map.proofs.stores.StoreTables.open.Goals as goal
 
 pub returns-clause-answer : goal.returns-clause-answer
 returns-clause-answer c =

@@ -1,5 +1,5 @@
 use Rattle.keeper_map.proofs.StoreLemmas.{ends_there, found_at, is_there, written}
-use Rattle.keeper_map.proofs.stores.Stores.end_job.Goals as goal
+use Rattle.keeper_map.proofs.stores.StoreTables.end_job.Goals as goal
 
 pub returns-in-Some : goal.returns-in-Some
 returns-in-Some c =

@@ -1,5 +1,5 @@
 use Rattle.keeper_map.proofs.StoreLemmas.{first_stays, written}
-use Rattle.keeper_map.proofs.stores.Stores.make_table.Goals as goal
+use Rattle.keeper_map.proofs.stores.StoreTables.make_table.Goals as goal
 
 pub returns-in_ok-insert-in-None-clause-stays : goal.returns-in_ok-insert-in-None-clause-stays
 returns-in_ok-insert-in-None-clause-stays c =

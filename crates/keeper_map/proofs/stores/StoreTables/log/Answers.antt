@@ -1,6 +1,6 @@
 use Rattle.std.proofs.Common.{subst, sym}
 use Rattle.graph_model.specs.Soundness.{IsSound}
-use Rattle.keeper_map.proofs.stores.Stores.log.Goals as goal
+use Rattle.keeper_map.proofs.stores.StoreTables.log.Goals as goal
 
 pub returns-in-Some-clause-sound : goal.returns-in-Some-clause-sound
 returns-in-Some-clause-sound c = rw c.log.ensures c.in-Some.table.now.sound

@@ -1,5 +1,5 @@
 use Rattle.core_model.proofs.FirstNamed.{first_at, none_named}
-use Rattle.core_model.proofs.named.place_of.Goals as goal
+use Rattle.core_model.proofs.named.named_place.Goals as goal
 
 pub unreachable-requires : goal.unreachable-requires
 unreachable-requires g c = none_named c.args.nodes.now c.args.name c.in-None.ensures c.requires.there

@@ -3,7 +3,7 @@ use Rattle.keeper_map.proofs.StoreLemmas.{changes_there, found_at, is_there, tol
 use Rattle.tao_keeper.specs.Table.{Table, after_commit}
 use Rattle.tao_keeper.specs.declared.keeper.TheConstants.{MOST_ENTRIES}
 use Rattle.graph_model.specs.Soundness.{CanFollow}
-use Rattle.keeper_map.proofs.stores.Stores.add.Goals as goal
+use Rattle.keeper_map.proofs.stores.StoreTables.add.Goals as goal
 
 pub add-requires-clause-room : goal.add-requires-clause-room
 add-requires-clause-room c =

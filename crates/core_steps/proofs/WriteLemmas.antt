@@ -24,7 +24,7 @@ use Rattle.core_model.specs.Messages.{told_of}
 use Rattle.core_model.specs.Pens.{Pens, Rise, pens_of}
 use Rattle.core_model.specs.Writes.{IsSeenEntry}
 use Rattle.replies.specs.declared.refusals.Refusal.TheVariants.{Store}
-use Rattle.replies.specs.declared.refusals.StoreRefused.TheVariants.{SeqReused, ShardFull, StampFull, LogFull, KeeperFault, LinkFault}
+use Rattle.replies.specs.declared.refusals.StoreRefused.TheVariants.{LinkFault}
 use Rattle.replies.specs.declared.reply.Reply.{Reply}
 use Rattle.replies.specs.declared.reply.Reply.TheVariants.{Refused}
 use Rattle.write_plan.specs.Plans.{when_of}

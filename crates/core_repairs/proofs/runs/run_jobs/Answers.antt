@@ -22,11 +22,7 @@ loop-shard-init g c =
 
 pub run_shard-requires-clause-ready : goal.run_shard-requires-clause-ready
 run_shard-requires-clause-ready g c =
-    let state = g.K.Keeper.state in
-    let shown = g.L.Link.shown in
-    let start = posting (scene c.args.fleet.now (state c.args.keepers.now) (shown c.args.link.now)) c.args.mail.now c.args.topology.now in
-    let now = posting (scene c.loop-shard.fleet (state c.loop-shard.keepers) (shown c.loop-shard.link)) c.loop-shard.mail c.args.topology.now in
-    can_post_on g.K.Keeper.TELLS c.args.config.now start now c.requires.ready c.loop-shard.invariant.on refl
+    can_post_on g.K.Keeper.TELLS c.args.config.now _ _ c.requires.ready c.loop-shard.invariant.on refl
 
 pub loop-shard-preserved : goal.loop-shard-preserved
 loop-shard-preserved g c =
@@ -60,13 +56,7 @@ returns-in_err-run_shard-clause-rest g c =
     rest_trans c.args.fleet.now c.loop-shard.fleet c.run_shard.new.fleet c.loop-shard.invariant.rest c.run_shard.ensures.rest
 
 pub returns-in_err-run_shard-clause-on : goal.returns-in_err-run_shard-clause-on
-returns-in_err-run_shard-clause-on g c =
-    let state = g.K.Keeper.state in
-    let shown = g.L.Link.shown in
-    let start = posting (scene c.args.fleet.now (state c.args.keepers.now) (shown c.args.link.now)) c.args.mail.now c.args.topology.now in
-    let now = posting (scene c.loop-shard.fleet (state c.loop-shard.keepers) (shown c.loop-shard.link)) c.loop-shard.mail c.args.topology.now in
-    let new = posting (scene c.run_shard.new.fleet (state c.run_shard.new.keepers) (shown c.run_shard.new.link)) c.run_shard.new.mail c.args.topology.now in
-    posts_trans g.K.Keeper.TELLS c.args.config.now start now new c.loop-shard.invariant.on c.run_shard.ensures.on
+returns-in_err-run_shard-clause-on g c = posts_trans g.K.Keeper.TELLS c.args.config.now _ _ _ c.loop-shard.invariant.on c.run_shard.ensures.on
 
 pub returns-in_err-run_shard-clause-link : goal.returns-in_err-run_shard-clause-link
 returns-in_err-run_shard-clause-link g c =

@@ -25,11 +25,7 @@ loop-found-init g c =
 
 pub repair_first-requires-clause-ready : goal.repair_first-requires-clause-ready
 repair_first-requires-clause-ready g c =
-    let state = g.K.Keeper.state in
-    let shown = g.L.Link.shown in
-    let start = posting (scene c.args.fleet.now (state c.args.keepers.now) (shown c.args.link.now)) c.args.mail.now c.args.topology.now in
-    let now = posting (scene c.loop-found.fleet (state c.loop-found.keepers) (shown c.loop-found.link)) c.loop-found.mail c.args.topology.now in
-    can_post_on g.K.Keeper.TELLS c.args.config.now start now c.requires.ready c.loop-found.invariant.on refl
+    can_post_on g.K.Keeper.TELLS c.args.config.now _ _ c.requires.ready c.loop-found.invariant.on refl
 
 pub loop-found-preserved : goal.loop-found-preserved
 loop-found-preserved g c =
@@ -73,14 +69,7 @@ returns-in-Err-clause-runs g c =
     }
 
 pub returns-in-Err-clause-on : goal.returns-in-Err-clause-on
-returns-in-Err-clause-on g c =
-    let state = g.K.Keeper.state in
-    let shown = g.L.Link.shown in
-    let start = posting (scene c.args.fleet.now (state c.args.keepers.now) (shown c.args.link.now)) c.args.mail.now c.args.topology.now in
-    let now = posting (scene c.loop-found.fleet (state c.loop-found.keepers) (shown c.loop-found.link)) c.loop-found.mail c.args.topology.now in
-    let new = posting (scene c.repair_first.new.fleet (state c.repair_first.new.keepers) (shown c.repair_first.new.link)) c.repair_first.new.mail
-    c.args.topology.now in
-    posts_trans g.K.Keeper.TELLS c.args.config.now start now new c.loop-found.invariant.on c.repair_first.ensures.on
+returns-in-Err-clause-on g c = posts_trans g.K.Keeper.TELLS c.args.config.now _ _ _ c.loop-found.invariant.on c.repair_first.ensures.on
 
 pub returns-in_default-clause-runs : goal.returns-in_default-clause-runs
 returns-in_default-clause-runs g c =
@@ -122,21 +111,7 @@ returns-then-position-last-clause-runs g c =
     }
 
 pub returns-in_default-clause-on : goal.returns-in_default-clause-on
-returns-in_default-clause-on g c =
-    let state = g.K.Keeper.state in
-    let shown = g.L.Link.shown in
-    let start = posting (scene c.args.fleet.now (state c.args.keepers.now) (shown c.args.link.now)) c.args.mail.now c.args.topology.now in
-    let now = posting (scene c.loop-found.fleet (state c.loop-found.keepers) (shown c.loop-found.link)) c.loop-found.mail c.args.topology.now in
-    let new = posting (scene c.repair_first.new.fleet (state c.repair_first.new.keepers) (shown c.repair_first.new.link)) c.repair_first.new.mail
-    c.args.topology.now in
-    posts_trans g.K.Keeper.TELLS c.args.config.now start now new c.loop-found.invariant.on c.repair_first.ensures.on
+returns-in_default-clause-on g c = posts_trans g.K.Keeper.TELLS c.args.config.now _ _ _ c.loop-found.invariant.on c.repair_first.ensures.on
 
 pub returns-then-position-last-clause-on : goal.returns-then-position-last-clause-on
-returns-then-position-last-clause-on g c =
-    let state = g.K.Keeper.state in
-    let shown = g.L.Link.shown in
-    let start = posting (scene c.args.fleet.now (state c.args.keepers.now) (shown c.args.link.now)) c.args.mail.now c.args.topology.now in
-    let now = posting (scene c.loop-found.fleet (state c.loop-found.keepers) (shown c.loop-found.link)) c.loop-found.mail c.args.topology.now in
-    let new = posting (scene c.repair_first.new.fleet (state c.repair_first.new.keepers) (shown c.repair_first.new.link)) c.repair_first.new.mail
-    c.args.topology.now in
-    posts_trans g.K.Keeper.TELLS c.args.config.now start now new c.loop-found.invariant.on c.repair_first.ensures.on
+returns-then-position-last-clause-on g c = posts_trans g.K.Keeper.TELLS c.args.config.now _ _ _ c.loop-found.invariant.on c.repair_first.ensures.on

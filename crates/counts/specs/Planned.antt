@@ -7,7 +7,7 @@ pub record Planned : Type 0 where
   pub fails : List ℕ
   pub count : ℕ
 
--- there was no call yet
+-- a plan by which the calls of the listed numbers fail, before the first call
 abbrev pub from_one : List ℕ → Planned
 from_one fails = record { fails = fails; count = 0 }
 
@@ -15,7 +15,7 @@ from_one fails = record { fails = fails; count = 0 }
 abbrev pub FailsNext : Planned → Type 0
 FailsNext calls = Contains calls.fails (after_one calls.count)
 
--- there was one more call
+-- the plan after one more call, whether that failed or not
 abbrev pub after_next : Planned → Planned
 after_next calls = record calls { count = after_one calls.count }
 

@@ -1,5 +1,10 @@
 //! What it means that a count of faults rose, for all that can fail: sources, sinks, links and keepers. And calls that
 //! fail where a plan says so, for those of them that stand in memory.
+//!
+//! What it promises. What it means that a count rose, for all that can fail; a count never falls and stands still
+//! at its last value; of calls that a plan numbers exactly those fail.
+//!
+//! The contracts that say so: `Count::rise`; `Rose`, `HasCause`; `PlannedCalls`.
 #![tactic(auto)]
 
 ghost use Rattle.std.specs.Prelude.{◌≡◌, ◌≤◌};

@@ -1,5 +1,9 @@
 //! The join of two records of an edge, by which its two ends come to agree: of two records the one
 //! with the greater stamp stays, in whatever order and however often they arrive.
+//!
+//! What it promises. The later of two records stays; takes no memory.
+//!
+//! The contracts that say so: `merge`.
 #![tactic(auto)]
 
 ghost use Rattle.std.specs.Prelude.{◌≡◌, Some};

@@ -4,7 +4,8 @@ use Rattle.std.proofs.Common.{arith, zero, suc}
 use Rattle.std.proofs.lemmas.List.{get_or_default}
 use Rattle.std.proofs.lemmas.List.Elements.{All-contains, All-cons, All-nil, All-tail}
 use Rattle.std.proofs.lemmas.List.Folds.{list_any_at}
-use Rattle.std.specs.Prelude.{All, AllPairs, Contains, fold}
+use Rattle.std.specs.Prelude.{All, AllPairs, Contains, Some, fold, length}
+use Rattle.graph_model.proofs.Sound.{slice_get-last}
 use Rattle.tao_base.specs.declared.entry.Change.{Change}
 use Rattle.tao_base.specs.declared.entry.Entry.{Entry}
 use Rattle.tao_base.specs.declared.entry.Touch.{Touch}
@@ -19,7 +20,7 @@ use Rattle.graph_model.proofs.Versions.{changes_of-append, version-append, untou
 use Rattle.graph_model.specs.Edges.{edge_list, edge_record, list_after, live_edges, newest_first, record_after, record_in}
 use Rattle.graph_model.specs.EntryLaws.{AppliesTouch, AppliesTouches, ChangesByTouch, ListFollows, ObjectFollows, RecordFollows, VersionFollows}
 use Rattle.tao_base.specs.Keys.{same_key}
-use Rattle.graph_model.specs.Log.{object, changes_at, changes_of, object_after, object_in, touches_key, version}
+use Rattle.graph_model.specs.Log.{entry_at, object, changes_at, changes_of, object_after, object_in, touches_key, version}
 
 -- what changes by a step at a list's end changes by that step for each element that is added
 pub fold_steps : {X Y : Type 0} (f : List X → Y) (step : Y → X → Y) → ((xs : List X) (x : X) → f (xs ++ x ∷ []) ≡ step (f xs) x)
@@ -100,3 +101,6 @@ pub applies_touches : (log : List Entry) (e : Entry) → AppliesTouches log e
 applies_touches log e = record {
   each = λ once k d lt. applies_touch log e (get_or e.touches k d) once (k, lt, get_or_default e.touches k (get_or e.touches k d) d lt);
 }
+
+pub entry_at-last : (log : List Entry) (e : Entry) → entry_at (log ++ e ∷ []) (length log + 1) ≡ Some e
+entry_at-last log e = ap (entry_at (log ++ e ∷ [])) (let next : length log + 1 ≡ suc (length log) = omega arith in next) ∙ slice_get-last log e

@@ -27,7 +27,7 @@ use Rattle.graph_model.specs.Soundness.{IsSound}
 use Rattle.graph_model.specs.VersionLaws.{LengthIsWithinVersion}
 
 -- at most one edge is live for each change
-live_within : (cs : List Change) → length (live_edges cs) ≤ length cs
+pub live_within : (cs : List Change) → length (live_edges cs) ≤ length cs
 live_within [] = omega arith
 live_within (SetEdge e was ∷ later) = let rest = live_within later in elim (cases_Bool (list_any (is_at e.id2) later)) [
   | inl k ↦ rw k (omega arith)

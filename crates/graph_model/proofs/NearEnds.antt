@@ -1,5 +1,7 @@
 -- In a sound log of a shard both near ends of an edge have the same record: each entry writes both, or neither.
-use Rattle.std.proofs.Common.{◌≡◌, ◌≢◌, ℕ, List, [], ◌∷◌, ◌++◌, refl, sym, ap, subst, ◌∙◌}
+use Rattle.std.proofs.Common.{◌≡◌, ◌≢◌, ℕ, List, [], ◌∷◌, ◌++◌, refl, sym, ap, ◌∙◌}
+use Rattle.std.proofs.Math.Logic.{∥∥₁_elim}
+use Rattle.std.proofs.Props.{props}
 use Rattle.std.proofs.lemmas.List.Elements.{All-contains, All-pop}
 use Rattle.std.specs.Option.{option_or}
 use Rattle.std.specs.Prelude.{AllPairs, Contains, IfSome, Option, Some, None}
@@ -10,6 +12,7 @@ use Rattle.tao_base.specs.declared.entry.Entry.{Entry}
 use Rattle.tao_base.specs.declared.id.AType.{AType}
 use Rattle.tao_base.specs.declared.id.Id.{Id}
 use Rattle.graph_model.proofs.Lists.{snoc_ind}
+use Rattle.graph_model.proofs.Members.{if_some_at}
 use Rattle.graph_model.proofs.Sound.{before_last, last_follows}
 use Rattle.graph_model.specs.Edges.{edge_record}
 use Rattle.graph_model.specs.EndLaws.{NearEndsArePaired}
@@ -20,13 +23,21 @@ use Rattle.graph_model.proofs.Updates.{edge_record-append, record_of_update, upd
 pub other_end-is : (types : EdgeTypes) (inverse : AType) (u : EdgeUpdate) → types.inverse u.1 ≡ Some inverse → other_end types u ≡ Some (u.2, inverse, u.0, u.3)
 other_end-is types inverse u h = rw h refl
 
+-- where the entry keeps both ends, it writes the other end of its record too
+pub other_end_written : (types : EdgeTypes) (shard : ℕ) (e : Entry) → KeepsEnds types shard e → (u v : EdgeUpdate) → Contains (updates_of e) u
+    → shard_of u.2 ≡ shard → other_end types u ≡ Some v → ∥ Contains (updates_of e) v ∥₁
+other_end_written types shard e keeps u v h near other =
+    if_some_at (λ x. ∥ Contains (updates_of e) x ∥₁) (other_end types u) v
+    (All-contains (λ x. shard_of x.2 ≡ shard → IfSome (other_end types x) (λ y. ∥ Contains (updates_of e) y ∥₁)) (updates_of e) u keeps.both h near) other
+
 one_way : (types : EdgeTypes) (shard : ℕ) (e : Entry) (id1 : Id) (atype inverse : AType) (id2 : Id) (s : EdgeState) → AllPairs (λ r t. r.key ≢ t.key) e.touches
     → KeepsEnds types shard e → types.inverse atype ≡ Some inverse → shard_of id2 ≡ shard
     → edge_record (e ∷ []) id1 atype id2 ≡ Some s → edge_record (e ∷ []) id2 inverse id1 ≡ Some s
 one_way types shard e id1 atype inverse id2 s once keeps inv here h =
-    let both = All-contains (λ u. shard_of u.2 ≡ shard → IfSome (other_end types u) (Contains (updates_of e))) (updates_of e) (id1, atype, id2, s) keeps.both
-    (update_of_record e id1 atype id2 s once h) here in
-    record_of_update e id2 inverse id1 s once (subst (λ o. IfSome o (Contains (updates_of e))) (other_end-is types inverse (id1, atype, id2, s) inv) both)
+    let u : EdgeUpdate = (id1, atype, id2, s) in
+    let both = other_end_written types shard e keeps u (id2, inverse, id1, s) (update_of_record e id1 atype id2 s once h) here
+    (other_end-is types inverse u inv) in
+    ∥∥₁_elim both (hlevel props) (record_of_update e id2 inverse id1 s once)
 
 same_option : {X : Type 0} (o p : Option X) → ((x : X) → o ≡ Some x → p ≡ Some x) → ((x : X) → p ≡ Some x → o ≡ Some x) → o ≡ p
 same_option None None f g = refl

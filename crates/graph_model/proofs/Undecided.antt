@@ -1,7 +1,7 @@
 -- What the table leaves undecided is open: two lists that begin so, which differ in one stamp, answer differently.
 use Rattle.std.proofs.Common.{◌≡◌, ◌≢◌, ℕ, zero, suc, ◌+◌, ◌-◌, ◌<◌, ◌≤◌, Bool, true, false, List, [], ◌∷◌, ◌++◌, append_assoc, inl, inr, length}
 use Rattle.std.proofs.Common.{length-append, take, drop, refl, sym, ap, ◌∙◌, subst, eqb, ltb, leb, min, arith}
-use Rattle.std.proofs.lemmas.Bool.{cases_Bool}
+use Rattle.std.proofs.lemmas.Bool.{cases_Bool, or_parts, or_right}
 use Rattle.std.proofs.lemmas.Bool.Decides.{nat_tests}
 use Rattle.std.proofs.lemmas.List.{append_cancel_left, drop-append-le, length-drop, length-take, take-append-drop}
 use Rattle.std.proofs.lemmas.List.Elements.{filter-append}
@@ -14,7 +14,7 @@ use Rattle.tao_base.specs.declared.query.Query.TheVariants.{ObjGet, AssocGet, As
 use Rattle.graph_model.proofs.Applied.{is_prefix, length_insert}
 use Rattle.graph_model.proofs.Later.{all_both, all_filter, all_take, EachWithLater-across, EachWithLater-append, EachWithLater-filter}
 use Rattle.graph_model.proofs.Later.{EachWithLater-left, EachWithLater-right, EachWithLater-take}
-use Rattle.graph_model.proofs.Lists.{all_insert, distinct_insert, or_false, sorted_insert, without_none, without_same, eqb-same}
+use Rattle.graph_model.proofs.Lists.{all_insert, distinct_insert, sorted_insert, without_none, without_same, eqb-same}
 use Rattle.graph_model.specs.Answers.{at_least, at_most, list_answer, range, to_ids, within}
 use Rattle.graph_model.specs.Edges.{AreDistinct, IsInListOrder, IsNewestFirst, Without, insert_edge, is_newer, without_edge}
 use Rattle.graph_model.specs.PrefixLaws.{CanStandBehind, IsOpen, UndecidedIsOpen, asks_for}
@@ -96,10 +96,6 @@ length_without i (x ∷ xs) d = elim (cases_Bool (x.id2 == i)) [
   | inl k ↦ (let gone : without_edge i xs ≡ xs = without_same i xs (subst (λ j. Without j xs) (eqb-same x.id2 i k) d.0) in rw (k, gone) (omega arith))
   | inr k ↦ (let more = length_without i xs d.1 in rw k (omega arith))
 ]
-
-or_right : (a b : Bool) → b ≡ true → (a || b) ≡ true
-or_right true b h = refl
-or_right false b h = h
 
 any_insert : (p : Edge → Bool) (f : Edge) (xs : List Edge) → p f ≡ true → list_any p (insert_edge f xs) ≡ true
 any_insert p f [] h = rw h refl
@@ -257,25 +253,25 @@ open_behind bound edges rest (ObjGet id) e h order stands asks = absurd (cc)
 open_behind bound edges rest (AssocCount id1 atype) e h order stands asks = absurd (cc)
 open_behind bound edges rest (AssocRange id1 atype pos limit) e h order stands asks =
     let total : ℕ = length edges + length rest in
-    let last = or_false (eqb (length edges) total || leb (pos + min limit bound) (length edges)) (leb total pos) h in
-    let first = or_false (eqb (length edges) total) (leb (pos + min limit bound) (length edges)) last.0 in
+    let last = or_parts (eqb (length edges) total || leb (pos + min limit bound) (length edges)) (leb total pos) h in
+    let first = or_parts (eqb (length edges) total) (leb (pos + min limit bound) (length edges)) last.0 in
     open_range bound edges rest total id1 atype pos limit refl (not_all (length edges) (length rest) first.0) order (ltb-is 0 (min limit bound) asks)
     (leb-not (pos + min limit bound) (length edges) first.1) (leb-not total pos last.1)
 open_behind bound edges rest (AssocTimeRange id1 atype high low limit) e h order stands asks =
     let total : ℕ = length edges + length rest in
-    let third = or_false (eqb (length edges) total || ltb high low || leb (min limit bound) (count_within (Some low) (Some high) edges))
+    let third = or_parts (eqb (length edges) total || ltb high low || leb (min limit bound) (count_within (Some low) (Some high) edges))
     (ends_below low edges) h in
-    let second = or_false (eqb (length edges) total || ltb high low) (leb (min limit bound) (count_within (Some low) (Some high) edges)) third.0 in
-    let first = or_false (eqb (length edges) total) (ltb high low) second.0 in
+    let second = or_parts (eqb (length edges) total || ltb high low) (leb (min limit bound) (count_within (Some low) (Some high) edges)) third.0 in
+    let first = or_parts (eqb (length edges) total) (ltb high low) second.0 in
     open_by_filter bound edges rest total (AssocTimeRange id1 atype high low limit) (λ x. at_least (Some low) x.time && at_most (Some high) x.time) e
     (time_filters bound edges total id1 atype high low limit (leb-not (min limit bound) (count_within (Some low) (Some high) edges) second.1))
     refl (not_all (length edges) (length rest) first.0) order stands asks
 open_behind bound edges rest (AssocGet id1 atype ids high low) e h order stands asks =
     let total : ℕ = length edges + length rest in
     let all_here : Bool = list_all (λ id. list_any (λ x. id == x.id2) edges) ids in
-    let third = or_false (eqb (length edges) total || all_here || is_empty_span low high) (ends_below_given low edges) h in
-    let second = or_false (eqb (length edges) total || all_here) (is_empty_span low high) third.0 in
-    let first = or_false (eqb (length edges) total) all_here second.0 in
+    let third = or_parts (eqb (length edges) total || all_here || is_empty_span low high) (ends_below_given low edges) h in
+    let second = or_parts (eqb (length edges) total || all_here) (is_empty_span low high) third.0 in
+    let first = or_parts (eqb (length edges) total) all_here second.0 in
     open_by_filter bound edges rest total (AssocGet id1 atype ids high low)
     (λ x. list_any (λ id. id == x.id2) ids && (at_least low x.time && at_most high x.time)) e
     (get_filters bound edges total id1 atype ids high low) refl (not_all (length edges) (length rest) first.0) order stands asks

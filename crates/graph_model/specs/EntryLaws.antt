@@ -42,6 +42,6 @@ pub record AppliesTouch (log : List Entry) (e : Entry) (t : Touch) : Type 0 wher
   pub list_is : (id1 : Id) (atype : AType) → t.key ≡ Assocs id1 atype
       → edge_list (log ++ e ∷ []) id1 atype ≡ list_after t.change (edge_list log id1 atype)
 
--- so does an entry that touches no key twice
+-- an entry that touches no key twice does, at each key that it touches, the one touch's change and nothing else
 pub record AppliesTouches (log : List Entry) (e : Entry) : Type 0 where
   pub each : AllPairs (λ s t. s.key ≢ t.key) e.touches → All (AppliesTouch log e) e.touches

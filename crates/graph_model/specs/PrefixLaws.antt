@@ -9,11 +9,11 @@ use Rattle.graph_model.specs.Answers.{at_least, at_most, list_answer}
 use Rattle.graph_model.specs.Edges.{IsInListOrder, IsNewestFirst, Without, is_newer, list_after}
 use Rattle.graph_model.specs.Prefixes.{IsDecided, IsPrefixOf, SaysWas, decides, edges_after, total_after}
 
--- the test is the table
+-- the test `decides` is true exactly where the table `IsDecided` says that the query is decided
 abbrev pub DecidesExactly : ℕ → List Edge → ℕ → Query → Type 0
 DecidesExactly bound edges total query = (decides bound edges total query ≡ true) ↔ IsDecided bound edges total query
 
--- the law of deciding: the answer then read is that of each list in order that begins so and has that length
+-- what first edges and a length decide of a query, each list in order that begins with the edges and has that length answers
 abbrev pub DecidesRightly : ℕ → List Edge → ℕ → Query → Type 0
 DecidesRightly bound edges total query = decides bound edges total query ≡ true → (whole : List Edge) → IsPrefixOf edges total whole
     → IsInListOrder whole → list_answer bound edges total query ≡ list_answer bound whole (length whole) query
@@ -31,7 +31,7 @@ asks_for bound (AssocRange id1 atype pos limit) e = nat_lt 0 (min limit bound)
 asks_for bound (AssocTimeRange id1 atype high low limit) e = at_least (Some low) e.time && at_most (Some high) e.time
 asks_for bound (AssocGet id1 atype ids high low) e = list_any (λ id. id == e.id2) ids && (at_least low e.time && at_most high e.time)
 
--- two lists in order that begin so and have that length, and answer differently
+-- two lists in order that begin with the edges and have that length answer the query differently
 pub record IsOpen (bound : ℕ) (edges : List Edge) (total : ℕ) (query : Query) : Type 0 where
   pub one : List Edge
   pub other : List Edge

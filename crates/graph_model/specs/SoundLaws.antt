@@ -16,7 +16,7 @@ pub record SoundGrows (log : List Entry) (e : Entry) : Type 0 where
   pub grows : IsSound log → CanFollow log e → IsSound (log ++ e ∷ [])
   pub begins : IsSound log → (n : ℕ) → IsSound (take n log)
 
--- the same of a sound log of a shard, where the entry keeps both ends
+-- a sound log of a shard grows by an entry that can follow it and keeps both ends, and each beginning of such a log is one
 pub record SoundOfGrows (shard : ℕ) (log : List Entry) (e : Entry) : Type 0 where
   pub grows : (types : EdgeTypes) → IsSoundOf types shard log → CanFollow log e → KeepsEnds types shard e → IsSoundOf types shard (log ++ e ∷ [])
   pub begins : (types : EdgeTypes) → IsSoundOf types shard log → (n : ℕ) → IsSoundOf types shard (take n log)
@@ -26,7 +26,7 @@ pub record TouchesTell (log : List Entry) (place : ℕ) (e : Entry) : Type 0 whe
   pub versions : All (λ t. t.version ≡ version (take (place + 1) log) t.key) e.touches
   pub times : All (λ t. IfSome (update_at t.key t.change) (λ u. was_of t.change ≡ live_time (edge_record (take place log) u.0 u.1 u.2))) e.touches
 
--- so do the touches of each entry of a sound log
+-- in a sound log each touch's version is its key's once its entry stands, and `was` the time of its edge just before
 abbrev pub SoundTouchesTell : List Entry → Type 0
 SoundTouchesTell log = IsSound log → (place : ℕ) (e : Entry) → slice_get log place ≡ Some e → TouchesTell log place e
 

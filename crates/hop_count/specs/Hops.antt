@@ -5,6 +5,6 @@ use Rattle.std.specs.Prelude.{ℕ, ◌+◌, ◌-◌, ◌^◌, min}
 abbrev pub most_hops : ℕ
 most_hops = 2 ^ 64 - 1
 
--- so many hops more. At its last value the count stands still
+-- the count after some more hops. At its last value it stands still
 abbrev pub hops_after : ℕ → ℕ → ℕ
 hops_after hops more = min (hops + more) most_hops

@@ -17,10 +17,7 @@ use Rattle.graph_model.specs.Edges.{IsInListOrder, IsNewestFirst, Without, inser
 use Rattle.graph_model.specs.Prefixes.{is_before_last, put_among}
 use Rattle.list_prefix.specs.Changes.{fallen, prefix_after, rest_of, shortened}
 use Rattle.list_prefix.specs.ListPrefix.{CanBegin, ListPrefix}
-
-not_true : (b : Bool) → not b ≡ true → b ≡ false
-not_true true h = cc
-not_true false h = refl
+use Rattle.tao_base.proofs.Tests.{not_true}
 
 not_false : (b : Bool) → not b ≡ false → b ≡ true
 not_false true h = refl

@@ -8,6 +8,7 @@ use Rattle.tao_base.specs.Ids.{IsRising}
 use Rattle.tao_base.specs.declared.edge.Edge.{Edge}
 use Rattle.graph_model.proofs.Lists.{apart-eqb, eqb-same}
 use Rattle.graph_model.specs.Edges.{AreDistinct}
+use Rattle.tao_base.proofs.RisingNumbers.{rising_tail}
 
 -- whether the edge goes to one of the ids
 abbrev is_asked : List ℕ → Edge → Bool
@@ -24,10 +25,6 @@ suc_eq a b = elim (cases_Bool (a == b)) [
   | inl t ↦ t ∙ sym (eq-eqb (suc a) (suc b) (ap suc (eqb-true a b t)))
   | inr f ↦ f ∙ sym (ne_eqb (suc a) (suc b) (λ e. (let g = eq-eqb a b (omega arith) in cc)))
 ]
-
-rising_tail : (i : ℕ) (ids : List ℕ) → IsRising (i ∷ ids) → IsRising ids
-rising_tail i [] up = tt
-rising_tail i (j ∷ ids) up = up.1
 
 -- the ids that follow are greater
 above : (i : ℕ) (ids : List ℕ) → IsRising (i ∷ ids) → (j : ℕ) → j ≤ i → list_any (λ id. id == j) ids ≡ false

@@ -5,7 +5,7 @@ use Rattle.tao_base.specs.declared.query.Query.{Query}
 use Rattle.graph_model.specs.Prefixes.{decides}
 use Rattle.list_prefix.specs.ListPrefix.{ListPrefix, list_prefix}
 
--- so many of the first edges decide the query, and no fewer do
+-- the count is the least number of first edges that decides the query, and is within the bound
 pub record IsShortest (bound : ℕ) (edges : List Edge) (total : ℕ) (query : Query) (count : ℕ) : Type 0 where
   pub within : count ≤ min (length edges) bound
   pub decided : decides bound (take count edges) total query ≡ true

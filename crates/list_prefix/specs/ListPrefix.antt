@@ -12,6 +12,7 @@ pub record ListPrefix : Type 0 where
   pub edges : List Edge
   pub total : ℕ
 
+-- the prefix with these first edges, of a list that has so many edges in total
 abbrev pub list_prefix : List Edge → ℕ → ListPrefix
 list_prefix edges total = record { edges = edges; total = total }
 

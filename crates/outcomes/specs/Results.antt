@@ -12,7 +12,7 @@ abbrev pub needed : {A E : Type 0} → E → Option A → Result A E
 needed refused None = Err refused
 needed refused (Some a) = Ok a
 
--- this refusal, unless the test passes
+-- the outcome of a test: nothing but Ok where it passes, else the refusal
 abbrev pub refused_unless : {E : Type 0} → E → Bool → Result ⊤ E
 refused_unless refused true = Ok tt
 refused_unless refused false = Err refused

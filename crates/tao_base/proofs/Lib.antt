@@ -1,3 +1,5 @@
 pub mod IdSets
 pub mod InOrder
+pub mod RisingNumbers
 pub mod SameKeys
+pub mod Tests

@@ -21,10 +21,11 @@ KeysAscend (p ∷ q ∷ ps) = (slice_cmp nat_cmp p.key q.key ≡ Less) × KeysAs
 abbrev pub text_bytes : List ℕ → List ℕ
 text_bytes text = to_be_bytes w16 (length text) ++ text
 
--- the spelling: the number of pairs, and each key with its value
+-- the spelling of a pair: its key, then its value, each with its length before it
 abbrev pub pair_bytes : Pair → List ℕ
 pair_bytes p = text_bytes p.key ++ text_bytes p.value
 
+-- the spelling of data: the number of pairs in one byte, then each key with its value
 abbrev pub data_bytes : List Pair → List ℕ
 data_bytes pairs = length pairs ∷ flat_map pair_bytes pairs
 
@@ -34,6 +35,7 @@ pub record IsData (pairs : List Pair) : Type 0 where
   pub few : length pairs ≤ 32
   pub small : length (data_bytes pairs) ≤ 4096
 
+-- the pair of a key and a value that are given as strings
 abbrev pub pair_of : String Global × String Global → Pair
 pair_of texts = record { key = string_bytes texts.0; value = string_bytes texts.1 }
 

@@ -7,6 +7,7 @@ use Rattle.tao_base.specs.Ids.{shard_of}
 use Rattle.tao_base.specs.declared.id.Key.{Key}
 use Rattle.tao_base.specs.declared.id.Key.TheVariants.{Obj, List as Assocs}
 
+-- whether two keys are those of one object, or of one id's list of one type
 abbrev pub same_key : Key → Key → Bool
 same_key (Obj id) (Obj other) = id == other
 same_key (Obj id) (Assocs other atype) = false

@@ -7,6 +7,6 @@ use Rattle.std.specs.List.{list_all}
 abbrev pub is_name_byte : ℕ → Bool
 is_name_byte b = is_ascii_lowercase b || is_ascii_digit b || (b == 95)
 
--- 1 to 16 such bytes
+-- whether the text is a name: 1 to 16 bytes, each a letter from `a` to `z`, a digit or `_`
 abbrev pub is_name : List ℕ → Bool
 is_name text = nat_le 1 (length text) && nat_le (length text) 16 && list_all is_name_byte text

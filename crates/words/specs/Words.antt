@@ -51,6 +51,6 @@ all_words = Read ObjGet ∷ Read AssocGet ∷ Read AssocCount ∷ Read AssocRang
     ∷ Plan Hold ∷ Plan Advance ∷ Delivery Deliver ∷ Delivery Again ∷ Drop ∷ Refill ∷ Stream ∷ Repair ∷ Evict ∷ Show ∷ Inbox
     ∷ Health Down ∷ Health Up ∷ Health Suspect ∷ Health Trust ∷ Link Cut ∷ Link Mend ∷ Settle ∷ Audit ∷ []
 
--- the word that stands there so
+-- the word that this text spells; None where it is no word
 abbrev pub word_of_text : List ℕ → Option Word
 word_of_text text = find (λ word. bytes_eq (word_text word) text) all_words

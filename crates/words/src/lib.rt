@@ -1,4 +1,8 @@
 //! The words of the store's lines: what a request's `do` may be, and what a reply's `ok` says it is for.
+//!
+//! What it promises. Each of the 31 words has one text, and is found by it.
+//!
+//! The contracts that say so: `Word::text`, `Word::of`.
 #![tactic(auto)]
 
 ghost use Rattle.std.specs.Prelude.{◌≡◌, IfSome, Some};

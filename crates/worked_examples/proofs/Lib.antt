@@ -1,2 +1,3 @@
+pub mod CacheExamples
 pub mod ReplyExamples
 pub mod ServingExamples

@@ -1,2 +1,4 @@
+pub mod MarkedPositions
+pub mod Prefixes
 pub mod Replies
 pub mod Serving

@@ -45,7 +45,7 @@ west = record {
   cache_items = 1;
 }
 
--- its store of the first shard
+-- the store of shard 0 in region `west`
 abbrev pub west_store : StoreName
 west_store = record { region = 0; shard = 0 }
 

@@ -27,7 +27,7 @@ suspecting tier index states = record states { suspected = slice_set states.susp
 abbrev pub one_down : NodeStates
 one_down = with_down (Follower 0 0 0) example_nodes
 
--- and the second one of the second tier
+-- the one follower of the first tier and the second follower of the second tier are down
 abbrev pub two_down : NodeStates
 two_down = with_down (Follower 0 1 1) one_down
 
@@ -35,7 +35,7 @@ two_down = with_down (Follower 0 1 1) one_down
 abbrev pub one_suspected : NodeStates
 one_suspected = suspecting 0 1 example_nodes
 
--- and the first leader is down
+-- the first tier suspects the second leader and the first leader is down: no leader is left for that tier
 abbrev pub none_left : NodeStates
 none_left = with_down (Leader 0 0) one_suspected
 

@@ -13,7 +13,7 @@ use Rattle.tao_base.specs.declared.entry.Origin.{Origin}
 use Rattle.graph_model.proofs.Members.{IsIn, PairsByRecursion, if_some, in_any, in_append_cases, in_append_left, in_append_right, in_filter}
 use Rattle.graph_model.proofs.Members.{in_filter_map, in_filter_map_parts, in_filter_parts, none_in, pairs_append, pairs_filter, pairs_filter_map}
 use Rattle.graph_model.proofs.Members.{pairs_weaker}
-use Rattle.graph_model.proofs.NearEnds.{near_ends_are_paired}
+use Rattle.graph_model.proofs.NearEnds.{near_ends_are_paired, other_end-is}
 use Rattle.write_model.proofs.Written.{AreApart, AreWritten, CutBefore}
 use Rattle.graph_model.specs.Edges.{edge_record}
 use Rattle.write_model.specs.MergeLaws.{IsCutThenLive}
@@ -40,6 +40,10 @@ found_other types u v (Some inverse) e h =
 
 pub other_end_is : (types : EdgeTypes) (u v : EdgeUpdate) → other_end types u ≡ Some v → IsOtherEnd types u v
 other_end_is types u v h = found_other types u v (types.inverse u.1) refl h
+
+pub other_end_from : (types : EdgeTypes) (u v : EdgeUpdate) → IsOtherEnd types u v → other_end types u ≡ Some v
+other_end_from types u v o =
+    other_end-is types v.1 u o.inverse ∙ ap Some (update_same (u.2, v.1, u.0, u.3) v (sym o.id1) refl (sym o.id2) (sym o.state))
 
 -- the other ends of a cut and a set
 pub other_mates : (types : EdgeTypes) (x y u v : EdgeUpdate) → IsOtherEnd types x u → IsOtherEnd types y v → CutBefore x y → CutBefore u v

@@ -1,5 +1,7 @@
 -- In covered stores jobs may be merged.
-use Rattle.std.proofs.Common.{◌≡◌, ℕ, zero, suc, ◌<◌, ◌≢◌, ◌⊎◌, List, [], ◌∷◌, ◌++◌, length, take, drop, inl, inr, refl, sym, ap, ◌∙◌, subst, arith}
+use Rattle.std.proofs.Common.{◌≡◌, ℕ, zero, suc, ◌+◌, ◌<◌, ◌≢◌, ◌⊎◌, List, [], ◌∷◌, ◌++◌, length, take, drop, inl, inr, refl, sym, ap, ◌∙◌, subst, arith}
+use Rattle.std.proofs.Math.Logic.{∥∥₁_elim}
+use Rattle.std.proofs.Props.{props}
 use Rattle.std.proofs.lemmas.Bool.{cases_eq}
 use Rattle.std.proofs.lemmas.List.{length-take, take-append-drop}
 use Rattle.std.proofs.lemmas.List.Elements.{All-cons, All-nil, All-weaker}
@@ -13,7 +15,8 @@ use Rattle.tao_base.specs.declared.entry.Origin.TheVariants.{Client, Merge}
 use Rattle.write_model.proofs.FarJobs.{jobs_are_far}
 use Rattle.graph_model.proofs.Rising.{stamps_stay}
 use Rattle.write_model.specs.MergeLaws.{CoveredJobsMayMerge, IsNewOrDone}
-use Rattle.write_model.specs.Merges.{AreCovered, IsClientEntry, Stores, job_of, log_of}
+use Rattle.write_model.specs.Merges.{HasItsMerges, Owed, job_of, log_of, number_in, owed_number}
+use Rattle.write_model.specs.Writes.{epoch_base}
 use Rattle.graph_model.specs.Records.{HasStamp}
 use Rattle.graph_model.specs.Log.{entry_at}
 use Rattle.graph_model.specs.Soundness.{EdgeUpdate, IsSound, IsSoundOf, IsNewOrigin}
@@ -63,26 +66,44 @@ done_there log n us sound done =
     All-weaker (HasStamp (take n log)) (HasStamp log) (λ u h. subst (λ l. HasStamp l u) whole
     ((stamps_stay (take n log)).stays (drop n log) u (subst IsSound (sym whole) sound) h)) us done
 
-new_or_done : (types : EdgeTypes) (stores : Stores) (shard from position : ℕ) (e : Entry) → IsSoundOf types shard (log_of stores.logs shard)
-    → AreCovered types stores
-    → IsClientEntry (log_of stores.logs from) position e → e.position ≡ position → IsNewOrDone types (log_of stores.logs shard) from e
-new_or_done types stores shard from position e sound covered stands same = elim (new_or_there (log_of stores.logs shard) (Merge from e.position)) [
-  | inl new ↦ inl new
-  | inr there ↦ (
-      let merge = covered.merges shard (suc there.place) there.entry from e.position there.stands there.is in
-      let one : merge.entry ≡ e = same_Some merge.entry e (sym merge.stands.stands ∙ ap (entry_at (log_of stores.logs from)) same ∙ stands.stands) in
-      inr (done_there (log_of stores.logs shard) (suc there.place) (job_of types e) sound.sound
-      (subst (λ x. All (HasStamp (take (suc there.place) (log_of stores.logs shard))) (job_of types x)) one merge.done)))
-]
+pub new_or_done : (types : EdgeTypes) (log : ℕ → List Entry) (epoch : ℕ → ℕ) (shard position : ℕ) (owed : Owed) → IsSoundOf types shard (log shard)
+    → HasItsMerges types log epoch shard → owed.epoch ≡ epoch owed.shard → entry_at (log owed.shard) position ≡ Some owed.entry
+    → owed.entry.position ≡ position → IsNewOrDone types (log shard) owed
+new_or_done types log epoch shard position owed sound merges epoch_is stands same =
+    elim (new_or_there (log shard) (Merge owed.shard (owed_number owed))) [
+      | inl new ↦ inl new
+      | inr there ↦ (
+          let first = at_first position owed.entry stands in
+          let number : owed_number owed ≡ number_in (epoch owed.shard) position = λ i. number_in (epoch_is i) (same i) in
+          let merged = merges (suc there.place) there.entry owed.shard (owed_number owed) there.stands there.is
+          (above (owed_number owed) (epoch_base (epoch owed.shard)) position number first) in
+          inr (∥∥₁_elim merged (hlevel props) (λ merge.
+          let at : merge.position ≡ position = one_position (epoch_base (epoch owed.shard)) merge.position position (sym merge.number_is ∙ number) in
+          let one : merge.entry ≡ owed.entry = same_Some merge.entry owed.entry (sym merge.stands ∙ ap (entry_at (log owed.shard)) at ∙ stands) in
+          done_there (log shard) (suc there.place) (job_of types owed.entry) sound.sound
+          (subst (λ x. All (HasStamp (take (suc there.place) (log shard))) (job_of types x)) one merge.done))))
+    ]
+  where
+    at_first : (p : ℕ) (e : Entry) → entry_at (log owed.shard) p ≡ Some e → 0 < p
+    at_first zero e h = absurd (cc)
+    at_first (suc n) e h = omega arith
+
+    above : (number base p : ℕ) → number ≡ base + p → 0 < p → base < number
+    above number base p is some = omega (arith, is, some)
+
+    one_position : (base p q : ℕ) → base + p ≡ base + q → p ≡ q
+    one_position base p q is = omega (arith, is)
 
 pub covered_jobs_may_merge : CoveredJobsMayMerge
 covered_jobs_may_merge = record {
   may = λ types stores match sound covered from position e u stands h.
-      (let at = at_place types from (log_of stores.logs from) position e (sound from) stands.stands in
+      (let at = at_place types from (log_of stores.logs from) position e (sound from) stands in
       record {
         inverses = match;
         sound = sound (shard_of u.0);
         far = (jobs_are_far from (log_of stores.logs from)).far types (sound from) at.0 e u at.1 h;
-        origin = new_or_done types stores (shard_of u.0) from position e (sound (shard_of u.0)) covered stands at.2;
+        origin = new_or_done types (log_of stores.logs) stores.epochs.of (shard_of u.0) position
+            (record { shard = from; epoch = stores.epochs.of from; entry = e; other = shard_of u.0 }) (sound (shard_of u.0))
+            (covered.each (shard_of u.0)).merges refl stands at.2;
       });
 }

@@ -83,13 +83,13 @@ object_stays types shard log kind origin id change sound new here =
     stays_sound types shard log _ sound (one_touch_follows log kind origin t new (object_touch_follows log origin id change))
     (record { here = All-from_recursion (λ s. key_shard s.key ≡ shard) (t ∷ []) (here, tt); both = λ k d in'. absurd (omega arith) })
 
-one_record : (types : EdgeTypes) (log : List Entry) (id1 : Id) (atype : AType) (id2 : Id) (state : EdgeState) → stamp_of state ≡ next_stamp log id1 atype id2
-    → IsOneWrite types log id1 id2 ((id1, atype, id2, state) ∷ [])
-one_record types log id1 atype id2 state next =
+one_record : (types : EdgeTypes) (epoch : ℕ) (log : List Entry) (id1 : Id) (atype : AType) (id2 : Id) (state : EdgeState)
+    → stamp_of state ≡ next_stamp epoch log id1 atype id2 → IsOneWrite types log id1 id2 ((id1, atype, id2, state) ∷ [])
+one_record types epoch log id1 atype id2 state next =
     let u : EdgeUpdate = (id1, atype, id2, state) in
     record {
       ids = λ x h. all_in (λ y. (y.0 ≡ id1) × (y.2 ≡ id2)) (u ∷ []) x ((refl, refl), tt) h;
-      news = λ x h. all_in (λ y. is_news log y ≡ true) (u ∷ []) x (next_is_news log id1 atype id2 state next, tt) h;
+      news = λ x h. all_in (λ y. is_news log y ≡ true) (u ∷ []) x (next_is_news epoch log id1 atype id2 state next, tt) h;
       own = λ x h. all_in (λ y. (stamp_of y.3).shard ≡ shard_of y.0) (u ∷ []) x (ap (λ s. s.shard) next, tt) h;
       mates = (tt, tt);
       single = λ x y h k loop e. only x h ∙ sym (only y k);
@@ -100,26 +100,26 @@ one_record types log id1 atype id2 state next =
     only x (inr h) = absurd h
 
 -- the records of a change of type
-abbrev moved : List Entry → Id → AType → Id → AType → ℕ → List Pair → List EdgeUpdate
-moved log id1 atype id2 newtype time payload =
-    (id1, atype, id2, Cut (next_stamp log id1 atype id2)) ∷ (id1, newtype, id2, Live time payload (next_stamp log id1 newtype id2)) ∷ []
+abbrev moved : ℕ → List Entry → Id → AType → Id → AType → ℕ → List Pair → List EdgeUpdate
+moved epoch log id1 atype id2 newtype time payload =
+    (id1, atype, id2, Cut (next_stamp epoch log id1 atype id2)) ∷ (id1, newtype, id2, Live time payload (next_stamp epoch log id1 newtype id2)) ∷ []
 
-two_records : (types : EdgeTypes) (log : List Entry) (id1 : Id) (atype : AType) (id2 : Id) (newtype : AType) (time : ℕ) (payload : List Pair)
+two_records : (types : EdgeTypes) (epoch : ℕ) (log : List Entry) (id1 : Id) (atype : AType) (id2 : Id) (newtype : AType) (time : ℕ) (payload : List Pair)
     → InversesMatch types → atype ≢ newtype → (id1 ≡ id2 → types.inverse atype ≢ Some newtype)
-    → IsOneWrite types log id1 id2 (moved log id1 atype id2 newtype time payload)
-two_records types log id1 atype id2 newtype time payload match other apart =
-    let cut : EdgeUpdate = (id1, atype, id2, Cut (next_stamp log id1 atype id2)) in
-    let set : EdgeUpdate = (id1, newtype, id2, Live time payload (next_stamp log id1 newtype id2)) in
+    → IsOneWrite types log id1 id2 (moved epoch log id1 atype id2 newtype time payload)
+two_records types epoch log id1 atype id2 newtype time payload match other apart =
+    let cut : EdgeUpdate = (id1, atype, id2, Cut (next_stamp epoch log id1 atype id2)) in
+    let set : EdgeUpdate = (id1, newtype, id2, Live time payload (next_stamp epoch log id1 newtype id2)) in
     record {
       ids = λ x h. all_in (λ y. (y.0 ≡ id1) × (y.2 ≡ id2)) (cut ∷ set ∷ []) x ((refl, refl), ((refl, refl), tt)) h;
       news = λ x h. all_in (λ y. is_news log y ≡ true) (cut ∷ set ∷ []) x
-          (next_is_news log id1 atype id2 cut.3 refl, (next_is_news log id1 newtype id2 set.3 refl, tt)) h;
+          (next_is_news epoch log id1 atype id2 cut.3 refl, (next_is_news epoch log id1 newtype id2 set.3 refl, tt)) h;
       own = λ x h. all_in (λ y. (stamp_of y.3).shard ≡ shard_of y.0) (cut ∷ set ∷ []) x (refl, (refl, tt)) h;
       mates = ((record { cut = record { states = tt; id1 = refl; id2 = refl }; types = other }, tt), (tt, tt));
       single = single;
     }
   where
-    single : (u w : EdgeUpdate) → IsIn u (moved log id1 atype id2 newtype time payload) → IsIn w (moved log id1 atype id2 newtype time payload)
+    single : (u w : EdgeUpdate) → IsIn u (moved epoch log id1 atype id2 newtype time payload) → IsIn w (moved epoch log id1 atype id2 newtype time payload)
         → id1 ≡ id2 → types.inverse u.1 ≡ Some w.1 → u ≡ w
     single u w (inl h) (inl k) loop e = sym h ∙ k
     single u w (inr (inl h)) (inr (inl k)) loop e = sym h ∙ k
@@ -132,29 +132,30 @@ two_records types log id1 atype id2 newtype time payload match other apart =
 no_records : (types : EdgeTypes) (log : List Entry) (id1 id2 : ℕ) → IsOneWrite types log id1 id2 []
 no_records types log id1 id2 = record { ids = λ u h. absurd h; news = λ u h. absurd h; own = λ u h. absurd h; mates = tt; single = λ u w h k l e. absurd h }
 
-abbrev pub cut_where_live : List Entry → Id → AType → Id → Option EdgeState → List EdgeUpdate
-cut_where_live log id1 atype id2 (Some (Live time payload stamp)) = (id1, atype, id2, Cut (next_stamp log id1 atype id2)) ∷ []
-cut_where_live log id1 atype id2 (Some (Cut stamp)) = []
-cut_where_live log id1 atype id2 None = []
+abbrev pub cut_where_live : ℕ → List Entry → Id → AType → Id → Option EdgeState → List EdgeUpdate
+cut_where_live epoch log id1 atype id2 (Some (Live time payload stamp)) = (id1, atype, id2, Cut (next_stamp epoch log id1 atype id2)) ∷ []
+cut_where_live epoch log id1 atype id2 (Some (Cut stamp)) = []
+cut_where_live epoch log id1 atype id2 None = []
 
-cut_record : (types : EdgeTypes) (log : List Entry) (id1 : Id) (atype : AType) (id2 : Id) (found : Option EdgeState)
-    → IsOneWrite types log id1 id2 (cut_where_live log id1 atype id2 found)
-cut_record types log id1 atype id2 (Some (Live time payload stamp)) = one_record types log id1 atype id2 (Cut (next_stamp log id1 atype id2)) refl
-cut_record types log id1 atype id2 (Some (Cut stamp)) = no_records types log id1 id2
-cut_record types log id1 atype id2 None = no_records types log id1 id2
+cut_record : (types : EdgeTypes) (epoch : ℕ) (log : List Entry) (id1 : Id) (atype : AType) (id2 : Id) (found : Option EdgeState)
+    → IsOneWrite types log id1 id2 (cut_where_live epoch log id1 atype id2 found)
+cut_record types epoch log id1 atype id2 (Some (Live time payload stamp)) =
+    one_record types epoch log id1 atype id2 (Cut (next_stamp epoch log id1 atype id2)) refl
+cut_record types epoch log id1 atype id2 (Some (Cut stamp)) = no_records types log id1 id2
+cut_record types epoch log id1 atype id2 None = no_records types log id1 id2
 
-abbrev pub move_where_live : List Entry → Id → AType → Id → AType → Option EdgeState → List EdgeUpdate
-move_where_live log id1 atype id2 newtype (Some (Live time payload stamp)) = moved log id1 atype id2 newtype time payload
-move_where_live log id1 atype id2 newtype (Some (Cut stamp)) = []
-move_where_live log id1 atype id2 newtype None = []
+abbrev pub move_where_live : ℕ → List Entry → Id → AType → Id → AType → Option EdgeState → List EdgeUpdate
+move_where_live epoch log id1 atype id2 newtype (Some (Live time payload stamp)) = moved epoch log id1 atype id2 newtype time payload
+move_where_live epoch log id1 atype id2 newtype (Some (Cut stamp)) = []
+move_where_live epoch log id1 atype id2 newtype None = []
 
-moved_records : (types : EdgeTypes) (log : List Entry) (id1 : Id) (atype : AType) (id2 : Id) (newtype : AType) (found : Option EdgeState)
+moved_records : (types : EdgeTypes) (epoch : ℕ) (log : List Entry) (id1 : Id) (atype : AType) (id2 : Id) (newtype : AType) (found : Option EdgeState)
     → InversesMatch types → atype ≢ newtype → (id1 ≡ id2 → types.inverse atype ≢ Some newtype)
-    → IsOneWrite types log id1 id2 (move_where_live log id1 atype id2 newtype found)
-moved_records types log id1 atype id2 newtype (Some (Live time payload stamp)) match other apart =
-    two_records types log id1 atype id2 newtype time payload match other apart
-moved_records types log id1 atype id2 newtype (Some (Cut stamp)) match other apart = no_records types log id1 id2
-moved_records types log id1 atype id2 newtype None match other apart = no_records types log id1 id2
+    → IsOneWrite types log id1 id2 (move_where_live epoch log id1 atype id2 newtype found)
+moved_records types epoch log id1 atype id2 newtype (Some (Live time payload stamp)) match other apart =
+    two_records types epoch log id1 atype id2 newtype time payload match other apart
+moved_records types epoch log id1 atype id2 newtype (Some (Cut stamp)) match other apart = no_records types log id1 id2
+moved_records types epoch log id1 atype id2 newtype None match other apart = no_records types log id1 id2
 
 abbrev pub touch_where_there : List Entry → Id → (Object → Change) → Option Object → List Touch
 touch_where_there log id change (Some old) = touch_of log (Obj id) (change old) ∷ []
@@ -173,37 +174,37 @@ found_object_stays types shard log kind origin id change (Some old) e sound new 
 next_id-shard : (shard : ℕ) (log : List Entry) → count_by (λ e. is_addition e.kind) log + 1 < 2 ^ 48 → shard_of (next_id shard log) ≡ shard
 next_id-shard shard log room = omega arith
 
-forward_stays : (types : EdgeTypes) (shard : ℕ) (log : List Entry) (origin : Origin) (write : Write) (e : Entry) → IsAdmitted types shard log origin write
-    → forward_entry types log origin write ≡ Some e → StaysSound types shard log e
-forward_stays types shard log origin (ObjAdd on otype payload) e may h =
+forward_stays : (types : EdgeTypes) (epoch shard : ℕ) (log : List Entry) (origin : Origin) (write : Write) (e : Entry) → IsAdmitted types shard log origin write
+    → forward_entry types epoch log origin write ≡ Some e → StaysSound types shard log e
+forward_stays types epoch shard log origin (ObjAdd on otype payload) e may h =
     let here : shard_of (next_id on log) ≡ shard = next_id-shard on log may.here.1 ∙ may.here.0 in
     found_object_stays types shard log ObjAdded origin (next_id on log) (λ old. PutObject old)
     (Some (record { otype = otype; payload = payload })) e may.sound may.new here h
-forward_stays types shard log origin (ObjUpdate id payload) e may h =
+forward_stays types epoch shard log origin (ObjUpdate id payload) e may h =
     found_object_stays types shard log ObjUpdated origin id (λ old. PutObject (record old { payload = payload })) (object log id) e may.sound may.new may.here h
-forward_stays types shard log origin (ObjDelete id) e may h =
+forward_stays types epoch shard log origin (ObjDelete id) e may h =
     found_object_stays types shard log ObjDeleted origin id (λ old. DropObject) (object log id) e may.sound may.new may.here h
-forward_stays types shard log origin (AssocAdd id1 atype id2 time payload) e may h =
+forward_stays types epoch shard log origin (AssocAdd id1 atype id2 time payload) e may h =
     edges_stay types shard log AssocAdded origin id1 id2 _ e may.inverses may.sound may.new may.here
-    (one_record types log id1 atype id2 (Live time payload (next_stamp log id1 atype id2)) refl) h
-forward_stays types shard log origin (AssocDelete id1 atype id2) e may h =
+    (one_record types epoch log id1 atype id2 (Live time payload (next_stamp epoch log id1 atype id2)) refl) h
+forward_stays types epoch shard log origin (AssocDelete id1 atype id2) e may h =
     edges_stay types shard log AssocDeleted origin id1 id2
-    (cut_where_live log id1 atype id2 (edge_record log id1 atype id2)) e may.inverses may.sound may.new may.here
-    (cut_record types log id1 atype id2 (edge_record log id1 atype id2)) h
-forward_stays types shard log origin (AssocChangeType id1 atype id2 newtype) e may h =
+    (cut_where_live epoch log id1 atype id2 (edge_record log id1 atype id2)) e may.inverses may.sound may.new may.here
+    (cut_record types epoch log id1 atype id2 (edge_record log id1 atype id2)) h
+forward_stays types epoch shard log origin (AssocChangeType id1 atype id2 newtype) e may h =
     edges_stay types shard log TypeChanged origin id1 id2
-    (move_where_live log id1 atype id2 newtype (edge_record log id1 atype id2)) e may.inverses may.sound may.new may.here
-    (moved_records types log id1 atype id2 newtype (edge_record log id1 atype id2) may.inverses may.changes.0 may.changes.1) h
+    (move_where_live epoch log id1 atype id2 newtype (edge_record log id1 atype id2)) e may.inverses may.sound may.new may.here
+    (moved_records types epoch log id1 atype id2 newtype (edge_record log id1 atype id2) may.inverses may.changes.0 may.changes.1) h
 
 pub forward_follows : (shard : ℕ) (log : List Entry) (origin : Origin) (write : Write) (e : Entry) → ForwardFollows shard log origin write e
-forward_follows shard log origin write e = record { stays = λ types may h. forward_stays types shard log origin write e may h }
+forward_follows shard log origin write e = record { stays = λ types epoch may h. forward_stays types epoch shard log origin write e may h }
 
 pub plain_add_follows : (log : List Entry) (origin : Origin) (id1 : Id) (atype : AType) (edge : Edge) → PlainAddFollows log origin id1 atype edge
-plain_add_follows log origin id1 atype edge =
-    let id2 : Id = edge.id2 in
-    let state : EdgeState = Live edge.time edge.payload (next_stamp log id1 atype id2) in
-    record {
-      entry_is = λ types none. rw (none, when-none (is_near (id1, atype, id2, state))) refl;
-      follows = λ new. one_touch_follows log AssocAdded origin (edge_touch log (id1, atype, id2, state)) new
-          (touch_follows log origin id1 atype id2 state (next_is_news log id1 atype id2 state refl) (λ c. refl));
-    }
+plain_add_follows log origin id1 atype edge = record {
+  entry_is = λ types epoch none. rw (none, when-none (is_near (id1, atype, edge.id2, next epoch))) refl;
+  follows = λ epoch new. one_touch_follows log AssocAdded origin (edge_touch log (id1, atype, edge.id2, next epoch)) new
+      (touch_follows log origin id1 atype edge.id2 (next epoch) (next_is_news epoch log id1 atype edge.id2 (next epoch) refl) (λ c. refl));
+}
+  where
+    next : ℕ → EdgeState
+    next epoch = Live edge.time edge.payload (next_stamp epoch log id1 atype edge.id2)

@@ -6,21 +6,16 @@ use Rattle.std.specs.Prelude.{Option, Some, None, option_to_list}
 use Rattle.tao_base.specs.Stamps.{stamp_of, is_earlier}
 use Rattle.tao_base.specs.declared.edge.EdgeState.{EdgeState}
 use Rattle.tao_base.specs.declared.edge.Stamp.{Stamp}
-use Rattle.graph_model.proofs.Joins.{same_stamp}
+use Rattle.graph_model.proofs.Joins.{same_stamp, not_earlier_trans}
 use Rattle.graph_model.proofs.Members.{IsIn, in_append_cases, in_append_left, in_append_right}
 use Rattle.write_model.specs.MergeLaws.{join_all}
 use Rattle.graph_model.specs.Records.{Agree, later_of}
+use Rattle.graph_model.proofs.Rising.{never_before_itself}
 
 -- one of the records, and none is later
 record IsLatest (states : List EdgeState) (s : EdgeState) : Type 0 where
   one : IsIn s states
   latest : (x : EdgeState) → IsIn x states → is_earlier (stamp_of s) (stamp_of x) ≡ false
-
-not_later : (x y z : Stamp) → is_earlier x y ≡ false → is_earlier y z ≡ false → is_earlier x z ≡ false
-not_later x y z h k = grind (arith, nat_tests)
-
-self_not_later : (x : Stamp) → is_earlier x x ≡ false
-self_not_later x = grind (arith, nat_tests)
 
 -- two records and their join
 later_is : (old new : EdgeState) → ((later_of old new ≡ old) ⊎ (later_of old new ≡ new))
@@ -29,11 +24,11 @@ later_is old new = by_test (is_earlier (stamp_of old) (stamp_of new)) refl
   where
     by_test : (b : Bool) → is_earlier (stamp_of old) (stamp_of new) ≡ b → ((cond b new old ≡ old) ⊎ (cond b new old ≡ new))
         × (is_earlier (stamp_of (cond b new old)) (stamp_of old) ≡ false) × (is_earlier (stamp_of (cond b new old)) (stamp_of new) ≡ false)
-    by_test true e = (inr refl, turned (stamp_of old) (stamp_of new) e, self_not_later (stamp_of new))
+    by_test true e = (inr refl, turned (stamp_of old) (stamp_of new) e, never_before_itself (stamp_of new))
       where
         turned : (x y : Stamp) → is_earlier x y ≡ true → is_earlier y x ≡ false
         turned x y h = grind (arith, nat_tests)
-    by_test false e = (inl refl, self_not_later (stamp_of old), e)
+    by_test false e = (inl refl, never_before_itself (stamp_of old), e)
 
 -- the latest of the join of two and of more is that of all
 latest_more : (old new s : EdgeState) (states : List EdgeState) → IsLatest (later_of old new ∷ states) s → IsLatest (old ∷ new ∷ states) s
@@ -44,10 +39,10 @@ latest_more old new s states l =
       one = elim l.one [ inl e ↦ elim joined.0 [ inl k ↦ inl (sym k ∙ e) | inr k ↦ inr (inl (sym k ∙ e)) ] | inr h ↦ inr (inr h) ];
       latest = λ x h. elim h [
         | inl e ↦ subst (λ y. is_earlier (stamp_of s) (stamp_of y) ≡ false) e
-            (not_later (stamp_of s) (stamp_of (later_of old new)) (stamp_of old) over joined.1)
+            (not_earlier_trans (stamp_of s) (stamp_of (later_of old new)) (stamp_of old) over joined.1)
         | inr more ↦ elim more [
           | inl e ↦ subst (λ y. is_earlier (stamp_of s) (stamp_of y) ≡ false) e
-              (not_later (stamp_of s) (stamp_of (later_of old new)) (stamp_of new) over joined.2)
+              (not_earlier_trans (stamp_of s) (stamp_of (later_of old new)) (stamp_of new) over joined.2)
           | inr k ↦ l.latest x (inr k)
         ]
       ];
@@ -59,7 +54,7 @@ joined_latest old [] = (
   refl,
   record {
     one = inl refl;
-    latest = λ x h. elim h [ inl e ↦ subst (λ y. is_earlier (stamp_of old) (stamp_of y) ≡ false) e (self_not_later (stamp_of old)) | inr k ↦ absurd k ];
+    latest = λ x h. elim h [ inl e ↦ subst (λ y. is_earlier (stamp_of old) (stamp_of y) ≡ false) e (never_before_itself (stamp_of old)) | inr k ↦ absurd k ];
   },
 )
 joined_latest old (new ∷ states) = let r = joined_latest (later_of old new) states in (r.0, r.1, latest_more old new r.0 states r.2)

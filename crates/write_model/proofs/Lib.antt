@@ -3,6 +3,7 @@ pub mod BothEnds
 pub mod CoverCommits
 pub mod CoverEmpty
 pub mod CoverEnds
+pub mod CoverFacts
 pub mod CoverMerges
 pub mod Covered
 pub mod FarJobs

@@ -36,14 +36,14 @@ pairs_are_one_job (u ∷ v ∷ w ∷ us) p = one_cut u.3 v.3 w.3 p.0.0.0.states 
 plain_types : EdgeTypes
 plain_types = record { inverse = λ a. None; bound = λ a. 0 }
 
-none_merged : (log : List Entry) (from position : ℕ) (us : List EdgeUpdate) → All (HasStamp log) us → merge_of log from position us ≡ None
-none_merged log from position us done = ap (λ vs. next_entry log Merged (Merge from position) (map (edge_touch log) vs)) (no_news log us done)
+none_merged : (log : List Entry) (from number : ℕ) (us : List EdgeUpdate) → All (HasStamp log) us → merge_of log from number us ≡ None
+none_merged log from number us done = ap (λ vs. next_entry log Merged (Merge from number) (map (edge_touch log) vs)) (no_news log us done)
 
-module _ (shard : ℕ) (log : List Entry) (from position : ℕ) (us : List EdgeUpdate) where
+module _ (shard : ℕ) (log : List Entry) (from number : ℕ) (us : List EdgeUpdate) where
   abbrev news : List EdgeUpdate
   news = filter (is_news log) us
 
-  records_written : (types : EdgeTypes) → MayBeMerged shard log from position us → 0 < length news → AreWritten types shard log (Merge from position) news
+  records_written : (types : EdgeTypes) → MayBeMerged shard log from number us → 0 < length news → AreWritten types shard log (Merge from number) news
   records_written types may some =
       let pairs : PairsByRecursion JobPair news = pairs_filter JobPair (is_news log) us (one_job_pairs us may.one) in
       record {
@@ -61,46 +61,46 @@ module _ (shard : ℕ) (log : List Entry) (from position : ℕ) (us : List EdgeU
         both = λ u h near. absurd (may.away (sym (All-in (λ x. shard_of x.2 ≡ from) us u may.there (in_filter_parts (is_news log) us u h).0) ∙ near));
       }
 
-  module _ (m : Entry) (may : MayBeMerged shard log from position us) (h : merge_of log from position us ≡ Some m) where
+  module _ (m : Entry) (may : MayBeMerged shard log from number us) (h : merge_of log from number us ≡ Some m) where
     some_records : 0 < length news
-    some_records = rw (length-map news (edge_touch log)) at (given_entry log Merged (Merge from position) (map (edge_touch log) news) m h).0
+    some_records = rw (length-map news (edge_touch log)) at (given_entry log Merged (Merge from number) (map (edge_touch log) news) m h).0
 
-    origin_is_new : IsNewOrigin log (Merge from position)
+    origin_is_new : IsNewOrigin log (Merge from number)
     origin_is_new = by may.origin
       where
-        by : (IsNewOrigin log (Merge from position)) ⊎ All (HasStamp log) us → IsNewOrigin log (Merge from position)
+        by : (IsNewOrigin log (Merge from number)) ⊎ All (HasStamp log) us → IsNewOrigin log (Merge from number)
         by (inl new) = new
-        by (inr done) = let none : merge_of log from position us ≡ None = none_merged log from position us done in absurd (cc)
+        by (inr done) = let none : merge_of log from number us ≡ None = none_merged log from number us done in absurd (cc)
 
     merge_of_follows : CanFollow log m
     merge_of_follows =
-        subst (CanFollow log) (given_entry log Merged (Merge from position) (map (edge_touch log) news) m h).1
-        (written_follows plain_types shard log Merged (Merge from position) news (records_written plain_types may some_records) origin_is_new)
+        subst (CanFollow log) (given_entry log Merged (Merge from number) (map (edge_touch log) news) m h).1
+        (written_follows plain_types shard log Merged (Merge from number) news (records_written plain_types may some_records) origin_is_new)
 
     merge_of_stays : (types : EdgeTypes) → IsSoundOf types shard log → StaysSound types shard log m
-    merge_of_stays types sound = written_stays types shard log Merged (Merge from position) news m sound origin_is_new
+    merge_of_stays types sound = written_stays types shard log Merged (Merge from number) news m sound origin_is_new
         (records_written types may some_records) h
 
-pub merges_follow : (shard : ℕ) (log : List Entry) (from position : ℕ) (us : List EdgeUpdate) (m : Entry) → MergesFollow shard log from position us m
-merges_follow shard log from position us m = record {
-  follows = λ may h. merge_of_follows shard log from position us m may h;
-  stays = λ types sound may h. merge_of_stays shard log from position us m may h types sound;
+pub merges_follow : (shard : ℕ) (log : List Entry) (from number : ℕ) (us : List EdgeUpdate) (m : Entry) → MergesFollow shard log from number us m
+merges_follow shard log from number us m = record {
+  follows = λ may h. merge_of_follows shard log from number us m may h;
+  stays = λ types sound may h. merge_of_stays shard log from number us m may h types sound;
   done = λ sound may h.
-      news_done log (Merge from position) us m ((sound_grows log m).grows sound (merge_of_follows shard log from position us m may h)) h;
+      news_done log (Merge from number) us m ((sound_grows log m).grows sound (merge_of_follows shard log from number us m may h)) h;
 }
 
-pub merges_none : (log : List Entry) (from position : ℕ) (us : List EdgeUpdate) → MergesNone log from position us
-merges_none log from position us = record {
-  done = λ h. not_news log us (nothing_given log Merged (Merge from position) (filter (is_news log) us) h);
-  nothing = λ h. none_merged log from position us h;
+pub merges_none : (log : List Entry) (from number : ℕ) (us : List EdgeUpdate) → MergesNone log from number us
+merges_none log from number us = record {
+  done = λ h. not_news log us (nothing_given log Merged (Merge from number) (filter (is_news log) us) h);
+  nothing = λ h. none_merged log from number us h;
 }
 
 pub jobs_may_be_merged : JobsMayBeMerged
 jobs_may_be_merged = record {
-  may = λ types shard log from e may. record {
-    one = pairs_are_one_job (job_of types e) (job_pairs types from e may.far.entry may.inverses);
+  may = λ types log owed may. record {
+    one = pairs_are_one_job (job_of types owed.entry) (job_pairs types owed.shard owed.entry may.far.entry may.inverses);
     here = may.far.there;
-    there = All-from_in (λ u. shard_of u.2 ≡ from) (job_of types e) (λ u h. from_there types from e may.far.entry u h);
+    there = All-from_in (λ u. shard_of u.2 ≡ owed.shard) (job_of types owed.entry) (λ u h. from_there types owed.shard owed.entry may.far.entry u h);
     away = may.far.away;
     origin = may.origin;
   };

@@ -1,95 +1,95 @@
 -- Jobs merged one after another.
-use Rattle.std.proofs.Common.{◌≡◌, ℕ, ◌≢◌, List, [], ◌∷◌, ◌++◌, append-nil, append_assoc, map, inl, inr, refl, sym, ap, ◌∙◌, subst}
+use Rattle.std.proofs.Common.{◌≡◌, ℕ, ◌≢◌, List, [], ◌∷◌, ◌++◌, append-nil, append_assoc, inl, inr, refl, sym, ap, ◌∙◌, subst}
 use Rattle.std.proofs.lemmas.Bool.{cases_eq}
 use Rattle.std.proofs.lemmas.Grind.{fold-append}
 use Rattle.std.proofs.lemmas.List.Elements.{All-contains, All-push, All-weaker}
-use Rattle.std.specs.Prelude.{All, Contains, Option, Some, None, filter, fold, option_to_list}
+use Rattle.std.specs.Prelude.{All, Contains, Option, Some, None, fold, option_to_list}
 use Rattle.tao_base.specs.EdgeTypes.{EdgeTypes, InversesMatch}
 use Rattle.tao_base.specs.declared.id.Id.{Id}
 use Rattle.tao_base.specs.declared.id.AType.{AType}
 use Rattle.tao_base.specs.declared.edge.EdgeState.{EdgeState}
 use Rattle.tao_base.specs.declared.entry.Entry.{Entry}
-use Rattle.tao_base.specs.declared.entry.Kind.TheVariants.{Merge as Merged}
-use Rattle.tao_base.specs.declared.entry.Origin.TheVariants.{Merge}
 use Rattle.write_model.proofs.JoinOrder.{any_order}
 use Rattle.graph_model.proofs.Members.{IsIn, All-from_in, All-in, contains_from_in, in_flat_map, in_flat_map_parts, in_from_contains}
 use Rattle.write_model.proofs.MergeRecords.{record_merged}
-use Rattle.write_model.proofs.Merging.{merge_done, merge_stays, merges_nothing}
+use Rattle.write_model.proofs.Merging.{merge_done, merge_origin, merge_origin_is, merge_stays, merges_nothing}
+use Rattle.write_model.specs.WriteLaws.{StaysSound}
 use Rattle.graph_model.proofs.Rising.{stamps_stay}
-use Rattle.write_model.proofs.Written.{given_entry}
 use Rattle.graph_model.specs.Edges.{edge_record}
 use Rattle.write_model.specs.MergeLaws.{AreMergeable, AreMerged, IsFarEntry, IsMergeable, IsNewOrDone, MergesJoin, OrderIsFree, join_all, merged}
 use Rattle.write_model.specs.MergeLaws.{merged_in_turn, records_at, records_of}
-use Rattle.graph_model.specs.Records.{Agree, HasStamp, is_news, join}
-use Rattle.write_model.specs.Merges.{job_of, merge_entry}
+use Rattle.graph_model.specs.Records.{Agree, HasStamp, join}
+use Rattle.write_model.specs.Merges.{Owed, job_of, merge_entry, owed_number}
 use Rattle.graph_model.specs.Soundness.{IsSound, IsSoundOf}
-use Rattle.write_model.specs.Writes.{edge_touch}
 
--- the jobs: any entry of theirs is the only one at its position
-record AreJobs (types : EdgeTypes) (shard : ℕ) (jobs : List (ℕ × Entry)) : Type 0 where
+-- the jobs: any of them is the only one under its shard and number
+record AreJobs (types : EdgeTypes) (shard : ℕ) (jobs : List Owed) : Type 0 where
   match : InversesMatch types
-  far : (job : ℕ × Entry) → IsIn job jobs → IsFarEntry types job.0 shard job.1
-  one : (job other : ℕ × Entry) → IsIn job jobs → IsIn other jobs → job.0 ≡ other.0 → job.1.position ≡ other.1.position → job ≡ other
+  there : (job : Owed) → IsIn job jobs → job.other ≡ shard
+  far : (job : Owed) → IsIn job jobs → IsFarEntry types job.shard shard job.entry
+  one : (job other : Owed) → IsIn job jobs → IsIn other jobs → job.shard ≡ other.shard → owed_number job ≡ owed_number other → job ≡ other
 
 -- the log has become a longer one, in which all jobs that were new may still be merged
-record Grows (types : EdgeTypes) (shard : ℕ) (jobs : List (ℕ × Entry)) (log new : List Entry) : Type 0 where
+record Grows (types : EdgeTypes) (shard : ℕ) (jobs : List Owed) (log new : List Entry) : Type 0 where
   sound : IsSoundOf types shard new
   more : List Entry
   longer : new ≡ log ++ more
-  origins : (job : ℕ × Entry) → IsIn job jobs → IsNewOrDone types new job.0 job.1
+  origins : (job : Owed) → IsIn job jobs → IsNewOrDone types new job
 
 stays_done : (types : EdgeTypes) (log more : List Entry) (e : Entry) → IsSound (log ++ more) → All (HasStamp log) (job_of types e)
     → All (HasStamp (log ++ more)) (job_of types e)
 stays_done types log more e sound done = All-weaker (HasStamp log) (HasStamp (log ++ more)) (λ u h. (stamps_stay log).stays more u sound h)
     (job_of types e) done
 
-module _ (types : EdgeTypes) (shard : ℕ) (jobs : List (ℕ × Entry)) (are : AreJobs types shard jobs) where
+module _ (types : EdgeTypes) (shard : ℕ) (jobs : List Owed) (are : AreJobs types shard jobs) where
   -- another job may still be merged after one that is merged
-  still_open : (log : List Entry) (m : Entry) (job other : ℕ × Entry) → IsIn job jobs → IsIn other jobs → IsSound (log ++ m ∷ [])
-      → m.origin ≡ Merge job.0 job.1.position
-      → All (HasStamp (log ++ m ∷ [])) (job_of types job.1) → IsNewOrDone types log other.0 other.1 → IsNewOrDone types (log ++ m ∷ []) other.0 other.1
-  still_open log m job other h k sound origin done (inr there) = inr (stays_done types log (m ∷ []) other.1 sound there)
-  still_open log m job other h k sound origin done (inl new) = elim (cases_eq job.0 other.0) [
-    | inl shards ↦ elim (cases_eq job.1.position other.1.position) [
-      | inl positions ↦ inr (subst (λ j. All (HasStamp (log ++ m ∷ [])) (job_of types j.1)) (are.one job other h k shards positions) done)
-      | inr apart ↦ inl (All-push (λ old. old.origin ≢ Merge other.0 other.1.position) log m new
-          (λ e. apart (let same : Merge job.0 job.1.position ≡ Merge other.0 other.1.position = sym origin ∙ e in cc)))
+  still_open : (log : List Entry) (m : Entry) (job other : Owed) → IsIn job jobs → IsIn other jobs → IsSound (log ++ m ∷ [])
+      → m.origin ≡ merge_origin job
+      → All (HasStamp (log ++ m ∷ [])) (job_of types job.entry) → IsNewOrDone types log other → IsNewOrDone types (log ++ m ∷ []) other
+  still_open log m job other h k sound origin done (inr there) = inr (stays_done types log (m ∷ []) other.entry sound there)
+  still_open log m job other h k sound origin done (inl new) = elim (cases_eq job.shard other.shard) [
+    | inl shards ↦ elim (cases_eq (owed_number job) (owed_number other)) [
+      | inl positions ↦ inr (subst (λ j. All (HasStamp (log ++ m ∷ [])) (job_of types j.entry)) (are.one job other h k shards positions) done)
+      | inr apart ↦ inl (All-push (λ old. old.origin ≢ merge_origin other) log m new
+          (λ e. apart (let same : merge_origin job ≡ merge_origin other = sym origin ∙ e in cc)))
     ]
-    | inr apart ↦ inl (All-push (λ old. old.origin ≢ Merge other.0 other.1.position) log m new
-        (λ e. apart (let same : Merge job.0 job.1.position ≡ Merge other.0 other.1.position = sym origin ∙ e in cc)))
+    | inr apart ↦ inl (All-push (λ old. old.origin ≢ merge_origin other) log m new
+        (λ e. apart (let same : merge_origin job ≡ merge_origin other = sym origin ∙ e in cc)))
   ]
 
-  merge_origin : (log : List Entry) (from : ℕ) (e m : Entry) → merge_entry types log from e ≡ Some m → m.origin ≡ Merge from e.position
-  merge_origin log from e m h =
-      ap (λ x. x.origin) (sym (given_entry log Merged (Merge from e.position) (map (edge_touch log) (filter (is_news log) (job_of types e))) m h).1)
-
-  one_more : (log : List Entry) (job : ℕ × Entry) → IsIn job jobs → IsSoundOf types shard log
-      → ((other : ℕ × Entry) → IsIn other jobs → IsNewOrDone types log other.0 other.1)
-      → (o : Option Entry) → merge_entry types log job.0 job.1 ≡ o
-      → Grows types shard jobs log (log ++ option_to_list o) × All (HasStamp (log ++ option_to_list o)) (job_of types job.1)
+  one_more : (log : List Entry) (job : Owed) → IsIn job jobs → IsSoundOf types shard log
+      → ((other : Owed) → IsIn other jobs → IsNewOrDone types log other)
+      → (o : Option Entry) → merge_entry types log job ≡ o
+      → Grows types shard jobs log (log ++ option_to_list o) × All (HasStamp (log ++ option_to_list o)) (job_of types job.entry)
   one_more log job h sound origins None e =
-      subst (λ l. Grows types shard jobs log l × All (HasStamp l) (job_of types job.1)) (sym (append-nil log))
-      (record { sound = sound; more = []; longer = sym (append-nil log); origins = origins }, (merges_nothing log job.0 job.1).done types e)
+      subst (λ l. Grows types shard jobs log l × All (HasStamp l) (job_of types job.entry)) (sym (append-nil log))
+      (record { sound = sound; more = []; longer = sym (append-nil log); origins = origins }, (merges_nothing log).done types job e)
   one_more log job h sound origins (Some m) e =
-      let may : IsMergeable types shard log job.0 job.1 = record { inverses = are.match; sound = sound; far = are.far job h; origin = origins job h } in
-      let stays = merge_stays types shard log job.0 job.1 m may e in
-      let done = merge_done types shard log job.0 job.1 m may e in (
+      let at : job.other ≡ shard = are.there job h in
+      let may : IsMergeable types log job = record {
+        inverses = are.match;
+        sound = subst (λ s. IsSoundOf types s log) (sym at) sound;
+        far = subst (λ s. IsFarEntry types job.shard s job.entry) (sym at) (are.far job h);
+        origin = origins job h;
+      } in
+      let stays = subst (λ s. StaysSound types s log m) at (merge_stays types log job m may e) in
+      let done = merge_done types log job m may e in (
         record {
           sound = stays.sound;
           more = m ∷ [];
           longer = refl;
-          origins = λ other k. still_open log m job other h k stays.sound.sound (merge_origin log job.0 job.1 m e) done (origins other k);
+          origins = λ other k. still_open log m job other h k stays.sound.sound (merge_origin_is types log job m e) done (origins other k);
         },
         done,
       )
 
-  in_turn : (js : List (ℕ × Entry)) → ((job : ℕ × Entry) → IsIn job js → IsIn job jobs) → (log : List Entry) → IsSoundOf types shard log
-      → ((other : ℕ × Entry) → IsIn other jobs → IsNewOrDone types log other.0 other.1)
+  in_turn : (js : List Owed) → ((job : Owed) → IsIn job js → IsIn job jobs) → (log : List Entry) → IsSoundOf types shard log
+      → ((other : Owed) → IsIn other jobs → IsNewOrDone types log other)
       → Grows types shard jobs log (fold (merged types) log js)
-      × ((job : ℕ × Entry) → IsIn job js → All (HasStamp (fold (merged types) log js)) (job_of types job.1))
+      × ((job : Owed) → IsIn job js → All (HasStamp (fold (merged types) log js)) (job_of types job.entry))
   in_turn [] among log sound origins = (record { sound = sound; more = []; longer = sym (append-nil log); origins = origins }, λ job h. absurd h)
   in_turn (j ∷ js) among log sound origins =
-      let step = one_more log j (among j (inl refl)) sound origins (merge_entry types log j.0 j.1) refl in
+      let step = one_more log j (among j (inl refl)) sound origins (merge_entry types log j) refl in
       let rest = in_turn js (λ job h. among job (inr h)) (merged types log j) step.0.sound step.0.origins in (
         record {
           sound = rest.0.sound;
@@ -100,40 +100,41 @@ module _ (types : EdgeTypes) (shard : ℕ) (jobs : List (ℕ × Entry)) (are : A
         done_of (merged types log j) (fold (merged types) (merged types log j) js) rest.0.more rest.0.longer rest.0.sound.sound step.1 rest.1,
       )
     where
-      done_of : (part whole more : List Entry) → whole ≡ part ++ more → IsSound whole → All (HasStamp part) (job_of types j.1)
-          → ((job : ℕ × Entry) → IsIn job js → All (HasStamp whole) (job_of types job.1)) → (job : ℕ × Entry) → IsIn job (j ∷ js)
-          → All (HasStamp whole) (job_of types job.1)
+      done_of : (part whole more : List Entry) → whole ≡ part ++ more → IsSound whole → All (HasStamp part) (job_of types j.entry)
+          → ((job : Owed) → IsIn job js → All (HasStamp whole) (job_of types job.entry)) → (job : Owed) → IsIn job (j ∷ js)
+          → All (HasStamp whole) (job_of types job.entry)
       done_of part whole more e sound first later job (inl k) =
-          subst (λ x. All (HasStamp whole) (job_of types x.1)) k
-          (subst (λ l. All (HasStamp l) (job_of types j.1)) (sym e) (stays_done types part more j.1 (subst IsSound e sound) first))
+          subst (λ x. All (HasStamp whole) (job_of types x.entry)) k
+          (subst (λ l. All (HasStamp l) (job_of types j.entry)) (sym e) (stays_done types part more j.entry (subst IsSound e sound) first))
       done_of part whole more e sound first later job (inr k) = later job k
 
   -- the record after jobs merged one after another
-  record_in_turn : (js : List (ℕ × Entry)) → ((job : ℕ × Entry) → IsIn job js → IsIn job jobs) → (log : List Entry) (id1 : Id) (atype : AType) (id2 : Id)
+  record_in_turn : (js : List Owed) → ((job : Owed) → IsIn job js → IsIn job jobs) → (log : List Entry) (id1 : Id) (atype : AType) (id2 : Id)
       → edge_record (fold (merged types) log js) id1 atype id2 ≡ join_all (edge_record log id1 atype id2) (records_of types js id1 atype id2)
   record_in_turn [] among log id1 atype id2 = refl
   record_in_turn (j ∷ js) among log id1 atype id2 =
-      let here : List EdgeState = records_at id1 atype id2 (job_of types j.1) in
+      let here : List EdgeState = records_at id1 atype id2 (job_of types j.entry) in
       record_in_turn js (λ job h. among job (inr h)) (merged types log j) id1 atype id2
       ∙ ap (λ o. join_all o (records_of types js id1 atype id2))
-      (record_merged types j.0 shard j.1 (are.far j (among j (inl refl))) are.match log id1 atype id2)
+      (record_merged types j shard (are.far j (among j (inl refl))) are.match log id1 atype id2)
       ∙ sym (fold-append (λ old state. join old (Some state)) (edge_record log id1 atype id2) here (records_of types js id1 atype id2))
 
-are_jobs : (types : EdgeTypes) (shard : ℕ) (log : List Entry) (jobs : List (ℕ × Entry)) → AreMergeable types shard log jobs → AreJobs types shard jobs
+are_jobs : (types : EdgeTypes) (shard : ℕ) (log : List Entry) (jobs : List Owed) → AreMergeable types shard log jobs → AreJobs types shard jobs
 are_jobs types shard log jobs may = record {
   match = may.inverses;
-  far = λ job h. All-in (λ j. IsFarEntry types j.0 shard j.1) jobs job may.far h;
+  there = λ job h. All-in (λ j. j.other ≡ shard) jobs job may.there h;
+  far = λ job h. All-in (λ j. IsFarEntry types j.shard shard j.entry) jobs job may.far h;
   one = λ job other h k. may.one job other (contains_from_in jobs job h) (contains_from_in jobs other k);
 }
 
-pub are_merged : (types : EdgeTypes) (shard : ℕ) (log : List Entry) (jobs : List (ℕ × Entry)) → AreMergeable types shard log jobs
+pub are_merged : (types : EdgeTypes) (shard : ℕ) (log : List Entry) (jobs : List Owed) → AreMergeable types shard log jobs
     → AreMerged types shard log jobs
 are_merged types shard log jobs may =
     let are : AreJobs types shard jobs = are_jobs types shard log jobs may in
-    let all = in_turn types shard jobs are jobs (λ job h. h) log may.sound (λ job h. All-in (λ j. IsNewOrDone types log j.0 j.1) jobs job may.origins h) in
+    let all = in_turn types shard jobs are jobs (λ job h. h) log may.sound (λ job h. All-in (IsNewOrDone types log) jobs job may.origins h) in
     record {
       sound = all.0.sound;
-      done = All-from_in (λ job. All (HasStamp (merged_in_turn types log jobs)) (job_of types job.1)) jobs all.1;
+      done = All-from_in (λ job. All (HasStamp (merged_in_turn types log jobs)) (job_of types job.entry)) jobs all.1;
       record_is = record_in_turn types shard jobs are jobs (λ job h. h) log;
     }
 
@@ -141,23 +142,25 @@ pub merges_join : (shard : ℕ) (log : List Entry) → MergesJoin shard log
 merges_join shard log = record { merges = λ types jobs may. are_merged types shard log jobs may }
 
 -- the same jobs in another order may be merged too
-other_order : (types : EdgeTypes) (shard : ℕ) (log : List Entry) (jobs others : List (ℕ × Entry)) → AreMergeable types shard log jobs
-    → ((job : ℕ × Entry) → Contains others job → Contains jobs job) → AreMergeable types shard log others
+other_order : (types : EdgeTypes) (shard : ℕ) (log : List Entry) (jobs others : List Owed) → AreMergeable types shard log jobs
+    → ((job : Owed) → Contains others job → Contains jobs job) → AreMergeable types shard log others
 other_order types shard log jobs others may from = record {
   inverses = may.inverses;
   sound = may.sound;
-  far = All-from_in (λ job. IsFarEntry types job.0 shard job.1) others
-      (λ job h. All-contains (λ j. IsFarEntry types j.0 shard j.1) jobs job may.far (from job (contains_from_in others job h)));
-  origins = All-from_in (λ job. IsNewOrDone types log job.0 job.1) others
-      (λ job h. All-contains (λ j. IsNewOrDone types log j.0 j.1) jobs job may.origins (from job (contains_from_in others job h)));
+  there = All-from_in (λ job. job.other ≡ shard) others
+      (λ job h. All-contains (λ j. j.other ≡ shard) jobs job may.there (from job (contains_from_in others job h)));
+  far = All-from_in (λ job. IsFarEntry types job.shard shard job.entry) others
+      (λ job h. All-contains (λ j. IsFarEntry types j.shard shard j.entry) jobs job may.far (from job (contains_from_in others job h)));
+  origins = All-from_in (IsNewOrDone types log) others
+      (λ job h. All-contains (IsNewOrDone types log) jobs job may.origins (from job (contains_from_in others job h)));
   one = λ job other h k. may.one job other (from job h) (from other k);
 }
 
-same_records : (types : EdgeTypes) (jobs others : List (ℕ × Entry)) → ((job : ℕ × Entry) → Contains jobs job → Contains others job)
+same_records : (types : EdgeTypes) (jobs others : List Owed) → ((job : Owed) → Contains jobs job → Contains others job)
     → (id1 : Id) (atype : AType) (id2 : Id) (s : EdgeState)
     → IsIn s (records_of types jobs id1 atype id2) → IsIn s (records_of types others id1 atype id2)
 same_records types jobs others to id1 atype id2 s h =
-    let at : ℕ × Entry → List EdgeState = λ job. records_at id1 atype id2 (job_of types job.1) in
+    let at : Owed → List EdgeState = λ job. records_at id1 atype id2 (job_of types job.entry) in
     let r = in_flat_map_parts at jobs s h in
     in_flat_map at others r.0 s (in_from_contains others r.0 (to r.0 (contains_from_in jobs r.0 r.1))) r.2
 

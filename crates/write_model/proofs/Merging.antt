@@ -3,7 +3,7 @@ use Rattle.std.proofs.Common.{◌≡◌, ℕ, ◌<◌, List, [], ◌∷◌, ◌+
 use Rattle.std.proofs.lemmas.Bool.{cases_Bool, false≢true}
 use Rattle.std.proofs.lemmas.List.{length-map}
 use Rattle.std.proofs.lemmas.List.Elements.{All-head, All-tail}
-use Rattle.std.specs.Prelude.{All, Contains, Some, None, filter}
+use Rattle.std.specs.Prelude.{All, Contains, IsSomeAnd, Some, None, filter}
 use Rattle.tao_base.specs.EdgeTypes.{EdgeTypes, InversesMatch}
 use Rattle.tao_base.specs.Ids.{shard_of}
 use Rattle.tao_base.specs.declared.entry.Entry.{Entry}
@@ -12,21 +12,22 @@ use Rattle.tao_base.specs.declared.entry.Kind.TheVariants.{Merge as Merged}
 use Rattle.tao_base.specs.declared.entry.Origin.{Origin}
 use Rattle.tao_base.specs.declared.entry.Origin.TheVariants.{Merge}
 use Rattle.write_model.proofs.FarJobs.{JobPair, from_there, job_pairs}
-use Rattle.graph_model.proofs.Members.{IsIn, PairsByRecursion, All-from_in, All-in, contains_from_in, in_filter, in_filter_parts, pairs_filter, pairs_weaker}
+use Rattle.graph_model.proofs.Members.{IsIn, PairsByRecursion, All-from_in, All-in, contains_from_in, in_filter, in_filter_parts, in_map_parts}
+use Rattle.graph_model.proofs.Members.{pairs_filter, pairs_weaker}
 use Rattle.graph_model.proofs.Rising.{stamps_stay}
-use Rattle.write_model.proofs.Written.{AreApart, AreWritten, CutBefore, given_entry, updates-touches, written_stays}
+use Rattle.write_model.proofs.Written.{AreApart, AreWritten, CutBefore, given_entry, update_of-touch, updates-touches, written_stays}
 use Rattle.write_model.specs.MergeLaws.{IsFarEntry, IsMergeable, IsNewOrDone, MergeFollows, MergesNothing}
 use Rattle.graph_model.specs.Records.{HasStamp, is_news}
-use Rattle.write_model.specs.Merges.{job_of, merge_entry}
-use Rattle.graph_model.specs.Soundness.{EdgeUpdate, IsSound, updates_of, IsNewOrigin}
+use Rattle.write_model.specs.Merges.{Owed, WriteOnly, job_of, merge_entry, owed_number}
+use Rattle.graph_model.specs.Soundness.{EdgeUpdate, IsSound, update_at, updates_of, IsNewOrigin}
 use Rattle.write_model.specs.WriteLaws.{StaysSound}
 use Rattle.write_model.specs.Writes.{edge_touch, next_entry}
 
 -- the records of a job that are later than the log's are the records of an entry
-pub news_written : (types : EdgeTypes) (from shard : ℕ) (e : Entry) → IsFarEntry types from shard e → InversesMatch types → (log : List Entry)
+pub news_written : (types : EdgeTypes) (from number shard : ℕ) (e : Entry) → IsFarEntry types from shard e → InversesMatch types → (log : List Entry)
     → 0 < length (filter (is_news log) (job_of types e))
-    → AreWritten types shard log (Merge from e.position) (filter (is_news log) (job_of types e))
-news_written types from shard e far match log some =
+    → AreWritten types shard log (Merge from number) (filter (is_news log) (job_of types e))
+news_written types from number shard e far match log some =
     let us : List EdgeUpdate = filter (is_news log) (job_of types e) in
     let pairs : PairsByRecursion JobPair us = pairs_filter JobPair (is_news log) (job_of types e) (job_pairs types from e far.entry match) in
     record {
@@ -60,29 +61,34 @@ pub no_news : (log : List Entry) (us : List EdgeUpdate) → All (HasStamp log) u
 no_news log [] h = refl
 no_news log (u ∷ us) h = rw (All-head (HasStamp log) u us h) (no_news log us (All-tail (HasStamp log) u us h))
 
-pub merges_nothing : (log : List Entry) (from : ℕ) (e : Entry) → MergesNothing log from e
-merges_nothing log from e = record {
-  done = λ types h. not_news log (job_of types e) (nothing_given log Merged (Merge from e.position) (filter (is_news log) (job_of types e)) h);
-  nothing = λ types h. ap (λ us. next_entry log Merged (Merge from e.position) (map (edge_touch log) us)) (no_news log (job_of types e) h);
+-- the origin of the entry that merges a job
+abbrev pub merge_origin : Owed → Origin
+merge_origin owed = Merge owed.shard (owed_number owed)
+
+pub merges_nothing : (log : List Entry) → MergesNothing log
+merges_nothing log = record {
+  done = λ types owed h. not_news log (job_of types owed.entry)
+      (nothing_given log Merged (merge_origin owed) (filter (is_news log) (job_of types owed.entry)) h);
+  nothing = λ types owed h. ap (λ us. next_entry log Merged (merge_origin owed) (map (edge_touch log) us)) (no_news log (job_of types owed.entry) h);
 }
 
-pub some_news : (types : EdgeTypes) (log : List Entry) (from : ℕ) (e m : Entry) → merge_entry types log from e ≡ Some m
-    → 0 < length (filter (is_news log) (job_of types e))
-some_news types log from e m h =
-    rw (length-map (filter (is_news log) (job_of types e)) (edge_touch log)) at
-    (given_entry log Merged (Merge from e.position) (map (edge_touch log) (filter (is_news log) (job_of types e))) m h).0
+pub some_news : (types : EdgeTypes) (log : List Entry) (owed : Owed) (m : Entry) → merge_entry types log owed ≡ Some m
+    → 0 < length (filter (is_news log) (job_of types owed.entry))
+some_news types log owed m h =
+    rw (length-map (filter (is_news log) (job_of types owed.entry)) (edge_touch log)) at
+    (given_entry log Merged (merge_origin owed) (map (edge_touch log) (filter (is_news log) (job_of types owed.entry))) m h).0
 
-new_origin : (types : EdgeTypes) (log : List Entry) (from : ℕ) (e m : Entry) → IsNewOrDone types log from e → merge_entry types log from e ≡ Some m
-    → IsNewOrigin log (Merge from e.position)
-new_origin types log from e m (inl new) h = new
-new_origin types log from e m (inr done) h = let none : merge_entry types log from e ≡ None = (merges_nothing log from e).nothing types done in absurd (cc)
+new_origin : (types : EdgeTypes) (log : List Entry) (owed : Owed) (m : Entry) → IsNewOrDone types log owed → merge_entry types log owed ≡ Some m
+    → IsNewOrigin log (merge_origin owed)
+new_origin types log owed m (inl new) h = new
+new_origin types log owed m (inr done) h = let none : merge_entry types log owed ≡ None = (merges_nothing log).nothing types owed done in absurd (cc)
 
-pub merge_stays : (types : EdgeTypes) (shard : ℕ) (log : List Entry) (from : ℕ) (e m : Entry) → IsMergeable types shard log from e
-    → merge_entry types log from e ≡ Some m → StaysSound types shard log m
-merge_stays types shard log from e m may h =
-    written_stays types shard log Merged (Merge from e.position) (filter (is_news log) (job_of types e)) m may.sound
-    (new_origin types log from e m may.origin h)
-    (news_written types from shard e may.far may.inverses log (some_news types log from e m h)) h
+pub merge_stays : (types : EdgeTypes) (log : List Entry) (owed : Owed) (m : Entry) → IsMergeable types log owed
+    → merge_entry types log owed ≡ Some m → StaysSound types owed.other log m
+merge_stays types log owed m may h =
+    written_stays types owed.other log Merged (merge_origin owed) (filter (is_news log) (job_of types owed.entry)) m may.sound
+    (new_origin types log owed m may.origin h)
+    (news_written types owed.shard (owed_number owed) owed.other owed.entry may.far may.inverses log (some_news types log owed m h)) h
 
 -- the records that an entry of news writes
 news_updates : (log : List Entry) (origin : Origin) (us : List EdgeUpdate) (m : Entry)
@@ -101,20 +107,40 @@ news_done log origin us m sound h = All-from_in (HasStamp (log ++ m ∷ [])) us 
 ])
 
 -- the records that the merge of a job writes
-pub merge_updates : (types : EdgeTypes) (log : List Entry) (from : ℕ) (e m : Entry) → merge_entry types log from e ≡ Some m
-    → updates_of m ≡ filter (is_news log) (job_of types e)
-merge_updates types log from e m h = news_updates log (Merge from e.position) (job_of types e) m h
+pub merge_updates : (types : EdgeTypes) (log : List Entry) (owed : Owed) (m : Entry) → merge_entry types log owed ≡ Some m
+    → updates_of m ≡ filter (is_news log) (job_of types owed.entry)
+merge_updates types log owed m h = news_updates log (merge_origin owed) (job_of types owed.entry) m h
 
-pub merge_done : (types : EdgeTypes) (shard : ℕ) (log : List Entry) (from : ℕ) (e m : Entry) → IsMergeable types shard log from e
-    → merge_entry types log from e ≡ Some m
-    → All (HasStamp (log ++ m ∷ [])) (job_of types e)
-merge_done types shard log from e m may h = news_done log (Merge from e.position) (job_of types e) m (merge_stays types shard log from e m may h).sound.sound h
+pub merge_done : (types : EdgeTypes) (log : List Entry) (owed : Owed) (m : Entry) → IsMergeable types log owed → merge_entry types log owed ≡ Some m
+    → All (HasStamp (log ++ m ∷ [])) (job_of types owed.entry)
+merge_done types log owed m may h = news_done log (merge_origin owed) (job_of types owed.entry) m (merge_stays types log owed m may h).sound.sound h
 
-pub merge_follows : (shard : ℕ) (log : List Entry) (from : ℕ) (e m : Entry) → MergeFollows shard log from e m
-merge_follows shard log from e m = record {
-  merges = λ types may h. record {
-    stays = merge_stays types shard log from e m may h;
-    done = merge_done types shard log from e m may h;
-    nothing = (merges_nothing (log ++ m ∷ []) from e).nothing types (merge_done types shard log from e m may h);
+-- the entry that a merge makes has its origin
+pub merge_origin_is : (types : EdgeTypes) (log : List Entry) (owed : Owed) (m : Entry) → merge_entry types log owed ≡ Some m → m.origin ≡ merge_origin owed
+merge_origin_is types log owed m h =
+    ap (λ x. x.origin) (sym (given_entry log Merged (merge_origin owed) (map (edge_touch log) (filter (is_news log) (job_of types owed.entry))) m h).1)
+
+-- and each of its touches writes a record of the job
+pub merge_touches : (types : EdgeTypes) (log : List Entry) (owed : Owed) (m : Entry) → merge_entry types log owed ≡ Some m
+    → WriteOnly (job_of types owed.entry) m.touches
+merge_touches types log owed m h =
+    let job : List EdgeUpdate = job_of types owed.entry in
+    let news : List EdgeUpdate = filter (is_news log) job in
+    subst (λ x. WriteOnly job x.touches) (given_entry log Merged (merge_origin owed) (map (edge_touch log) news) m h).1
+    (All-from_in (λ t. IsSomeAnd (update_at t.key t.change) IsOfJob) (map (edge_touch log) news) (λ t k.
+    let u = in_map_parts (edge_touch log) news t k in
+    subst (λ x. IsSomeAnd (update_at x.key x.change) IsOfJob) u.2
+    (subst (λ o. IsSomeAnd o IsOfJob) (sym (update_of-touch log u.0))
+    ∣ contains_from_in job u.0 (in_filter_parts (is_news log) job u.0 u.1).0 ∣₁)))
+  where
+    IsOfJob : EdgeUpdate → Type 0
+    IsOfJob u = ∥ Contains (job_of types owed.entry) u ∥₁
+
+pub merge_follows : (log : List Entry) → MergeFollows log
+merge_follows log = record {
+  merges = λ types owed m may h. record {
+    stays = merge_stays types log owed m may h;
+    done = merge_done types log owed m may h;
+    nothing = (merges_nothing (log ++ m ∷ [])).nothing types owed (merge_done types log owed m may h);
   };
 }

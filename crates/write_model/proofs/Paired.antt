@@ -1,71 +1,31 @@
 -- Where no job is open every edge is paired, until the next commit.
-use Rattle.std.proofs.Common.{◌≡◌, ◌≢◌, ◌⊎◌, ℕ, ◌+◌, false, List, [], ◌∷◌, ◌++◌, length, inl, inr, refl, sym, ap, ◌∙◌, subst}
+use Rattle.std.proofs.Common.{◌≡◌, ◌≢◌, ℕ, false, List, [], ◌∷◌, inl, inr, refl, sym, ap, ◌∙◌}
 use Rattle.std.proofs.lemmas.Bool.{cases_eq}
 use Rattle.std.proofs.lemmas.List.Elements.{All-contains}
-use Rattle.std.specs.Option.{option_or}
-use Rattle.std.specs.Prelude.{Contains, Option, Some, None, IsSome, not}
+use Rattle.std.specs.Prelude.{Contains, Option, Some, None, not}
 use Rattle.tao_base.specs.EdgeTypes.{EdgeTypes, InversesMatch}
 use Rattle.tao_base.specs.Ids.{shard_of}
 use Rattle.tao_base.specs.Stamps.{stamp_of}
 use Rattle.tao_base.specs.declared.edge.EdgeState.{EdgeState}
-use Rattle.tao_base.specs.declared.entry.Entry.{Entry}
 use Rattle.tao_base.specs.declared.id.AType.{AType}
 use Rattle.tao_base.specs.declared.id.Id.{Id}
-use Rattle.write_model.proofs.Agreeing.{ends_agree}
 use Rattle.write_model.proofs.CoverEnds.{cases_job, end_keeps}
 use Rattle.write_model.proofs.CoverMerges.{merges_keep}
-use Rattle.write_model.proofs.Growing.{entry_at-last, entry_at-more}
+use Rattle.write_model.proofs.WrittenRecords.{wrote_it}
 use Rattle.graph_model.proofs.Joins.{same_stamp}
-use Rattle.graph_model.proofs.Lists.{apart-eqb, snoc_ind}
-use Rattle.graph_model.proofs.Members.{All-from_in, All-in, contains_filter_map}
+use Rattle.graph_model.proofs.Lists.{apart-eqb}
+use Rattle.graph_model.proofs.Members.{contains_filter_map}
 use Rattle.write_model.proofs.Merging.{merges_nothing}
+use Rattle.write_model.proofs.OpenJobs.{closed_is_there}
 use Rattle.graph_model.proofs.NearEnds.{near_ends_are_paired, other_end-is}
-use Rattle.graph_model.proofs.Sound.{before_last, last_follows}
-use Rattle.graph_model.proofs.Updates.{edge_record-append, update_of_record}
 use Rattle.write_model.specs.CoverLaws.{NoJobsArePaired}
 use Rattle.graph_model.specs.Edges.{edge_record}
-use Rattle.write_model.specs.Machine.{ArePaired, Owed}
-use Rattle.write_model.specs.Merges.{HasJob, Stores, job_of, log_of}
+use Rattle.write_model.specs.Machine.{ArePaired}
+use Rattle.write_model.specs.Merges.{IsCovered, IsWritten, Stores, job_of, log_of}
 use Rattle.graph_model.specs.Records.{HasStamp, is_later}
-use Rattle.graph_model.specs.Log.{entry_at}
-use Rattle.graph_model.specs.Soundness.{EdgeUpdate, IsSound, other_end, updates_of}
-use Rattle.write_model.specs.Steps.{AllRest, AreSound, AreSoundAndCovered, EndsAgree, HaveNoJobs, IsOwed, IsWritten, WorksOff, WorksOffAll}
+use Rattle.graph_model.specs.Soundness.{EdgeUpdate, other_end, updates_of}
+use Rattle.write_model.specs.Steps.{AllRest, AreSound, AreSoundAndCovered, HaveNoJobs, WorksOff, WorksOffAll}
 use Rattle.write_model.specs.Writes.{is_near, when}
-
-not_open : (o : Option (List EdgeUpdate)) → o ≡ None → IsSome o → ⊥
-not_open None e h = absurd (cc)
-not_open (Some us) e h = absurd (cc)
-
--- the entry that wrote a record that stands
-record WroteIt (log : List Entry) (u : EdgeUpdate) : Type 0 where
-  position : ℕ
-  entry : Entry
-  stands : entry_at log position ≡ Some entry
-  writes : Contains (updates_of entry) u
-
-wrote_it : (id1 : Id) (atype : AType) (id2 : Id) (state : EdgeState) (log : List Entry) → IsSound log → edge_record log id1 atype id2 ≡ Some state
-    → WroteIt log (id1, atype, id2, state)
-wrote_it id1 atype id2 state = snoc_ind (λ xs. IsSound xs → edge_record xs id1 atype id2 ≡ Some state → WroteIt xs (id1, atype, id2, state))
-    (λ sound h. absurd (cc)) step
-  where
-    step : (xs : List Entry) (e : Entry) → (IsSound xs → edge_record xs id1 atype id2 ≡ Some state → WroteIt xs (id1, atype, id2, state))
-        → IsSound (xs ++ e ∷ []) → edge_record (xs ++ e ∷ []) id1 atype id2 ≡ Some state → WroteIt (xs ++ e ∷ []) (id1, atype, id2, state)
-    step xs e ih sound h = by_last (edge_record (e ∷ []) id1 atype id2) refl
-      where
-        by_last : (o : Option EdgeState) → edge_record (e ∷ []) id1 atype id2 ≡ o → WroteIt (xs ++ e ∷ []) (id1, atype, id2, state)
-        by_last None q =
-            let before : edge_record xs id1 atype id2 ≡ Some state = ap (λ o. option_or o (edge_record xs id1 atype id2)) (sym q)
-            ∙ sym (edge_record-append xs e id1 atype id2) ∙ h in
-            let w = ih (before_last xs e sound) before in
-            record { position = w.position; entry = w.entry; stands = entry_at-more xs (e ∷ []) w.position w.entry w.stands; writes = w.writes }
-        by_last (Some new) q =
-            let now : Some new ≡ Some state = ap (λ o. option_or o (edge_record xs id1 atype id2)) (sym q) ∙ sym (edge_record-append xs e id1 atype id2) ∙ h in
-            record {
-              position = length xs + 1;
-              entry = e;
-              stands = entry_at-last xs e;
-              writes = update_of_record e id1 atype id2 state (last_follows xs e sound).once (q ∙ now);
-            }
 
 -- two records of which neither is later, and that are one where their stamps are
 same_record : (a b : Option EdgeState) → ((s : EdgeState) → a ≡ Some s → is_later s b ≡ false) → ((t : EdgeState) → b ≡ Some t → is_later t a ≡ false)
@@ -75,9 +35,11 @@ same_record None (Some t) f g agree = let k = g t refl in absurd (cc)
 same_record (Some s) None f g agree = let k = f s refl in absurd (cc)
 same_record (Some s) (Some t) f g agree = ap Some (agree s t refl refl (same_stamp (stamp_of s) (stamp_of t) (g t refl) (f s refl)))
 
-module _ (types : EdgeTypes) (stores : Stores) (sound : AreSound types stores.logs) (ends : EndsAgree types stores) (none : HaveNoJobs stores) where
+module _ (types : EdgeTypes) (stores : Stores) (sound : AreSound types stores.logs)
+    (each : (s : ℕ) → IsCovered types (log_of stores.logs) stores.epochs.of (stores.job s) s)
+    (none : HaveNoJobs stores) where
   found : (id1 : Id) (atype : AType) (id2 : Id) (s : EdgeState) → edge_record (log_of stores.logs (shard_of id1)) id1 atype id2 ≡ Some s
-      → IsWritten stores (id1, atype, id2, s)
+      → IsWritten (log_of stores.logs) (id1, atype, id2, s)
   found id1 atype id2 s h =
       let w = wrote_it id1 atype id2 s (log_of stores.logs (shard_of id1)) (sound (shard_of id1)).sound h in
       record { position = w.position; entry = w.entry; stands = w.stands; writes = w.writes }
@@ -94,18 +56,15 @@ module _ (types : EdgeTypes) (stores : Stores) (sound : AreSound types stores.lo
       let other : when (not (is_near u)) (other_end types u) ≡ Some v = ap (λ b. when b (other_end types u)) far ∙ other_end-is types inverse u inv in
       let owed : Contains (job_of types w.entry) v = contains_filter_map (λ x. when (not (is_near x)) (other_end types x))
       (updates_of w.entry) u v w.writes other in
-      elim (All-contains (λ x. IsSome (stores.job (shard_of id1) w.position) ⊎ HasStamp (log_of stores.logs (shard_of x.0)) x) (job_of types w.entry) v
-      (ends.owed (shard_of id1) w.position w.entry w.stands) owed) [
-        | inl job ↦ absurd (not_open (stores.job (shard_of id1) w.position) (none (shard_of id1) w.position) job)
-        | inr there ↦ there
-      ]
+      All-contains (λ x. HasStamp (log_of stores.logs (shard_of x.0)) x) (job_of types w.entry) v
+      ((each (shard_of id1)).owed w.position w.entry w.stands (none (shard_of id1) w.position)) owed
 
   pub far_paired : InversesMatch types → (id1 : Id) (atype inverse : AType) (id2 : Id) → types.inverse atype ≡ Some inverse → shard_of id2 ≢ shard_of id1
       → edge_record (log_of stores.logs (shard_of id1)) id1 atype id2 ≡ edge_record (log_of stores.logs (shard_of id2)) id2 inverse id1
   far_paired match id1 atype inverse id2 inv apart =
       same_record (edge_record (log_of stores.logs (shard_of id1)) id1 atype id2) (edge_record (log_of stores.logs (shard_of id2)) id2 inverse id1)
       (one_way id1 atype inverse id2 inv apart) (one_way id2 inverse atype id1 (match atype inverse inv) (λ e. apart (sym e)))
-      (λ s t h k same. ends.agree (id1, atype, id2, s) (id2, inverse, id1, t) (found id1 atype id2 s h) (found id2 inverse id1 t k)
+      (λ s t h k same. (each (shard_of id1)).one (id1, atype, id2, s) (id2, inverse, id1, t) refl (found id1 atype id2 s h) (found id2 inverse id1 t k)
       (inr (other_end-is types inverse (id1, atype, id2, s) inv)) same)
 
   pub all_paired : InversesMatch types → ArePaired types stores.logs
@@ -118,23 +77,14 @@ module _ (types : EdgeTypes) (stores : Stores) (sound : AreSound types stores.lo
 
 -- Where no job is open, working off leaves the logs.
 module _ (types : EdgeTypes) (match : InversesMatch types) where
-  all_there : (stores : Stores) (owed : Owed) → AreSoundAndCovered types stores → HaveNoJobs stores → IsOwed types stores owed
-      → HasJob types (log_of stores.logs owed.other) owed.entry
-  all_there stores owed kept none owes = All-from_in (HasStamp (log_of stores.logs owed.other)) (job_of types owed.entry) (λ u h.
-      subst (λ s. HasStamp (log_of stores.logs s) u) (All-in (λ x. shard_of x.0 ≡ owed.other) (job_of types owed.entry) u owes.there h)
-      (elim (All-in (λ x. IsSome (stores.job owed.shard owed.entry.position) ⊎ HasStamp (log_of stores.logs (shard_of x.0)) x) (job_of types owed.entry) u
-      (kept.covered.owed owed.shard owed.entry.position owed.entry owes.stands) h) [
-        | inl job ↦ absurd (not_open (stores.job owed.shard owed.entry.position) (none owed.shard owed.entry.position) job)
-        | inr there ↦ there
-      ]))
-
   rests : (old new : Stores) → AreSoundAndCovered types old → HaveNoJobs old → WorksOff types old new → (new.logs ≡ old.logs) × HaveNoJobs new
       × AreSoundAndCovered types new
   rests old new kept none (owed, inl m) = (
     elim m.merges [
       | inl n ↦ n.1
       | inr g ↦ (
-          let nothing = (merges_nothing (log_of old.logs owed.other) owed.shard owed.entry).nothing types (all_there old owed kept none m.owes) in
+          let there = closed_is_there types old owed kept m.owes (none owed.shard owed.entry.position) in
+          let nothing = (merges_nothing (log_of old.logs owed.other)).nothing types owed there in
           let some : None ≡ Some g.merged = sym nothing ∙ g.is in
           absurd (cc))
     ],
@@ -159,6 +109,6 @@ module _ (types : EdgeTypes) (match : InversesMatch types) where
 
 pub no_jobs_are_paired : NoJobsArePaired
 no_jobs_are_paired = record {
-  paired = λ types stores match kept none. all_paired types stores kept.sound (ends_agree types stores match kept) none match;
+  paired = λ types stores match kept none. all_paired types stores kept.sound kept.covered.each none match;
   stays = λ types old later match kept none h. all_rest types match old old later refl kept none h;
 }

@@ -9,10 +9,10 @@ use Rattle.tao_base.specs.declared.entry.Entry.{Entry}
 use Rattle.write_model.proofs.CoverMerges.{merges_keep, merges_grow}
 use Rattle.write_model.proofs.Growing.{entry_stays}
 use Rattle.graph_model.proofs.Members.{IsIn, All-in, AllPairs-from_recursion, pairs_append, recursion_from_AllPairs}
-use Rattle.write_model.proofs.OpenJobs.{open_jobs_are_owed}
+use Rattle.write_model.proofs.OpenJobs.{job_found, open_jobs_are_owed}
 use Rattle.write_model.specs.CoverLaws.{SettlesInOrder}
-use Rattle.write_model.specs.Machine.{ComesBefore, IsOpenJob, MayMerge, MergeInTurn, MergesNews, Owed, Settles}
-use Rattle.write_model.specs.Merges.{Stores, job_of, log_of}
+use Rattle.write_model.specs.Machine.{ComesBefore, IsOpenJob, MayMerge, MergeInTurn, MergesNews, Settles}
+use Rattle.write_model.specs.Merges.{Owed, Stores, job_of, log_of}
 use Rattle.graph_model.specs.Log.{entry_at}
 use Rattle.graph_model.specs.Soundness.{EdgeUpdate}
 use Rattle.write_model.specs.Steps.{AreSoundAndCovered, EndsJob, HaveNoJobs, IsNextJob, MergesJob, Settling}
@@ -73,13 +73,18 @@ module _ (types : EdgeTypes) (start now mid : Stores) (jobs : List Owed) (owed :
     was_open other h =
         let job_is : now.job other.shard other.entry.position ≡ Some (job_of types other.entry) =
         sym (end.ends.others other.shard other.entry.position (not_ended other h) ∙ merge.jobs other.shard other.entry.position) ∙ h.job_is in
-        let job = kept.covered.jobs other.shard other.entry.position (job_of types other.entry) job_is in
+        let job = job_found types now other.shard other.entry.position (job_of types other.entry) kept job_is in
         let stands : entry_at (log_of mid.logs other.shard) other.entry.position ≡ Some job.entry =
-        entry_stays types now.logs mid.logs (merges_grow types now mid owed match kept merge) other.shard other.entry.position job.entry job.stands.stands in
+        entry_stays types (log_of now.logs) (log_of mid.logs) (merges_grow types now mid owed match kept merge) other.shard other.entry.position
+        job.entry job.stands in
         let there : entry_at (log_of mid.logs other.shard) other.entry.position ≡ Some other.entry =
         subst (λ l. entry_at (log_of l other.shard) other.entry.position ≡ Some other.entry) end.logs h.stands in
         let one : job.entry ≡ other.entry = same_Some job.entry other.entry (sym stands ∙ there) in
-        record { stands = subst (λ e. entry_at (log_of now.logs other.shard) other.entry.position ≡ Some e) one job.stands.stands; job_is = job_is }
+        record {
+          epoch_is = h.epoch_is ∙ ap (λ x. x.of other.shard) (end.epochs ∙ merge.epochs);
+          stands = subst (λ e. entry_at (log_of now.logs other.shard) other.entry.position ≡ Some e) one job.stands;
+          job_is = job_is;
+        }
 
     -- it comes after the one that was ended
     comes_after : (other : Owed) → IsOpenJob types new other → IsOpenJob types now other → ComesBefore owed other

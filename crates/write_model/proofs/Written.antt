@@ -124,9 +124,9 @@ written_keeps_ends types shard log kind origin us w = record {
   here = All-from_in (λ t. key_shard t.key ≡ shard) (map (edge_touch log) us) (λ t h.
       let u = in_map_parts (edge_touch log) us t h in
       subst (λ x. key_shard x.key ≡ shard) u.2 (w.here u.0 u.1));
-  both = rw (updates-touches log us) (All-from_in (λ u. shard_of u.2 ≡ shard → IfSome (other_end types u) (Contains us)) us
-      (λ u h near. if_some (Contains us) (other_end types u) (λ v e.
-      contains_from_in us v (if_some_at (λ x. IsIn x us) (other_end types u) v (w.both u h near) e))));
+  both = rw (updates-touches log us) (All-from_in (λ u. shard_of u.2 ≡ shard → IfSome (other_end types u) (λ v. ∥ Contains us v ∥₁)) us
+      (λ u h near. if_some (λ v. ∥ Contains us v ∥₁) (other_end types u) (λ v e.
+      ∣ contains_from_in us v (if_some_at (λ x. IsIn x us) (other_end types u) v (w.both u h near) e) ∣₁)));
 }
 
 -- an entry with touches

@@ -1,23 +1,29 @@
 -- The records that the entries of sound logs have written.
-use Rattle.std.proofs.Common.{◌≡◌, ℕ, zero, suc, ◌+◌, false, List, [], ◌∷◌, ◌++◌, take, drop, inl, refl, sym, subst, arith}
+use Rattle.std.proofs.Common.{◌≡◌, ℕ, zero, suc, ◌+◌, false, List, [], ◌∷◌, ◌++◌, take, drop, inl, refl, sym, ap, ◌∙◌, subst, arith}
 use Rattle.std.proofs.lemmas.Bool.{not-true}
-use Rattle.std.proofs.lemmas.Bool.Decides.{nat_tests}
 use Rattle.std.proofs.lemmas.List.{take-append-drop}
-use Rattle.std.specs.Prelude.{Contains, Option, Some, None, length, sum_by, not, ◌<◌, ◌≤◌}
+use Rattle.std.specs.Option.{option_or}
+use Rattle.std.proofs.lemmas.List.Elements.{All-contains}
+use Rattle.std.specs.Prelude.{Contains, IfSome, Option, Some, None, length, not, ◌<◌, true}
 use Rattle.tao_base.specs.EdgeTypes.{EdgeTypes}
-use Rattle.tao_base.specs.Stamps.{stamp_of}
+use Rattle.tao_base.specs.Stamps.{is_earlier, stamp_of}
 use Rattle.tao_base.specs.declared.edge.EdgeState.{EdgeState}
 use Rattle.tao_base.specs.declared.entry.Entry.{Entry}
+use Rattle.tao_base.specs.declared.entry.Touch.{Touch}
+use Rattle.tao_base.specs.declared.id.AType.{AType}
+use Rattle.tao_base.specs.declared.id.Id.{Id}
 use Rattle.write_model.proofs.BothEnds.{IsOtherEnd, other_end_is, when_some}
-use Rattle.graph_model.proofs.Members.{IsIn, contains_from_in, in_filter_map_parts, in_from_contains}
+use Rattle.graph_model.proofs.Members.{IsIn, contains_filter_map_parts, contains_from_in, in_filter_map_parts, in_from_contains}
 use Rattle.graph_model.proofs.Rising.{stamps_stay, take_with}
-use Rattle.graph_model.proofs.Sound.{sound_take}
-use Rattle.graph_model.specs.Edges.{edge_record, number_of}
-use Rattle.graph_model.specs.Records.{HasStamp, is_later}
-use Rattle.write_model.specs.Merges.{Stores, job_of, log_of}
+use Rattle.graph_model.proofs.Lists.{snoc_ind}
+use Rattle.graph_model.proofs.Sound.{before_last, last_follows, sound_take}
+use Rattle.graph_model.proofs.Updates.{edge_record-append, update_of_record}
+use Rattle.write_model.proofs.Growing.{entry_at-last, entry_at-more}
+use Rattle.graph_model.specs.Edges.{edge_record}
+use Rattle.graph_model.specs.Records.{HasStamp, is_later, is_news}
+use Rattle.write_model.specs.Merges.{job_of}
 use Rattle.graph_model.specs.Log.{entry_at}
-use Rattle.graph_model.specs.Soundness.{EdgeUpdate, IsSound, other_end, updates_of}
-use Rattle.write_model.specs.Steps.{AreSoundAndCovered}
+use Rattle.graph_model.specs.Soundness.{CanFollow, EdgeUpdate, IsSound, TouchFollows, other_end, update_at, updates_of}
 use Rattle.write_model.specs.Writes.{is_near, when}
 
 -- the first of some
@@ -36,17 +42,58 @@ written_stamp log sound (suc n) e u h k =
     let whole : take (n + 1) log ++ drop (n + 1) log ≡ log = take-append-drop (n + 1) log in
     subst (λ l. HasStamp l u) whole ((stamps_stay (take (n + 1) log)).stays (drop (n + 1) log) u (subst IsSound (sym whole) sound) reached)
 
-not_later_number : (found : Option EdgeState) (state : EdgeState) → is_later state found ≡ false → (stamp_of state).number ≤ number_of found
-not_later_number None state h = absurd (cc)
-not_later_number (Some old) state h = grind (arith, nat_tests)
+-- a record that an entry writes is later than the one before
+pub is_news_here : (log : List Entry) (e : Entry) (u : EdgeUpdate) → CanFollow log e → Contains (updates_of e) u → is_news log u ≡ true
+is_news_here log e u follows h =
+    let found = contains_filter_map_parts (λ (t : Touch). update_at t.key t.change) e.touches u h in
+    let touch = All-contains (TouchFollows log e.origin) e.touches found.0 follows.touches found.1 in
+    let rises = subst (λ o. IfSome o (λ v. IfSome (edge_record log v.0 v.1 v.2) (λ old. is_earlier (stamp_of old) (stamp_of v.3) ≡ true))) found.2
+    touch.stamp_rises in
+    later_than (edge_record log u.0 u.1 u.2) rises
+  where
+    later_than : (found : Option EdgeState) → IfSome found (λ old. is_earlier (stamp_of old) (stamp_of u.3) ≡ true) → is_later u.3 found ≡ true
+    later_than None h = refl
+    later_than (Some old) h = h
 
-pub written_number : (types : EdgeTypes) (stores : Stores) → AreSoundAndCovered types stores → (shard position : ℕ) (e : Entry) (u : EdgeUpdate)
-    → entry_at (log_of stores.logs shard) position ≡ Some e → Contains (updates_of e) u → (stamp_of u.3).number ≤ sum_by length stores.logs
-written_number types stores kept shard position e u h k =
-    let reached = written_stamp (log_of stores.logs shard) (kept.sound shard).sound position e u h k in
-    let least = not_later_number (edge_record (log_of stores.logs shard) u.0 u.1 u.2) u.3 reached in
-    let few = kept.covered.numbers shard u.0 u.1 u.2 in
-    omega (arith, least, few)
+-- whether a record was reached is a matter of its stamp alone
+pub same_stamp_there : (log : List Entry) (u : EdgeUpdate) (state : EdgeState) → stamp_of u.3 ≡ stamp_of state → HasStamp log (u.0, u.1, u.2, state)
+    → HasStamp log u
+same_stamp_there log u state same h = by_record (edge_record log u.0 u.1 u.2) h
+  where
+    by_record : (found : Option EdgeState) → is_later state found ≡ false → is_later u.3 found ≡ false
+    by_record None h = absurd (cc)
+    by_record (Some old) h = ap (is_earlier (stamp_of old)) same ∙ h
+
+-- the entry that wrote a record that stands
+pub record WroteIt (log : List Entry) (u : EdgeUpdate) : Type 0 where
+  pub position : ℕ
+  pub entry : Entry
+  pub stands : entry_at log position ≡ Some entry
+  pub writes : Contains (updates_of entry) u
+
+pub wrote_it : (id1 : Id) (atype : AType) (id2 : Id) (state : EdgeState) (log : List Entry) → IsSound log → edge_record log id1 atype id2 ≡ Some state
+    → WroteIt log (id1, atype, id2, state)
+wrote_it id1 atype id2 state = snoc_ind (λ xs. IsSound xs → edge_record xs id1 atype id2 ≡ Some state → WroteIt xs (id1, atype, id2, state))
+    (λ sound h. absurd (cc)) step
+  where
+    step : (xs : List Entry) (e : Entry) → (IsSound xs → edge_record xs id1 atype id2 ≡ Some state → WroteIt xs (id1, atype, id2, state))
+        → IsSound (xs ++ e ∷ []) → edge_record (xs ++ e ∷ []) id1 atype id2 ≡ Some state → WroteIt (xs ++ e ∷ []) (id1, atype, id2, state)
+    step xs e ih sound h = by_last (edge_record (e ∷ []) id1 atype id2) refl
+      where
+        by_last : (o : Option EdgeState) → edge_record (e ∷ []) id1 atype id2 ≡ o → WroteIt (xs ++ e ∷ []) (id1, atype, id2, state)
+        by_last None q =
+            let before : edge_record xs id1 atype id2 ≡ Some state = ap (λ o. option_or o (edge_record xs id1 atype id2)) (sym q)
+            ∙ sym (edge_record-append xs e id1 atype id2) ∙ h in
+            let w = ih (before_last xs e sound) before in
+            record { position = w.position; entry = w.entry; stands = entry_at-more xs (e ∷ []) w.position w.entry w.stands; writes = w.writes }
+        by_last (Some new) q =
+            let now : Some new ≡ Some state = ap (λ o. option_or o (edge_record xs id1 atype id2)) (sym q) ∙ sym (edge_record-append xs e id1 atype id2) ∙ h in
+            record {
+              position = length xs + 1;
+              entry = e;
+              stands = entry_at-last xs e;
+              writes = update_of_record e id1 atype id2 state (last_follows xs e sound).once (q ∙ now);
+            }
 
 -- the record of an entry whose far end a record of its job is
 pub record IsFarEndOf (types : EdgeTypes) (e : Entry) (u : EdgeUpdate) : Type 0 where

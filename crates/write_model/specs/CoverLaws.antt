@@ -1,20 +1,21 @@
 -- Laws of covered stores: each step of writes, merges and jobs keeps them sound and covered, and where no job is left open every edge is paired.
-use Rattle.std.specs.Prelude.{ℕ, List, [], ◌∷◌, ◌++◌, length, Contains, Some, None, IsTrue, ◌≡◌, ◌<◌}
+use Rattle.std.specs.Prelude.{ℕ, List, [], ◌∷◌, ◌++◌, length, Contains, Some, None, IsTrue, ◌≡◌, ◌≤◌, ◌<◌}
 use Rattle.tao_base.specs.EdgeTypes.{EdgeTypes, InversesMatch}
 use Rattle.tao_base.specs.Ids.{shard_of}
 use Rattle.tao_base.specs.declared.entry.Entry.{Entry}
-use Rattle.write_model.specs.Machine.{ArePaired, ClientWrite, Owed, Settles}
+use Rattle.write_model.specs.Machine.{ArePaired, ClientWrite, Settles}
 use Rattle.write_model.specs.MergeLaws.{IsMergeable}
-use Rattle.write_model.specs.Merges.{HasJob, IsClientEntry, Stores, job_of, log_of}
+use Rattle.write_model.specs.Merges.{HasJob, Owed, Stores, job_of, log_of}
+use Rattle.graph_model.specs.Log.{entry_at}
 use Rattle.graph_model.specs.Soundness.{EdgeUpdate, is_client}
-use Rattle.write_model.specs.Steps.{AllRest, AreSoundAndCovered, CommitsWithJob, EndsAgree, EndsJob, HaveNoJobs, IsJobOf, IsNextJob, IsOwed}
-use Rattle.write_model.specs.Steps.{MergesJob, Settling, StampsAreReached, WorksOffAll}
+use Rattle.write_model.specs.Steps.{AllRest, AreSoundAndCovered, CommitsWithJob, EndsJob, HaveNoJobs, IsJobOf, IsNextJob, IsOwed}
+use Rattle.write_model.specs.Steps.{MergesJob, Settling, WorksOffAll}
 use Rattle.write_model.specs.WriteLaws.{IsAdmitted}
 
--- stores without entries and jobs are sound and covered
+-- stores without entries and jobs are sound and covered, where no shard's epoch is past the last one
 pub record EmptyStoresAreKept : Type 0 where
   pub kept : (types : EdgeTypes) (stores : Stores) → ((shard : ℕ) → log_of stores.logs shard ≡ []) → HaveNoJobs stores
-      → AreSoundAndCovered types stores
+      → ((shard : ℕ) → stores.epochs.of shard ≤ stores.epochs.last) → AreSoundAndCovered types stores
 
 -- a commit with its job keeps the stores sound and covered
 pub record CommitsKeep : Type 0 where
@@ -23,7 +24,7 @@ pub record CommitsKeep : Type 0 where
       → CommitsWithJob types old new w e → AreSoundAndCovered types new
   pub stands : (types : EdgeTypes) (old new : Stores) (w : ClientWrite) (e : Entry)
       → AreSoundAndCovered types old → IsTrue (is_client w.origin) → IsAdmitted types w.shard (log_of old.logs w.shard) w.origin w.asked
-      → CommitsWithJob types old new w e → IsClientEntry (log_of new.logs w.shard) e.position e
+      → CommitsWithJob types old new w e → entry_at (log_of new.logs w.shard) e.position ≡ Some e
 
 -- a merge keeps the stores sound and covered, and leaves all of the job there
 pub record MergesKeep : Type 0 where
@@ -43,22 +44,17 @@ pub record OpenJobsAreOwed : Type 0 where
       → stores.job shard position ≡ Some us → 0 < length us
   pub owed : (types : EdgeTypes) (stores : Stores) (shard position : ℕ) (us : List EdgeUpdate) (u : EdgeUpdate) → AreSoundAndCovered types stores
       → stores.job shard position ≡ Some us → Contains us u → (by : Owed) × IsJobOf types stores shard position us by × (by.other ≡ shard_of u.0)
-  -- so does each record of a client's entry that stands, whether its job is still open or not
+  -- so does each record of an entry that stands, whether its job is still open or not
   pub owes : (types : EdgeTypes) (stores : Stores) (shard position : ℕ) (e : Entry) (u : EdgeUpdate) → AreSoundAndCovered types stores
-      → IsClientEntry (log_of stores.logs shard) position e → Contains (job_of types e) u
-      → IsOwed types stores (record { shard = shard; entry = e; other = shard_of u.0 })
+      → entry_at (log_of stores.logs shard) position ≡ Some e → Contains (job_of types e) u
+      → IsOwed types stores (record { shard = shard; epoch = stores.epochs.of shard; entry = e; other = shard_of u.0 })
   pub mergeable : (types : EdgeTypes) (stores : Stores) (owed : Owed) → InversesMatch types → AreSoundAndCovered types stores
-      → IsOwed types stores owed → 0 < length (job_of types owed.entry) → IsMergeable types owed.other (log_of stores.logs owed.other) owed.shard owed.entry
+      → IsOwed types stores owed → 0 < length (job_of types owed.entry) → IsMergeable types (log_of stores.logs owed.other) owed
   -- a job that isn't open is there
   pub closed : (types : EdgeTypes) (stores : Stores) (owed : Owed) → AreSoundAndCovered types stores → IsOwed types stores owed
       → stores.job owed.shard owed.entry.position ≡ None → HasJob types (log_of stores.logs owed.other) owed.entry
   pub within : (types : EdgeTypes) (stores : Stores) (shard position : ℕ) (us : List EdgeUpdate) → AreSoundAndCovered types stores
       → stores.job shard position ≡ Some us → shard < length stores.logs
-
--- in sound and covered stores the ends of edges agree
-pub record CoveredEndsAgree : Type 0 where
-  pub agree : (types : EdgeTypes) (stores : Stores) → InversesMatch types → AreSoundAndCovered types stores → EndsAgree types stores
-  pub reached : (types : EdgeTypes) (stores : Stores) → InversesMatch types → AreSoundAndCovered types stores → StampsAreReached types stores
 
 -- where no job is open every edge is paired, and stays so, with all logs as they are, until the next commit
 pub record NoJobsArePaired : Type 0 where

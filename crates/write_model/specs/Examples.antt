@@ -1,6 +1,6 @@
 -- Worked examples: the definitions computed on small logs.
 use Rattle.std.specs.Prelude.{ℕ, suc, true, false, map, length, take, drop, flat_map, List, [], ◌∷◌, ◌++◌, Some, None, option_to_list, ◌≡◌, refl}
-use Rattle.std.specs.Prelude.{if◌then◌else◌, ◌==◌}
+use Rattle.std.specs.Prelude.{if◌then◌else◌, ◌==◌, ◌-◌}
 use Rattle.tao_base.specs.EdgeTypes.{EdgeTypes}
 use Rattle.tao_base.specs.Spelling.{spelling}
 use Rattle.tao_base.specs.declared.id.AType.{AType}
@@ -20,7 +20,7 @@ use Rattle.tao_base.specs.declared.query.Query.TheVariants.{ObjGet, AssocGet, As
 use Rattle.graph_model.specs.Answers.{answer}
 use Rattle.graph_model.specs.Edges.{edge_list}
 use Rattle.graph_model.specs.Log.{version}
-use Rattle.write_model.specs.Merges.{job_of, merge_entry}
+use Rattle.write_model.specs.Merges.{Owed, job_of, merge_entry}
 use Rattle.graph_model.specs.Soundness.{updates_of}
 use Rattle.graph_model.specs.Prefixes.{IsPrefixOf, decides, edges_after, total_after}
 use Rattle.write_model.specs.Writes.{forward_entry}
@@ -29,7 +29,7 @@ use Rattle.write_model.specs.Writes.{forward_entry}
 abbrev pub log_after : EdgeTypes → ℕ → ℕ → List Entry → List Write → List Entry
 log_after types session seq log [] = log
 log_after types session seq log (w ∷ ws) =
-    log_after types session (suc seq) (log ++ option_to_list (forward_entry types log (Client session seq) w)) ws
+    log_after types session (suc seq) (log ++ option_to_list (forward_entry types 0 log (Client session seq) w)) ws
 
 -- edges that were written at shard 0, without data
 abbrev pub edge : ℕ → ℕ → ℕ → Edge
@@ -39,12 +39,15 @@ edge id2 time number = record { id2 = id2; time = time; payload = []; stamp = re
 abbrev pub likes : AType
 likes = record { 0 = 0 }
 
+-- a schema of that one type, whose lists have the bound 6,000
 abbrev pub one_type : EdgeTypes
 one_type = record { inverse = λ a. None; bound = λ a. 6000 }
 
+-- the write that adds an edge from id 1 to id2 with a time, without data
 abbrev pub add : ℕ → ℕ → Write
 add id2 time = AssocAdd 1 likes id2 time []
 
+-- the log of shard 0 after writes of session 1, by the schema of one type
 abbrev pub added : List Write → List Entry
 added writes = log_after one_type 1 1 [] writes
 
@@ -63,6 +66,7 @@ first_edge_entry = refl
 first_edge_answer : answer one_type first_add (AssocRange 1 likes 0 10) ≡ EdgesAre (edge 2 5 1 ∷ [])
 first_edge_answer = refl
 
+-- the bytes that the entry of the first edge is spelled in
 abbrev pub first_edge_bytes : List ℕ
 first_edge_bytes =
     0 ∷ 0 ∷ 0 ∷ 0 ∷ 0 ∷ 0 ∷ 0 ∷ 1 ∷ 4 ∷ 0 ∷ 0 ∷ 0 ∷ 1 ∷ 0 ∷ 0 ∷ 0 ∷ 0 ∷ 0 ∷ 0 ∷ 0 ∷ 1 ∷ 1 ∷
@@ -91,6 +95,7 @@ equal_times_by_greater_id = refl
 abbrev pub four_adds : List Entry
 four_adds = added (add 2 9 ∷ add 3 8 ∷ add 4 7 ∷ add 5 6 ∷ [])
 
+-- the log of the four adds after the edge to id 2 is set again, with time 5
 abbrev pub set_again : List Entry
 set_again = log_after one_type 1 5 four_adds (add 2 5 ∷ [])
 
@@ -134,9 +139,11 @@ range_of_no_time = refl
 abbrev pub user : OType
 user = record { 0 = 0 }
 
+-- an object's data: the key `n` with the value `A`
 abbrev pub name : List Pair
 name = record { key = 110 ∷ []; value = 65 ∷ [] } ∷ []
 
+-- the log after an object is added, updated to have no data, and deleted
 abbrev pub object_writes : List Entry
 object_writes = log_after one_type 1 1 [] (ObjAdd 0 user name ∷ ObjUpdate 1 [] ∷ ObjDelete 1 ∷ [])
 
@@ -156,18 +163,22 @@ object_versions = refl
 abbrev pub friend : AType
 friend = record { 0 = 1 }
 
+-- a type whose inverse is `followed_by`
 abbrev pub follows : AType
 follows = record { 0 = 2 }
 
+-- a type whose inverse is `follows`
 abbrev pub followed_by : AType
 followed_by = record { 0 = 3 }
 
+-- a schema of four types: `likes` has no inverse, `friend` is its own, and `follows` and `followed_by` are each other's
 abbrev pub four_types : EdgeTypes
 four_types = record {
   inverse = λ a. if a.0 == 1 then Some friend else (if a.0 == 2 then Some followed_by else (if a.0 == 3 then Some follows else None));
   bound = λ a. 6000;
 }
 
+-- the log of shard 0 after writes of session 1, by the schema of four types
 abbrev pub written : List Write → List Entry
 written writes = log_after four_types 1 1 [] writes
 
@@ -196,7 +207,7 @@ moved_versions = refl
 moved_in_order : map (λ e. map (λ t. t.key) e.touches) (drop 2 moved) ≡ (Assocs 1 follows ∷ Assocs 1 friend ∷ Assocs 2 followed_by ∷ Assocs 2 friend ∷ []) ∷ []
 moved_in_order = refl
 
-moved_again_is_nothing : forward_entry four_types moved (Client 1 4) (AssocChangeType 1 follows 2 friend) ≡ None
+moved_again_is_nothing : forward_entry four_types 0 moved (Client 1 4) (AssocChangeType 1 follows 2 friend) ≡ None
 moved_again_is_nothing = refl
 
 -- an edge from an id to itself, of a type that is its own inverse, is one record
@@ -213,16 +224,21 @@ loop_is_counted_once = refl
 abbrev pub far : ℕ
 far = 281474976710657
 
+-- the log of shard 0 after id 1 came to follow the far id
 abbrev pub far_follow : List Entry
 far_follow = written (AssocAdd 1 follows far 7 [] ∷ [])
 
 far_job : flat_map (job_of four_types) far_follow ≡ (far, followed_by, 1, Live 7 [] (record { number = 1; shard = 0 })) ∷ []
 far_job = refl
 
+-- an entry of that shard that owes records to the other one, in the first epoch
+abbrev pub owes : ℕ → Entry → Owed
+owes shard e = record { shard = shard; epoch = 0; entry = e; other = 1 - shard }
+
 -- the log with the merges of entries of another shard
 abbrev pub after_merges : ℕ → List Entry → List Entry → List Entry
 after_merges shard log [] = log
-after_merges shard log (e ∷ es) = after_merges shard (log ++ option_to_list (merge_entry four_types log shard e)) es
+after_merges shard log (e ∷ es) = after_merges shard (log ++ option_to_list (merge_entry four_types log (owes shard e))) es
 
 far_merge : after_merges 0 [] far_follow ≡ record {
   position = 1;
@@ -239,12 +255,15 @@ far_merge_again_is_nothing = refl
 abbrev pub here : List Entry
 here = written (AssocAdd 1 friend far 5 [] ∷ AssocAdd 1 friend far 9 [] ∷ [])
 
+-- the log of shard 1, where the first add is merged and the edge is then deleted
 abbrev pub there : List Entry
 there = log_after four_types 1 3 (after_merges 0 [] (take 1 here)) (AssocDelete far friend 1 ∷ [])
 
+-- the log of shard 0 once the delete of shard 1 is merged
 abbrev pub here_in_the_end : List Entry
 here_in_the_end = after_merges 1 here (drop 1 there)
 
+-- the log of shard 1 once the entries of shard 0 are merged
 abbrev pub there_in_the_end : List Entry
 there_in_the_end = after_merges 0 there here
 
@@ -259,3 +278,19 @@ delete_is_merged_here = refl
 
 add_is_no_news_there : version there_in_the_end (Assocs far friend) ≡ 2
 add_is_no_news_there = refl
+
+-- in the first epoch after a promotion the stamps of new writes and the numbers of merges are those after 2^32
+abbrev pub far_follow_later : List Entry
+far_follow_later = option_to_list (forward_entry four_types 1 [] (Client 1 1) (AssocAdd 1 follows far 7 []))
+
+later_stamp : map updates_of far_follow_later ≡ ((1, follows, far, Live 7 [] (record { number = 4294967297; shard = 0 })) ∷ []) ∷ []
+later_stamp = refl
+
+later_merge : map (λ e. map (λ m. m.origin) (option_to_list (merge_entry four_types [] (record (owes 0 e) { epoch = 1 })))) far_follow_later
+    ≡ (Merge 0 4294967297 ∷ []) ∷ []
+later_merge = refl
+
+-- and a stamp of before stands below each new one
+later_stamp_over : map updates_of (option_to_list (forward_entry four_types 1 far_follow (Client 1 2) (AssocAdd 1 follows far 9 [])))
+    ≡ ((1, follows, far, Live 9 [] (record { number = 4294967297; shard = 0 })) ∷ []) ∷ []
+later_stamp_over = refl

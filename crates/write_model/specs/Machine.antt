@@ -9,24 +9,18 @@ use Rattle.tao_base.specs.declared.entry.Origin.{Origin}
 use Rattle.tao_base.specs.declared.write.Write.{Write}
 use Rattle.graph_model.specs.Edges.{edge_record}
 use Rattle.graph_model.specs.Log.{entry_at}
-use Rattle.write_model.specs.Merges.{Stores, log_of, job_of, merge_entry}
+use Rattle.write_model.specs.Merges.{Owed, Stores, log_of, job_of, merge_entry}
 use Rattle.write_model.specs.Writes.{forward_entry, FitsWrite}
 
 -- the shard's log gains the entry, and every other log stays
 abbrev pub Gains : List (List Entry) → List (List Entry) → ℕ → Entry → Type 0
 Gains old new shard e = (shard < length old) × (new ≡ slice_set old shard (log_of old shard ++ e ∷ []))
 
--- who owes a job: the entry at its shard, and the other shard, which the job's records lie on
-pub record Owed : Type 0 where
-  pub shard : ℕ
-  pub entry : Entry
-  pub other : ℕ
-
 -- the other shard's log gains the merge of the entry's job
 pub record Merges (types : EdgeTypes) (old new : List (List Entry)) (owed : Owed) : Type 0 where
   pub merged : Entry
   pub there : All (λ u. shard_of u.0 ≡ owed.other) (job_of types owed.entry)
-  pub is : merge_entry types (log_of old owed.other) owed.shard owed.entry ≡ Some merged
+  pub is : merge_entry types (log_of old owed.other) owed ≡ Some merged
   pub gained : Gains old new owed.other merged
 
 -- the job is merged, or not yet
@@ -36,22 +30,23 @@ MayMerge types old new owed = (new ≡ old) ⊎ Merges types old new owed
 -- the job is merged where any of its records is news
 abbrev pub MergesNews : EdgeTypes → List (List Entry) → List (List Entry) → Owed → Type 0
 MergesNews types old new owed =
-    ((merge_entry types (log_of old owed.other) owed.shard owed.entry ≡ None) × (new ≡ old)) ⊎ Merges types old new owed
+    ((merge_entry types (log_of old owed.other) owed ≡ None) × (new ≡ old)) ⊎ Merges types old new owed
 
 -- jobs are merged, or not yet, one after another
 abbrev pub MergeInTurn : EdgeTypes → List (List Entry) → List (List Entry) → List Owed → Type 0
 MergeInTurn types old new [] = new ≡ old
 MergeInTurn types old new (owed ∷ more) = (between : List (List Entry)) × MayMerge types old between owed × MergeInTurn types between new more
 
--- what a client asks to be written: on its shard, and under its origin
+-- what a client asks to be written: on its shard, in the shard's epoch, and under its origin
 pub record ClientWrite : Type 0 where
   pub shard : ℕ
+  pub epoch : ℕ
   pub origin : Origin
   pub asked : Write
 
 -- a write commits its entry
 pub record Commits (types : EdgeTypes) (old new : List (List Entry)) (w : ClientWrite) (e : Entry) : Type 0 where
-  pub is : forward_entry types (log_of old w.shard) w.origin w.asked ≡ Some e
+  pub is : forward_entry types w.epoch (log_of old w.shard) w.origin w.asked ≡ Some e
   pub gained : Gains old new w.shard e
 
 -- the entry stands at its position, and is one that was made for the write
@@ -62,7 +57,7 @@ pub record StandsFor (logs : List (List Entry)) (w : ClientWrite) (e : Entry) : 
 
 -- what the entry of a write owes to the other shard
 abbrev pub owed_by : ClientWrite → Entry → ℕ → Owed
-owed_by w e other = record { shard = w.shard; entry = e; other = other }
+owed_by w e other = record { shard = w.shard; epoch = w.epoch; entry = e; other = other }
 
 -- a write that changed something: its entry, and then perhaps the merge at the other shard
 pub record Writes (types : EdgeTypes) (old new : List (List Entry)) (w : ClientWrite) (e : Entry) (other : ℕ) : Type 0 where
@@ -72,7 +67,7 @@ pub record Writes (types : EdgeTypes) (old new : List (List Entry)) (w : ClientW
 
 -- a write that found nothing to change
 pub record ChangesNothing (types : EdgeTypes) (old new : List (List Entry)) (w : ClientWrite) : Type 0 where
-  pub nothing : forward_entry types (log_of old w.shard) w.origin w.asked ≡ None
+  pub nothing : forward_entry types w.epoch (log_of old w.shard) w.origin w.asked ≡ None
   pub stays : new ≡ old
 
 -- a write that was made before: its entry stands, and perhaps its merge is added
@@ -84,8 +79,9 @@ pub record Repeats (types : EdgeTypes) (old new : List (List Entry)) (w : Client
 abbrev pub LeavesEntry : EdgeTypes → List (List Entry) → List (List Entry) → ClientWrite → Entry → ℕ → Type 0
 LeavesEntry types old new w e other = Writes types old new w e other ⊎ Repeats types old new w e other
 
--- the job is open, and its entry stands
+-- the job is open, and its entry stands, in the epoch of its shard
 pub record IsOpenJob (types : EdgeTypes) (stores : Stores) (owed : Owed) : Type 0 where
+  pub epoch_is : owed.epoch ≡ stores.epochs.of owed.shard
   pub stands : entry_at (log_of stores.logs owed.shard) owed.entry.position ≡ Some owed.entry
   pub job_is : stores.job owed.shard owed.entry.position ≡ Some (job_of types owed.entry)
 

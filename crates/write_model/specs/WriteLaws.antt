@@ -21,24 +21,24 @@ use Rattle.graph_model.specs.Records.{is_news}
 use Rattle.tao_base.specs.declared.edge.EdgeState.{EdgeState}
 use Rattle.tao_base.specs.Writes.{ChangesType}
 
--- the entry of an add with one touch: the edge is set at id1, with the number after that of its record, whatever stamp it has
-abbrev pub plain_add : List Entry → Origin → Id → AType → Edge → Entry
-plain_add log origin id1 atype edge = record {
+-- the entry of an add with one touch: the edge is set at id1, with the next stamp there, whatever stamp it has
+abbrev pub plain_add : ℕ → List Entry → Origin → Id → AType → Edge → Entry
+plain_add epoch log origin id1 atype edge = record {
   position = length log + 1;
   kind = AssocAdded;
   origin = origin;
   touches = record {
     key = Assocs id1 atype;
-    change = SetEdge (record edge { stamp = next_stamp log id1 atype edge.id2 }) (live_time (edge_record log id1 atype edge.id2));
+    change = SetEdge (record edge { stamp = next_stamp epoch log id1 atype edge.id2 }) (live_time (edge_record log id1 atype edge.id2));
     version = version log (Assocs id1 atype) + 1;
   } ∷ [];
 }
 
--- an edge of a type without an inverse is added by that entry, which follows the log where its origin is new
+-- an edge of a type without an inverse is added by the entry `plain_add`, which follows the log where its origin is new
 pub record PlainAddFollows (log : List Entry) (origin : Origin) (id1 : Id) (atype : AType) (edge : Edge) : Type 0 where
-  pub entry_is : (types : EdgeTypes) → types.inverse atype ≡ None
-      → forward_entry types log origin (AssocAdd id1 atype edge.id2 edge.time edge.payload) ≡ Some (plain_add log origin id1 atype edge)
-  pub follows : IsNewOrigin log origin → CanFollow log (plain_add log origin id1 atype edge)
+  pub entry_is : (types : EdgeTypes) (epoch : ℕ) → types.inverse atype ≡ None
+      → forward_entry types epoch log origin (AssocAdd id1 atype edge.id2 edge.time edge.payload) ≡ Some (plain_add epoch log origin id1 atype edge)
+  pub follows : (epoch : ℕ) → IsNewOrigin log origin → CanFollow log (plain_add epoch log origin id1 atype edge)
 
 -- the write is of the shard; an object that is added has room for its serial
 abbrev pub IsOfShard : ℕ → List Entry → Write → Type 0
@@ -63,13 +63,13 @@ pub record IsAdmitted (types : EdgeTypes) (shard : ℕ) (log : List Entry) (orig
   pub here : IsOfShard shard log write
   pub changes : ChangesType types write
 
--- the entry of such a write keeps the log sound
+-- the entry of a write that may be made keeps the log sound, in whatever epoch
 pub record ForwardFollows (shard : ℕ) (log : List Entry) (origin : Origin) (write : Write) (e : Entry) : Type 0 where
-  pub stays : (types : EdgeTypes) → IsAdmitted types shard log origin write
-      → forward_entry types log origin write ≡ Some e → StaysSound types shard log e
+  pub stays : (types : EdgeTypes) (epoch : ℕ) → IsAdmitted types shard log origin write
+      → forward_entry types epoch log origin write ≡ Some e → StaysSound types shard log e
 
 -- a record with a later stamp than the log's makes a touch that follows the log, and the next stamp is later
 pub record LaterTouches (log : List Entry) (origin : Origin) (id1 : Id) (atype : AType) (id2 : Id) (state : EdgeState) : Type 0 where
   pub follows : is_news log (id1, atype, id2, state) ≡ true → (IsTrue (is_client origin) → (stamp_of state).shard ≡ shard_of id1)
       → TouchFollows log origin (edge_touch log (id1, atype, id2, state))
-  pub next : stamp_of state ≡ next_stamp log id1 atype id2 → is_news log (id1, atype, id2, state) ≡ true
+  pub next : (epoch : ℕ) → stamp_of state ≡ next_stamp epoch log id1 atype id2 → is_news log (id1, atype, id2, state) ≡ true

@@ -1,6 +1,6 @@
 -- The entry of a client's write.
 use Rattle.std.specs.Prelude.{ℕ, Bool, if◌then◌else◌, List, [], ◌∷◌, ◌++◌, length, map, filter, filter_map, Option, Some, None, IsSomeAnd, slice_get}
-use Rattle.std.specs.Prelude.{◌≡◌, ◌+◌, ◌*◌, ◌^◌, nat_eq, ◌==◌, ◌&&◌, not}
+use Rattle.std.specs.Prelude.{◌≡◌, ◌+◌, ◌*◌, ◌^◌, max, nat_eq, ◌==◌, ◌&&◌, not}
 use Rattle.std.specs.List.{list_any}
 use Rattle.tao_base.specs.EdgeTypes.{EdgeTypes}
 use Rattle.tao_base.specs.Ids.{shard_of}
@@ -40,9 +40,16 @@ change_to id2 (Cut stamp) was = CutEdge id2 stamp was
 abbrev pub edge_touch : List Entry → EdgeUpdate → Touch
 edge_touch log u = touch_of log (Assocs u.0 u.1) (change_to u.2 u.3 (live_time (edge_record log u.0 u.1 u.2)))
 
--- the stamp of the next write to the edge
-abbrev pub next_stamp : List Entry → Id → AType → Id → Stamp
-next_stamp log id1 atype id2 = record { number = number_of (edge_record log id1 atype id2) + 1; shard = shard_of id1 }
+-- the numbers of an epoch are those above this one
+abbrev pub epoch_base : ℕ → ℕ
+epoch_base epoch = epoch * 2 ^ 32
+
+-- the stamp of the next write to the edge, in the epoch of its shard
+abbrev pub next_stamp : ℕ → List Entry → Id → AType → Id → Stamp
+next_stamp epoch log id1 atype id2 = record {
+  number = max (number_of (edge_record log id1 atype id2)) (epoch_base epoch) + 1;
+  shard = shard_of id1;
+}
 
 -- whether two records are of one edge at one end
 abbrev pub same_edge : EdgeUpdate → EdgeUpdate → Bool
@@ -62,24 +69,24 @@ with_near_ends types us =
     us ++ filter (λ v. not (list_any (same_edge v) us)) (filter_map (λ u. when (is_near u) (other_end types u)) us)
 
 -- the records that a write gives at id1
-abbrev pub own_updates : List Entry → Write → List EdgeUpdate
-own_updates log (AssocAdd id1 atype id2 time payload) = (id1, atype, id2, Live time payload (next_stamp log id1 atype id2)) ∷ []
-own_updates log (AssocDelete id1 atype id2) = cut_if_live (edge_record log id1 atype id2)
+abbrev pub own_updates : ℕ → List Entry → Write → List EdgeUpdate
+own_updates epoch log (AssocAdd id1 atype id2 time payload) = (id1, atype, id2, Live time payload (next_stamp epoch log id1 atype id2)) ∷ []
+own_updates epoch log (AssocDelete id1 atype id2) = cut_if_live (edge_record log id1 atype id2)
   where
     cut_if_live : Option EdgeState → List EdgeUpdate
-    cut_if_live (Some (Live time payload stamp)) = (id1, atype, id2, Cut (next_stamp log id1 atype id2)) ∷ []
+    cut_if_live (Some (Live time payload stamp)) = (id1, atype, id2, Cut (next_stamp epoch log id1 atype id2)) ∷ []
     cut_if_live (Some (Cut stamp)) = []
     cut_if_live None = []
-own_updates log (AssocChangeType id1 atype id2 newtype) = move_if_live (edge_record log id1 atype id2)
+own_updates epoch log (AssocChangeType id1 atype id2 newtype) = move_if_live (edge_record log id1 atype id2)
   where
     move_if_live : Option EdgeState → List EdgeUpdate
     move_if_live (Some (Live time payload stamp)) =
-        (id1, atype, id2, Cut (next_stamp log id1 atype id2)) ∷ (id1, newtype, id2, Live time payload (next_stamp log id1 newtype id2)) ∷ []
+        (id1, atype, id2, Cut (next_stamp epoch log id1 atype id2)) ∷ (id1, newtype, id2, Live time payload (next_stamp epoch log id1 newtype id2)) ∷ []
     move_if_live (Some (Cut stamp)) = []
     move_if_live None = []
-own_updates log (ObjAdd shard otype payload) = []
-own_updates log (ObjUpdate id payload) = []
-own_updates log (ObjDelete id) = []
+own_updates epoch log (ObjAdd shard otype payload) = []
+own_updates epoch log (ObjUpdate id payload) = []
+own_updates epoch log (ObjDelete id) = []
 
 -- the id of the next object: its serial is one more than the number of objects that were added
 abbrev pub next_id : ℕ → List Entry → ℕ
@@ -104,17 +111,17 @@ object_touches log (AssocDelete id1 atype id2) = []
 object_touches log (AssocChangeType id1 atype id2 newtype) = []
 
 -- the touches of a write: of its object, or of its edges at both near ends
-abbrev pub touches_of : EdgeTypes → List Entry → Write → List Touch
-touches_of types log write = object_touches log write ++ map (edge_touch log) (with_near_ends types (own_updates log write))
+abbrev pub touches_of : EdgeTypes → ℕ → List Entry → Write → List Touch
+touches_of types epoch log write = object_touches log write ++ map (edge_touch log) (with_near_ends types (own_updates epoch log write))
 
 -- the next entry of a log, where it touches anything
 abbrev pub next_entry : List Entry → Kind → Origin → List Touch → Option Entry
 next_entry log kind origin [] = None
 next_entry log kind origin (t ∷ ts) = Some (record { position = length log + 1; kind = kind; origin = origin; touches = t ∷ ts })
 
--- the entry of the write on the log of its shard, or nothing
-abbrev pub forward_entry : EdgeTypes → List Entry → Origin → Write → Option Entry
-forward_entry types log origin write = next_entry log (write_kind write) origin (touches_of types log write)
+-- the entry of the write on the log of its shard, in the shard's epoch, or nothing
+abbrev pub forward_entry : EdgeTypes → ℕ → List Entry → Origin → Write → Option Entry
+forward_entry types epoch log origin write = next_entry log (write_kind write) origin (touches_of types epoch log write)
 
 -- the touches say what the write names; versions, stamps, `was`, a new id, and the time and data of a type change are left open
 abbrev pub Names : Write → List Touch → Type 0

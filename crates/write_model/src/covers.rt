@@ -1,5 +1,5 @@
 //! What the steps of writes, merges and jobs keep of the stores of all shards.
-ghost use Rattle.write_model.specs.CoverLaws.{CommitsKeep, CoveredEndsAgree, EmptyStoresAreKept, EndsKeep, MergesKeep, NoJobsArePaired};
+ghost use Rattle.write_model.specs.CoverLaws.{CommitsKeep, EmptyStoresAreKept, EndsKeep, MergesKeep, NoJobsArePaired};
 ghost use Rattle.write_model.specs.CoverLaws.{OpenJobsAreOwed, SettlesInOrder};
 
 /// Stores without entries and jobs are sound and covered.
@@ -30,12 +30,6 @@ pub fn ends_keep_covered()
 #[tactic(auto, using(crate::proofs::OpenJobs::open_jobs_are_owed))]
 pub fn open_jobs_are_owed()
     ensures { OpenJobsAreOwed }
-{}
-
-/// In sound and covered stores the two ends of edges agree.
-#[tactic(auto, using(crate::proofs::Agreeing::covered_ends_agree))]
-pub fn covered_ends_agree()
-    ensures { CoveredEndsAgree }
 {}
 
 /// Where no job is open every edge is paired, until the next commit.

@@ -13,7 +13,7 @@ pub fn jobs_are_far(_from: u16, _source: &[Entry])
     ensures { JobsAreFar _from _source.now }
 {}
 
-/// In sound and covered stores the job of a client's entry may be merged where its records lie.
+/// In sound and covered stores the job of an entry may be merged where its records lie.
 #[tactic(auto, using(crate::proofs::Covered::covered_jobs_may_merge))]
 pub fn covered_jobs_may_merge()
     ensures { CoveredJobsMayMerge }
@@ -21,20 +21,14 @@ pub fn covered_jobs_may_merge()
 
 /// Nothing is merged exactly where all of the job is there.
 #[tactic(auto, using(crate::proofs::Merging::merges_nothing))]
-pub fn merged_jobs_give_nothing(_log: &[Entry], _from: u16, _entry: &Entry)
-    ensures { MergesNothing _log.now _from _entry.now }
+pub fn merged_jobs_give_nothing(_log: &[Entry])
+    ensures { MergesNothing _log.now }
 {}
 
 /// The entry that merges a job keeps the log sound, and leaves all of the job there.
 #[tactic(auto, using(crate::proofs::Merging::merge_follows))]
-pub fn merge_entries_follow(
-    _shard: u16,
-    _log: &[Entry],
-    _from: u16,
-    _entry: &Entry,
-    _merged: &Entry,
-)
-    ensures { MergeFollows _shard _log.now _from _entry.now _merged.now }
+pub fn merge_entries_follow(_log: &[Entry])
+    ensures { MergeFollows _log.now }
 {}
 
 /// Jobs merged one after another are all there, and each record is the join of the one before with theirs.
@@ -61,15 +55,15 @@ pub fn merges_follow(
     _shard: u16,
     _log: &[Entry],
     _from: u16,
-    _position: u64,
+    _number: u64,
     _updates: &[EdgeUpdate],
     _merged: &Entry,
 )
-    ensures { MergesFollow _shard _log.now _from _position _updates.now _merged.now }
+    ensures { MergesFollow _shard _log.now _from _number _updates.now _merged.now }
 {}
 
 /// No such entry is made exactly where all of the records are there.
 #[tactic(auto, using(crate::proofs::MergeOf::merges_none))]
-pub fn merges_none(_log: &[Entry], _from: u16, _position: u64, _updates: &[EdgeUpdate])
-    ensures { MergesNone _log.now _from _position _updates.now }
+pub fn merges_none(_log: &[Entry], _from: u16, _number: u64, _updates: &[EdgeUpdate])
+    ensures { MergesNone _log.now _from _number _updates.now }
 {}

@@ -1,0 +1,7 @@
+mod Agreeing
+mod Gained
+mod Learned
+mod Merged
+mod Own
+mod Prefixes
+mod Together

@@ -1,0 +1,5 @@
+mod Cut
+mod Numbers
+mod Open
+mod Raise
+mod Whole

@@ -1,5 +1,5 @@
 -- A repair is a merge and then the end of the job, as steps of the stores of all shards.
-use Rattle.std.proofs.Common.{◌≡◌, ◌⊎◌, ◌∙◌, inl, inr, ap, subst, sym}
+use Rattle.std.proofs.Common.{◌≡◌, ◌⊎◌, ◌∙◌, inl, inr, refl, ap, subst, sym}
 use Rattle.std.specs.Prelude.{Option, Some, None, Result, Ok, Err}
 use Rattle.edge_repair.proofs.Tables.{gains_and_stays}
 use Rattle.edge_repair.specs.JobBetween.{JobBetween}
@@ -8,7 +8,7 @@ use Rattle.edge_repair.specs.Merging.{MergesBy, MergesDue, RepairsAs, due_entry}
 use Rattle.edge_repair.specs.declared.refusal.RepairRefusal.{RepairRefusal}
 use Rattle.edge_repair.specs.declared.refusal.RepairRefusal.TheVariants.{KeeperFault, LinkFault, LogFull, OutOfMemory}
 use Rattle.edge_repair.specs.declared.repairs.RepairOutcome.{RepairOutcome}
-use Rattle.master_tables.proofs.Calls.{calls_are_steps}
+use Rattle.master_tables.proofs.Calls.{calls_are_steps, numbers_are_positions}
 use Rattle.master_tables.specs.Masters.{Masters, stores_of}
 use Rattle.shard_tables.specs.Written.{TableGains}
 use Rattle.tao_base.specs.EdgeTypes.{EdgeTypes}
@@ -17,27 +17,29 @@ use Rattle.tao_keeper.specs.Table.{Becomes, Stays, Tables, after_end}
 use Rattle.tao_link.specs.declared.link.Carry.{Carry}
 use Rattle.write_model.proofs.CoverEnds.{ends_keep}
 use Rattle.write_model.proofs.CoverMerges.{merges_keep}
-use Rattle.write_model.specs.Machine.{IsFirstJob, MergesNews, Owed, Repairs}
-use Rattle.write_model.specs.Merges.{Stores, job_of, merge_of}
+use Rattle.write_model.specs.Machine.{IsFirstJob, MergesNews, Repairs}
+use Rattle.write_model.specs.Merges.{Owed, Stores, job_of, merge_of, owed_number}
 use Rattle.write_model.specs.Steps.{AreSoundAndCovered, EndsJob, MergesJob}
 
 -- stores with the same logs and jobs are sound and covered as well
 same_stores_are_kept : (types : EdgeTypes) (old new : Stores) → NothingHappens old new → AreSoundAndCovered types old → AreSoundAndCovered types new
 same_stores_are_kept types old new same kept =
-    let is : new ≡ old = λ i. record { logs = same.logs i; job = λ shard position. same.jobs shard position i } in
+    let is : new ≡ old = λ i. record { logs = same.logs i; job = λ shard position. same.jobs shard position i; epochs = same.epochs i } in
     subst (AreSoundAndCovered types) (sym is) kept
 
 module _ (types : EdgeTypes) (m : Masters) (old new : Tables) (owed : Owed) (j : JobBetween) (p : IsOwedBetween types m old owed j) where
-  due_is : merge_of (old (m.name owed.other)).log owed.shard owed.entry.position (job_of types owed.entry) ≡ due_entry j old
+  due_is : merge_of (old (m.name owed.other)).log owed.shard (owed_number owed) (job_of types owed.entry) ≡ due_entry j old
   due_is = sym (ap (λ n. merge_of (old n).log j.from.shard j.job.position j.job.edges) p.to_is
       ∙ ap (λ s. merge_of (old (m.name owed.other)).log s j.job.position j.job.edges) (ap (λ n. n.shard) p.from_is ∙ m.of_shard owed.shard)
       ∙ ap (λ q. merge_of (old (m.name owed.other)).log owed.shard q j.job.edges) p.position_is
-      ∙ ap (λ us. merge_of (old (m.name owed.other)).log owed.shard owed.entry.position us) p.records_are)
+      ∙ ap (λ us. merge_of (old (m.name owed.other)).log owed.shard owed.entry.position us) p.records_are
+      ∙ ap (λ n. merge_of (old (m.name owed.other)).log owed.shard n (job_of types owed.entry))
+      (sym ((numbers_are_positions m old).number_is types owed p.owes)))
 
   merges_step : (mid : Tables) → MergesDue j old mid → MergesJob types (stores_of m old) (stores_of m mid) owed
   merges_step mid merges = by (due_entry j old) due_is (subst (λ n. TableGains old mid n (due_entry j old) None) p.to_is merges)
     where
-      by : (due : Option Entry) → merge_of (old (m.name owed.other)).log owed.shard owed.entry.position (job_of types owed.entry) ≡ due
+      by : (due : Option Entry) → merge_of (old (m.name owed.other)).log owed.shard (owed_number owed) (job_of types owed.entry) ≡ due
           → TableGains old mid (m.name owed.other) due None → MergesJob types (stores_of m old) (stores_of m mid) owed
       by None is stays = (calls_are_steps m old mid).merges_none types owed p.within.1 p.owes is stays
       by (Some e) is gains = (calls_are_steps m old mid).merges types owed e p.within.1 p.owes is gains
@@ -58,7 +60,7 @@ module _ (types : EdgeTypes) (m : Masters) (old new : Tables) (owed : Owed) (j :
       record { mid = stores_of m is.between; merges = merges; ends = ends_step is.between merges is.ends }
 
   nothing : Stays old new → NothingHappens (stores_of m old) (stores_of m new)
-  nothing stays = let same = (calls_are_steps m old new).stays stays in record { logs = same.0; jobs = same.1 }
+  nothing stays = let same = (calls_are_steps m old new).stays stays in record { logs = same.0; jobs = same.1; epochs = refl }
 
   at_most : (mid : Tables) → Stays mid new → Stays old mid ⊎ MergesDue j old mid
       → NothingHappens (stores_of m old) (stores_of m new) ⊎ MergesJob types (stores_of m old) (stores_of m new) owed

@@ -15,7 +15,7 @@ pub record FailsAt (at : Carry) (old new : LinkShown) : Type 0 where
   pub failed : new.failed ≡ Some at
   pub cuts : new.cuts ≡ old.cuts
 
--- there and back, though the carry back may have failed
+-- the carry there and the carry back, which may have failed
 abbrev pub CarriesBack : JobBetween → LinkShown → LinkShown → Type 0
 CarriesBack j old new = (new ≡ after_carry (after_carry old)) ⊎ FailsAt (way_back j) (after_carry old) new
 

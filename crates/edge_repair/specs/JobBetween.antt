@@ -12,6 +12,7 @@ pub record JobBetween : Type 0 where
   pub to : Store
   pub job : Job
 
+-- a job that one store has, to be merged at the other
 abbrev pub job_between : StoreName → Store → Job → JobBetween
 job_between from to job = record { from = from; to = to; job = job }
 

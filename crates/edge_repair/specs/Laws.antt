@@ -8,8 +8,8 @@ use Rattle.master_tables.specs.Masters.{Masters, stores_of}
 use Rattle.tao_base.specs.EdgeTypes.{EdgeTypes, InversesMatch}
 use Rattle.tao_keeper.specs.Table.{Tables}
 use Rattle.tao_link.specs.declared.link.Carry.{Carry}
-use Rattle.write_model.specs.Machine.{IsFirstJob, Owed, Repairs}
-use Rattle.write_model.specs.Merges.{Stores, job_of}
+use Rattle.write_model.specs.Machine.{IsFirstJob, Repairs}
+use Rattle.write_model.specs.Merges.{Owed, Stores, job_of}
 use Rattle.write_model.specs.Steps.{AreSoundAndCovered, EndsJob, IsOwed, JobsStay, MergesJob}
 
 -- the job is owed in sound and covered stores, between the masters of two shards
@@ -29,10 +29,11 @@ pub record MergesAndEnds (types : EdgeTypes) (old new : Stores) (owed : Owed) : 
   pub merges : MergesJob types old mid owed
   pub ends : EndsJob types mid new owed
 
--- no log and no job changes
+-- no log, no job and no epoch changes
 pub record NothingHappens (old new : Stores) : Type 0 where
   pub logs : new.logs ≡ old.logs
   pub jobs : JobsStay old new
+  pub epochs : new.epochs ≡ old.epochs
 
 -- a repair merges the job and then ends it, and a refused one merges it at most; of a first job it is the plain machine's repair.
 -- Whatever its answer, the stores stay sound and covered
@@ -46,7 +47,7 @@ pub record RepairsAreSteps (types : EdgeTypes) (m : Masters) (old new : Tables) 
   pub kept : (failed : Option Carry) (result : Result RepairOutcome RepairRefusal) → RepairsAs j failed old new result
       → AreSoundAndCovered types (stores_of m new)
 
--- so each job that is owed
+-- the repair of each job that is owed is made of steps of the plain machine
 pub record RepairLaws : Type 0 where
   pub are_steps : (types : EdgeTypes) (m : Masters) (old new : Tables) (owed : Owed) (j : JobBetween) → IsOwedBetween types m old owed j
       → RepairsAreSteps types m old new owed j

@@ -26,7 +26,7 @@ pub record WritesDue (j : JobBetween) (old new : Tables) (wrote : Option Entry) 
   pub room : IfSome wrote (λ e. length (old j.to.name).log < j.to.log_max)
   pub merges : MergesDue j old new
 
--- there is such an entry, and no room for it in the other store's log, which has so many; nothing changes
+-- the due entry has no room in the other store's log, which is full at that many entries; nothing changes
 pub record LacksRoom (j : JobBetween) (old new : Tables) (count : ℕ) : Type 0 where
   pub due : IsSome (due_entry j old)
   pub full : j.to.log_max ≤ length (old j.to.name).log

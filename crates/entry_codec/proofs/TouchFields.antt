@@ -26,6 +26,7 @@ use Rattle.entry_codec.specs.Values.{ChangeFits, KeyFits, WasFits}
 use Rattle.entry_codec.proofs.Codecs.{IsCodec, Reads, Takes, give_again, give_reads, only_codec, reads_like, then_again, then_reads}
 use Rattle.entry_codec.proofs.DataFields.{data_codec}
 use Rattle.entry_codec.proofs.Numbers.{between_is, id_codec, is_between, number16, number32, number64, positive_codec, tag_again, tag_reads, wide64}
+use Rattle.tao_base.proofs.Tests.{not_true}
 
 -- ---- keys
 
@@ -52,10 +53,6 @@ has_key key touches = list_any (λ touch. same_key touch.key key) touches
 
 pub key_codec : (earlier : List Touch) → IsCodec (spelled_key earlier) key_bytes (λ at key. KeyFits key × (not (has_key key earlier) ≡ true))
 key_codec earlier = only_codec (λ key. not (has_key key earlier)) any_key_codec
-
-not_true : (b : Bool) → not b ≡ true → b ≡ false
-not_true true h = absurd (true≢false (sym h))
-not_true false h = refl
 
 keys_differ : (key : Key) (touches : List Touch) → not (has_key key touches) ≡ true → (k : ℕ) (d : Touch) → k < length touches → (get_or touches k d).key ≢ key
 keys_differ key touches h k d lt same =

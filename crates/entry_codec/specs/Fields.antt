@@ -7,6 +7,7 @@ pub record Rest : Type 0 where
   pub at : ℕ
   pub bytes : List ℕ
 
+-- each number of the list is a byte, below 256
 abbrev pub AreBytes : List ℕ → Type 0
 AreBytes bytes = (i : ℕ) → slice_index bytes i < 256
 
@@ -14,6 +15,7 @@ AreBytes bytes = (i : ℕ) → slice_index bytes i < 256
 abbrev pub Field : Type 0 → Type 0
 Field X = Rest → Result (X × Rest) ℕ
 
+-- the next field, read from the bytes that the first one left and knowing its value; where the first one was refused, all is
 abbrev pub and_then : {X Y : Type 0} → Result (X × Rest) ℕ → (X → Field Y) → Result (Y × Rest) ℕ
 and_then (Ok read) next = next read.0 read.1
 and_then (Err at) next = Err at
@@ -48,6 +50,7 @@ only allowed field rest = kept_if (λ read. allowed read.0) rest.at (field rest)
 abbrev pub up_to : {X : Type 0} → ℕ → Field X → Field X
 up_to end field rest = kept_if (λ read. nat_le read.1.at end) rest.at (field rest)
 
+-- an unsigned number of the width, big endian
 abbrev pub spelled_number : Width → Field ℕ
 spelled_number w = do
   bytes ← spelled_bytes (byte_len w)

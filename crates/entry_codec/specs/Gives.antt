@@ -16,12 +16,12 @@ abbrev pub GivesValue : {X : Type 0} → Result X EntryRefusal → Rest → Resu
 GivesValue (Ok x) left read = read ≡ Ok (x, left)
 GivesValue (Err refusal) left read = IsRefused refusal read
 
--- the same for bytes that are lent
+-- the lent bytes and what is left are those of the reading, unless memory ran out
 abbrev pub GivesBytes : Result (Bor (List ℕ)) EntryRefusal → Rest → Result (List ℕ × Rest) ℕ → Type 0
 GivesBytes (Ok bytes) left read = read ≡ Ok (bytes.now, left)
 GivesBytes (Err refusal) left read = IsRefused refusal read
 
--- the same for the items of a vector
+-- the vector's items and what is left are those of the reading, unless memory ran out
 abbrev pub GivesItems : {X : Type 0} → Result (Vec X Global) EntryRefusal → Rest → Result (List X × Rest) ℕ → Type 0
 GivesItems (Ok values) left read = read ≡ Ok (values.items, left)
 GivesItems (Err refusal) left read = IsRefused refusal read

@@ -34,24 +34,29 @@ spelled_positive w = only (nat_le 1) (spelled_number w)
 abbrev pub spelled_tag : ℕ → ℕ → Field ℕ
 spelled_tag a b = only (λ n. n == a || n == b) (spelled_number w8)
 
+-- an id in 8 bytes, whose serial isn't 0
 abbrev pub spelled_id : Field ℕ
 spelled_id = only (λ id. nat_le 1 (serial_of id)) (spelled_number w64)
 
+-- the kind of an entry by its number: 1 to 6 are the writes of clients, and 7 is a merge, as is any other number
 abbrev pub kind_of : ℕ → Kind
 kind_of n = if n == 1 then ObjAdd else if n == 2 then ObjUpdate else if n == 3 then ObjDelete else if n == 4 then AssocAdd
     else if n == 5 then AssocDelete else if n == 6 then AssocChangeType else Merged
 
+-- the kind of an entry in one byte, from 1 to 7
 abbrev pub spelled_kind : Field Kind
 spelled_kind = do
   n ← only (lies_between 1 7) (spelled_number w8)
   give (kind_of n)
 
+-- the origin of a client's write: its session in 4 bytes and its number within that in 8, both from 1
 abbrev pub spelled_client : Field Origin
 spelled_client = do
   session ← spelled_positive w32
   seq ← spelled_positive w64
   give (Client session seq)
 
+-- the origin of a merge: the shard whose log left the job, in 4 bytes though below 2^16, and the position there in 8 bytes, from 1
 abbrev pub spelled_merge : Field Origin
 spelled_merge = do
   shard ← only (λ n. nat_lt n (2 ^ 16)) (spelled_number w32)
@@ -63,6 +68,7 @@ abbrev pub spelled_origin : Kind → Field Origin
 spelled_origin Merged = spelled_merge
 spelled_origin kind = spelled_client
 
+-- a key, whether or not an earlier touch has it: tag 1 and an object's id, or tag 2, a list's id1 and its type in 2 bytes
 abbrev pub spelled_any_key : Field Key
 spelled_any_key = do
   tag ← spelled_tag 1 2
@@ -78,6 +84,7 @@ spelled_any_key = do
 abbrev pub spelled_key : List Touch → Field Key
 spelled_key earlier = only (λ key. not (list_any (λ touch. same_key touch.key key) earlier)) spelled_any_key
 
+-- whether the key is above that of the pair, in order of bytes; each key is above None
 abbrev pub is_above : Option Pair → List ℕ → Bool
 is_above None key = true
 is_above (Some pair) key = is_lt (slice_cmp nat_cmp pair.key key)
@@ -98,13 +105,14 @@ spelled_next_key end earlier = do
   len ← up_to end (spelled_number w16)
   only (is_next_key earlier) (only is_utf8 (up_to end (spelled_bytes len)))
 
+-- a pair of data, which ends at the place or before: its key, which is above those of the earlier pairs, and its value
 abbrev pub spelled_pair : ℕ → List Pair → Field Pair
 spelled_pair end earlier = do
   key ← spelled_next_key end earlier
   value ← spelled_text end
   give (record { key = key; value = value })
 
--- so many pairs after the earlier ones
+-- the earlier pairs, with the given number of pairs read after them, which end at the place or before
 abbrev pub spelled_pairs : ℕ → ℕ → List Pair → Field (List Pair)
 spelled_pairs end zero earlier = give earlier
 spelled_pairs end (suc n) earlier = do
@@ -118,12 +126,14 @@ spelled_data = do
   count ← only (lies_between 0 32) (spelled_number w8)
   spelled_pairs (start + 4096) count []
 
+-- the stamp of an edge: its number in 8 bytes, from 1 to 2^63 - 1, and the shard that gave it in 2
 abbrev pub spelled_stamp : Field Stamp
 spelled_stamp = do
   number ← only (lies_between 1 (2 ^ 63 - 1)) (spelled_number w64)
   shard ← spelled_number w16
   give (record { number = number; shard = shard })
 
+-- the time at which an edge was live before a change, in 4 bytes behind tag 1, or None, which is tag 0: it wasn't live
 abbrev pub spelled_was : Field (Option ℕ)
 spelled_was = do
   tag ← spelled_tag 0 1
@@ -134,12 +144,14 @@ spelled_was = do
       time ← spelled_number w32
       give (Some time)
 
+-- an object that is put: its type in 2 bytes, and its data
 abbrev pub spelled_put : Field Change
 spelled_put = do
   otype ← spelled_number w16
   payload ← spelled_data
   give (PutObject (record { otype = record { 0 = otype }; payload = payload }))
 
+-- an edge that is set: id2, its time in 4 bytes, its stamp, the time at which it was live before, and its data
 abbrev pub spelled_set : Field Change
 spelled_set = do
   id2 ← spelled_id
@@ -149,6 +161,7 @@ spelled_set = do
   payload ← spelled_data
   give (SetEdge (record { id2 = id2; time = time; payload = payload; stamp = stamp }) was)
 
+-- an edge that is cut: id2, the stamp of the cut, and the time at which the edge was live before
 abbrev pub spelled_cut : Field Change
 spelled_cut = do
   id2 ← spelled_id
@@ -165,6 +178,7 @@ spelled_change (Assocs id1 atype) = do
   tag ← spelled_tag 3 4
   if tag == 3 then spelled_set else spelled_cut
 
+-- a touch whose key no earlier touch has: its key, the key's version in 8 bytes, from 1, and the change
 abbrev pub spelled_touch : List Touch → Field Touch
 spelled_touch earlier = do
   key ← spelled_key earlier
@@ -172,7 +186,7 @@ spelled_touch earlier = do
   change ← spelled_change key
   give (record { key = key; change = change; version = version })
 
--- so many touches after the earlier ones
+-- the earlier touches, with the given number of touches read after them
 abbrev pub spelled_touches : ℕ → List Touch → Field (List Touch)
 spelled_touches zero earlier = give earlier
 spelled_touches (suc n) earlier = do
@@ -183,6 +197,7 @@ spelled_touches (suc n) earlier = do
 abbrev pub spelled_count : Field ℕ
 spelled_count = only (lies_between 1 4) (spelled_number w8)
 
+-- an entry of a log: its position in 8 bytes, from 1, its kind, its origin, the number of its touches, and the touches
 abbrev pub spelled_entry : Field Entry
 spelled_entry = do
   position ← spelled_positive w64

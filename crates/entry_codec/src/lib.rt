@@ -13,6 +13,11 @@
 //!
 //! A data is the number of its pairs (1), and of each pair the key and the value, each behind its
 //! length (2).
+//!
+//! What it promises. An entry is spelled in one way, and bytes are decoded exactly where they are an entry's
+//! spelling; a refusal has exactly the place of the first bad field.
+//!
+//! The contracts that say so: `Spelled::encode`, `Spelled::decode`, and its laws.
 #![tactic(auto)]
 
 ghost use Rattle.entry_codec.specs.Laws.{OneSpelling};

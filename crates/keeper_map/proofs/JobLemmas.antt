@@ -10,9 +10,7 @@ use Rattle.tao_keeper.specs.Given.{IsGivenJob}
 use Rattle.tao_keeper.specs.Table.{IsLeastJob, IsJobAt}
 use Rattle.tao_keeper.specs.declared.jobs.Job.{Job}
 use Rattle.keeper_map.specs.Jobs.{IsGivenJobAt, StandAtPositions, listed}
-
-same_order : (x y : ℕ) → is_eq (nat_cmp x y) ≡ (y == x)
-same_order x y = grind (arith, nat_tests)
+use Rattle.tao_base.proofs.Tests.{same_order}
 
 -- the job that is found at a position
 pub found_is : (jobs : BTreeMap ℕ Job) (position : ℕ) (found : Option Job) → StandAtPositions jobs → found ≡ get nat_cmp jobs position

@@ -5,6 +5,7 @@ use Rattle.keeper_map.specs.Store.{tables_of}
 use Rattle.tao_keeper.specs.KeeperState.{KeeperState}
 use Rattle.tao_keeper.specs.Table.{Tables}
 
+-- the tables of all stores, as the keeper in memory holds them
 abbrev pub told_by : MapKeeper → Tables
 told_by keeper = tables_of keeper.stores.tables
 
@@ -12,5 +13,6 @@ told_by keeper = tables_of keeper.stores.tables
 abbrev pub call_plan : MapKeeper → CallPlan
 call_plan keeper = keeper.plan
 
+-- the keeper as contracts see it: its tables, how many calls it took, and how many faults it counted
 abbrev pub shown_by : MapKeeper → KeeperState
 shown_by keeper = record { told = told_by keeper; calls = (call_plan keeper).calls.count; faults = (call_plan keeper).faults }

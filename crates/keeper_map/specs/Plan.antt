@@ -11,12 +11,15 @@ pub record CallPlan : Type 0 where
   pub commits : Planned
   pub faults : ℕ
 
+-- the plan after one more call
 abbrev pub with_call : CallPlan → CallPlan
 with_call plan = record plan { calls = after_next plan.calls }
 
+-- the plan after one more commit, which counts as a call too
 abbrev pub with_commit : CallPlan → CallPlan
 with_commit plan = record plan { calls = after_next plan.calls; commits = after_next plan.commits }
 
+-- the plan after one more fault
 abbrev pub with_fault : CallPlan → CallPlan
 with_fault plan = record plan { faults = after_one plan.faults }
 

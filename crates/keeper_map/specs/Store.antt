@@ -9,6 +9,7 @@ use Rattle.tao_keeper.specs.Table.{Table, Tables, empty_table}
 use Rattle.keeper_map.specs.OpenJobs.{jobs_of}
 use Rattle.keeper_map.specs.declared.store.StoreTable.{StoreTable}
 
+-- the table of a store, as contracts see it: its log, its open jobs, and the line that it was first opened with
 abbrev pub table_of : StoreTable → Table
 table_of store = record { log = store.log; jobs = jobs_of store.jobs; line = option_map (λ line. line.items) store.line }
 

@@ -17,8 +17,10 @@ of_entries_in : (found : Option StoreTable) → AreOfEntries (option_map_or tabl
 of_entries_in None = record { none_past = λ position past. refl }
 of_entries_in (Some store) = record { none_past = store.of_entries }
 
+-- the log of every store in memory is sound
 pub told_sound : (stores : BTreeMap (ℕ × ℕ) StoreTable) (at : StoreName) → IsSound (tables_of stores at).log
 told_sound stores at = sound_in (get store_cmp stores (store_key at))
 
+-- no store in memory has a job past the end of its log
 pub told_of_entries : (stores : BTreeMap (ℕ × ℕ) StoreTable) (at : StoreName) → AreOfEntries (tables_of stores at)
 told_of_entries stores at = of_entries_in (get store_cmp stores (store_key at))

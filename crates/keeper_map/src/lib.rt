@@ -1,4 +1,9 @@
 //! The keeper in memory, which fails exactly where its plan says so.
+//!
+//! What it promises. The keeper in memory tells everything, logs and open jobs, and fails exactly at the planned
+//! calls and commits.
+//!
+//! The contracts that say so: `MapKeeper`.
 #![tactic(auto)]
 
 mod jobs;

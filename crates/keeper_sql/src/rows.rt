@@ -1,7 +1,7 @@
 //! The tables, in memory or in a file, and single statements over them, of which each has a fixed text.
 use crate::columns::fail_of;
 use sqlite::types::ValueRef;
-use sqlite::{Connection, Error, File, FileStore, MemStore, Row};
+use sqlite::{Alter, Connection, Error, File, FileStore, MemStore, Row};
 use tao_base::StoreName;
 use tao_keeper::KeepFail;
 
@@ -17,42 +17,94 @@ pub(crate) fn place(at: StoreName) -> (i64, i64) {
     (i64::from(at.region), i64::from(at.shard))
 }
 
+/// What a statement is asked for, over either store: so that one function alone names both, which is what is dear to prove.
+trait Asked {
+    type Told;
+
+    fn ask<S: Alter>(
+        conn: &mut Connection<S>,
+        sql: &str,
+        params: &[ValueRef<'_>],
+    ) -> Result<Self::Told, KeepFail>;
+}
+
+/// The first row of an answer, where it has one.
+struct First;
+
+/// All rows of an answer.
+struct All;
+
+/// A statement that gives no rows.
+struct Nothing;
+
+impl Asked for First {
+    type Told = Option<Row>;
+
+    fn ask<S: Alter>(
+        conn: &mut Connection<S>,
+        sql: &str,
+        params: &[ValueRef<'_>],
+    ) -> Result<Option<Row>, KeepFail> {
+        match conn.query_row(sql, params) {
+            Ok(row) => Ok(Some(row)),
+            Err(Error::QueryReturnedNoRows) => Ok(None),
+            Err(error) => Err(fail_of(error)),
+        }
+    }
+}
+
+impl Asked for All {
+    type Told = Vec<Row>;
+
+    fn ask<S: Alter>(
+        conn: &mut Connection<S>,
+        sql: &str,
+        params: &[ValueRef<'_>],
+    ) -> Result<Vec<Row>, KeepFail> {
+        conn.query_all(sql, params).map_err(fail_of)
+    }
+}
+
+impl Asked for Nothing {
+    type Told = ();
+
+    fn ask<S: Alter>(
+        conn: &mut Connection<S>,
+        sql: &str,
+        params: &[ValueRef<'_>],
+    ) -> Result<(), KeepFail> {
+        match conn.execute(sql, params) {
+            Ok(_) => Ok(()),
+            Err(error) => Err(fail_of(error)),
+        }
+    }
+}
+
 impl Tables {
+    /// What a statement is asked for.
+    fn ask<A: Asked>(&mut self, sql: &str, params: &[ValueRef<'_>]) -> Result<A::Told, KeepFail> {
+        match self {
+            Tables::Memory(conn) => A::ask(conn, sql, params),
+            Tables::File(conn) => A::ask(conn, sql, params),
+        }
+    }
+
     /// The first row of an answer, where it has one.
     pub(crate) fn first(
         &mut self,
         sql: &str,
         params: &[ValueRef<'_>],
     ) -> Result<Option<Row>, KeepFail> {
-        let found = match self {
-            Tables::Memory(conn) => conn.query_row(sql, params),
-            Tables::File(conn) => conn.query_row(sql, params),
-        };
-        match found {
-            Ok(row) => Ok(Some(row)),
-            Err(Error::QueryReturnedNoRows) => Ok(None),
-            Err(error) => Err(fail_of(error)),
-        }
+        self.ask::<First>(sql, params)
     }
 
     /// All rows of an answer.
     pub(crate) fn all(&mut self, sql: &str, params: &[ValueRef<'_>]) -> Result<Vec<Row>, KeepFail> {
-        let found = match self {
-            Tables::Memory(conn) => conn.query_all(sql, params),
-            Tables::File(conn) => conn.query_all(sql, params),
-        };
-        found.map_err(fail_of)
+        self.ask::<All>(sql, params)
     }
 
     /// A statement that gives no rows.
     pub(crate) fn run(&mut self, sql: &str, params: &[ValueRef<'_>]) -> Result<(), KeepFail> {
-        let done = match self {
-            Tables::Memory(conn) => conn.execute(sql, params),
-            Tables::File(conn) => conn.execute(sql, params),
-        };
-        match done {
-            Ok(_) => Ok(()),
-            Err(error) => Err(fail_of(error)),
-        }
+        self.ask::<Nothing>(sql, params)
     }
 }

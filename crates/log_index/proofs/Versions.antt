@@ -16,11 +16,11 @@ use Rattle.tao_base.specs.Keys.{same_key}
 use Rattle.graph_model.specs.Log.{changes_of, touches_key, version}
 use Rattle.graph_model.specs.Soundness.{IsSound}
 
-abbrev AreOnce : List Touch → Type 0
+abbrev pub AreOnce : List Touch → Type 0
 AreOnce touches = AllPairs (λ s t. s.key ≢ t.key) touches
 
 -- touches of one key, each at another, are one at most
-one_at_most : (k : Key) (ts : List Touch) → AreOnce ts → All (λ t. same_key k t.key ≡ true) ts → length ts ≤ 1
+pub one_at_most : (k : Key) (ts : List Touch) → AreOnce ts → All (λ t. same_key k t.key ≡ true) ts → length ts ≤ 1
 one_at_most k [] once same = omega arith
 one_at_most k (x ∷ []) once same = omega arith
 one_at_most k (x ∷ y ∷ ts) once same =

@@ -7,12 +7,13 @@ use Rattle.graph_model.specs.Edges.{live_edges, newest_first, record_in}
 use Rattle.graph_model.specs.Log.{object_after, object_in}
 use Rattle.list_index.specs.ListState.{ListIsAfter, ListState, no_list, record_to}
 
+-- the state of a key: its version, the object (None where there is none), and its list
 pub record KeyState : Type 0 where
   pub version : ℕ
   pub object : Option Object
   pub list : ListState
 
--- of a key that nothing touches
+-- the state of a key that nothing touches
 abbrev pub no_state : KeyState
 no_state = record { version = 0; object = None; list = no_list }
 

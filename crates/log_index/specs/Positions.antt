@@ -7,9 +7,11 @@ use Rattle.tao_base.specs.declared.entry.Origin.{Origin}
 use Rattle.tao_base.specs.declared.entry.Origin.TheVariants.{Client, Merge}
 use Rattle.log_index.specs.declared.positions.Positions.{Positions}
 
+-- pairs are in the order of their first numbers, then of their second ones
 abbrev pub pair_cmp : ℕ × ℕ → ℕ × ℕ → Ordering
 pair_cmp x y = ordering_then (nat_cmp x.0 y.0) (nat_cmp x.1 y.1)
 
+-- whether two origins are one: both of a client or both of a merge, with equal numbers
 abbrev pub same_origin : Origin → Origin → Bool
 same_origin (Client session seq) (Client session2 seq2) = session == session2 && seq == seq2
 same_origin (Client session seq) (Merge shard position) = false

@@ -1,31 +1,22 @@
 -- What the calls of a keeper do to the tables of the masters.
-use Rattle.std.proofs.Common.{◌≡◌, ◌≢◌, ℕ, ◌<◌, ◌+◌, true, false, List, [], ◌∷◌, ◌++◌, inl, inr, refl, sym, ap, ◌∙◌, subst, arith}
+use Rattle.std.proofs.Common.{◌≡◌, ◌≢◌, ℕ, ◌<◌, ◌+◌, List, [], ◌∷◌, ◌++◌, inl, inr, refl, sym, ap, ◌∙◌, subst, arith}
 use Rattle.std.proofs.lemmas.Bool.{cases_eq}
-use Rattle.std.proofs.lemmas.Bool.Decides.{nat_tests}
 use Rattle.std.specs.Prelude.{Option, Some, None, slice_set, nat_lt, ◌==◌, if◌then◌else◌}
 use Rattle.tao_base.specs.EdgeTypes.{EdgeTypes}
 use Rattle.tao_base.specs.declared.entry.Entry.{Entry}
 use Rattle.tao_base.specs.declared.entry.Origin.{Origin}
 use Rattle.tao_base.specs.declared.write.Write.{Write}
 use Rattle.write_model.proofs.OpenJobs.{open_jobs_are_owed}
-use Rattle.write_model.specs.Machine.{ClientWrite, Gains, Owed}
-use Rattle.write_model.specs.Merges.{HasJob, job_of, log_of, merge_of}
+use Rattle.write_model.specs.Machine.{Gains}
+use Rattle.write_model.specs.Merges.{HasJob, Owed, job_of, log_of, merge_of, number_in, owed_number}
 use Rattle.graph_model.specs.Soundness.{EdgeUpdate}
 use Rattle.write_model.specs.Steps.{CommitsWithJob, EndsJob, IsOwed, JobBecomes, JobsStay, MergesJob, opened_job}
 use Rattle.write_model.specs.Writes.{forward_entry}
 use Rattle.tao_keeper.specs.Table.{Becomes, Stays, Table, Tables, after_commit, after_end, job_from, with_new_job}
 use Rattle.master_tables.proofs.Each.{each_at, each_length, each_same, each_set}
-use Rattle.master_tables.specs.Laws.{CallsAreSteps, FirstJobsAreFirst, TableLaws, TablesAreStores}
+use Rattle.master_tables.specs.Laws.{CallsAreSteps, FirstJobsAreFirst, NumbersArePositions, TableLaws, TablesAreStores}
 use Rattle.master_tables.specs.Masters.{Masters, stores_of}
-
-lt_test : (a b : ℕ) → a < b → nat_lt a b ≡ true
-lt_test a b h = grind (arith, nat_tests)
-
-eq_self : (p : ℕ) → (p == p) ≡ true
-eq_self p = grind (arith, nat_tests)
-
-eq_apart : (p q : ℕ) → p ≢ q → (p == q) ≡ false
-eq_apart p q h = grind (arith, nat_tests)
+use Rattle.tao_base.proofs.Tests.{apart-eqb, eqb-self, is_lower}
 
 -- one table changes
 module _ (m : Masters) (old new : Tables) where
@@ -34,7 +25,7 @@ module _ (m : Masters) (old new : Tables) where
       ∙ ap (λ s. (tables (m.name s)).log) (let e : 0 + shard ≡ shard = omega arith in e)
 
   job_at : (tables : Tables) (shard position : ℕ) → shard < m.shards → (stores_of m tables).job shard position ≡ (tables (m.name shard)).jobs position
-  job_at tables shard position lt = ap (λ b. if b then (tables (m.name shard)).jobs position else None) (lt_test shard m.shards lt)
+  job_at tables shard position lt = ap (λ b. if b then (tables (m.name shard)).jobs position else None) (is_lower shard m.shards lt)
 
   other_master : (s shard : ℕ) → s ≢ shard → m.name s ≢ m.name shard
   other_master s shard apart same = apart (sym (m.of_shard s) ∙ ap (λ n. n.shard) same ∙ m.of_shard shard)
@@ -81,50 +72,55 @@ module _ (m : Masters) (old new : Tables) where
   opened_here : (jobs : ℕ → Option (List EdgeUpdate)) (position : ℕ) (us : List EdgeUpdate) → jobs position ≡ None
       → with_new_job jobs (job_from position us) position ≡ opened_job us
   opened_here jobs position [] none = none
-  opened_here jobs position (u ∷ us) none = ap (λ b. if b then Some (u ∷ us) else jobs position) (eq_self position)
+  opened_here jobs position (u ∷ us) none = ap (λ b. if b then Some (u ∷ us) else jobs position) (eqb-self position)
 
   opened_others : (jobs : ℕ → Option (List EdgeUpdate)) (position : ℕ) (us : List EdgeUpdate) (p : ℕ) → p ≢ position
       → with_new_job jobs (job_from position us) p ≡ jobs p
   opened_others jobs position [] p apart = refl
-  opened_others jobs position (u ∷ us) p apart = ap (λ b. if b then Some (u ∷ us) else jobs p) (eq_apart p position apart)
+  opened_others jobs position (u ∷ us) p apart = ap (λ b. if b then Some (u ∷ us) else jobs p) (apart-eqb p position apart)
 
-  step_commits : (types : EdgeTypes) (shard : ℕ) (origin : Origin) (write : Write) (e : Entry) → shard < m.shards → (old (m.name shard)).jobs e.position ≡ None
-      → forward_entry types (old (m.name shard)).log origin write ≡ Some e
+  step_commits : (types : EdgeTypes) (shard epoch : ℕ) (origin : Origin) (write : Write) (e : Entry) → shard < m.shards → epoch ≡ 0
+      → (old (m.name shard)).jobs e.position ≡ None
+      → forward_entry types epoch (old (m.name shard)).log origin write ≡ Some e
       → Becomes old new (m.name shard) (after_commit (old (m.name shard)) e (job_from e.position (job_of types e)))
-      → CommitsWithJob types (stores_of m old) (stores_of m new) (record { shard = shard; origin = origin; asked = write }) e
-  step_commits types shard origin write e lt none is b = record {
+      → CommitsWithJob types (stores_of m old) (stores_of m new) (record { shard = shard; epoch = epoch; origin = origin; asked = write }) e
+  step_commits types shard epoch origin write e lt first none is b = record {
+    epoch_is = first;
     commits = record {
-      is = ap (λ l. forward_entry types l origin write) (log_at old shard lt) ∙ is;
+      is = ap (λ l. forward_entry types epoch l origin write) (log_at old shard lt) ∙ is;
       gained = gains shard (after_commit (old (m.name shard)) e (job_from e.position (job_of types e))) e lt b refl;
     };
     opens = job_becomes shard e.position (after_commit (old (m.name shard)) e (job_from e.position (job_of types e))) (opened_job (job_of types e)) lt b
         (opened_here (old (m.name shard)).jobs e.position (job_of types e) none) (opened_others (old (m.name shard)).jobs e.position (job_of types e));
+    epochs = refl;
   }
 
   step_merges : (types : EdgeTypes) (owed : Owed) (e : Entry) → owed.other < m.shards → IsOwed types (stores_of m old) owed
-      → merge_of (old (m.name owed.other)).log owed.shard owed.entry.position (job_of types owed.entry) ≡ Some e
+      → merge_of (old (m.name owed.other)).log owed.shard (owed_number owed) (job_of types owed.entry) ≡ Some e
       → Becomes old new (m.name owed.other) (after_commit (old (m.name owed.other)) e None) → MergesJob types (stores_of m old) (stores_of m new) owed
   step_merges types owed e lt owes is b = record {
     owes = owes;
     merges = inr (record {
       merged = e;
       there = owes.there;
-      is = ap (λ l. merge_of l owed.shard owed.entry.position (job_of types owed.entry)) (log_at old owed.other lt) ∙ is;
+      is = ap (λ l. merge_of l owed.shard (owed_number owed) (job_of types owed.entry)) (log_at old owed.other lt) ∙ is;
       gained = gains owed.other (after_commit (old (m.name owed.other)) e None) e lt b refl;
     });
     jobs = jobs_stay (field_is (λ t. t.jobs) owed.other (after_commit (old (m.name owed.other)) e None) b refl);
+    epochs = refl;
   }
 
   step_merges_none : (types : EdgeTypes) (owed : Owed) → owed.other < m.shards → IsOwed types (stores_of m old) owed
-      → merge_of (old (m.name owed.other)).log owed.shard owed.entry.position (job_of types owed.entry) ≡ None
+      → merge_of (old (m.name owed.other)).log owed.shard (owed_number owed) (job_of types owed.entry) ≡ None
       → Stays old new → MergesJob types (stores_of m old) (stores_of m new) owed
   step_merges_none types owed lt owes is stays = record {
     owes = owes;
     merges = inl (
-      ap (λ l. merge_of l owed.shard owed.entry.position (job_of types owed.entry)) (log_at old owed.other lt) ∙ is,
+      ap (λ l. merge_of l owed.shard (owed_number owed) (job_of types owed.entry)) (log_at old owed.other lt) ∙ is,
       logs_stay (λ s. ap (λ t. t.log) (stays (m.name s))),
     );
     jobs = jobs_stay (λ s. ap (λ t. t.jobs) (stays (m.name s)));
+    epochs = refl;
   }
 
   step_ends : (types : EdgeTypes) (owed : Owed) → owed.shard < m.shards → IsOwed types (stores_of m old) owed
@@ -135,8 +131,9 @@ module _ (m : Masters) (old new : Tables) where
     done = done;
     logs = logs_stay (field_is (λ t. t.log) owed.shard (after_end (old (m.name owed.shard)) owed.entry.position) b refl);
     ends = job_becomes owed.shard owed.entry.position (after_end (old (m.name owed.shard)) owed.entry.position) None lt b
-        (ap (λ c. if c then None else (old (m.name owed.shard)).jobs owed.entry.position) (eq_self owed.entry.position))
-        (λ p apart. ap (λ c. if c then None else (old (m.name owed.shard)).jobs p) (eq_apart p owed.entry.position apart));
+        (ap (λ c. if c then None else (old (m.name owed.shard)).jobs owed.entry.position) (eqb-self owed.entry.position))
+        (λ p apart. ap (λ c. if c then None else (old (m.name owed.shard)).jobs p) (apart-eqb p owed.entry.position apart));
+    epochs = refl;
   }
 
 pub tables_are_stores : (m : Masters) (tables : Tables) → TablesAreStores m tables
@@ -145,11 +142,17 @@ tables_are_stores m tables = record { log_is = log_at m tables tables tables; jo
 pub calls_are_steps : (m : Masters) (old new : Tables) → CallsAreSteps m old new
 calls_are_steps m old new = record {
   stays = λ stays. (logs_stay m old new (λ s. ap (λ t. t.log) (stays (m.name s))), jobs_stay m old new (λ s. ap (λ t. t.jobs) (stays (m.name s))));
-  commits = λ types w. step_commits m old new types w.shard w.origin w.asked;
+  commits = λ types w. step_commits m old new types w.shard w.epoch w.origin w.asked;
   merges = step_merges m old new;
   merges_none = step_merges_none m old new;
   ends = step_ends m old new;
 }
+
+first_number : (epoch position : ℕ) → epoch ≡ 0 → number_in epoch position ≡ position
+first_number epoch position first = omega (arith, first)
+
+pub numbers_are_positions : (m : Masters) (tables : Tables) → NumbersArePositions m tables
+numbers_are_positions m tables = record { number_is = λ types owed owes. first_number owed.epoch owed.entry.position owes.epoch_is }
 
 pub first_jobs_are_first : (m : Masters) (tables : Tables) → FirstJobsAreFirst m tables
 first_jobs_are_first m tables = record {
@@ -170,4 +173,4 @@ first_jobs_are_first m tables = record {
 }
 
 pub table_laws : TableLaws
-table_laws = record { are_stores = tables_are_stores; are_steps = calls_are_steps; are_first = first_jobs_are_first }
+table_laws = record { are_stores = tables_are_stores; are_positions = numbers_are_positions; are_steps = calls_are_steps; are_first = first_jobs_are_first }

@@ -2,6 +2,10 @@
 //!
 //! Each function reads all entries of the log. That is what they are for: they stand as close to
 //! the definitions as code can, and faster answers are checked against them.
+//!
+//! What it promises. The plain table answers each query as the definition says, from the entries of a log alone.
+//!
+//! The contracts that say so: `answer`, `version_of`, `record_of`, `object_of`, `edges_of`, `count_of`.
 #![tactic(auto)]
 
 mod answering;

@@ -33,7 +33,7 @@ abbrev pub content_decides : EdgeTypes → Content → Query → Bool
 content_decides types (ObjectIs found) query = is_of_object query
 content_decides types (ListIs prefix) query = decides (query_bound types query) prefix.edges prefix.total query
 
--- what is then read off it
+-- the answer to a query that is read off a content which decides it
 abbrev pub content_answer : EdgeTypes → Content → Query → Answer
 content_answer types (ObjectIs found) query = ObjectAnswer found
 content_answer types (ListIs prefix) query = list_answer (query_bound types query) prefix.edges prefix.total query

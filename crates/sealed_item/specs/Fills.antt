@@ -19,10 +19,11 @@ pub record SealedItem : Type 0 where
   pub content : Content
   pub note : View
 
+-- the fill of a key with a content at a version, as of a number of entries, with what was seen of the log
 abbrev pub sealed_item : Key → ℕ → ℕ → Content → View → SealedItem
 sealed_item key at as_of content note = record { key = key; version = at; as_of = as_of; content = content; note = note }
 
--- the same item where more was seen of the log
+-- the fill with another note, of one who has seen more of the log
 abbrev pub fill_with_note : SealedItem → View → SealedItem
 fill_with_note item note = record item { note = note }
 

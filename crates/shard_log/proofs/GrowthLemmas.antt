@@ -10,7 +10,7 @@ use Rattle.tao_base.specs.declared.entry.Entry.{Entry}
 use Rattle.tao_base.specs.declared.id.AType.{AType}
 use Rattle.tao_base.specs.declared.id.Id.{Id}
 use Rattle.graph_model.proofs.Exact.{items_stay}
-use Rattle.graph_model.proofs.Sound.{slice_get-last, slice_get-take, sound_take}
+use Rattle.graph_model.proofs.Sound.{slice_get-take, sound_take}
 use Rattle.graph_model.proofs.Versions.{version-append}
 use Rattle.tao_base.specs.EdgeTypes.{EdgeTypes}
 use Rattle.tao_base.specs.Queries.{query_key}
@@ -25,6 +25,7 @@ use Rattle.shard_log.proofs.Beginnings.{begins-rest, begins-self, begins-shorter
 use Rattle.shard_log.specs.GrowthLaws.{BeginningsAreSound, EntriesStay, GrowthGoesOn, IsLegalIn, ItemsStayExact, SeenStays, VersionsStay}
 use Rattle.graph_model.specs.Told.{WhereTold}
 use Rattle.shard_log.specs.View.{View, Grows, longer_view}
+use Rattle.graph_model.proofs.EntryLemmas.{entry_at-last}
 
 pub grows-self : (v : View) → Grows v v
 grows-self v = record { log_is = refl; begins = begins-self v.entries }
@@ -82,11 +83,8 @@ pub entry_stays : (v w : View) (position : ℕ) (e : Entry) → Grows v w → en
 entry_stays v w zero e grows h = absurd (cc (h))
 entry_stays v w (suc n) e grows h = (slice_get-take w.entries (length v.entries) n e (ap (λ log. slice_get log n) (sym grows.begins) ∙ h)).0
 
-entry_added : (log : List Entry) (e : Entry) → entry_at (log ++ e ∷ []) (length log + 1) ≡ Some e
-entry_added log e = let next : length log + 1 ≡ suc (length log) = omega arith in ap (entry_at (log ++ e ∷ [])) next ∙ slice_get-last log e
-
 pub entries_stay : EntriesStay
-entries_stay = record { added = entry_added; stays = entry_stays }
+entries_stay = record { added = entry_at-last; stays = entry_stays }
 
 pub beginnings_are_sound : BeginningsAreSound
 beginnings_are_sound = record {

@@ -1,6 +1,10 @@
+pub mod DoneLemmas
+pub mod MergeCommits
 pub mod MergeLemmas
 pub mod OpenLemmas
 pub mod ReadLemmas
+pub mod SlaveLemmas
 pub mod Standing
+pub mod WriteCommits
 pub mod WriteLemmas
 pub mod WriteSteps

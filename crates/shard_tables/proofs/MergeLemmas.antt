@@ -7,13 +7,13 @@ use Rattle.tao_base.specs.declared.entry.Kind.TheVariants.{Merge as Merged}
 use Rattle.tao_base.specs.declared.entry.Origin.TheVariants.{Merge}
 use Rattle.tao_base.specs.declared.entry.Touch.{Touch}
 use Rattle.tao_base.specs.declared.id.StoreName.{StoreName}
-use Rattle.write_model.proofs.MergeOf.{merges_follow, merges_none}
+use Rattle.write_model.proofs.MergeOf.{merges_follow}
 use Rattle.write_model.specs.MergeLaws.{MayBeMerged}
 use Rattle.graph_model.specs.Records.{HasStamp, is_news}
 use Rattle.write_model.specs.Merges.{merge_of}
 use Rattle.graph_model.specs.Soundness.{CanFollow, EdgeUpdate, IsSound, IsSoundOf}
 use Rattle.write_model.specs.Writes.{edge_touch, next_entry}
-use Rattle.tao_keeper.specs.Table.{Becomes, Stays, Tables, after_commit}
+use Rattle.tao_keeper.specs.Table.{Tables}
 use Rattle.shard_tables.specs.Jobs.{made_merge}
 
 -- the touches make the entry
@@ -21,14 +21,14 @@ module _ (log : List Entry) (from position : ℕ) (us : List EdgeUpdate) (ts : L
   given : merge_of log from position us ≡ next_entry log Merged (Merge from position) ts
   given = ap (next_entry log Merged (Merge from position)) (sym are)
 
-  merged_is : (n : ℕ) → 0 < length ts → n ≡ length log → merge_of log from position us ≡ Some (made_merge n from position ts)
+  pub merged_is : (n : ℕ) → 0 < length ts → n ≡ length log → merge_of log from position us ≡ Some (made_merge n from position ts)
   merged_is n some count = given ∙ by ts some
     where
       by : (xs : List Touch) → 0 < length xs → next_entry log Merged (Merge from position) xs ≡ Some (made_merge n from position xs)
       by [] h = absurd (omega (arith, h))
       by (x ∷ xs) h = ap (λ k. Some (made_merge k from position (x ∷ xs))) (sym count)
 
-  none_merged : length ts ≡ 0 → merge_of log from position us ≡ None
+  pub none_merged : length ts ≡ 0 → merge_of log from position us ≡ None
   none_merged none = given ∙ by ts none
     where
       by : (xs : List Touch) → length xs ≡ 0 → next_entry log Merged (Merge from position) xs ≡ None
@@ -64,16 +64,3 @@ module _ (tables : Tables) (at name : StoreName) (us vs : List EdgeUpdate) (ts :
         sound = λ types sound. (law.stays types sound may is).sound;
         done = λ sound. law.done sound may is;
       }
-
-  pub none_left : (from position : ℕ) → length ts ≡ 0 → All (HasStamp (tables name).log) vs
-  none_left from position none =
-      (merges_none (tables name).log from position vs).done
-      (none_merged (tables name).log from position vs ts (news_at tables at name us vs ts at_is us_is asked) none)
-
--- a log that has store_with the entry, over tables that stayed before
-pub grown_log : (old mid new : Tables) (at name : StoreName) (entry made : Entry) → at ≡ name → Stays old mid
-    → Becomes mid new at (after_commit (mid at) entry None) → entry ≡ made
-    → (new name).log ≡ (old name).log ++ made ∷ []
-grown_log old mid new at name entry made at_is stays gains same =
-    ap (λ n. (new n).log) (sym at_is) ∙ ap (λ t. t.log) gains.here ∙ ap (λ t. t.log ++ entry ∷ []) (stays at) ∙ ap (λ n. (old n).log ++ entry ∷ []) at_is
-    ∙ ap (λ e. (old name).log ++ e ∷ []) same

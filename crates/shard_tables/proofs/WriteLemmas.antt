@@ -1,7 +1,7 @@
 -- A write whose origin is new: its entry follows the log, and keeps it sound.
 use Rattle.std.proofs.Common.{◌≡◌, ℕ, ◌+◌, ◌<◌, ◌≤◌, Bool, true, false, List, [], ◌∷◌, length, sym, ap, ◌∙◌, subst, arith}
 use Rattle.std.proofs.lemmas.Bool.Decides.{nat_tests}
-use Rattle.std.specs.Prelude.{Option, Some, Result, Err, nat_le}
+use Rattle.std.specs.Prelude.{Option, Some, nat_le}
 use Rattle.tao_base.specs.EdgeTypes.{EdgeTypes, InversesMatch}
 use Rattle.tao_base.specs.declared.entry.Entry.{Entry}
 use Rattle.tao_base.specs.declared.entry.Origin.{Origin}
@@ -14,22 +14,20 @@ use Rattle.graph_model.specs.Soundness.{IsSoundOf, IsNewOrigin}
 use Rattle.tao_base.specs.Writes.{ChangesType, write_kind, write_shard}
 use Rattle.write_model.specs.WriteLaws.{IsOfShard, StaysSound}
 use Rattle.write_model.specs.Writes.{forward_entry, next_entry}
-use Rattle.tao_keeper.specs.Table.{Tables, Stays, Becomes, StandsAt, after_commit}
+use Rattle.tao_keeper.specs.Table.{Tables, Stays, Becomes, after_commit}
 use Rattle.tao_keeper.specs.declared.jobs.Job.{Job}
-use Rattle.shard_tables.specs.Stores.{HasSeen, IsFullFor, IsStoreOf}
+use Rattle.shard_tables.specs.Stores.{HasSeen, IsStoreOf}
 use Rattle.shard_tables.specs.StoreView.{Store}
-use Rattle.shard_tables.specs.declared.refusal.StoreRefusal.{StoreRefusal}
 use Rattle.shard_tables.specs.declared.store.StoreRole.TheVariants.{Master}
-use Rattle.shard_tables.specs.declared.writes.Wrote.{Wrote}
-use Rattle.shard_tables.specs.Written.{IsLogFull, WriteAnswers, asked_write, made_entry}
+use Rattle.shard_tables.specs.Written.{IsLogFull, asked_write, made_entry}
 use Rattle.write_touches.specs.Touching.{AreTouches, lacks_serial}
 
 -- touches make the entry
-pub made_is : (types : EdgeTypes) (log : List Entry) (origin : Origin) (write : Write) (ts : List Touch) (n : ℕ) → AreTouches types log write ts → 0 < length ts
-    → n ≡ length log
-    → forward_entry types log origin write ≡ Some (made_entry n origin write ts)
-made_is types log origin write [] n are some count = absurd (omega arith)
-made_is types log origin write (t ∷ ts) n are some count =
+pub made_is : (types : EdgeTypes) (epoch : ℕ) (log : List Entry) (origin : Origin) (write : Write) (ts : List Touch) (n : ℕ)
+    → AreTouches types epoch log write ts → 0 < length ts → n ≡ length log
+    → forward_entry types epoch log origin write ≡ Some (made_entry n origin write ts)
+made_is types epoch log origin write [] n are some count = absurd (omega arith)
+made_is types epoch log origin write (t ∷ ts) n are some count =
     ap (next_entry log (write_kind write) origin) (sym are.touches_are) ∙ ap (λ k. Some (made_entry k origin write (t ∷ ts))) (sym count)
 
 here_is : (shard : ℕ) (log : List Entry) (write : Write) → write_shard write ≡ shard → lacks_serial log write ≡ false → IsOfShard shard log write
@@ -57,19 +55,19 @@ pub has_all : (tells : Bool) (tables : Tables) (store : Store) → store.role �
     → store.view.entries ≡ (tables store.name).log
 has_all tells tables store master of told = subst (λ r. HasSeen r (tables store.name).log store.view.entries) master (of.seen told)
 
--- the touches that were asked for under the store's name
-pub touches_at : (types : EdgeTypes) (tables : Tables) (at name : StoreName) (write : Write) (ts : List Touch) → at ≡ name
-    → AreTouches types (tables at).log write ts
-    → AreTouches types (tables name).log write ts
-touches_at types tables at name write ts is are = subst (λ n. AreTouches types (tables n).log write ts) is are
+-- the touches that were asked for in the store's epoch and under its name
+pub touches_at : (types : EdgeTypes) (epoch own : ℕ) (tables : Tables) (at name : StoreName) (write : Write) (ts : List Touch) → own ≡ epoch → at ≡ name
+    → AreTouches types own (tables at).log write ts → AreTouches types epoch (tables name).log write ts
+touches_at types epoch own tables at name write ts same is are =
+    subst (λ n. AreTouches types epoch (tables n).log write ts) is (subst (λ n. AreTouches types n (tables at).log write ts) same are)
 
 -- a write over a log of so many entries
-module _ (types : EdgeTypes) (log : List Entry) (origin : Origin) (write : Write) (ts : List Touch) (n : ℕ)
-    (are : AreTouches types log write ts) (some : 0 < length ts) (count : n ≡ length log) where
-  pub full_is : (most : ℕ) → IsNewOrigin log origin → most ≤ n → IsLogFull (asked_write types most log origin write) n
+module _ (types : EdgeTypes) (epoch : ℕ) (log : List Entry) (origin : Origin) (write : Write) (ts : List Touch) (n : ℕ)
+    (are : AreTouches types epoch log write ts) (some : 0 < length ts) (count : n ≡ length log) where
+  pub full_is : (most : ℕ) → IsNewOrigin log origin → most ≤ n → IsLogFull (asked_write types most epoch log origin write) n
   full_is most new full = record {
     entry = made_entry n origin write ts;
-    next = record { new = new; forward = made_is types log origin write ts n are some count; serial = are.serial; stamps = are.stamps };
+    next = record { new = new; forward = made_is types epoch log origin write ts n are some count; serial = are.serial; stamps = are.stamps };
     full = subst (λ k. most ≤ k) count full;
     count_is = count;
   }
@@ -77,31 +75,6 @@ module _ (types : EdgeTypes) (log : List Entry) (origin : Origin) (write : Write
   pub stays_sound : (shard : ℕ) → InversesMatch types → IsSoundOf types shard log → IsNewOrigin log origin → write_shard write ≡ shard → ChangesType types write
       → StaysSound types shard log (made_entry n origin write ts)
   stays_sound shard match sound new here changes =
-      (forward_follows shard log origin write (made_entry n origin write ts)).stays types
+      (forward_follows shard log origin write (made_entry n origin write ts)).stays types epoch
       (record { inverses = match; sound = sound; new = new; here = here_is shard log write here are.serial; changes = changes })
-      (made_is types log origin write ts n are some count)
-
--- a write for which the log has no room, as the store said
-pub full_answers : (types : EdgeTypes) (tables : Tables) (store : Store) (origin : Origin) (write : Write) (ts : List Touch) (refusal : StoreRefusal)
-    (result : Result Wrote StoreRefusal)
-    → AreTouches types (tables store.name).log write ts → 0 < length ts → store.view.entries ≡ (tables store.name).log
-    → IsNewOrigin (tables store.name).log origin
-    → IsFullFor store refusal → result ≡ Err refusal → WriteAnswers (asked_write types store.log_max (tables store.name).log origin write) result
-full_answers types tables store origin write ts refusal result are some all new full is =
-    subst (WriteAnswers (asked_write types store.log_max (tables store.name).log origin write)) (sym (is ∙ ap (λ r. Err r) full.is))
-    (full_is types (tables store.name).log origin write ts (length store.view.entries) are some (ap length all) store.log_max new full.full)
-
--- what is answered of an entry over tables that stayed since its origin was found
-pub again_answers : (types : EdgeTypes) (most : ℕ) (old one : Tables) (name asked at : StoreName) (origin : Origin) (write : Write) (found : Option ℕ)
-    (position : ℕ) (result : Result Wrote StoreRefusal)
-    → asked ≡ name → at ≡ name → Stays old one → found ≡ Some position → StandsAt (old asked).log origin found
-    → (StandsAt (one at).log origin (Some position) → WriteAnswers (asked_write types most (one at).log origin write) result)
-    → WriteAnswers (asked_write types most (old name).log origin write) result
-again_answers types most old one name asked at origin write found position result asked_is at_is stays is stands answers =
-    let stands_there : StandsAt (one at).log origin (Some position) =
-    subst (λ t. StandsAt t.log origin (Some position)) (ap old (asked_is ∙ sym at_is) ∙ sym (stays at)) (subst (StandsAt (old asked).log origin) is stands) in
-    subst (λ t. WriteAnswers (asked_write types most t.log origin write) result) (stays at ∙ ap old at_is) (answers stands_there)
-
--- a log without entries is sound
-pub empty_sound : (types : EdgeTypes) (shard : ℕ) → IsSoundOf types shard []
-empty_sound types shard = record { sound = λ n e stands. absurd (cc); ends = λ k d lt. absurd (omega arith) }
+      (made_is types epoch log origin write ts n are some count)

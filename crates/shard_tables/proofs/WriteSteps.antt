@@ -33,7 +33,8 @@ pub job_edges : (jobs : Jobs) (position : ℕ) (job : Option Job) → IsJobAt jo
 job_edges jobs position None is = is
 job_edges jobs position (Some job) is = is.1
 
-module _ (m : Masters) (old new : Tables) (shard : ℕ) (asked : AskedWrite) (lt : shard < m.shards) (log_is : asked.log ≡ (old (m.name shard)).log)
+module _ (m : Masters) (old new : Tables) (shard : ℕ) (asked : AskedWrite) (lt : shard < m.shards) (first : asked.epoch ≡ 0)
+    (log_is : asked.log ≡ (old (m.name shard)).log)
     (sound : IsSoundOf asked.types shard asked.log) (of_entries : AreOfEntries (old (m.name shard))) where
   -- the log of the shard is the one that is asked
   there : asked.log ≡ log_of (stores_of m old).logs shard
@@ -43,19 +44,20 @@ module _ (m : Masters) (old new : Tables) (shard : ℕ) (asked : AskedWrite) (lt
   position_is : (position : ℕ) (e : Entry) → entry_at asked.log position ≡ Some e → e.position ≡ position
   position_is position e stands = (at_place asked.types shard asked.log position e sound stands).2
 
-  forward_here : (e : Entry) → IsAdded asked e → forward_entry asked.types (old (m.name shard)).log asked.origin asked.write ≡ Some e
-  forward_here e added = subst (λ l. forward_entry asked.types l asked.origin asked.write ≡ Some e) log_is added.next.forward
+  forward_here : (e : Entry) → IsAdded asked e → forward_entry asked.types asked.epoch (old (m.name shard)).log asked.origin asked.write ≡ Some e
+  forward_here e added = subst (λ l. forward_entry asked.types asked.epoch l asked.origin asked.write ≡ Some e) log_is added.next.forward
 
   no_job : (e : Entry) → IsAdded asked e → (old (m.name shard)).jobs e.position ≡ None
   no_job e added =
       let log = (old (m.name shard)).log in
-      of_entries.none_past e.position (next_past log (write_kind asked.write) asked.origin (touches_of asked.types log asked.write) e (forward_here e added))
+      of_entries.none_past e.position
+      (next_past log (write_kind asked.write) asked.origin (touches_of asked.types asked.epoch log asked.write) e (forward_here e added))
 
   nothing_is : FindsNothing asked → Stays old new
       → ChangesNothing asked.types (stores_of m old).logs (stores_of m new).logs (client_write shard asked) × JobsStay (stores_of m old) (stores_of m new)
   nothing_is found stays =
       let same = (calls_are_steps m old new).stays stays in (
-        record { nothing = subst (λ l. forward_entry asked.types l asked.origin asked.write ≡ None) there found.nothing; stays = same.0 },
+        record { nothing = subst (λ l. forward_entry asked.types asked.epoch l asked.origin asked.write ≡ None) there found.nothing; stays = same.0 },
         same.1,
       )
 
@@ -80,7 +82,7 @@ module _ (m : Masters) (old new : Tables) (shard : ℕ) (asked : AskedWrite) (lt
   pub write_is_step : WriteIsStep m old new shard asked
   write_is_step = record {
     commits = λ e added gains.
-        (calls_are_steps m old new).commits asked.types (client_write shard asked) e lt (no_job e added) (forward_here e added) gains;
+        (calls_are_steps m old new).commits asked.types (client_write shard asked) e lt first (no_job e added) (forward_here e added) gains;
     nothing = nothing_is;
     repeats = repeats_is;
     finds = finds_is;

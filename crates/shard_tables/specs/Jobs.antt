@@ -38,6 +38,17 @@ abbrev pub job_with : EdgeTypes → Option Entry → Option Job
 job_with types None = None
 job_with types (Some e) = job_for types e
 
+-- a merge that is asked of a log: of so many entries at most, of a job of this other shard
+pub record AskedMerge : Type 0 where
+  pub most : ℕ
+  pub log : List Entry
+  pub from : ℕ
+  pub job : Job
+
+-- the merge that is asked of a log: of so many entries at most, of a job of another shard
+abbrev pub asked_merge : ℕ → List Entry → ℕ → Job → AskedMerge
+asked_merge most log from job = record { most = most; log = log; from = from; job = job }
+
 -- what the answer of a merge says of the log before it, which may have so many entries at most
 abbrev pub MergesAs : ℕ → List Entry → ℕ → ℕ → List EdgeUpdate → Result Wrote StoreRefusal → Type 0
 MergesAs most log from position us (Ok wrote) = (wrote.entry ≡ merge_of log from position us) × IfSome wrote.entry (λ e. length log < most)

@@ -3,7 +3,10 @@ pub mod Jobs
 pub mod ReadOuts
 pub mod Reads
 pub mod Refusals
+pub mod Slaves
+pub mod StoreCommits
 pub mod StoreView
 pub mod Stores
+pub mod WriteDone
 pub mod WriteSteps
 pub mod Written

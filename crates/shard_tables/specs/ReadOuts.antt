@@ -76,7 +76,7 @@ needed_count bound (AssocTimeRange id1 atype high low limit) = bound
 needed_count bound (AssocGet id1 atype ids high low) = bound
 needed_count bound (ObjGet id) = 0
 
--- those first edges, and the list's length
+-- the edges are the first of the list, as many as a read of the query needs, and the total is the list's length
 pub record AreNeeded (bound : ℕ) (query : Query) (list : List Edge) (edges : List Edge) (total : ℕ) : Type 0 where
   pub edges_are : edges ≡ take (needed_count bound query) list
   pub total_is : total ≡ length list

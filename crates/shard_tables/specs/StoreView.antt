@@ -8,10 +8,11 @@ use Rattle.shard_tables.specs.declared.store.StoreRole.{StoreRole}
 use Rattle.shard_tables.specs.declared.store.StoreRole.TheVariants.{Master, Slave}
 use Rattle.shard_tables.specs.declared.store.StoreNode.TheInside.{Inside}
 
--- its name, how many entries its log may have, its role, and what it has seen of the log: a master the whole
+-- a store: its name, how many entries its log may have, the epoch of its stamps, its role, and what it has seen of the log: a master the whole
 pub record Store : Type 0 where
   pub name : StoreName
   pub log_max : ℕ
+  pub epoch : ℕ
   pub role : StoreRole
   pub view : View
 
@@ -20,9 +21,11 @@ abbrev pub role_of : Held → StoreRole
 role_of (Whole pen) = Master
 role_of (Seen note) = Slave
 
+-- what the store has seen of the log, by its pen or its note
 abbrev pub held_view : Held → View
 held_view (Whole pen) = pen
 held_view (Seen note) = note
 
+-- what contracts see of a store's fields
 abbrev pub shown_store : Inside → Store
-shown_store s = record { name = s.name; log_max = s.log_max; role = role_of s.held; view = held_view s.held }
+shown_store s = record { name = s.name; log_max = s.log_max; epoch = s.epoch; role = role_of s.held; view = held_view s.held }

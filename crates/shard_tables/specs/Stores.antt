@@ -25,7 +25,7 @@ abbrev pub with_added : List Entry → Option Entry → List Entry
 with_added log None = log
 with_added log (Some e) = log ++ e ∷ []
 
--- the store whose log has store_with the entry, where there is one
+-- the store with the entry added to what it has seen of the log, where there is one
 abbrev pub store_with : Store → Option Entry → Store
 store_with store added = record store { view = record store.view { entries = with_added store.view.entries added } }
 
@@ -34,10 +34,11 @@ abbrev pub seen_by : StoreRole → View → View
 seen_by Master view = as_note view
 seen_by Slave view = view
 
+-- what a note sees that has seen all that the store has
 abbrev pub note_of : Store → View
 note_of store = seen_by store.role store.view
 
--- how many entries its log has
+-- how many entries a store has seen of its log
 abbrev pub length_of : Store → ℕ
 length_of store = length store.view.entries
 

@@ -13,7 +13,7 @@ use Rattle.shard_tables.specs.Written.{AnswersAs, AskedWrite, TableGains}
 
 -- the write that is asked, of its shard
 abbrev pub client_write : ℕ → AskedWrite → ClientWrite
-client_write shard asked = record { shard = shard; origin = asked.origin; asked = asked.write }
+client_write shard asked = record { shard = shard; epoch = asked.epoch; origin = asked.origin; asked = asked.write }
 
 -- what the clauses of a write at the shard's master say of the stores of all shards
 pub record WriteIsStep (m : Masters) (old new : Tables) (shard : ℕ) (asked : AskedWrite) : Type 0 where
@@ -30,7 +30,7 @@ pub record WriteIsStep (m : Masters) (old new : Tables) (shard : ℕ) (asked : A
   pub finds : (e : Entry) (job : Option Job) → FindsJob (old (m.name shard)) true (Some e) job
       → (stores_of m old).job shard e.position ≡ option_map (λ j. j.edges) job
 
--- so it is of each write to a sound log, whose jobs are of its entries
+-- each write that was answered is a step of the stores, in the first epoch, where the log is sound and its jobs are of its entries
 pub record WritesAreSteps : Type 0 where
-  pub are : (m : Masters) (old new : Tables) (shard : ℕ) (asked : AskedWrite) → shard < m.shards → asked.log ≡ (old (m.name shard)).log
+  pub are : (m : Masters) (old new : Tables) (shard : ℕ) (asked : AskedWrite) → shard < m.shards → asked.epoch ≡ 0 → asked.log ≡ (old (m.name shard)).log
       → IsSoundOf asked.types shard asked.log → AreOfEntries (old (m.name shard)) → WriteIsStep m old new shard asked

@@ -21,16 +21,18 @@ use Rattle.shard_tables.specs.declared.refusal.StoreRefusal.{StoreRefusal}
 use Rattle.shard_tables.specs.declared.refusal.StoreRefusal.TheVariants.{KeeperFault, LogFull, ShardFull, StampFull, SeqReused, OutOfMemory}
 use Rattle.shard_tables.specs.declared.writes.Wrote.{Wrote}
 
--- a write that is asked of a log: by these types, with so many entries at most, under this origin
+-- a write that is asked of a log: by these types, with so many entries at most, in the shard's epoch, under this origin
 pub record AskedWrite : Type 0 where
   pub types : EdgeTypes
   pub most : ℕ
+  pub epoch : ℕ
   pub log : List Entry
   pub origin : Origin
   pub write : Write
 
-abbrev pub asked_write : EdgeTypes → ℕ → List Entry → Origin → Write → AskedWrite
-asked_write types most log origin write = record { types = types; most = most; log = log; origin = origin; write = write }
+-- the write that is asked of a log: by these types, with so many entries at most, in the shard's epoch, under this origin
+abbrev pub asked_write : EdgeTypes → ℕ → ℕ → List Entry → Origin → Write → AskedWrite
+asked_write types most epoch log origin write = record { types = types; most = most; epoch = epoch; log = log; origin = origin; write = write }
 
 -- the entry at the position has the origin of the write
 pub record StandsAs (asked : AskedWrite) (position : ℕ) (entry : Entry) : Type 0 where
@@ -43,24 +45,24 @@ pub record IsRetry (asked : AskedWrite) (entry : Entry) : Type 0 where
   pub stands : StandsAs asked position entry
   pub fits : FitsWrite entry asked.write
 
--- the entry of its origin stands at the position, and is one that the write could not have made
+-- the write's origin is that of another write's entry, at the position, which this write could not have made
 pub record IsReused (asked : AskedWrite) (position : ℕ) : Type 0 where
   pub entry : Entry
   pub stands : StandsAs asked position entry
   pub differs : ¬ FitsWrite entry asked.write
 
--- nothing is there to change
+-- the write is new, and finds nothing to change
 pub record FindsNothing (asked : AskedWrite) : Type 0 where
   pub new : IsNewOrigin asked.log asked.origin
-  pub nothing : forward_entry asked.types asked.log asked.origin asked.write ≡ None
+  pub nothing : forward_entry asked.types asked.epoch asked.log asked.origin asked.write ≡ None
 
--- the object that would be added has no serial
+-- the write is new, and the object that it would add has no serial; the one named is the last, 2^48 - 1
 pub record IsShardFull (asked : AskedWrite) (serial : ℕ) : Type 0 where
   pub new : IsNewOrigin asked.log asked.origin
   pub full : lacks_serial asked.log asked.write ≡ true
   pub serial_is : serial ≡ 281474976710655
 
--- a record at id1 has no next stamp
+-- the write is new, and a record at id1 that it would stamp has no next stamp; the number named is the last, 2^62 - 1
 pub record IsStampFull (asked : AskedWrite) (number : ℕ) : Type 0 where
   pub new : IsNewOrigin asked.log asked.origin
   pub full : lacks_stamp asked.log asked.write ≡ true
@@ -69,18 +71,18 @@ pub record IsStampFull (asked : AskedWrite) (number : ℕ) : Type 0 where
 -- the write is new, changes something, and has its serial and its stamps
 pub record IsNext (asked : AskedWrite) (entry : Entry) : Type 0 where
   pub new : IsNewOrigin asked.log asked.origin
-  pub forward : forward_entry asked.types asked.log asked.origin asked.write ≡ Some entry
+  pub forward : forward_entry asked.types asked.epoch asked.log asked.origin asked.write ≡ Some entry
   pub serial : lacks_serial asked.log asked.write ≡ false
   pub stamps : lacks_stamp asked.log asked.write ≡ false
 
--- its entry has no room
+-- the write has an entry to add, and the log no room for it; the count is the log's length
 pub record IsLogFull (asked : AskedWrite) (count : ℕ) : Type 0 where
   pub entry : Entry
   pub next : IsNext asked entry
   pub full : asked.most ≤ length asked.log
   pub count_is : count ≡ length asked.log
 
--- its entry has room
+-- the write adds the entry, for which the log has room
 pub record IsAdded (asked : AskedWrite) (entry : Entry) : Type 0 where
   pub next : IsNext asked entry
   pub room : length asked.log < asked.most

@@ -1,33 +1,39 @@
 //! Merges of what entries of other shards owe to this one.
-ghost use Rattle.std.specs.Prelude.{◌≡◌, ◌<◌, All, IfErr, IfOk, IfSome, None, false};
+ghost use Rattle.std.specs.Prelude.{◌≡◌, ◌<◌, IfErr, IfOk, None};
 ghost use Rattle.write_model.specs.MergeLaws.{MayBeMerged};
-ghost use Rattle.graph_model.specs.Records.{HasStamp};
-ghost use Rattle.graph_model.specs.Soundness.{IsSoundOf};
 ghost use Rattle.graph_model.specs.Told.{WhereTold};
-ghost use Rattle.shard_log.specs.View.{Grows, as_note, most_entries};
-ghost use Rattle.shard_tables.specs.Jobs.{IsOfMerges, MergesAs, made_merge};
-ghost use Rattle.shard_tables.specs.Stores.{IsStoreOf, store_with};
-ghost use Rattle.shard_tables.specs.Written.{LiesOn, StandsIn, TableGains, added_entry};
+ghost use Rattle.shard_tables.specs.Jobs.{made_merge};
+ghost use Rattle.shard_tables.specs.StoreCommits.{CanCommit, HasNoCommit};
+ghost use Rattle.shard_tables.specs.Stores.{IsStoreOf, length_of};
+ghost use Rattle.shard_tables.specs.WriteDone.{MergeDone, StoreGains, asked_merge_at};
 ghost use Rattle.shard_tables.specs.declared.store.StoreRole.TheVariants.{Master};
-ghost use Rattle.tao_base.specs.EdgeTypes.{EdgeTypes};
-ghost use Rattle.tao_keeper.specs.KeeperState.{CallsKeeper};
-ghost use Rattle.tao_keeper.specs.Given.{HaveSmallRecords};
-ghost use Rattle.tao_keeper.specs.Growing.{LogsGrow};
+ghost use Rattle.tao_keeper.specs.Given.{HaveSmallRecords, HaveSmallStamps};
 
 use super::refusal::StoreRefusal;
 use super::store::StoreNode;
 use super::writes::{Wrote, add_entry};
 use std::alloc::Global;
 use tao_base::{Entry, Kind, Origin, Touch, Touches};
-use tao_keeper::{Job, Keeper};
+use tao_keeper::{Commit, Job, Keeper};
 use write_touches::news_touches;
 
-/// The entry of a merge that follows so many entries.
-fn merge_of(length: u64, from: u16, position: u64, touches: Vec<Touch>) -> Entry
-    requires { length < most_entries }
-    ensures { result ≡ made_merge length from position touches.items }
+/// What a merge with these touches commits: its entry, where the log has room for it.
+fn merge_commit(
+    store: &StoreNode,
+    from: u16,
+    position: u64,
+    touches: Vec<Touch>,
+) -> Result<Commit, StoreRefusal>
+    requires master { store.now.role ≡ Master }
+    requires stamps { HaveSmallStamps touches.items }
+    ensures entry { IfOk result (λ commit. commit.entry ≡ made_merge (length_of store.now) from position touches.items) }
+    ensures job { IfOk result (λ commit. commit.job ≡ None) }
+    ensures can { IfOk result (CanCommit store.now) }
+    ensures room { IfOk result (λ _. length_of store.now < store.now.log_max) }
+    ensures refusals { IfErr result (HasNoCommit store.now) }
 {
-    Entry {
+    let length = store.room()?;
+    let entry = Entry {
         position: length + 1,
         kind: Kind::Merge,
         origin: Origin::Merge {
@@ -35,7 +41,8 @@ fn merge_of(length: u64, from: u16, position: u64, touches: Vec<Touch>) -> Entry
             position,
         },
         touches: Touches::of(touches),
-    }
+    };
+    Ok(Commit { entry, job: None })
 }
 
 impl StoreNode {
@@ -57,37 +64,16 @@ impl StoreNode {
         requires stamps { HaveSmallRecords job.now.edges }
         requires may { WhereTold M.TELLS
             (MayBeMerged self.old.name.shard ((M.state keeper.old).told self.old.name).log from job.now.position job.now.edges) }
-        ensures answer { WhereTold M.TELLS
-            (MergesAs self.old.log_max ((M.state keeper.old).told self.old.name).log from job.now.position job.now.edges result) }
-        ensures refusals { IfErr result IsOfMerges }
-        ensures new { IfOk result (λ wrote. wrote.retry ≡ false) }
-        ensures job { IfOk result (λ wrote. wrote.job ≡ None) }
-        ensures tables { WhereTold M.TELLS (TableGains (M.state keeper.old).told (M.state keeper.new).told self.old.name (added_entry result) None) }
-        ensures logs { LogsGrow M.TELLS (M.state keeper.old).told (M.state keeper.new).told }
-        ensures log { self.new ≡ store_with self.old (added_entry result) }
-        ensures grows { Grows self.old.view self.new.view }
-        ensures note { IfOk result (λ wrote. wrote.note ≡ as_note self.new.view) }
-        ensures stands { IfOk result (λ wrote. IfSome wrote.entry (StandsIn wrote.note)) }
-        ensures here { IfOk result (λ wrote. IfSome wrote.entry (LiesOn wrote.note self.old.name.shard)) }
-        ensures keeper { IsStoreOf M.TELLS (M.state keeper.new).told self.new }
-        ensures sound { WhereTold M.TELLS ((types : EdgeTypes) → IsSoundOf types self.old.name.shard ((M.state keeper.old).told self.old.name).log
-            → IsSoundOf types self.old.name.shard ((M.state keeper.new).told self.old.name).log) }
-        ensures done { WhereTold M.TELLS (IfOk result (λ _. All (HasStamp ((M.state keeper.new).told self.old.name).log) job.now.edges)) }
-        ensures calls { CallsKeeper StoreRefusal.KeeperFault (M.state keeper.old) (M.state keeper.new) result }
+        ensures done { MergeDone M.TELLS self.old.name (asked_merge_at (M.state keeper.old).told self.old from job.now)
+            (M.state keeper.old) (M.state keeper.new) result }
+        ensures store { StoreGains M.TELLS (M.state keeper.new).told self.old self.new result }
     {
         let note = self.note()?;
         let touches = news_touches(alloc, keeper, self.name(), job.edges.as_slice())?;
         if touches.is_empty() {
             return Ok(Wrote::nothing(note));
         }
-        let length = self.room()?;
-        let entry = merge_of(length, from, job.position, touches);
-        let added = add_entry(self, keeper, entry, None)?;
-        Ok(Wrote {
-            entry: Some(added.entry),
-            retry: false,
-            job: None,
-            note: self.renew(note),
-        })
+        let commit = merge_commit(self, from, job.position, touches)?;
+        add_entry(self, keeper, commit, note)
     }
 }

@@ -1,6 +1,7 @@
 //! A master store over the log that its keeper has, and what a store asks of that log.
 ghost use Rattle.std.specs.Prelude.{◌≡◌, ◌≤◌, IfErr, IfOk, IfSome, length};
 ghost use Rattle.graph_model.specs.Log.{entry_at};
+ghost use Rattle.graph_model.specs.Soundness.{IsSound};
 ghost use Rattle.graph_model.specs.Told.{WhereTold};
 ghost use Rattle.shard_tables.specs.Refusals.{IsOfReads};
 ghost use Rattle.shard_tables.specs.Stores.{IsStoreOf};
@@ -13,7 +14,7 @@ use super::refusal::StoreRefusal;
 use super::store::StoreNode;
 use shard_log::ShardLog;
 use std::alloc::Global;
-use tao_base::{Entry, StoreName};
+use tao_base::{Entry, OutOfMemory, StoreName};
 use tao_keeper::{KeepFail, Keeper, MOST_ENTRIES};
 
 /// The first entries of the keeper's log, so many. A keeper that gives no entry at one of these positions tells nothing:
@@ -60,6 +61,29 @@ pub fn whole_log<M: Keeper>(
 }
 
 impl StoreNode {
+    /// The master store of that name, in the first epoch, over a new shared log that begins with these entries, and is told or not.
+    /// The log may have `log_max` entries, at most 65,536.
+    pub fn over_log(
+        alloc: Global,
+        name: StoreName,
+        log: Vec<Entry>,
+        told: bool,
+        log_max: u64,
+    ) -> Result<StoreNode, OutOfMemory>
+        requires limit { log_max ≤ 65536 }
+        requires few { length log.items ≤ MOST_ENTRIES }
+        requires sound { WhereTold told (IsSound log.items) }
+        ensures named { IfOk result (λ store. store.name ≡ name) }
+        ensures limit { IfOk result (λ store. store.log_max ≡ log_max) }
+        ensures first { IfOk result (λ store. store.epoch ≡ 0) }
+        ensures master { IfOk result (λ store. store.role ≡ Master) }
+        ensures told { IfOk result (λ store. store.view.log.told ≡ told) }
+        ensures entries { IfOk result (λ store. store.view.entries ≡ log.items) }
+    {
+        let pen = ShardLog::make(alloc, log, told)?;
+        Ok(StoreNode::master(name, pen, log_max))
+    }
+
     /// The master store of that name, over a new shared log that begins with the entries that the keeper has under it. The
     /// log may have `log_max` entries, at most 65,536.
     ///
@@ -74,6 +98,7 @@ impl StoreNode {
         requires { log_max ≤ 65536 }
         ensures named { IfOk result (λ store. store.name ≡ name) }
         ensures limit { IfOk result (λ store. store.log_max ≡ log_max) }
+        ensures first { IfOk result (λ store. store.epoch ≡ 0) }
         ensures master { IfOk result (λ store. store.role ≡ Master) }
         ensures keeper { IfOk result (λ store. IsStoreOf M.TELLS (M.state keeper.new).told store) }
         ensures refused { IfErr result IsOfReads }
@@ -82,8 +107,8 @@ impl StoreNode {
         ensures calls { CallsKeeper StoreRefusal.KeeperFault (M.state keeper.old) (M.state keeper.new) result }
     {
         let log = whole_log(alloc, keeper, name)?;
-        let pen = ShardLog::make(alloc, log, M::TELLS)?;
-        Ok(StoreNode::master(name, pen, log_max))
+        let store = StoreNode::over_log(alloc, name, log, M::TELLS, log_max)?;
+        Ok(store)
     }
 
     /// How many entries the keeper's log has. `KeeperFault` comes only where the keeper's count of faults rose, and

@@ -1,8 +1,9 @@
 //! A store of one shard: its name, and what it holds of the shard's log.
-ghost use Rattle.std.specs.Prelude.{◌≡◌, ◌≤◌, ◌<◌, ◌↔◌, IfErr, IfOk, IsTrue, Some, length};
+ghost use Rattle.std.specs.Prelude.{◌≡◌, ◌≤◌, ◌<◌, ◌↔◌, IfErr, IfOk, IsTrue, OnErr, OnOk, Some, length};
 ghost use Rattle.graph_model.specs.Soundness.{CanFollow};
 ghost use Rattle.graph_model.specs.Told.{WhereTold};
-ghost use Rattle.shard_log.specs.View.{as_note, most_entries};
+ghost use Rattle.shard_log.specs.View.{Grows, as_note, most_entries};
+ghost use Rattle.shard_tables.specs.Slaves.{HasMet};
 ghost use Rattle.shard_tables.specs.StoreView.{Store};
 ghost use Rattle.shard_tables.specs.Stores.{IsFullFor, length_of, note_of, store_with};
 ghost use Rattle.shard_tables.specs.declared.store.StoreRole.TheVariants.{Master, Slave};
@@ -11,6 +12,7 @@ use super::refusal::StoreRefusal;
 use shard_log::{Note, Pen};
 use std::marker::Model;
 use tao_base::{Entry, OutOfMemory, StoreName};
+use write_touches::LAST_EPOCH;
 
 /// What a store is for its shard.
 #[derive(Clone, Copy, Debug, PartialEq, Eq)]
@@ -28,12 +30,13 @@ enum Held {
     Seen(Note),
 }
 
-/// A store of a shard: its name, how many entries its log may have, and the log's pen for the master, or a note of the
+/// A store of a shard: its name, how many entries its log may have, the epoch of its stamps, and the log's pen for the master, or a note of the
 /// log for a slave. What is stored lies with the keeper that each call is given.
 #[derive(Drop)]
 pub struct StoreNode {
     name: StoreName,
     log_max: u64,
+    epoch: u64,
     held: Held,
 }
 
@@ -45,7 +48,7 @@ impl Model for StoreNode {
 
     ghost view = { shown_store };
 
-    ghost invariant = { λ s. s.log_max ≤ 65536 };
+    ghost invariant = { λ s. (s.log_max ≤ 65536) × (s.epoch ≤ 1000) };
 }
 
 impl StoreNode {
@@ -53,11 +56,12 @@ impl StoreNode {
     /// memory.
     pub fn master(name: StoreName, pen: Pen, log_max: u64) -> StoreNode
         requires { log_max ≤ 65536 }
-        ensures { result ≡ record { name = name; log_max = log_max; role = Master; view = pen } }
+        ensures { result ≡ record { name = name; log_max = log_max; epoch = 0; role = Master; view = pen } }
     {
         StoreNode {
             name,
             log_max,
+            epoch: 0,
             held: Held::Whole(pen),
         }
     }
@@ -65,11 +69,12 @@ impl StoreNode {
     /// A slave store of that name, which has seen what the note has. Takes no memory.
     pub fn slave(name: StoreName, note: Note, log_max: u64) -> StoreNode
         requires { log_max ≤ 65536 }
-        ensures { result ≡ record { name = name; log_max = log_max; role = Slave; view = note } }
+        ensures { result ≡ record { name = name; log_max = log_max; epoch = 0; role = Slave; view = note } }
     {
         StoreNode {
             name,
             log_max,
+            epoch: 0,
             held: Held::Seen(note),
         }
     }
@@ -87,6 +92,14 @@ impl StoreNode {
         ensures few { result ≤ 65536 }
     {
         self.log_max
+    }
+
+    /// The epoch of the stamps that it gives: 0 where no store of its shard was ever promoted.
+    pub fn epoch(&self) -> u64
+        ensures epoch { result ≡ self.now.epoch }
+        ensures few { result ≤ LAST_EPOCH }
+    {
+        self.epoch
     }
 
     /// Whether the store makes the writes of its shard, or takes those of its master.
@@ -107,6 +120,36 @@ impl StoreNode {
         match &mut self.held {
             Held::Whole(pen) => pen.note(),
             Held::Seen(note) => note.split(),
+        }
+    }
+
+    /// The note sees all that the store has, and what it had seen begins that, or the other way round: with the master it
+    /// sees the whole log. Where that fails the note is as it was.
+    pub fn meet(&mut self, note: &mut Note) -> Result<(), OutOfMemory>
+        requires one_log { self.old.view.log ≡ note.old.log }
+        ensures same { self.new ≡ self.old }
+        ensures met { OnOk result (HasMet self.old note.old note.new) }
+        ensures grows { Grows note.old note.new }
+        ensures err { OnErr result (note.new ≡ note.old) }
+    {
+        match &mut self.held {
+            Held::Whole(pen) => pen.meet(note),
+            Held::Seen(seen) => {
+                let seen = seen.split()?;
+                note.meet(seen);
+                Ok(())
+            }
+        }
+    }
+
+    /// The slave has seen what this note has, in place of what it had seen. Takes no memory.
+    pub(crate) fn see(&mut self, note: Note)
+        requires slave { self.old.role ≡ Slave }
+        ensures { self.new ≡ record self.old { view = note } }
+    {
+        match &mut self.held {
+            Held::Whole(_) => unreachable!(),
+            Held::Seen(seen) => *seen = note,
         }
     }
 

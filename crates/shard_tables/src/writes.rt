@@ -1,20 +1,22 @@
 //! The writes of clients to a store.
-ghost use Rattle.std.specs.Prelude.{◌≡◌, ◌<◌, ℕ, IfOk, IfSome, IsTrue, MatchResult, None, Some, false, length};
+ghost use Rattle.std.specs.Prelude.{◌≡◌, ◌<◌, IfErr, IfOk, IsTrue, MatchResult, None, Some, false};
 ghost use Rattle.graph_model.specs.Soundness.{CanFollow, IsSoundOf, is_client, IsNewOrigin};
+ghost use Rattle.graph_model.specs.Log.{entry_at};
 ghost use Rattle.graph_model.specs.Told.{WhereTold};
+ghost use Rattle.tao_base.specs.EdgeTypes.{InversesMatch};
 ghost use Rattle.tao_base.specs.Writes.{ChangesType, write_shard};
 ghost use Rattle.write_model.specs.Writes.{FitsWrite};
-ghost use Rattle.shard_log.specs.View.{Grows, as_note, most_entries};
-ghost use Rattle.shard_tables.specs.Jobs.{FindsJob, OpensJob, job_with};
-ghost use Rattle.shard_tables.specs.Stores.{IsStoreOf, store_with};
-ghost use Rattle.shard_tables.specs.Written.{HasEntry, LiesOn, StandsIn, TableGains, WriteAnswers, added_entry, asked_write, made_entry};
+ghost use Rattle.shard_log.specs.View.{as_note, most_entries};
+ghost use Rattle.shard_tables.specs.StoreCommits.{CanCommit, HasEntryAt, HasNoCommit, IsOfCommit, IsOtherWrite, IsRetried, OwesJob};
+ghost use Rattle.shard_tables.specs.Refusals.{IsOfReads};
+ghost use Rattle.shard_tables.specs.Stores.{IsStoreOf, length_of, note_of};
+ghost use Rattle.shard_tables.specs.WriteDone.{StoreGains, WriteDone, asked_at};
+ghost use Rattle.shard_tables.specs.Written.{made_entry};
 ghost use Rattle.shard_tables.specs.declared.store.StoreRole.TheVariants.{Master};
-ghost use Rattle.tao_base.specs.EdgeTypes.{EdgeTypes, InversesMatch};
-ghost use Rattle.tao_base.specs.declared.entry.Origin.{Origin};
-ghost use Rattle.tao_keeper.specs.KeeperState.{CallsKeeper, KeepsTables};
-ghost use Rattle.tao_keeper.specs.Given.{HaveSmallStamps, IsGivenJob};
+ghost use Rattle.tao_keeper.specs.Given.{HaveSmallStamps};
 ghost use Rattle.tao_keeper.specs.Growing.{LogsGrow};
-ghost use Rattle.tao_keeper.specs.Table.{Changes, StandsAt, Stays, after_commit};
+ghost use Rattle.tao_keeper.specs.KeeperState.{CallsKeeper, KeepsTables};
+ghost use Rattle.tao_keeper.specs.Table.{Changes, StandsAt, after_commit};
 ghost use Rattle.tao_schema.specs.Schema.{types_of};
 
 use super::refusal::StoreRefusal;
@@ -41,6 +43,13 @@ pub struct Wrote {
     pub note: Note,
 }
 
+/// What a write begins with.
+#[derive(Drop)]
+struct Begun {
+    note: Note,
+    position: Option<u64>,
+}
+
 impl Wrote {
     /// Nothing was there to write.
     pub(crate) fn nothing(note: Note) -> Wrote
@@ -59,7 +68,7 @@ impl Wrote {
 }
 
 impl StoreNode {
-    /// Makes the write of a client at the shard's master: adds its entry to the log, in one transaction. A write whose
+    /// Makes the write of a client at the shard's master, in the store's epoch: adds its entry to the log, in one transaction. A write whose
     /// origin stands in the log is answered with that entry, and one that finds nothing to change with none; neither adds
     /// anything. A refusal changes no table, and not the log. An entry that is answered is one that the write could have
     /// made, and an object's addition has one, also over a keeper that tells nothing.
@@ -87,31 +96,56 @@ impl StoreNode {
         requires here { write_shard write.now ≡ self.old.name.shard }
         requires changes { ChangesType (types_of schema.now) write.now }
         requires sound { WhereTold M.TELLS (IsSoundOf (types_of schema.now) self.old.name.shard ((M.state keeper.old).told self.old.name).log) }
-        ensures answer { WhereTold M.TELLS (WriteAnswers
-            (asked_write (types_of schema.now) self.old.log_max ((M.state keeper.old).told self.old.name).log origin write.now) result) }
-        ensures fits { IfOk result (λ wrote. IfSome wrote.entry (λ e. FitsWrite e write.now)) }
-        ensures entry { IfOk result (λ wrote. HasEntry write.now wrote.entry) }
-        ensures job { IfOk result (λ wrote. OpensJob (types_of schema.now) wrote.retry wrote.entry wrote.job) }
-        ensures found { WhereTold M.TELLS (IfOk result (λ wrote. FindsJob ((M.state keeper.old).told self.old.name) wrote.retry wrote.entry wrote.job)) }
-        ensures given { IfOk result (λ wrote. IfSome wrote.job IsGivenJob) }
-        ensures tables { WhereTold M.TELLS (TableGains (M.state keeper.old).told (M.state keeper.new).told self.old.name
-            (added_entry result) (job_with (types_of schema.now) (added_entry result))) }
-        ensures logs { LogsGrow M.TELLS (M.state keeper.old).told (M.state keeper.new).told }
-        ensures log { self.new ≡ store_with self.old (added_entry result) }
-        ensures grows { Grows self.old.view self.new.view }
-        ensures note { IfOk result (λ wrote. wrote.note ≡ as_note self.new.view) }
-        ensures stands { IfOk result (λ wrote. IfSome wrote.entry (StandsIn wrote.note)) }
-        ensures here { IfOk result (λ wrote. IfSome wrote.entry (LiesOn wrote.note self.old.name.shard)) }
-        ensures keeper { IsStoreOf M.TELLS (M.state keeper.new).told self.new }
-        ensures sound { WhereTold M.TELLS (IsSoundOf (types_of schema.now) self.old.name.shard ((M.state keeper.new).told self.old.name).log) }
+        ensures done { WriteDone M.TELLS self.old.name (asked_at (types_of schema.now) (M.state keeper.old).told self.old origin write.now)
+            (M.state keeper.old) (M.state keeper.new) result }
+        ensures store { StoreGains M.TELLS (M.state keeper.new).told self.old self.new result }
+    {
+        let begun = self.begin(keeper, origin)?;
+        match begun.position {
+            Some(position) => write_again(keeper, self.name(), position, write, begun.note),
+            None => write_first(alloc, self, keeper, schema, origin, write, begun.note),
+        }
+    }
+
+    /// A note of all that the store has, and the position of the origin's entry, where one stands in its log.
+    fn begin<M: Keeper>(&mut self, keeper: &mut M, origin: Origin) -> Result<Begun, StoreRefusal>
+        ensures same { self.new ≡ self.old }
+        ensures begun { IfOk result (λ begun. begun.note ≡ note_of self.old) }
+        ensures answer { WhereTold M.TELLS (IfOk result (λ begun. StandsAt ((M.state keeper.old).told self.old.name).log origin begun.position)) }
+        ensures refusals { IfErr result IsOfReads }
+        ensures stays { KeepsTables M.TELLS (M.state keeper.old) (M.state keeper.new) }
         ensures calls { CallsKeeper StoreRefusal.KeeperFault (M.state keeper.old) (M.state keeper.new) result }
     {
         let note = self.note()?;
-        let found = keeper.origin(self.name(), origin)?;
-        match found {
-            Some(position) => write_again(keeper, self.name(), position, write, note),
-            None => write_first(alloc, self, keeper, schema, origin, write, note),
+        let position = keeper.origin(self.name(), origin)?;
+        Ok(Begun { note, position })
+    }
+}
+
+/// The entry at the position, where it is one that the write could have made.
+fn entry_for<M: Keeper>(
+    keeper: &mut M,
+    at: StoreName,
+    position: u64,
+    write: &Write,
+) -> Result<Entry, StoreRefusal>
+    ensures answer { WhereTold M.TELLS (MatchResult result (λ entry. entry_at ((M.state keeper.old).told at).log position ≡ Some entry)
+        (IsOtherWrite ((M.state keeper.old).told at).log position write.now)) }
+    ensures fits { IfOk result (λ entry. FitsWrite entry write.now) }
+    ensures stays { KeepsTables M.TELLS (M.state keeper.old) (M.state keeper.new) }
+    ensures calls { CallsKeeper StoreRefusal.KeeperFault (M.state keeper.old) (M.state keeper.new) result }
+{
+    let found = keeper.entry(at, position)?;
+    match found {
+        Some(entry) => {
+            if fits(&entry, write) {
+                Ok(entry)
+            } else {
+                Err(StoreRefusal::SeqReused { position })
+            }
         }
+        // Not of a keeper that tells its tables: it knows the origin, and not the entry.
+        None => Err(StoreRefusal::SeqReused { position }),
     }
 }
 
@@ -123,38 +157,20 @@ fn write_again<M: Keeper>(
     write: &Write,
     note: Note,
 ) -> Result<Wrote, StoreRefusal>
-    ensures answer { WhereTold M.TELLS ((types : EdgeTypes) (most : ℕ) (origin : Origin)
-        → StandsAt ((M.state keeper.old).told at).log origin (Some position)
-        → WriteAnswers (asked_write types most ((M.state keeper.old).told at).log origin write.now) result) }
-    ensures fits { IfOk result (λ wrote. IfSome wrote.entry (λ e. FitsWrite e write.now)) }
-    ensures entry { IfOk result (λ wrote. HasEntry write.now wrote.entry) }
-    ensures nothing { added_entry result ≡ None }
-    ensures retried { IfOk result (λ wrote. IsTrue wrote.retry) }
-    ensures found { WhereTold M.TELLS (IfOk result (λ wrote. FindsJob ((M.state keeper.old).told at) wrote.retry wrote.entry wrote.job)) }
-    ensures given { IfOk result (λ wrote. IfSome wrote.job IsGivenJob) }
-    ensures note { IfOk result (λ wrote. wrote.note ≡ note) }
+    ensures answer { WhereTold M.TELLS (MatchResult result (HasEntryAt ((M.state keeper.old).told at) position)
+        (IsOtherWrite ((M.state keeper.old).told at).log position write.now)) }
+    ensures retried { IfOk result (IsRetried write.now note) }
     ensures stays { KeepsTables M.TELLS (M.state keeper.old) (M.state keeper.new) }
-    ensures logs { LogsGrow M.TELLS (M.state keeper.old).told (M.state keeper.new).told }
     ensures calls { CallsKeeper StoreRefusal.KeeperFault (M.state keeper.old) (M.state keeper.new) result }
 {
-    let found = keeper.entry(at, position)?;
-    match found {
-        Some(entry) => {
-            if fits(&entry, write) {
-                let job = keeper.job(at, position)?;
-                Ok(Wrote {
-                    entry: Some(entry),
-                    retry: true,
-                    job,
-                    note,
-                })
-            } else {
-                Err(StoreRefusal::SeqReused { position })
-            }
-        }
-        // Not of a keeper that tells its tables: it knows the origin, and not the entry.
-        None => Err(StoreRefusal::SeqReused { position }),
-    }
+    let entry = entry_for(keeper, at, position, write)?;
+    let job = keeper.job(at, position)?;
+    Ok(Wrote {
+        entry: Some(entry),
+        retry: true,
+        job,
+        note,
+    })
 }
 
 /// Each type of a schema is the inverse of its inverse, as the schema says with each inverse that it gives.
@@ -164,33 +180,35 @@ pub fn inverses_match(schema: &Schema)
     let _inverse = schema.inverse(AType(0));
 }
 
-/// Adds an entry to the keeper's log, with its job, and then to the master's, or to neither.
+/// Adds what is committed to the keeper's log, with its job, and then to the master's log, or to neither. The note then sees
+/// the whole log.
 pub fn add_entry<M: Keeper>(
     store: &mut StoreNode,
     keeper: &mut M,
-    entry: Entry,
-    job: Option<Job>,
-) -> Result<Commit, KeepFail>
-    requires job { IfSome job (λ j. j.position ≡ entry.position) }
-    requires given { IfSome job IsGivenJob }
+    commit: Commit,
+    note: Note,
+) -> Result<Wrote, StoreRefusal>
     requires master { store.old.role ≡ Master }
+    requires note { note ≡ as_note store.old.view }
     requires keeper { IsStoreOf M.TELLS (M.state keeper.old).told store.old }
-    requires stamps { HaveSmallStamps entry.touches }
-    requires room { length store.old.view.entries < most_entries }
-    requires follows { WhereTold M.TELLS (CanFollow ((M.state keeper.old).told store.old.name).log entry) }
-    ensures entry { IfOk result (λ added. added.entry ≡ entry) }
-    ensures opened { IfOk result (λ added. added.job ≡ job) }
-    ensures log { MatchResult result (λ _. store.new ≡ store_with store.old (Some entry)) (λ _. store.new ≡ store.old) }
+    requires can { CanCommit store.old commit }
+    requires follows { WhereTold M.TELLS (CanFollow ((M.state keeper.old).told store.old.name).log commit.entry) }
+    ensures wrote { IfOk result (IsOfCommit commit) }
+    ensures refusals { IfErr result IsOfReads }
+    ensures store { StoreGains M.TELLS (M.state keeper.new).told store.old store.new result }
     ensures tables { WhereTold M.TELLS (Changes result (M.state keeper.old).told (M.state keeper.new).told store.old.name
-        (after_commit ((M.state keeper.old).told store.old.name) entry job)) }
+        (after_commit ((M.state keeper.old).told store.old.name) commit.entry commit.job)) }
     ensures logs { LogsGrow M.TELLS (M.state keeper.old).told (M.state keeper.new).told }
-    ensures keeper { IsStoreOf M.TELLS (M.state keeper.new).told store.new }
-    ensures calls { CallsKeeper KeepFail.Failed (M.state keeper.old) (M.state keeper.new) result }
+    ensures calls { CallsKeeper StoreRefusal.KeeperFault (M.state keeper.old) (M.state keeper.new) result }
 {
-    let commit = Commit { entry, job };
     keeper.commit(store.name(), &commit)?;
     store.append(&commit.entry);
-    Ok(commit)
+    Ok(Wrote {
+        entry: Some(commit.entry),
+        retry: false,
+        job: commit.job,
+        note: store.renew(note),
+    })
 }
 
 /// The entry of a write that follows so many entries.
@@ -204,6 +222,29 @@ fn entry_of(length: u64, origin: Origin, write: &Write, touches: Vec<Touch>) -> 
         origin,
         touches: Touches::of(touches),
     }
+}
+
+/// What a write with these touches commits: its entry, where the log has room for it, with the job that it owes.
+fn write_commit(
+    alloc: Global,
+    store: &StoreNode,
+    schema: &Schema,
+    origin: Origin,
+    write: &Write,
+    touches: Vec<Touch>,
+) -> Result<Commit, StoreRefusal>
+    requires master { store.now.role ≡ Master }
+    requires stamps { HaveSmallStamps touches.items }
+    ensures entry { IfOk result (λ commit. commit.entry ≡ made_entry (length_of store.now) origin write.now touches.items) }
+    ensures job { IfOk result (OwesJob (types_of schema.now)) }
+    ensures can { IfOk result (CanCommit store.now) }
+    ensures room { IfOk result (λ _. length_of store.now < store.now.log_max) }
+    ensures refusals { IfErr result (HasNoCommit store.now) }
+{
+    let length = store.room()?;
+    let entry = entry_of(length, origin, write, touches);
+    let job = far_job(alloc, schema, &entry)?;
+    Ok(Commit { entry, job })
 }
 
 /// Makes a write whose origin doesn't stand in the log. The note has seen the whole log before.
@@ -223,37 +264,15 @@ fn write_first<M: Keeper>(
     requires changes { ChangesType (types_of schema.now) write.now }
     requires sound { WhereTold M.TELLS (IsSoundOf (types_of schema.now) store.old.name.shard ((M.state keeper.old).told store.old.name).log) }
     requires new { WhereTold M.TELLS (IsNewOrigin ((M.state keeper.old).told store.old.name).log origin) }
-    ensures answer { WhereTold M.TELLS (WriteAnswers
-        (asked_write (types_of schema.now) store.old.log_max ((M.state keeper.old).told store.old.name).log origin write.now) result) }
-    ensures fits { IfOk result (λ wrote. IfSome wrote.entry (λ e. FitsWrite e write.now)) }
-    ensures entry { IfOk result (λ wrote. HasEntry write.now wrote.entry) }
-    ensures job { IfOk result (λ wrote. OpensJob (types_of schema.now) wrote.retry wrote.entry wrote.job) }
-    ensures new { IfOk result (λ wrote. wrote.retry ≡ false) }
-    ensures given { IfOk result (λ wrote. IfSome wrote.job IsGivenJob) }
-    ensures tables { WhereTold M.TELLS (TableGains (M.state keeper.old).told (M.state keeper.new).told store.old.name
-        (added_entry result) (job_with (types_of schema.now) (added_entry result))) }
-    ensures logs { LogsGrow M.TELLS (M.state keeper.old).told (M.state keeper.new).told }
-    ensures log { store.new ≡ store_with store.old (added_entry result) }
-    ensures note { IfOk result (λ wrote. wrote.note ≡ as_note store.new.view) }
-    ensures stands { IfOk result (λ wrote. IfSome wrote.entry (StandsIn wrote.note)) }
-    ensures here { IfOk result (λ wrote. IfSome wrote.entry (LiesOn wrote.note store.old.name.shard)) }
-    ensures keeper { IsStoreOf M.TELLS (M.state keeper.new).told store.new }
-    ensures sound { WhereTold M.TELLS (IsSoundOf (types_of schema.now) store.old.name.shard ((M.state keeper.new).told store.old.name).log) }
-    ensures calls { CallsKeeper StoreRefusal.KeeperFault (M.state keeper.old) (M.state keeper.new) result }
+    ensures done { WriteDone M.TELLS store.old.name (asked_at (types_of schema.now) (M.state keeper.old).told store.old origin write.now)
+        (M.state keeper.old) (M.state keeper.new) result }
+    ensures store { StoreGains M.TELLS (M.state keeper.new).told store.old store.new result }
 {
-    let touches = touches_of(alloc, keeper, store.name(), schema, write)?;
+    inverses_match(schema);
+    let touches = touches_of(alloc, keeper, store.name(), schema, store.epoch(), write)?;
     if touches.is_empty() {
         return Ok(Wrote::nothing(note));
     }
-    let length = store.room()?;
-    let entry = entry_of(length, origin, write, touches);
-    inverses_match(schema);
-    let job = far_job(alloc, schema, &entry)?;
-    let added = add_entry(store, keeper, entry, job)?;
-    Ok(Wrote {
-        entry: Some(added.entry),
-        retry: false,
-        job: added.job,
-        note: store.renew(note),
-    })
+    let commit = write_commit(alloc, store, schema, origin, write, touches)?;
+    add_entry(store, keeper, commit, note)
 }

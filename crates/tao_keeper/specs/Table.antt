@@ -19,6 +19,7 @@ pub record Table : Type 0 where
   pub jobs : Jobs
   pub line : Option (List ℕ)
 
+-- the tables of all stores, each under the name of its store
 abbrev pub Tables : Type 0
 Tables = StoreName → Table
 
@@ -39,7 +40,7 @@ pub record Becomes (old new : Tables) (at : StoreName) (table : Table) : Type 0 
   pub here : new at ≡ table
   pub others : (s : StoreName) → s ≢ at → new s ≡ old s
 
--- so where the call succeeds, and an error changes nothing
+-- one store's table becomes this where the call succeeds, and a call that fails changes nothing
 abbrev pub Changes : {T E : Type 0} → Result T E → Tables → Tables → StoreName → Table → Type 0
 Changes result old new at table = MatchResult result (λ _. Becomes old new at table) (λ _. Stays old new)
 
@@ -47,11 +48,12 @@ Changes result old new at table = MatchResult result (λ _. Becomes old new at t
 abbrev pub first_line : Table → List ℕ → List ℕ
 first_line table line = unwrap_or table.line line
 
--- the store is ready where that is the same line
+-- a store is ready where it is opened with the line of its first opening, and else answers that it has another line
 abbrev pub OpensAs : Opened → Table → List ℕ → Type 0
 OpensAs Ready table line = first_line table line ≡ line
 OpensAs OtherLine table line = first_line table line ≢ line
 
+-- the table after its store was opened with a line: the line of the first opening stays
 abbrev pub after_open : Table → List ℕ → Table
 after_open table line = record table { line = Some (first_line table line) }
 
@@ -69,9 +71,11 @@ abbrev pub job_from : ℕ → List EdgeUpdate → Option Job
 job_from position [] = None
 job_from position (u ∷ us) = Some (record { position = position; edges = u ∷ us })
 
+-- the table after an entry was committed, with the job that the entry opens, or none
 abbrev pub after_commit : Table → Entry → Option Job → Table
 after_commit table entry job = record table { log = table.log ++ entry ∷ []; jobs = with_new_job table.jobs job }
 
+-- the table after the open job of a position was ended
 abbrev pub after_end : Table → ℕ → Table
 after_end table position = record table { jobs = with_job table.jobs position None }
 

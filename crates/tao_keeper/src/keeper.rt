@@ -1,3 +1,4 @@
+//! What a keeper is: the calls on the tables of the stores, and what they answer and change.
 ghost use Rattle.std.specs.Prelude.{◌≡◌, ◌≤◌, ◌<◌, Bool, length, take, drop, IfOk, IfSome};
 ghost use Rattle.graph_model.specs.Edges.{edge_list, edge_record, number_of};
 ghost use Rattle.graph_model.specs.Log.{object, version, entry_at, additions};

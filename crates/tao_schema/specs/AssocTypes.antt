@@ -10,6 +10,7 @@ use Rattle.tao_schema.specs.declared.lines.AssocLine.{AssocLine}
 use Rattle.tao_schema.specs.declared.refusal.SchemaField.TheVariants.{Assocs}
 use Rattle.tao_schema.specs.declared.refusal.SchemaRefusal.{SchemaRefusal}
 
+-- the names of the association types, in the order of their lines
 abbrev pub names_of : List AssocLine → List (List ℕ)
 names_of lines = map (λ line. line.name) lines
 
@@ -34,6 +35,7 @@ abbrev pub bound_in : Option AssocLine → ℕ
 bound_in (Some line) = line.bound
 bound_in None = 6000
 
+-- the bound of the type at a place, 6,000 where no line stands there
 abbrev pub bound_at : List AssocLine → ℕ → ℕ
 bound_at lines place = bound_in (slice_get lines place)
 
@@ -55,5 +57,6 @@ abbrev pub keeps_assoc_rules : List AssocLine → ℕ → AssocLine → Bool
 keeps_assoc_rules lines place line = is_name line.name && option_eq nat_eq (place_of (names_of lines) line.name) (Some place)
     && keeps_inverse_rule lines place line.inverse && nat_le 1 line.bound && nat_le line.bound 6000
 
+-- the lines themselves, where there are 1 to 64 and each keeps the rules of an association type; else the refusal
 abbrev pub assocs_of : List AssocLine → Result (List AssocLine) SchemaRefusal
 assocs_of lines = unless_broken Assocs lines (broken (keeps_assoc_rules lines) lines)

@@ -12,6 +12,7 @@ use Rattle.tao_schema.specs.declared.refusal.SchemaRefusal.{SchemaRefusal}
 abbrev pub keeps_object_rules : List (List ℕ) → ℕ → List ℕ → Bool
 keeps_object_rules names place name = is_name name && option_eq nat_eq (place_of names name) (Some place)
 
+-- the names themselves, where there are 1 to 64 and each keeps the rules of an object type; else the refusal
 abbrev pub objects_of : List (List ℕ) → Result (List (List ℕ)) SchemaRefusal
 objects_of names = unless_broken Objects names (broken (keeps_object_rules names) names)
 

@@ -3,6 +3,13 @@
 //!
 //! Contracts see the object types as the list of their names, the association types as the list of
 //! the lines that they were read from, and a schema as these two.
+//!
+//! What it promises. A schema is read exactly where its lists keep the rules, else refused at the first place
+//! that breaks one; the inverse of the inverse is the type itself; bounds are 1 to 6,000; names are found exactly
+//! where they stand, by a map.
+//!
+//! The contracts that say so: `Schema::read`, `Schema::inverse`, `Schema::bound`, `Schema::atype`,
+//! `Schema::otype`, `Schema::otype_name`.
 #![tactic(auto)]
 
 pub mod assocs;

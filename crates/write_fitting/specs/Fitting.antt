@@ -15,10 +15,11 @@ use Rattle.tao_base.specs.declared.id.Key.TheVariants.{Obj, List as Assocs}
 use Rattle.tao_base.specs.declared.write.Write.{Write}
 use Rattle.tao_base.specs.declared.write.Write.TheVariants.{ObjAdd, ObjUpdate, ObjDelete, AssocAdd, AssocDelete, AssocChangeType}
 
--- the same key with the same value
+-- whether two pairs have the same key with the same value
 abbrev pub same_pair : Pair → Pair → Bool
 same_pair p q = bytes_eq p.key q.key && bytes_eq p.value q.value
 
+-- whether two data have the same pairs in the same order
 abbrev pub same_data : List Pair → List Pair → Bool
 same_data ps qs = pointwise same_pair ps qs
 

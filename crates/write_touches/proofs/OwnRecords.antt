@@ -16,38 +16,38 @@ use Rattle.write_model.specs.Writes.{next_stamp, own_updates}
 use Rattle.tao_keeper.specs.Table.{Table}
 use Rattle.write_touches.specs.Edges.{cut_over, move_over, stamp_after}
 
-cut_same : (log : List Entry) (id1 : Id) (atype : AType) (id2 : Id) (old : Option EdgeState) → old ≡ edge_record log id1 atype id2
-    → cut_over id1 atype id2 old ≡ cut_where_live log id1 atype id2 old
-cut_same log id1 atype id2 (Some (Live time payload stamp)) e = ap (λ o. (id1, atype, id2, Cut (stamp_after id1 o)) ∷ []) e
-cut_same log id1 atype id2 (Some (Cut stamp)) e = refl
-cut_same log id1 atype id2 None e = refl
+cut_same : (epoch : ℕ) (log : List Entry) (id1 : Id) (atype : AType) (id2 : Id) (old : Option EdgeState) → old ≡ edge_record log id1 atype id2
+    → cut_over epoch id1 atype id2 old ≡ cut_where_live epoch log id1 atype id2 old
+cut_same epoch log id1 atype id2 (Some (Live time payload stamp)) e = ap (λ o. (id1, atype, id2, Cut (stamp_after epoch id1 o)) ∷ []) e
+cut_same epoch log id1 atype id2 (Some (Cut stamp)) e = refl
+cut_same epoch log id1 atype id2 None e = refl
 
-move_same : (log : List Entry) (id1 : Id) (atype : AType) (id2 : Id) (newtype : AType) (old there : Option EdgeState)
+move_same : (epoch : ℕ) (log : List Entry) (id1 : Id) (atype : AType) (id2 : Id) (newtype : AType) (old there : Option EdgeState)
     → old ≡ edge_record log id1 atype id2 → there ≡ edge_record log id1 newtype id2
-    → move_over id1 atype id2 newtype old there ≡ move_where_live log id1 atype id2 newtype old
-move_same log id1 atype id2 newtype (Some (Live time payload stamp)) there e f =
-    ap (λ o. (id1, atype, id2, Cut (stamp_after id1 o)) ∷ (id1, newtype, id2, Live time payload (stamp_after id1 there)) ∷ []) e
-    ∙ ap (λ o. (id1, atype, id2, Cut (next_stamp log id1 atype id2)) ∷ (id1, newtype, id2, Live time payload (stamp_after id1 o)) ∷ []) f
-move_same log id1 atype id2 newtype (Some (Cut stamp)) there e f = refl
-move_same log id1 atype id2 newtype None there e f = refl
+    → move_over epoch id1 atype id2 newtype old there ≡ move_where_live epoch log id1 atype id2 newtype old
+move_same epoch log id1 atype id2 newtype (Some (Live time payload stamp)) there e f =
+    ap (λ o. (id1, atype, id2, Cut (stamp_after epoch id1 o)) ∷ (id1, newtype, id2, Live time payload (stamp_after epoch id1 there)) ∷ []) e
+    ∙ ap (λ o. (id1, atype, id2, Cut (next_stamp epoch log id1 atype id2)) ∷ (id1, newtype, id2, Live time payload (stamp_after epoch id1 o)) ∷ []) f
+move_same epoch log id1 atype id2 newtype (Some (Cut stamp)) there e f = refl
+move_same epoch log id1 atype id2 newtype None there e f = refl
 
-pub set_is : (log : List Entry) (write : Write) (id1 : Id) (atype : AType) (id2 : Id) (time : ℕ) (payload : List Pair) (old : Option EdgeState)
+pub set_is : (epoch : ℕ) (log : List Entry) (write : Write) (id1 : Id) (atype : AType) (id2 : Id) (time : ℕ) (payload : List Pair) (old : Option EdgeState)
     (us : List EdgeUpdate)
     → write ≡ AssocAdd id1 atype id2 time payload → old ≡ edge_record log id1 atype id2
-    → us ≡ (id1, atype, id2, Live time payload (stamp_after id1 old)) ∷ [] → us ≡ own_updates log write
-set_is log write id1 atype id2 time payload old us is e h =
-    h ∙ ap (λ o. (id1, atype, id2, Live time payload (stamp_after id1 o)) ∷ []) e ∙ ap (own_updates log) (sym is)
+    → us ≡ (id1, atype, id2, Live time payload (stamp_after epoch id1 old)) ∷ [] → us ≡ own_updates epoch log write
+set_is epoch log write id1 atype id2 time payload old us is e h =
+    h ∙ ap (λ o. (id1, atype, id2, Live time payload (stamp_after epoch id1 o)) ∷ []) e ∙ ap (own_updates epoch log) (sym is)
 
-pub cut_is : (log : List Entry) (write : Write) (id1 : Id) (atype : AType) (id2 : Id) (old : Option EdgeState) (us : List EdgeUpdate)
-    → write ≡ AssocDelete id1 atype id2 → old ≡ edge_record log id1 atype id2 → us ≡ cut_over id1 atype id2 old → us ≡ own_updates log write
-cut_is log write id1 atype id2 old us is e h =
-    h ∙ cut_same log id1 atype id2 old e ∙ ap (cut_where_live log id1 atype id2) e ∙ ap (own_updates log) (sym is)
+pub cut_is : (epoch : ℕ) (log : List Entry) (write : Write) (id1 : Id) (atype : AType) (id2 : Id) (old : Option EdgeState) (us : List EdgeUpdate)
+    → write ≡ AssocDelete id1 atype id2 → old ≡ edge_record log id1 atype id2 → us ≡ cut_over epoch id1 atype id2 old → us ≡ own_updates epoch log write
+cut_is epoch log write id1 atype id2 old us is e h =
+    h ∙ cut_same epoch log id1 atype id2 old e ∙ ap (cut_where_live epoch log id1 atype id2) e ∙ ap (own_updates epoch log) (sym is)
 
 -- the second record is asked of tables that are still the same
-pub move_is : (old_tables new_tables : Table) (write : Write) (id1 : Id) (atype : AType) (id2 : Id) (newtype : AType) (old there : Option EdgeState)
+pub move_is : (epoch : ℕ) (old_tables new_tables : Table) (write : Write) (id1 : Id) (atype : AType) (id2 : Id) (newtype : AType) (old there : Option EdgeState)
     (us : List EdgeUpdate)
     → write ≡ AssocChangeType id1 atype id2 newtype → new_tables ≡ old_tables → old ≡ edge_record old_tables.log id1 atype id2
-    → there ≡ edge_record new_tables.log id1 newtype id2 → us ≡ move_over id1 atype id2 newtype old there → us ≡ own_updates old_tables.log write
-move_is old_tables new_tables write id1 atype id2 newtype old there us is stays e f h =
-    h ∙ move_same old_tables.log id1 atype id2 newtype old there e (f ∙ ap (λ t. edge_record t.log id1 newtype id2) stays)
-    ∙ ap (move_where_live old_tables.log id1 atype id2 newtype) e ∙ ap (own_updates old_tables.log) (sym is)
+    → there ≡ edge_record new_tables.log id1 newtype id2 → us ≡ move_over epoch id1 atype id2 newtype old there → us ≡ own_updates epoch old_tables.log write
+move_is epoch old_tables new_tables write id1 atype id2 newtype old there us is stays e f h =
+    h ∙ move_same epoch old_tables.log id1 atype id2 newtype old there e (f ∙ ap (λ t. edge_record t.log id1 newtype id2) stays)
+    ∙ ap (move_where_live epoch old_tables.log id1 atype id2 newtype) e ∙ ap (own_updates epoch old_tables.log) (sym is)

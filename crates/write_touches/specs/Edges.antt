@@ -1,5 +1,5 @@
 -- The records that a write gives at id1, over the records that stand there.
-use Rattle.std.specs.Prelude.{ℕ, ◌≡◌, ◌+◌, ◌<◌, ◌≤◌, Bool, List, [], ◌∷◌, All, Option, Some, None, if◌then◌else◌, ◌==◌, ⊤}
+use Rattle.std.specs.Prelude.{ℕ, ◌≡◌, ◌+◌, ◌<◌, ◌≤◌, Bool, List, [], ◌∷◌, All, Option, Some, None, if◌then◌else◌, max, ◌==◌, ⊤}
 use Rattle.std.specs.List.{AllByRecursion}
 use Rattle.tao_base.specs.Ids.{shard_of}
 use Rattle.tao_base.specs.Stamps.{stamp_of}
@@ -16,46 +16,47 @@ use Rattle.tao_base.specs.declared.write.Write.TheVariants.{ObjAdd, ObjUpdate, O
 use Rattle.graph_model.specs.Edges.{live_time, number_of}
 use Rattle.graph_model.specs.Records.{is_news}
 use Rattle.graph_model.specs.Soundness.{EdgeUpdate}
-use Rattle.write_model.specs.Writes.{change_to, edge_touch, touch_of}
+use Rattle.write_model.specs.Writes.{change_to, edge_touch, epoch_base, touch_of}
 
--- the stamp after that of the record
-abbrev pub stamp_after : Id → Option EdgeState → Stamp
-stamp_after id1 old = record { number = number_of old + 1; shard = shard_of id1 }
+-- the stamp after that of the record, in the epoch
+abbrev pub stamp_after : ℕ → Id → Option EdgeState → Stamp
+stamp_after epoch id1 old = record { number = max (number_of old) (epoch_base epoch) + 1; shard = shard_of id1 }
 
 -- the edge is cut where its record is live
-abbrev pub cut_over : Id → AType → Id → Option EdgeState → List EdgeUpdate
-cut_over id1 atype id2 (Some (Live time payload stamp)) = (id1, atype, id2, Cut (stamp_after id1 (Some (Live time payload stamp)))) ∷ []
-cut_over id1 atype id2 (Some (Cut stamp)) = []
-cut_over id1 atype id2 None = []
+abbrev pub cut_over : ℕ → Id → AType → Id → Option EdgeState → List EdgeUpdate
+cut_over epoch id1 atype id2 (Some (Live time payload stamp)) = (id1, atype, id2, Cut (stamp_after epoch id1 (Some (Live time payload stamp)))) ∷ []
+cut_over epoch id1 atype id2 (Some (Cut stamp)) = []
+cut_over epoch id1 atype id2 None = []
 
 -- the edge is moved to a new type, over its record there, where its record of the old type is live
-abbrev pub move_over : Id → AType → Id → AType → Option EdgeState → Option EdgeState → List EdgeUpdate
-move_over id1 atype id2 newtype (Some (Live time payload stamp)) there =
-    (id1, atype, id2, Cut (stamp_after id1 (Some (Live time payload stamp)))) ∷ (id1, newtype, id2, Live time payload (stamp_after id1 there)) ∷ []
-move_over id1 atype id2 newtype (Some (Cut stamp)) there = []
-move_over id1 atype id2 newtype None there = []
+abbrev pub move_over : ℕ → Id → AType → Id → AType → Option EdgeState → Option EdgeState → List EdgeUpdate
+move_over epoch id1 atype id2 newtype (Some (Live time payload stamp)) there =
+    (id1, atype, id2, Cut (stamp_after epoch id1 (Some (Live time payload stamp)))) ∷ (id1, newtype, id2, Live time payload (stamp_after epoch id1 there)) ∷ []
+move_over epoch id1 atype id2 newtype (Some (Cut stamp)) there = []
+move_over epoch id1 atype id2 newtype None there = []
 
 -- whether a record has the stamp number that no record may have
 abbrev pub is_past_stamps : EdgeUpdate → Bool
 is_past_stamps u = (stamp_of u.3).number == 4611686018427387904
 
--- the stamps' numbers are at most that one
+-- the numbers of the records' stamps are at most 2^62, which no record may have
 pub record AreNext (us : List EdgeUpdate) : Type 0 where
   pub each : AllByRecursion (λ u. (stamp_of u.3).number ≤ 4611686018427387904) us
 
--- the stamps' numbers are below it
+-- the numbers of the records' stamps are below 2^62, as those of all records that stand
 pub record AreStamped (us : List EdgeUpdate) : Type 0 where
   pub each : All (λ u. (stamp_of u.3).number < 4611686018427387904) us
 
 -- the records are those of the write over some records, of which nothing is said
-abbrev pub AreOverSome : Write → List EdgeUpdate → Type 0
-AreOverSome (AssocAdd id1 atype id2 time payload) us = (old : Option EdgeState) × (us ≡ (id1, atype, id2, Live time payload (stamp_after id1 old)) ∷ [])
-AreOverSome (AssocDelete id1 atype id2) us = (old : Option EdgeState) × (us ≡ cut_over id1 atype id2 old)
-AreOverSome (AssocChangeType id1 atype id2 newtype) us =
-    (old : Option EdgeState) × (there : Option EdgeState) × (us ≡ move_over id1 atype id2 newtype old there)
-AreOverSome (ObjAdd shard otype payload) us = us ≡ []
-AreOverSome (ObjUpdate id payload) us = us ≡ []
-AreOverSome (ObjDelete id) us = us ≡ []
+abbrev pub AreOverSome : ℕ → Write → List EdgeUpdate → Type 0
+AreOverSome epoch (AssocAdd id1 atype id2 time payload) us =
+    (old : Option EdgeState) × (us ≡ (id1, atype, id2, Live time payload (stamp_after epoch id1 old)) ∷ [])
+AreOverSome epoch (AssocDelete id1 atype id2) us = (old : Option EdgeState) × (us ≡ cut_over epoch id1 atype id2 old)
+AreOverSome epoch (AssocChangeType id1 atype id2 newtype) us =
+    (old : Option EdgeState) × (there : Option EdgeState) × (us ≡ move_over epoch id1 atype id2 newtype old there)
+AreOverSome epoch (ObjAdd shard otype payload) us = us ≡ []
+AreOverSome epoch (ObjUpdate id payload) us = us ≡ []
+AreOverSome epoch (ObjDelete id) us = us ≡ []
 
 -- the touch writes the record
 pub record WritesRecord (u : EdgeUpdate) (t : Touch) : Type 0 where

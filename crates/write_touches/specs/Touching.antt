@@ -23,9 +23,9 @@ lacks_serial log (AssocAdd id1 atype id2 time payload) = false
 lacks_serial log (AssocDelete id1 atype id2) = false
 lacks_serial log (AssocChangeType id1 atype id2 newtype) = false
 
--- whether a record at id1 that the write would stamp has the number 2^62 - 1
+-- whether a record at id1 that the write would stamp has the number 2^62 - 1, in whatever epoch
 abbrev pub lacks_stamp : List Entry → Write → Bool
-lacks_stamp log write = list_any (λ u. number_of (edge_record log u.0 u.1 u.2) == 4611686018427387903) (own_updates log write)
+lacks_stamp log write = list_any (λ u. number_of (edge_record log u.0 u.1 u.2) == 4611686018427387903) (own_updates 0 log write)
 
 -- the write is one to an edge
 abbrev pub IsEdgeWrite : Write → Type 0
@@ -41,7 +41,7 @@ abbrev pub NameWrite : Write → List Touch → Type 0
 NameWrite write [] = ⊤
 NameWrite write (t ∷ ts) = Names write (t ∷ ts)
 
--- there is one touch, which changes the key so
+-- the touches are a single one, which makes this change of the key, at whatever version
 pub record IsOneChange (key : Key) (change : Change) (ts : List Touch) : Type 0 where
   pub version : ℕ
   pub touches_are : ts ≡ (record { key = key; change = change; version = version }) ∷ []
@@ -56,9 +56,9 @@ HasTouch (AssocAdd id1 atype id2 time payload) ts = ⊤
 HasTouch (AssocDelete id1 atype id2) ts = ⊤
 HasTouch (AssocChangeType id1 atype id2 newtype) ts = ⊤
 
--- the touches are those of the write, which has its serial and its stamps
-pub record AreTouches (types : EdgeTypes) (log : List Entry) (write : Write) (touches : List Touch) : Type 0 where
-  pub touches_are : touches ≡ touches_of types log write
+-- the touches are those of the write in the epoch, which has its serial and its stamps
+pub record AreTouches (types : EdgeTypes) (epoch : ℕ) (log : List Entry) (write : Write) (touches : List Touch) : Type 0 where
+  pub touches_are : touches ≡ touches_of types epoch log write
   pub serial : lacks_serial log write ≡ false
   pub stamps : lacks_stamp log write ≡ false
 

@@ -13,7 +13,7 @@ ghost use Rattle.graph_model.specs.Told.{WhereTold};
 ghost use Rattle.tao_schema.specs.Schema.{types_of};
 
 use super::near_ends::with_near_ends;
-use super::own_records::own_updates;
+use super::own_records::{LAST_EPOCH, own_updates};
 use super::refusal::TouchRefusal;
 use std::alloc::{AllocError, Global};
 use tao_base::{Change, Edge, EdgeState, Id, Key, StoreName, Time, Touch, Write};
@@ -133,23 +133,25 @@ fn has_past_stamp(updates: &[EdgeUpdate]) -> bool
         .any(|update| update.3.stamp().number == STAMP_LIMIT)
 }
 
-/// The touches of a write to an edge.
+/// The touches of a write to an edge, in the epoch of its shard.
 pub fn edge_write<M: Keeper>(
     alloc: Global,
     keeper: &mut M,
     at: StoreName,
     schema: &Schema,
+    epoch: u64,
     write: &Write,
 ) -> Result<Vec<Touch>, TouchRefusal>
-    requires { IsEdgeWrite write.now }
-    ensures touches { WhereTold M.TELLS (MatchResult result (λ ts. AreTouches (types_of schema.now)
+    requires edge { IsEdgeWrite write.now }
+    requires epoch { epoch ≤ LAST_EPOCH }
+    ensures touches { WhereTold M.TELLS (MatchResult result (λ ts. AreTouches (types_of schema.now) epoch
         ((M.state keeper.old).told at).log write.now ts.items) (HasNone ((M.state keeper.old).told at).log write.now)) }
     ensures names { IfOk result (λ ts. NameWrite write.now ts.items) }
     ensures small { IfOk result (λ ts. HaveSmallStamps ts.items) }
     ensures stays { KeepsTables M.TELLS (M.state keeper.old) (M.state keeper.new) }
     ensures calls { CallsKeeper TouchRefusal.KeeperFault (M.state keeper.old) (M.state keeper.new) result }
 {
-    let own = own_updates(alloc, keeper, at, write)?;
+    let own = own_updates(alloc, keeper, at, epoch, write)?;
     if has_past_stamp(&own) {
         return Err(TouchRefusal::StampFull {
             number: STAMP_LIMIT - 1,

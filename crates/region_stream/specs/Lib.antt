@@ -1,0 +1,4 @@
+pub mod Agreeing
+pub mod Applying
+pub mod Following
+pub mod Opening

@@ -11,6 +11,7 @@ use Rattle.tao_base.specs.Keys.{same_key}
 use Rattle.ask_table.specs.declared.ask.Ask.{Ask}
 use Rattle.ask_table.specs.Asks.{Asks, asks_of, is_full, IsTable, fresh, with_ask}
 use Rattle.ask_table.specs.Open.{raised_ask}
+use Rattle.tao_base.proofs.RisingNumbers.{rising_below, rising_tail}
 
 abbrev pub numbers : List Ask → List ℕ
 numbers asks = map (λ (a : Ask). a.number) asks
@@ -31,21 +32,12 @@ table_push t key mark room table = record {
   few = omega (arith, length-append t.asks (fresh t key mark ∷ []));
 }
 
--- asks end
-rising_below : (n m : ℕ) (ns : List ℕ) → n ≤ m → IsRising (m ∷ ns) → IsRising (n ∷ ns)
-rising_below n m [] l r = tt
-rising_below n m (k ∷ ns) l r = let up : m < k = r.0 in (omega arith, r.1)
-
 rising-kept : (p : Ask → Bool) (n : ℕ) (asks : List Ask) (ns : List ℕ) → IsRising (n ∷ numbers asks ++ ns) → IsRising (n ∷ numbers (filter p asks) ++ ns)
 rising-kept p n [] ns r = r
 rising-kept p n (a ∷ asks) ns r = elim (cases_Bool (p a)) [
   | inl t ↦ rw t (r.0, rising-kept p a.number asks ns r.1)
   | inr t ↦ let up : n < a.number = r.0 in rw t (rising-kept p n asks ns (rising_below n a.number (numbers asks ++ ns) (omega arith) r.1))
 ]
-
-rising_tail : (n : ℕ) (ns : List ℕ) → IsRising (n ∷ ns) → IsRising ns
-rising_tail n [] r = tt
-rising_tail n (m ∷ ns) r = r.1
 
 rising-filter : (p : Ask → Bool) (asks : List Ask) (n : ℕ) → IsRising (numbers asks ++ n ∷ []) → IsRising (numbers (filter p asks) ++ n ∷ [])
 rising-filter p [] n r = r
@@ -69,11 +61,11 @@ filter_none p (a ∷ asks) none = elim (cases_Bool (p a)) [
 ]
 
 -- floors rise
-raised_number : (key : Key) (version : ℕ) (a : Ask) → (raised_ask key version a).number ≡ a.number
+pub raised_number : (key : Key) (version : ℕ) (a : Ask) → (raised_ask key version a).number ≡ a.number
 raised_number key version a = elim (same_key a.key key) as (λ b. (cond b (record a { floor = max a.floor version }) a).number ≡ a.number)
     [ true ↦ refl | false ↦ refl ]
 
-numbers-raised : (key : Key) (version : ℕ) (asks : List Ask) → numbers (map (raised_ask key version) asks) ≡ numbers asks
+pub numbers-raised : (key : Key) (version : ℕ) (asks : List Ask) → numbers (map (raised_ask key version) asks) ≡ numbers asks
 numbers-raised key version [] = refl
 numbers-raised key version (a ∷ asks) = rw (raised_number key version a, numbers-raised key version asks) refl
 

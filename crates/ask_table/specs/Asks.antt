@@ -10,6 +10,7 @@ pub record Asks : Type 0 where
   pub asks : List Ask
   pub given : ℕ
 
+-- the table of these open asks, in which so many numbers were given
 abbrev pub asks_of : List Ask → ℕ → Asks
 asks_of asks given = record { asks = asks; given = given }
 
@@ -21,6 +22,7 @@ is_full t = nat_le 256 (length t.asks) || (t.given == 2 ^ 64 - 1)
 abbrev pub fresh : Asks → Key → ℕ → Ask
 fresh t key mark = record { number = t.given + 1; key = key; mark = mark; floor = 0 }
 
+-- the table with one more ask, begun on the key at the low-water mark of the moment
 abbrev pub with_ask : Key → ℕ → Asks → Asks
 with_ask key mark t = asks_of (t.asks ++ fresh t key mark ∷ []) (t.given + 1)
 
@@ -28,9 +30,11 @@ with_ask key mark t = asks_of (t.asks ++ fresh t key mark ∷ []) (t.given + 1)
 abbrev pub with_floor : Key → ℕ → Asks → Asks
 with_floor key version t = asks_of (map (raised_ask key version) t.asks) t.given
 
+-- the table without the ask of this number, if that is open
 abbrev pub without_ask : ℕ → Asks → Asks
 without_ask number t = asks_of (filter (λ a. not (is_numbered number a)) t.asks) t.given
 
+-- the table without the asks on keys of the shard
 abbrev pub without_shard : ℕ → Asks → Asks
 without_shard shard t = asks_of (filter (λ a. not (is_on_shard shard a)) t.asks) t.given
 

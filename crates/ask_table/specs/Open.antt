@@ -8,8 +8,10 @@ use Rattle.ask_table.specs.declared.ask.Ask.{Ask}
 abbrev pub raised_ask : Key → ℕ → Ask → Ask
 raised_ask key version a = if same_key a.key key then record a { floor = max a.floor version } else a
 
+-- whether the ask has this number
 abbrev pub is_numbered : ℕ → Ask → Bool
 is_numbered number a = a.number == number
 
+-- whether the ask's key lies on the shard
 abbrev pub is_on_shard : ℕ → Ask → Bool
 is_on_shard shard a = key_shard a.key == shard

@@ -3,6 +3,12 @@
 //!
 //! Contracts see the open asks as a list, in the order in which they began, and how many numbers
 //! were given.
+//!
+//! What it promises. An open ask has the mark given at its beginning and the greatest version raised on its key
+//! since; no number is given twice; full exactly at 256.
+//!
+//! The contracts that say so: `AskTable::begin`, `raise`, `end`, `end_shard`, `end_all`; the law
+//! `open_asks_tell_the_calls` over all calls.
 #![tactic(auto)]
 
 ghost use Rattle.ask_table.specs.Asks.{IsTable, asks_of, is_full, told, with_ask, with_floor, without_ask, without_asks, without_shard};
@@ -102,6 +108,16 @@ impl AskTable {
         let found = self.find(ask)?;
         self.asks.retain(|open| !open.is_numbered(ask));
         Some((found.key, found.mark, found.floor))
+    }
+
+    /// The key of an open ask. None exactly where it isn't open. Looks at each open ask, and takes no memory.
+    pub fn key_of(&self, ask: AskNo) -> Option<Key>
+        ensures { result ≡ option_map (λ a. a.key) (find_word (is_numbered ask) self.now.asks) }
+    {
+        match self.find(ask) {
+            Some(found) => Some(found.key),
+            None => None,
+        }
     }
 
     fn find(&self, ask: AskNo) -> Option<Ask>

@@ -12,6 +12,7 @@ abbrev pub content_row : KeyVersion → Content → List DroppedList
 content_row k (ObjectIs found) = []
 content_row k (ListIs prefix) = record { key = k.key; version = k.version; length = length prefix.edges } ∷ []
 
+-- what is noted of the item at a key when it is dropped: a row where it is a list, else nothing
 abbrev pub row_of : KeyVersion → Option Item → List DroppedList
 row_of k None = []
 row_of k (Some item) = content_row k item.content

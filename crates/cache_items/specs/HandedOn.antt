@@ -20,7 +20,7 @@ IsFrontItem types query floor item None = (item.version < floor) ⊎ IsContentFr
 IsFrontItem types query floor item (Some front) =
     (floor ≤ item.version) × (front.version ≡ item.version) × IsContentFront types item.content query (Some front.content)
 
--- the same of what is held at a key
+-- what is held at a key cut to the shortest front that decides the query. None where nothing is held, or the item has no such front at the floor
 abbrev pub IsFrontHeld : EdgeTypes → Query → ℕ → Option Item → Option Item → Type 0
 IsFrontHeld types query floor None front = front ≡ None
 IsFrontHeld types query floor (Some item) front = IsFrontItem types query floor item front

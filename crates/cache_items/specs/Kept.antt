@@ -21,6 +21,7 @@ ask_at ask t = find (is_numbered ask) t.asks
 abbrev pub admits : ℕ → ℕ → ℕ → ℕ → Kept
 admits mark floor version as_of = if nat_lt as_of mark then Mark as_of mark else (if nat_lt version floor then Floor version floor else Yes)
 
+-- whether the fill of an ask is kept, by the ask's mark and floor, or is lost, where the ask isn't open any more
 abbrev pub admits_found : Option Ask → ℕ → ℕ → Kept
 admits_found None version as_of = Lost
 admits_found (Some a) version as_of = admits a.mark a.floor version as_of
@@ -43,6 +44,7 @@ GivesKept (Mark have need) kept = kept ≡ Mark have need
 GivesKept (Floor have need) kept = kept ≡ Floor have need
 GivesKept Memory kept = kept ≡ Memory
 
+-- whether the fill was kept
 abbrev pub is_yes : Kept → Bool
 is_yes Yes = true
 is_yes NoAsk = false
@@ -51,6 +53,7 @@ is_yes (Mark have need) = false
 is_yes (Floor have need) = false
 is_yes Memory = false
 
+-- the item that is held of a fill: its version and content
 abbrev pub item_of : SealedItem → Item
 item_of fill = record { version = fill.version; content = fill.content }
 

@@ -21,6 +21,7 @@ abbrev pub look_of : EdgeTypes → Option Item → Query → ℕ → Look
 look_of types None query floor = Miss
 look_of types (Some item) query floor = item_look types item query floor
 
+-- whether the look found an answer
 abbrev pub is_hit : Look → Bool
 is_hit Miss = false
 is_hit (Hit answer version) = true

@@ -14,6 +14,7 @@ use Rattle.served_shards.specs.Begun.{restarted}
 use Rattle.served_shards.specs.Served.{ServedShard, changed_at, forgetting, low_at, marking, seeing}
 use Rattle.cache_items.specs.declared.item.Item.{Item}
 
+-- the items that a node holds, each with its key, the most recently used first
 abbrev pub Items : Type 0
 Items = List (Key × Item)
 

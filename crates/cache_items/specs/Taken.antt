@@ -14,10 +14,12 @@ use Rattle.changeset.specs.Changes.{SeenChange}
 use Rattle.cache_items.specs.declared.item.Item.{Item}
 use Rattle.cache_items.specs.Node.{Items, Node, item_at, met, without}
 
+-- the content after one change of its key, a list's within the bound
 abbrev pub changed_content : Content → Change → ℕ → Content
 changed_content (ObjectIs found) change bound = ObjectIs (object_after change found)
 changed_content (ListIs prefix) change bound = ListIs (prefix_after change prefix bound)
 
+-- the item after one change of its key: at the version after the change, with its content within the bound
 abbrev pub changed_item : Item → Change → ℕ → ℕ → Item
 changed_item item change after bound = record { version = after; content = changed_content item.content change bound }
 

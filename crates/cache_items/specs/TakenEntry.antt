@@ -19,7 +19,7 @@ TakesTouches types note (t ∷ ts) old new = (between : Items) × ChangesItems t
 abbrev pub with_applied : ℕ → Entry → View → Items → Node → Node
 with_applied shard e note items n = met shard note (record n { items = items; asks = raised_all (keys_of e) n.asks })
 
--- the same, and the position of the entry is marked
+-- the node after the changesets of an entry left these items, as in `with_applied`, and with the entry's position marked
 abbrev pub with_entry : ℕ → Entry → View → Items → Node → Node
 with_entry shard e note items n =
     let applied : Node = with_applied shard e note items n in

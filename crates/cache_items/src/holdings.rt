@@ -14,7 +14,8 @@ ghost use Rattle.served_shards.specs.Begun.{AreNotesOf, AreReached, begun_at};
 ghost use Rattle.cache_items.specs.Node.{empty_node, emptied, caught_up, delivered, drop_count, dropped, with_ended_ask, item_at, is_stale as is_stale_word};
 ghost use Rattle.cache_items.specs.Node.{met, processed, raised_all, with_opened_ask, without, without_last, without_stale};
 ghost use Rattle.cache_items.specs.HandedOn.{HandsOn, IsFrontHeld, IsOfNode, handed_on, with_copy};
-ghost use Rattle.cache_items.specs.Kept.{GivesKept, admits as admits_word, is_yes, item_of, kept_items, kept_of, own_kept_of, stays, took, with_item};
+ghost use Rattle.std.specs.Option.{option_map};
+ghost use Rattle.cache_items.specs.Kept.{GivesKept, ask_at, admits as admits_word, is_yes, item_of, kept_items, kept_of, own_kept_of, stays, took, with_item};
 ghost use Rattle.sealed_item.specs.Decided.{content_answer, content_decides};
 ghost use Rattle.cache_items.specs.Look.{look_of, looked_at};
 ghost use Rattle.served_shards.specs.Meetings.{AreSeenSound, MeetEach, MeetsAt};
@@ -204,6 +205,13 @@ impl Holdings {
         let ask = self.asks.begin(*key, low)?;
         self.shards.forget_ahead(shard);
         Some(ask)
+    }
+
+    /// The key of an open ask. None exactly where it isn't open. Takes no memory.
+    pub fn asked_key(&self, ask: AskNo) -> Option<Key>
+        ensures { result ≡ option_map (λ a. a.key) (ask_at ask self.now.asks) }
+    {
+        self.asks.key_of(ask)
     }
 
     /// Ends an ask, where it is open. Takes no memory.

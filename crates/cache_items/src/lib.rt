@@ -3,6 +3,11 @@
 //!
 //! Each call says exactly what it does with these, and nothing of the logs. That all of it stays true
 //! of the logs is said one crate up, by `cache_node`, whose calls these are.
+//!
+//! What it promises. What a cache node does with what it holds: which items, asks, marks and views each call
+//! leaves, and what it answers.
+//!
+//! The contracts that say so: the calls of `Holdings`.
 #![tactic(auto)]
 
 mod delivered;

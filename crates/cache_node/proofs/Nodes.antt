@@ -1,10 +1,11 @@
 -- What each call leaves is true of its logs.
 use Rattle.std.proofs.Common.{◌≡◌, ℕ, ◌-◌, ◌<◌, ◌^◌, Bool, true, false, List, [], ◌∷◌, length, take, Option, Some, None, Result, Ok, Err, IfOk, OnErr, refl}
-use Rattle.std.proofs.Common.{sym, ◌∙◌, ap, subst, arith}
+use Rattle.std.proofs.Common.{sym, ◌∙◌, ap, subst, arith, inl, inr}
+use Rattle.std.proofs.lemmas.Bool.{cases_Bool}
 use Rattle.std.specs.List.{IsDistinct}
 use Rattle.std.specs.Map.{keys_of as keys_held}
 use Rattle.std.specs.Option.{option_map}
-use Rattle.std.specs.Prelude.{All, IfNone, IfSome, OnSome, drop, if◌then◌else◌}
+use Rattle.std.specs.Prelude.{All, IfNone, IfSome, OnOk, OnSome, drop, if◌then◌else◌}
 use Rattle.tao_base.specs.declared.entry.Entry.{Entry}
 use Rattle.tao_base.specs.declared.id.Key.{Key}
 use Rattle.tao_base.specs.EdgeTypes.{EdgeTypes}
@@ -15,7 +16,7 @@ use Rattle.tao_base.specs.Queries.{query_key}
 use Rattle.tao_base.specs.Keys.{key_shard, same_key}
 use Rattle.graph_model.specs.Soundness.{IsSound}
 use Rattle.graph_model.specs.Told.{WhereTold}
-use Rattle.shard_log.specs.View.{LogName, View, longer_view}
+use Rattle.shard_log.specs.View.{Grows, LogName, View, longer_view}
 use Rattle.lru.specs.LruCache.{promoted}
 use Rattle.low_water.specs.Marks.{is_marked}
 use Rattle.ask_table.specs.Asks.{fresh, with_ask}
@@ -32,13 +33,13 @@ use Rattle.cache_node.proofs.ServedAt.{changed_here, changed_served, changed_the
 use Rattle.cache_node.proofs.Truth.{asks_are_true, fewer_is_true, forgetting_keeps, forgot_is_true, forgotten, seeing_keeps, met_is_true}
 use Rattle.cache_items.specs.declared.look.Kept.{Kept}
 use Rattle.cache_items.specs.declared.look.Look.{Look}
-use Rattle.cache_items.specs.Kept.{GivesKept, ask_at, kept_of, own_kept_of, took}
+use Rattle.cache_items.specs.Kept.{GivesKept, ask_at, is_yes, kept_of, own_kept_of, took}
 use Rattle.cache_node.specs.Answered.{LookAnswers, ViewAnswers}
 use Rattle.sealed_item.specs.Decided.{content_answer, content_decides}
 use Rattle.cache_items.specs.Look.{is_hit, look_of}
 use Rattle.served_shards.specs.Meetings.{MeetsAt}
 use Rattle.cache_items.specs.Node.{Node, caught_up, delivered, with_ended_ask, item_at, met, with_opened_ask, without, without_last}
-use Rattle.served_shards.specs.Served.{ServedShard, changed_at, forgetting, log_at, low_at, seeing, served_at, top_at}
+use Rattle.served_shards.specs.Served.{ServedShard, changed_at, forgetting, log_at, low_at, seeing, served_at, top_at, view_at}
 use Rattle.cache_items.specs.Taken.{TakesChange, with_change}
 use Rattle.cache_node.specs.True.{IsServed, IsTrueAskOf, IsTrueNode}
 
@@ -118,6 +119,34 @@ filled old new fill ask (Ok x) distinct is log sealed on_key meets due same same
     subst IsTrueNode (sym same) (took_fill_is_true fill x.1 ask old distinct is
     (is_served old.served (key_shard fill.key) fill.note.log log) meets sealed on_key due)
 filled old new fill ask (Err e) distinct is log sealed on_key meets due same same_err = subst IsTrueNode (sym same_err) (ended_is_true ask old is)
+
+-- a node that took a fill has seen, of the fill's shard, what the fill's note has seen
+took_sees : (fill : SealedItem) (kept : Kept) (n : Node) → MeetsAt (key_shard fill.key) fill.note n.served
+    → IfSome (view_at (key_shard fill.key) (took fill kept n).served) (Grows fill.note)
+took_sees fill kept n meets = elim (cases_Bool (is_yes kept)) [
+  | inl on ↦ rw on sees
+  | inr off ↦ rw off sees
+]
+  where
+    shard : ℕ
+    shard = key_shard fill.key
+
+    by_served : (o : Option ServedShard) → served_at shard n.served ≡ o → IfSome (option_map (λ s. s.view) (option_map (seeing fill.note) o)) (Grows fill.note)
+    by_served None none = tt
+    by_served (Some s) some = (meets.meets s some).from_note
+
+    sees : IfSome (view_at shard (changed_at shard (seeing fill.note) n.served)) (Grows fill.note)
+    sees = subst (λ o. IfSome (option_map (λ s. s.view) o) (Grows fill.note)) (sym (changed_there shard (seeing fill.note) (seeing_keeps fill.note).shard n.served))
+        (by_served (served_at shard n.served) refl)
+
+pub fill_sees : {E : Type 0} (old new : Node) (fill : SealedItem) (ask : Option ℕ) (r : Result (Answer × Kept) E)
+    → IfOk r (λ x. MeetsAt (key_shard fill.key) fill.note old.served) → IfOk r (λ x. new ≡ took fill x.1 (with_ended_ask ask old))
+    → OnOk r (IfSome (view_at (key_shard fill.key) new.served) (Grows fill.note))
+fill_sees old new fill None (Ok x) meets same =
+    subst (λ (n : Node). IfSome (view_at (key_shard fill.key) n.served) (Grows fill.note)) (sym same) (took_sees fill x.1 old meets)
+fill_sees old new fill (Some ask) (Ok x) meets same =
+    subst (λ (n : Node). IfSome (view_at (key_shard fill.key) n.served) (Grows fill.note)) (sym same) (took_sees fill x.1 (with_ended_ask (Some ask) old) meets)
+fill_sees old new fill ask (Err e) meets same = tt
 
 pub filled_own : {E : Type 0} (old new : Node) (fill : SealedItem) (r : Result (Answer × Kept) E) → IsDistinct same_key (keys_held old.items) → IsTrueNode old
     → log_at (key_shard fill.key) old.served ≡ Some fill.note.log → IsSealed fill

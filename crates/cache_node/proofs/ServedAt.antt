@@ -64,7 +64,7 @@ changed_cases shard k f ss after keeps h = elim (cases_Bool (k == shard)) [
   | inr off ↦ inr (sym (changed_elsewhere shard k f keeps.shard off ss) ∙ h)
 ]
 
-some_is : {X : Type 0} (o : Option X) (x : X) → o ≡ Some x → IsSome o
+pub some_is : {X : Type 0} (o : Option X) (x : X) → o ≡ Some x → IsSome o
 some_is o x h = rw h refl
 
 pub changed_some : (shard k : ℕ) (f : ServedShard → ServedShard) (ss : List ServedShard) (s : ServedShard) → KeepsLog f → served_at k ss ≡ Some s

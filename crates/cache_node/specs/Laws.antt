@@ -56,7 +56,7 @@ pub record ItemsStayWithin (types : EdgeTypes) (items : Items) : Type 0 where
   pub caught : (shard : ℕ) (entries : List Entry) (n : Node) → n.items ≡ items → IsDistinct same_key (keys_held items) → AreWithin types items
       → AreWithin types (node_caught_up shard entries n).items
 
--- it stays what is had of that shard
+-- a change to what a node has of a shard leaves the shard's number as it was
 abbrev pub KeepsShard : (ServedShard → ServedShard) → Type 0
 KeepsShard f = (s : ServedShard) → (f s).shard ≡ s.shard
 

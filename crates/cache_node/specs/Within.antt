@@ -6,6 +6,7 @@ use Rattle.sealed_item.specs.Decided.{IsWithinBound}
 use Rattle.cache_items.specs.declared.item.Item.{Item}
 use Rattle.cache_items.specs.Node.{Items, item_at}
 
+-- no held list has more edges than the bound of its type
 abbrev pub AreWithin : EdgeTypes → Items → Type 0
 AreWithin types items = (key : Key) (item : Item) → item_at items key ≡ Some item → IsWithinBound types key item.content
 

@@ -1,6 +1,7 @@
 //! `CacheNode`.
 ghost use Rattle.std.specs.Prelude.{◌≡◌, ◌↔◌, ◌+◌, ◌-◌, ◌≤◌, ℕ, [], All, Some, if◌then◌else◌, drop, is_some, length, option_copied, take, true, IfNone, IfOk};
-ghost use Rattle.std.specs.Prelude.{IfSome, IsNone, IsSome, IsTrue, OnErr, OnSome};
+ghost use Rattle.std.specs.Prelude.{IfSome, IsNone, IsSome, IsTrue, OnErr, OnOk, OnSome};
+ghost use Rattle.shard_log.specs.View.{Grows};
 ghost use Rattle.std.specs.List.{IsDistinct};
 ghost use Rattle.std.specs.Map.{keys_of as keys_held};
 ghost use Rattle.lru.specs.LruCache.{last_entry, promoted};
@@ -15,6 +16,7 @@ ghost use Rattle.served_shards.specs.Begun.{AreNotesOf, AreReached, AreToldAlike
 ghost use Rattle.cache_items.specs.Node.{empty_node, emptied, caught_up, delivered, drop_count, with_ended_ask, item_at, met, with_opened_ask, without};
 ghost use Rattle.cache_items.specs.Node.{without_last};
 ghost use Rattle.cache_items.specs.HandedOn.{HandsOn, handed_on, with_copy};
+ghost use Rattle.std.specs.Option.{option_map};
 ghost use Rattle.cache_items.specs.Kept.{GivesKept, ask_at, kept_of, own_kept_of, took};
 ghost use Rattle.sealed_item.specs.Decided.{content_answer, content_decides};
 ghost use Rattle.cache_items.specs.Look.{look_of, looked_at};
@@ -141,6 +143,13 @@ impl CacheNode {
         self.holdings.begin_ask(&key)
     }
 
+    /// The key of an open ask. None exactly where it isn't open. Takes no memory.
+    pub fn asked_key(&self, ask: AskNo) -> Option<Key>
+        ensures { result ≡ option_map (λ a. a.key) (ask_at ask self.now.asks) }
+    {
+        self.holdings.asked_key(ask)
+    }
+
     /// Ends an ask without a fill. One that isn't open is ignored. Takes no memory.
     pub fn end_ask(&mut self, ask: AskNo)
         ensures { self.new ≡ with_ended_ask (Some ask) self.old }
@@ -149,7 +158,7 @@ impl CacheNode {
     }
 
     /// Answers from the fill, and keeps it where its ask is open and it has the ask's mark and floor.
-    /// The ask ends. A kept fill stands first, and raises the other asks on its key.
+    /// The ask ends. A kept fill stands first, and raises the other asks on its key. The node has then seen what the fill's note has seen.
     ///
     /// The one error is want of memory for the answer: the ask has ended, and nothing else changed.
     pub fn take_fill(
@@ -166,6 +175,7 @@ impl CacheNode {
         ensures answer { IfOk result (λ r. r.0 ≡ content_answer (types_of schema.now) fill.content query.now) }
         ensures kept { IfOk result (λ r. GivesKept (kept_of ask self.old.asks fill.version fill.as_of) r.1) }
         ensures node { IfOk result (λ r. self.new ≡ took fill r.1 (with_ended_ask ask self.old)) }
+        ensures meets { OnOk result (IfSome (view_at (key_shard fill.key) self.new.served) (Grows fill.note)) }
         ensures err { OnErr result (self.new ≡ with_ended_ask ask self.old) }
         ensures legal { IfOk result (λ r. ViewAnswers (types_of schema.now) fill.note query.now r.0 fill.version) }
     {

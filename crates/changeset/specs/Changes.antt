@@ -17,10 +17,11 @@ pub record SeenChange : Type 0 where
   pub change : Change
   pub note : View
 
+-- the changeset that takes a key from one version to another by a change, with what was seen of the log
 abbrev pub seen_change : Key → ℕ → ℕ → Change → View → SeenChange
 seen_change key before after change note = record { key = key; before = before; after = after; change = change; note = note }
 
--- the same change where more was seen of the log
+-- the changeset with another note, of one who has seen more of the log
 abbrev pub change_with_note : SeenChange → View → SeenChange
 change_with_note c note = record c { note = note }
 

@@ -13,6 +13,7 @@ use Rattle.follower_cache.specs.declared.queue.Refill.{Refill}
 abbrev pub list_refill : EdgeTypes → Id → AType → DroppedList → Refill
 list_refill types id1 atype row = record { query = AssocRange id1 atype 0 (min (types.bound atype) (row.length + 10)); floor = row.version }
 
+-- the refill of the list at a key that was dropped; None where the key is an object's
 abbrev pub refill_at : EdgeTypes → Key → DroppedList → Option Refill
 refill_at types (Obj id) row = None
 refill_at types (Assocs id1 atype) row = Some (list_refill types id1 atype row)

@@ -1,6 +1,7 @@
 //! `Follower`.
 ghost use Rattle.std.specs.Prelude.{◌≡◌, ◌↔◌, ◌+◌, ◌-◌, ◌≤◌, ◌++◌, ℕ, [], All, Some, if◌then◌else◌, drop, is_some, length, option_copied};
-ghost use Rattle.std.specs.Prelude.{option_to_list, take, true, IfNone, IfOk, IfSome, IsNone, IsSome, IsTrue, OnErr, OnSome};
+ghost use Rattle.std.specs.Prelude.{option_to_list, take, true, IfNone, IfOk, IfSome, IsNone, IsSome, IsTrue, OnErr, OnOk, OnSome};
+ghost use Rattle.shard_log.specs.View.{Grows};
 ghost use Rattle.std.specs.List.{IsDistinct};
 ghost use Rattle.std.specs.Map.{keys_of as keys_held};
 ghost use Rattle.lru.specs.LruCache.{last_entry};
@@ -14,6 +15,7 @@ ghost use Rattle.sealed_item.specs.Decided.{content_answer, content_decides};
 ghost use Rattle.served_shards.specs.Begun.{AreNotesOf, AreReached, AreToldAlike, begun_at};
 ghost use Rattle.served_shards.specs.Served.{IsLowWater, log_at, low_at, served_at, view_at};
 ghost use Rattle.cache_items.specs.Delivered.{dropped_lists};
+ghost use Rattle.std.specs.Option.{option_map};
 ghost use Rattle.cache_items.specs.Kept.{GivesKept, ask_at, kept_of, took};
 ghost use Rattle.cache_items.specs.Look.{look_of, looked_at};
 ghost use Rattle.cache_items.specs.Node.{caught_up, delivered, drop_count, empty_node, emptied, item_at, met, with_ended_ask, with_opened_ask};
@@ -137,6 +139,13 @@ impl Follower {
         self.node.begin_ask(key)
     }
 
+    /// The key of an open ask. None exactly where it isn't open. Takes no memory.
+    pub fn asked_key(&self, ask: AskNo) -> Option<Key>
+        ensures { result ≡ option_map (λ a. a.key) (ask_at ask self.now.node.asks) }
+    {
+        self.node.asked_key(ask)
+    }
+
     /// Ends an ask without a fill. One that isn't open is ignored. Takes no memory.
     pub fn end_ask(&mut self, ask: AskNo)
         ensures { self.new ≡ record self.old { node = with_ended_ask (Some ask) self.old.node } }
@@ -160,6 +169,7 @@ impl Follower {
         ensures answer { IfOk result (λ r. r.0 ≡ content_answer (types_of schema.now) fill.content query.now) }
         ensures kept { IfOk result (λ r. GivesKept (kept_of ask self.old.node.asks fill.version fill.as_of) r.1) }
         ensures node { IfOk result (λ r. self.new ≡ record self.old { node = took fill r.1 (with_ended_ask ask self.old.node) }) }
+        ensures meets { OnOk result (IfSome (view_at (key_shard fill.key) self.new.node.served) (Grows fill.note)) }
         ensures err { OnErr result (self.new ≡ record self.old { node = with_ended_ask ask self.old.node }) }
         ensures legal { IfOk result (λ r. ViewAnswers (types_of schema.now) fill.note query.now r.0 fill.version) }
     {

@@ -31,15 +31,14 @@ use Rattle.cache_node.proofs.Truth.{marking_keeps, seeing_keeps}
 use Rattle.tao_keeper.specs.KeeperState.{KeeperState}
 use Rattle.tao_keeper.specs.Table.{Stays, Tables}
 use Rattle.shard_tables.specs.StoreView.{Store}
-use Rattle.shard_tables.specs.Stores.{IsStoreOf, note_of, seen_by, store_with}
+use Rattle.shard_tables.specs.Stores.{IsStoreOf, note_of, store_with}
 use Rattle.shard_tables.specs.declared.leader_answer.LeaderAnswer.{LeaderAnswer}
 use Rattle.shard_tables.specs.declared.leader_answer.LeaderAnswer.TheVariants.{Filled, Past, Behind}
 use Rattle.shard_tables.specs.declared.refusal.StoreRefusal.{StoreRefusal}
-use Rattle.shard_tables.specs.declared.store.StoreRole.{StoreRole}
-use Rattle.shard_tables.specs.declared.store.StoreRole.TheVariants.{Master, Slave}
 use Rattle.leader_tier.specs.LeaderReads.{GivesAnswer, AskedRead, KeepsGiven}
 use Rattle.leader_tier.specs.TakenWrites.{TakesWritten}
 use Rattle.leader_tests.specs.Led.{IsLed, ServesOne, store_named}
+use Rattle.leader_tier.proofs.LegalReads.{role_log}
 
 kept_by : {X : Type 0} (g : ServedShard → X) (k : ℕ) (f : ServedShard → ServedShard) → ((s : ServedShard) → g (f s) ≡ g s) → (ss : List ServedShard)
     → map g (changed_at k f ss) ≡ map g ss
@@ -160,14 +159,10 @@ notes_of shard note [] logs = absurd (cc)
 notes_of shard note (s ∷ []) logs = (cc, tt)
 notes_of shard note (s ∷ t ∷ ss) logs = absurd (cc)
 
-same_log : (role : StoreRole) (view : View) → (seen_by role view).log ≡ view.log
-same_log Master view = refl
-same_log Slave view = refl
-
 pub notes_fit : (shard : ℕ) (store : Store) (n : Node) (note : View) (notes : List View) → ServesOne shard store.view.log n → note ≡ note_of store
     → notes ≡ note ∷ [] → AreNotesOf n.served notes
 notes_fit shard store n note notes one is listed =
-    let log : note.log ≡ store.view.log = ap (λ (v : View). v.log) is ∙ same_log store.role store.view in
+    let log : note.log ≡ store.view.log = ap (λ (v : View). v.log) is ∙ role_log store.role store.view in
     subst (AreNotesOf n.served) (sym listed) (notes_of shard note n.served (one.logs ∙ ap (λ l. l ∷ []) (sym log)))
 
 pub where_true : (b : Bool) (P : Type 0) → P → OnTrue b P

@@ -77,9 +77,10 @@ begins_seen : (role : StoreRole) (log : List Entry) (view : View) → HasSeen ro
 begins_seen Master log view seen = subst (λ l. Begins l view.entries) seen (begins-self view.entries)
 begins_seen Slave log view seen = seen
 
-same_name : (role : StoreRole) (view : View) → (seen_by role view).log ≡ view.log
-same_name Master view = refl
-same_name Slave view = refl
+-- what a store has seen is of its log, whatever its role
+pub role_log : (role : StoreRole) (view : View) → (seen_by role view).log ≡ view.log
+role_log Master view = refl
+role_log Slave view = refl
 
 -- what a store read past the bound is exact in what its note has seen
 pub read_is_seen : (tells : Bool) (tables : Tables) (types : EdgeTypes) (query : Query) (store : Store) (read : ReadOut) → IsStoreOf tells tables store
@@ -87,7 +88,7 @@ pub read_is_seen : (tells : Bool) (tables : Tables) (types : EdgeTypes) (query :
     → WhereTold tells (IsReadOutOf types (tables store.name).log query read) → AreAnswersSeen types query read
 read_is_seen tells tables types query store (out.Filled fill) is note reads = tt
 read_is_seen tells tables types query store (out.Past answer version total seen) is note reads = λ told.
-    let there : tells ≡ true = sym is.told_is ∙ (ap (λ (l : LogName). l.told) (sym (same_name store.role store.view))
+    let there : tells ≡ true = sym is.told_is ∙ (ap (λ (l : LogName). l.told) (sym (role_log store.role store.view))
     ∙ (ap (λ (v : View). v.log.told) (sym note) ∙ told)) in
     let begins = begins_seen store.role (tables store.name).log store.view (is.seen there) in
     subst (λ v. IsExactAnswer types v.entries query answer version) (sym note)
@@ -95,4 +96,4 @@ read_is_seen tells tables types query store (out.Past answer version total seen)
 
 -- the log of the note is the one that the store's is
 pub read_log : (store : Store) (read : ReadOut) → read_note read ≡ note_of store → (read_note read).log ≡ store.view.log
-read_log store read note = ap (λ (v : View). v.log) note ∙ same_name store.role store.view
+read_log store read note = ap (λ (v : View). v.log) note ∙ role_log store.role store.view

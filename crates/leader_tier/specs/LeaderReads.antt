@@ -30,6 +30,7 @@ pub record AskedRead : Type 0 where
   pub query : Query
   pub floor : ℕ
 
+-- the read that is asked of a leader: of this query, by these types, of this node, at a floor
 abbrev pub asked_read : EdgeTypes → Node → Query → ℕ → AskedRead
 asked_read types node query floor = record { types = types; node = node; query = query; floor = floor }
 
@@ -38,7 +39,7 @@ abbrev pub at_floor : ℕ → ReadOut → LeaderAnswer
 at_floor floor (out.Filled fill) = if nat_lt fill.version floor then Behind fill.version else Filled fill
 at_floor floor (out.Past answer version total note) = if nat_lt version floor then Behind version else Past answer version total note
 
--- an item of its own serves: it is handed on and then stands first, and the keeper was not called
+-- an item of the leader's own serves: it is handed on and then stands first, and the keeper was not called
 pub record HandsOnOwn (asked : AskedRead) (given : LeaderAnswer) (new : Node) (before after : KeeperState) : Type 0 where
   pub fill : SealedItem
   pub given_is : given ≡ Filled fill
@@ -53,7 +54,7 @@ KeepsGiven old (Filled fill) new =
 KeepsGiven old (Past answer version total note) new = new ≡ old
 KeepsGiven old (Behind version) new = new ≡ old
 
--- no item of its own serves: the store is read, with calls of the keeper, and what it read of its log is answered, at the floor
+-- no item of the leader's own serves: the store is read, with calls of the keeper, and what it read of its log is answered, at the floor
 pub record ReadsStore (asked : AskedRead) (store : Store) (given : LeaderAnswer) (new : Node) (before after : KeeperState) : Type 0 where
   pub none : HandsOn asked.types asked.node asked.query asked.floor None
   pub out : ReadOut

@@ -7,6 +7,7 @@ use Rattle.std.proofs.lemmas.List.Elements.{All-nil, All-cons, All-head, All-tai
 use Rattle.tao_base.specs.Ids.{IsRising}
 use Rattle.low_water.specs.Marks.{Marks, marks, is_marked, IsGreatest, IsWindow, inserted, marks_from, with_mark, AddsMark}
 use Rattle.low_water.specs.Laws.{MarkAdds, TopIsGreatest}
+use Rattle.tao_base.proofs.RisingNumbers.{rising_below}
 
 abbrev pub any : ℕ → List ℕ → Bool
 any q xs = list_any (λ x. q == x) xs
@@ -74,10 +75,6 @@ rising-inserted n p (x ∷ xs) l r = elim (cases_lt p x) [
     | inr ne ↦ rw (le-ltb p x over, ne_eqb p x ne) (r.0, rising-inserted x p xs (omega (arith, ne)) r.1)
   ]
 ]
-
-rising_below : (n m : ℕ) (xs : List ℕ) → n ≤ m → IsRising (m ∷ xs) → IsRising (n ∷ xs)
-rising_below n m [] l r = tt
-rising_below n m (x ∷ xs) l r = let up : m < x = r.0 in (omega arith, r.1)
 
 rising-raised : (low : ℕ) (xs : List ℕ) → IsRising (low ∷ xs) → IsRising (((marks_from low xs).low + 1) ∷ (marks_from low xs).ahead)
 rising-raised low [] r = tt

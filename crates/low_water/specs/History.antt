@@ -13,6 +13,7 @@ marks_after first [] = marks first []
 marks_after first (Mark p ∷ earlier) = with_mark p (marks_after first earlier)
 marks_after first (ForgetAhead ∷ earlier) = marks (marks_after first earlier).low []
 
+-- the low-water mark of the marks that began at this position, after the calls, the latest first
 abbrev pub low_after : ℕ → List MarkCall → ℕ
 low_after first calls = (marks_after first calls).low
 
@@ -22,7 +23,7 @@ was_marked first [] q = nat_le q first
 was_marked first (Mark p ∷ earlier) q = was_marked first earlier q || (q == p && nat_le p (low_after first earlier + 1024))
 was_marked first (ForgetAhead ∷ earlier) q = was_marked first earlier q && nat_le q (low_after first earlier)
 
--- all positions above the first one up to n were marked so
+-- each position above the first one up to n was marked while at most 1,024 ahead, and not forgotten since
 abbrev pub AllMarked : ℕ → List MarkCall → ℕ → Type 0
 AllMarked first calls n = (q : ℕ) → first < q → q ≤ n → was_marked first calls q ≡ true
 

@@ -8,6 +8,7 @@ pub record Marks : Type 0 where
   pub low : ℕ
   pub ahead : List ℕ
 
+-- the marks with this low-water mark and these marked positions above it
 abbrev pub marks : ℕ → List ℕ → Marks
 marks low ahead = record { low = low; ahead = ahead }
 

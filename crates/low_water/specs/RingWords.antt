@@ -1,6 +1,7 @@
 -- The ring of bits behind the marks: the bit of position q stands at q modulo 1,024.
 use Rattle.std.specs.Prelude.{◌≡◌, ◌≢◌, ℕ, zero, suc, ◌+◌, ◌%◌, ◌<◌, ◌≤◌, Bool, true, false, List, [], ◌∷◌, filter, slice_index_or}
 
+-- whether the bit of position q is set in the ring
 abbrev pub bit : List Bool → ℕ → Bool
 bit ring q = slice_index_or ring (q % 1024) false
 
@@ -12,7 +13,7 @@ IsClear ring = (q : ℕ) → bit ring q ≡ false
 abbrev pub IsClearAbove : List Bool → ℕ → ℕ → Type 0
 IsClearAbove ring low top = (q : ℕ) → top < q → q ≤ low + 1024 → bit ring q ≡ false
 
--- this position's bit is as given, and those at other places stay
+-- the bit of position p becomes b, and the bits at all other places of the ring stay
 pub record PutsBit (old new : List Bool) (p : ℕ) (b : Bool) : Type 0 where
   pub put : bit new p ≡ b
   pub others : (q : ℕ) → p % 1024 ≢ q % 1024 → bit new q ≡ bit old q

@@ -3,6 +3,11 @@
 //! Contracts see the marks as the low-water mark and the list of the marked positions above it, in
 //! rising order. The low-water mark is the greatest number such that all positions above the first
 //! one up to it were marked while at most 1,024 ahead of it and not forgotten since.
+//!
+//! What it promises. The low-water mark is the greatest number up to which all positions were marked within the
+//! window and not forgotten; it falls at a restart alone.
+//!
+//! The contracts that say so: `LowWater::mark` and its kin; the law `low_is_greatest` over all calls.
 #![tactic(auto)]
 
 ghost use Rattle.low_water.specs.Marks.{AddsMark, IsGreatest, IsWindow, is_marked, marks, top_of, with_mark};

@@ -16,10 +16,11 @@ pub record SeenMaint : Type 0 where
   pub keys : List KeyVersion
   pub note : View
 
+-- the message of these keys' touches at a position of a shard's log, with what was seen of the log
 abbrev pub seen_maint : ℕ → ℕ → List KeyVersion → View → SeenMaint
 seen_maint shard position keys note = record { shard = shard; position = position; keys = keys; note = note }
 
--- the same message where more was seen of the log
+-- the message with another note, of one who has seen more of the log
 abbrev pub maint_with_note : SeenMaint → View → SeenMaint
 maint_with_note m note = record m { note = note }
 

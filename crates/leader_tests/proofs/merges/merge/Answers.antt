@@ -7,5 +7,5 @@ merge-requires-clause-log c = where_true c.args.preferred _ (named_log 1 c.args.
 
 pub returns-in-Some-clause-one : goal.returns-in-Some-clause-one
 returns-in-Some-clause-one c =
-    still_one 1 c.args.store.now c.merge.new.store c.merge.new.self _ c.in_ok-wrote.ensures.log
+    still_one 1 c.args.store.now c.merge.new.store c.merge.new.self _ c.in_ok-wrote.ensures.store.log
     (after_write 1 c.args.store.now.view.log c.args.leader.now c.merge.new.self c.requires.one (types_of c.args.schema.now) _ _ _ c.in_ok-wrote.ensures.node)

@@ -11,5 +11,5 @@ pub returns-clause-led : goal.returns-clause-led
 returns-clause-led c =
     led_write (types_of c.args.schema.now) (told_by c.args.keeper.now)
     (told_by c.write.new.keeper) c.args.store.now c.write.new.store c.args.leader.now c.write.new.self _ c.requires.led
-    c.write.ensures.log c.write.ensures.keeper c.write.ensures.sound
+    c.write.ensures.store.log c.write.ensures.store.keeper c.write.ensures.done.sound
     (after_write 0 c.args.store.now.view.log c.args.leader.now c.write.new.self c.requires.led.serves (types_of c.args.schema.now) _ _ _ c.write.ensures.node)

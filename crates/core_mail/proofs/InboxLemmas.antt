@@ -26,23 +26,23 @@ use Rattle.core_model.specs.declared.named.Named.{Named}
 use Rattle.core_model.proofs.NamedNodes.{all_set, named_stands, names_set}
 use Rattle.core_model.proofs.Places.{one_some}
 use Rattle.core_model.proofs.Staying.{messages_stay}
-use Rattle.core_mail.specs.Inboxes.{AreEmpty, AreInboxesOf, Inboxes, Sends, TakesOut, WaitsAt, cache_names, cleared, entry_message, no_messages}
+use Rattle.core_mail.specs.Inboxes.{AreEmpty, AreInboxesOf, Inboxes, LosesAll, Sends, TakesOut, WaitsAt, cache_names, cleared, entry_message, no_messages}
 use Rattle.core_mail.specs.Laws.{InboxesStay}
 
 -- ---- each message of a list
 
-all_removed : {X : Type 0} (P : X → Type 0) (xs : List X) (place : ℕ) → AllByRecursion P xs → AllByRecursion P (remove xs place)
+pub all_removed : {X : Type 0} (P : X → Type 0) (xs : List X) (place : ℕ) → AllByRecursion P xs → AllByRecursion P (remove xs place)
 all_removed P [] zero all = tt
 all_removed P [] (suc place) all = tt
 all_removed P (x ∷ xs) zero all = all.1
 all_removed P (x ∷ xs) (suc place) all = (all.0, all_removed P xs place all.1)
 
-all_at : {X : Type 0} (P : X → Type 0) (xs : List X) (place : ℕ) → AllByRecursion P xs → IfSome (slice_get xs place) P
+pub all_at : {X : Type 0} (P : X → Type 0) (xs : List X) (place : ℕ) → AllByRecursion P xs → IfSome (slice_get xs place) P
 all_at P [] place all = tt
 all_at P (x ∷ xs) zero all = all.0
 all_at P (x ∷ xs) (suc place) all = all_at P xs place all.1
 
-all_of_image : {X Y : Type 0} (P : Y → Type 0) (f : X → Y) → ((x : X) → P (f x)) → (xs : List X) → AllByRecursion P (map f xs)
+pub all_of_image : {X Y : Type 0} (P : Y → Type 0) (f : X → Y) → ((x : X) → P (f x)) → (xs : List X) → AllByRecursion P (map f xs)
 all_of_image P f each [] = tt
 all_of_image P f each (x ∷ xs) = (each x, all_of_image P f each xs)
 
@@ -75,6 +75,10 @@ module _ (s : Settings) (pens : Pens) where
   taken_kept name place message old new change is =
       change_kept (TakesOut place message) name old new change
       (λ from to takes all. subst (AreFor name) (sym takes.rest) (all_removed (IsMessageFor s pens name) from place all)) is
+
+  -- all of an inbox are
+  pub lost_kept : (name : NodeName) (old new : Inboxes) → ChangesNode name LosesAll old new → AreInboxesOf s pens old → AreInboxesOf s pens new
+  lost_kept name old new change is = change_kept LosesAll name old new change (λ from to none all. subst (AreFor name) (sym none) tt) is
 
   -- what waits at a place
   waiting_for : (name : NodeName) (place at : ℕ) (waiting : List SeenMaint) (message : Option SeenMaint) (inboxes : Inboxes)
@@ -177,6 +181,14 @@ names_empty (name ∷ names) = ap (λ ns. name ∷ ns) (names_empty names)
 
 pub all_empty : (names : List NodeName) → AreEmpty (map no_messages names)
 all_empty names = all_of_image (λ inbox. inbox.node ≡ []) no_messages (λ name. refl) names
+
+-- an inbox without messages has none
+pub empty_at : (inboxes : Inboxes) (place : ℕ) (name : NodeName) (waiting : List SeenMaint) → AreEmpty inboxes
+    → slice_get inboxes place ≡ Some (named name waiting) → waiting ≡ []
+empty_at [] place name waiting all stands = absurd (cc)
+empty_at (inbox ∷ inboxes) zero name waiting all stands =
+    sym (ap (λ n. n.node) (one_some inbox (named name waiting) stands)) ∙ all.0
+empty_at (inbox ∷ inboxes) (suc place) name waiting all stands = empty_at inboxes place name waiting all.1 stands
 
 none_waits : (names : List NodeName) (place : ℕ) (name : NodeName) (waiting : List SeenMaint)
     → slice_get (map no_messages names) place ≡ Some (named name waiting) → [] ≡ waiting

@@ -8,9 +8,10 @@ use Rattle.node_name.specs.declared.NodeName.{NodeName}
 use Rattle.replies.specs.declared.lists.Message.{Message}
 use Rattle.shard_log.specs.View.{View}
 use Rattle.tao_base.specs.declared.entry.Entry.{Entry}
+use Rattle.tao_keeper.specs.Table.{Tables}
 use Rattle.topology.specs.Config.{Settings}
-use Rattle.core_model.specs.Fleet.{ChangesNode, IsNodeOfName, follower_names, leader_names, named, node_names}
-use Rattle.core_model.specs.Messages.{IsMessageFor}
+use Rattle.core_model.specs.Fleet.{ChangesNode, EachIs, IsNodeOfName, follower_names, leader_names, named, node_names}
+use Rattle.core_model.specs.Messages.{IsMessageFor, IsOfStore}
 use Rattle.core_model.specs.Pens.{Pens}
 use Rattle.core_model.specs.declared.named.Named.{Named}
 
@@ -27,6 +28,10 @@ pub record AreInboxesOf (s : Settings) (pens : Pens) (inboxes : Inboxes) : Type 
   pub names : node_names inboxes ≡ cache_names s
   pub messages : (place : ℕ) (name : NodeName) (waiting : List SeenMaint) → slice_get inboxes place ≡ Some (named name waiting)
       → AllByRecursion (IsMessageFor s pens name) waiting
+
+-- the store of each node's region has come to the positions of the messages that wait for the node
+abbrev pub HaveArrived : Tables → Inboxes → Type 0
+HaveArrived tables inboxes = EachIs (λ name waiting. AllByRecursion (IsOfStore tables name) waiting) inboxes
 
 -- no message waits
 abbrev pub AreEmpty : Inboxes → Type 0
@@ -57,6 +62,10 @@ Sends (name ∷ names) message old new = (between : Inboxes) × ChangesNode name
 pub record TakesOut (place : ℕ) (message : Option SeenMaint) (old new : List SeenMaint) : Type 0 where
   pub message_is : message ≡ slice_get old place
   pub rest : new ≡ remove old place
+
+-- all messages of an inbox are taken out
+abbrev pub LosesAll : List SeenMaint → List SeenMaint → Type 0
+LosesAll old new = new ≡ []
 
 -- the message waits for the node at the place, or none does
 pub record WaitsAt (name : NodeName) (place : ℕ) (message : Option SeenMaint) (inboxes : Inboxes) : Type 0 where

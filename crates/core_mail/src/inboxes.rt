@@ -1,6 +1,6 @@
 //! What is done to the inbox of a node, which is found by its name.
 ghost use Rattle.std.specs.Prelude.{◌≡◌, IfOk, map};
-ghost use Rattle.core_mail.specs.Inboxes.{TakesOut, WaitsAt, cleared, entry_message, no_messages, shown_message};
+ghost use Rattle.core_mail.specs.Inboxes.{LosesAll, TakesOut, WaitsAt, cleared, entry_message, no_messages, shown_message};
 ghost use Rattle.core_model.specs.Fleet.{ChangesNode, HasNode};
 ghost use Rattle.maint_msg.specs.Inbox.{IsSent};
 ghost use Rattle.shard_tables.specs.Written.{LiesOn, StandsIn};
@@ -103,6 +103,15 @@ pub(crate) fn copy_at(
 {
     let index = named_place(inboxes, name);
     inboxes[index].node.copy_at(place)
+}
+
+/// Takes all messages out of a node's inbox.
+pub(crate) fn clear_at(inboxes: &mut [Named<Inbox>], name: NodeName)
+    requires { HasNode name inboxes.old }
+    ensures { ChangesNode name LosesAll inboxes.old inboxes.new }
+{
+    let index = named_place(inboxes, name);
+    inboxes[index].node.clear();
 }
 
 /// Takes all messages out of each inbox.

@@ -1,13 +1,13 @@
 //! `Mail`.
 ghost use Rattle.std.specs.Prelude.{◌≡◌, ◌<◌, ◌∷◌, [], IfOk, IfSome, IsTrue};
-ghost use Rattle.core_mail.specs.Inboxes.{AreEmpty, AreInboxesOf, Sends, ShowsInbox, TakesOut, WaitsAt, cache_names, entry_message};
+ghost use Rattle.core_mail.specs.Inboxes.{AreEmpty, AreInboxesOf, LosesAll, Sends, ShowsInbox, TakesOut, WaitsAt, cache_names, entry_message};
 ghost use Rattle.core_model.specs.Fleet.{ChangesNode, HasNode, node_names, regions_of, serves_in_turn};
 ghost use Rattle.core_model.specs.Messages.{IsMessageFor, told_of};
 ghost use Rattle.core_model.specs.Pens.{IsSeen, Pens};
 ghost use Rattle.shard_tables.specs.Written.{LiesOn, StandsIn};
 ghost use Rattle.topology.specs.Config.{Settings};
 
-use crate::inboxes::{clear_all, copy_at, empty_inboxes, send_at, shown, take_at};
+use crate::inboxes::{clear_all, clear_at, copy_at, empty_inboxes, send_at, shown, take_at};
 use core_model::{Named, find_node, follower_names, leader_names, serving_follower, tier_count};
 use maint_msg::{Inbox, Maint};
 use node_name::NodeName;
@@ -144,6 +144,15 @@ impl Mail {
         ensures of { (s : Settings) (pens : Pens) → AreInboxesOf s pens self.old → AreInboxesOf s pens self.new }
     {
         clear_all(&mut self.inboxes);
+    }
+
+    /// Takes out all messages of one node, as it goes down. Takes no memory.
+    pub fn clear_inbox(&mut self, node: NodeName)
+        requires { HasNode node self.old }
+        ensures loses { ChangesNode node LosesAll self.old self.new }
+        ensures of { (s : Settings) (pens : Pens) → AreInboxesOf s pens self.old → AreInboxesOf s pens self.new }
+    {
+        clear_at(&mut self.inboxes, node);
     }
 
     /// Takes the message at a place, the oldest at 0, out of a node's inbox; those behind it move up. None, and nothing changed,

@@ -6,9 +6,9 @@ use Rattle.tao_base.specs.Keys.{key_shard}
 use Rattle.tao_base.specs.Queries.{query_key}
 use Rattle.tao_base.specs.declared.entry.Entry.{Entry}
 use Rattle.tao_base.specs.declared.id.Key.{Key}
-use Rattle.ask_table.specs.Asks.{Asks}
+use Rattle.ask_table.specs.Asks.{Asks, without_asks}
 use Rattle.cache_items.specs.Kept.{is_yes, item_of, took, with_item}
-use Rattle.cache_items.specs.Node.{Node, caught_up, delivered, met, processed, with_ended_ask, with_opened_ask}
+use Rattle.cache_items.specs.Node.{Node, caught_up, delivered, emptied, met, processed, with_ended_ask, with_opened_ask}
 use Rattle.cache_items.specs.TakenEntry.{AppliesEntry}
 use Rattle.cache_items.specs.declared.look.Kept.{Kept}
 use Rattle.cache_items.specs.declared.look.Look.{Look}
@@ -20,7 +20,9 @@ use Rattle.sealed_item.specs.Fills.{SealedItem}
 use Rattle.served_shards.specs.Served.{low_at}
 use Rattle.shard_log.specs.View.{View}
 use Rattle.core_model.specs.Asks.{AsksGoOn}
+use Rattle.core_model.specs.Emptied.{Anew, BeginsAnew}
 use Rattle.core_model.specs.Laws.{NodesAskOn}
+use Rattle.core_model.specs.Pens.{Pens}
 use Rattle.core_model.specs.Reads.{AfterLook}
 use Rattle.core_model.proofs.AsksOn.{asks_go_on, asks_stay, begins, ends, raises, raises_all}
 
@@ -69,6 +71,13 @@ processes_on shard es note from to same =
     let mid : Node = met shard note from in
     go_on_to from to (caught_up shard es mid) same (caught_on shard es mid)
 
+-- no number is given again, where no ask is open
+emptied_on : (t : Asks) → AsksGoOn t (without_asks t)
+emptied_on t number key was = record { given = was.given; on = tt }
+
+begins_on : (pens : Pens) (at : Anew) (from to : Node) → BeginsAnew pens at from to → AsksGoOn from.asks to.asks
+begins_on pens at from to begins = go_on_to from to (emptied begins.lows begins.notes from) begins.node_is (emptied_on from.asks)
+
 pub nodes_ask_on : NodesAskOn
 nodes_ask_on = record {
   looks = λ types read look ask old new looks. looks_on (query_key read.query) look ask old.node new.node looks.node;
@@ -78,4 +87,5 @@ nodes_ask_on = record {
   applies = λ types shard entry note old new applies. applies_on types shard entry note old.node new.node applies.node;
   delivers = λ m dropped old new delivers. delivers_on m old new delivers.node_is;
   processes = processes_on;
+  begins = begins_on;
 }

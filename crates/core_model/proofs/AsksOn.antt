@@ -12,21 +12,21 @@ use Rattle.cache_items.specs.Kept.{ask_at}
 use Rattle.cache_items.specs.Node.{raised_all}
 use Rattle.maint_msg.specs.declared.key_versions.KeyVersion.{KeyVersion}
 use Rattle.core_model.specs.Asks.{AreAsksOn, AsksGoOn, AsksStayOn, IsAskOn}
+use Rattle.ask_table.proofs.Tables.{raised_number}
 
 on_append : (number : ℕ) (key : Key) (xs : List Ask) (y : Ask) → AreAsksOn number key xs → (y.number ≡ number → y.key ≡ key)
     → AreAsksOn number key (xs ++ y ∷ [])
 on_append number key [] y all last = (last, tt)
 on_append number key (x ∷ xs) y all last = (all.0, on_append number key xs y all.1 last)
 
-raised_number : (key : Key) (version : ℕ) (a : Ask) → ((raised_ask key version a).number ≡ a.number) × ((raised_ask key version a).key ≡ a.key)
-raised_number key version a = elim (cases_Bool (same_key a.key key)) [ inl h ↦ rw h (refl, refl) | inr h ↦ rw h (refl, refl) ]
+raised_key : (key : Key) (version : ℕ) (a : Ask) → (raised_ask key version a).key ≡ a.key
+raised_key key version a = elim (cases_Bool (same_key a.key key)) [ inl h ↦ rw h refl | inr h ↦ rw h refl ]
 
 on_map : (number : ℕ) (key : Key) (other : Key) (version : ℕ) (xs : List Ask) → AreAsksOn number key xs
     → AreAsksOn number key (map (raised_ask other version) xs)
 on_map number key other version [] all = tt
 on_map number key other version (x ∷ xs) all =
-    let same = raised_number other version x in
-    ((λ e. same.1 ∙ all.0 (sym same.0 ∙ e)), on_map number key other version xs all.1)
+    ((λ e. raised_key other version x ∙ all.0 (sym (raised_number other version x) ∙ e)), on_map number key other version xs all.1)
 
 on_filter : (number : ℕ) (key : Key) (q : Ask → Bool) (xs : List Ask) → AreAsksOn number key xs → AreAsksOn number key (filter q xs)
 on_filter number key q [] all = tt

@@ -11,6 +11,7 @@ use Rattle.tao_base.specs.declared.id.StoreName.{StoreName}
 use Rattle.tao_keeper.specs.Table.{Stays, Tables}
 use Rattle.tao_schema.specs.Schema.{types_of}
 use Rattle.topology.specs.Config.{Settings}
+use Rattle.write_model.specs.Merges.{no_epochs}
 use Rattle.write_model.specs.Steps.{AreSoundAndCovered}
 use Rattle.core_model.specs.Stores.{AreKeptIn, HasSoundLogs, master_log, master_store, masters_of, stores_in}
 
@@ -49,6 +50,7 @@ same_stores s old new same = λ i. record {
   logs = same_logs (master_log s old) (master_log s new) 0 s.shards (λ shard lt. same.logs shard (omega (arith, lt))) i;
   job = λ shard position. same_within s.shards shard ((old (master_store s shard)).jobs position) ((new (master_store s shard)).jobs position)
       (λ within. ap (λ jobs. jobs position) (same.jobs shard within)) i;
+  epochs = no_epochs;
 }
 
 pub kept_within : (s : Settings) (old new : Tables) → KeepsStores s old new → AreKeptIn s old → AreKeptIn s new

@@ -13,3 +13,7 @@ pub mod Places
 pub mod NamedNodes
 pub mod KeptStores
 pub mod OwedJobs
+pub mod FoundStores
+pub mod Reaching
+pub mod ItemsStaying
+pub mod Settled

@@ -41,9 +41,9 @@ use Rattle.core_model.specs.Consistent.{IsFollowerOf, IsNodeOf}
 use Rattle.core_model.specs.Fleet.{regions_of, serves_in_turn}
 use Rattle.core_model.specs.Laws.{FollowersStay}
 use Rattle.core_model.specs.Messages.{AreRefillsFor, DeliversThere, IsMessageFor, IsRefillFor, TakesRefill}
-use Rattle.core_model.specs.Pens.{Pens, Rise}
-use Rattle.core_model.proofs.NodesSeen.{seen-told, served-at}
-use Rattle.core_model.proofs.Staying.{delivers_node, node_rises}
+use Rattle.core_model.specs.Pens.{IsSeen, Pens, Rise}
+use Rattle.core_model.proofs.NodesSeen.{node_rises, seen-told, seen_meet, served-at}
+use Rattle.core_model.proofs.Staying.{begins_node, delivers_node}
 use Rattle.core_model.proofs.Turns.{serves_its_turn, turn_of}
 
 -- ---- what is queued
@@ -180,7 +180,8 @@ module _ (s : Settings) (pens : Pens) (name : NodeName) where
   follower_delivers : (m : SeenMaint) (dropped : ℕ) (old new : FollowerState) → DeliversThere (types_of s.schema) m dropped old new → IsMessageFor s pens name m
       → IsDistinct same_key (keys_held old.node.items) → IsTrueNode new.node → IsFollowerOf s pens name old → IsFollowerOf s pens name new
   follower_delivers m dropped old new delivers message distinct truth is =
-      let after : IsNodeOf s pens name new.node = delivers_node s pens name m old.node new.node delivers.node.node_is message.seen distinct truth is.node in
+      let after : IsNodeOf s pens name new.node =
+      delivers_node s (IsSeen pens) (seen_meet pens) name m old.node new.node delivers.node.node_is message.seen distinct truth is.node in
       record { node = after; refills = delivers_refills m dropped old new delivers message distinct after is }
 
   refill_rises : (later : Pens) (refill : Refill) → Rise pens later → IsRefillFor s pens name refill → IsRefillFor s later name refill
@@ -206,10 +207,14 @@ module _ (s : Settings) (pens : Pens) (name : NodeName) where
   pub followers_stay : FollowersStay s pens name
   followers_stay = record {
     rises = λ later f rise is. record {
-      node = node_rises s pens name later f.node rise is.node;
+      node = node_rises s pens later name f.node rise is.node;
       refills = all_map (IsRefillFor s pens name) (IsRefillFor s later name) (λ refill was. refill_rises later refill rise was) f.refills is.refills;
     };
     same = λ old new node same is. record { node = node; refills = subst (AreRefillsFor s pens name) (sym same) is.refills };
+    begins = λ at old new begins truth is. record {
+      node = begins_node s (IsSeen pens) (seen_meet pens) name at old.node new.node begins.node truth is.node;
+      refills = subst (AreRefillsFor s pens name) (sym begins.refills) tt;
+    };
     delivers = follower_delivers;
     takes = takes_refill;
   }

@@ -1,4 +1,4 @@
--- A node stays one of its core, whatever it does and whatever the logs grow by.
+-- A node stays the one of its name, whatever it does.
 use Rattle.std.proofs.Common.{◌≡◌, ℕ, ◌-◌, Bool, true, false, List, [], ◌∷◌, length, map, Option, Some, None, refl, ap, sym, subst, ◌∙◌, inl, inr}
 use Rattle.std.proofs.lemmas.Bool.{cases_Bool}
 use Rattle.std.specs.List.{IsDistinct}
@@ -24,7 +24,7 @@ use Rattle.cache_node.specs.Laws.{KeepsShard}
 use Rattle.cache_node.specs.True.{IsTrueNode}
 use Rattle.cache_node.specs.Within.{AreFewer, AreWithin}
 use Rattle.follower_cache.specs.Seen.{FollowerState}
-use Rattle.leader_tier.specs.LeaderReads.{KeepsGiven}
+use Rattle.leader_tier.specs.LeaderReads.{GivesAnswer, KeepsGiven, asked_read}
 use Rattle.leader_tier.specs.TakenWrites.{TakesWritten}
 use Rattle.lru.specs.LruCache.{promoted}
 use Rattle.maint_msg.specs.KeyVersions.{keys_of as keys_touched}
@@ -32,19 +32,21 @@ use Rattle.maint_msg.specs.Maints.{SeenMaint}
 use Rattle.node_name.specs.declared.NodeName.{NodeName}
 use Rattle.sealed_item.specs.Decided.{IsWithinBound}
 use Rattle.sealed_item.specs.Fills.{SealedItem}
+use Rattle.served_shards.specs.Begun.{restarted}
 use Rattle.served_shards.specs.Served.{ServedShard, changed_at, forgetting, marking, seeing}
-use Rattle.shard_log.specs.View.{View}
+use Rattle.shard_log.specs.View.{LogName, View}
+use Rattle.shard_tables.specs.StoreView.{Store}
 use Rattle.shard_tables.specs.declared.leader_answer.LeaderAnswer.{LeaderAnswer}
 use Rattle.shard_tables.specs.declared.leader_answer.LeaderAnswer.TheVariants as leader
-use Rattle.shard_tables.specs.StoreView.{Store}
 use Rattle.tao_keeper.specs.KeeperState.{KeeperState}
 use Rattle.tao_schema.specs.Schema.{key_bound, types_of}
 use Rattle.topology.specs.Config.{Settings}
-use Rattle.core_model.specs.Consistent.{AreSeen, IsNodeOf}
-use Rattle.core_model.specs.Laws.{MessagesStay, NodesStay}
-use Rattle.core_model.specs.Pens.{IsSeen, Pens, Rise}
-use Rattle.core_model.specs.Reads.{AfterLook, IsGivenAnswer, IsGivenFill, LeaderAnswers, Wanted, store_calls}
-use Rattle.core_model.proofs.NodesSeen.{seen-rises, served-forgets, served-marks, served-meets, served-rises}
+use Rattle.core_model.specs.Consistent.{AreRight, IsRightNode}
+use Rattle.core_model.specs.Emptied.{Anew, RestartEach, Restarts}
+use Rattle.core_model.specs.Laws.{MessagesStay, NodesStay, RightNodesStay}
+use Rattle.core_model.specs.Pens.{IsSeen, KeepsMeets, Pens, SeenRule}
+use Rattle.core_model.specs.Reads.{AfterLook, IsRightAnswer, IsRightFill, LeaderAnswers, StoreCalls, Wanted}
+use Rattle.core_model.proofs.NodesSeen.{right-forgets, right-marks, right-meets, seen-rises, seen_meet}
 
 -- ---- the shards that are served
 
@@ -80,33 +82,33 @@ used_within types items key false distinct within = within
 
 -- ---- a node
 
-module _ (s : Settings) (pens : Pens) (name : NodeName) where
+module _ (s : Settings) (Seen : SeenRule) (meets : KeepsMeets Seen) (name : NodeName) where
   -- what it is made of is still what it should be
-  pub node_after : (from to : Node) → IsNodeOf s pens name from → IsTrueNode to → numbers_of to.served ≡ numbers_of from.served → AreSeen pens to.served
-      → AreWithin (types_of s.schema) to.items → IsNodeOf s pens name to
+  pub node_after : (from to : Node) → IsRightNode s Seen name from → IsTrueNode to → numbers_of to.served ≡ numbers_of from.served → AreRight Seen to.served
+      → AreWithin (types_of s.schema) to.items → IsRightNode s Seen name to
   node_after from to is truth numbers seen within = record { shards = numbers ∙ is.shards; seen = seen; truth = truth; within = within }
 
   -- what it serves stays
-  pub node_same : (from to : Node) → IsNodeOf s pens name from → IsTrueNode to → to.served ≡ from.served → AreWithin (types_of s.schema) to.items
-      → IsNodeOf s pens name to
-  node_same from to is truth same within = node_after from to is truth (ap numbers_of same) (subst (AreSeen pens) (sym same) is.seen) within
+  pub node_same : (from to : Node) → IsRightNode s Seen name from → IsTrueNode to → to.served ≡ from.served → AreWithin (types_of s.schema) to.items
+      → IsRightNode s Seen name to
+  node_same from to is truth same within = node_after from to is truth (ap numbers_of same) (subst (AreRight Seen) (sym same) is.seen) within
 
   -- it is changed at one shard
-  pub node_changed : (shard : ℕ) (f : ServedShard → ServedShard) (from to : Node) → IsNodeOf s pens name from → IsTrueNode to → KeepsShard f
-      → AreSeen pens (changed_at shard f from.served) → to.served ≡ changed_at shard f from.served → AreWithin (types_of s.schema) to.items
-      → IsNodeOf s pens name to
+  pub node_changed : (shard : ℕ) (f : ServedShard → ServedShard) (from to : Node) → IsRightNode s Seen name from → IsTrueNode to → KeepsShard f
+      → AreRight Seen (changed_at shard f from.served) → to.served ≡ changed_at shard f from.served → AreWithin (types_of s.schema) to.items
+      → IsRightNode s Seen name to
   node_changed shard f from to is truth keeps seen same within =
-      node_after from to is truth (ap numbers_of same ∙ numbers_stay shard f from.served keeps) (subst (AreSeen pens) (sym same) seen) within
+      node_after from to is truth (ap numbers_of same ∙ numbers_stay shard f from.served keeps) (subst (AreRight Seen) (sym same) seen) within
 
   pub looks_node : (key : Key) (look : Look) (ask : Option ℕ) (from to : Node) → AfterLook key look ask from to → IsDistinct same_key (keys_held from.items)
       → IsTrueNode to
-      → IsNodeOf s pens name from → IsNodeOf s pens name to
+      → IsRightNode s Seen name from → IsRightNode s Seen name to
   looks_node key (Hit answer version) ask from to looks distinct truth is =
       node_same from to is truth (ap (λ (n : Node). n.served) looks.1)
       (subst (λ (n : Node). AreWithin (types_of s.schema) n.items) (sym looks.1) (used_within (types_of s.schema) from.items key true distinct is.within))
-  looks_node key Miss None from to looks distinct truth is = subst (IsNodeOf s pens name) (sym looks.1) is
+  looks_node key Miss None from to looks distinct truth is = subst (IsRightNode s Seen name) (sym looks.1) is
   looks_node key Miss (Some number) from to looks distinct truth is =
-      node_changed (key_shard key) forgetting from to is truth (λ t. refl) (served-forgets pens (key_shard key) from.served is.seen)
+      node_changed (key_shard key) forgetting from to is truth (λ t. refl) (right-forgets Seen (key_shard key) from.served is.seen)
       (ap (λ (n : Node). n.served) looks.2)
       (subst (λ (n : Node). AreWithin (types_of s.schema) n.items) (sym looks.2) is.within)
 
@@ -115,7 +117,7 @@ module _ (s : Settings) (pens : Pens) (name : NodeName) where
   ended_same None n = (refl, refl)
   ended_same (Some number) n = (refl, refl)
 
-  pub ends_node : (ask : Option ℕ) (from to : Node) → to ≡ with_ended_ask ask from → IsTrueNode to → IsNodeOf s pens name from → IsNodeOf s pens name to
+  pub ends_node : (ask : Option ℕ) (from to : Node) → to ≡ with_ended_ask ask from → IsTrueNode to → IsRightNode s Seen name from → IsRightNode s Seen name to
   ends_node ask from to same truth is =
       let end = ended_same ask from in
       node_same from to is truth (ap (λ (n : Node). n.served) same ∙ end.0)
@@ -133,23 +135,23 @@ module _ (s : Settings) (pens : Pens) (name : NodeName) where
 
   -- of a node that has ended an ask, or none
   pub takes_node : (fill : SealedItem) (kept : Kept) (ask : Option ℕ) (from to : Node) → to ≡ took fill kept (with_ended_ask ask from)
-      → IsSeen pens (key_shard fill.key) fill.note
-      → IsWithinBound (types_of s.schema) fill.key fill.content → IsDistinct same_key (keys_held from.items) → IsTrueNode to → IsNodeOf s pens name from
-      → IsNodeOf s pens name to
+      → Seen (key_shard fill.key) fill.note
+      → IsWithinBound (types_of s.schema) fill.key fill.content → IsDistinct same_key (keys_held from.items) → IsTrueNode to → IsRightNode s Seen name from
+      → IsRightNode s Seen name to
   takes_node fill kept ask from to same seen bound distinct truth is =
       let end = ended_same ask from in
       let mid : Node = with_ended_ask ask from in
       let apart : IsDistinct same_key (keys_held mid.items) = subst (λ xs. IsDistinct same_key (keys_held xs)) (sym end.1) distinct in
       let held : AreWithin (types_of s.schema) mid.items = subst (AreWithin (types_of s.schema)) (sym end.1) is.within in
       node_changed (key_shard fill.key) (seeing fill.note) from to is truth (λ t. refl)
-      (served-meets pens (key_shard fill.key) fill.note from.served seen is.seen)
+      (right-meets Seen meets (key_shard fill.key) fill.note from.served seen is.seen)
       (ap (λ (n : Node). n.served) same ∙ ap (changed_at (key_shard fill.key) (seeing fill.note)) (took_served fill (is_yes kept) mid ∙ end.0))
       (subst (λ (n : Node). AreWithin (types_of s.schema) n.items) (sym same) (took_within fill (is_yes kept) mid apart bound held))
 
   -- what was given for a read is of its key
-  given_seen : (read_key : Key) (fill : SealedItem) → fill.key ≡ read_key → IsSeen pens (key_shard read_key) fill.note
-      → IsSeen pens (key_shard fill.key) fill.note
-  given_seen key fill same seen = subst (λ k. IsSeen pens (key_shard k) fill.note) (sym same) seen
+  given_seen : (read_key : Key) (fill : SealedItem) → fill.key ≡ read_key → Seen (key_shard read_key) fill.note
+      → Seen (key_shard fill.key) fill.note
+  given_seen key fill same seen = subst (λ k. Seen (key_shard k) fill.note) (sym same) seen
 
   given_within : (key : Key) (fill : SealedItem) → fill.key ≡ key → IsWithinBound (types_of s.schema) key fill.content
       → IsWithinBound (types_of s.schema) fill.key fill.content
@@ -158,25 +160,27 @@ module _ (s : Settings) (pens : Pens) (name : NodeName) where
   -- a leader's copy of a fill
   copies_node : (fill : SealedItem) (kept : Kept) (yes_or_not : Bool) (from to : Node) → is_yes kept ≡ yes_or_not
       → to ≡ (if yes_or_not then took fill kept from else from)
-      → IsSeen pens (key_shard fill.key) fill.note → IsWithinBound (types_of s.schema) fill.key fill.content → IsDistinct same_key (keys_held from.items)
+      → Seen (key_shard fill.key) fill.note → IsWithinBound (types_of s.schema) fill.key fill.content → IsDistinct same_key (keys_held from.items)
       → IsTrueNode to
-      → IsNodeOf s pens name from → IsNodeOf s pens name to
+      → IsRightNode s Seen name from → IsRightNode s Seen name to
   copies_node fill kept true from to which same seen bound distinct truth is = takes_node fill kept None from to same seen bound distinct truth is
-  copies_node fill kept false from to which same seen bound distinct truth is = subst (IsNodeOf s pens name) (sym same) is
+  copies_node fill kept false from to which same seen bound distinct truth is = subst (IsRightNode s Seen name) (sym same) is
 
   -- a leader that answered of its store
-  gives_node : (read : Wanted) (given : LeaderAnswer) (from to : Node) → KeepsGiven from given to → IsGivenAnswer (types_of s.schema) pens read given
-      → IsDistinct same_key (keys_held from.items) → IsTrueNode to → IsNodeOf s pens name from → IsNodeOf s pens name to
+  gives_node : (read : Wanted) (given : LeaderAnswer) (from to : Node) → KeepsGiven from given to → IsRightAnswer (types_of s.schema) Seen read given
+      → IsDistinct same_key (keys_held from.items) → IsTrueNode to → IsRightNode s Seen name from → IsRightNode s Seen name to
   gives_node read (leader.Filled fill) from to keeps is_given distinct truth is =
       copies_node fill keeps.0 (is_yes keeps.0) from to refl keeps.2 (given_seen (query_key read.query) fill is_given.key_is is_given.seen)
       (given_within (query_key read.query) fill is_given.key_is is_given.within) distinct truth is
-  gives_node read (leader.Past answer version total note) from to keeps is_given distinct truth is = subst (IsNodeOf s pens name) (sym keeps) is
-  gives_node read (leader.Behind version) from to keeps is_given distinct truth is = subst (IsNodeOf s pens name) (sym keeps) is
+  gives_node read (leader.Past answer version total note) from to keeps is_given distinct truth is = subst (IsRightNode s Seen name) (sym keeps) is
+  gives_node read (leader.Behind version) from to keeps is_given distinct truth is = subst (IsRightNode s Seen name) (sym keeps) is
 
-  pub answers_node : (read : Wanted) (given : LeaderAnswer) (masters : List Store) (before after : KeeperState) (from to : Node)
-      → LeaderAnswers (types_of s.schema) read given (store_calls masters before after) from to → IsGivenAnswer (types_of s.schema) pens read given
-      → IsDistinct same_key (keys_held from.items) → IsTrueNode to → IsNodeOf s pens name from → IsNodeOf s pens name to
-  answers_node read given masters before after from to answers is_given distinct truth is = elim answers.answers [
+  -- or of an item of its own
+  pub answered_node : (read : Wanted) (given : LeaderAnswer) (store : Store) (before after : KeeperState) (from to : Node)
+      → GivesAnswer (asked_read (types_of s.schema) from read.query read.floor) store given to before after
+      → IsRightAnswer (types_of s.schema) Seen read given
+      → IsDistinct same_key (keys_held from.items) → IsTrueNode to → IsRightNode s Seen name from → IsRightNode s Seen name to
+  answered_node read given store before after from to answers is_given distinct truth is = elim answers [
     | inl own ↦
         node_same from to is truth (ap (λ (n : Node). n.served) own.node_is)
         (subst (λ (n : Node). AreWithin (types_of s.schema) n.items) (sym own.node_is)
@@ -184,34 +188,40 @@ module _ (s : Settings) (pens : Pens) (name : NodeName) where
     | inr reads ↦ gives_node read given from to reads.keeps is_given distinct truth is
   ]
 
+  pub answers_node : (read : Wanted) (given : LeaderAnswer) (calls : StoreCalls) (from to : Node)
+      → LeaderAnswers (types_of s.schema) read given calls from to → IsRightAnswer (types_of s.schema) Seen read given
+      → IsDistinct same_key (keys_held from.items) → IsTrueNode to → IsRightNode s Seen name from → IsRightNode s Seen name to
+  answers_node read given calls from to answers is_given distinct truth is =
+      answered_node read given answers.store calls.before calls.after from to answers.answers is_given distinct truth is
+
   pub keeps_node : (read : Wanted) (ask : Option ℕ) (fill : SealedItem) (kept : Kept) (from to : Node) → to ≡ took fill kept (with_ended_ask ask from)
-      → IsGivenFill (types_of s.schema) pens read fill → IsDistinct same_key (keys_held from.items) → IsTrueNode to → IsNodeOf s pens name from
-      → IsNodeOf s pens name to
+      → IsRightFill (types_of s.schema) Seen read fill → IsDistinct same_key (keys_held from.items) → IsTrueNode to → IsRightNode s Seen name from
+      → IsRightNode s Seen name to
   keeps_node read ask fill kept from to same is_given distinct truth is =
       takes_node fill kept ask from to same (given_seen (query_key read.query) fill is_given.key_is is_given.seen)
       (given_within (query_key read.query) fill is_given.key_is is_given.within) distinct truth is
 
   -- it met a note of a shard's log, and marked a position
   marked_node : (shard position : ℕ) (note : View) (from to : Node)
-      → to.served ≡ changed_at shard (marking position) (changed_at shard (seeing note) from.served) → IsSeen pens shard note
-      → AreWithin (types_of s.schema) to.items → IsTrueNode to → IsNodeOf s pens name from → IsNodeOf s pens name to
+      → to.served ≡ changed_at shard (marking position) (changed_at shard (seeing note) from.served) → Seen shard note
+      → AreWithin (types_of s.schema) to.items → IsTrueNode to → IsRightNode s Seen name from → IsRightNode s Seen name to
   marked_node shard position note from to served seen within truth is =
       let mid : List ServedShard = changed_at shard (seeing note) from.served in
       node_after from to is truth
       (ap numbers_of served ∙ numbers_stay shard (marking position) mid (λ t. refl) ∙ numbers_stay shard (seeing note) from.served (λ t. refl))
-      (subst (AreSeen pens) (sym served) (served-marks pens shard position mid (served-meets pens shard note from.served seen is.seen))) within
+      (subst (AreRight Seen) (sym served) (right-marks Seen shard position mid (right-meets Seen meets shard note from.served seen is.seen))) within
 
   -- the entry was taken, and its position marked
-  pub entry_node : (shard : ℕ) (entry : Entry) (note : View) (from to : Node) → TakesEntry (types_of s.schema) shard entry note from to → IsSeen pens shard note
-      → IsDistinct same_key (keys_held from.items) → IsTrueNode to → IsNodeOf s pens name from → IsNodeOf s pens name to
+  pub entry_node : (shard : ℕ) (entry : Entry) (note : View) (from to : Node) → TakesEntry (types_of s.schema) shard entry note from to → Seen shard note
+      → IsDistinct same_key (keys_held from.items) → IsTrueNode to → IsRightNode s Seen name from → IsRightNode s Seen name to
   entry_node shard entry note from to takes seen distinct truth is =
       marked_node shard entry.position note from to (ap (λ (n : Node). n.served) takes.node_is) seen
       (touches_within (types_of s.schema) note entry.touches from.items to.items distinct takes.items is.within) truth is
 
   -- a message
-  pub delivers_node : (m : SeenMaint) (from to : Node) → to ≡ delivered m from → IsSeen pens m.shard m.note → IsDistinct same_key (keys_held from.items)
+  pub delivers_node : (m : SeenMaint) (from to : Node) → to ≡ delivered m from → Seen m.shard m.note → IsDistinct same_key (keys_held from.items)
       → IsTrueNode to
-      → IsNodeOf s pens name from → IsNodeOf s pens name to
+      → IsRightNode s Seen name from → IsRightNode s Seen name to
   delivers_node m from to same seen distinct truth is =
       marked_node m.shard m.position m.note from to (ap (λ (n : Node). n.served) same) seen
       (subst (λ (n : Node). AreWithin (types_of s.schema) n.items) (sym same)
@@ -224,50 +234,78 @@ module _ (s : Settings) (pens : Pens) (name : NodeName) where
   caught_numbers shard (e ∷ es) n =
       caught_numbers shard es (processed shard e.position (keys_touched e) n) ∙ numbers_stay shard (marking e.position) n.served (λ t. refl)
 
-  caught_seen : (shard : ℕ) (es : List Entry) (n : Node) → AreSeen pens n.served → AreSeen pens (caught_up shard es n).served
+  caught_seen : (shard : ℕ) (es : List Entry) (n : Node) → AreRight Seen n.served → AreRight Seen (caught_up shard es n).served
   caught_seen shard [] n seen = seen
   caught_seen shard (e ∷ es) n seen =
-      caught_seen shard es (processed shard e.position (keys_touched e) n) (served-marks pens shard e.position n.served seen)
+      caught_seen shard es (processed shard e.position (keys_touched e) n) (right-marks Seen shard e.position n.served seen)
 
-  pub processes_node : (shard : ℕ) (es : List Entry) (note : View) (from to : Node) → to ≡ caught_up shard es (met shard note from) → IsSeen pens shard note
-      → IsDistinct same_key (keys_held from.items) → IsTrueNode to → IsNodeOf s pens name from → IsNodeOf s pens name to
+  pub processes_node : (shard : ℕ) (es : List Entry) (note : View) (from to : Node) → to ≡ caught_up shard es (met shard note from) → Seen shard note
+      → IsDistinct same_key (keys_held from.items) → IsTrueNode to → IsRightNode s Seen name from → IsRightNode s Seen name to
   processes_node shard es note from to same seen distinct truth is =
       let mid : Node = met shard note from in
       node_after from to is truth
       (ap (λ (n : Node). numbers_of n.served) same ∙ caught_numbers shard es mid ∙ numbers_stay shard (seeing note) from.served (λ t. refl))
-      (subst (λ (n : Node). AreSeen pens n.served) (sym same)
-      (caught_seen shard es mid (served-meets pens shard note from.served seen is.seen)))
+      (subst (λ (n : Node). AreRight Seen n.served) (sym same)
+      (caught_seen shard es mid (right-meets Seen meets shard note from.served seen is.seen)))
       (subst (λ (n : Node). AreWithin (types_of s.schema) n.items) (sym same)
       ((items_stay_within (types_of s.schema) from.items).caught shard es mid refl distinct is.within))
 
   pub writes_node : (shard : ℕ) (entry : Option Entry) (note : View) (from to : Node) → TakesWritten (types_of s.schema) shard entry note from to
-      → IsSeen pens shard note
-      → IsDistinct same_key (keys_held from.items) → IsTrueNode to → IsNodeOf s pens name from → IsNodeOf s pens name to
-  writes_node shard None note from to takes seen distinct truth is = subst (IsNodeOf s pens name) (sym takes) is
+      → Seen shard note
+      → IsDistinct same_key (keys_held from.items) → IsTrueNode to → IsRightNode s Seen name from → IsRightNode s Seen name to
+  writes_node shard None note from to takes seen distinct truth is = subst (IsRightNode s Seen name) (sym takes) is
   writes_node shard (Some entry) note from to takes seen distinct truth is = entry_node shard entry note from to takes seen distinct truth is
 
   -- the entry was taken, and nothing marked
   pub applies_node : (shard : ℕ) (entry : Entry) (note : View) (from to : Node) → AppliesEntry (types_of s.schema) shard entry note from to
-      → IsSeen pens shard note
-      → IsDistinct same_key (keys_held from.items) → IsTrueNode to → IsNodeOf s pens name from → IsNodeOf s pens name to
+      → Seen shard note
+      → IsDistinct same_key (keys_held from.items) → IsTrueNode to → IsRightNode s Seen name from → IsRightNode s Seen name to
   applies_node shard entry note from to applies seen distinct truth is =
-      node_changed shard (seeing note) from to is truth (λ t. refl) (served-meets pens shard note from.served seen is.seen)
+      node_changed shard (seeing note) from to is truth (λ t. refl) (right-meets Seen meets shard note from.served seen is.seen)
       (ap (λ (n : Node). n.served) applies.node_is)
       (touches_within (types_of s.schema) note entry.touches from.items to.items distinct applies.items is.within)
 
   -- it holds fewer items
-  pub fewer_node : (items : Items) (from to : Node) → to ≡ record from { items = items } → AreFewer from.items items → IsTrueNode to → IsNodeOf s pens name from
-      → IsNodeOf s pens name to
+  pub fewer_node : (items : Items) (from to : Node) → to ≡ record from { items = items } → AreFewer from.items items → IsTrueNode to
+      → IsRightNode s Seen name from → IsRightNode s Seen name to
   fewer_node items from to same fewer truth is =
       node_same from to is truth (ap (λ (n : Node). n.served) same)
       (subst (λ (n : Node). AreWithin (types_of s.schema) n.items) (sym same) ((items_stay_within (types_of s.schema) from.items).fewer items fewer is.within))
 
-  pub node_rises : (later : Pens) (node : Node) → Rise pens later → IsNodeOf s pens name node → IsNodeOf s later name node
-  node_rises later node rise is = record { shards = is.shards; seen = served-rises pens later node.served rise is.seen; truth = is.truth; within = is.within }
+  -- ---- a node that is emptied
 
-  pub nodes_stay : NodesStay s pens name
-  nodes_stay = record {
-    rises = node_rises;
+  no_items : (items : Items) → items ≡ [] → AreWithin (types_of s.schema) items
+  no_items items none = subst (AreWithin (types_of s.schema)) (sym none) (λ key item h. absurd (cc))
+
+  -- the shards that begin anew are those that were served, and what was seen of them is still seen
+  begun_numbers : (at : Anew) (ss : List ServedShard) (lows : List ℕ) (notes : List View) → RestartEach Seen at ss lows notes
+      → numbers_of (restarted ss lows notes) ≡ numbers_of ss
+  begun_numbers at [] [] [] each = refl
+  begun_numbers at [] [] (note ∷ notes) each = absurd each
+  begun_numbers at [] (low ∷ lows) notes each = absurd each
+  begun_numbers at (t ∷ ts) [] notes each = absurd each
+  begun_numbers at (t ∷ ts) (low ∷ lows) [] each = absurd each
+  begun_numbers at (t ∷ ts) (low ∷ lows) (note ∷ notes) each = ap (λ ns. t.shard ∷ ns) (begun_numbers at ts lows notes each.1)
+
+  begun_seen : (at : Anew) (ss : List ServedShard) (lows : List ℕ) (notes : List View) → RestartEach Seen at ss lows notes → AreRight Seen ss
+      → AreRight Seen (restarted ss lows notes)
+  begun_seen at [] [] [] each seen = tt
+  begun_seen at [] [] (note ∷ notes) each seen = absurd each
+  begun_seen at [] (low ∷ lows) notes each seen = absurd each
+  begun_seen at (t ∷ ts) [] notes each seen = absurd each
+  begun_seen at (t ∷ ts) (low ∷ lows) [] each seen = absurd each
+  begun_seen at (t ∷ ts) (low ∷ lows) (note ∷ notes) each seen =
+      (meets t.shard t.view note seen.0 each.0.seen, begun_seen at ts lows notes each.1 seen.1)
+
+  pub begins_node : (at : Anew) (from to : Node) → Restarts Seen at from to → IsTrueNode to → IsRightNode s Seen name from → IsRightNode s Seen name to
+  begins_node at from to begins truth is =
+      node_after from to is truth
+      (ap (λ (n : Node). numbers_of n.served) begins.node_is ∙ begun_numbers at from.served begins.lows begins.notes begins.each)
+      (subst (λ (n : Node). AreRight Seen n.served) (sym begins.node_is) (begun_seen at from.served begins.lows begins.notes begins.each is.seen))
+      (no_items to.items (ap (λ (n : Node). n.items) begins.node_is))
+
+  pub right_nodes_stay : RightNodesStay s Seen name
+  right_nodes_stay = record {
     looks = λ read look ask old new looks distinct truth is. looks_node (query_key read.query) look ask old.node new.node looks.node distinct truth is;
     answers = answers_node;
     keeps = λ read ask fill answer kept old new keeps given distinct truth is.
@@ -281,7 +319,16 @@ module _ (s : Settings) (pens : Pens) (name : NodeName) where
         (λ key item h. held_take (length old.items - 1) old.items key item h) truth is;
     delivers = λ m dropped old new delivers message distinct truth is. delivers_node m old new delivers.node_is message.seen distinct truth is;
     processes = processes_node;
+    begins = begins_node;
   }
+
+-- nodes whose pens are had
+pub nodes_stay : (s : Settings) (pens : Pens) (name : NodeName) → NodesStay s pens name
+nodes_stay s pens name = right_nodes_stay s (IsSeen pens) (seen_meet pens) name
+
+-- and nodes of which only the names of the logs are known
+pub named_nodes_stay : (s : Settings) (log : ℕ → LogName) (name : NodeName) → RightNodesStay s (λ shard view. view.log ≡ log shard) name
+named_nodes_stay s log name = right_nodes_stay s (λ shard view. view.log ≡ log shard) (λ shard view note was is. was) name
 
 -- what a message names was seen of a log that goes on
 pub messages_stay : MessagesStay

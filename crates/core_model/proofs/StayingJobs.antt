@@ -12,9 +12,8 @@ use Rattle.tao_keeper.specs.Growing.{LogsGrow}
 use Rattle.tao_keeper.specs.Table.{Tables}
 use Rattle.tao_schema.specs.Schema.{types_of}
 use Rattle.topology.specs.Config.{Settings}
-use Rattle.write_model.proofs.Growing.{Grown, client_stays, stamp_stays}
-use Rattle.write_model.specs.Machine.{Owed}
-use Rattle.write_model.specs.Merges.{job_of, log_of}
+use Rattle.write_model.proofs.Growing.{Grown, entry_stays, stamp_stays}
+use Rattle.write_model.specs.Merges.{Owed, job_of, log_of}
 use Rattle.write_model.specs.Steps.{IsOwed}
 use Rattle.core_model.specs.Jobs.{IsMergedJob, IsOwedJob, ShardJob}
 use Rattle.core_model.specs.Laws.{JobsStayOwed}
@@ -46,12 +45,14 @@ module _ (s : Settings) where
     ]
 
     -- each shard's log begins its later self
-    pub logs_grown : Grown (stores_in s old).logs (stores_in s new).logs
+    pub logs_grown : Grown (log_of (stores_in s old).logs) (log_of (stores_in s new).logs)
     logs_grown = record { more = λ shard. (grown_at shard).0; is = λ shard. (grown_at shard).1 }
 
     pub owes_on : (owed : Owed) → IsOwed (types_of s.schema) (stores_in s old) owed → IsOwed (types_of s.schema) (stores_in s new) owed
     owes_on owed was = record {
-      stands = client_stays (types_of s.schema) (stores_in s old) (stores_in s new) logs_grown owed.shard owed.entry.position owed.entry was.stands;
+      epoch_is = was.epoch_is;
+      stands = entry_stays (types_of s.schema) (log_of (stores_in s old).logs) (log_of (stores_in s new).logs) logs_grown owed.shard owed.entry.position
+          owed.entry was.stands;
       there = was.there;
     }
 
@@ -67,7 +68,7 @@ module _ (s : Settings) where
           of = was.of;
           owes = owes_on was.owed was.owes;
           done = All-weaker (HasStamp before) (HasStamp now)
-              (stamp_stays (types_of s.schema) (stores_in s old).logs (stores_in s new).logs logs_grown kept.sound was.owed.other)
+              (stamp_stays (types_of s.schema) (log_of (stores_in s old).logs) (log_of (stores_in s new).logs) logs_grown kept.sound was.owed.other)
               (job_of (types_of s.schema) was.owed.entry) was.done;
         }
 

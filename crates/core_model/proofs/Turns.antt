@@ -1,6 +1,6 @@
 -- Nodes take turns: who serves a shard.
-use Rattle.std.proofs.Common.{◌≡◌, ℕ, zero, suc, ◌+◌, ◌<◌, ◌≤◌, ◌%◌, Bool, true, List, [], ◌∷◌, map, Some, refl, ap, sym, subst, inl, inr, arith}
-use Rattle.std.specs.Prelude.{Contains, IsSome, IsTrue, ◌==◌, find, slice_get, unwrap_or}
+use Rattle.std.proofs.Common.{◌≡◌, ℕ, zero, suc, ◌+◌, ◌<◌, ◌≤◌, ◌%◌, Bool, true, List, [], ◌∷◌, map, Some, refl, ap, sym, subst, ◌∙◌, inl, inr, arith}
+use Rattle.std.specs.Prelude.{Contains, IsSome, IsTrue, ◌==◌, find, not, slice_get, unwrap_or}
 use Rattle.std.specs.List.{range_with_len}
 use Rattle.std.proofs.lemmas.Bool.{and_parts, cases_Bool, cases_order, eq-eqb, eqb-false, eqb-true, ltb-true}
 use Rattle.graph_model.proofs.Members.{IsIn, contains_from_in, in_append_left, in_append_right, in_filter, in_filter_parts, in_map_parts}
@@ -9,21 +9,22 @@ use Rattle.cache_node.specs.True.{IsServed}
 use Rattle.node_name.specs.declared.NodeName.{NodeName}
 use Rattle.node_name.specs.declared.NodeName.TheVariants.{Store, Leader, Follower}
 use Rattle.served_shards.specs.Served.{ServedShard, served_at}
-use Rattle.topology.specs.Choices.{followers_in_turn, round_from, serving_follower}
+use Rattle.topology.specs.Choices.{chosen_leader, followers_in_turn, leaders_in_turn, may_lead, preferred_leader, round_from, serving_follower}
 use Rattle.topology.specs.Config.{Settings}
 use Rattle.topology.specs.Counts.{NodeCounts, follower_count, leader_count, tier_count}
 use Rattle.topology.specs.States.{NodeStates, is_cache, is_up}
-use Rattle.core_model.specs.Consistent.{IsNodeOf}
+use Rattle.topology.specs.Suspicions.{suspects, suspicion_of}
+use Rattle.core_model.specs.Consistent.{IsNodeOf, IsRightNode}
 use Rattle.core_model.specs.Evictions.{IsCacheOf}
-use Rattle.core_model.specs.Fleet.{follower_names, followers_from, leader_names, leaders_from, regions_of, served_by, serves_in_turn, tiers_from}
-use Rattle.core_model.specs.Laws.{ChoicesServe, ServesItsTurn}
-use Rattle.core_model.specs.Pens.{Pens}
-use Rattle.core_model.specs.Serving.{IsFollowerFor}
+use Rattle.core_model.specs.Fleet.{follower_names, followers_from, leader_names, leaders_from, regions_of, served_by, serves, serves_in_turn, tiers_from}
+use Rattle.core_model.specs.Laws.{ChoicesServe, RightServesTurn, ServesItsTurn}
+use Rattle.core_model.specs.Pens.{IsSeen, Pens, SeenRule}
+use Rattle.core_model.specs.Serving.{IsFollowerFor, IsLeaderIn}
 
 -- ---- members of lists
 
 -- a number from the first on, below the end
-in_numbers : (low count n : ℕ) → low ≤ n → n < low + count → IsIn n (range_with_len low count)
+pub in_numbers : (low count n : ℕ) → low ≤ n → n < low + count → IsIn n (range_with_len low count)
 in_numbers low zero n least lt = absurd (omega arith)
 in_numbers low (suc count) n least lt = elim (cases_order low n) [
   | inl same ↦ inl same
@@ -73,8 +74,9 @@ number_served shard (s ∷ ss) h = elim (cases_Bool (s.shard == shard)) [
   | inr there ↦ inr (number_served shard ss (rw there at h))
 ]
 
-pub serves_its_turn : (s : Settings) (pens : Pens) (name : NodeName) (node : Node) (shard : ℕ) → ServesItsTurn s pens name node shard
-serves_its_turn s pens name node shard = record {
+-- whatever is right to have seen
+pub right_serves_turn : (s : Settings) (Seen : SeenRule) (name : NodeName) (node : Node) (shard : ℕ) → RightServesTurn s Seen name node shard
+right_serves_turn s Seen name node shard = record {
   serves = λ is here turn.
       let one : IsIn shard (served_by s name) = in_filter (serves_in_turn (regions_of s) name) (range_with_len 0 s.shards) shard
       (in_numbers 0 s.shards shard (omega arith) (omega arith)) turn in
@@ -82,12 +84,20 @@ serves_its_turn s pens name node shard = record {
 }
 
 -- a node has the turn of each shard that it serves, which is configured
-pub turn_of : (s : Settings) (pens : Pens) (name : NodeName) (node : Node) (shard : ℕ) → IsNodeOf s pens name node → IsServed node.served shard
+pub right_turn_of : (s : Settings) (Seen : SeenRule) (name : NodeName) (node : Node) (shard : ℕ) → IsRightNode s Seen name node → IsServed node.served shard
     → (shard < s.shards) × IsTrue (serves_in_turn (regions_of s) name shard)
-turn_of s pens name node shard is served =
+right_turn_of s Seen name node shard is served =
     let one = in_filter_parts (serves_in_turn (regions_of s) name) (range_with_len 0 s.shards) shard
     (subst (IsIn shard) is.shards (number_served shard node.served served)) in
     ((let lt = below_end 0 s.shards shard one.0 in omega arith), one.1)
+
+-- so do nodes whose pens are had
+pub serves_its_turn : (s : Settings) (pens : Pens) (name : NodeName) (node : Node) (shard : ℕ) → ServesItsTurn s pens name node shard
+serves_its_turn s pens = right_serves_turn s (IsSeen pens)
+
+pub turn_of : (s : Settings) (pens : Pens) (name : NodeName) (node : Node) (shard : ℕ) → IsNodeOf s pens name node → IsServed node.served shard
+    → (shard < s.shards) × IsTrue (serves_in_turn (regions_of s) name shard)
+turn_of s pens = right_turn_of s (IsSeen pens)
 
 -- ---- the names of a configuration
 
@@ -157,6 +167,37 @@ follower_for s states region tier shard name own here is up =
     } in
     subst (IsFollowerFor s shard) (sym is) there
 
+-- a leader that is up is one of the configuration
+leader_here : (s : Settings) (states : NodeStates) (region index : ℕ) → states.regions ≡ regions_of s → is_up states (Leader region index) ≡ true
+    → IsLeaderIn s region (Leader region index)
+leader_here s states region index own up =
+    let known : IsTrue (is_cache states.regions (Leader region index)) = (and_parts _ _ up).0 in
+    record {
+      index = index;
+      name_is = refl;
+      configured = named_leader s region index (subst (λ (rs : List NodeCounts). IsTrue (is_cache rs (Leader region index))) own known);
+    }
+
+leader_stands_in : (s : Settings) (states : NodeStates) (by : ℕ × ℕ) (region shard : ℕ) (name : NodeName) → states.regions ≡ regions_of s
+    → chosen_leader states by region shard ≡ Some name → IsLeaderIn s region name × (is_up states name ≡ true)
+leader_stands_in s states by region shard name own chosen =
+    let found = found_among (may_lead states by) (leaders_in_turn states.regions region shard) name chosen in
+    let turn = in_map_parts (λ index. Leader region index)
+    (round_from (shard % leader_count states.regions region) (leader_count states.regions region)) name found.0 in
+    let up : is_up states name ≡ true = (and_parts (is_up states name) (not (suspects states (suspicion_of by.0 by.1 name))) found.1).0 in
+    (subst (IsLeaderIn s region) turn.2 (leader_here s states region turn.0 own (subst (λ n. is_up states n ≡ true) (sym turn.2) up)), up)
+
+-- a leader of the region serves the shard only where it is the preferred one
+prefers_it : (s : Settings) (states : NodeStates) (region shard : ℕ) (name : NodeName) → states.regions ≡ regions_of s → IsLeaderIn s region name
+    → IsTrue (serves s name shard) → name ≡ preferred_leader states region shard
+prefers_it s states region shard name own is has_turn =
+    let turn : shard % leader_count (regions_of s) region ≡ is.index =
+    eqb-true (shard % leader_count (regions_of s) region) is.index
+    (subst (λ n. serves_in_turn (regions_of s) n shard ≡ true) is.name_is has_turn) in
+    let here : shard % leader_count states.regions region ≡ is.index =
+    ap (λ (rs : List NodeCounts). shard % leader_count rs region) own ∙ turn in
+    is.name_is ∙ ap (Leader region) (sym here)
+
 pub choices_serve : (s : Settings) (states : NodeStates) → ChoicesServe s states
 choices_serve s states = record {
   follower = λ region tier shard name own here chosen.
@@ -169,4 +210,8 @@ choices_serve s states = record {
         configured = named_leader s region index (subst (λ (rs : List NodeCounts). IsTrue (is_cache rs (Leader region index))) own known);
         serves = eq-eqb (shard % leader_count (regions_of s) region) index (ap (λ (rs : List NodeCounts). shard % leader_count rs region) (sym own));
       };
+  stand_in = leader_stands_in s states;
+  follower_up = λ region tier shard name chosen.
+      (found_among (is_up states) (followers_in_turn states.regions region tier shard) name chosen).1;
+  prefers = prefers_it s states;
 }

@@ -14,15 +14,17 @@ use Rattle.tao_base.specs.declared.id.Key.{Key}
 use Rattle.core_model.specs.Asks.{IsAskOn}
 use Rattle.core_model.specs.declared.named.Named.{Named}
 
--- the leaders and the followers in the order of their names, and the master's store of each shard
+-- the leaders and the followers in the order of their names, and the stores of all regions, region by region and shard by shard
 pub record Fleet : Type 0 where
   pub leaders : List (Named Node)
   pub followers : List (Named FollowerState)
-  pub masters : List Store
+  pub stores : List Store
 
+-- a node under its name
 abbrev pub named : {N : Type 0} → NodeName → N → Named N
 named name node = record { name = name; node = node }
 
+-- the names of the nodes, in the order in which these stand
 abbrev pub node_names : {N : Type 0} → List (Named N) → List NodeName
 node_names nodes = map (λ n. n.name) nodes
 
@@ -34,7 +36,7 @@ HasNode name nodes = Contains (node_names nodes) name
 abbrev pub IsNodeAt : {N : Type 0} → NodeName → List (Named N) → ℕ → Type 0
 IsNodeAt name nodes place = IsSomeAnd (slice_get nodes place) (λ n. n.name ≡ name)
 
--- it is the first of them at the place
+-- the node at the place has the name, and none before it does
 pub record IsFirstAt {N : Type 0} (name : NodeName) (nodes : List (Named N)) (place : ℕ) : Type 0 where
   pub here : IsNodeAt name nodes place
   pub before : (other : ℕ) → other < place → IsNodeAt name nodes other → ⊥
@@ -54,6 +56,10 @@ pub record ChangesNode {N : Type 0} (name : NodeName) (By : N → N → Type 0) 
   pub by : By from to
   pub is : new ≡ slice_set old place (named name to)
 
+-- each node is such, by its name
+abbrev pub EachIs : {N : Type 0} → (NodeName → N → Type 0) → List (Named N) → Type 0
+EachIs {N} Is nodes = (place : ℕ) (name : NodeName) (node : N) → slice_get nodes place ≡ Some (named name node) → Is name node
+
 -- each node stands where one of its name stood, and became what it is as is said
 abbrev pub EachNode : {N : Type 0} → (NodeName → N → N → Type 0) → List (Named N) → List (Named N) → Type 0
 EachNode {N} By old new = (place : ℕ) (name : NodeName) (to : N) → slice_get new place ≡ Some (named name to)
@@ -64,8 +70,15 @@ abbrev pub HasAsk : NodeName → ℕ → Key → List (Named FollowerState) → 
 HasAsk name number key followers = (place : ℕ) (f : FollowerState) → IsFirstAt name followers place → slice_get followers place ≡ Some (named name f)
     → IsAskOn f.node.asks number key
 
+-- the region of a node
+abbrev pub region_of : NodeName → ℕ
+region_of (StoreName_ store) = store.region
+region_of (Leader region index) = region
+region_of (Follower region tier index) = region
+
 -- ---- the names of a configuration
 
+-- for each region of the configuration, how many leaders it has, and how many followers each of its tiers has
 abbrev pub regions_of : Settings → List NodeCounts
 regions_of s = map counts_of s.regions
 
@@ -107,3 +120,7 @@ serves_in_turn regions (Follower region tier index) shard = (shard % follower_co
 -- the shards that a node serves, in order
 abbrev pub served_by : Settings → NodeName → List ℕ
 served_by s name = filter (serves_in_turn (regions_of s) name) (range_with_len 0 s.shards)
+
+-- whether a node serves a shard, by the configuration as it is now
+abbrev pub serves : Settings → NodeName → ℕ → Bool
+serves s name shard = serves_in_turn (regions_of s) name shard

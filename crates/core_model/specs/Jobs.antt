@@ -8,8 +8,8 @@ use Rattle.tao_keeper.specs.Table.{Tables}
 use Rattle.tao_keeper.specs.declared.jobs.Job.{Job}
 use Rattle.tao_schema.specs.Schema.{types_of}
 use Rattle.topology.specs.Config.{Settings}
-use Rattle.write_model.specs.Machine.{IsFirstJob, Owed}
-use Rattle.write_model.specs.Merges.{HasJob, job_of, log_of}
+use Rattle.write_model.specs.Machine.{IsFirstJob}
+use Rattle.write_model.specs.Merges.{HasJob, Owed, job_of, log_of}
 use Rattle.write_model.specs.Steps.{EndsJob, IsOwed, MergesJob}
 use Rattle.core_model.specs.Stores.{stores_in}
 
@@ -22,6 +22,7 @@ pub record ShardJob : Type 0 where
   pub shard : ℕ
   pub job : Job
 
+-- a job, and the shard in whose log its entry stands
 abbrev pub job_on : ℕ → Job → ShardJob
 job_on shard job = record { shard = shard; job = job }
 
@@ -38,32 +39,32 @@ pub record IsOwedJob (s : Settings) (tables : Tables) (j : ShardJob) : Type 0 wh
   pub of : OwesShardJob s j owed
   pub owes : IsOwed (types_of s.schema) (stores_in s tables) owed
 
--- it may be merged: a keeper gave it, and where the tables are told it is owed
+-- the job may be merged: a keeper gave it, and where the tables are told an entry stands whose job it is
 pub record CanBeMerged (tells : Bool) (s : Settings) (tables : Tables) (j : ShardJob) : Type 0 where
   pub given : IsGivenJob j.job
   pub owed : WhereTold tells (IsOwedJob s tables j)
 
--- it is the first open job of its shard
+-- the job is the first open one of its shard
 pub record IsFirstJobOf (s : Settings) (tables : Tables) (j : ShardJob) : Type 0 where
   pub owed : Owed
   pub of : OwesShardJob s j owed
   pub owes : IsOwed (types_of s.schema) (stores_in s tables) owed
   pub first : IsFirstJob (types_of s.schema) (stores_in s tables) owed
 
--- all of its records, or later ones, are where they are owed
+-- all records of the job, or later ones, are where they are owed
 pub record IsMergedJob (s : Settings) (tables : Tables) (j : ShardJob) : Type 0 where
   pub owed : Owed
   pub of : OwesShardJob s j owed
   pub owes : IsOwed (types_of s.schema) (stores_in s tables) owed
   pub done : HasJob (types_of s.schema) (log_of (stores_in s tables).logs owed.other) owed.entry
 
--- the step of the plain machine that merges it
+-- the step of the plain machine that merges a job
 pub record MergesOwed (s : Settings) (old new : Tables) (j : ShardJob) : Type 0 where
   pub owed : Owed
   pub of : OwesShardJob s j owed
   pub merges : MergesJob (types_of s.schema) (stores_in s old) (stores_in s new) owed
 
--- and the one that ends it
+-- the step of the plain machine that ends a job
 pub record EndsOwed (s : Settings) (old new : Tables) (j : ShardJob) : Type 0 where
   pub owed : Owed
   pub of : OwesShardJob s j owed

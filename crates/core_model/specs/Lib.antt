@@ -1,13 +1,17 @@
 pub mod Asks
 pub mod Consistent
+pub mod Emptied
 pub mod Evictions
 pub mod Fleet
 pub mod Growing
+pub mod Items
 pub mod Jobs
 pub mod Laws
 pub mod Messages
 pub mod Pens
 pub mod Reads
 pub mod Serving
+pub mod States
+pub mod StoreLaws
 pub mod Stores
 pub mod Writes

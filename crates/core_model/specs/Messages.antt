@@ -1,5 +1,5 @@
 -- Messages of maintenance among the nodes of a core, and the refills that they queue.
-use Rattle.std.specs.Prelude.{ℕ, ◌≡◌, ◌≤◌, ◌<◌, IsTrue, List, [], ◌∷◌, Option, Some, None, filter}
+use Rattle.std.specs.Prelude.{ℕ, ◌≡◌, ◌≤◌, ◌<◌, ◌++◌, IsTrue, List, [], ◌∷◌, Option, Some, None, filter, if◌then◌else◌}
 use Rattle.std.specs.List.{AllByRecursion}
 use Rattle.cache_items.specs.Delivered.{dropped_lists}
 use Rattle.cache_items.specs.Node.{Node, caught_up, delivered, drop_count, met}
@@ -15,24 +15,43 @@ use Rattle.shard_log.specs.View.{View}
 use Rattle.tao_base.specs.EdgeTypes.{EdgeTypes}
 use Rattle.tao_base.specs.Queries.{query_key, query_shard}
 use Rattle.tao_base.specs.declared.entry.Entry.{Entry}
-use Rattle.topology.specs.Choices.{followers_in_turn}
+use Rattle.tao_keeper.specs.Table.{Tables}
+use Rattle.topology.specs.Choices.{followers_in_turn, master_region, preferred_leader}
 use Rattle.topology.specs.Config.{Settings}
 use Rattle.topology.specs.States.{NodeStates, is_up}
-use Rattle.core_model.specs.Fleet.{ChangesNode, Fleet, regions_of, serves_in_turn}
-use Rattle.core_model.specs.Pens.{IsSeen, Pens}
+use Rattle.core_model.specs.Fleet.{ChangesNode, Fleet, region_of, serves, serves_in_turn}
+use Rattle.core_model.specs.Pens.{IsSeen, Pens, SeenRule}
+use Rattle.core_model.specs.Stores.{store_length}
 
 -- ---- messages
 
--- the node serves the message's shard, which is configured; what it names was seen of that shard's log
-pub record IsMessageFor (s : Settings) (pens : Pens) (name : NodeName) (m : SeenMaint) : Type 0 where
+-- the node serves the message's shard, which is configured; what it names is in its note, and that is right
+pub record IsRightMessage (s : Settings) (Seen : SeenRule) (name : NodeName) (m : SeenMaint) : Type 0 where
   pub here : m.shard < s.shards
-  pub serves : IsTrue (serves_in_turn (regions_of s) name m.shard)
-  pub seen : IsSeen pens m.shard m.note
+  pub serves : IsTrue (serves s name m.shard)
+  pub seen : Seen m.shard m.note
   pub names : IsMaint m
+
+-- the message is for the node, which serves its shard, and what it names was seen of that shard's log
+abbrev pub IsMessageFor : Settings → Pens → NodeName → SeenMaint → Type 0
+IsMessageFor s pens name m = IsRightMessage s (IsSeen pens) name m
+
+-- the store of the node's region has come to the position of the message
+abbrev pub IsOfStore : Tables → NodeName → SeenMaint → Type 0
+IsOfStore tables name m = m.position ≤ store_length tables (region_of name) m.shard
 
 -- who is told of an entry that the region's store took: of each tier the follower that serves the shard, where it is up
 abbrev pub told_of : NodeStates → ℕ → ℕ → List NodeName
 told_of states region shard = filter (is_up states) (followers_in_turn states.regions region 0 shard)
+
+-- the leader that the master's region prefers, where it is up, which is told of an entry that another wrote: a repair or a stand-in
+abbrev pub told_besides : NodeStates → ℕ → List NodeName
+told_besides states shard = filter (is_up states) (preferred_leader states (master_region states shard) shard ∷ [])
+
+-- who is told of an entry of a shard that a leader wrote
+abbrev pub told_by : NodeStates → NodeName → ℕ → List NodeName
+told_by states leader shard = told_of states (master_region states shard) shard
+    ++ (if serves_in_turn states.regions leader shard then [] else told_besides states shard)
 
 -- ---- deliveries
 
@@ -41,12 +60,12 @@ pub record Delivers (m : SeenMaint) (dropped : ℕ) (old new : Node) : Type 0 wh
   pub dropped_is : dropped ≡ drop_count old.items m.keys
   pub node_is : new ≡ delivered m old
 
--- a follower also queues a refill for each list that it drops
+-- a follower processes a message, and queues a refill for each list that it drops
 pub record DeliversThere (types : EdgeTypes) (m : SeenMaint) (dropped : ℕ) (old new : FollowerState) : Type 0 where
   pub node : Delivers m dropped old.node new.node
   pub refills : Queues types (dropped_lists old.node.items m.keys) old.refills new.refills
 
--- the leader or follower of that name does so, and nothing else of the core's nodes changes
+-- the leader or follower of that name processes the message, and nothing else of the core's nodes changes
 abbrev pub DeliversAt : EdgeTypes → SeenMaint → ℕ → NodeName → Fleet → Fleet → Type 0
 DeliversAt types m dropped (StoreName_ store) old new = ⊥
 DeliversAt types m dropped (Leader region index) old new =
@@ -63,9 +82,10 @@ Processes shard entries note old new = new ≡ caught_up shard entries (met shar
 -- the follower serves the shard of the refill, which is configured; where its log is told, it has come to the refill's floor
 pub record IsRefillFor (s : Settings) (pens : Pens) (name : NodeName) (refill : Refill) : Type 0 where
   pub here : query_shard refill.query < s.shards
-  pub serves : IsTrue (serves_in_turn (regions_of s) name (query_shard refill.query))
+  pub serves : IsTrue (serves s name (query_shard refill.query))
   pub reached : WhereTold (pens (query_shard refill.query)).log.told (refill.floor ≤ version (pens (query_shard refill.query)).entries (query_key refill.query))
 
+-- each of the refills can be asked for by the follower of that name
 abbrev pub AreRefillsFor : Settings → Pens → NodeName → List Refill → Type 0
 AreRefillsFor s pens name refills = AllByRecursion (IsRefillFor s pens name) refills
 

@@ -1,5 +1,5 @@
 -- What each stage of a read does to the node that acts.
-use Rattle.std.specs.Prelude.{ℕ, ◌≡◌, ◌≤◌, ◌<◌, ◌+◌, ⊤, true, false, List, Option, Some, None, slice_get}
+use Rattle.std.specs.Prelude.{ℕ, ◌≡◌, ◌≤◌, ◌<◌, ◌+◌, ⊤, true, false, List, Option, Some, None}
 use Rattle.ask_table.specs.Asks.{is_full}
 use Rattle.counts.specs.Count.{Rose}
 use Rattle.graph_model.specs.Told.{WhereTold}
@@ -10,7 +10,7 @@ use Rattle.cache_items.specs.declared.look.Kept.{Kept}
 use Rattle.cache_items.specs.declared.look.Look.{Look}
 use Rattle.cache_items.specs.declared.look.Look.TheVariants.{Hit, Miss}
 use Rattle.follower_cache.specs.Seen.{FollowerState}
-use Rattle.leader_tier.specs.LeaderReads.{GivesAnswer, asked_read}
+use Rattle.leader_tier.specs.LeaderReads.{GivesAnswer, asked_read, at_floor}
 use Rattle.sealed_item.specs.Decided.{IsWithinBound, content_answer, content_decides}
 use Rattle.sealed_item.specs.Fills.{SealedItem}
 use Rattle.shard_log.specs.GrowthLaws.{IsLegalIn}
@@ -27,7 +27,8 @@ use Rattle.tao_base.specs.declared.id.Key.{Key}
 use Rattle.tao_base.specs.declared.query.Answer.{Answer}
 use Rattle.tao_base.specs.declared.query.Query.{Query}
 use Rattle.tao_keeper.specs.KeeperState.{KeeperState}
-use Rattle.core_model.specs.Pens.{IsSeen, Pens}
+use Rattle.core_model.specs.Pens.{IsSeen, Pens, SeenRule, store_in}
+use Rattle.core_model.specs.Stores.{region_store}
 
 -- a follower with another node
 abbrev pub with_node : Node → FollowerState → FollowerState
@@ -38,6 +39,7 @@ pub record Wanted : Type 0 where
   pub query : Query
   pub floor : ℕ
 
+-- a read of the query whose answer must have at least that version
 abbrev pub wanted : Query → ℕ → Wanted
 wanted query floor = record { query = query; floor = floor }
 
@@ -67,34 +69,49 @@ IsLegalLook types pens read Miss = ⊤
 
 -- ---- ask
 
--- the masters' stores, and the keeper before and after their calls
+-- the stores, the region whose store is asked, and the keeper before and after its calls
 pub record StoreCalls : Type 0 where
-  pub masters : List Store
+  pub region : ℕ
+  pub stores : List Store
   pub before : KeeperState
   pub after : KeeperState
 
-abbrev pub store_calls : List Store → KeeperState → KeeperState → StoreCalls
-store_calls masters before after = record { masters = masters; before = before; after = after }
+-- the calls of a region's store, among these stores, from one state of the keeper to the other
+abbrev pub store_calls : ℕ → List Store → KeeperState → KeeperState → StoreCalls
+store_calls region stores before after = record { region = region; stores = stores; before = before; after = after }
 
--- a leader answers of an item of its own, or of the shard's store
+-- the store of that region and the shard
+abbrev pub asked_store : StoreCalls → ℕ → Option Store
+asked_store calls shard = store_in calls.stores (region_store calls.region shard)
+
+-- a leader answers of an item of its own, or of its region's store of the shard
 pub record LeaderAnswers (types : EdgeTypes) (read : Wanted) (given : LeaderAnswer) (calls : StoreCalls) (old new : Node) : Type 0 where
   pub store : Store
-  pub stands : slice_get calls.masters (query_shard read.query) ≡ Some store
+  pub stands : asked_store calls (query_shard read.query) ≡ Some store
   pub answers : GivesAnswer (asked_read types old read.query read.floor) store given new calls.before calls.after
 
--- what was given is for the read, was seen of its shard's log, and is at its floor
-pub record IsGivenFill (types : EdgeTypes) (pens : Pens) (read : Wanted) (fill : SealedItem) : Type 0 where
+-- what was given is for the read, its note is right, and it is at the read's floor
+pub record IsRightFill (types : EdgeTypes) (Seen : SeenRule) (read : Wanted) (fill : SealedItem) : Type 0 where
   pub key_is : fill.key ≡ query_key read.query
   pub decides : content_decides types fill.content read.query ≡ true
   pub within : IsWithinBound types (query_key read.query) fill.content
   pub reaches : WhereTold fill.note.log.told (read.floor ≤ fill.version)
-  pub seen : IsSeen pens (query_shard read.query) fill.note
+  pub seen : Seen (query_shard read.query) fill.note
 
+-- what a leader answers is right for the read: a fill for it, an answer that is legal in a right note, or a version below its floor
+abbrev pub IsRightAnswer : EdgeTypes → SeenRule → Wanted → LeaderAnswer → Type 0
+IsRightAnswer types Seen read (leader.Filled fill) = IsRightFill types Seen read fill
+IsRightAnswer types Seen read (leader.Past answer version total note) =
+    IsLegalIn types note read.query read.floor answer version × Seen (query_shard read.query) note
+IsRightAnswer types Seen read (leader.Behind version) = version < read.floor
+
+-- what was given was seen of the shard's log
+abbrev pub IsGivenFill : EdgeTypes → Pens → Wanted → SealedItem → Type 0
+IsGivenFill types pens read fill = IsRightFill types (IsSeen pens) read fill
+
+-- what a leader answers is right for the read, and was seen of the log of its shard
 abbrev pub IsGivenAnswer : EdgeTypes → Pens → Wanted → LeaderAnswer → Type 0
-IsGivenAnswer types pens read (leader.Filled fill) = IsGivenFill types pens read fill
-IsGivenAnswer types pens read (leader.Past answer version total note) =
-    IsLegalIn types note read.query read.floor answer version × IsSeen pens (query_shard read.query) note
-IsGivenAnswer types pens read (leader.Behind version) = version < read.floor
+IsGivenAnswer types pens read given = IsRightAnswer types (IsSeen pens) read given
 
 -- ---- master
 
@@ -103,13 +120,19 @@ abbrev pub given_of : ReadOut → LeaderAnswer
 given_of (out.Filled fill) = leader.Filled fill
 given_of (out.Past answer version total note) = leader.Past answer version total note
 
--- the shard's store reads all that it has, with calls of the keeper
-pub record StoreReads (types : EdgeTypes) (query : Query) (read : ReadOut) (masters : List Store) (before after : KeeperState) : Type 0 where
+-- the store reads all that it has, with calls of the keeper
+pub record StoreReads (types : EdgeTypes) (query : Query) (read : ReadOut) (calls : StoreCalls) : Type 0 where
   pub store : Store
-  pub stands : slice_get masters (query_shard query) ≡ Some store
-  pub reads : WhereTold store.view.log.told (IsReadOutOf types (before.told store.name).log query read)
+  pub stands : asked_store calls (query_shard query) ≡ Some store
+  pub reads : WhereTold store.view.log.told (IsReadOutOf types (calls.before.told store.name).log query read)
   pub note_is : read_note read ≡ note_of store
-  pub called : Rose before.calls after.calls
+  pub called : Rose calls.before.calls calls.after.calls
+
+-- where no leader may be asked, the region's store answers at the floor itself, and nothing is kept
+pub record StoreAnswers (types : EdgeTypes) (read : Wanted) (given : LeaderAnswer) (calls : StoreCalls) : Type 0 where
+  pub out : ReadOut
+  pub reads : StoreReads types read.query out calls
+  pub given_is : given ≡ at_floor read.floor out
 
 -- ---- keep
 
@@ -120,6 +143,7 @@ pub record TakenFill : Type 0 where
   pub answer : Answer
   pub kept : Kept
 
+-- a fill that came for the ask, or for none, with the answer that it gives and whether it is kept
 abbrev pub taken_fill : Option ℕ → SealedItem → Answer → Kept → TakenFill
 taken_fill ask fill answer kept = record { ask = ask; fill = fill; answer = answer; kept = kept }
 

@@ -1,5 +1,5 @@
--- The stores of a configuration: one for each shard, in the shard's master region.
-use Rattle.std.specs.Prelude.{ℕ, ◌≡◌, ◌<◌, List, Bool, Some, length, refl, slice_get, unwrap_or, ◌%◌}
+-- The stores of a configuration: one for each region and shard, of which one is the shard's master.
+use Rattle.std.specs.Prelude.{ℕ, ◌≡◌, ◌<◌, ◌+◌, ◌*◌, ◌==◌, List, Bool, Some, if◌then◌else◌, length, refl, slice_get, unwrap_or, ◌%◌}
 use Rattle.tao_base.specs.declared.entry.Entry.{Entry}
 use Rattle.tao_base.specs.declared.id.StoreName.{StoreName}
 use Rattle.graph_model.specs.Soundness.{IsSoundOf}
@@ -7,12 +7,14 @@ use Rattle.graph_model.specs.Told.{WhereTold}
 use Rattle.master_tables.specs.Masters.{Masters, stores_of}
 use Rattle.shard_tables.specs.StoreView.{Store}
 use Rattle.shard_tables.specs.Stores.{IsStoreOf}
-use Rattle.shard_tables.specs.declared.store.StoreRole.TheVariants.{Master}
+use Rattle.shard_tables.specs.declared.store.StoreRole.{StoreRole}
+use Rattle.shard_tables.specs.declared.store.StoreRole.TheVariants.{Master, Slave}
 use Rattle.tao_keeper.specs.Table.{Tables}
 use Rattle.tao_schema.specs.Schema.{types_of}
 use Rattle.topology.specs.Config.{Settings}
 use Rattle.write_model.specs.Merges.{Stores}
 use Rattle.write_model.specs.Steps.{AreSoundAndCovered}
+use Rattle.core_model.specs.Pens.{IsSeen, pens_of}
 
 -- the master region of a shard: the masters take turns
 abbrev pub master_of : Settings → ℕ → ℕ
@@ -42,23 +44,65 @@ AreKeptIn s tables = AreSoundAndCovered (types_of s.schema) (stores_in s tables)
 abbrev pub HasSoundLogs : Settings → Tables → Type 0
 HasSoundLogs s tables = (shard : ℕ) → shard < s.shards → IsSoundOf (types_of s.schema) shard (master_log s tables shard)
 
--- the store is the shard's master
-pub record IsMasterOf (s : Settings) (shard : ℕ) (store : Store) : Type 0 where
-  pub name_is : store.name ≡ master_store s shard
-  pub limit_is : store.log_max ≡ s.log_max
-  pub role_is : store.role ≡ Master
+-- ---- all regions
 
--- the stores are those of the first shards, so many, in order
+-- the store of a region and a shard
+abbrev pub region_store : ℕ → ℕ → StoreName
+region_store region shard = record { region = region; shard = shard }
+
+-- the store is one of the configuration's
+pub record IsConfiguredStore (s : Settings) (at : StoreName) : Type 0 where
+  pub region : at.region < length s.regions
+  pub shard : at.shard < s.shards
+
+-- a store makes the writes of its shard in the shard's master region, and takes the entries of them in each other
+abbrev pub role_in : Settings → StoreName → StoreRole
+role_in s at = if at.region == master_of s at.shard then Master else Slave
+
+-- each shard's master region is one of the configuration's
+abbrev pub HaveMasterRegions : Settings → Type 0
+HaveMasterRegions s = (shard : ℕ) → master_of s shard < length s.regions
+
+-- the place of a store: region by region, and in each of them shard by shard
+abbrev pub store_place : Settings → StoreName → ℕ
+store_place s at = at.region * s.shards + at.shard
+
+-- how many stores there are
+abbrev pub store_count : Settings → ℕ
+store_count s = length s.regions * s.shards
+
+-- the store is the one that stands at the place, in the first epoch: none was ever promoted
+pub record IsStoreAt (s : Settings) (place : ℕ) (store : Store) : Type 0 where
+  pub place_is : place ≡ store_place s store.name
+  pub here : IsConfiguredStore s store.name
+  pub limit_is : store.log_max ≡ s.log_max
+  pub epoch_is : store.epoch ≡ 0
+  pub role_is : store.role ≡ role_in s store.name
+
+-- the stores are the first of the configuration's, so many, in order
 pub record AreStores (s : Settings) (count : ℕ) (stores : List Store) : Type 0 where
   pub long : length stores ≡ count
-  pub each : (shard : ℕ) (store : Store) → slice_get stores shard ≡ Some store → IsMasterOf s shard store
+  pub each : (place : ℕ) (store : Store) → slice_get stores place ≡ Some store → IsStoreAt s place store
 
 -- each store has seen its keeper's log of its name
 abbrev pub HaveSeen : Bool → Tables → List Store → Type 0
-HaveSeen tells tables stores = (shard : ℕ) (store : Store) → slice_get stores shard ≡ Some store → IsStoreOf tells tables store
+HaveSeen tells tables stores = (place : ℕ) (store : Store) → slice_get stores place ≡ Some store → IsStoreOf tells tables store
+
+-- what each store has seen of its shard's log begins that. So does a slave's log, which it has seen
+abbrev pub FollowMasters : List Store → Type 0
+FollowMasters stores = (place : ℕ) (store : Store) → slice_get stores place ≡ Some store → IsSeen (pens_of stores) store.name.shard store.view
 
 -- the stores are those of the configuration, and may be used with keepers that tell these tables
 pub record AreStoresOf (tells : Bool) (s : Settings) (tables : Tables) (stores : List Store) : Type 0 where
-  pub masters : AreStores s s.shards stores
+  pub configured : AreStores s (store_count s) stores
   pub kept : WhereTold tells (AreKeptIn s tables)
   pub seen : HaveSeen tells tables stores
+  pub follow : FollowMasters stores
+
+-- how far the store of a region has come with the log of a shard
+abbrev pub store_length : Tables → ℕ → ℕ → ℕ
+store_length tables region shard = length (tables (region_store region shard)).log
+
+-- every region's store of a shard has all of the shard's log
+abbrev pub AreWhole : Settings → Tables → Type 0
+AreWhole s tables = (at : StoreName) → IsConfiguredStore s at → (tables at).log ≡ master_log s tables at.shard

@@ -1,14 +1,16 @@
 //! The names of a configuration's nodes, and who serves a shard.
 ghost use Rattle.std.specs.Prelude.{◌≡◌, ◌%◌, IfOk, length, map};
 ghost use Rattle.std.specs.List.{range_with_len};
-ghost use Rattle.core_model.specs.Fleet.{follower_names, leader_names, regions_of, served_by, serves_in_turn, tiers_from, tiers_of};
+ghost use Rattle.core_model.specs.Stores.{HaveMasterRegions, master_of, role_in, store_place};
+ghost use Rattle.core_model.specs.Fleet.{follower_names, leader_names, region_of, regions_of, served_by, serves_in_turn, tiers_from, tiers_of};
 ghost use Rattle.node_name.specs.declared.NodeName.TheVariants.{Follower as FollowerName, Leader as LeaderName};
 ghost use Rattle.topology.specs.Choices.{serving_follower};
 ghost use Rattle.topology.specs.Counts.{follower_count, leader_count, tier_count};
 
 use node_name::NodeName;
+use shard_tables::StoreRole;
 use std::alloc::Global;
-use tao_base::OutOfMemory;
+use tao_base::{OutOfMemory, StoreName};
 use topology::Config;
 
 /// How many leaders the region at a place has; none where there is no such region.
@@ -140,6 +142,16 @@ pub fn serving_follower(config: &Config, region: u16, tier: u16, shard: u16) -> 
     }
 }
 
+/// The region of a node.
+pub fn region_of(node: NodeName) -> u16
+    ensures { result ≡ region_of node }
+{
+    match node {
+        NodeName::Store(store) => store.region,
+        NodeName::Leader { region, .. } | NodeName::Follower { region, .. } => region,
+    }
+}
+
 /// Whether the node serves the shard: the nodes of a tier, and the leaders of a region, take turns.
 pub fn serves_in_turn(config: &Config, name: NodeName, shard: u16) -> bool
     ensures { result ≡ serves_in_turn (regions_of config.now) name shard }
@@ -166,4 +178,37 @@ pub fn served_by(alloc: Global, config: &Config, name: NodeName) -> Result<Vec<u
             .filter(|shard| serves_in_turn(config, name, *shard))
             .collect(alloc)?,
     )
+}
+
+/// The place of a store: region by region, and in each of them shard by shard.
+pub fn store_place(config: &Config, at: StoreName) -> usize
+    ensures { result ≡ store_place config.now at }
+{
+    usize::from(at.region) * usize::from(config.shards) + usize::from(at.shard)
+}
+
+/// The master region of a shard: the masters take turns.
+pub fn master_of(config: &Config, shard: u16) -> u16
+    ensures { result ≡ master_of config.now shard }
+{
+    let masters = config.masters.as_slice();
+    masters[usize::from(shard) % masters.len()]
+}
+
+/// Whether a store makes the writes of its shard, or takes those of its master.
+pub fn role_in(config: &Config, at: StoreName) -> StoreRole
+    ensures { result ≡ role_in config.now at }
+{
+    if at.region == master_of(config, at.shard) {
+        StoreRole::Master
+    } else {
+        StoreRole::Slave
+    }
+}
+
+/// Each shard's master region is one of the configuration's.
+pub fn masters_are_regions(config: &Config)
+    ensures { HaveMasterRegions config.now }
+{
+    let _ = config.masters.as_slice();
 }

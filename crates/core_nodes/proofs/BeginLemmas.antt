@@ -1,227 +1,272 @@
 -- What is known of the nodes that a core begins with.
-use Rattle.std.proofs.Common.{◌≡◌, ℕ, zero, suc, ◌+◌, ◌≤◌, ◌<◌, Bool, true, false, List, [], ◌∷◌, ◌++◌, length, get_or, take, cond, Option, Some}
+use Rattle.std.proofs.Common.{◌≡◌, ℕ, ◌+◌, ◌≤◌, ◌<◌, Bool, true, List, [], ◌∷◌, ◌++◌, length, get_or, Option, Some}
 use Rattle.std.proofs.Common.{None, refl, ap, sym, ◌∙◌, subst, inl, inr, arith, length-append}
-use Rattle.std.specs.Prelude.{filter, map, slice_get, slice_index_or}
-use Rattle.std.specs.List.{AllByRecursion, range_with_len}
-use Rattle.std.proofs.lemmas.List.{length-map, take_all, take_more}
+use Rattle.std.specs.Prelude.{◌==◌, map, slice_get, slice_index_or}
+use Rattle.std.specs.List.{AllByRecursion}
+use Rattle.std.proofs.lemmas.Bool.{cases_Bool, cases_eq, eqb-true}
 use Rattle.std.proofs.lemmas.Option.{slice_get-get_or, slice_get_cases, slice_get_within, unwrap_or-slice_get}
 use Rattle.std.proofs.Math.ListN.{get_or-append}
 use Rattle.std.proofs.Math.Seq.{get_or-append_seam}
+use Rattle.cache_items.specs.Node.{Node, empty_node}
 use Rattle.graph_model.proofs.Sound.{slice_get-push}
 use Rattle.graph_model.specs.Told.{WhereTold}
 use Rattle.low_water.specs.Marks.{marks}
 use Rattle.node_name.specs.declared.NodeName.{NodeName}
 use Rattle.served_shards.specs.Begun.{AreReached, AreToldAlike, begun_at}
+use Rattle.served_shards.specs.Served.{ServedShard, served_at}
 use Rattle.shard_log.proofs.Beginnings.{begins-self}
-use Rattle.shard_log.proofs.GrowthLemmas.{grows-self}
-use Rattle.shard_log.specs.View.{Grows, View}
+use Rattle.shard_log.proofs.GrowthLemmas.{grows-trans}
+use Rattle.shard_log.specs.View.{View, as_note}
 use Rattle.shard_tables.specs.StoreView.{Store}
-use Rattle.shard_tables.specs.Stores.{HasSeen, IsStoreOf, note_of, seen_by}
-use Rattle.shard_tables.specs.declared.store.StoreRole.{StoreRole}
-use Rattle.shard_tables.specs.declared.store.StoreRole.TheVariants.{Master, Slave}
-use Rattle.tao_base.specs.declared.entry.Entry.{Entry}
+use Rattle.shard_tables.specs.Stores.{IsStoreOf, note_of, seen_by}
+use Rattle.shard_tables.specs.declared.store.StoreRole.TheVariants.{Master}
+use Rattle.tao_base.specs.declared.id.StoreName.{StoreName}
 use Rattle.tao_keeper.specs.Table.{Tables}
 use Rattle.topology.specs.Config.{Settings}
+use Rattle.core_model.proofs.FoundStores.{master_found, named_stands}
+use Rattle.core_model.proofs.Places.{one_some}
 use Rattle.core_model.specs.Consistent.{AreSeen}
-use Rattle.core_model.specs.Fleet.{served_by, serves_in_turn, regions_of}
-use Rattle.core_model.specs.Pens.{AreFirstNotes, IsSeen, no_view, pens_of, view_or_none}
-use Rattle.core_model.specs.Stores.{AreStores, HaveSeen, master_log}
-use Rattle.core_nodes.specs.Beginning.{AreAlikeStores, AreLengths, AreMeasured, IsTurn, length_at, note_at, note_or_none}
+use Rattle.core_model.specs.Fleet.{region_of, served_by}
+use Rattle.core_model.specs.Pens.{AreFirstNotes, IsSeen, Pens, pens_of, view_or_none}
+use Rattle.core_model.specs.Stores.{AreStores, FollowMasters, HaveMasterRegions, HaveSeen, IsConfiguredStore, master_store, region_store, store_count}
+use Rattle.core_model.specs.Stores.{store_place}
+use Rattle.core_nodes.specs.Beginning.{AreFirstLengths, AreLengths, AreMeasured, HaveSeenLengths, IsTurn, length_at, length_in, note_at}
+use Rattle.core_nodes.specs.Beginning.{begun_node, note_in, note_or_none}
 use Rattle.core_nodes.specs.declared.beginning.Turn.{Turn}
-
--- ---- the shards of a node are configured
-
-range_within : (first count top : ℕ) → first + count ≤ top → AllByRecursion (λ k. k < top) (range_with_len first count)
-range_within first zero top le = tt
-range_within first (suc count) top le = (omega (arith, le), range_within (first + 1) count top (omega (arith, le)))
-
-keeps_within : (keep : Bool) (top x : ℕ) (xs : List ℕ) → x < top → AllByRecursion (λ k. k < top) xs → AllByRecursion (λ k. k < top) (cond keep (x ∷ xs) xs)
-keeps_within true top x xs lt h = (lt, h)
-keeps_within false top x xs lt h = h
-
-filter_within : (p : ℕ → Bool) (top : ℕ) (xs : List ℕ) → AllByRecursion (λ k. k < top) xs → AllByRecursion (λ k. k < top) (filter p xs)
-filter_within p top [] h = tt
-filter_within p top (x ∷ xs) h = keeps_within (p x) top x (filter p xs) h.0 (filter_within p top xs h.1)
-
-pub served_within : (s : Settings) (name : NodeName) (top : ℕ) → s.shards ≡ top → AllByRecursion (λ shard. shard < top) (served_by s name)
-served_within s name top is = filter_within (serves_in_turn (regions_of s) name) top (range_with_len 0 s.shards)
-    (range_within 0 s.shards top (omega (arith, is)))
+use Rattle.core_nodes.proofs.NotesSeen.{role_entries, role_grows, seen_long}
+use Rattle.leader_tier.proofs.LegalReads.{role_log}
+use Rattle.core_nodes.proofs.OpenLemmas.{place_within}
 
 -- ---- the lengths of the logs
 
--- one more store's
-pub lengths_more : (xs : List Store) (ls : List ℕ) (x : Store) (n : ℕ) → AreLengths xs ls → WhereTold x.view.log.told (n ≡ length x.view.entries)
-    → AreLengths (xs ++ x ∷ []) (ls ++ n ∷ [])
-lengths_more xs ls x n are is = record {
-  all = omega (arith, length-append xs (x ∷ []), length-append ls (n ∷ []), are.all);
-  each = λ shard store h. elim (slice_get-push xs x shard store h) [
-    | inl e ↦ (
-        let within : shard < length xs = slice_get_within xs shard store e in
-        let before : length_at (ls ++ n ∷ []) shard ≡ length_at ls shard =
-        unwrap_or-slice_get (ls ++ n ∷ []) shard 0 ∙ (get_or-append ls (n ∷ []) 0 shard (omega (arith, within, are.all)) ∙ sym
-        (unwrap_or-slice_get ls shard 0)) in
-        λ told. before ∙ are.each shard store e told)
-    | inr e ↦ (
-        let here : shard ≡ length ls = e.0 ∙ sym are.all in
-        let at : length_at (ls ++ n ∷ []) shard ≡ n =
-        unwrap_or-slice_get (ls ++ n ∷ []) shard 0 ∙ (ap (λ k. get_or (ls ++ n ∷ []) k 0) here ∙ get_or-append_seam ls n [] 0) in
-        subst (λ y. WhereTold y.view.log.told (length_at (ls ++ n ∷ []) shard ≡ length y.view.entries)) e.1 (λ told. at ∙ is told))
-  ];
-}
+pub lengths_none : (tells : Bool) (tables : Tables) (stores : List Store) → AreFirstLengths tells tables stores 0 []
+lengths_none tells tables stores = record { long = refl; each = λ place store at lt. absurd (omega (arith, lt)) }
 
--- so it is where the code reads the next store
-pub lengths_next : (xs ys : List Store) (ls more : List ℕ) (place here n : ℕ) (d : Store) → AreLengths (take place xs) ls → ys ≡ xs → here ≡ place
-    → place < length xs
-    → more ≡ ls ++ n ∷ [] → WhereTold (slice_index_or ys here d).view.log.told (n ≡ length (slice_index_or ys here d).view.entries)
-    → AreLengths (take (place + 1) xs) more
-lengths_next xs ys ls more place here n d are same at lt pushed is =
-    let x = slice_index_or ys here d in
-    let read : get_or xs place d ≡ x = ap (λ l. get_or l place d) (sym same) ∙ ap (λ k. get_or ys k d) (sym at) in
-    let next : take (place + 1) xs ≡ take place xs ++ x ∷ [] = take_more xs place d lt ∙ ap (λ y. take place xs ++ y ∷ []) read in
-    subst (λ l. AreLengths l more) (sym next) (subst (AreLengths (take place xs ++ x ∷ [])) (sym pushed) (lengths_more (take place xs) ls x n are is))
+module _ (tells : Bool) (tables : Tables) (stores : List Store) where
+  -- one more store's
+  lengths_more : (count n : ℕ) (ls : List ℕ) → AreFirstLengths tells tables stores count ls
+      → ((store : Store) → slice_get stores count ≡ Some store → WhereTold tells (n ≡ length (tables store.name).log))
+      → AreFirstLengths tells tables stores (count + 1) (ls ++ n ∷ [])
+  lengths_more count n ls are is = record {
+    long = (let long = are.long in omega (arith, long, length-append ls (n ∷ [])));
+    each = λ place store at lt. elim (cases_eq place count) [
+      | inl same ↦ (
+          let here : place ≡ length ls = same ∙ sym are.long in
+          let read : length_at (ls ++ n ∷ []) place ≡ n =
+          unwrap_or-slice_get (ls ++ n ∷ []) place 0 ∙ (ap (λ k. get_or (ls ++ n ∷ []) k 0) here ∙ get_or-append_seam ls n [] 0) in
+          λ told. read ∙ is store (subst (λ k. slice_get stores k ≡ Some store) same at) told)
+      | inr differ ↦ (
+          let before : place < count = omega (arith, lt, differ) in
+          let read : length_at (ls ++ n ∷ []) place ≡ length_at ls place =
+          unwrap_or-slice_get (ls ++ n ∷ []) place 0 ∙ (get_or-append ls (n ∷ []) 0 place (let long = are.long in omega (arith, before, long)) ∙ sym
+          (unwrap_or-slice_get ls place 0)) in
+          λ told. read ∙ are.each place store at before told)
+    ];
+  }
 
--- the stores that the code reads have seen their logs
-pub seen_read : (tells : Bool) (tables : Tables) (s : Settings) (xs ys : List Store) (place here : ℕ) (d : Store) → AreStores s s.shards xs
-    → HaveSeen tells tables xs → ys ≡ xs
-    → here ≡ place → place < s.shards → IsStoreOf tells tables (slice_index_or ys here d)
-seen_read tells tables s xs ys place here d are seen same at lt =
-    let within : here < length ys = omega (arith, are.long, ap length same, at, lt) in
-    seen here (slice_index_or ys here d) (ap (λ l. slice_get l here) (sym same) ∙ slice_get-get_or ys here d within)
+  -- so it is where the code reads the next store
+  pub lengths_next : (ys : List Store) (ls more : List ℕ) (place n : ℕ) (d : Store) → AreFirstLengths tells tables stores place ls → ys ≡ stores
+      → place < length ys → more ≡ ls ++ n ∷ [] → WhereTold tells (n ≡ length (tables (slice_index_or ys place d).name).log)
+      → AreFirstLengths tells tables stores (place + 1) more
+  lengths_next ys ls more place n d are same lt pushed is =
+      let read : slice_get stores place ≡ Some (slice_index_or ys place d) = ap (λ l. slice_get l place) (sym same) ∙ slice_get-get_or ys place d lt in
+      subst (AreFirstLengths tells tables stores (place + 1)) (sym pushed)
+      (lengths_more place n ls are (λ store at.
+      let one : slice_index_or ys place d ≡ store = one_some (slice_index_or ys place d) store (sym read ∙ at) in
+      subst (λ (x : Store). WhereTold tells (n ≡ length (tables x.name).log)) one is))
 
--- all are measured
-pub measured : (tells : Bool) (tables : Tables) (s : Settings) (xs : List Store) (ls : List ℕ) (count : ℕ) → AreStores s s.shards xs
-    → HaveSeen tells tables xs → count ≡ s.shards
-    → AreLengths (take count xs) ls → AreMeasured s xs ls
-measured tells tables s xs ls count are seen all lengths = record {
-  stores = are;
-  logs = subst (λ l. AreLengths l ls) (take_all count xs (omega (arith, are.long, all))) lengths;
-  alike = record { told = tells; each = λ shard store at. (seen shard store at).told_is };
-}
+-- the store that the code reads has seen its log
+pub seen_read : (tells : Bool) (tables : Tables) (xs ys : List Store) (place : ℕ) (d : Store) → HaveSeen tells tables xs → ys ≡ xs → place < length ys
+    → IsStoreOf tells tables (slice_index_or ys place d)
+seen_read tells tables xs ys place d seen same lt =
+    seen place (slice_index_or ys place d) (ap (λ l. slice_get l place) (sym same) ∙ slice_get-get_or ys place d lt)
+
+-- and is of a shard of the configuration
+pub shard_read : (s : Settings) (xs ys : List Store) (place : ℕ) (d : Store) → AreStores s (store_count s) xs → ys ≡ xs → place < length ys
+    → (slice_index_or ys place d).name.shard < s.shards
+shard_read s xs ys place d are same lt =
+    (are.each place (slice_index_or ys place d) (ap (λ l. slice_get l place) (sym same) ∙ slice_get-get_or ys place d lt)).here.shard
+
+module _ (tells : Bool) (tables : Tables) (s : Settings) (xs : List Store) (ls : List ℕ) (count : ℕ) (are : AreStores s (store_count s) xs)
+    (seen : HaveSeen tells tables xs) (all : length xs ≤ count) (count_is : count ≤ length xs) (lengths : AreFirstLengths tells tables xs count ls) where
+  -- all are measured
+  pub measured : AreMeasured s xs ls
+  measured = record {
+    configured = are;
+    seen = λ place store at told.
+        (let is = seen place store at in
+        let tell : tells ≡ true = sym is.told_is ∙ told in
+        let n = lengths.each place store at (let lt = slice_get_within xs place store at in omega (arith, lt, all)) tell in
+        let long = seen_long store.role (tables store.name).log store.view.entries (is.seen tell) in
+        omega (arith, n, long));
+    alike = record { told = tells; each = λ place store at. (seen place store at).told_is };
+  }
+
+  pub all_lengths : AreLengths tells s tables ls
+  all_lengths = record {
+    long = (let long = lengths.long in let stores = are.long in omega (arith, long, stores, all, count_is));
+    each = λ at here told.
+        let found = named_stands s xs are at here in
+        let lt = slice_get_within xs (store_place s at) found.0 found.1.stands in
+        lengths.each (store_place s at) found.0 found.1.stands (omega (arith, lt, all)) told ∙ ap (λ a. length (tables a).log) found.1.name_is;
+  }
 
 -- ---- what a note has seen
 
-seen_log : (role : StoreRole) (v : View) → (seen_by role v).log ≡ v.log
-seen_log Master v = refl
-seen_log Slave v = refl
-
-seen_entries : (role : StoreRole) (v : View) → (seen_by role v).entries ≡ v.entries
-seen_entries Master v = refl
-seen_entries Slave v = refl
-
--- a shard's store, or none
-by_store : (masters : List Store) (shard : ℕ) (P : Option Store → Type 0) → ((store : Store) → slice_get masters shard ≡ Some store
-    → P (Some store)) → P None → P (slice_get masters shard)
-by_store masters shard P some none = elim (slice_get_cases masters shard).1 [
+-- the store at a place, or none
+by_store : (stores : List Store) (place : ℕ) (P : Option Store → Type 0) → ((store : Store) → slice_get stores place ≡ Some store
+    → P (Some store)) → P None → P (slice_get stores place)
+by_store stores place P some none = elim (slice_get_cases stores place).1 [
   | inl e ↦ subst P (sym e.2) (some e.0 e.2)
   | inr e ↦ subst P (sym e.1) none
 ]
 
-reaches : (masters : List Store) (lengths : List ℕ) (shard : ℕ) → AreLengths masters lengths
-    → WhereTold (note_at masters shard).log.told (length_at lengths shard ≤ length (note_at masters shard).entries)
-reaches masters lengths shard are =
-    by_store masters shard (λ o. WhereTold (note_or_none o).log.told (length_at lengths shard ≤ length (note_or_none o).entries))
-    (λ store is told. let log = seen_log store.role store.view in
-    let all = are.each shard store is (ap (λ l. l.told) (sym log) ∙ told) in
-    let same : length (note_of store).entries ≡ length store.view.entries = ap length (seen_entries store.role store.view) in omega (arith, all, same))
+reaches : (stores : List Store) (lengths : List ℕ) (place : ℕ) → HaveSeenLengths stores lengths
+    → WhereTold (note_at stores place).log.told (length_at lengths place ≤ length (note_at stores place).entries)
+reaches stores lengths place are =
+    by_store stores place (λ o. WhereTold (note_or_none o).log.told (length_at lengths place ≤ length (note_or_none o).entries))
+    (λ store is told. let log = role_log store.role store.view in
+    let within = are place store is (ap (λ l. l.told) (sym log) ∙ told) in
+    let same : length (note_of store).entries ≡ length store.view.entries = ap length (role_entries store.role store.view) in omega (arith, within, same))
     (λ told. absurd (cc))
 
-pub reached : (masters : List Store) (lengths shards : List ℕ) → AreLengths masters lengths
-    → AreReached (map (length_at lengths) shards) (map (note_at masters) shards)
-reached masters lengths [] are = tt
-reached masters lengths (shard ∷ shards) are = (reaches masters lengths shard are, reached masters lengths shards are)
-
-alike_here : (masters : List Store) (told : Bool) (shard : ℕ) → ((n : ℕ) (store : Store) → slice_get masters n ≡ Some store
-    → store.view.log.told ≡ told) → shard < length masters
-    → (note_at masters shard).log.told ≡ told
-alike_here masters told shard are lt = elim (slice_get_cases masters shard).1 [
-  | inl e ↦ ap (λ o. (note_or_none o).log.told) e.2 ∙ (ap (λ l. l.told) (seen_log e.0.role e.0.view) ∙ are shard e.0 e.2)
-  | inr e ↦ absurd (omega (arith, lt, e.0))
+alike_here : (stores : List Store) (told : Bool) (place : ℕ) → ((n : ℕ) (store : Store) → slice_get stores n ≡ Some store → store.view.log.told ≡ told)
+    → place < length stores → (note_at stores place).log.told ≡ told
+alike_here stores told place are lt = elim (slice_get_cases stores place).1 [
+  | inl e ↦ ap (λ o. (note_or_none o).log.told) e.2 ∙ (ap (λ l. l.told) (role_log e.0.role e.0.view) ∙ are place e.0 e.2)
+  | inr e ↦ absurd (let past = e.0 in omega (arith, lt, past))
 ]
 
-alike_all : (masters : List Store) (told : Bool) (shards : List ℕ) → ((n : ℕ) (store : Store) → slice_get masters n ≡ Some store → store.view.log.told ≡ told)
-    → AllByRecursion (λ shard. shard < length masters) shards → AllByRecursion (λ v. v.log.told ≡ told) (map (note_at masters) shards)
-alike_all masters told [] are within = tt
-alike_all masters told (shard ∷ shards) are within = (alike_here masters told shard are within.0, alike_all masters told shards are within.1)
+-- ---- what a node begins with
 
-pub told_alike : (masters : List Store) (shards : List ℕ) → AreAlikeStores masters → AllByRecursion (λ shard. shard < length masters) shards
-    → AreToldAlike (map (note_at masters) shards)
-told_alike masters shards are within = record { told = are.told; each = alike_all masters are.told shards are.each within }
+module _ (s : Settings) (stores : List Store) (lengths : List ℕ) (region : ℕ) (are : AreMeasured s stores lengths) (here : region < length s.regions) where
+  -- there is a store of each shard
+  pub region_within : (shard : ℕ) → shard < s.shards → store_place s (region_store region shard) < length stores
+  region_within shard lt =
+      let within = place_within s (region_store region shard) (record { region = here; shard = lt }) in
+      let long = are.configured.long in
+      omega (arith, within, long)
 
--- ---- the shards that a node begins with
+  reached : (shards : List ℕ) → AreReached (map (length_in s lengths region) shards) (map (note_in s stores region) shards)
+  reached [] = tt
+  reached (shard ∷ shards) = (reaches stores lengths (store_place s (region_store region shard)) are.seen, reached shards)
 
-pub turn_is : (s : Settings) (masters : List Store) (lengths : List ℕ) (name : NodeName) (turn : Turn) → AreMeasured s masters lengths
-    → turn.shards.items ≡ served_by s name
-    → turn.lengths.items ≡ map (length_at lengths) turn.shards.items → turn.notes.items ≡ map (note_at masters) turn.shards.items
-    → IsTurn s masters lengths name turn
-turn_is s masters lengths name turn are shards marks notes =
-    let all = served_by s name in
-    let marks_are : turn.lengths.items ≡ map (length_at lengths) all = marks ∙ ap (map (length_at lengths)) shards in
-    let notes_are : turn.notes.items ≡ map (note_at masters) all = notes ∙ ap (map (note_at masters)) shards in
-    let within = served_within s name (length masters) (sym are.stores.long) in
-    record {
-      shards = shards;
-      marks = marks_are;
-      notes = notes_are;
-      each = sym (ap length marks ∙ length-map turn.shards.items (length_at lengths));
-      reached = subst (λ ls. AreReached ls turn.notes.items) (sym marks_are) (subst (AreReached (map (length_at lengths) all)) (sym notes_are)
-          (reached masters lengths all are.logs));
-      alike = subst AreToldAlike (sym notes_are) (told_alike masters all are.alike within);
-    }
+  alike_all : (shards : List ℕ) → AllByRecursion (λ shard. shard < s.shards) shards
+      → AllByRecursion (λ v. v.log.told ≡ are.alike.told) (map (note_in s stores region) shards)
+  alike_all [] within = tt
+  alike_all (shard ∷ shards) within = (
+    alike_here stores are.alike.told (store_place s (region_store region shard)) are.alike.each (region_within shard within.0),
+    alike_all shards within.1,
+  )
 
-pub shards_begun : (lengths shards : List ℕ) (masters : List Store)
-    → map (λ t. t.shard) (begun_at shards (map (length_at lengths) shards) (map (note_at masters) shards)) ≡ shards
-shards_begun lengths [] masters = refl
-shards_begun lengths (shard ∷ shards) masters = ap (λ xs. shard ∷ xs) (shards_begun lengths shards masters)
+  pub turn_is : (shards : List ℕ) (turn : Turn) → AllByRecursion (λ shard. shard < s.shards) shards
+      → turn.lows.items ≡ map (length_in s lengths region) shards → turn.notes.items ≡ map (note_in s stores region) shards
+      → IsTurn s stores lengths region shards turn
+  turn_is shards turn within lows notes = record {
+    lows = lows;
+    notes = notes;
+    reached = subst (λ ls. AreReached ls turn.notes.items) (sym lows)
+        (subst (AreReached (map (length_in s lengths region) shards)) (sym notes) (reached shards));
+    alike = subst AreToldAlike (sym notes) (record { told = are.alike.told; each = alike_all shards within });
+  }
 
-role_grows : (role : StoreRole) (v : View) → Grows (seen_by role v) v
-role_grows Master v = record { log_is = refl; begins = begins-self v.entries }
-role_grows Slave v = grows-self v
+-- the node that is made with it
+pub begun_is : (s : Settings) (stores : List Store) (lengths : List ℕ) (name : NodeName) (node : Node) (most : ℕ) (shards lows : List ℕ) (notes : List View)
+    → node ≡ empty_node most (begun_at shards lows notes) → most ≡ s.cache_items → shards ≡ served_by s name
+    → lows ≡ map (length_in s lengths (region_of name)) (served_by s name) → notes ≡ map (note_in s stores (region_of name)) (served_by s name)
+    → node ≡ begun_node s stores lengths name
+begun_is s stores lengths name node most shards lows notes is most_is shards_are lows_are notes_are =
+    is ∙ ap (λ m. empty_node m (begun_at shards lows notes)) most_is
+    ∙ ap (λ ks. empty_node s.cache_items (begun_at ks lows notes)) shards_are
+    ∙ ap (λ ls. empty_node s.cache_items (begun_at (served_by s name) ls notes)) lows_are
+    ∙ ap (λ ns. empty_node s.cache_items (begun_at (served_by s name) (map (length_in s lengths (region_of name)) (served_by s name)) ns)) notes_are
 
-pub note_grows : (o : Option Store) → Grows (note_or_none o) (view_or_none o)
-note_grows None = grows-self no_view
-note_grows (Some store) = role_grows store.role store.view
+-- what it begins with, by its name
+pub turn_named : (s : Settings) (stores : List Store) (lengths : List ℕ) (region other : ℕ) (shards others : List ℕ) (turn : Turn) → region ≡ other
+    → shards ≡ others → IsTurn s stores lengths region shards turn → IsTurn s stores lengths other others turn
+turn_named s stores lengths region other shards others turn same are is =
+    subst (λ k. IsTurn s stores lengths k others turn) same (subst (λ ks. IsTurn s stores lengths region ks turn) are is)
+
+-- ---- what is then served
+
+module _ (low : ℕ → ℕ) (note : ℕ → View) where
+  pub shards_begun : (shards : List ℕ) → map (λ t. t.shard) (begun_at shards (map low shards) (map note shards)) ≡ shards
+  shards_begun [] = refl
+  shards_begun (shard ∷ shards) = ap (λ xs. shard ∷ xs) (shards_begun shards)
+
+  pub seen_begun : (pens : Pens) (shards : List ℕ) → AllByRecursion (λ shard. IsSeen pens shard (note shard)) shards
+      → AreSeen pens (begun_at shards (map low shards) (map note shards))
+  seen_begun pens [] seen = tt
+  seen_begun pens (shard ∷ shards) seen = (seen.0, seen_begun pens shards seen.1)
+
+  -- each shard begins at its length
+  pub marks_begun : (Within : ℕ → Type 0) (shards : List ℕ) (shard : ℕ) (t : ServedShard) → AllByRecursion Within shards
+      → served_at shard (begun_at shards (map low shards) (map note shards)) ≡ Some t → Within shard × (t.marks ≡ marks (low shard) [])
+  marks_begun Within [] shard t all is = absurd (cc)
+  marks_begun Within (k ∷ shards) shard t all is = elim (cases_Bool (k == shard)) [
+    | inl same ↦ (
+        let number : k ≡ shard = eqb-true k shard same in
+        let found : record { shard = k; marks = marks (low k) []; view = note k } ≡ t = one_some _ t (rw same at is) in
+        (subst Within number all.0, ap (λ (x : ServedShard). x.marks) (sym found) ∙ ap (λ n. marks (low n) []) number))
+    | inr other ↦ marks_begun Within shards shard t all.1 (rw other at is)
+  ]
+
+-- a note of a region's store has seen what begins the shard's log
+pub note_seen : (s : Settings) (stores : List Store) (region shard : ℕ) → AreStores s (store_count s) stores → FollowMasters stores
+    → IsConfiguredStore s (region_store region shard) → IsSeen (pens_of stores) shard (note_in s stores region shard)
+note_seen s stores region shard are follow here =
+    let found = named_stands s stores are (region_store region shard) here in
+    let store : Store = found.0 in
+    let own = follow (store_place s (region_store region shard)) store found.1.stands in
+    let seen : IsSeen (pens_of stores) shard (note_of store) =
+    grows-trans (note_of store) store.view (pens_of stores shard) (role_grows store.role store.view)
+    (subst (λ (n : StoreName). IsSeen (pens_of stores) n.shard store.view) found.1.name_is own) in
+    subst (λ o. IsSeen (pens_of stores) shard (note_or_none o)) (sym found.1.stands) seen
+
+-- ---- notes of whole logs
+
+module _ (s : Settings) (regions : HaveMasterRegions s) (stores : List Store) (are : AreStores s (store_count s) stores) (shard : ℕ) (lt : shard < s.shards)
+  where
+    abbrev place : ℕ
+    place = store_place s (master_store s shard)
+
+    -- the master's store stands at its place
+    pub master_within : (here : ℕ) → here ≡ place → here < length stores
+    master_within here same =
+        let within = place_within s (master_store s shard) (record { region = regions shard; shard = lt }) in
+        let long = are.long in
+        omega (arith, within, long, same)
+
+    pub record IsPen (store : Store) : Type 0 where
+      pub role_is : store.role ≡ Master
+      pub view_is : pens_of stores shard ≡ store.view
+
+    pub pen_at : (here : ℕ) (store : Store) → here ≡ place → slice_get stores here ≡ Some store → IsPen store
+    pen_at here store same stands =
+        let found = named_stands s stores are (master_store s shard) (record { region = regions shard; shard = lt }) in
+        let one : found.0 ≡ store = one_some found.0 store (sym found.1.stands ∙ subst (λ k. slice_get stores k ≡ Some store) same stands) in
+        let master = master_found s stores are shard found.0 found.1 in
+        subst IsPen one (record { role_is = master.0; view_is = ap view_or_none master.1 })
+
+    -- a note at that place has seen the whole log
+    pub pen_note : (here : ℕ) (note : View) → here ≡ place → note ≡ note_at stores here → note ≡ as_note (pens_of stores shard)
+    pen_note here note same is = elim (slice_get_cases stores here).1 [
+      | inl e ↦ (
+          let pen = pen_at here e.0 same e.2 in
+          is ∙ ap note_or_none e.2 ∙ ap (λ r. seen_by r e.0.view) pen.role_is ∙ ap as_note (sym pen.view_is))
+      | inr e ↦ absurd (let past = e.0 in let inside = master_within here same in omega (arith, past, inside))
+    ]
 
 -- one more note, of the next shard
-pub notes_more : (masters ys : List Store) (shard : ℕ) (note : View) (notes more : List View) → AreFirstNotes (pens_of masters) shard notes → ys ≡ masters
-    → note ≡ note_at ys shard → more ≡ notes ++ note ∷ [] → AreFirstNotes (pens_of masters) (shard + 1) more
-notes_more masters ys shard note notes more are same is pushed =
-    let seen : IsSeen (pens_of masters) shard note =
-    subst (IsSeen (pens_of masters) shard) (sym (is ∙ ap (λ ms. note_at ms shard) same)) (note_grows (slice_get masters shard)) in
+pub notes_more : (pens : Pens) (shard : ℕ) (note : View) (notes more : List View) → AreFirstNotes pens shard notes → note ≡ as_note (pens shard)
+    → more ≡ notes ++ note ∷ [] → AreFirstNotes pens (shard + 1) more
+notes_more pens shard note notes more are is pushed =
+    let whole : IsSeen pens shard (as_note (pens shard)) = record { log_is = refl; begins = begins-self (pens shard).entries } in
+    let seen : IsSeen pens shard note = subst (IsSeen pens shard) (sym is) whole in
     record {
       long = (let long = are.long in omega (arith, ap length pushed, length-append notes (note ∷ []), long));
       seen = λ n v h. elim (slice_get-push notes note n v (ap (λ l. slice_get l n) (sym pushed) ∙ h)) [
         | inl e ↦ are.seen n v e
-        | inr e ↦ subst (IsSeen (pens_of masters) n) e.1 (subst (λ k. IsSeen (pens_of masters) k note) (sym (e.0 ∙ are.long)) seen)
+        | inr e ↦ subst (IsSeen pens n) e.1 (subst (λ k. IsSeen pens k note) (sym (e.0 ∙ are.long)) seen)
       ];
     }
-
-pub seen_begun : (lengths shards : List ℕ) (masters : List Store)
-    → AreSeen (pens_of masters) (begun_at shards (map (length_at lengths) shards) (map (note_at masters) shards))
-seen_begun lengths [] masters = tt
-seen_begun lengths (shard ∷ shards) masters = (note_grows (slice_get masters shard), seen_begun lengths shards masters)
-
--- where the keeper tells, a length is that of the keeper's log
-log_of_role : (role : StoreRole) (log entries : List Entry) → role ≡ Master → HasSeen role log entries → entries ≡ log
-log_of_role Master log entries is seen = seen
-log_of_role Slave log entries is seen = absurd (cc)
-
-module _ (s : Settings) (tells : Bool) (tables : Tables) (masters : List Store) (lengths : List ℕ) where
-  pub length_is : (shard : ℕ) → AreMeasured s masters lengths → HaveSeen tells tables masters → tells ≡ true → shard < length masters
-      → length_at lengths shard ≡ length (master_log s tables shard)
-  length_is shard are seen told lt = elim (slice_get_cases masters shard).1 [
-    | inl e ↦ (
-        let store = e.0 in
-        let own = seen shard store e.2 in
-        let is = are.stores.each shard store e.2 in
-        let log = log_of_role store.role (tables store.name).log store.view.entries is.role_is (own.seen told) in
-        are.logs.each shard store e.2 (own.told_is ∙ told) ∙ ap length (log ∙ ap (λ at. (tables at).log) is.name_is))
-    | inr e ↦ absurd (omega (arith, lt, e.0))
-  ]
-
-  pub ends_begun : (shards : List ℕ) → AreMeasured s masters lengths → HaveSeen tells tables masters → tells ≡ true
-      → AllByRecursion (λ shard. shard < length masters) shards
-      → AllByRecursion (λ served. served.marks ≡ marks (length (master_log s tables served.shard)) [])
-      (begun_at shards (map (length_at lengths) shards) (map (note_at masters) shards))
-  ends_begun [] are seen told within = tt
-  ends_begun (shard ∷ shards) are seen told within =
-      (ap (λ low. marks low []) (length_is shard are seen told within.0), ends_begun shards are seen told within.1)

@@ -11,13 +11,12 @@ use Rattle.cache_node.proofs.Marked.{low_is_marked}
 use Rattle.cache_node.proofs.Reaching.{catching_up_reaches}
 use Rattle.cache_node.proofs.ServedAt.{changed_elsewhere, changed_there}
 use Rattle.cache_node.specs.Laws.{CaughtUp, FollowFrom}
-use Rattle.cache_node.specs.True.{IsTrueServed}
 use Rattle.graph_model.specs.Soundness.{IsSound}
 use Rattle.low_water.proofs.AddedMarks.{mark_adds}
-use Rattle.low_water.specs.Marks.{IsWindow, is_marked, marks}
+use Rattle.low_water.specs.Marks.{IsWindow, Marks, is_marked, marks}
 use Rattle.maint_msg.specs.KeyVersions.{keys_of}
 use Rattle.served_shards.specs.Served.{ServedShard, changed_at, marking, seeing, served_at}
-use Rattle.shard_log.specs.View.{Grows, View}
+use Rattle.shard_log.specs.View.{View}
 use Rattle.tao_base.specs.Ids.{IsRising}
 use Rattle.tao_base.specs.declared.entry.Entry.{Entry}
 use Rattle.core_model.specs.Messages.{Processes}
@@ -101,24 +100,20 @@ reaches_end shard log es note old new s does at window sound is =
     let after : rises.after ≡ reached.reached = cc in
     (reached.reached, there, omega arith, subst (λ (t : ServedShard). IsWindow t.marks) after (rises.window window))
 
--- a mark that is not below the end of the log is there, and nothing is marked ahead
-pub at_end : (log : List Entry) (s : ServedShard) (whole : View) → Grows s.view whole → whole.entries ≡ log → IsTrueServed s → IsWindow s.marks
-    → length log ≤ s.marks.low → s.marks ≡ marks (length log) []
-at_end log s whole grows is truth window reached =
-    let seen : length s.view.entries ≤ length log =
-    (let cut = ap length grows.begins ∙ length-take (length s.view.entries) whole.entries in let same = ap length is in omega arith) in
-    let within : s.marks.low ≤ length s.view.entries = truth.within s.marks.low (low_is_marked s.marks) in
-    let low : s.marks.low ≡ length log = omega arith in
-    let none : s.marks.ahead ≡ [] = none_ahead seen s.marks.ahead refl in
-    ap (λ n. marks n s.marks.ahead) low ∙ ap (marks (length log)) none
+-- a mark that is not below the end of a log is there, and nothing is marked ahead, where nothing is marked past the end
+pub at_end : (count : ℕ) (m : Marks) → IsWindow m → ((p : ℕ) → is_marked m p ≡ true → p ≤ count) → count ≤ m.low → m ≡ marks count []
+at_end count m window within reached =
+    let most : m.low ≤ count = within m.low (low_is_marked m) in
+    let low : m.low ≡ count = omega arith in
+    ap (λ n. marks n m.ahead) low ∙ ap (marks count) (none_ahead m.ahead refl)
   where
-    none_ahead : length s.view.entries ≤ length log → (ahead : List ℕ) → s.marks.ahead ≡ ahead → s.marks.ahead ≡ []
-    none_ahead seen [] is_ahead = is_ahead
-    none_ahead seen (q ∷ qs) is_ahead =
-        let rising : IsRising ((s.marks.low + 1) ∷ q ∷ qs) = subst (λ xs. IsRising ((s.marks.low + 1) ∷ xs)) is_ahead window.rising in
+    none_ahead : (ahead : List ℕ) → m.ahead ≡ ahead → m.ahead ≡ []
+    none_ahead [] is_ahead = is_ahead
+    none_ahead (q ∷ qs) is_ahead =
+        let rising : IsRising ((m.low + 1) ∷ q ∷ qs) = subst (λ xs. IsRising ((m.low + 1) ∷ xs)) is_ahead window.rising in
         let first : list_any (λ x. q == x) (q ∷ qs) ≡ true = rw (eq-eqb q q refl) refl in
-        let on : is_marked s.marks q ≡ true =
-        or_right (nat_le q s.marks.low) (list_any (λ x. q == x) s.marks.ahead) (subst (λ xs. list_any (λ x. q == x) xs ≡ true) (sym is_ahead) first) in
-        let far = truth.within q on in
+        let on : is_marked m q ≡ true =
+        or_right (nat_le q m.low) (list_any (λ x. q == x) m.ahead) (subst (λ xs. list_any (λ x. q == x) xs ≡ true) (sym is_ahead) first) in
+        let far = within q on in
         let next = rising.0 in
         absurd (omega arith)

@@ -38,13 +38,13 @@ log_for s pens name node m is for =
     log_of_shard pens m.shard s name node is ((serves_its_turn s pens name node m.shard).serves is for.here for.serves) ∙ ap Some for.seen.log_is
 
 -- its log is that of the message's shard
-pub leader_for : (s : Settings) (f : Fleet) (name : NodeName) (m : SeenMaint) → IsFleetOf s f → IsMessageFor s (pens_of f.masters) name m
+pub leader_for : (s : Settings) (f : Fleet) (name : NodeName) (m : SeenMaint) → IsFleetOf s f → IsMessageFor s (pens_of f.stores) name m
     → NodeIs name (λ (node : Node). log_at m.shard node.served ≡ Some m.note.log) f.leaders
-leader_for s f name m fleet for place node first at = log_for s (pens_of f.masters) name node m (fleet.leaders place name node at) for
+leader_for s f name m fleet for place node first at = log_for s (pens_of f.stores) name node m (fleet.leaders place name node at) for
 
-pub follower_for : (s : Settings) (f : Fleet) (name : NodeName) (m : SeenMaint) → IsFleetOf s f → IsMessageFor s (pens_of f.masters) name m
+pub follower_for : (s : Settings) (f : Fleet) (name : NodeName) (m : SeenMaint) → IsFleetOf s f → IsMessageFor s (pens_of f.stores) name m
     → NodeIs name (λ (g : FollowerState). log_at m.shard g.node.served ≡ Some m.note.log) f.followers
-follower_for s f name m fleet for place node first at = log_for s (pens_of f.masters) name node.node m (fleet.followers place name node at).node for
+follower_for s f name m fleet for place node first at = log_for s (pens_of f.stores) name node.node m (fleet.followers place name node at).node for
 
 -- ---- it processes the message
 
@@ -53,19 +53,19 @@ pub record DeliverStep (s : Settings) (m : SeenMaint) (dropped : ℕ) (name : No
   pub delivers : DeliversAt (types_of s.schema) m dropped name old new
 
 module _ (s : Settings) (m : SeenMaint) (dropped : ℕ) (inside : Inside) (old : Fleet) (fleet : IsFleetOf s old) where
-  leader_delivers : (region index : ℕ) (ls : List (Named Node)) → IsMessageFor s (pens_of old.masters) (Leader region index) m
+  leader_delivers : (region index : ℕ) (ls : List (Named Node)) → IsMessageFor s (pens_of old.stores) (Leader region index) m
       → ChangesNode (Leader region index) (LeaderDoes (Delivers m dropped)) old.leaders ls
       → DeliverStep s m dropped (Leader region index) old (record old { leaders = ls })
   leader_delivers region index ls for change =
       let name = Leader region index in
       record {
         step = leader_step (LeaderDoes (Delivers m dropped)) s old name ls fleet change
-            (λ from to by is. (nodes_stay s (pens_of old.masters) name).delivers m dropped from to by.does for by.apart by.truth is)
+            (λ from to by is. (nodes_stay s (pens_of old.stores) name).delivers m dropped from to by.does for by.apart by.truth is)
             (λ from to by. nodes_mark_on.delivers m dropped from to by.does);
         delivers = (changes_so (LeaderDoes (Delivers m dropped)) (Delivers m dropped) name old.leaders ls (λ from to by. by.does) change, refl);
       }
 
-  follower_delivers : (region tier index : ℕ) (fs : List (Named FollowerState)) → IsMessageFor s (pens_of old.masters) (Follower region tier index) m
+  follower_delivers : (region tier index : ℕ) (fs : List (Named FollowerState)) → IsMessageFor s (pens_of old.stores) (Follower region tier index) m
       → ChangesNode (Follower region tier index) (FollowerDoes (DeliversThere (types_of s.schema) m dropped)) old.followers fs
       → DeliverStep s m dropped (Follower region tier index) old (record old { followers = fs })
   follower_delivers region tier index fs for change =
@@ -73,7 +73,7 @@ module _ (s : Settings) (m : SeenMaint) (dropped : ℕ) (inside : Inside) (old :
       let Does = DeliversThere (types_of s.schema) m dropped in
       record {
         step = refills_step (FollowerDoes Does) s old name fs fleet change
-            (λ from to by is. (followers_stay s (pens_of old.masters) name).delivers m dropped from to by.does for by.apart by.truth is)
+            (λ from to by is. (followers_stay s (pens_of old.stores) name).delivers m dropped from to by.does for by.apart by.truth is)
             (λ from to by. nodes_ask_on.delivers m dropped from.node to.node by.does.node)
             (λ from to by. nodes_mark_on.delivers m dropped from.node to.node by.does.node);
         delivers = (changes_so (FollowerDoes Does) Does name old.followers fs (λ from to by. by.does) change, refl);
@@ -81,10 +81,10 @@ module _ (s : Settings) (m : SeenMaint) (dropped : ℕ) (inside : Inside) (old :
 
   -- the leaders were lent as a slice
   pub deliver_leader_lent : (name : NodeName) (region index : ℕ) (lent left : List (Named Node)) → name ≡ Leader region index
-      → LendsLeaders inside old lent left → IsMessageFor s (pens_of old.masters) name m → ChangesNode name (LeaderDoes (Delivers m dropped)) lent left
+      → LendsLeaders inside old lent left → IsMessageFor s (pens_of old.stores) name m → ChangesNode name (LeaderDoes (Delivers m dropped)) lent left
       → DeliverStep s m dropped name old (after_leaders inside left)
   deliver_leader_lent name region index lent left is lends for change =
-      let P : NodeName → Type 0 = λ n. IsMessageFor s (pens_of old.masters) n m → ChangesNode n (LeaderDoes (Delivers m dropped)) old.leaders left
+      let P : NodeName → Type 0 = λ n. IsMessageFor s (pens_of old.stores) n m → ChangesNode n (LeaderDoes (Delivers m dropped)) old.leaders left
       → DeliverStep s m dropped n old (record old { leaders = left }) in
       let own = subst (λ xs. ChangesNode name (LeaderDoes (Delivers m dropped)) xs left) lends.own change in
       subst (DeliverStep s m dropped name old) (sym (leaders_after inside old lent left lends))
@@ -92,13 +92,13 @@ module _ (s : Settings) (m : SeenMaint) (dropped : ℕ) (inside : Inside) (old :
 
   -- the followers were
   pub deliver_follower_lent : (schema : Schema) (name : NodeName) (region tier index : ℕ) (lent left : List (Named FollowerState))
-      → name ≡ Follower region tier index → LendsFollowers inside old lent left → schema ≡ s.schema → IsMessageFor s (pens_of old.masters) name m
+      → name ≡ Follower region tier index → LendsFollowers inside old lent left → schema ≡ s.schema → IsMessageFor s (pens_of old.stores) name m
       → ChangesNode name (FollowerDoes (DeliversThere (types_of schema) m dropped)) lent left
       → DeliverStep s m dropped name old (after_followers inside left)
   deliver_follower_lent schema name region tier index lent left is lends of for change =
       let Changes : Schema → NodeName → List (Named FollowerState) → Type 0 =
       λ k n xs. ChangesNode n (FollowerDoes (DeliversThere (types_of k) m dropped)) xs left in
-      let P : NodeName → Type 0 = λ n. IsMessageFor s (pens_of old.masters) n m → Changes s.schema n old.followers
+      let P : NodeName → Type 0 = λ n. IsMessageFor s (pens_of old.stores) n m → Changes s.schema n old.followers
       → DeliverStep s m dropped n old (record old { followers = left }) in
       let own = subst (λ k. Changes k name old.followers) of (subst (Changes schema name) lends.own change) in
       subst (DeliverStep s m dropped name old) (sym (followers_after inside old lent left lends))
@@ -123,12 +123,12 @@ pub record RefillStep (s : Settings) (name : NodeName) (refill : Option Refill) 
   pub step : FleetStep s old new
   pub takes : ChangesNode name (TakesRefill refill) old.followers new.followers
   pub rest : new ≡ record old { followers = new.followers }
-  pub here : IfSome refill (IsRefillFor s (pens_of old.masters) name)
+  pub here : IfSome refill (IsRefillFor s (pens_of old.stores) name)
 
 refill_step : (s : Settings) (name : NodeName) (refill : Option Refill) (old : Fleet) (fs : List (Named FollowerState)) → IsFleetOf s old
     → ChangesNode name (FollowerDoes (TakesRefill refill)) old.followers fs → RefillStep s name refill old (record old { followers = fs })
 refill_step s name refill old fs fleet change =
-    let stay = followers_stay s (pens_of old.masters) name in
+    let stay = followers_stay s (pens_of old.stores) name in
     record {
       step = refills_step (FollowerDoes (TakesRefill refill)) s old name fs fleet change
           (λ from to by is. (stay.takes refill from to by.does is).0) (λ from to by. refill_asks refill from to by.does)

@@ -47,7 +47,7 @@ pub leader_evicts : (s : Settings) (name : NodeName) (key : Option Key) (held : 
     → ChangesNode name (LeaderDoes (Evicts key held)) old.leaders ls → LeaderDrops s name key held old (record old { leaders = ls })
 leader_evicts s name key held old ls fleet change = record {
   step = leader_step (LeaderDoes (Evicts key held)) s old name ls fleet change
-      (λ from to by is. evicted_stays s (pens_of old.masters) name key held from to by.does by.apart by.truth is)
+      (λ from to by is. evicted_stays s (pens_of old.stores) name key held from to by.does by.apart by.truth is)
       (λ from to by. nodes_mark_on.evicts key held from to by.does);
   evicts = changes_so (LeaderDoes (Evicts key held)) (Evicts key held) name old.leaders ls (λ from to by. by.does) change;
   rest = refl;
@@ -70,7 +70,7 @@ pub follower_evicts : (s : Settings) (name : NodeName) (key : Option Key) (held 
     → ChangesNode name (FollowerDoes (EvictsThere key held)) old.followers fs → FollowerDrops s name key held old (record old { followers = fs })
 follower_evicts s name key held old fs fleet change = record {
   step = follower_step (FollowerDoes (EvictsThere key held)) s old name fs fleet change
-      (λ from to by is. evicted_stays s (pens_of old.masters) name key held from.node to.node by.does.0 by.apart by.truth is)
+      (λ from to by is. evicted_stays s (pens_of old.stores) name key held from.node to.node by.does.0 by.apart by.truth is)
       (λ from to by. by.does.1)
       (λ from to by. evicted_asks key held from.node to.node by.does.0)
       (λ from to by. nodes_mark_on.evicts key held from.node to.node by.does.0);

@@ -4,13 +4,15 @@ use Rattle.std.proofs.Common.{IfOk, IfSome, refl, sym, ap, ◌∙◌, subst, inl
 use Rattle.std.specs.Prelude.{All, IsSome, slice_set}
 use Rattle.std.proofs.lemmas.Option.{get_or_from_slice_get, slice_get_within}
 use Rattle.core_model.proofs.KeptStores.{kept_stays, sound_logs}
-use Rattle.core_model.specs.Growing.{MastersGrow}
-use Rattle.core_model.specs.Pens.{pens_of}
+use Rattle.core_model.specs.Growing.{StoresGrow}
+use Rattle.core_model.specs.Pens.{Rise, pens_of}
+use Rattle.core_model.specs.StoreLaws.{StoreGoesOn}
 use Rattle.core_model.specs.Jobs.{IsOwedJob, MergesOwed, ShardJob, far_shard}
-use Rattle.core_model.specs.Stores.{AreKeptIn, AreStoresOf, IsMasterOf, master_log, master_store}
-use Rattle.core_nodes.proofs.GrowingLemmas.{gains_masters, stays_masters}
+use Rattle.core_model.specs.Stores.{AreKeptIn, AreStoresOf, IsConfiguredStore, master_log, master_store}
+use Rattle.core_nodes.proofs.GrowingLemmas.{gains_stores, stays_stores}
 use Rattle.core_nodes.proofs.JobLemmas.{due, is_merged, may_be_merged, merge_keeps, merges_owed}
-use Rattle.core_nodes.proofs.StoreLemmas.{OthersStay, master_gained, others_stay, stores_changed}
+use Rattle.core_nodes.proofs.MasterStores.{IsMasterRead, goes_same, pen_is, pens_rise, stores_left}
+use Rattle.core_nodes.proofs.StoreLemmas.{OthersStay, goes_with, others_stay}
 use Rattle.core_nodes.specs.Repairs.{ComesBack, FindsNoRoom, MergesOrRests, MergesThere, Outside, WritesDueEntry, carry_back, carry_there, outside}
 use Rattle.edge_repair.specs.Calls.{MayTakeJob}
 use Rattle.edge_repair.specs.Carries.{CarriesBack, CarriesBy, FailsAt}
@@ -27,6 +29,8 @@ use Rattle.shard_tables.proofs.WriteLemmas.{has_all}
 use Rattle.shard_tables.specs.StoreView.{Store}
 use Rattle.shard_tables.specs.Stores.{IsStoreOf, store_with}
 use Rattle.shard_tables.specs.Written.{LiesOn, StandsIn, TableGains}
+use Rattle.shard_tables.specs.declared.store.StoreRole.TheVariants.{Master}
+use Rattle.shard_log.specs.View.{Grows}
 use Rattle.tao_base.specs.EdgeTypes.{EdgeTypes, InversesMatch}
 use Rattle.tao_base.specs.Keys.{key_shard}
 use Rattle.tao_base.specs.declared.entry.Entry.{Entry}
@@ -70,14 +74,13 @@ module _ (types : EdgeTypes) (shard : ℕ) (log : List Entry) (e : Entry) (sound
 -- ---- what was written
 
 -- it stands in what the store has seen, and lies on its shard
-module _ (tells : Bool) (s : Settings) (shard : ℕ) (tables : Tables) (x y : Store) (here : shard < s.shards) (is : IsMasterOf s shard x)
-    (of : IsStoreOf tells tables y) (kept : WhereTold tells (AreKeptIn s tables)) where
+module _ (tells : Bool) (s : Settings) (shard : ℕ) (tables : Tables) (x y : Store) (here : shard < s.shards) (named : x.name ≡ master_store s shard)
+    (role : x.role ≡ Master) (of : IsStoreOf tells tables y) (kept : WhereTold tells (AreKeptIn s tables)) where
   sound_seen : (e : Entry) → y ≡ store_with x (Some e) → y.view.log.told ≡ true → IsSoundOf (types_of s.schema) shard (x.view.entries ++ e ∷ [])
   sound_seen e grown heard =
       let told : tells ≡ true = sym of.told_is ∙ heard in
-      let master = master_gained s shard x y (Some e) is grown in
       let log_is : y.view.entries ≡ (tables (master_store s shard)).log =
-      has_all tells tables y master.role_is of told ∙ ap (λ at. (tables at).log) master.name_is in
+      has_all tells tables y (ap (λ (z : Store). z.role) grown ∙ role) of told ∙ ap (λ at. (tables at).log) (ap (λ (z : Store). z.name) grown ∙ named) in
       let own = subst (IsSoundOf (types_of s.schema) shard) (sym log_is) (sound_logs s tables (kept told) shard here) in
       subst (λ (z : Store). IsSoundOf (types_of s.schema) shard z.view.entries) grown own
 
@@ -99,37 +102,39 @@ module _ (tells : Bool) (s : Settings) (shard : ℕ) (tables : Tables) (x y : St
   lies_by (Ok repaired) grown = wrote_lies repaired.wrote grown
   lies_by (Err e) grown = tt
 
-  gained : (r : Result RepairOutcome RepairRefusal) → GainsBy x y r → IsMasterOf s shard y
-  gained (Ok repaired) grown = master_gained s shard x y repaired.wrote is grown
-  gained (Err (LogFull count)) same = subst (IsMasterOf s shard) (sym same) is
-  gained (Err LinkFault) may = master_gained s shard x y may.0 is may.1
-  gained (Err KeeperFault) may = master_gained s shard x y may.0 is may.1
-  gained (Err OutOfMemory) may = master_gained s shard x y may.0 is may.1
+-- the store goes on, by the answer
+pub gained : (x y : Store) (r : Result RepairOutcome RepairRefusal) → Grows x.view y.view → GainsBy x y r → StoreGoesOn x y
+gained x y (Ok repaired) grows grown = goes_with x y repaired.wrote grown grows
+gained x y (Err (LogFull count)) grows same = goes_same x y same
+gained x y (Err LinkFault) grows may = goes_with x y may.0 may.1 grows
+gained x y (Err KeeperFault) grows may = goes_with x y may.0 may.1 grows
+gained x y (Err OutOfMemory) grows may = goes_with x y may.0 may.1 grows
 
 -- ---- the tables
 
 -- a job between the stores of its two shards
-module _ (s : Settings) (j : ShardJob) (from : StoreName) (x : Store) (from_is : from ≡ master_store s j.shard) (is : IsMasterOf s (far_shard j.job) x) where
+module _ (s : Settings) (j : ShardJob) (from : StoreName) (x : Store) (from_is : from ≡ master_store s j.shard)
+    (named : x.name ≡ master_store s (far_shard j.job)) (limit : x.log_max ≡ s.log_max) where
   abbrev taken : JobBetween
   taken = job_between from x j.job
 
   due_is : (tables : Tables) → due_entry taken tables ≡ due s tables j
   due_is tables =
-      ap (λ at. merge_of (tables at).log from.shard j.job.position j.job.edges) is.name_is
+      ap (λ at. merge_of (tables at).log from.shard j.job.position j.job.edges) named
       ∙ ap (λ (at : StoreName). merge_of (master_log s tables (far_shard j.job)) at.shard j.job.position j.job.edges) from_is
 
   -- the two carries differ
   ways_differ : j.shard ≢ far_shard j.job → way_there taken ≢ way_back taken
   ways_differ apart same =
       let names : from ≡ x.name = one_store from x.name (ap (λ (c : Carry). c.from) same) in
-      apart (ap (λ (at : StoreName). at.shard) (sym from_is ∙ names ∙ is.name_is))
+      apart (ap (λ (at : StoreName). at.shard) (sym from_is ∙ names ∙ named))
 
   there_is : way_there taken ≡ carry_there s j
-  there_is = ap (λ at. between (StoreName_ from) (StoreName_ at)) is.name_is
+  there_is = ap (λ at. between (StoreName_ from) (StoreName_ at)) named
       ∙ ap (λ at. between (StoreName_ at) (StoreName_ (master_store s (far_shard j.job)))) from_is
 
   back_is : way_back taken ≡ carry_back s j
-  back_is = ap (λ at. between (StoreName_ at) (StoreName_ from)) is.name_is
+  back_is = ap (λ at. between (StoreName_ at) (StoreName_ from)) named
       ∙ ap (λ at. between (StoreName_ (master_store s (far_shard j.job))) (StoreName_ at)) from_is
 
   comes_back : (old new : LinkShown) → CarriesBack taken old new → ComesBack s j old new
@@ -157,7 +162,7 @@ module _ (s : Settings) (j : ShardJob) (from : StoreName) (x : Store) (from_is :
   stays_or_merges failed old new (Err OutOfMemory) merges = merges
 
   gains_due : (old new : Tables) → MergesDue taken old new → TableGains old new (master_store s (far_shard j.job)) (due_entry taken old) None
-  gains_due old new merges = subst (λ at. TableGains old new at (due_entry taken old) None) is.name_is merges
+  gains_due old new merges = subst (λ at. TableGains old new at (due_entry taken old) None) named merges
 
   others : (old new : Tables) → Stays old new ⊎ MergesDue taken old new → OthersStay old new (master_store s (far_shard j.job))
   others old new (inl stays) other differs = stays other
@@ -165,14 +170,15 @@ module _ (s : Settings) (j : ShardJob) (from : StoreName) (x : Store) (from_is :
       others_stay old new (master_store s (far_shard j.job)) (due_entry taken old) None (gains_due old new merges) other differs
 
   -- no log of another shard grows, and no line changes
-  grown_there : (tells : Bool) (old new : KeeperState) → far_shard j.job < s.shards → LogsGrow tells old.told new.told → (told : Bool) → tells ≡ told
-      → WhereTold tells (Stays old.told new.told ⊎ MergesDue taken old.told new.told) → MastersGrow tells s old.told new.told
-  grown_there tells old new far logs true heard ways = elim (ways heard) [
-    | inl stays ↦ stays_masters tells s old new (λ told. stays)
-    | inr merges ↦ gains_masters tells s old new (far_shard j.job) (due_entry taken old.told) None far
+  grown_there : (tells : Bool) (old new : KeeperState) → IsConfiguredStore s (master_store s (far_shard j.job)) → LogsGrow tells old.told new.told
+      → (told : Bool) → tells ≡ told → WhereTold tells (Stays old.told new.told ⊎ MergesDue taken old.told new.told)
+      → StoresGrow tells s old.told new.told
+  grown_there tells old new configured logs true heard ways = elim (ways heard) [
+    | inl stays ↦ stays_stores tells s old new (λ told. stays)
+    | inr merges ↦ gains_stores tells s old new (master_store s (far_shard j.job)) (due_entry taken old.told) None configured
         (λ told. gains_due old.told new.told merges)
   ]
-  grown_there tells old new far logs false unheard ways = record {
+  grown_there tells old new configured logs false unheard ways = record {
     logs = logs;
     lines = λ told. absurd (cc);
     others = λ told. absurd (cc);
@@ -198,8 +204,8 @@ module _ (s : Settings) (j : ShardJob) (from : StoreName) (x : Store) (from_is :
         let merges = step told writes.merges in
         record {
           wrote_is = writes.wrote_is ∙ due_is old.told;
-          room = subst (λ most. IfSome wrote (λ e. length (master_log s old.told (far_shard j.job)) < most)) is.limit_is
-              (subst (λ at. IfSome wrote (λ e. length (old.told at).log < x.log_max)) is.name_is writes.room);
+          room = subst (λ most. IfSome wrote (λ e. length (master_log s old.told (far_shard j.job)) < most)) limit
+              (subst (λ at. IfSome wrote (λ e. length (old.told at).log < x.log_max)) named writes.room);
           merges = merges;
           merged = is_merged s old.told new.told j match (kept told) merges;
         }
@@ -207,9 +213,9 @@ module _ (s : Settings) (j : ShardJob) (from : StoreName) (x : Store) (from_is :
     no_room : (count : ℕ) → LacksRoom taken old.told new.told count → FindsNoRoom s j count old
     no_room count lacks = record {
       due = subst IsSome (due_is old.told) lacks.due;
-      full = subst (λ most. most ≤ length (master_log s old.told (far_shard j.job))) is.limit_is
-          (subst (λ at. x.log_max ≤ length (old.told at).log) is.name_is lacks.full);
-      count_is = lacks.count_is ∙ ap (λ at. length (old.told at).log) is.name_is;
+      full = subst (λ most. most ≤ length (master_log s old.told (far_shard j.job))) limit
+          (subst (λ at. x.log_max ≤ length (old.told at).log) named lacks.full);
+      count_is = lacks.count_is ∙ ap (λ at. length (old.told at).log) named;
     }
 
     may_merge : (told : Bool) → tells ≡ told → WhereTold tells (Stays old.told new.told ⊎ MergesDue taken old.told new.told) → MergesOrRests tells s j old new
@@ -240,57 +246,62 @@ module _ (s : Settings) (j : ShardJob) (from : StoreName) (x : Store) (from_is :
 
 -- it may take the job
 pub may_take_job : (tells : Bool) (s : Settings) (tables : Tables) (j : ShardJob) (from : StoreName) (x : Store) → from ≡ master_store s j.shard
-    → IsMasterOf s (far_shard j.job) x → IsStoreOf tells tables x → far_shard j.job < s.shards → InversesMatch (types_of s.schema)
+    → x.name ≡ master_store s (far_shard j.job) → x.role ≡ Master → IsStoreOf tells tables x → far_shard j.job < s.shards → InversesMatch (types_of s.schema)
     → WhereTold tells (AreKeptIn s tables) → IsGivenJob j.job → WhereTold tells (IsOwedJob s tables j) → MayTakeJob tells tables (job_between from x j.job)
-may_take_job tells s tables j from x from_is is of far match kept given owed = record {
-  master = is.role_is;
+may_take_job tells s tables j from x from_is named role of far match kept given owed = record {
+  master = role;
   store = of;
   position = given.position.0;
   stamps = given.stamps;
   may = λ told.
       let may = may_be_merged s tables j far match (kept told) given.some (owed told) in
-      let named = subst (λ (at : StoreName). MayBeMerged at.shard (tables at).log j.shard j.job.position j.job.edges) (sym is.name_is) may in
-      subst (λ n. MayBeMerged x.name.shard (tables x.name).log n j.job.position j.job.edges) (sym (ap (λ (at : StoreName). at.shard) from_is)) named;
+      let there = subst (λ (at : StoreName). MayBeMerged at.shard (tables at).log j.shard j.job.position j.job.edges) (sym named) may in
+      subst (λ n. MayBeMerged x.name.shard (tables x.name).log n j.job.position j.job.edges) (sym (ap (λ (at : StoreName). at.shard) from_is)) there;
 }
 
 -- what the store was asked, and what it answered
 pub record TakesJob (tells : Bool) (b : JobBetween) (old new : Outside) (y : Store) (r : Result RepairOutcome RepairRefusal) : Type 0 where
   pub merges : WhereTold tells (MergesBy b new.link.failed old.keepers.told new.keepers.told r)
   pub to : GainsBy b.to y r
+  pub grows : Grows b.to.view y.view
   pub keeper : IsStoreOf tells new.keepers.told y
   pub carries : CarriesBy b old.link new.link r
   pub logs : LogsGrow tells old.keepers.told new.keepers.told
 
 module _ (tells : Bool) (s : Settings) (j : ShardJob) where
-  pub record FarMerged (old new : Outside) (xs : List Store) (r : Result RepairOutcome RepairRefusal) : Type 0 where
+  pub record FarMerged (old new : Outside) (before after : List Store) (r : Result RepairOutcome RepairRefusal) : Type 0 where
     pub merges : MergesThere tells s j r old new
-    pub stands : IfOk r (λ repaired. IfSome repaired.wrote (StandsIn (pens_of xs (far_shard j.job))))
-    pub lies : IfOk r (λ repaired. IfSome repaired.wrote (LiesOn (pens_of xs (far_shard j.job)) (far_shard j.job)))
-    pub stores : AreStoresOf tells s new.keepers.told xs
-    pub grows : MastersGrow tells s old.keepers.told new.keepers.told
+    pub stands : IfOk r (λ repaired. IfSome repaired.wrote (StandsIn (pens_of after (far_shard j.job))))
+    pub lies : IfOk r (λ repaired. IfSome repaired.wrote (LiesOn (pens_of after (far_shard j.job)) (far_shard j.job)))
+    pub stores : AreStoresOf tells s new.keepers.told after
+    pub rise : Rise (pens_of before) (pens_of after)
+    pub grows : StoresGrow tells s old.keepers.told new.keepers.told
 
   pub far_merged : (from : StoreName) (xs : List Store) (place : ℕ) (x y : Store) (old new : Outside) (r : Result RepairOutcome RepairRefusal)
-      → AreStoresOf tells s old.keepers.told xs → place ≡ far_shard j.job → far_shard j.job < s.shards → from ≡ master_store s j.shard
-      → IsMasterOf s (far_shard j.job) x → pens_of (slice_set xs place y) (far_shard j.job) ≡ y.view → InversesMatch (types_of s.schema)
+      → AreStoresOf tells s old.keepers.told xs → far_shard j.job < s.shards → from ≡ master_store s j.shard
+      → IsMasterRead tells s old.keepers.told xs (far_shard j.job) place x → InversesMatch (types_of s.schema)
       → WhereTold tells (IsOwedJob s old.keepers.told j) → 0 < length j.job.edges → TakesJob tells (job_between from x j.job) old new y r
-      → FarMerged old new (slice_set xs place y) r
-  far_merged from xs place x y old new r are at far from_is is pen match owed some took =
+      → FarMerged old new xs (slice_set xs place y) r
+  far_merged from xs place x y old new r are far from_is is match owed some took =
       let far_at = far_shard j.job in
       let before = old.keepers.told in
       let after = new.keepers.told in
+      let goes = gained x y r took.grows took.to in
+      let pen = pen_is tells s before after xs far_at place x y are is goes in
       let ways : WhereTold tells (Stays before after ⊎ MergesDue (job_between from x j.job) before after) =
-      λ told. stays_or_merges s j from x from_is is new.link.failed before after r (took.merges told) in
+      λ told. stays_or_merges s j from x from_is is.named is.limit new.link.failed before after r (took.merges told) in
       let kept : WhereTold tells (AreKeptIn s after) =
-      λ told. kept_after s j from x from_is is tells old.keepers new.keepers far owed match are.kept some told (ways told) in
+      λ told. kept_after s j from x from_is is.named is.limit tells old.keepers new.keepers far owed match are.kept some told (ways told) in
       record {
-        merges = merges_there s j from x from_is is tells old.keepers new.keepers far owed match are.kept some old.link new.link r took.merges
-            took.carries;
+        merges = merges_there s j from x from_is is.named is.limit tells old.keepers new.keepers far owed match are.kept some old.link new.link r
+            took.merges took.carries;
         stands = subst (λ v. IfOk r (λ repaired. IfSome repaired.wrote (StandsIn v))) (sym pen)
-            (stands_by tells s far_at after x y far is took.keeper kept r took.to);
+            (stands_by tells s far_at after x y far is.named is.role took.keeper kept r took.to);
         lies = subst (λ v. IfOk r (λ repaired. IfSome repaired.wrote (LiesOn v far_at))) (sym pen)
-            (lies_by tells s far_at after x y far is took.keeper kept r took.to);
-        stores = stores_changed tells s before after xs place far_at y are at
-            (gained tells s far_at after x y far is took.keeper kept r took.to) took.keeper
-            (λ told. others s j from x from_is is before after (ways told)) kept;
-        grows = grown_there s j from x from_is is tells old.keepers new.keepers far took.logs tells refl ways;
+            (lies_by tells s far_at after x y far is.named is.role took.keeper kept r took.to);
+        stores = stores_left tells s before after xs far_at place x y are is goes took.keeper
+            (λ told. subst (OthersStay before after) (sym is.named)
+            (others s j from x from_is is.named is.limit before after (ways told))) kept;
+        rise = pens_rise tells s before after xs far_at place x y are is goes;
+        grows = grown_there s j from x from_is is.named is.limit tells old.keepers new.keepers is.configured took.logs tells refl ways;
       }

@@ -1,102 +1,215 @@
 -- A core's nodes are consistent as they begin.
-use Rattle.std.proofs.Common.{◌≡◌, ℕ, Bool, true, List, Some, length, ap, sym, subst}
+use Rattle.std.proofs.Common.{◌≡◌, ℕ, zero, suc, ◌+◌, ◌≤◌, ◌<◌, Bool, true, List, [], ◌∷◌, length, map, Option, Some, None, refl, ap, sym, ◌∙◌, subst}
+use Rattle.std.proofs.Common.{arith}
+use Rattle.std.specs.List.{AllByRecursion, range_with_len}
+use Rattle.std.specs.Option.{option_map_or}
 use Rattle.std.specs.Prelude.{All, slice_get}
+use Rattle.std.proofs.lemmas.List.{length-map}
 use Rattle.std.proofs.lemmas.List.Elements.{All-weaker}
 use Rattle.std.proofs.lemmas.Option.{get_or_from_slice_get, slice_get_within}
 use Rattle.cache_items.specs.Node.{Node}
 use Rattle.cache_node.specs.True.{IsTrueNode}
+use Rattle.follower_cache.specs.Seen.{FollowerState}
+use Rattle.graph_model.proofs.Later.{all_append, all_map}
 use Rattle.graph_model.specs.Told.{WhereTold}
+use Rattle.low_water.specs.Marks.{is_marked, marks}
 use Rattle.node_name.specs.declared.NodeName.{NodeName}
+use Rattle.node_name.specs.declared.NodeName.TheVariants.{Follower, Leader}
+use Rattle.served_shards.specs.Served.{ServedShard, served_at}
 use Rattle.shard_tables.specs.StoreView.{Store}
-use Rattle.tao_keeper.specs.Table.{Tables}
+use Rattle.tao_keeper.specs.Table.{Stays, Tables}
 use Rattle.topology.specs.Config.{Settings}
-use Rattle.core_model.specs.Consistent.{IsConsistent, IsFleetOf, IsNodeOf}
-use Rattle.core_model.specs.Fleet.{Fleet, named, served_by}
+use Rattle.topology.specs.Counts.{NodeCounts, counts_of}
+use Rattle.core_model.specs.Consistent.{HasReached, IsConsistent, IsFleetOf, IsNodeOf}
+use Rattle.core_model.specs.Emptied.{IsAtStore}
+use Rattle.core_model.specs.Fleet.{Fleet, follower_names, followers_from, leader_names, leaders_from, named, node_names, region_of, regions_of}
+use Rattle.core_model.specs.Fleet.{served_by, tiers_from}
 use Rattle.core_model.specs.Messages.{AreRefillsFor}
-use Rattle.core_model.specs.Pens.{pens_of}
-use Rattle.core_model.specs.Stores.{HaveSeen}
-use Rattle.core_nodes.specs.Beginning.{AreAtEnds, HaveBegun, IsAtEnds, IsBegunFollower, IsBegunLeader, IsEmptyFleet, IsEmptyFollower, IsEmptyNode, begun_node}
-use Rattle.core_nodes.specs.Opening.{IsOpened, MayOpen}
-use Rattle.core_nodes.proofs.BeginLemmas.{ends_begun, seen_begun, served_within, shards_begun}
-use Rattle.core_nodes.proofs.OpenedLogs.{kept_opened}
+use Rattle.core_model.specs.Pens.{IsSeen, pens_of}
+use Rattle.core_model.specs.Stores.{AreStoresOf, region_store, store_length}
+use Rattle.core_model.specs.declared.named.Named.{Named}
+use Rattle.core_nodes.specs.Beginning.{AreAtStores, AreLengths, HaveBegun, IsBegunFollower, IsBegunLeader, IsEmptyFleet, IsEmptyFollower, IsEmptyNode}
+use Rattle.core_nodes.specs.Beginning.{MayHold, begun_node, length_in, note_in}
+use Rattle.core_nodes.proofs.BeginLemmas.{marks_begun, note_seen, seen_begun, shards_begun}
+use Rattle.core_nodes.proofs.ServedWithin.{served_within}
+use Rattle.core_model.proofs.Reaching.{up_to}
 
 pub all_at : {X : Type 0} (P : X → Type 0) (xs : List X) (k : ℕ) (x : X) → All P xs → slice_get xs k ≡ Some x → P x
 all_at P xs k x all h = subst P (get_or_from_slice_get xs k x x h) (all k x (slice_get_within xs k x h))
 
--- a node that begins is one of its core
-node_of : (s : Settings) (masters : List Store) (lengths : List ℕ) (name : NodeName) (node : Node) → node ≡ begun_node s masters lengths name
-    → IsTrueNode node
-    → IsNodeOf s (pens_of masters) name node
-node_of s masters lengths name node is truth =
-    let begun : IsNodeOf s (pens_of masters) name (begun_node s masters lengths name) = record {
-      shards = shards_begun lengths (served_by s name) masters;
-      seen = seen_begun lengths (served_by s name) masters;
-      truth = subst IsTrueNode is truth;
-      within = λ key item h. absurd (cc);
-    } in
-    subst (IsNodeOf s (pens_of masters) name) (sym is) begun
+-- ---- the regions of a configuration's nodes
 
-begun_fleet : (s : Settings) (f : Fleet) → HaveBegun s f.masters f → IsFleetOf s f
-begun_fleet s f h =
-    let lengths = h.nodes.lengths in
-    let begun = h.nodes.begun in
-    record {
-      leader_names = begun.leader_names;
-      follower_names = begun.follower_names;
-      leaders = λ place name node at.
-          let leader = all_at (IsBegunLeader s f.masters lengths) f.leaders place (named name node) begun.each_leader at in
-          node_of s f.masters lengths name node leader.node_is leader.truth;
-      followers = λ place name node at.
-          let follower = all_at (IsBegunFollower s f.masters lengths) f.followers place (named name node) begun.each_follower at in
-          record {
-            node = node_of s f.masters lengths name node.node (ap (λ n. n.node) follower.node_is) follower.truth;
-            refills = subst (AreRefillsFor s (pens_of f.masters) name) (sym (ap (λ n. n.refills) follower.node_is)) tt;
-          };
-    }
+each_named : (P : NodeName → Type 0) (name : ℕ → NodeName) → ((n : ℕ) → P (name n)) → (first count : ℕ)
+    → AllByRecursion P (map name (range_with_len first count))
+each_named P name so first zero = tt
+each_named P name so first (suc count) = (so first, each_named P name so (first + 1) count)
 
-module _ (s : Settings) (masters : List Store) (f : Fleet) (h : HaveBegun s masters f) where
-  own : HaveBegun s f.masters f
-  own = subst (λ xs. HaveBegun s xs f) (sym h.masters_are) h
+abbrev InRegions : ℕ → NodeName → Type 0
+InRegions top name = region_of name < top
+
+leaders_within : (top region : ℕ) (rs : List NodeCounts) → region + length rs ≤ top → AllByRecursion (InRegions top) (leaders_from region rs)
+leaders_within top region [] le = tt
+leaders_within top region (r ∷ rs) le =
+    all_append (InRegions top) (map (Leader region) (range_with_len 0 r.leaders)) (leaders_from (region + 1) rs)
+    (each_named (InRegions top) (Leader region) (λ n. omega (arith, le)) 0 r.leaders) (leaders_within top (region + 1) rs (omega (arith, le)))
+
+tiers_within : (top region tier : ℕ) (counts : List ℕ) → region < top → AllByRecursion (InRegions top) (tiers_from region tier counts)
+tiers_within top region tier [] lt = tt
+tiers_within top region tier (count ∷ counts) lt =
+    all_append (InRegions top) (map (Follower region tier) (range_with_len 0 count)) (tiers_from region (tier + 1) counts)
+    (each_named (InRegions top) (Follower region tier) (λ n. lt) 0 count) (tiers_within top region (tier + 1) counts lt)
+
+followers_within : (top region : ℕ) (rs : List NodeCounts) → region + length rs ≤ top → AllByRecursion (InRegions top) (followers_from region rs)
+followers_within top region [] le = tt
+followers_within top region (r ∷ rs) le =
+    all_append (InRegions top) (tiers_from region 0 r.followers) (followers_from (region + 1) rs) (tiers_within top region 0 r.followers (omega (arith, le)))
+    (followers_within top (region + 1) rs (omega (arith, le)))
+
+pub leader_regions : (s : Settings) → AllByRecursion (λ name. region_of name < length s.regions) (leader_names s)
+leader_regions s = leaders_within (length s.regions) 0 (regions_of s) (let all = length-map s.regions counts_of in omega (arith, all))
+
+pub follower_regions : (s : Settings) → AllByRecursion (λ name. region_of name < length s.regions) (follower_names s)
+follower_regions s = followers_within (length s.regions) 0 (regions_of s) (let all = length-map s.regions counts_of in omega (arith, all))
+
+region_named : {N : Type 0} (top : ℕ) (nodes : List (Named N)) (place : ℕ) (name : NodeName) (node : N)
+    → AllByRecursion (λ n. region_of n < top) (node_names nodes) → slice_get nodes place ≡ Some (named name node) → region_of name < top
+region_named top [] place name node all at = absurd (cc)
+region_named top (n ∷ nodes) zero name node all at = let same : n ≡ named name node = cc in subst (λ m. region_of m.name < top) same all.0
+region_named top (n ∷ nodes) (suc place) name node all at = region_named top nodes place name node all.1 at
+
+-- ---- a node that is at its region's stores has marked no more
+
+pub at_store_reached : (tables : Tables) (region : ℕ) (node : Node) → IsAtStore tables region node → HasReached tables region node
+at_store_reached tables region node at shard position on = by_served (served_at shard node.served) refl on
+  where
+    by_served : (o : Option ServedShard) → served_at shard node.served ≡ o → is_marked (option_map_or (λ t. t.marks) o (marks 0 [])) position ≡ true
+        → position ≤ store_length tables region shard
+    by_served None none on = let low = up_to 0 position on in omega (arith, low)
+    by_served (Some t) found on = up_to (store_length tables region shard) position (subst (λ m. is_marked m position ≡ true) (at shard t found) on)
+
+-- ---- a node that begins
+
+module _ (tells : Bool) (s : Settings) (tables : Tables) (stores : List Store) (lengths : List ℕ) (are : AreStoresOf tells s tables stores)
+    (measured : AreLengths tells s tables lengths) where
+  -- is one of its core
+  node_of : (name : NodeName) (node : Node) → region_of name < length s.regions → node ≡ begun_node s stores lengths name → IsTrueNode node
+      → IsNodeOf s (pens_of stores) name node
+  node_of name node here is truth =
+      let region = region_of name in
+      let seen = all_map (λ shard. shard < s.shards) (λ shard. IsSeen (pens_of stores) shard (note_in s stores region shard))
+      (λ shard lt. note_seen s stores region shard are.configured are.follow (record { region = here; shard = lt })) (served_by s name)
+      (served_within s name s.shards refl) in
+      let begun : IsNodeOf s (pens_of stores) name (begun_node s stores lengths name) = record {
+        shards = shards_begun (length_in s lengths region) (note_in s stores region) (served_by s name);
+        seen = seen_begun (length_in s lengths region) (note_in s stores region) (pens_of stores) (served_by s name) seen;
+        truth = subst IsTrueNode is truth;
+        within = λ key item h. absurd (cc);
+      } in
+      subst (IsNodeOf s (pens_of stores) name) (sym is) begun
+
+  -- it has processed what its region's stores have
+  node_at : tells ≡ true → (name : NodeName) (node : Node) → region_of name < length s.regions → node ≡ begun_node s stores lengths name
+      → IsAtStore tables (region_of name) node
+  node_at told name node here is =
+      subst (IsAtStore tables (region_of name)) (sym is)
+      (λ shard t found.
+      let begun = marks_begun (length_in s lengths (region_of name)) (note_in s stores (region_of name)) (λ k. k < s.shards) (served_by s name) shard t
+      (served_within s name s.shards refl) found in
+      begun.1 ∙ ap (λ n. marks n []) (measured.each (region_store (region_of name) shard) (record { region = here; shard = begun.0 }) told))
+
+module _ (tells : Bool) (s : Settings) (tables : Tables) (f : Fleet) (are : AreStoresOf tells s tables f.stores) (h : HaveBegun tells s tables f.stores f) where
+  abbrev lengths : List ℕ
+  lengths = h.nodes.lengths
+
+  leader_at : (place : ℕ) (name : NodeName) (node : Node) → slice_get f.leaders place ≡ Some (named name node)
+      → (region_of name < length s.regions) × IsBegunLeader s f.stores lengths (named name node)
+  leader_at place name node at = (
+    region_named (length s.regions) f.leaders place name node (subst (AllByRecursion (λ n. region_of n < length s.regions)) (sym h.nodes.begun.leader_names)
+        (leader_regions s)) at,
+    all_at (IsBegunLeader s f.stores lengths) f.leaders place (named name node) h.nodes.begun.each_leader at,
+  )
+
+  follower_at : (place : ℕ) (name : NodeName) (node : FollowerState) → slice_get f.followers place ≡ Some (named name node)
+      → (region_of name < length s.regions) × IsBegunFollower s f.stores lengths (named name node)
+  follower_at place name node at = (
+    region_named (length s.regions) f.followers place name node
+        (subst (AllByRecursion (λ n. region_of n < length s.regions)) (sym h.nodes.begun.follower_names) (follower_regions s)) at,
+    all_at (IsBegunFollower s f.stores lengths) f.followers place (named name node) h.nodes.begun.each_follower at,
+  )
+
+  begun_fleet : IsFleetOf s f
+  begun_fleet = record {
+    leader_names = h.nodes.begun.leader_names;
+    follower_names = h.nodes.begun.follower_names;
+    leaders = λ place name node at.
+        let leader = leader_at place name node at in
+        node_of tells s tables f.stores lengths are h.nodes.are name node leader.0 leader.1.node_is leader.1.truth;
+    followers = λ place name node at.
+        let follower = follower_at place name node at in
+        record {
+          node = node_of tells s tables f.stores lengths are h.nodes.are name node.node follower.0 (ap (λ n. n.node) follower.1.node_is) follower.1.truth;
+          refills = subst (AreRefillsFor s (pens_of f.stores) name) (sym (ap (λ n. n.refills) follower.1.node_is)) tt;
+        };
+  }
+
+  -- each has processed what its region's stores have
+  fleet_at : WhereTold tells (AreAtStores tables f)
+  fleet_at told = record {
+    leaders = λ place name node at.
+        let leader = leader_at place name node at in
+        node_at tells s tables f.stores lengths are h.nodes.are told name node leader.0 leader.1.node_is;
+    followers = λ place name node at.
+        let follower = follower_at place name node at in
+        node_at tells s tables f.stores lengths are h.nodes.are told name node.node follower.0 (ap (λ n. n.node) follower.1.node_is);
+  }
+
+  -- so they are consistent
+  fleet_consistent : IsConsistent tells s tables f
+  fleet_consistent = record {
+    stores = are;
+    fleet = begun_fleet;
+    reached = λ told. record {
+      leaders = λ place name node at. at_store_reached tables (region_of name) node ((fleet_at told).leaders place name node at);
+      followers = λ place name node at. at_store_reached tables (region_of name) node.node ((fleet_at told).followers place name node at);
+    };
+  }
+
+-- so it is before the stores that were made
+pub begun_consistent : (tells : Bool) (s : Settings) (tables : Tables) (stores : List Store) (f : Fleet) → HaveBegun tells s tables stores f
+    → AreStoresOf tells s tables stores → IsConsistent tells s tables f
+begun_consistent tells s tables stores f h are =
+    fleet_consistent tells s tables f (subst (AreStoresOf tells s tables) (sym h.stores_are) are)
+    (subst (λ xs. HaveBegun tells s tables xs f) (sym h.stores_are) h)
+
+pub begun_at_stores : (tells : Bool) (s : Settings) (old new : Tables) (stores : List Store) (f : Fleet) → HaveBegun tells s old stores f
+    → AreStoresOf tells s old stores → WhereTold tells (Stays old new) → WhereTold tells (AreAtStores new f)
+begun_at_stores tells s old new stores f h are stays told =
+    let same : old ≡ new = λ i at. sym (stays told at) i in
+    subst (λ t. AreAtStores t f) same
+    (fleet_at tells s old f (subst (AreStoresOf tells s old) (sym h.stores_are) are) (subst (λ xs. HaveBegun tells s old xs f) (sym h.stores_are) h) told)
+
+module _ (tells : Bool) (s : Settings) (tables : Tables) (stores : List Store) (f : Fleet) (h : HaveBegun tells s tables stores f) where
+  abbrev begun_lengths : List ℕ
+  begun_lengths = h.nodes.lengths
 
   -- every node holds nothing
   pub fleet_empty : IsEmptyFleet f
-  fleet_empty =
-      let lengths = own.nodes.lengths in
-      record {
-        leaders = All-weaker (IsBegunLeader s f.masters lengths) (λ leader. IsEmptyNode leader.node)
-            (λ leader is. record { items = ap (λ n. n.items) is.node_is; asks = ap (λ n. n.asks.asks) is.node_is }) f.leaders own.nodes.begun.each_leader;
-        followers = All-weaker (IsBegunFollower s f.masters lengths) (λ follower. IsEmptyFollower follower.node)
-            (λ follower is. record {
-              node = record { items = ap (λ n. n.node.items) is.node_is; asks = ap (λ n. n.node.asks.asks) is.node_is };
-              refills = ap (λ n. n.refills) is.node_is;
-            }) f.followers own.nodes.begun.each_follower;
-      }
+  fleet_empty = record {
+    leaders = All-weaker (IsBegunLeader s stores begun_lengths) (λ leader. IsEmptyNode leader.node)
+        (λ leader is. record { items = ap (λ n. n.items) is.node_is; asks = ap (λ n. n.asks.asks) is.node_is }) f.leaders h.nodes.begun.each_leader;
+    followers = All-weaker (IsBegunFollower s stores begun_lengths) (λ follower. IsEmptyFollower follower.node)
+        (λ follower is. record {
+          node = record { items = ap (λ n. n.node.items) is.node_is; asks = ap (λ n. n.node.asks.asks) is.node_is };
+          refills = ap (λ n. n.refills) is.node_is;
+        }) f.followers h.nodes.begun.each_follower;
+  }
 
-  module _ (tells : Bool) (tables : Tables) (seen : HaveSeen tells tables masters) where
-    seen_own : HaveSeen tells tables f.masters
-    seen_own = subst (HaveSeen tells tables) (sym h.masters_are) seen
-
-    node_ends : (name : NodeName) (node : Node) → node ≡ begun_node s f.masters own.nodes.lengths name → tells ≡ true → IsAtEnds s tables node
-    node_ends name node is told =
-        let ends = ends_begun s tells tables f.masters own.nodes.lengths (served_by s name) own.nodes.measured seen_own told
-        (served_within s name (length f.masters) (sym own.nodes.measured.stores.long)) in
-        subst (IsAtEnds s tables) (sym is) ends
-
-    -- every node has processed its logs whole
-    pub fleet_ends : WhereTold tells (AreAtEnds s tables f)
-    fleet_ends told =
-        let lengths = own.nodes.lengths in
-        record {
-          leaders = All-weaker (IsBegunLeader s f.masters lengths) (λ leader. IsAtEnds s tables leader.node)
-              (λ leader is. node_ends leader.name leader.node is.node_is told) f.leaders own.nodes.begun.each_leader;
-          followers = All-weaker (IsBegunFollower s f.masters lengths) (λ follower. IsAtEnds s tables follower.node.node)
-              (λ follower is. node_ends follower.name follower.node.node (ap (λ n. n.node) is.node_is) told) f.followers own.nodes.begun.each_follower;
-        }
-
-    -- they are consistent
-    pub fleet_consistent : (line : List ℕ) (start : Tables) → WhereTold tells (MayOpen s line start) → WhereTold tells (IsOpened s line start tables)
-        → IsConsistent tells s tables f
-    fleet_consistent line start may opened = record {
-      stores = record { masters = own.nodes.measured.stores; kept = λ told. kept_opened s line start tables (may told) (opened told); seen = seen_own };
-      fleet = begun_fleet s f own;
-    }
+  -- up to the items that are configured
+  pub fleet_bounds : MayHold s.cache_items f
+  fleet_bounds = record {
+    leaders = λ place name node at.
+        ap (λ (n : Node). n.most) (all_at (IsBegunLeader s stores begun_lengths) f.leaders place (named name node) h.nodes.begun.each_leader at).node_is;
+    followers = λ place name node at.
+        ap (λ (n : FollowerState). n.node.most)
+        (all_at (IsBegunFollower s stores begun_lengths) f.followers place (named name node) h.nodes.begun.each_follower at).node_is;
+  }

@@ -1,21 +1,26 @@
 -- The nodes of a core, of which one changes.
-use Rattle.std.proofs.Common.{◌≡◌, ℕ, Contains, List, Some, refl, sym, ◌∙◌, subst}
+use Rattle.std.proofs.Common.{◌≡◌, ℕ, Bool, Contains, List, Some, ap, refl, sym, true, ◌∙◌, subst}
 use Rattle.std.specs.Prelude.{slice_get, slice_set}
 use Rattle.cache_items.specs.Node.{Node}
 use Rattle.follower_cache.specs.Seen.{FollowerState}
+use Rattle.graph_model.specs.Told.{WhereTold}
 use Rattle.node_name.specs.declared.NodeName.{NodeName}
 use Rattle.shard_log.proofs.GrowthLemmas.{grows-self}
 use Rattle.shard_tables.specs.StoreView.{Store}
+use Rattle.tao_keeper.proofs.Growing.{stays_grow}
+use Rattle.tao_keeper.specs.Growing.{LogsGrow}
+use Rattle.tao_keeper.specs.Table.{Stays, Tables}
 use Rattle.topology.specs.Config.{Settings}
 use Rattle.core_model.proofs.AsksOn.{asks_stay}
 use Rattle.core_model.proofs.MarkingOn.{marks_stay}
+use Rattle.core_model.proofs.NodesSeen.{nodes_stay_seen}
+use Rattle.core_model.proofs.Reaching.{nodes_reach}
 use Rattle.core_model.proofs.Refilling.{followers_stay}
-use Rattle.core_model.proofs.Staying.{nodes_stay}
 use Rattle.core_model.specs.Asks.{AsksGoOn}
-use Rattle.core_model.specs.Consistent.{GoesOn, IsFleetOf, IsFollowerOf, IsNodeOf, MarksGoOn}
-use Rattle.core_model.specs.Fleet.{ChangesNode, EachNode, Fleet, HasNode, named}
+use Rattle.core_model.specs.Consistent.{GoesOn, HasReached, HaveReached, IsFleetOf, IsFollowerOf, IsNodeOf, MarksGoOn}
+use Rattle.core_model.specs.Fleet.{ChangesNode, EachNode, Fleet, HasNode, named, region_of}
 use Rattle.core_model.specs.Pens.{Rise, pens_of}
-use Rattle.core_model.specs.Serving.{IsFollowerFor, IsLeaderFor}
+use Rattle.core_model.specs.Serving.{IsFollowerFor, IsLeaderFor, IsLeaderIn}
 use Rattle.core_model.specs.declared.named.Named.{Named}
 use Rattle.core_model.proofs.NamedNodes.{all_set, each_set, each_stays, names_set}
 
@@ -41,7 +46,7 @@ followers_asked followers = each_stays AsksThere followers (λ f. asks_stay f.no
 
 pub goes_self : (f : Fleet) → GoesOn f f
 goes_self f = record {
-  rise = rise_self f.masters;
+  rise = rise_self f.stores;
   leaders = refl;
   followers = refl;
   asks = followers_asked f.followers;
@@ -63,7 +68,7 @@ follower_goes : (f : Fleet) (name : NodeName) (place : ℕ) (from to : FollowerS
     → AsksGoOn from.node.asks to.node.asks → MarksGoOn from.node to.node
     → GoesOn f (record f { followers = slice_set f.followers place (named name to) })
 follower_goes f name place from to stands asks marks = record {
-  rise = rise_self f.masters;
+  rise = rise_self f.stores;
   leaders = refl;
   followers = names_set f.followers place name from to stands;
   asks = each_set AsksThere f.followers place name from to (λ n. asks_stay n.node.asks) stands asks;
@@ -75,7 +80,7 @@ follower_goes f name place from to stands asks marks = record {
 
 -- a follower that changes stays one of its core, with its refills
 pub refills_step : (By : FollowerState → FollowerState → Type 0) (s : Settings) (old : Fleet) (name : NodeName) (fs : List (Named FollowerState))
-    → IsFleetOf s old → ChangesNode name By old.followers fs → StaysOf (IsFollowerOf s (pens_of old.masters)) name By
+    → IsFleetOf s old → ChangesNode name By old.followers fs → StaysOf (IsFollowerOf s (pens_of old.stores)) name By
     → ((from to : FollowerState) → By from to → AsksGoOn from.node.asks to.node.asks) → ((from to : FollowerState) → By from to → MarksGoOn from.node to.node)
     → FleetStep s old (record old { followers = fs })
 refills_step By s old name fs fleet change stays asks marks =
@@ -86,7 +91,7 @@ refills_step By s old name fs fleet change stays asks marks =
         leader_names = fleet.leader_names;
         follower_names = names_set old.followers change.place name change.from change.to change.stands ∙ fleet.follower_names;
         leaders = fleet.leaders;
-        followers = all_set (IsFollowerOf s (pens_of old.masters)) old.followers change.place name change.to fleet.followers is;
+        followers = all_set (IsFollowerOf s (pens_of old.stores)) old.followers change.place name change.to fleet.followers is;
       };
       goes = follower_goes old name change.place change.from change.to change.stands (asks change.from change.to change.by)
           (marks change.from change.to change.by);
@@ -96,16 +101,16 @@ refills_step By s old name fs fleet change stays asks marks =
 -- its node changes, and its refills stay
 pub follower_step : (By : FollowerState → FollowerState → Type 0) (s : Settings) (old : Fleet) (name : NodeName) (fs : List (Named FollowerState))
     → IsFleetOf s old
-    → ChangesNode name By old.followers fs → StaysOf (λ called node. IsNodeOf s (pens_of old.masters) called node.node) name By
+    → ChangesNode name By old.followers fs → StaysOf (λ called node. IsNodeOf s (pens_of old.stores) called node.node) name By
     → ((from to : FollowerState) → By from to → to.refills ≡ from.refills)
     → ((from to : FollowerState) → By from to → AsksGoOn from.node.asks to.node.asks) → ((from to : FollowerState) → By from to → MarksGoOn from.node to.node)
     → FleetStep s old (record old { followers = fs })
 follower_step By s old name fs fleet change stays same asks marks =
     refills_step By s old name fs fleet change
-    (λ from to by is. (followers_stay s (pens_of old.masters) name).same from to (stays from to by is.node) (same from to by) is) asks marks
+    (λ from to by is. (followers_stay s (pens_of old.stores) name).same from to (stays from to by is.node) (same from to by) is) asks marks
 
 pub leader_step : (By : Node → Node → Type 0) (s : Settings) (old : Fleet) (name : NodeName) (ls : List (Named Node)) → IsFleetOf s old
-    → ChangesNode name By old.leaders ls → StaysOf (λ called node. IsNodeOf s (pens_of old.masters) called node) name By
+    → ChangesNode name By old.leaders ls → StaysOf (λ called node. IsNodeOf s (pens_of old.stores) called node) name By
     → ((from to : Node) → By from to → MarksGoOn from to) → FleetStep s old (record old { leaders = ls })
 leader_step By s old name ls fleet change stays marks =
     let was = fleet.leaders change.place name change.from change.stands in
@@ -114,11 +119,11 @@ leader_step By s old name ls fleet change stays marks =
       fleet = record {
         leader_names = names_set old.leaders change.place name change.from change.to change.stands ∙ fleet.leader_names;
         follower_names = fleet.follower_names;
-        leaders = all_set (λ called node. IsNodeOf s (pens_of old.masters) called node) old.leaders change.place name change.to fleet.leaders is;
+        leaders = all_set (λ called node. IsNodeOf s (pens_of old.stores) called node) old.leaders change.place name change.to fleet.leaders is;
         followers = fleet.followers;
       };
       goes = record {
-        rise = rise_self old.masters;
+        rise = rise_self old.stores;
         leaders = names_set old.leaders change.place name change.from change.to change.stands;
         followers = refl;
         asks = followers_asked old.followers;
@@ -132,13 +137,13 @@ leader_step By s old name ls fleet change stays marks =
     subst (λ l. FleetStep s old (record old { leaders = l })) (sym change.is) there
 
 -- every node stays one of its core, where the logs rise
-pub fleet_risen : (s : Settings) (old : Fleet) (xs : List Store) → IsFleetOf s old → Rise (pens_of old.masters) (pens_of xs)
-    → IsFleetOf s (record old { masters = xs })
+pub fleet_risen : (s : Settings) (old : Fleet) (xs : List Store) → IsFleetOf s old → Rise (pens_of old.stores) (pens_of xs)
+    → IsFleetOf s (record old { stores = xs })
 fleet_risen s old xs fleet rise = record {
   leader_names = fleet.leader_names;
   follower_names = fleet.follower_names;
-  leaders = λ place called node at. (nodes_stay s (pens_of old.masters) called).rises (pens_of xs) node rise (fleet.leaders place called node at);
-  followers = λ place called f at. (followers_stay s (pens_of old.masters) called).rises (pens_of xs) f rise (fleet.followers place called f at);
+  leaders = λ place called node at. nodes_stay_seen.node_rises s (pens_of old.stores) (pens_of xs) called node rise (fleet.leaders place called node at);
+  followers = λ place called f at. (followers_stay s (pens_of old.stores) called).rises (pens_of xs) f rise (fleet.followers place called f at);
 }
 
 -- nothing changes
@@ -151,3 +156,49 @@ follower_here s f shard name fleet is = subst (λ names. Contains names name) (s
 
 pub leader_here : (s : Settings) (f : Fleet) (shard : ℕ) (name : NodeName) → IsFleetOf s f → IsLeaderFor s shard name → HasNode name f.leaders
 leader_here s f shard name fleet is = subst (λ names. Contains names name) (sym fleet.leader_names) is.configured
+
+pub leader_in : (s : Settings) (f : Fleet) (region : ℕ) (name : NodeName) → IsFleetOf s f → IsLeaderIn s region name → HasNode name f.leaders
+leader_in s f region name fleet is = subst (λ names. Contains names name) (sym fleet.leader_names) is.configured
+
+-- ---- what was marked
+
+-- the region's stores have it still, as long as logs only grow
+pub reach_grows : (tells : Bool) (old new : Tables) (f : Fleet) → LogsGrow tells old new → WhereTold tells (HaveReached old f)
+    → WhereTold tells (HaveReached new f)
+reach_grows tells old new f grow reached told = record {
+  leaders = λ place name node at. (nodes_reach old (region_of name)).grows new node heard ((reached told).leaders place name node at);
+  followers = λ place name node at. (nodes_reach old (region_of name)).grows new node.node heard ((reached told).followers place name node at);
+}
+  where
+    heard : LogsGrow true old new
+    heard = subst (λ t. LogsGrow t old new) told grow
+
+-- so where no table changes
+pub reach_stays : (tells : Bool) (old new : Tables) (f : Fleet) → WhereTold tells (Stays old new) → WhereTold tells (HaveReached old f)
+    → WhereTold tells (HaveReached new f)
+reach_stays tells old new f stays = reach_grows tells old new f (stays_grow tells old new stays)
+
+-- one of the leaders changes, and has marked nothing past its region's stores
+pub leaders_reach : (tables : Tables) (old : Fleet) (ls : List (Named Node)) (name : NodeName) (By : Node → Node → Type 0) → ChangesNode name By old.leaders ls
+    → ((from to : Node) → By from to → HasReached tables (region_of name) from → HasReached tables (region_of name) to) → HaveReached tables old
+    → HaveReached tables (record old { leaders = ls })
+leaders_reach tables old ls name By change reaches reached = record {
+  leaders = λ place called node at.
+      all_set (λ n node. HasReached tables (region_of n) node) old.leaders change.place name change.to reached.leaders
+      (reaches change.from change.to change.by (reached.leaders change.place name change.from change.stands)) place called node
+      (ap (λ l. slice_get l place) (sym change.is) ∙ at);
+  followers = reached.followers;
+}
+
+-- so of the followers
+pub followers_reach : (tables : Tables) (old : Fleet) (fs : List (Named FollowerState)) (name : NodeName) (By : FollowerState → FollowerState → Type 0)
+    → ChangesNode name By old.followers fs
+    → ((from to : FollowerState) → By from to → HasReached tables (region_of name) from.node → HasReached tables (region_of name) to.node)
+    → HaveReached tables old → HaveReached tables (record old { followers = fs })
+followers_reach tables old fs name By change reaches reached = record {
+  leaders = reached.leaders;
+  followers = λ place called node at.
+      all_set (λ n follower. HasReached tables (region_of n) follower.node) old.followers change.place name change.to reached.followers
+      (reaches change.from change.to change.by (reached.followers change.place name change.from change.stands)) place called node
+      (ap (λ l. slice_get l place) (sym change.is) ∙ at);
+}

@@ -3,9 +3,10 @@ use Rattle.std.proofs.Common.{◌≡◌, ℕ, ◌<◌, Bool, List, Option, Some,
 use Rattle.std.specs.Prelude.{slice_set}
 use Rattle.core_model.proofs.KeptStores.{kept_stays}
 use Rattle.core_model.specs.Jobs.{EndsOwed, IsFirstJobOf, IsMergedJob, ShardJob, job_on}
-use Rattle.core_model.specs.Stores.{AreKeptIn, AreStoresOf, IsMasterOf, master_store}
+use Rattle.core_model.specs.Stores.{AreKeptIn, AreStoresOf, master_store}
 use Rattle.core_nodes.proofs.JobLemmas.{end_keeps, ends_owed, first_job_of}
-use Rattle.core_nodes.proofs.StoreLemmas.{OthersStay, stores_changed}
+use Rattle.core_nodes.proofs.MasterStores.{IsMasterRead, goes_same, stores_left}
+use Rattle.core_nodes.proofs.StoreLemmas.{OthersStay}
 use Rattle.graph_model.specs.Told.{WhereTold}
 use Rattle.shard_tables.specs.StoreView.{Store}
 use Rattle.shard_tables.specs.Stores.{IsStoreOf}
@@ -40,15 +41,19 @@ module _ (s : Settings) (before after : Tables) (j : ShardJob) (here : j.shard <
   ends_kept (Ok t) kept ends = end_keeps s before after j kept (ends_owed s before after j here is ends)
   ends_kept (Err e) kept ends = kept_stays s before after ends kept
 
-pub ended_after : {T : Type 0} (tells : Bool) (s : Settings) (before after : Tables) (xs : List Store) (place : ℕ) (j : ShardJob) (y : Store)
-    (r : Result T StoreRefusal)
-    → AreStoresOf tells s before xs → place ≡ j.shard → j.shard < s.shards → IsMasterOf s j.shard y → WhereTold tells (IsMergedJob s before j)
-    → WhereTold tells (TakesOutJob s before after j r) → IsStoreOf tells after y → EndedAfter tells s before after j (slice_set xs place y) r
-ended_after tells s before after xs place j y r are at here is merged ends of = record {
-  stores = stores_changed tells s before after xs place j.shard y are at is of (λ told. ends_others s before after j r (ends told))
-      (λ told. ends_kept s before after j here (merged told) r (are.kept told) (ends told));
-  step = λ told. ends_step s before after j here (merged told) r (ends told);
-}
+-- the stores after the end of a job at its own master's store, which is only read
+module _ (tells : Bool) (s : Settings) (before after : Tables) (xs : List Store) (place : ℕ) (j : ShardJob) (x y : Store)
+    (are : AreStoresOf tells s before xs) (is : IsMasterRead tells s before xs j.shard place x) (same : y ≡ x) (here : j.shard < s.shards)
+    (merged : WhereTold tells (IsMergedJob s before j)) where
+  pub ended_after : {T : Type 0} (r : Result T StoreRefusal) → WhereTold tells (TakesOutJob s before after j r) → IsStoreOf tells after y
+      → EndedAfter tells s before after j (slice_set xs place y) r
+  ended_after r ends of = record {
+    stores =
+        stores_left tells s before after xs j.shard place x y are is (goes_same x y same) of
+        (λ told. subst (OthersStay before after) (sym is.named) (ends_others s before after j r (ends told)))
+        (λ told. ends_kept s before after j here (merged told) r (are.kept told) (ends told));
+    step = λ told. ends_step s before after j here (merged told) r (ends told);
+  }
 
 -- ---- the first job
 

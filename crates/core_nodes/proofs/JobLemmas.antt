@@ -1,9 +1,9 @@
--- The steps of a job over the tables of the masters: it may be merged where it is owed, and is merged, and ended.
+-- The steps of a job over the tables of the stores: it may be merged where it is owed, and is merged, and ended.
 use Rattle.std.proofs.Common.{◌≡◌, ℕ, ◌<◌, List, length, Option, Some, None, sym, ap, ◌∙◌, subst}
 use Rattle.std.specs.Option.{option_map}
 use Rattle.std.specs.Prelude.{unwrap_or}
 use Rattle.graph_model.specs.Soundness.{EdgeUpdate}
-use Rattle.master_tables.proofs.Calls.{calls_are_steps, first_jobs_are_first, tables_are_stores}
+use Rattle.master_tables.proofs.Calls.{calls_are_steps, first_jobs_are_first, numbers_are_positions, tables_are_stores}
 use Rattle.shard_tables.specs.Written.{TableGains}
 use Rattle.tao_base.specs.EdgeTypes.{InversesMatch}
 use Rattle.tao_base.specs.Ids.{shard_of}
@@ -16,9 +16,8 @@ use Rattle.write_model.proofs.CoverEnds.{ends_keep}
 use Rattle.write_model.proofs.CoverMerges.{merges_keep}
 use Rattle.write_model.proofs.MergeOf.{jobs_may_be_merged}
 use Rattle.write_model.proofs.OpenJobs.{open_jobs_are_owed}
-use Rattle.write_model.specs.Machine.{Owed}
 use Rattle.write_model.specs.MergeLaws.{MayBeMerged}
-use Rattle.write_model.specs.Merges.{job_of, log_of, merge_of}
+use Rattle.write_model.specs.Merges.{Owed, job_of, log_of, merge_of, owed_number}
 use Rattle.core_model.proofs.OwedJobs.{first_record}
 use Rattle.core_model.specs.Jobs.{EndsOwed, IsFirstJobOf, OwesShardJob, IsMergedJob, IsOwedJob, MergesOwed, ShardJob, far_shard, job_on}
 use Rattle.core_model.specs.Stores.{AreKeptIn, master_log, master_store, masters_of, stores_in}
@@ -51,6 +50,16 @@ abbrev pub due : Settings → Tables → ShardJob → Option Entry
 due s tables j = merge_of (master_log s tables (far_shard j.job)) j.shard j.job.position j.job.edges
 
 module _ (s : Settings) (old : Tables) (j : ShardJob) (far : far_shard j.job < s.shards) where
+  -- every epoch is the first, so a merge names the entry by its position
+  number_is : (is : IsOwedJob s old j) → owed_number is.owed ≡ is.owed.entry.position
+  number_is is = (numbers_are_positions (masters_of s) old).number_is (types_of s.schema) is.owed is.owes
+
+  by_number : (is : IsOwedJob s old j) (made : Option Entry)
+      → merge_of (old ((masters_of s).name is.owed.other)).log is.owed.shard is.owed.entry.position (job_of (types_of s.schema) is.owed.entry) ≡ made
+      → merge_of (old ((masters_of s).name is.owed.other)).log is.owed.shard (owed_number is.owed) (job_of (types_of s.schema) is.owed.entry) ≡ made
+  by_number is made = subst (λ n. merge_of (old ((masters_of s).name is.owed.other)).log is.owed.shard n (job_of (types_of s.schema) is.owed.entry) ≡ made)
+      (sym (number_is is))
+
   -- it may be merged
   pub may_be_merged : InversesMatch (types_of s.schema) → AreKeptIn s old → 0 < length j.job.edges → IsOwedJob s old j
       → MayBeMerged (far_shard j.job) (master_log s old (far_shard j.job)) j.shard j.job.position j.job.edges
@@ -58,8 +67,10 @@ module _ (s : Settings) (old : Tables) (j : ShardJob) (far : far_shard j.job < s
       let types = types_of s.schema in
       let logs = (stores_in s old).logs in
       let many = of_owed s j is.owed (λ other shard position us. 0 < length us) is.of some in
-      let may = jobs_may_be_merged.may types is.owed.other (log_of logs is.owed.other) is.owed.shard is.owed.entry
+      let numbered = jobs_may_be_merged.may types (log_of logs is.owed.other) is.owed
       (open_jobs_are_owed.mergeable types (stores_in s old) is.owed match kept is.owes many) in
+      let may = subst (λ n. MayBeMerged is.owed.other (log_of logs is.owed.other) is.owed.shard n (job_of types is.owed.entry))
+      (number_is is) numbered in
       let there = of_job s j is.owed (λ other shard position us. MayBeMerged other (log_of logs other) shard position us) is.of may in
       subst (λ l. MayBeMerged (far_shard j.job) l j.shard j.job.position j.job.edges)
       ((tables_are_stores (masters_of s) old).log_is (far_shard j.job) far) there
@@ -72,14 +83,14 @@ module _ (s : Settings) (old : Tables) (j : ShardJob) (far : far_shard j.job < s
       let m = masters_of s in
       let within = of_owed s j is.owed (λ other shard position us. other < s.shards) is.of far in
       let none = of_owed s j is.owed (λ other shard position us. merge_of (old (m.name other)).log shard position us ≡ None) is.of (sym due_is) in
-      record { owed = is.owed; of = is.of; merges = (calls_are_steps m old new).merges_none types is.owed within is.owes none gains }
+      record { owed = is.owed; of = is.of; merges = (calls_are_steps m old new).merges_none types is.owed within is.owes (by_number is None none) gains }
   merges_owed new (Some e) is due_is gains =
       let types = types_of s.schema in
       let m = masters_of s in
       let within = of_owed s j is.owed (λ other shard position us. other < s.shards) is.of far in
       let some = of_owed s j is.owed (λ other shard position us. merge_of (old (m.name other)).log shard position us ≡ Some e) is.of (sym due_is) in
       let there = of_owed s j is.owed (λ other shard position us. Becomes old new (m.name other) (after_commit (old (m.name other)) e None)) is.of gains in
-      record { owed = is.owed; of = is.of; merges = (calls_are_steps m old new).merges types is.owed e within is.owes some there }
+      record { owed = is.owed; of = is.of; merges = (calls_are_steps m old new).merges types is.owed e within is.owes (by_number is (Some e) some) there }
 
 -- what a merge leaves
 module _ (s : Settings) (old new : Tables) (j : ShardJob) (match : InversesMatch (types_of s.schema)) (kept : AreKeptIn s old) (step : MergesOwed s old new j)

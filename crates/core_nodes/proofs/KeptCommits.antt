@@ -1,12 +1,13 @@
 -- A commit keeps the stores of all shards, and a job that it answers is owed.
 use Rattle.std.proofs.Common.{◌≡◌, ℕ, ◌+◌, ◌<◌, Bool, true, false, Option, Some, None, Result, Ok, Err, IfOk, IfSome, refl, sym, ap, ◌∙◌, subst, arith, List}
 use Rattle.std.proofs.lemmas.Bool.Decides.{nat_tests}
-use Rattle.std.specs.Prelude.{IsTrue, if◌then◌else◌, nat_le, ◌==◌}
+use Rattle.std.specs.Prelude.{IsTrue, if◌then◌else◌, nat_le}
 use Rattle.graph_model.specs.Soundness.{is_client}
 use Rattle.graph_model.specs.Told.{WhereTold}
 use Rattle.master_tables.proofs.Calls.{tables_are_stores}
 use Rattle.shard_tables.proofs.WriteSteps.{write_is_step}
 use Rattle.shard_tables.specs.Jobs.{FindsJob, OpensJob, job_with}
+use Rattle.shard_tables.specs.WriteDone.{WriteDone}
 use Rattle.shard_tables.specs.WriteSteps.{client_write}
 use Rattle.shard_tables.specs.Written.{AnswersAs, AskedWrite, IsAdded, TableGains, WriteAnswers, added_entry, asked_write}
 use Rattle.shard_tables.specs.declared.refusal.StoreRefusal.{StoreRefusal}
@@ -17,6 +18,7 @@ use Rattle.tao_base.specs.declared.entry.Entry.{Entry}
 use Rattle.tao_base.specs.declared.entry.Origin.{Origin}
 use Rattle.tao_base.specs.declared.write.Write.{Write}
 use Rattle.tao_base.specs.declared.write.Write.TheVariants.{ObjAdd, ObjUpdate, ObjDelete, AssocAdd, AssocDelete, AssocChangeType}
+use Rattle.tao_keeper.specs.KeeperState.{KeeperState}
 use Rattle.tao_keeper.specs.Table.{AreOfEntries, Tables}
 use Rattle.tao_keeper.specs.declared.jobs.Job.{Job}
 use Rattle.tao_schema.specs.Schema.{types_of}
@@ -29,6 +31,8 @@ use Rattle.core_model.proofs.KeptStores.{kept_stays, sound_logs}
 use Rattle.core_model.proofs.OwedJobs.{open_job_owed}
 use Rattle.core_model.specs.Jobs.{IsOwedJob, job_on}
 use Rattle.core_model.specs.Stores.{AreKeptIn, master_log, master_store, masters_of, stores_in}
+use Rattle.core_nodes.specs.MasterWrites.{asked_of_master}
+use Rattle.tao_base.proofs.Tests.{eqb-self}
 
 -- what a commit leaves of the stores of all shards, and of its job
 pub record CommitKeeps (tells : Bool) (s : Settings) (shard : ℕ) (new : Tables) (r : Result Wrote StoreRefusal) : Type 0 where
@@ -50,7 +54,7 @@ of_shard log (AssocChangeType id1 atype id2 newtype) room = refl
 module _ (s : Settings) (most : ℕ) (origin : Origin) (write : Write) (old new : Tables) (within : write_shard write < s.shards)
     (kept : AreKeptIn s old) where
   abbrev asked : AskedWrite
-  asked = asked_write (types_of s.schema) most (master_log s old (write_shard write)) origin write
+  asked = asked_write (types_of s.schema) most 0 (master_log s old (write_shard write)) origin write
 
   module _ (match : InversesMatch (types_of s.schema)) (client : IsTrue (is_client origin)) (changes : ChangesType (types_of s.schema) write)
       (of_entries : AreOfEntries (old (master_store s (write_shard write)))) where
@@ -74,7 +78,8 @@ module _ (s : Settings) (most : ℕ) (origin : Origin) (write : Write) (old new 
     keeps true entry answer gains = kept_stays s old new gains kept
     keeps false None answer gains = kept_stays s old new gains kept
     keeps false (Some e) answer gains =
-        let step = write_is_step (masters_of s) old new (write_shard write) asked within refl (sound_logs s old kept (write_shard write) within) of_entries in
+        let sound = sound_logs s old kept (write_shard write) within in
+        let step = write_is_step (masters_of s) old new (write_shard write) asked within refl refl sound of_entries in
         commits_keep.keep (types_of s.schema) (stores_in s old) (stores_in s new) (client_write (write_shard write) asked) e kept client
         (admitted e answer) (step.commits e answer gains)
 
@@ -82,9 +87,6 @@ module _ (s : Settings) (most : ℕ) (origin : Origin) (write : Write) (old new 
         → TableGains old new (master_store s (write_shard write)) (added_entry r) (job_with (types_of s.schema) (added_entry r)) → AreKeptIn s new
     kept_commit (Ok wrote) answer gains = keeps wrote.retry wrote.entry answer gains
     kept_commit (Err refusal) answer gains = kept_stays s old new gains kept
-
-eq_self : (p : ℕ) → (p == p) ≡ true
-eq_self p = grind (arith, nat_tests)
 
 -- the job of the answer is open then
 module _ (s : Settings) (shard : ℕ) (old new : Tables) (within : shard < s.shards) (kept : AreKeptIn s new) where
@@ -101,7 +103,7 @@ module _ (s : Settings) (shard : ℕ) (old new : Tables) (within : shard < s.sha
   owes false (Some e) (Some j) opens finds gains =
       let becomes = subst (TableGains old new (master_store s shard) (Some e)) (sym opens) gains in
       open_job_owed s new shard j within kept (ap (λ t. t.jobs j.position) becomes.here
-      ∙ ap (λ b. if b then Some j.edges else (old (master_store s shard)).jobs j.position) (eq_self j.position))
+      ∙ ap (λ b. if b then Some j.edges else (old (master_store s shard)).jobs j.position) (eqb-self j.position))
 
   pub owes_job : (r : Result Wrote StoreRefusal) → IfOk r (λ wrote. OpensJob (types_of s.schema) wrote.retry wrote.entry wrote.job)
       → IfOk r (λ wrote. FindsJob (old (master_store s shard)) wrote.retry wrote.entry wrote.job)
@@ -110,16 +112,17 @@ module _ (s : Settings) (shard : ℕ) (old new : Tables) (within : shard < s.sha
   owes_job (Ok wrote) opens finds gains = owes wrote.retry wrote.entry wrote.job opens finds gains
   owes_job (Err refusal) opens finds gains = tt
 
-module _ (tells : Bool) (s : Settings) (most : ℕ) (origin : Origin) (write : Write) (old new : Tables) (within : write_shard write < s.shards)
+module _ (tells : Bool) (s : Settings) (origin : Origin) (write : Write) (old new : KeeperState) (within : write_shard write < s.shards)
     (match : InversesMatch (types_of s.schema)) (client : IsTrue (is_client origin)) (changes : ChangesType (types_of s.schema) write)
-    (kept : WhereTold tells (AreKeptIn s old)) (of_entries : WhereTold tells (AreOfEntries (old (master_store s (write_shard write))))) where
+    (kept : WhereTold tells (AreKeptIn s old.told)) (of_entries : WhereTold tells (AreOfEntries (old.told (master_store s (write_shard write))))) where
   pub commit_keeps : (r : Result Wrote StoreRefusal)
-      → WhereTold tells (WriteAnswers (asked_write (types_of s.schema) most (master_log s old (write_shard write)) origin write) r)
-      → WhereTold tells (TableGains old new (master_store s (write_shard write)) (added_entry r) (job_with (types_of s.schema) (added_entry r)))
-      → IfOk r (λ wrote. OpensJob (types_of s.schema) wrote.retry wrote.entry wrote.job)
-      → WhereTold tells (IfOk r (λ wrote. FindsJob (old (master_store s (write_shard write))) wrote.retry wrote.entry wrote.job))
-      → CommitKeeps tells s (write_shard write) new r
-  commit_keeps r answer gains opens finds =
-      let now : WhereTold tells (AreKeptIn s new) = λ told.
-      kept_commit s most origin write old new within (kept told) match client changes (of_entries told) r (answer told) (gains told) in
-      record { kept = now; owes = λ told. owes_job s (write_shard write) old new within (now told) r opens (finds told) (gains told) }
+      → WriteDone tells (master_store s (write_shard write)) (asked_of_master s old.told origin write) old new r
+      → CommitKeeps tells s (write_shard write) new.told r
+  commit_keeps r done =
+      let now : WhereTold tells (AreKeptIn s new.told) = λ told.
+      kept_commit s s.log_max origin write old.told new.told within (kept told) match client changes (of_entries told) r (done.answer told)
+      (done.tables told) in
+      record {
+        kept = now;
+        owes = λ told. owes_job s (write_shard write) old.told new.told within (now told) r done.job (done.found told) (done.tables told);
+      }

@@ -29,7 +29,7 @@ use Rattle.core_model.specs.declared.named.Named.{Named}
 use Rattle.core_nodes.specs.Stages.{EvictsThere, FollowerDoes, LeaderDoes, LooksTrue}
 use Rattle.core_nodes.specs.declared.fleet.Fleet.TheInside.{Inside}
 use Rattle.core_nodes.specs.declared.reads.FirstLook.{FirstLook}
-use Rattle.core_nodes.proofs.AskLemmas.{AskStep, ask_step, nodes_call}
+use Rattle.core_nodes.proofs.AskLemmas.{AskStep, AskedLeader, ask_step, nodes_call}
 use Rattle.core_nodes.proofs.EvictLemmas.{FollowerDrops, LeaderDrops, follower_evicts, leader_evicts}
 use Rattle.core_nodes.proofs.ReadLemmas.{AtOnceStep, EndStep, KeepStep, LookStep, at_once_step, brought_fill, end_step, keep_step, look_step}
 use Rattle.core_nodes.proofs.ViewLemmas.{LendsBoth, LendsFollowers, LendsLeaders, after_both, after_followers, after_leaders, both_after}
@@ -48,26 +48,29 @@ look_lent s schema name read inside old lent left r lends of fleet for change er
     subst (λ n. LookStep s name read old n r) (sym (followers_after inside old lent left lends))
     (look_step s name read old left r fleet for looks (subst (λ xs. OnErr r (left ≡ xs)) lends.own err))
 
-pub ask_lent : (tells : Bool) (s : Settings) (schema : Schema) (name : NodeName) (read : Wanted) (before after : KeeperState) (inside : Inside) (old : Fleet)
+pub ask_lent : (tells : Bool) (s : Settings) (schema : Schema) (asked : AskedLeader) (read : Wanted) (before after : KeeperState) (inside : Inside)
+    (old : Fleet)
     (lent left : List (Named Node))
     (stores same : List Store) (r : Result LeaderAnswer StoreRefusal) → LendsBoth inside old lent left stores same → schema ≡ s.schema
     → IsConsistent tells s before.told old
-    → IfOk r (λ given. ChangesNode name (LeaderDoes (LeaderAnswers (types_of schema) read given (store_calls stores before after))) lent left)
+    → IfOk r (λ given. ChangesNode asked.leader
+    (LeaderDoes (LeaderAnswers (types_of schema) read given (store_calls asked.region stores before after))) lent left)
     → IfOk r (IsLegalAt (types_of schema) read.query read.floor) → OnErr r (left ≡ lent) → KeepsTables tells before after
-    → AskStep tells s name read (nodes_call before after old (after_both inside left same)) r
-ask_lent tells s schema name read before after inside old lent left stores same r lends of is change legal err stays =
+    → AskStep tells s asked read (nodes_call before after old (after_both inside left same)) r
+ask_lent tells s schema asked read before after inside old lent left stores same r lends of is change legal err stays =
     let Gives : Schema → List Store → List (Named Node) → Type 0 =
-    λ k ms xs. IfOk r (λ given. ChangesNode name (LeaderDoes (LeaderAnswers (types_of k) read given (store_calls ms before after))) xs left) in
-    let gives = subst (λ k. Gives k old.masters old.leaders) of
+    λ k ms xs. IfOk r (λ given. ChangesNode asked.leader
+    (LeaderDoes (LeaderAnswers (types_of k) read given (store_calls asked.region ms before after))) xs left) in
+    let gives = subst (λ k. Gives k old.stores old.leaders) of
     (subst (λ ms. Gives schema ms old.leaders) lends.own (subst (Gives schema stores) lends.leaders.own change)) in
-    subst (λ n. AskStep tells s name read (nodes_call before after old n) r) (sym (both_after inside old lent left stores same lends))
-    (ask_step tells s name read before after old left r is gives (subst (λ k. IfOk r (IsLegalAt (types_of k) read.query read.floor)) of legal)
+    subst (λ n. AskStep tells s asked read (nodes_call before after old n) r) (sym (both_after inside old lent left stores same lends))
+    (ask_step tells s asked read before after old left r is gives (subst (λ k. IfOk r (IsLegalAt (types_of k) read.query read.floor)) of legal)
     (subst (λ xs. OnErr r (left ≡ xs)) lends.leaders.own err) stays)
 
 pub keep_lent : (s : Settings) (schema : Schema) (name : NodeName) (read : Wanted) (ask : Option ℕ) (fill : SealedItem) (inside : Inside) (old : Fleet)
     (lent left : List (Named FollowerState))
     (r : Result (Answer × Kept) OutOfMemory) → LendsFollowers inside old lent left → schema ≡ s.schema → IsFleetOf s old
-    → IsGivenFill (types_of s.schema) (pens_of old.masters) read fill
+    → IsGivenFill (types_of s.schema) (pens_of old.stores) read fill
     → IfOk r (λ a. ChangesNode name (FollowerDoes (KeepsFill (types_of schema) read.query (taken_fill ask fill a.0 a.1))) lent left)
     → OnErr r (ChangesNode name (FollowerDoes (EndsAsk ask)) lent left) → IfOk r (λ a. ViewAnswers (types_of schema) fill.note read.query a.0 fill.version)
     → KeepStep s name (brought_fill read ask fill) old (after_followers inside left) r

@@ -1,12 +1,12 @@
 -- The node of a name is such, and is so after it changed.
-use Rattle.std.proofs.Common.{◌≡◌, ◌≢◌, ℕ, List, Some, refl, ap, subst, ◌∙◌, inl, inr}
+use Rattle.std.proofs.Common.{◌≡◌, ◌≢◌, ℕ, List, Some, refl, ap, subst, sym, ◌∙◌, inl, inr}
 use Rattle.std.proofs.lemmas.Bool.{cases_order}
 use Rattle.std.specs.Prelude.{slice_get, slice_index_or, slice_set}
 use Rattle.node_name.specs.declared.NodeName.{NodeName}
 use Rattle.core_model.specs.Fleet.{ChangesNode, IsFirstAt, named}
 use Rattle.core_model.specs.declared.named.Named.{Named}
 use Rattle.core_model.proofs.NamedNodes.{named_stands}
-use Rattle.core_model.proofs.Places.{get_set, set_get, some_and}
+use Rattle.core_model.proofs.Places.{get_set, one_some, set_get, some_and}
 use Rattle.core_nodes.specs.Stages.{NodeIs}
 
 -- the node of the name is what it is said to be
@@ -14,6 +14,18 @@ pub holds_at : {N : Type 0} (Such : N → Type 0) (nodes : List (Named N)) (name
     → NodeIs name Such nodes
     → Such (slice_index_or nodes place d).node
 holds_at Such nodes name place d first holds = holds place (slice_index_or nodes place d).node first (named_stands nodes name place d first)
+
+-- the one that is first of its name is the node of the name
+pub is_here : {N : Type 0} (Such : N → Type 0) (nodes : List (Named N)) (name : NodeName) (place : ℕ) (d : Named N) → IsFirstAt name nodes place
+    → Such (slice_index_or nodes place d).node → NodeIs name Such nodes
+is_here {N} Such nodes name place d first such other node second at = elim (cases_order other place) [
+  | inl same ↦ (
+      let both : Some (named name (slice_index_or nodes place d).node) ≡ Some (named name node) =
+      sym (named_stands nodes name place d first) ∙ (ap (slice_get nodes) (sym same) ∙ at) in
+      subst Such (ap (λ (n : Named N). n.node) (one_some (named name (slice_index_or nodes place d).node) (named name node) both)) such)
+  | inr (inl before) ↦ absurd (first.before other before second.here)
+  | inr (inr after) ↦ absurd (second.before place after first.here)
+]
 
 -- the node that changed is the one of its name afterwards
 same_place : {N : Type 0} (By : N → N → Type 0) (name : NodeName) (old new : List (Named N)) (place : ℕ) (node : N) (change : ChangesNode name By old new)

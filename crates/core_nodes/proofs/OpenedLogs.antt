@@ -1,19 +1,22 @@
 -- Logs stay as they are where stores are opened.
-use Rattle.std.proofs.Common.{◌≡◌, ◌≢◌, ◌⊎◌, ℕ, ◌+◌, ◌<◌, Bool, List, length, take, refl, sym, ap, ◌∙◌, subst, inl, inr, arith}
+use Rattle.std.proofs.Common.{◌≡◌, ◌⊎◌, ℕ, ◌+◌, Bool, List, length, take, refl, sym, ap, ◌∙◌, subst, inl, inr, arith}
 use Rattle.std.proofs.lemmas.List.{take_all}
 use Rattle.graph_model.specs.Told.{WhereTold}
 use Rattle.tao_base.specs.declared.entry.Entry.{Entry}
 use Rattle.tao_base.specs.declared.id.StoreName.{StoreName}
 use Rattle.tao_keeper.specs.Growing.{LogsGrow}
-use Rattle.tao_keeper.specs.KeeperState.{KeeperState}
-use Rattle.tao_keeper.specs.Table.{Table, Tables, after_open}
+use Rattle.tao_keeper.specs.KeeperState.{IsLater, KeeperState}
+use Rattle.tao_keeper.specs.Table.{Stays, Table, Tables, after_open}
 use Rattle.topology.specs.Config.{Settings}
 use Rattle.replies.specs.declared.opening.OpenRefusal.{OpenRefusal}
 use Rattle.replies.specs.declared.opening.OpenRefusal.TheVariants as refusal
 use Rattle.core_model.proofs.KeptStores.{KeepLogsAndJobs, kept_same}
-use Rattle.core_model.specs.Stores.{AreKeptIn, master_store}
-use Rattle.core_nodes.specs.Opening.{AreOpened, IsOpened, MayOpen, RefusesOpening}
-use Rattle.core_nodes.proofs.StoreLemmas.{first_or_other}
+use Rattle.core_model.specs.Stores.{AreKeptIn, master_log, master_store, store_count, store_place}
+use Rattle.counts.proofs.Rises.{Rose-earlier}
+use Rattle.region_stream.specs.Agreeing.{DiffersFirst}
+use Rattle.shard_log.specs.View.{Begins}
+use Rattle.core_nodes.specs.Opening.{AreOpened, DisagreesAt, IsFirst, IsOpened, IsOpenedInPart, IsUnmade, MayOpen, RefusesMaking, RefusesOpening}
+use Rattle.core_nodes.proofs.OpenLemmas.{first_or_other, opened_kept, opened_stays}
 
 -- what opens writes lines alone
 pub opened_keep : (s : Settings) (line : List ℕ) (count : ℕ) (old new : Tables) → AreOpened s line count old new → KeepLogsAndJobs old new
@@ -23,15 +26,13 @@ opened_keep s line count old new opened = record {
 }
   where
     field_stays : {X : Type 0} (f : Table → X) → ((t : Table) → f (after_open t line) ≡ f t) → (at : StoreName)
-        → ((at.shard < count) × (at ≡ master_store s at.shard)) ⊎ ((shard : ℕ) → shard < count → at ≢ master_store s shard)
-        → f (new at) ≡ f (old at)
-    field_stays f same at (inl first) =
-        subst (λ a. f (new a) ≡ f (old a)) (sym first.1) (ap f (opened.stores at.shard first.0) ∙ same (old (master_store s at.shard)))
+        → IsFirst s count at ⊎ (IsFirst s count at → ⊥) → f (new at) ≡ f (old at)
+    field_stays f same at (inl first) = ap f (opened.stores at first) ∙ same (old at)
     field_stays f same at (inr none) = ap f (opened.others at none)
 
 -- so stores that may be opened are kept
 pub kept_opened : (s : Settings) (line : List ℕ) (old new : Tables) → MayOpen s line old → IsOpened s line old new → AreKeptIn s new
-kept_opened s line old new may is = kept_same s old new (opened_keep s line s.shards old new is.opened) (may is.ready)
+kept_opened s line old new may is = kept_same s old new (opened_keep s line (store_count s) old new is.opened) (may is.ready)
 
 -- and logs go on
 pub opened_grow : (tells : Bool) (s : Settings) (line : List ℕ) (count : ℕ) (old new : Tables) → WhereTold tells (AreOpened s line count old new)
@@ -49,6 +50,51 @@ pub refused_grow : (tells : Bool) (s : Settings) (line : List ℕ) (old new : Ke
 refused_grow tells s line old new refusal.KeeperFault h =
     record { begins = λ told. (opened_grow tells s line (h.1 told).count old.told new.told (λ t. (h.1 told).opened)).begins told }
 refused_grow tells s line old new refusal.OtherLine h =
-    record { begins = λ told. (opened_grow tells s line ((h told).shard + 1) old.told new.told (λ t. (h told).opened)).begins told }
+    record { begins = λ told. (opened_grow tells s line (store_place s (h told).store + 1) old.told new.told (λ t. (h told).opened)).begins told }
+refused_grow tells s line old new (refusal.Disagree at position) h =
+    record { begins = λ told. (opened_grow tells s line (store_count s) old.told new.told (λ t. (h.1 told).opened.opened)).begins told }
 refused_grow tells s line old new refusal.OutOfMemory h =
     record { begins = λ told. (opened_grow tells s line (h told).count old.told new.told (λ t. (h told).opened)).begins told }
+
+-- ---- the stores aren't made
+
+-- the logs are the same, so the same store disagrees
+disagrees_so : (s : Settings) (old mid : Tables) (at : StoreName) (position : ℕ) → KeepLogsAndJobs old mid → DisagreesAt s mid at position
+    → DisagreesAt s old at position
+disagrees_so s old mid at position keep is = record {
+  differs = subst (λ l. DiffersFirst l (master_log s old at.shard) position) (keep.logs at)
+      (subst (λ l. DiffersFirst (mid at).log l position) (keep.logs (master_store s at.shard)) is.differs);
+  before = λ other here first.
+      subst (λ l. Begins l (master_log s old other.shard)) (keep.logs other)
+      (subst (λ l. Begins (mid other).log l) (keep.logs (master_store s other.shard)) (is.before other here first));
+}
+
+module _ (tells : Bool) (s : Settings) (line : List ℕ) (start old new : KeeperState) (is : WhereTold tells (IsOpened s line start.told old.told))
+    (before : IsLater start old) (stays : WhereTold tells (Stays old.told new.told)) where
+  -- all are open
+  opened_all : WhereTold tells (IsOpenedInPart s line start.told new.told)
+  opened_all told = record {
+    count = store_count s;
+    some = omega arith;
+    opened = opened_stays s line (store_count s) start.told old.told new.told (is told).opened (stays told);
+  }
+
+  -- the stores aren't made
+  pub refused_making : (r : OpenRefusal) → RefusesMaking tells s old new r → RefusesOpening tells s line start new r
+  refused_making refusal.KeeperFault cause = (Rose-earlier start.faults old.faults new.faults before.faults cause, opened_all)
+  refused_making refusal.OtherLine cause = absurd cause
+  refused_making (refusal.Disagree at position) cause = (
+    cause.0,
+    λ told. record {
+      opened = opened_kept s line start.told old.told new.told (is told) (stays told);
+      disagrees = disagrees_so s start.told old.told at position (opened_keep s line (store_count s) start.told old.told (is told).opened) (cause.1 told);
+    },
+  )
+  refused_making refusal.OutOfMemory cause = opened_all
+
+  -- nor are the nodes
+  pub refused_beginning : (r : OpenRefusal) → IsUnmade old.faults new.faults r → RefusesOpening tells s line start new r
+  refused_beginning refusal.KeeperFault cause = (Rose-earlier start.faults old.faults new.faults before.faults cause, opened_all)
+  refused_beginning refusal.OtherLine cause = absurd cause
+  refused_beginning (refusal.Disagree at position) cause = absurd cause
+  refused_beginning refusal.OutOfMemory cause = opened_all

@@ -67,13 +67,13 @@ log_of_shard pens shard s name node is serves =
 pub follower_serves : (s : Settings) (f : Fleet) (shard : ℕ) (name : NodeName) → IsFleetOf s f → IsFollowerFor s shard name
     → NodeIs name (λ (g : FollowerState). IsSome (served_at shard g.node.served)) f.followers
 follower_serves s f shard name fleet is place node first at =
-    (serves_its_turn s (pens_of f.masters) name node.node shard).serves (fleet.followers place name node at).node is.here is.serves
+    (serves_its_turn s (pens_of f.stores) name node.node shard).serves (fleet.followers place name node at).node is.here is.serves
 
 pub follower_log : (s : Settings) (f : Fleet) (shard : ℕ) (name : NodeName) (note : View) → IsFleetOf s f → IsFollowerFor s shard name
-    → IsSeen (pens_of f.masters) shard note
+    → IsSeen (pens_of f.stores) shard note
     → NodeIs name (λ (g : FollowerState). log_at shard g.node.served ≡ Some note.log) f.followers
 follower_log s f shard name note fleet is seen place node first at =
-    log_of_shard (pens_of f.masters) shard s name node.node (fleet.followers place name node at).node
+    log_of_shard (pens_of f.stores) shard s name node.node (fleet.followers place name node at).node
     (follower_serves s f shard name fleet is place node first at)
     ∙ ap Some seen.log_is
 
@@ -139,7 +139,7 @@ pub record LookStep (s : Settings) (name : NodeName) (read : Wanted) (old new : 
   pub step : FleetStep s old new
   pub looks : IfOk r (λ first. ChangesNode name (LooksFirst (types_of s.schema) read first.look first.ask) old.followers new.followers)
   pub ask : IfOk r (λ first. IfSome first.ask (λ number. HasAsk name number (query_key read.query) new.followers))
-  pub legal : IfOk r (λ first. IsLegalLook (types_of s.schema) (pens_of new.masters) read first.look)
+  pub legal : IfOk r (λ first. IsLegalLook (types_of s.schema) (pens_of new.stores) read first.look)
 
 pub look_step : (s : Settings) (name : NodeName) (read : Wanted) (old : Fleet) (fs : List (Named FollowerState)) (r : Result FirstLook OutOfMemory)
     → IsFleetOf s old → IsFollowerFor s (query_shard read.query) name
@@ -150,14 +150,14 @@ look_step s name read old fs (Ok first) fleet for change err =
     let types = types_of s.schema in
     record {
       step = follower_step (FollowerDoes (LooksTrue types read first.look first.ask)) s old name fs fleet change
-          (λ from to by is. (nodes_stay s (pens_of old.masters) name).looks read first.look first.ask from to by.does.looks by.apart by.truth is)
+          (λ from to by is. (nodes_stay s (pens_of old.stores) name).looks read first.look first.ask from to by.does.looks by.apart by.truth is)
           (λ from to by. by.does.looks.refills)
           (λ from to by. nodes_ask_on.looks types read first.look first.ask from to by.does.looks)
           (λ from to by. nodes_mark_on.looks types read first.look first.ask from to by.does.looks);
       looks = changes_so (FollowerDoes (LooksTrue types read first.look first.ask)) (LooksFirst types read first.look first.ask) name old.followers fs
           (λ from to by. by.does.looks) change;
       ask = looked_ask types read first.look first.ask name old.followers fs change;
-      legal = looked_legal s (pens_of old.masters) read first.look first.ask name change.from change.to change.by.does
+      legal = looked_legal s (pens_of old.stores) read first.look first.ask name change.from change.to change.by.does
           (fleet.followers change.place name change.from change.stands).node
           (follower_serves s old (query_shard read.query) name fleet for change.place change.from change.first change.stands);
     }
@@ -220,7 +220,7 @@ at_once_step s name query ask old fs fleet change =
     record {
       step = follower_step (FollowerDoes Asks) s old name fs fleet change
           (λ from to by is. (let l = looks_beyond types query ask from to by.does in
-          (nodes_stay s (pens_of old.masters) name).looks (wanted query l.floor) Miss ask from to l.looks by.apart by.truth is))
+          (nodes_stay s (pens_of old.stores) name).looks (wanted query l.floor) Miss ask from to l.looks by.apart by.truth is))
           (λ from to by. by.does.refills)
           (λ from to by. (let l = looks_beyond types query ask from to by.does in
           nodes_ask_on.looks types (wanted query l.floor) Miss ask from to l.looks))
@@ -247,7 +247,7 @@ pub end_step : (s : Settings) (name : NodeName) (ask : Option ℕ) (old : Fleet)
     → ChangesNode name (FollowerDoes (EndsAsk ask)) old.followers fs → EndStep s name ask old (record old { followers = fs })
 end_step s name ask old fs fleet change = record {
   step = follower_step (FollowerDoes (EndsAsk ask)) s old name fs fleet change
-      (λ from to by is. (nodes_stay s (pens_of old.masters) name).ends ask from to by.does by.truth is)
+      (λ from to by is. (nodes_stay s (pens_of old.stores) name).ends ask from to by.does by.truth is)
       (λ from to by. ap (λ (f : FollowerState). f.refills) by.does)
       (λ from to by. nodes_ask_on.ends ask from to by.does)
       (λ from to by. nodes_mark_on.ends ask from to by.does);
@@ -267,11 +267,11 @@ pub record KeepStep (s : Settings) (name : NodeName) (b : BroughtFill) (old new 
   pub step : FleetStep s old new
   pub keeps : IfOk r (λ a. ChangesNode name (KeepsFill (types_of s.schema) b.read.query (taken_fill b.ask b.fill a.0 a.1)) old.followers new.followers)
   pub err : OnErr r (ChangesNode name (EndsAsk b.ask) old.followers new.followers)
-  pub legal : IfOk r (λ a. IsLegalIn (types_of s.schema) (pens_of new.masters (query_shard b.read.query)) b.read.query b.read.floor a.0 b.fill.version)
+  pub legal : IfOk r (λ a. IsLegalIn (types_of s.schema) (pens_of new.stores (query_shard b.read.query)) b.read.query b.read.floor a.0 b.fill.version)
 
 pub keep_step : (s : Settings) (name : NodeName) (read : Wanted) (ask : Option ℕ) (fill : SealedItem) (old : Fleet) (fs : List (Named FollowerState))
     (r : Result (Answer × Kept) OutOfMemory)
-    → IsFleetOf s old → IsGivenFill (types_of s.schema) (pens_of old.masters) read fill
+    → IsFleetOf s old → IsGivenFill (types_of s.schema) (pens_of old.stores) read fill
     → IfOk r (λ a. ChangesNode name (FollowerDoes (KeepsFill (types_of s.schema) read.query (taken_fill ask fill a.0 a.1))) old.followers fs)
     → OnErr r (ChangesNode name (FollowerDoes (EndsAsk ask)) old.followers fs)
     → IfOk r (λ a. ViewAnswers (types_of s.schema) fill.note read.query a.0 fill.version)
@@ -280,14 +280,14 @@ keep_step s name read ask fill old fs (Ok (answer, kept)) fleet given change err
     let types = types_of s.schema in
     record {
       step = follower_step (FollowerDoes (KeepsFill types read.query (taken_fill ask fill answer kept))) s old name fs fleet change
-          (λ from to by is. (nodes_stay s (pens_of old.masters) name).keeps read ask fill answer kept from to by.does given by.apart by.truth is)
+          (λ from to by is. (nodes_stay s (pens_of old.stores) name).keeps read ask fill answer kept from to by.does given by.apart by.truth is)
           (λ from to by. ap (λ (f : FollowerState). f.refills) by.does.node_is)
           (λ from to by. nodes_ask_on.keeps types read ask fill answer kept from to by.does)
           (λ from to by. nodes_mark_on.keeps types read ask fill answer kept from to by.does);
       keeps = changes_so (FollowerDoes (KeepsFill types read.query (taken_fill ask fill answer kept)))
           (KeepsFill types read.query (taken_fill ask fill answer kept)) name old.followers fs (λ from to by. by.does) change;
       err = tt;
-      legal = (reads_are_legal types (pens_of old.masters) read).given fill.note answer fill.version answers given.reaches given.seen;
+      legal = (reads_are_legal types (pens_of old.stores) read).given fill.note answer fill.version answers given.reaches given.seen;
     }
 keep_step s name read ask fill old fs (Err e) fleet given change err answers =
     let ended = end_step s name ask old fs fleet err in

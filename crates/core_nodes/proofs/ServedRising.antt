@@ -46,15 +46,3 @@ each_served P (t ∷ ts) rises each = (
     | inr other ↦ rw other at
   ])),
 )
-
--- and back
-pub at_served : (P : ℕ → ServedShard → Type 0) (served : List ServedShard) → AllByRecursion (λ t. P t.shard t) served
-    → (shard : ℕ) (t : ServedShard) → served_at shard served ≡ Some t → P shard t
-at_served P [] all shard t at = absurd (let none : None ≡ Some t = at in cc)
-at_served P (u ∷ us) all shard t at = elim (cases_Bool (u.shard == shard)) [
-  | inl same ↦ (
-      let found : Some u ≡ Some t = rw same at at in
-      let is : u ≡ t = cc in
-      subst (P shard) is (subst (λ n. P n u) (eqb-true u.shard shard same) all.0))
-  | inr other ↦ at_served P us all.1 shard t (rw other at at)
-]

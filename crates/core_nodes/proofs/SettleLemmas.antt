@@ -1,13 +1,20 @@
 -- What settling asks of keepers and links, step by step, and why it stops.
-use Rattle.std.proofs.Common.{ℕ, ◌<◌, Bool, refl, sym, ◌∙◌, subst, arith}
+use Rattle.std.proofs.Common.{◌≡◌, ℕ, ◌<◌, Bool, Some, ap, refl, sym, ◌∙◌, subst, arith}
 use Rattle.counts.proofs.Rises.{Rose-earlier}
+use Rattle.node_name.specs.declared.NodeName.{NodeName}
+use Rattle.node_name.specs.declared.NodeName.TheVariants.{Store as StoreName_}
 use Rattle.replies.specs.declared.refusals.UnsettledWhy.TheVariants.{KeeperFault, LinkFault, LogFull}
 use Rattle.tao_keeper.proofs.Later.{keeps_trans, later_self, later_trans}
+use Rattle.tao_base.specs.declared.id.StoreName.{StoreName}
 use Rattle.tao_keeper.specs.KeeperState.{IsLater, KeeperState}
+use Rattle.tao_link.specs.Cuts.{between}
+use Rattle.tao_link.specs.Shown.{LinkShown}
 use Rattle.topology.specs.Config.{Settings}
 use Rattle.core_nodes.specs.Opening.{IsUnmade}
-use Rattle.core_nodes.specs.Repairs.{Outside}
-use Rattle.core_nodes.specs.Settling.{OnlyReads, StopsCatchUp, StopsLengths, StopsReads, unmade_for}
+use Rattle.core_model.specs.Fleet.{region_of}
+use Rattle.core_model.specs.Stores.{region_store}
+use Rattle.core_nodes.specs.Repairs.{Outside, outside}
+use Rattle.core_nodes.specs.Settling.{FailedToReach, IsConfiguredCache, OnlyReads, StopsCarry, StopsCatchUp, StopsLengths, StopsReads, unmade_for}
 use Rattle.core_nodes.specs.declared.settling.SettleStop.{SettleStop}
 use Rattle.core_nodes.specs.declared.settling.SettleStop.TheVariants.{NoServer, OutOfMemory, Unsettled}
 
@@ -57,3 +64,13 @@ unmade s old new (Unsettled shard LinkFault) stops = absurd stops
 unmade s old new (Unsettled shard LogFull) stops = absurd stops
 unmade s old new (NoServer shard) stops = absurd stops
 unmade s old new OutOfMemory stops = tt
+
+-- nothing is carried to a node of the region from the region's store
+pub carry_stops : (s : Settings) (at from : StoreName) (name : NodeName) (keepers : KeeperState) (old new : LinkShown) (stop : SettleStop)
+    → IsConfiguredCache s name → region_of name ≡ at.region → at.shard < s.shards → from ≡ at → StopsCarry at.shard from name old new stop
+    → StopsCatchUp s (outside keepers old) (outside keepers new) stop
+carry_stops s at from name keepers old new stop cache of_region here same stops =
+    let named : from ≡ region_store (region_of name) at.shard = same ∙ ap (λ r. region_store r at.shard) (sym of_region) in
+    let reach : FailedToReach s at.shard new =
+    record { name = name; cache = cache; failed = stops.2 ∙ ap (λ n. Some (between (StoreName_ n) name)) named } in
+    subst (StopsCatchUp s (outside keepers old) (outside keepers new)) (sym stops.0) (here, stops.1, reach)

@@ -1,147 +1,45 @@
--- The stores of a configuration, while one of them changes.
-use Rattle.std.proofs.Common.{◌≡◌, ◌≢◌, ◌⊎◌, ℕ, ◌+◌, ◌<◌, nat_lt, Bool, true, false, List, [], ◌∷◌, ◌++◌, length, Option, Some, None, Result, Ok}
-use Rattle.std.proofs.Common.{Err, refl, ap, sym, ◌∙◌, subst, inl, inr, arith, length-append}
-use Rattle.std.specs.Prelude.{if◌then◌else◌, is_ok, is_err, slice_get, slice_index_or, slice_set}
-use Rattle.std.proofs.lemmas.Bool.{cases_Bool, cases_eq}
-use Rattle.std.proofs.lemmas.Bool.Decides.{nat_tests}
-use Rattle.std.proofs.lemmas.List.{length-set}
-use Rattle.std.proofs.lemmas.Option.{slice_get-get_or}
+-- The stores of a configuration, while one of them is read or changes.
+use Rattle.std.proofs.Common.{◌≡◌, ◌≢◌, ℕ, ◌<◌, Bool, true, false, List, length, Option, Some, None, ap, sym, ◌∙◌, subst, arith}
+use Rattle.std.proofs.Common.{OnErr, Result, Ok, Err}
+use Rattle.std.specs.Bool.{OnTrue}
+use Rattle.std.specs.Prelude.{if◌then◌else◌, is_err, is_ok, slice_get, slice_index_or, slice_set}
+use Rattle.cache_items.specs.Node.{Node}
+use Rattle.node_name.specs.declared.NodeName.{NodeName}
+use Rattle.served_shards.specs.Served.{log_at}
+use Rattle.shard_tables.specs.declared.refusal.StoreRefusal.{StoreRefusal}
+use Rattle.shard_tables.specs.declared.writes.Wrote.{Wrote}
+use Rattle.core_model.specs.Fleet.{IsFirstAt}
+use Rattle.core_model.specs.declared.named.Named.{Named}
+use Rattle.core_nodes.proofs.NodesOfNames.{holds_at}
+use Rattle.core_nodes.specs.Stages.{NodeIs}
+use Rattle.std.proofs.lemmas.Option.{slice_get-get_or, slice_get_within}
 use Rattle.tao_base.specs.declared.entry.Entry.{Entry}
 use Rattle.tao_base.specs.declared.id.StoreName.{StoreName}
 use Rattle.graph_model.specs.Soundness.{IsSoundOf}
+use Rattle.graph_model.specs.Told.{WhereTold}
+use Rattle.shard_log.proofs.GrowthLemmas.{grows-self}
+use Rattle.shard_log.specs.View.{Grows}
 use Rattle.shard_tables.specs.StoreView.{Store}
 use Rattle.shard_tables.specs.Stores.{HasSeen, IsStoreOf, store_with}
+use Rattle.shard_tables.specs.Written.{TableGains, added_entry}
+use Rattle.shard_tables.specs.declared.store.StoreRole.TheVariants.{Master}
+use Rattle.tao_keeper.specs.Table.{Stays, Table, Tables}
 use Rattle.tao_keeper.specs.declared.jobs.Job.{Job}
-use Rattle.shard_tables.specs.Written.{TableGains}
-use Rattle.tao_keeper.specs.Table.{Table, Tables, Becomes, Stays, OpensAs, after_open}
-use Rattle.tao_keeper.specs.declared.keeper.Opened.TheVariants.{Ready, OtherLine}
 use Rattle.tao_schema.specs.Schema.{types_of}
 use Rattle.tao_schema.specs.declared.schema.Schema.{Schema}
 use Rattle.topology.specs.Config.{Settings}
-use Rattle.tao_keeper.proofs.Growing.{same_or_other}
-use Rattle.counts.proofs.Rises.{Rose-earlier}
-use Rattle.graph_model.proofs.Sound.{slice_get-push}
-use Rattle.graph_model.specs.Told.{WhereTold}
-use Rattle.replies.specs.declared.opening.OpenRefusal.{OpenRefusal}
-use Rattle.replies.specs.declared.opening.OpenRefusal.TheVariants as refusal
-use Rattle.core_nodes.specs.Opening.{AreOpened, AreReady, HasOpenCause, IsOpened, IsUnmade, OpensOne, RefusesOpening}
-use Rattle.tao_keeper.specs.KeeperState.{IsLater, KeeperState}
+use Rattle.core_model.proofs.FoundStores.{by_place, master_found, named_stands, stores_go_on}
 use Rattle.core_model.proofs.KeptStores.{sound_logs}
-use Rattle.core_model.proofs.Places.{get_set}
-use Rattle.core_model.specs.Stores.{AreKeptIn, AreStores, AreStoresOf, HaveSeen, IsMasterOf, master_store}
+use Rattle.core_model.proofs.Places.{one_some, set_same}
+use Rattle.core_model.specs.Pens.{IsSeen, master_in, pens_of, store_in}
+use Rattle.core_model.specs.StoreLaws.{IsFoundAt, StoreGoesOn}
+use Rattle.core_model.specs.Stores.{AreKeptIn, AreStoresOf, HaveSeen, IsConfiguredStore, IsStoreAt, master_of, master_store, region_store}
+use Rattle.core_model.specs.Stores.{store_count, store_place}
 
--- stores of different shards have different names
-pub other_store : (s : Settings) (m n : ℕ) → m ≢ n → master_store s m ≢ master_store s n
-other_store s m n differ same = differ (ap (λ at. at.shard) same)
-
--- it is the store of one of the first shards, or of none
-pub first_or_other : (s : Settings) (count : ℕ) (at : StoreName)
-    → ((at.shard < count) × (at ≡ master_store s at.shard)) ⊎ ((shard : ℕ) → shard < count → at ≢ master_store s shard)
-first_or_other s count at = by_shard (cases_Bool (nat_lt at.shard count)) (same_or_other at (master_store s at.shard))
-  where
-    by_shard : (nat_lt at.shard count ≡ true) ⊎ (nat_lt at.shard count ≡ false) → (at ≡ master_store s at.shard) ⊎ (at ≢ master_store s at.shard)
-        → ((at.shard < count) × (at ≡ master_store s at.shard)) ⊎ ((shard : ℕ) → shard < count → at ≢ master_store s shard)
-    by_shard (inl lt) (inl is) = inl (grind (arith, nat_tests), is)
-    by_shard (inl lt) (inr isnt) = inr (λ shard within is. isnt (is ∙ ap (master_store s) (sym (ap (λ a. a.shard) is))))
-    by_shard (inr past) other = inr (λ shard within is. let shard_is : at.shard ≡ shard = ap (λ a. a.shard) is in absurd (grind (arith, nat_tests)))
-
--- ---- opening
-
--- no store is open yet
-pub opened_none : (s : Settings) (line : List ℕ) (tables : Tables) → AreOpened s line 0 tables tables
-opened_none s line tables = record { stores = λ shard lt. absurd (omega arith); others = λ at h. refl }
-
-pub unopened : (s : Settings) (line : List ℕ) (count : ℕ) (old mid : Tables) → AreOpened s line count old mid
-    → mid (master_store s count) ≡ old (master_store s count)
-unopened s line count old mid opened = opened.others (master_store s count) (λ shard lt same. other_store s count shard (λ e. omega arith) same)
-
--- one more store is open
-pub opened_more : (s : Settings) (line : List ℕ) (count : ℕ) (old mid new : Tables) → AreOpened s line count old mid
-    → Becomes mid new (master_store s count) (after_open (mid (master_store s count)) line) → AreOpened s line (count + 1) old new
-opened_more s line count old mid new opened becomes = record {
-  stores = λ shard lt. elim (cases_eq shard count) [
-    | inl same ↦ subst (λ k. new (master_store s k) ≡ after_open (old (master_store s k)) line) (sym same)
-        (becomes.here ∙ ap (λ t. after_open t line) (unopened s line count old mid opened))
-    | inr differ ↦ becomes.others (master_store s shard) (other_store s shard count differ) ∙ opened.stores shard (omega arith)
-  ];
-  others = λ at h. becomes.others at (h count (omega arith)) ∙ opened.others at (λ shard lt. h shard (omega arith));
-}
-
--- nothing changes
-pub opened_stays : (s : Settings) (line : List ℕ) (count : ℕ) (old mid new : Tables) → AreOpened s line count old mid → Stays mid new
-    → AreOpened s line count old new
-opened_stays s line count old mid new opened stays = record {
-  stores = λ shard lt. stays (master_store s shard) ∙ opened.stores shard lt;
-  others = λ at h. stays at ∙ opened.others at h;
-}
-
--- one more store is ready
-pub ready_more : (s : Settings) (line : List ℕ) (count : ℕ) (old mid : Tables) → AreOpened s line count old mid → AreReady s line count old
-    → OpensAs Ready (mid (master_store s count)) line → AreReady s line (count + 1) old
-ready_more s line count old mid opened ready here shard lt = elim (cases_eq shard count) [
-  | inl same ↦ subst (λ k. OpensAs Ready (old (master_store s k)) line) (sym same)
-      (subst (λ t. OpensAs Ready t line) (unopened s line count old mid opened) here)
-  | inr differ ↦ ready shard (omega arith)
-]
-
--- the store that is added is one more
-pub stores_more : (s : Settings) (count : ℕ) (xs ys : List Store) (x : Store) → AreStores s count xs → IsMasterOf s count x → ys ≡ xs ++ x ∷ []
-    → AreStores s (count + 1) ys
-stores_more s count xs ys x are is pushed = record {
-  long = omega (arith, ap length pushed, length-append xs (x ∷ []), are.long);
-  each = λ shard store h. elim (slice_get-push xs x shard store (ap (λ l. slice_get l shard) (sym pushed) ∙ h)) [
-    | inl e ↦ are.each shard store e
-    | inr e ↦ (
-        let here : IsMasterOf s shard x = subst (λ k. IsMasterOf s k x) (sym (e.0 ∙ are.long)) is in
-        subst (IsMasterOf s shard) e.1 here)
-  ];
-}
-
--- a store isn't opened: what was opened before it
-pub refused_opening : (T : Type 0) (tells : Bool) (s : Settings) (line : List ℕ) (shard : ℕ) (start old new : KeeperState) (r : OpenRefusal)
-    → shard < s.shards
-    → WhereTold tells (AreOpened s line shard start.told old.told) → WhereTold tells (AreReady s line shard start.told) → IsLater start old
-    → WhereTold tells (OpensOne {T = T} s line shard old.told new.told (Err r)) → HasOpenCause old.faults new.faults r
-    → RefusesOpening tells s line start new r
-refused_opening T tells s line shard start old new refusal.KeeperFault configured opened ready before opens cause = (
-  Rose-earlier start.faults old.faults new.faults before.faults cause,
-  λ told. record { count = shard; some = omega arith; opened = opened_stays s line shard start.told old.told new.told (opened told) (opens told) },
-)
-refused_opening T tells s line shard start old new refusal.OtherLine configured opened ready before opens cause = λ told. record {
-  shard = shard;
-  configured = configured;
-  ready = ready told;
-  other = subst (λ t. OpensAs OtherLine t line) (unopened s line shard start.told old.told (opened told)) (opens told).0;
-  opened = opened_more s line shard start.told old.told new.told (opened told) (opens told).1;
-}
-refused_opening T tells s line shard start old new refusal.OutOfMemory configured opened ready before opens cause =
-    λ told. record { count = shard; some = omega arith; opened = opened_stays s line shard start.told old.told new.told (opened told) (opens told) }
-
--- a store isn't made: all are open
-pub refused_making : (tells : Bool) (s : Settings) (line : List ℕ) (start old new : KeeperState) (r : OpenRefusal)
-    → WhereTold tells (IsOpened s line start.told old.told) → IsLater start old
-    → WhereTold tells (Stays old.told new.told) → IsUnmade old.faults new.faults r → RefusesOpening tells s line start new r
-refused_making tells s line start old new refusal.KeeperFault is before stays cause = (
-  Rose-earlier start.faults old.faults new.faults before.faults cause,
-  λ told. record { count = s.shards; some = omega arith; opened = opened_stays s line s.shards start.told old.told new.told (is told).opened (stays told) },
-)
-refused_making tells s line start old new refusal.OtherLine is before stays cause = absurd cause
-refused_making tells s line start old new refusal.OutOfMemory is before stays cause =
-    λ told. record { count = s.shards; some = omega arith; opened = opened_stays s line s.shards start.told old.told new.told (is told).opened (stays told) }
-
--- making the stores leaves them open
-pub opened_kept : (s : Settings) (line : List ℕ) (start old new : Tables) → IsOpened s line start old → Stays old new → IsOpened s line start new
-opened_kept s line start old new is stays = record { ready = is.ready; opened = opened_stays s line s.shards start old new is.opened stays }
-
-pub pushed : {A E X : Type 0} (r : Result A E) (b : Bool) (after xs ys : List X) → b ≡ is_err r → b ≡ false → after ≡ (if is_ok r then xs else ys)
-    → after ≡ xs
-pushed (Ok a) b after xs ys is none h = h
-pushed (Err e) b after xs ys is none h = absurd (cc)
-
--- ---- what the stores have seen
+-- ---- a store that is read
 
 -- a store whose table stays
-seen_here : (tells : Bool) (old new : Tables) (x : Store) → IsStoreOf tells old x → WhereTold tells (new x.name ≡ old x.name) → IsStoreOf tells new x
+pub seen_here : (tells : Bool) (old new : Tables) (x : Store) → IsStoreOf tells old x → WhereTold tells (new x.name ≡ old x.name) → IsStoreOf tells new x
 seen_here tells old new x is stays = record {
   told_is = is.told_is;
   seen = λ told. subst (λ (t : Table). HasSeen x.role t.log x.view.entries) (sym (stays told)) (is.seen told);
@@ -151,55 +49,80 @@ seen_here tells old new x is stays = record {
 pub seen_stay : (tells : Bool) (old new : Tables) (xs : List Store) → HaveSeen tells old xs → WhereTold tells (Stays old new) → HaveSeen tells new xs
 seen_stay tells old new xs seen stays n x h = seen_here tells old new x (seen n x h) (λ told. stays told x.name)
 
--- the store that is added has seen its log
-pub seen_more : (tells : Bool) (tables : Tables) (xs ys : List Store) (x : Store) → HaveSeen tells tables xs → IsStoreOf tells tables x
-    → ys ≡ xs ++ x ∷ [] → HaveSeen tells tables ys
-seen_more tells tables xs ys x seen is pushed n store h = elim (slice_get-push xs x n store (ap (λ l. slice_get l n) (sym pushed) ∙ h)) [
-  | inl e ↦ seen n store e
-  | inr e ↦ subst (IsStoreOf tells tables) e.1 is
-]
+-- the store that code reads at the place of a name
+pub record IsReadStore (tells : Bool) (s : Settings) (tables : Tables) (xs : List Store) (at : StoreName) (store : Store) : Type 0 where
+  pub found : IsFoundAt s xs at store
+  pub is : IsStoreAt s (store_place s at) store
+  pub keeper : IsStoreOf tells tables store
+  pub follow : IsSeen (pens_of xs) at.shard store.view
 
--- ---- a call on one store
+module _ (tells : Bool) (s : Settings) (tables : Tables) (xs : List Store) (are : AreStoresOf tells s tables xs) where
+  pub read_store : (at : StoreName) (place : ℕ) (d : Store) → IsConfiguredStore s at → place ≡ store_place s at
+      → IsReadStore tells s tables xs at (slice_index_or xs place d)
+  read_store at place d here same =
+      let there = named_stands s xs are.configured at here in
+      let within = slice_get_within xs (store_place s at) there.0 there.1.stands in
+      let read : slice_get xs (store_place s at) ≡ Some (slice_index_or xs place d) =
+      subst (λ k. slice_get xs (store_place s at) ≡ Some (slice_index_or xs k d)) (sym same) (slice_get-get_or xs (store_place s at) d within) in
+      let one : there.0 ≡ slice_index_or xs place d = one_some there.0 (slice_index_or xs place d) (sym there.1.stands ∙ read) in
+      let found : IsFoundAt s xs at (slice_index_or xs place d) = subst (IsFoundAt s xs at) one there.1 in
+      record {
+        found = found;
+        is = are.configured.each (store_place s at) (slice_index_or xs place d) read;
+        keeper = are.seen (store_place s at) (slice_index_or xs place d) read;
+        follow = subst (λ (n : StoreName). IsSeen (pens_of xs) n.shard (slice_index_or xs place d).view) found.name_is
+            (are.follow (store_place s at) (slice_index_or xs place d) read);
+      }
 
--- the store at a shard's place
-pub master_at : (s : Settings) (xs : List Store) (place shard : ℕ) (d : Store) → AreStores s s.shards xs → place ≡ shard → shard < s.shards
-    → IsMasterOf s shard (slice_index_or xs place d)
-master_at s xs place shard d are here lt =
-    let there : shard < length xs = omega (arith, are.long) in
-    subst (λ k. IsMasterOf s shard (slice_index_or xs k d)) (sym here) (are.each shard (slice_index_or xs shard d) (slice_get-get_or xs shard d there))
+  -- there is one there
+  pub read_within : (at : StoreName) (place : ℕ) → IsConfiguredStore s at → place ≡ store_place s at → place < length xs
+  read_within at place here same =
+      let there = named_stands s xs are.configured at here in
+      let within = slice_get_within xs (store_place s at) there.0 there.1.stands in
+      omega (arith, same, within)
 
--- it has seen its log
-pub seen_at : (tells : Bool) (s : Settings) (tables : Tables) (xs : List Store) (place shard : ℕ) (d : Store) → AreStoresOf tells s tables xs
-    → place ≡ shard → shard < s.shards
-    → IsStoreOf tells tables (slice_index_or xs place d)
-seen_at tells s tables xs place shard d are here lt =
-    let there : place < length xs = omega (arith, are.masters.long, here) in
-    are.seen place (slice_index_or xs place d) (slice_get-get_or xs place d there)
+  -- it is put back as it was
+  pub put_back : (at : StoreName) (place : ℕ) (d y : Store) → IsConfiguredStore s at → place ≡ store_place s at → y ≡ slice_index_or xs place d
+      → slice_set xs place y ≡ xs
+  put_back at place d y here same rests =
+      ap (slice_set xs place) rests ∙ set_same xs place (slice_index_or xs place d) (slice_get-get_or xs place d (read_within at place here same))
 
--- its log is sound
-pub sound_at : (tells : Bool) (s : Settings) (tables : Tables) (schema : Schema) (xs : List Store) (shard : ℕ) (x : Store)
-    → AreStoresOf tells s tables xs → schema ≡ s.schema → IsMasterOf s shard x
-    → shard < s.shards → WhereTold tells (IsSoundOf (types_of schema) x.name.shard (tables x.name).log)
-sound_at tells s tables schema xs shard x are of_s is lt = λ told.
-    let one = subst (λ at. IsSoundOf (types_of s.schema) at.shard (tables at).log) (sym is.name_is) (sound_logs s tables (are.kept told) shard lt) in
-    subst (λ c. IsSoundOf (types_of c) x.name.shard (tables x.name).log) (sym of_s) one
+  pub read_stands : (at : StoreName) (place : ℕ) (d : Store) → IsConfiguredStore s at → place ≡ store_place s at
+      → slice_get xs place ≡ Some (slice_index_or xs place d)
+  read_stands at place d here same = slice_get-get_or xs place d (read_within at place here same)
 
--- one store takes the place of another of its name
-pub stores_set : (s : Settings) (count : ℕ) (xs : List Store) (place shard : ℕ) (x : Store) → AreStores s count xs → place ≡ shard
-    → IsMasterOf s shard x → AreStores s count (slice_set xs place x)
-stores_set s count xs place shard x are here is = record {
-  long = length-set xs place x ∙ are.long;
-  each = λ n store h. elim (get_set xs place x n store h) [
-    | inl e ↦ are.each n store e.1
-    | inr e ↦ (let there : IsMasterOf s n x = subst (λ k. IsMasterOf s k x) (sym (e.0 ∙ here)) is in subst (IsMasterOf s n) e.1 there)
-  ];
-}
+  -- so where nothing was added
+  pub err_back : (at : StoreName) (place : ℕ) (d y : Store) → IsConfiguredStore s at → place ≡ store_place s at → (r : Result Wrote StoreRefusal)
+      → y ≡ store_with (slice_index_or xs place d) (added_entry r) → OnErr r (slice_set xs place y ≡ xs)
+  err_back at place d y here same (Ok wrote) is = tt
+  err_back at place d y here same (Err e) is = put_back at place d y here same is
 
--- a master stays one when its log gains an entry
-pub master_gained : (s : Settings) (shard : ℕ) (x y : Store) (e : Option Entry) → IsMasterOf s shard x → y ≡ store_with x e → IsMasterOf s shard y
-master_gained s shard x y e is grown =
-    let here : IsMasterOf s shard (store_with x e) = record { name_is = is.name_is; limit_is = is.limit_is; role_is = is.role_is } in
-    subst (IsMasterOf s shard) (sym grown) here
+  -- the master's store of a shard
+  pub is_master : (shard : ℕ) (store : Store) → IsFoundAt s xs (master_store s shard) store → store.role ≡ Master
+  is_master shard store found = (master_found s xs are.configured shard store found).0
+
+  pub is_pen : (shard : ℕ) (store : Store) → IsFoundAt s xs (master_store s shard) store → master_in xs shard ≡ Some store
+  is_pen shard store found = (master_found s xs are.configured shard store found).1
+
+  -- its log is sound
+  pub sound_at : (schema : Schema) (shard : ℕ) (x : Store) → schema ≡ s.schema → x.name ≡ master_store s shard → shard < s.shards
+      → WhereTold tells (IsSoundOf (types_of schema) x.name.shard (tables x.name).log)
+  sound_at schema shard x of_s named lt = λ told.
+      let one = subst (λ at. IsSoundOf (types_of s.schema) at.shard (tables at).log) (sym named) (sound_logs s tables (are.kept told) shard lt) in
+      subst (λ c. IsSoundOf (types_of c) x.name.shard (tables x.name).log) (sym of_s) one
+
+-- the place of a region's store, as code comes to it
+pub place_of : (s : Settings) (region shard coded place : ℕ) (at : StoreName) → place ≡ store_place s at → at ≡ region_store region coded
+    → coded ≡ shard → place ≡ store_place s (region_store region shard)
+place_of s region shard coded place at is named same = is ∙ ap (store_place s) (named ∙ ap (region_store region) same)
+
+-- so of a master's, once its region was read
+pub master_place : (s : Settings) (shard coded region place : ℕ) (at : StoreName) → place ≡ store_place s at → at ≡ region_store region coded
+    → region ≡ master_of s coded → coded ≡ shard → place ≡ store_place s (master_store s shard)
+master_place s shard coded region place at is named of_region same =
+    is ∙ ap (store_place s) (named ∙ ap (λ r. region_store r coded) of_region ∙ ap (master_store s) same)
+
+-- ---- a store that changes
 
 -- only this table changes
 abbrev pub OthersStay : Tables → Tables → StoreName → Type 0
@@ -210,33 +133,61 @@ pub others_stay : (old new : Tables) (at : StoreName) (e : Option Entry) (job : 
 others_stay old new at None job gains other differ = gains other
 others_stay old new at (Some entry) job gains other differ = gains.others other differ
 
--- a store has seen its log at the place of one whose table alone changed
-seen_set : (tells : Bool) (s : Settings) (old new : Tables) (xs : List Store) (place shard : ℕ) (y : Store) → AreStores s s.shards xs
-    → HaveSeen tells old xs → place ≡ shard → IsStoreOf tells new y → WhereTold tells (OthersStay old new (master_store s shard))
-    → HaveSeen tells new (slice_set xs place y)
-seen_set tells s old new xs place shard y are seen here is others n store h = elim (get_set xs place y n store h) [
-  | inl e ↦ (
-      let named : store.name ≡ master_store s n = (are.each n store e.1).name_is in
-      let differ : store.name ≢ master_store s shard = λ same. other_store s n shard (λ k. e.0 (k ∙ sym here)) (sym named ∙ same) in
-      seen_here tells old new store (seen n store e.1) (λ told. others told store.name differ))
-  | inr e ↦ subst (IsStoreOf tells new) e.1 is
-]
-
--- the stores after a call of one of them, which may have changed its table and left them kept
-pub stores_changed : (tells : Bool) (s : Settings) (old new : Tables) (xs : List Store) (place shard : ℕ) (y : Store) → AreStoresOf tells s old xs
-    → place ≡ shard → IsMasterOf s shard y → IsStoreOf tells new y → WhereTold tells (OthersStay old new (master_store s shard))
-    → WhereTold tells (AreKeptIn s new) → AreStoresOf tells s new (slice_set xs place y)
-stores_changed tells s old new xs place shard y are here is seen others kept = record {
-  masters = stores_set s s.shards xs place shard y are.masters here is;
-  kept = kept;
-  seen = seen_set tells s old new xs place shard y are.masters are.seen here seen others;
+-- a store that gains an entry, or none, goes on
+pub goes_with : (x y : Store) (e : Option Entry) → y ≡ store_with x e → Grows x.view y.view → StoreGoesOn x y
+goes_with x y e is grows = record {
+  name_is = ap (λ (z : Store). z.name) is;
+  limit_is = ap (λ (z : Store). z.log_max) is;
+  epoch_is = ap (λ (z : Store). z.epoch) is;
+  role_is = ap (λ (z : Store). z.role) is;
+  grows = grows;
 }
 
--- so where it gained an entry or none
-pub stores_after : (tells : Bool) (s : Settings) (old new : Tables) (xs : List Store) (place shard : ℕ) (x y : Store) (e : Option Entry)
-    (job : Option Job)
-    → AreStoresOf tells s old xs → place ≡ shard → IsMasterOf s shard x → y ≡ store_with x e → IsStoreOf tells new y
-    → WhereTold tells (TableGains old new x.name e job) → WhereTold tells (AreKeptIn s new) → AreStoresOf tells s new (slice_set xs place y)
-stores_after tells s old new xs place shard x y e job are here is grown seen gains kept =
-    stores_changed tells s old new xs place shard y are here (master_gained s shard x y e is grown) seen
-    (λ told. others_stay old new (master_store s shard) e job (subst (λ at. TableGains old new at e job) is.name_is (gains told))) kept
+module _ (tells : Bool) (s : Settings) (old new : Tables) (xs : List Store) (place : ℕ) (x y : Store) (are : AreStoresOf tells s old xs)
+    (stands : slice_get xs place ≡ Some x) (goes : StoreGoesOn x y) where
+  -- the stores after a call of one of them, which may have changed its table and left them kept
+  pub stores_changed : IsStoreOf tells new y → WhereTold tells (OthersStay old new x.name) → WhereTold tells (AreKeptIn s new)
+      → IsSeen (pens_of (slice_set xs place y)) y.name.shard y.view → AreStoresOf tells s new (slice_set xs place y)
+  stores_changed keeper others kept follow =
+      let on = stores_go_on xs place x y stands goes in record {
+        configured = on.are s (store_count s) are.configured;
+        kept = kept;
+        seen = on.seen tells old new
+            (λ told other store at differ. others told store.name
+            (λ same. differ (by_place s (store_count s) xs other place store x are.configured at stands same)))
+            keeper are.seen;
+        follow = on.follow are.follow follow;
+      }
+
+  -- a master's pen is then what its store has seen
+  pub pen_after : (shard : ℕ) → x.name ≡ master_store s shard → IsConfiguredStore s (master_store s shard)
+      → pens_of (slice_set xs place y) shard ≡ y.view
+  pen_after shard named here =
+      (stores_go_on xs place x y stands goes).pen s shard are.configured
+      ((are.configured.each place x stands).place_is ∙ ap (store_place s) named) here
+
+  pub master_follows : (shard : ℕ) → x.name ≡ master_store s shard → IsConfiguredStore s (master_store s shard)
+      → IsSeen (pens_of (slice_set xs place y)) y.name.shard y.view
+  master_follows shard named here =
+      let shard_is : y.name.shard ≡ shard = ap (λ (n : StoreName). n.shard) (goes.name_is ∙ named) in
+      subst (λ k. IsSeen (pens_of (slice_set xs place y)) k y.view) (sym shard_is)
+      (subst (λ v. Grows y.view v) (sym (pen_after shard named here)) (grows-self y.view))
+
+-- ---- a leader that is preferred
+
+-- it has the log of the store that was found
+pub found_log : (preferred : Bool) (xs : List Store) (at : StoreName) (store : Store) (shard : ℕ) (leaders : List (Named Node)) (name : NodeName)
+    (place : ℕ) (d : Named Node) → IsFirstAt name leaders place → store_in xs at ≡ Some store → shard ≡ store.name.shard
+    → OnTrue preferred (NodeIs name (λ (node : Node). (x : Store) → store_in xs at ≡ Some x → log_at shard node.served ≡ Some x.view.log) leaders)
+    → OnTrue preferred (log_at store.name.shard (slice_index_or leaders place d).node.served ≡ Some store.view.log)
+found_log true xs at store shard leaders name place d first found same logs =
+    subst (λ k. log_at k (slice_index_or leaders place d).node.served ≡ Some store.view.log) same
+    (holds_at (λ (node : Node). (x : Store) → store_in xs at ≡ Some x → log_at shard node.served ≡ Some x.view.log) leaders name place d first logs store found)
+found_log false xs at store shard leaders name place d first found same logs = tt
+
+-- ---- a list that one more is pushed to
+
+pub pushed : {A E X : Type 0} (r : Result A E) (b : Bool) (after xs ys : List X) → b ≡ is_err r → b ≡ false → after ≡ (if is_ok r then xs else ys)
+    → after ≡ xs
+pushed (Ok a) b after xs ys is none h = h
+pushed (Err e) b after xs ys is none h = absurd (cc)

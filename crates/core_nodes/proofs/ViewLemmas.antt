@@ -25,15 +25,15 @@ pub record LendsLeaders (inside : Inside) (old : Fleet) (lent left : List (Named
 -- the stores were lent too, and were left as they were
 pub record LendsBoth (inside : Inside) (old : Fleet) (lent left : List (Named Node)) (stores same : List Store) : Type 0 where
   pub leaders : LendsLeaders inside old lent left
-  pub own : stores ≡ old.masters
-  pub long : length same ≡ inside.masters.len
+  pub own : stores ≡ old.stores
+  pub long : length same ≡ inside.stores.len
   pub is : same ≡ stores
 
 -- the stores alone were lent, and were left as they were
-pub record LendsMasters (inside : Inside) (old : Fleet) (lent same : List Store) : Type 0 where
+pub record LendsStores (inside : Inside) (old : Fleet) (lent same : List Store) : Type 0 where
   pub view : fleet_seen inside ≡ old
-  pub own : lent ≡ old.masters
-  pub long : length same ≡ inside.masters.len
+  pub own : lent ≡ old.stores
+  pub long : length same ≡ inside.stores.len
   pub is : same ≡ lent
 
 abbrev pub after_followers : Inside → List (Named FollowerState) → Fleet
@@ -42,11 +42,11 @@ after_followers inside left = fleet_seen (record inside { followers = with_items
 abbrev pub after_leaders : Inside → List (Named Node) → Fleet
 after_leaders inside left = fleet_seen (record inside { leaders = with_items inside.leaders left })
 
-abbrev pub after_masters : Inside → List Store → Fleet
-after_masters inside same = fleet_seen (record inside { masters = with_items inside.masters same })
+abbrev pub after_stores : Inside → List Store → Fleet
+after_stores inside same = fleet_seen (record inside { stores = with_items inside.stores same })
 
 abbrev pub after_both : Inside → List (Named Node) → List Store → Fleet
-after_both inside left same = fleet_seen (record inside { leaders = with_items inside.leaders left; masters = with_items inside.masters same })
+after_both inside left same = fleet_seen (record inside { leaders = with_items inside.leaders left; stores = with_items inside.stores same })
 
 pub followers_after : (inside : Inside) (old : Fleet) (lent left : List (Named FollowerState)) → LendsFollowers inside old lent left
     → after_followers inside left ≡ record old { followers = left }
@@ -74,15 +74,15 @@ leaders_after inside old lent left lends =
 pub both_after : (inside : Inside) (old : Fleet) (lent left : List (Named Node)) (stores same : List Store) → LendsBoth inside old lent left stores same
     → after_both inside left same ≡ record old { leaders = left }
 both_after inside old lent left stores same lends =
-    ap (λ items. record (fleet_seen inside) { leaders = items; masters = (with_items inside.masters same).items })
+    ap (λ items. record (fleet_seen inside) { leaders = items; stores = (with_items inside.stores same).items })
     (with_items_is inside.leaders left lends.leaders.long)
-    ∙ ap (λ items. record (fleet_seen inside) { leaders = left; masters = items }) (with_items_is inside.masters same lends.long ∙ lends.is ∙ lends.own)
-    ∙ ap (λ (g : Fleet). record g { leaders = left; masters = old.masters }) lends.leaders.view
+    ∙ ap (λ items. record (fleet_seen inside) { leaders = left; stores = items }) (with_items_is inside.stores same lends.long ∙ lends.is ∙ lends.own)
+    ∙ ap (λ (g : Fleet). record g { leaders = left; stores = old.stores }) lends.leaders.view
 
-pub masters_after : (inside : Inside) (old : Fleet) (lent same : List Store) → LendsMasters inside old lent same → after_masters inside same ≡ old
-masters_after inside old lent same lends =
-    ap (λ items. record (fleet_seen inside) { masters = items }) (with_items_is inside.masters same lends.long ∙ lends.is ∙ lends.own)
-    ∙ ap (λ (g : Fleet). record g { masters = old.masters }) lends.view
+pub stores_after : (inside : Inside) (old : Fleet) (lent same : List Store) → LendsStores inside old lent same → after_stores inside same ≡ old
+stores_after inside old lent same lends =
+    ap (λ items. record (fleet_seen inside) { stores = items }) (with_items_is inside.stores same lends.long ∙ lends.is ∙ lends.own)
+    ∙ ap (λ (g : Fleet). record g { stores = old.stores }) lends.view
 
 -- nothing but the leaders changed
 pub both_rest : (inside : Inside) (old : Fleet) (lent left : List (Named Node)) (stores same : List Store) → LendsBoth inside old lent left stores same

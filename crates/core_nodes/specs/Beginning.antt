@@ -1,99 +1,120 @@
 -- The nodes that a core begins with.
-use Rattle.std.specs.Prelude.{ℕ, ◌≡◌, Bool, All, List, [], Option, Some, None, length, map, slice_get, unwrap_or}
-use Rattle.std.specs.List.{AllByRecursion}
+use Rattle.std.specs.Prelude.{ℕ, ◌≡◌, ◌≤◌, ◌<◌, Bool, All, List, [], Option, Some, None, length, map, slice_get, unwrap_or}
 use Rattle.cache_items.specs.Node.{Node, empty_node}
 use Rattle.cache_node.specs.True.{IsTrueNode}
 use Rattle.follower_cache.specs.Seen.{FollowerState, follower_state}
 use Rattle.graph_model.specs.Told.{WhereTold}
-use Rattle.low_water.specs.Marks.{marks}
 use Rattle.node_name.specs.declared.NodeName.{NodeName}
 use Rattle.served_shards.specs.Begun.{AreReached, AreToldAlike, begun_at}
 use Rattle.shard_log.specs.View.{View}
 use Rattle.shard_tables.specs.StoreView.{Store}
 use Rattle.shard_tables.specs.Stores.{note_of}
+use Rattle.tao_base.specs.declared.id.StoreName.{StoreName}
 use Rattle.tao_keeper.specs.Table.{Tables}
 use Rattle.topology.specs.Config.{Settings}
-use Rattle.core_model.specs.Fleet.{Fleet, follower_names, leader_names, node_names, served_by}
+use Rattle.core_model.specs.Emptied.{IsAtStore}
+use Rattle.core_model.specs.Fleet.{EachIs, Fleet, follower_names, leader_names, node_names, region_of, served_by}
 use Rattle.core_model.specs.Pens.{no_view}
-use Rattle.core_model.specs.Stores.{AreStores, master_log}
+use Rattle.core_model.specs.Stores.{AreStores, IsConfiguredStore, region_store, store_count, store_place}
 use Rattle.core_model.specs.declared.named.Named.{Named}
 use Rattle.core_nodes.specs.declared.beginning.Turn.{Turn}
 
+-- ---- the lengths of the logs
+
+-- the length of the log at a place, of the lengths of all
+abbrev pub length_at : List ℕ → ℕ → ℕ
+length_at lengths place = unwrap_or (slice_get lengths place) 0
+
+-- the length of the log of a region's store of the shard, of the lengths of all
+abbrev pub length_in : Settings → List ℕ → ℕ → ℕ → ℕ
+length_in s lengths region shard = length_at lengths (store_place s (region_store region shard))
+
+-- the lengths are those of the logs of the first stores, so many, in order
+pub record AreFirstLengths (tells : Bool) (tables : Tables) (stores : List Store) (count : ℕ) (lengths : List ℕ) : Type 0 where
+  pub long : length lengths ≡ count
+  pub each : (place : ℕ) (store : Store) → slice_get stores place ≡ Some store → place < count
+      → WhereTold tells (length_at lengths place ≡ length (tables store.name).log)
+
+-- the lengths are those of the logs of all stores, by their places
+pub record AreLengths (tells : Bool) (s : Settings) (tables : Tables) (lengths : List ℕ) : Type 0 where
+  pub long : length lengths ≡ store_count s
+  pub each : (at : StoreName) → IsConfiguredStore s at → WhereTold tells (length_at lengths (store_place s at) ≡ length (tables at).log)
+
+-- the stores' logs are told all, or none
+pub record AreAlikeStores (stores : List Store) : Type 0 where
+  pub told : Bool
+  pub each : (place : ℕ) (store : Store) → slice_get stores place ≡ Some store → store.view.log.told ≡ told
+
+-- each store has seen as much of its shard's log as is its length, where that is told
+abbrev pub HaveSeenLengths : List Store → List ℕ → Type 0
+HaveSeenLengths stores lengths = (place : ℕ) (store : Store) → slice_get stores place ≡ Some store
+    → WhereTold store.view.log.told (length_at lengths place ≤ length store.view.entries)
+
+-- the stores are those of the configuration, and have seen so much of their shards' logs
+pub record AreMeasured (s : Settings) (stores : List Store) (lengths : List ℕ) : Type 0 where
+  pub configured : AreStores s (store_count s) stores
+  pub seen : HaveSeenLengths stores lengths
+  pub alike : AreAlikeStores stores
+
 -- ---- what a node begins with
 
--- the length of a shard's log, of the lengths of all
-abbrev pub length_at : List ℕ → ℕ → ℕ
-length_at lengths shard = unwrap_or (slice_get lengths shard) 0
-
+-- a note that has seen all that the store has; without a store the view of no log
 abbrev pub note_or_none : Option Store → View
 note_or_none None = no_view
 note_or_none (Some store) = note_of store
 
--- a note that has seen all that the shard's store has
+-- a note that has seen all that the store at the place has
 abbrev pub note_at : List Store → ℕ → View
-note_at masters shard = note_or_none (slice_get masters shard)
+note_at stores place = note_or_none (slice_get stores place)
 
--- the lengths are those of the stores' logs, where these are told
-pub record AreLengths (masters : List Store) (lengths : List ℕ) : Type 0 where
-  pub all : length lengths ≡ length masters
-  pub each : (shard : ℕ) (store : Store) → slice_get masters shard ≡ Some store
-      → WhereTold store.view.log.told (length_at lengths shard ≡ length store.view.entries)
+-- a note that has seen all that a region's store of the shard has
+abbrev pub note_in : Settings → List Store → ℕ → ℕ → View
+note_in s stores region shard = note_at stores (store_place s (region_store region shard))
 
--- the stores' logs are told all, or none
-pub record AreAlikeStores (masters : List Store) : Type 0 where
-  pub told : Bool
-  pub each : (shard : ℕ) (store : Store) → slice_get masters shard ≡ Some store → store.view.log.told ≡ told
-
--- the stores are those of the configuration, and the lengths those of their logs
-pub record AreMeasured (s : Settings) (masters : List Store) (lengths : List ℕ) : Type 0 where
-  pub stores : AreStores s s.shards masters
-  pub logs : AreLengths masters lengths
-  pub alike : AreAlikeStores masters
-
--- the shards that the node serves, the lengths of their logs, and notes of these
-pub record IsTurn (s : Settings) (masters : List Store) (lengths : List ℕ) (name : NodeName) (turn : Turn) : Type 0 where
-  pub shards : turn.shards.items ≡ served_by s name
-  pub marks : turn.lengths.items ≡ map (length_at lengths) (served_by s name)
-  pub notes : turn.notes.items ≡ map (note_at masters) (served_by s name)
-  pub each : length turn.shards.items ≡ length turn.lengths.items
-  pub reached : AreReached turn.lengths.items turn.notes.items
+-- what a node of the region begins with that serves the shards: the lengths of its region's stores, and notes of these
+pub record IsTurn (s : Settings) (stores : List Store) (lengths : List ℕ) (region : ℕ) (shards : List ℕ) (turn : Turn) : Type 0 where
+  pub lows : turn.lows.items ≡ map (length_in s lengths region) shards
+  pub notes : turn.notes.items ≡ map (note_in s stores region) shards
+  pub reached : AreReached turn.lows.items turn.notes.items
   pub alike : AreToldAlike turn.notes.items
 
 -- ---- the nodes
 
--- a node of that name that holds nothing: it has seen the whole log of each shard of its turn, and processed it
+-- a node of that name that holds nothing, up to as many items as are configured: it has seen all that its region's stores of its shards have seen, and
+-- processed all that they have
 abbrev pub begun_node : Settings → List Store → List ℕ → NodeName → Node
-begun_node s masters lengths name =
-    empty_node s.cache_items (begun_at (served_by s name) (map (length_at lengths) (served_by s name)) (map (note_at masters) (served_by s name)))
+begun_node s stores lengths name = empty_node s.cache_items (begun_at (served_by s name)
+    (map (length_in s lengths (region_of name)) (served_by s name)) (map (note_in s stores (region_of name)) (served_by s name)))
 
 -- the leader holds nothing, and is true of the logs
-pub record IsBegunLeader (s : Settings) (masters : List Store) (lengths : List ℕ) (leader : Named Node) : Type 0 where
-  pub node_is : leader.node ≡ begun_node s masters lengths leader.name
+pub record IsBegunLeader (s : Settings) (stores : List Store) (lengths : List ℕ) (leader : Named Node) : Type 0 where
+  pub node_is : leader.node ≡ begun_node s stores lengths leader.name
   pub truth : IsTrueNode leader.node
 
--- so does the follower, with no refill
-pub record IsBegunFollower (s : Settings) (masters : List Store) (lengths : List ℕ) (follower : Named FollowerState) : Type 0 where
-  pub node_is : follower.node ≡ follower_state (begun_node s masters lengths follower.name) []
+-- the follower holds nothing, not even a refill, and is true of the logs
+pub record IsBegunFollower (s : Settings) (stores : List Store) (lengths : List ℕ) (follower : Named FollowerState) : Type 0 where
+  pub node_is : follower.node ≡ follower_state (begun_node s stores lengths follower.name) []
   pub truth : IsTrueNode follower.node.node
 
 -- the leaders and followers are those of the configuration, and each holds nothing
-pub record AreBegun (s : Settings) (masters : List Store) (lengths : List ℕ) (leaders : List (Named Node)) (followers : List (Named FollowerState))
+pub record AreBegun (s : Settings) (stores : List Store) (lengths : List ℕ) (leaders : List (Named Node)) (followers : List (Named FollowerState))
     : Type 0 where
   pub leader_names : node_names leaders ≡ leader_names s
   pub follower_names : node_names followers ≡ follower_names s
-  pub each_leader : All (IsBegunLeader s masters lengths) leaders
-  pub each_follower : All (IsBegunFollower s masters lengths) followers
+  pub each_leader : All (IsBegunLeader s stores lengths) leaders
+  pub each_follower : All (IsBegunFollower s stores lengths) followers
 
--- there are such lengths
-pub record MayStand (s : Settings) (masters : List Store) (leaders : List (Named Node)) (followers : List (Named FollowerState)) : Type 0 where
+-- the leaders and followers hold nothing, and begin at the lengths of the logs of their regions' stores
+pub record MayStand (tells : Bool) (s : Settings) (tables : Tables) (stores : List Store) (leaders : List (Named Node)) (followers : List (Named FollowerState))
+    : Type 0 where
   pub lengths : List ℕ
-  pub measured : AreMeasured s masters lengths
-  pub begun : AreBegun s masters lengths leaders followers
+  pub are : AreLengths tells s tables lengths
+  pub begun : AreBegun s stores lengths leaders followers
 
--- they stand before these stores
-pub record HaveBegun (s : Settings) (masters : List Store) (f : Fleet) : Type 0 where
-  pub nodes : MayStand s masters f.leaders f.followers
-  pub masters_are : f.masters ≡ masters
+-- the nodes of a core stand before these stores, hold nothing, and begin at the lengths of their logs
+pub record HaveBegun (tells : Bool) (s : Settings) (tables : Tables) (stores : List Store) (f : Fleet) : Type 0 where
+  pub nodes : MayStand tells s tables stores f.leaders f.followers
+  pub stores_are : f.stores ≡ stores
 
 -- ---- what is known of them
 
@@ -102,7 +123,7 @@ pub record IsEmptyNode (node : Node) : Type 0 where
   pub items : node.items ≡ []
   pub asks : node.asks.asks ≡ []
 
--- so is the follower, and no refill waits
+-- the follower holds no item, no ask is open, and no refill waits
 pub record IsEmptyFollower (follower : FollowerState) : Type 0 where
   pub node : IsEmptyNode follower.node
   pub refills : follower.refills ≡ []
@@ -112,11 +133,12 @@ pub record IsEmptyFleet (f : Fleet) : Type 0 where
   pub leaders : All (λ leader. IsEmptyNode leader.node) f.leaders
   pub followers : All (λ follower. IsEmptyFollower follower.node) f.followers
 
--- the node has processed the whole log of each shard that it serves, and nothing ahead
-abbrev pub IsAtEnds : Settings → Tables → Node → Type 0
-IsAtEnds s tables node = AllByRecursion (λ served. served.marks ≡ marks (length (master_log s tables served.shard)) []) node.served
+-- every leader and follower may hold so many items
+pub record MayHold (most : ℕ) (f : Fleet) : Type 0 where
+  pub leaders : EachIs (λ name node. node.most ≡ most) f.leaders
+  pub followers : EachIs (λ name follower. follower.node.most ≡ most) f.followers
 
--- so has every leader and follower
-pub record AreAtEnds (s : Settings) (tables : Tables) (f : Fleet) : Type 0 where
-  pub leaders : All (λ leader. IsAtEnds s tables leader.node) f.leaders
-  pub followers : All (λ follower. IsAtEnds s tables follower.node.node) f.followers
+-- every leader and follower has processed all that its region's stores have of the shards that it serves, and nothing ahead
+pub record AreAtStores (tables : Tables) (f : Fleet) : Type 0 where
+  pub leaders : EachIs (λ name node. IsAtStore tables (region_of name) node) f.leaders
+  pub followers : EachIs (λ name follower. IsAtStore tables (region_of name) follower.node) f.followers

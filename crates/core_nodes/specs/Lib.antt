@@ -1,6 +1,8 @@
 pub mod Beginning
+pub mod Emptying
 pub mod Ends
 pub mod FleetView
+pub mod MasterWrites
 pub mod Opening
 pub mod Repairs
 pub mod Settling

@@ -21,6 +21,7 @@ pub record Outside : Type 0 where
   pub keepers : KeeperState
   pub link : LinkShown
 
+-- what the keepers show and what the link shows, together
 abbrev pub outside : KeeperState → LinkShown → Outside
 outside keepers link = record { keepers = keepers; link = link }
 
@@ -28,10 +29,11 @@ outside keepers link = record { keepers = keepers; link = link }
 abbrev pub carry_there : Settings → ShardJob → Carry
 carry_there s j = between (StoreName_ (master_store s j.shard)) (StoreName_ (master_store s (far_shard j.job)))
 
+-- the carry back to the store of a job's shard, from the one where the job is owed
 abbrev pub carry_back : Settings → ShardJob → Carry
 carry_back s j = between (StoreName_ (master_store s (far_shard j.job))) (StoreName_ (master_store s j.shard))
 
--- there and back, though the carry back may have failed
+-- the job's carry there succeeded; the carry back did too, or failed
 abbrev pub ComesBack : Settings → ShardJob → LinkShown → LinkShown → Type 0
 ComesBack s j old new = (new ≡ after_carry (after_carry old)) ⊎ FailsAt (carry_back s j) (after_carry old) new
 

@@ -27,7 +27,7 @@ pub record IsHeldAt (f : Fleet) (name : NodeName) (key : Key) (found : Option It
   pub is : IsCacheNode name f node
   pub found_is : found ≡ option_and_then (λ n. item_at n.items key) node
 
--- its low-water mark for a shard, 0 where it doesn't serve the shard
+-- the low-water mark of a leader or follower for a shard: 0 where it doesn't serve the shard, None where there is no such node
 pub record IsMarkAt (f : Fleet) (name : NodeName) (shard : ℕ) (mark : Option ℕ) : Type 0 where
   pub node : Option Node
   pub is : IsCacheNode name f node

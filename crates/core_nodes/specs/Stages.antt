@@ -1,5 +1,5 @@
 -- A stage at the node of a name.
-use Rattle.std.specs.Prelude.{ℕ, ◌≡◌, Bool, List, Option, None, Some, slice_get}
+use Rattle.std.specs.Prelude.{ℕ, ◌≡◌, Bool, List, Option, None, Some, if◌then◌else◌, slice_get}
 use Rattle.std.specs.List.{IsDistinct}
 use Rattle.std.specs.Map.{keys_of as keys_held}
 use Rattle.ask_table.specs.Asks.{IsTable}
@@ -12,6 +12,7 @@ use Rattle.follower_cache.specs.Seen.{FollowerState}
 use Rattle.node_name.specs.declared.NodeName.{NodeName}
 use Rattle.tao_base.specs.EdgeTypes.{EdgeTypes}
 use Rattle.tao_base.specs.Keys.{same_key}
+use Rattle.tao_base.specs.declared.entry.Entry.{Entry}
 use Rattle.tao_base.specs.declared.id.Key.{Key}
 use Rattle.core_model.specs.Evictions.{Evicts}
 use Rattle.core_model.specs.Fleet.{IsFirstAt, named}
@@ -29,11 +30,11 @@ pub record NodeDoes (Done : Type 0) (old new : Node) : Type 0 where
   pub asks : IsTable old.asks
   pub truth : IsTrueNode new
 
--- the same of a follower
+-- a follower does what is said, and its node keeps what every node is
 abbrev pub FollowerDoes : (FollowerState → FollowerState → Type 0) → FollowerState → FollowerState → Type 0
 FollowerDoes By old new = NodeDoes (By old new) old.node new.node
 
--- and of a leader
+-- a leader does what is said, and keeps what every node is
 abbrev pub LeaderDoes : (Node → Node → Type 0) → Node → Node → Type 0
 LeaderDoes By old new = NodeDoes (By old new) old new
 
@@ -50,3 +51,7 @@ OpensAsk key Miss ask old new = AfterLook key Miss ask old new
 -- a follower drops an item, and no refill
 abbrev pub EvictsThere : Option Key → Bool → FollowerState → FollowerState → Type 0
 EvictsThere key held old new = Evicts key held old.node new.node × (new.refills ≡ old.refills)
+
+-- what a leader takes of an entry: it, where it serves the entry's shard
+abbrev pub taken_by : Bool → Option Entry → Option Entry
+taken_by serves entry = if serves then entry else None

@@ -1,30 +1,31 @@
 //! A leader or a follower processes the rest of the logs that it serves.
-ghost use Rattle.std.specs.Prelude.{◌≡◌, ◌<◌, ◌++◌, ◌∷◌, [], All, IfErr, IfOk, IfSome, OnOk, Some, drop, length, take};
+ghost use Rattle.std.specs.Prelude.{◌≡◌, ◌<◌, ◌++◌, ◌∷◌, [], All, IfErr, IfOk, IfSome, IsSome, OnOk, Some, drop, length, take};
 ghost use Rattle.std.specs.List.{IsDistinct};
 ghost use Rattle.std.specs.Map.{keys_of as keys_held};
-ghost use Rattle.core_model.specs.Consistent.{IsNodeOf};
+ghost use Rattle.core_model.specs.Fleet.{region_of};
 ghost use Rattle.core_model.specs.Messages.{Processes};
 ghost use Rattle.core_model.specs.Pens.{pens_of};
-ghost use Rattle.core_model.specs.Stores.{AreStoresOf, master_log};
+ghost use Rattle.core_model.specs.Stores.{AreStoresOf, IsConfiguredStore};
+ghost use Rattle.core_nodes.specs.Beginning.{AreLengths};
 ghost use Rattle.core_nodes.specs.Repairs.{outside};
-ghost use Rattle.core_nodes.specs.Settling.{AreCaches, CacheGoesOn, CachesGoOn, CatchesUp, HaveCaughtUp, IsConfiguredCache, IsLaterLink, OnlyReads};
-ghost use Rattle.core_nodes.specs.Settling.{ReachesEnd, seen_logs};
-ghost use Rattle.core_nodes.specs.Settling.{StopsCarry, StopsCatchUp, StopsReads, carried, lies_behind, log_lengths};
+ghost use Rattle.core_nodes.specs.Settling.{AreCaches, CacheGoesOn, CachesGoOn, CatchesInTurn, CatchesUp, GoesInTurn, HaveCaughtUp};
+ghost use Rattle.core_nodes.specs.Settling.{IsConfiguredCache, IsLaterLink, IsRestOf, MayCatchUp, OnlyReads, ReachesStore, StopsCarry, StopsCatchUp};
+ghost use Rattle.core_nodes.specs.Settling.{StopsReads, carried, is_turn, lies_behind, seen_logs};
 ghost use Rattle.core_nodes.specs.Settling.{follower_node, follower_refills, leader_node, leader_refills};
 ghost use Rattle.core_nodes.specs.Stages.{LeaderDoes};
 ghost use Rattle.graph_model.specs.Told.{WhereTold};
-ghost use Rattle.served_shards.specs.Served.{IsLowWater, log_at, low_at, served_at};
-ghost use Rattle.shard_log.specs.View.{as_note};
+ghost use Rattle.served_shards.specs.Served.{IsLowWater, log_at, low_at, served_at, view_at};
 ghost use Rattle.shard_tables.specs.Refusals.{IsOfReads};
-ghost use Rattle.shard_tables.specs.Stores.{IsStoreOf};
+ghost use Rattle.shard_tables.specs.Stores.{IsStoreOf, note_of};
 ghost use Rattle.tao_base.specs.Keys.{key_shard, same_key};
-ghost use Rattle.shard_tables.specs.declared.store.StoreRole.TheVariants.{Master};
 ghost use Rattle.tao_keeper.specs.KeeperState.{CallsKeeper, IsLater, KeepsTables};
 ghost use Rattle.tao_link.specs.Shown.{after_carry};
+ghost use Rattle.topology.specs.States.{is_up};
 
 use crate::beginning::length_at;
 use crate::settling::{SettleStop, stop_at};
-use core_model::{Named, serves_in_turn};
+use crate::stores::region_store;
+use core_model::{Named, region_of, serves_in_turn, store_place};
 use follower_cache::{Follower, followers_are_true};
 use leader_tier::{Leader, leaders_are_true};
 use node_name::NodeName;
@@ -32,10 +33,10 @@ use replies::UnsettledWhy;
 use shard_log::Note;
 use shard_tables::{StoreNode, StoreRefusal};
 use std::alloc::{AllocError, Global};
-use tao_base::Entry;
+use tao_base::{Entry, OutOfMemory, StoreName};
 use tao_keeper::Keeper;
 use tao_link::{Link, LinkFailed};
-use topology::Config;
+use topology::{Config, Topology};
 
 /// A leader or a follower, as one that processes entries.
 pub(crate) trait Cache {
@@ -53,6 +54,12 @@ pub(crate) trait Cache {
     fn mark(&self, shard: u16) -> u64
         ensures value { result ≡ low_at shard (node self.now).served }
         ensures marks { IfSome (served_at shard (node self.now).served) (λ s. IsLowWater s.marks) };
+
+    /// A note of what it has seen of a shard's log.
+    fn note(&mut self, shard: u16) -> Result<Note, OutOfMemory>
+        requires served { IsSome (served_at shard (node self.old).served) }
+        ensures view { IfOk result (λ note. view_at shard (node self.old).served ≡ Some note) }
+        ensures same { self.new ≡ self.old };
 
     /// It holds no key twice.
     fn keys_differ(&self)
@@ -78,6 +85,10 @@ impl Cache for Leader {
         self.low(shard)
     }
 
+    fn note(&mut self, shard: u16) -> Result<Note, OutOfMemory> {
+        Leader::note(self, shard)
+    }
+
     fn keys_differ(&self) {
         leaders_are_true(self);
     }
@@ -98,6 +109,10 @@ impl Cache for Follower {
 
     fn mark(&self, shard: u16) -> u64 {
         self.low(shard)
+    }
+
+    fn note(&mut self, shard: u16) -> Result<Note, OutOfMemory> {
+        Follower::note(self, shard)
     }
 
     fn keys_differ(&self) {
@@ -163,11 +178,10 @@ fn read_rest<K: Keeper>(
     low: u64,
     until: u64,
 ) -> Result<Rest, SettleStop>
-    requires master { store.old.role ≡ Master }
     requires keeper { IsStoreOf K.TELLS (K.state keepers.old).told store.old }
     requires all { WhereTold K.TELLS (until ≡ length ((K.state keepers.old).told store.old.name).log) }
     ensures entries { WhereTold K.TELLS (IfOk result (λ rest. rest.entries.items ≡ drop low ((K.state keepers.old).told store.old.name).log)) }
-    ensures note { IfOk result (λ rest. rest.note ≡ as_note store.old.view) }
+    ensures note { IfOk result (λ rest. rest.note ≡ note_of store.old) }
     ensures same { store.new ≡ store.old }
     ensures stop { IfErr result (StopsReads shard (K.state keepers.old) (K.state keepers.new)) }
     ensures tables { KeepsTables K.TELLS (K.state keepers.old) (K.state keepers.new) }
@@ -203,34 +217,35 @@ fn carry_to<L: Link>(
     }
 }
 
-/// The rest of a shard's log, for a node with that low-water mark: one carry from the shard's store to the node.
+/// The rest of the log of a store, for a node of its region with that low-water mark: one carry from the store to the node.
 fn fetch_rest<K: Keeper, L: Link>(
     alloc: Global,
-    masters: &mut [StoreNode],
+    stores: &mut [StoreNode],
     keepers: &mut K,
     link: &mut L,
     config: &Config,
     name: NodeName,
-    shard: u16,
+    at: StoreName,
     low: u64,
     until: u64,
 ) -> Result<Rest, SettleStop>
-    requires stores { AreStoresOf K.TELLS config.now (K.state keepers.old).told masters.old }
+    requires stores { AreStoresOf K.TELLS config.now (K.state keepers.old).told stores.old }
     requires cache { IsConfiguredCache config.now name }
-    requires here { shard < config.now.shards }
-    requires all { WhereTold K.TELLS (until ≡ length (master_log config.now (K.state keepers.old).told shard)) }
-    ensures entries { WhereTold K.TELLS (IfOk result (λ rest. rest.entries.items ≡ drop low (master_log config.now (K.state keepers.old).told shard))) }
-    ensures note { IfOk result (λ rest. rest.note ≡ as_note (pens_of masters.old shard)) }
+    requires here { IsConfiguredStore config.now at }
+    requires region { region_of name ≡ at.region }
+    requires all { WhereTold K.TELLS (until ≡ length ((K.state keepers.old).told at).log) }
+    ensures rest { IfOk result (λ rest.
+        IsRestOf (seen_logs K.TELLS config.now (K.state keepers.old).told (pens_of stores.old)) at low rest.entries.items rest.note) }
     ensures link { OnOk result (L.shown link.new ≡ after_carry (L.shown link.old)) }
-    ensures same { masters.new ≡ masters.old }
+    ensures same { stores.new ≡ stores.old }
     ensures stop { IfErr result (StopsCatchUp config.now
         (outside (K.state keepers.old) (L.shown link.old)) (outside (K.state keepers.new) (L.shown link.new))) }
     ensures reads { OnlyReads K.TELLS (outside (K.state keepers.old) (L.shown link.old)) (outside (K.state keepers.new) (L.shown link.new)) }
 {
-    let _ = config;
-    let store = &mut masters[usize::from(shard)];
-    carry_to(store, link, name, shard)?;
-    read_rest(alloc, store, keepers, shard, low, until)
+    let place = store_place(config, at);
+    let store = &mut stores[place];
+    carry_to(store, link, name, at.shard)?;
+    read_rest(alloc, store, keepers, at.shard, low, until)
 }
 
 /// Whether the node serves the shard, and has not processed its log up to this length.
@@ -240,126 +255,228 @@ fn lies_behind(config: &Config, name: NodeName, shard: u16, low: u64, until: u64
     serves_in_turn(config, name, shard) && low < until
 }
 
-/// A node processes the rest of a shard's log, whose length this is, where it serves the shard and lies behind.
+/// A node processes the rest of the log of its region's store of a shard, whose length this is, where it serves the shard and lies behind.
 fn catch_up_at<C: Cache, K: Keeper, L: Link>(
     alloc: Global,
     cache: &mut Named<C>,
-    masters: &mut [StoreNode],
+    stores: &mut [StoreNode],
     keepers: &mut K,
     link: &mut L,
     config: &Config,
-    shard: u16,
+    at: StoreName,
     until: u64,
 ) -> Result<(), SettleStop>
-    requires stores { AreStoresOf K.TELLS config.now (K.state keepers.old).told masters.old }
-    requires cache { IsConfiguredCache config.now cache.old.name }
-    requires node { IsNodeOf config.now (pens_of masters.old) cache.old.name (C.node cache.old.node) }
-    requires here { shard < config.now.shards }
-    requires all { WhereTold K.TELLS (until ≡ length (master_log config.now (K.state keepers.old).told shard)) }
-    ensures goes { CacheGoesOn C.node C.refills (seen_logs K.TELLS config.now (K.state keepers.old).told (pens_of masters.old)) cache.old cache.new }
+    requires stores { AreStoresOf K.TELLS config.now (K.state keepers.old).told stores.old }
+    requires may { MayCatchUp (seen_logs K.TELLS config.now (K.state keepers.old).told (pens_of stores.old)) cache.old.name (C.node cache.old.node) }
+    requires here { IsConfiguredStore config.now at }
+    requires region { region_of cache.old.name ≡ at.region }
+    requires all { WhereTold K.TELLS (until ≡ length ((K.state keepers.old).told at).log) }
+    ensures goes { CacheGoesOn C.node C.refills (seen_logs K.TELLS config.now (K.state keepers.old).told (pens_of stores.old)) cache.old cache.new }
     ensures reaches { WhereTold K.TELLS (OnOk result
-        (ReachesEnd config.now (K.state keepers.old).told shard (C.node cache.old.node) (C.node cache.new.node))) }
+        (ReachesStore (K.state keepers.old).told at (C.node cache.old.node) (C.node cache.new.node))) }
     ensures link { OnOk result (L.shown link.new
-        ≡ carried (lies_behind config.now cache.old.name shard (low_at shard (C.node cache.old.node).served) until) (L.shown link.old)) }
-    ensures same { masters.new ≡ masters.old }
+        ≡ carried (lies_behind config.now cache.old.name at.shard (low_at at.shard (C.node cache.old.node).served) until) (L.shown link.old)) }
+    ensures same { stores.new ≡ stores.old }
     ensures stop { IfErr result (StopsCatchUp config.now
         (outside (K.state keepers.old) (L.shown link.old)) (outside (K.state keepers.new) (L.shown link.new))) }
     ensures reads { OnlyReads K.TELLS (outside (K.state keepers.old) (L.shown link.old)) (outside (K.state keepers.new) (L.shown link.new)) }
 {
     let name = cache.name;
-    let low = cache.node.mark(shard);
-    if !lies_behind(config, name, shard, low, until) {
+    let low = cache.node.mark(at.shard);
+    if !lies_behind(config, name, at.shard, low, until) {
         return Ok(());
     }
     let Rest { entries, note } = fetch_rest(
-        alloc, masters, keepers, link, config, name, shard, low, until,
+        alloc, stores, keepers, link, config, name, at, low, until,
     )?;
-    cache.node.process(shard, &entries, note);
+    cache.node.process(at.shard, &entries, note);
     Ok(())
 }
 
-/// A node processes the rest of the logs that it serves, shard by shard, up to these lengths.
+/// A node of a region processes the rest of the logs that it serves, shard by shard, up to the lengths of the region's stores.
 fn catch_up_node<C: Cache, K: Keeper, L: Link>(
     alloc: Global,
     cache: &mut Named<C>,
-    masters: &mut [StoreNode],
+    stores: &mut [StoreNode],
     keepers: &mut K,
     link: &mut L,
     config: &Config,
+    region: u16,
     lengths: &[u64],
 ) -> Result<(), SettleStop>
-    requires stores { AreStoresOf K.TELLS config.now (K.state keepers.old).told masters.old }
-    requires cache { IsConfiguredCache config.now cache.old.name }
-    requires node { IsNodeOf config.now (pens_of masters.old) cache.old.name (C.node cache.old.node) }
-    requires lengths { WhereTold K.TELLS (lengths.now ≡ log_lengths config.now (K.state keepers.old).told) }
-    ensures goes { CacheGoesOn C.node C.refills (seen_logs K.TELLS config.now (K.state keepers.old).told (pens_of masters.old)) cache.old cache.new }
+    requires stores { AreStoresOf K.TELLS config.now (K.state keepers.old).told stores.old }
+    requires may { MayCatchUp (seen_logs K.TELLS config.now (K.state keepers.old).told (pens_of stores.old)) cache.old.name (C.node cache.old.node) }
+    requires here { region < length config.now.regions }
+    requires region { region_of cache.old.name ≡ region }
+    requires lengths { AreLengths K.TELLS config.now (K.state keepers.old).told lengths.now }
+    ensures goes { CacheGoesOn C.node C.refills (seen_logs K.TELLS config.now (K.state keepers.old).told (pens_of stores.old)) cache.old cache.new }
     ensures caught { WhereTold K.TELLS (OnOk result
-        (CatchesUp config.now (K.state keepers.old).told (C.node cache.old.node) (C.node cache.new.node))) }
-    ensures same { masters.new ≡ masters.old }
+        (CatchesUp config.now (K.state keepers.old).told region (C.node cache.old.node) (C.node cache.new.node))) }
+    ensures same { stores.new ≡ stores.old }
     ensures stop { IfErr result (StopsCatchUp config.now
         (outside (K.state keepers.old) (L.shown link.old)) (outside (K.state keepers.new) (L.shown link.new))) }
     ensures reads { OnlyReads K.TELLS (outside (K.state keepers.old) (L.shown link.old)) (outside (K.state keepers.new) (L.shown link.new)) }
 {
     for shard in 0..config.shards {
-        let until = length_at(lengths, shard);
-        catch_up_at(alloc, cache, masters, keepers, link, config, shard, until)?;
+        let at = region_store(region, shard);
+        let until = length_at(lengths, store_place(config, at));
+        catch_up_at(alloc, cache, stores, keepers, link, config, at, until)?;
     }
     cache.node.keys_differ();
     Ok(())
 }
 
-/// Each of the nodes, one after another, processes the rest of the logs that it serves, up to these lengths.
-fn catch_up_all<C: Cache, K: Keeper, L: Link>(
+/// Whether it is the node's turn, while those of this region catch up: it is one of these, and up.
+fn is_turn(topology: &Topology, region: u16, name: NodeName) -> bool
+    ensures { result ≡ is_turn topology.now region name }
+{
+    region_of(name) == region && topology.is_up(name)
+}
+
+/// A node catches up, where it is one of the region, and up.
+fn catch_up_turn<C: Cache, K: Keeper, L: Link>(
     alloc: Global,
-    caches: &mut [Named<C>],
-    masters: &mut [StoreNode],
+    cache: &mut Named<C>,
+    stores: &mut [StoreNode],
     keepers: &mut K,
     link: &mut L,
     config: &Config,
+    topology: &Topology,
+    region: u16,
     lengths: &[u64],
 ) -> Result<(), SettleStop>
-    requires stores { AreStoresOf K.TELLS config.now (K.state keepers.old).told masters.old }
-    requires caches { AreCaches C.node config.now (pens_of masters.old) caches.old }
-    requires lengths { WhereTold K.TELLS (lengths.now ≡ log_lengths config.now (K.state keepers.old).told) }
-    ensures on { CachesGoOn C.node C.refills (seen_logs K.TELLS config.now (K.state keepers.old).told (pens_of masters.old)) caches.old caches.new }
-    ensures caught { WhereTold K.TELLS (OnOk result (HaveCaughtUp C.node config.now (K.state keepers.old).told caches.old caches.new)) }
-    ensures same { masters.new ≡ masters.old }
+    requires stores { AreStoresOf K.TELLS config.now (K.state keepers.old).told stores.old }
+    requires may { MayCatchUp (seen_logs K.TELLS config.now (K.state keepers.old).told (pens_of stores.old)) cache.old.name (C.node cache.old.node) }
+    requires here { region < length config.now.regions }
+    requires lengths { AreLengths K.TELLS config.now (K.state keepers.old).told lengths.now }
+    ensures goes { GoesInTurn C.node C.refills (seen_logs K.TELLS config.now (K.state keepers.old).told (pens_of stores.old))
+        (is_turn topology.now region cache.old.name) cache.old cache.new }
+    ensures caught { WhereTold K.TELLS (OnOk result
+        (CatchesInTurn C.node config.now (K.state keepers.old).told (is_turn topology.now region cache.old.name) cache.old cache.new)) }
+    ensures same { stores.new ≡ stores.old }
+    ensures stop { IfErr result (StopsCatchUp config.now
+        (outside (K.state keepers.old) (L.shown link.old)) (outside (K.state keepers.new) (L.shown link.new))) }
+    ensures reads { OnlyReads K.TELLS (outside (K.state keepers.old) (L.shown link.old)) (outside (K.state keepers.new) (L.shown link.new)) }
+{
+    if !is_turn(topology, region, cache.name) {
+        return Ok(());
+    }
+    catch_up_node(alloc, cache, stores, keepers, link, config, region, lengths)
+}
+
+/// Each of the nodes that is one of the region, and up, processes the rest of the logs that it serves, one after another.
+fn catch_up_all<C: Cache, K: Keeper, L: Link>(
+    alloc: Global,
+    caches: &mut [Named<C>],
+    stores: &mut [StoreNode],
+    keepers: &mut K,
+    link: &mut L,
+    config: &Config,
+    topology: &Topology,
+    region: u16,
+    lengths: &[u64],
+) -> Result<(), SettleStop>
+    requires stores { AreStoresOf K.TELLS config.now (K.state keepers.old).told stores.old }
+    requires caches { AreCaches C.node (seen_logs K.TELLS config.now (K.state keepers.old).told (pens_of stores.old)) caches.old }
+    requires here { region < length config.now.regions }
+    requires lengths { AreLengths K.TELLS config.now (K.state keepers.old).told lengths.now }
+    ensures on { CachesGoOn C.node C.refills (seen_logs K.TELLS config.now (K.state keepers.old).told (pens_of stores.old))
+        (is_turn topology.now region) caches.old caches.new }
+    ensures caught { WhereTold K.TELLS (OnOk result
+        (HaveCaughtUp C.node config.now (K.state keepers.old).told (is_turn topology.now region) caches.old caches.new)) }
+    ensures same { stores.new ≡ stores.old }
     ensures stop { IfErr result (StopsCatchUp config.now
         (outside (K.state keepers.old) (L.shown link.old)) (outside (K.state keepers.new) (L.shown link.new))) }
     ensures reads { OnlyReads K.TELLS (outside (K.state keepers.old) (L.shown link.old)) (outside (K.state keepers.new) (L.shown link.new)) }
 {
     for cache in caches.iter_mut() {
-        catch_up_node(alloc, cache, masters, keepers, link, config, lengths)?;
+        catch_up_turn(
+            alloc, cache, stores, keepers, link, config, topology, region, lengths,
+        )?;
     }
     Ok(())
 }
 
-/// All leaders, and then all followers, process the rest of the logs that they serve, up to these lengths.
-pub(crate) fn catch_up_caches<K: Keeper, L: Link>(
+/// The leaders of a region that are up, and then its followers that are, process the rest of the logs that they serve.
+fn catch_up_region<K: Keeper, L: Link>(
     alloc: Global,
     leaders: &mut [Named<Leader>],
     followers: &mut [Named<Follower>],
-    masters: &mut [StoreNode],
+    stores: &mut [StoreNode],
     keepers: &mut K,
     link: &mut L,
     config: &Config,
+    topology: &Topology,
+    region: u16,
     lengths: &[u64],
 ) -> Result<(), SettleStop>
-    requires stores { AreStoresOf K.TELLS config.now (K.state keepers.old).told masters.old }
-    requires leaders { AreCaches leader_node config.now (pens_of masters.old) leaders.old }
-    requires followers { AreCaches follower_node config.now (pens_of masters.old) followers.old }
-    requires lengths { WhereTold K.TELLS (lengths.now ≡ log_lengths config.now (K.state keepers.old).told) }
-    ensures leaders { CachesGoOn leader_node leader_refills (seen_logs K.TELLS config.now (K.state keepers.old).told (pens_of masters.old))
-        leaders.old leaders.new }
-    ensures followers { CachesGoOn follower_node follower_refills (seen_logs K.TELLS config.now (K.state keepers.old).told (pens_of masters.old))
-        followers.old followers.new }
-    ensures caught { WhereTold K.TELLS (OnOk result (HaveCaughtUp leader_node config.now (K.state keepers.old).told leaders.old leaders.new)) }
-    ensures also { WhereTold K.TELLS (OnOk result (HaveCaughtUp follower_node config.now (K.state keepers.old).told followers.old followers.new)) }
-    ensures same { masters.new ≡ masters.old }
+    requires stores { AreStoresOf K.TELLS config.now (K.state keepers.old).told stores.old }
+    requires leaders { AreCaches leader_node (seen_logs K.TELLS config.now (K.state keepers.old).told (pens_of stores.old)) leaders.old }
+    requires followers { AreCaches follower_node (seen_logs K.TELLS config.now (K.state keepers.old).told (pens_of stores.old)) followers.old }
+    requires here { region < length config.now.regions }
+    requires lengths { AreLengths K.TELLS config.now (K.state keepers.old).told lengths.now }
+    ensures leaders { CachesGoOn leader_node leader_refills (seen_logs K.TELLS config.now (K.state keepers.old).told (pens_of stores.old))
+        (is_turn topology.now region) leaders.old leaders.new }
+    ensures followers { CachesGoOn follower_node follower_refills (seen_logs K.TELLS config.now (K.state keepers.old).told (pens_of stores.old))
+        (is_turn topology.now region) followers.old followers.new }
+    ensures caught { WhereTold K.TELLS (OnOk result
+        (HaveCaughtUp leader_node config.now (K.state keepers.old).told (is_turn topology.now region) leaders.old leaders.new)) }
+    ensures also { WhereTold K.TELLS (OnOk result
+        (HaveCaughtUp follower_node config.now (K.state keepers.old).told (is_turn topology.now region) followers.old followers.new)) }
+    ensures same { stores.new ≡ stores.old }
     ensures stop { IfErr result (StopsCatchUp config.now
         (outside (K.state keepers.old) (L.shown link.old)) (outside (K.state keepers.new) (L.shown link.new))) }
     ensures reads { OnlyReads K.TELLS (outside (K.state keepers.old) (L.shown link.old)) (outside (K.state keepers.new) (L.shown link.new)) }
 {
-    catch_up_all(alloc, leaders, masters, keepers, link, config, lengths)?;
-    catch_up_all(alloc, followers, masters, keepers, link, config, lengths)
+    catch_up_all(
+        alloc, leaders, stores, keepers, link, config, topology, region, lengths,
+    )?;
+    catch_up_all(
+        alloc, followers, stores, keepers, link, config, topology, region, lengths,
+    )
+}
+
+/// How many regions there are.
+fn region_count(config: &Config) -> u16
+    ensures { result ≡ length config.now.regions }
+{
+    config.regions.as_slice().len() as u16
+}
+
+/// Region by region, all leaders that are up, and then all followers that are, process the rest of the logs that they serve, up to these lengths
+/// of the stores.
+pub(crate) fn catch_up_caches<K: Keeper, L: Link>(
+    alloc: Global,
+    leaders: &mut [Named<Leader>],
+    followers: &mut [Named<Follower>],
+    stores: &mut [StoreNode],
+    keepers: &mut K,
+    link: &mut L,
+    config: &Config,
+    topology: &Topology,
+    lengths: &[u64],
+) -> Result<(), SettleStop>
+    requires stores { AreStoresOf K.TELLS config.now (K.state keepers.old).told stores.old }
+    requires leaders { AreCaches leader_node (seen_logs K.TELLS config.now (K.state keepers.old).told (pens_of stores.old)) leaders.old }
+    requires followers { AreCaches follower_node (seen_logs K.TELLS config.now (K.state keepers.old).told (pens_of stores.old)) followers.old }
+    requires lengths { AreLengths K.TELLS config.now (K.state keepers.old).told lengths.now }
+    ensures leaders { CachesGoOn leader_node leader_refills (seen_logs K.TELLS config.now (K.state keepers.old).told (pens_of stores.old))
+        (is_up topology.now) leaders.old leaders.new }
+    ensures followers { CachesGoOn follower_node follower_refills (seen_logs K.TELLS config.now (K.state keepers.old).told (pens_of stores.old))
+        (is_up topology.now) followers.old followers.new }
+    ensures caught { WhereTold K.TELLS (OnOk result
+        (HaveCaughtUp leader_node config.now (K.state keepers.old).told (is_up topology.now) leaders.old leaders.new)) }
+    ensures also { WhereTold K.TELLS (OnOk result
+        (HaveCaughtUp follower_node config.now (K.state keepers.old).told (is_up topology.now) followers.old followers.new)) }
+    ensures same { stores.new ≡ stores.old }
+    ensures stop { IfErr result (StopsCatchUp config.now
+        (outside (K.state keepers.old) (L.shown link.old)) (outside (K.state keepers.new) (L.shown link.new))) }
+    ensures reads { OnlyReads K.TELLS (outside (K.state keepers.old) (L.shown link.old)) (outside (K.state keepers.new) (L.shown link.new)) }
+{
+    for region in 0..region_count(config) {
+        catch_up_region(
+            alloc, leaders, followers, stores, keepers, link, config, topology, region, lengths,
+        )?;
+    }
+    Ok(())
 }

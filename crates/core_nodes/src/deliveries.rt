@@ -85,7 +85,7 @@ impl Fleet {
     pub fn deliver(&mut self, config: &Config, node: NodeName, message: Maint) -> u64
         requires fleet { IsFleetOf config.now self.old }
         requires node { IsCacheOf config.now node }
-        requires message { IsMessageFor config.now (pens_of self.old.masters) node message }
+        requires message { IsMessageFor config.now (pens_of self.old.stores) node message }
         ensures delivers { DeliversAt (types_of config.now.schema) message result node self.old self.new }
         ensures fleet { IsFleetOf config.now self.new }
         ensures goes { GoesOn self.old self.new }
@@ -106,7 +106,7 @@ impl Fleet {
         requires follower { HasNode follower self.old.followers }
         ensures takes { ChangesNode follower (TakesRefill result) self.old.followers self.new.followers }
         ensures rest { self.new ≡ record self.old { followers = self.new.followers } }
-        ensures refill { IfSome result (IsRefillFor config.now (pens_of self.old.masters) follower) }
+        ensures refill { IfSome result (IsRefillFor config.now (pens_of self.old.stores) follower) }
         ensures fleet { IsFleetOf config.now self.new }
         ensures goes { GoesOn self.old self.new }
     {

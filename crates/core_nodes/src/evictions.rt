@@ -1,5 +1,4 @@
 //! What cache nodes hold, and items that are dropped from them.
-ghost use Rattle.std.specs.Prelude.{◌≡◌};
 ghost use Rattle.core_model.specs.Consistent.{GoesOn, IsFleetOf};
 ghost use Rattle.core_model.specs.Evictions.{ChangesCache, Evicts, IsCacheOf};
 ghost use Rattle.core_model.specs.Fleet.{ChangesNode, HasNode};

@@ -13,7 +13,7 @@ use std::marker::Model;
 pub struct Fleet {
     pub(crate) leaders: Vec<Named<Leader>>,
     pub(crate) followers: Vec<Named<Follower>>,
-    pub(crate) masters: Vec<StoreNode>,
+    pub(crate) stores: Vec<StoreNode>,
 }
 
 impl Model for Fleet {

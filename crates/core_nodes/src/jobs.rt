@@ -1,25 +1,26 @@
 //! The stages of a job: it is merged where it is owed, and then ended.
-ghost use Rattle.std.specs.Prelude.{◌≡◌, ◌<◌, IfErr, IfOk, IfSome, None, OnErr, OnOk, Some, false, slice_get, true};
+ghost use Rattle.std.specs.Bool.{OnTrue};
+ghost use Rattle.std.specs.Prelude.{◌≡◌, ◌<◌, IfErr, IfOk, IfSome, OnErr, OnOk, Some};
 ghost use Rattle.core_model.specs.Consistent.{GoesOn, IsConsistent};
-ghost use Rattle.core_model.specs.Fleet.{ChangesNode, HasNode};
-ghost use Rattle.core_model.specs.Growing.{MastersGrow};
+ghost use Rattle.core_model.specs.Fleet.{ChangesNode, HasNode, serves};
+ghost use Rattle.core_model.specs.Growing.{StoresGrow};
 ghost use Rattle.core_model.specs.Jobs.{EndsOwed, IsFirstJobOf, IsMergedJob, IsOwedJob, MergesOwed, far_shard, job_on};
-ghost use Rattle.core_model.specs.Pens.{IsSeen, Rise, pens_of};
-ghost use Rattle.core_model.specs.Serving.{IsLeaderFor};
-ghost use Rattle.core_model.specs.Stores.{AreStoresOf, master_log, master_store};
-ghost use Rattle.core_model.specs.Writes.{IsSeenEntry};
+ghost use Rattle.core_model.specs.Pens.{IsSeen, Rise, pens_of, store_in};
+ghost use Rattle.core_model.specs.Serving.{IsLeaderIn};
+ghost use Rattle.core_model.specs.Stores.{AreStoresOf, master_of, master_store};
+ghost use Rattle.core_nodes.specs.MasterWrites.{job_of_master};
 ghost use Rattle.core_nodes.specs.Repairs.{MergesThere, outside};
-ghost use Rattle.core_nodes.specs.Stages.{LeaderDoes, NodeIs};
+ghost use Rattle.core_nodes.specs.Stages.{LeaderDoes, NodeIs, taken_by};
 ghost use Rattle.edge_repair.specs.declared.refusal.RepairRefusal.TheVariants as repair;
 ghost use Rattle.graph_model.specs.Told.{WhereTold};
 ghost use Rattle.leader_tier.specs.TakenWrites.{TakesWritten, taken_entry};
 ghost use Rattle.served_shards.specs.Served.{log_at};
-ghost use Rattle.shard_log.specs.View.{Grows, as_note};
-ghost use Rattle.shard_tables.specs.Jobs.{IsOfMerges, MergesAs};
+ghost use Rattle.shard_log.specs.View.{as_note};
 ghost use Rattle.shard_tables.specs.Refusals.{IsOfReads};
 ghost use Rattle.shard_tables.specs.StoreView.{Store as StoreSeen};
-ghost use Rattle.shard_tables.specs.Stores.{IsStoreOf, store_with};
-ghost use Rattle.shard_tables.specs.Written.{LiesOn, StandsIn, TableGains, added_entry};
+ghost use Rattle.shard_tables.specs.Stores.{IsStoreOf};
+ghost use Rattle.shard_tables.specs.WriteDone.{MergeDone, StoreGains, asked_merge_at};
+ghost use Rattle.shard_tables.specs.Written.{LiesOn, StandsIn};
 ghost use Rattle.shard_tables.specs.declared.store.StoreRole.TheVariants.{Master};
 ghost use Rattle.tao_keeper.specs.Given.{IsGivenJob};
 ghost use Rattle.tao_keeper.specs.Growing.{LogsGrow};
@@ -29,8 +30,10 @@ ghost use Rattle.tao_schema.specs.Schema.{types_of};
 ghost use Rattle.write_model.specs.MergeLaws.{MayBeMerged};
 
 use crate::fleet::Fleet;
-use crate::opening::master_store;
-use core_model::{Named, far_shard, named_place};
+use crate::stores::{master_store, region_store};
+use core_model::{
+    Named, far_shard, master_of, masters_are_regions, named_place, serves_in_turn, store_place,
+};
 use edge_repair::{RepairOutcome, RepairRefusal, merge_there};
 use leader_tier::{Leader, leaders_are_true};
 use node_name::NodeName;
@@ -41,40 +44,31 @@ use tao_link::Link;
 use tao_schema::Schema;
 use topology::Config;
 
-/// Merges the job at the leader and its store.
+/// Merges the job at the leader and its store. A leader that stands in for the preferred one stays as it is.
 fn merge_of<K: Keeper>(
     alloc: Global,
     leader: &mut Leader,
+    preferred: bool,
     store: &mut StoreNode,
     keepers: &mut K,
     schema: &Schema,
     from: u16,
     job: &Job,
 ) -> Result<Wrote, StoreRefusal>
-    requires log { log_at store.old.name.shard leader.old.served ≡ Some store.old.view.log }
+    requires log { OnTrue preferred (log_at store.old.name.shard leader.old.served ≡ Some store.old.view.log) }
     requires master { store.old.role ≡ Master }
     requires keeper { IsStoreOf K.TELLS (K.state keepers.old).told store.old }
     requires given { IsGivenJob job.now }
     requires may { WhereTold K.TELLS
         (MayBeMerged store.old.name.shard ((K.state keepers.old).told store.old.name).log from job.now.position job.now.edges) }
-    ensures node { LeaderDoes (TakesWritten (types_of schema.now) store.old.name.shard (taken_entry true result) (as_note store.new.view))
+    ensures node { LeaderDoes (TakesWritten (types_of schema.now) store.old.name.shard (taken_entry preferred result) (as_note store.new.view))
         leader.old leader.new }
-    ensures answer { WhereTold K.TELLS
-        (MergesAs store.old.log_max ((K.state keepers.old).told store.old.name).log from job.now.position job.now.edges result) }
-    ensures refusals { IfErr result IsOfMerges }
-    ensures new { IfOk result (λ wrote. wrote.retry ≡ false) }
-    ensures tables { WhereTold K.TELLS (TableGains (K.state keepers.old).told (K.state keepers.new).told store.old.name (added_entry result) None) }
-    ensures logs { LogsGrow K.TELLS (K.state keepers.old).told (K.state keepers.new).told }
-    ensures log { store.new ≡ store_with store.old (added_entry result) }
-    ensures grows { Grows store.old.view store.new.view }
-    ensures note { IfOk result (λ wrote. wrote.note ≡ as_note store.new.view) }
-    ensures stands { IfOk result (λ wrote. IfSome wrote.entry (StandsIn wrote.note)) }
-    ensures lies { IfOk result (λ wrote. IfSome wrote.entry (LiesOn wrote.note store.old.name.shard)) }
-    ensures keeper { IsStoreOf K.TELLS (K.state keepers.new).told store.new }
-    ensures calls { CallsKeeper StoreRefusal.KeeperFault (K.state keepers.old) (K.state keepers.new) result }
+    ensures done { MergeDone K.TELLS store.old.name (asked_merge_at (K.state keepers.old).told store.old from job.now)
+        (K.state keepers.old) (K.state keepers.new) result }
+    ensures store { StoreGains K.TELLS (K.state keepers.new).told store.old store.new result }
 {
     leaders_are_true(leader);
-    let wrote = leader.merge(alloc, true, store, keepers, schema, from, job);
+    let wrote = leader.merge(alloc, preferred, store, keepers, schema, from, job);
     leaders_are_true(leader);
     wrote
 }
@@ -83,59 +77,66 @@ fn merge_of<K: Keeper>(
 fn merge_at<K: Keeper>(
     alloc: Global,
     leaders: &mut [Named<Leader>],
-    masters: &mut [StoreNode],
+    stores: &mut [StoreNode],
     keepers: &mut K,
     config: &Config,
     name: NodeName,
+    preferred: bool,
     from: u16,
     job: &Job,
 ) -> Result<Wrote, StoreRefusal>
     requires there { HasNode name leaders.old }
     requires shard { far_shard job.now < config.now.shards }
-    requires logs { NodeIs name (λ node. (store : StoreSeen) → slice_get masters.old (far_shard job.now) ≡ Some store
-        → log_at (far_shard job.now) node.served ≡ Some store.view.log) leaders.old }
-    requires stores { AreStoresOf K.TELLS config.now (K.state keepers.old).told masters.old }
+    requires logs { OnTrue preferred (NodeIs name (λ node. (store : StoreSeen)
+        → store_in stores.old (master_store config.now (far_shard job.now)) ≡ Some store
+        → log_at (far_shard job.now) node.served ≡ Some store.view.log) leaders.old) }
+    requires stores { AreStoresOf K.TELLS config.now (K.state keepers.old).told stores.old }
     requires given { IsGivenJob job.now }
     requires owed { WhereTold K.TELLS (IsOwedJob config.now (K.state keepers.old).told (job_on from job.now)) }
-    ensures node { ChangesNode name (LeaderDoes (TakesWritten (types_of config.now.schema) (far_shard job.now) (taken_entry true result)
-        (as_note (pens_of masters.new (far_shard job.now))))) leaders.old leaders.new }
-    ensures rest { OnErr result (masters.new ≡ masters.old) }
-    ensures stores { AreStoresOf K.TELLS config.now (K.state keepers.new).told masters.new }
-    ensures rise { Rise (pens_of masters.old) (pens_of masters.new) }
-    ensures note { IfOk result (λ wrote. wrote.note ≡ as_note (pens_of masters.new (far_shard job.now))) }
-    ensures answer { WhereTold K.TELLS (MergesAs config.now.log_max (master_log config.now (K.state keepers.old).told (far_shard job.now))
-        from job.now.position job.now.edges result) }
-    ensures refusals { IfErr result IsOfMerges }
-    ensures tables { WhereTold K.TELLS (TableGains (K.state keepers.old).told (K.state keepers.new).told (master_store config.now (far_shard job.now))
-        (added_entry result) None) }
+    ensures node { ChangesNode name (LeaderDoes (TakesWritten (types_of config.now.schema) (far_shard job.now) (taken_entry preferred result)
+        (as_note (pens_of stores.new (far_shard job.now))))) leaders.old leaders.new }
+    ensures rest { OnErr result (stores.new ≡ stores.old) }
+    ensures stores { AreStoresOf K.TELLS config.now (K.state keepers.new).told stores.new }
+    ensures rise { Rise (pens_of stores.old) (pens_of stores.new) }
+    ensures note { IfOk result (λ wrote. wrote.note ≡ as_note (pens_of stores.new (far_shard job.now))) }
+    ensures done { MergeDone K.TELLS (master_store config.now (far_shard job.now)) (job_of_master config.now (K.state keepers.old).told (job_on from job.now))
+        (K.state keepers.old) (K.state keepers.new) result }
     ensures step { WhereTold K.TELLS (OnOk result (MergesOwed config.now (K.state keepers.old).told (K.state keepers.new).told (job_on from job.now))) }
     ensures merged { WhereTold K.TELLS (OnOk result (IsMergedJob config.now (K.state keepers.new).told (job_on from job.now))) }
-    ensures logs { LogsGrow K.TELLS (K.state keepers.old).told (K.state keepers.new).told }
-    ensures stands { IfOk result (λ wrote. IfSome wrote.entry (StandsIn wrote.note)) }
-    ensures lies { IfOk result (λ wrote. IfSome wrote.entry (LiesOn wrote.note (far_shard job.now))) }
-    ensures calls { CallsKeeper StoreRefusal.KeeperFault (K.state keepers.old) (K.state keepers.new) result }
 {
+    masters_are_regions(config);
     inverses_match(&config.schema);
-    let place = named_place(leaders, name);
-    let shard = usize::from(far_shard(job));
-    let leader = &mut leaders[place].node;
-    let store = &mut masters[shard];
-    merge_of(alloc, leader, store, keepers, &config.schema, from, job)
+    let spot = named_place(leaders, name);
+    let shard = far_shard(job);
+    let at = region_store(master_of(config, shard), shard);
+    let place = store_place(config, at);
+    let leader = &mut leaders[spot].node;
+    let store = &mut stores[place];
+    merge_of(
+        alloc,
+        leader,
+        preferred,
+        store,
+        keepers,
+        &config.schema,
+        from,
+        job,
+    )
 }
 
 /// Ends the job at its own shard's store.
 fn end_at<K: Keeper>(
-    masters: &mut [StoreNode],
+    stores: &mut [StoreNode],
     keepers: &mut K,
     config: &Config,
     shard: u16,
     job: &Job,
 ) -> Result<(), StoreRefusal>
-    requires stores { AreStoresOf K.TELLS config.now (K.state keepers.old).told masters.old }
+    requires stores { AreStoresOf K.TELLS config.now (K.state keepers.old).told stores.old }
     requires here { shard < config.now.shards }
     requires merged { WhereTold K.TELLS (IsMergedJob config.now (K.state keepers.old).told (job_on shard job.now)) }
-    ensures same { masters.new ≡ masters.old }
-    ensures stores { AreStoresOf K.TELLS config.now (K.state keepers.new).told masters.new }
+    ensures same { stores.new ≡ stores.old }
+    ensures stores { AreStoresOf K.TELLS config.now (K.state keepers.new).told stores.new }
     ensures ends { WhereTold K.TELLS (Changes result (K.state keepers.old).told (K.state keepers.new).told (master_store config.now shard)
         (after_end ((K.state keepers.old).told (master_store config.now shard)) job.now.position)) }
     ensures step { WhereTold K.TELLS (OnOk result (EndsOwed config.now (K.state keepers.old).told (K.state keepers.new).told (job_on shard job.now))) }
@@ -143,70 +144,78 @@ fn end_at<K: Keeper>(
     ensures logs { LogsGrow K.TELLS (K.state keepers.old).told (K.state keepers.new).told }
     ensures calls { CallsKeeper StoreRefusal.KeeperFault (K.state keepers.old) (K.state keepers.new) result }
 {
-    let place = usize::from(shard);
-    let store = &mut masters[place];
+    masters_are_regions(config);
+    let at = region_store(master_of(config, shard), shard);
+    let place = store_place(config, at);
+    let store = &mut stores[place];
     store.end_job(keepers, job.position)
 }
 
 /// Finds the first open job at the shard's store.
 fn first_at<K: Keeper>(
-    masters: &mut [StoreNode],
+    stores: &mut [StoreNode],
     keepers: &mut K,
     config: &Config,
     shard: u16,
 ) -> Result<Option<Job>, StoreRefusal>
-    requires stores { AreStoresOf K.TELLS config.now (K.state keepers.old).told masters.old }
+    requires stores { AreStoresOf K.TELLS config.now (K.state keepers.old).told stores.old }
     requires here { shard < config.now.shards }
     ensures answer { WhereTold K.TELLS (IfOk result (IsLeastJob ((K.state keepers.old).told (master_store config.now shard)).jobs)) }
     ensures first { WhereTold K.TELLS (IfOk result (λ found. IfSome found (λ job.
         IsFirstJobOf config.now (K.state keepers.new).told (job_on shard job)))) }
     ensures given { IfOk result (λ found. IfSome found IsGivenJob) }
-    ensures same { masters.new ≡ masters.old }
-    ensures stores { AreStoresOf K.TELLS config.now (K.state keepers.new).told masters.new }
+    ensures same { stores.new ≡ stores.old }
+    ensures stores { AreStoresOf K.TELLS config.now (K.state keepers.new).told stores.new }
     ensures refusals { IfErr result IsOfReads }
     ensures tables { KeepsTables K.TELLS (K.state keepers.old) (K.state keepers.new) }
     ensures logs { LogsGrow K.TELLS (K.state keepers.old).told (K.state keepers.new).told }
     ensures calls { CallsKeeper StoreRefusal.KeeperFault (K.state keepers.old) (K.state keepers.new) result }
 {
-    let place = usize::from(shard);
-    let store = &mut masters[place];
+    masters_are_regions(config);
+    let at = region_store(master_of(config, shard), shard);
+    let place = store_place(config, at);
+    let store = &mut stores[place];
     store.first_job(keepers)
 }
 
 /// Merges the job from its own shard's store at the store of the shard where it is owed.
 fn merge_over<K: Keeper, L: Link>(
     alloc: Global,
-    masters: &mut [StoreNode],
+    stores: &mut [StoreNode],
     keepers: &mut K,
     link: &mut L,
     config: &Config,
     from: u16,
     job: &Job,
 ) -> Result<RepairOutcome, RepairRefusal>
-    requires stores { AreStoresOf K.TELLS config.now (K.state keepers.old).told masters.old }
+    requires stores { AreStoresOf K.TELLS config.now (K.state keepers.old).told stores.old }
     requires here { from < config.now.shards }
     requires there { far_shard job.now < config.now.shards }
     requires given { IsGivenJob job.now }
     requires owed { WhereTold K.TELLS (IsOwedJob config.now (K.state keepers.old).told (job_on from job.now)) }
     ensures merges { MergesThere K.TELLS config.now (job_on from job.now) result
         (outside (K.state keepers.old) (L.shown link.old)) (outside (K.state keepers.new) (L.shown link.new)) }
-    ensures stands { IfOk result (λ repaired. IfSome repaired.wrote (StandsIn (pens_of masters.new (far_shard job.now)))) }
-    ensures lies { IfOk result (λ repaired. IfSome repaired.wrote (LiesOn (pens_of masters.new (far_shard job.now)) (far_shard job.now))) }
-    ensures stores { AreStoresOf K.TELLS config.now (K.state keepers.new).told masters.new }
-    ensures rise { Rise (pens_of masters.old) (pens_of masters.new) }
-    ensures grows { MastersGrow K.TELLS config.now (K.state keepers.old).told (K.state keepers.new).told }
+    ensures stands { IfOk result (λ repaired. IfSome repaired.wrote (StandsIn (pens_of stores.new (far_shard job.now)))) }
+    ensures lies { IfOk result (λ repaired. IfSome repaired.wrote (LiesOn (pens_of stores.new (far_shard job.now)) (far_shard job.now))) }
+    ensures stores { AreStoresOf K.TELLS config.now (K.state keepers.new).told stores.new }
+    ensures rise { Rise (pens_of stores.old) (pens_of stores.new) }
+    ensures grows { StoresGrow K.TELLS config.now (K.state keepers.old).told (K.state keepers.new).told }
     ensures calls { CallsKeeper repair.KeeperFault (K.state keepers.old) (K.state keepers.new) result }
 {
+    masters_are_regions(config);
     inverses_match(&config.schema);
     let from = master_store(config, from);
-    let place = usize::from(far_shard(job));
-    let to = &mut masters[place];
+    let shard = far_shard(job);
+    let at = region_store(master_of(config, shard), shard);
+    let place = store_place(config, at);
+    let to = &mut stores[place];
     merge_there(alloc, from, to, keepers, link, job)
 }
 
 impl Fleet {
-    /// The stage `inverse`, once it was carried to the leader of the shard on which the job's records lie, the preferred one of its master
-    /// region: it merges the job at that shard's store, and its items take what was written. The job stays open.
+    /// The stage `inverse`, once it was carried to a leader of the master's region of the shard on which the job's records lie: it merges the
+    /// job at that shard's store. Where it serves the shard its items take what was written; one that stands in for another stays as it is.
+    /// The job stays open.
     ///
     /// Refused as the store refuses it, with no node changed. Costs what `Leader::merge` does.
     pub fn merge<K: Keeper>(
@@ -219,39 +228,36 @@ impl Fleet {
         job: &Job,
     ) -> Result<Wrote, StoreRefusal>
         requires consistent { IsConsistent K.TELLS config.now (K.state keepers.old).told self.old }
-        requires leader { IsLeaderFor config.now (far_shard job.now) leader }
+        requires leader { IsLeaderIn config.now (master_of config.now (far_shard job.now)) leader }
+        requires there { far_shard job.now < config.now.shards }
         requires given { IsGivenJob job.now }
         requires owed { WhereTold K.TELLS (IsOwedJob config.now (K.state keepers.old).told (job_on from job.now)) }
 
         // What the nodes are then.
-        ensures node { IfOk result (λ wrote. ChangesNode leader (TakesWritten (types_of config.now.schema) (far_shard job.now) wrote.entry wrote.note)
-            self.old.leaders self.new.leaders) }
+        ensures node { IfOk result (λ wrote. ChangesNode leader (TakesWritten (types_of config.now.schema) (far_shard job.now)
+            (taken_by (serves config.now leader (far_shard job.now)) wrote.entry) wrote.note) self.old.leaders self.new.leaders) }
         ensures err { OnErr result (self.new ≡ self.old) }
         ensures consistent { IsConsistent K.TELLS config.now (K.state keepers.new).told self.new }
         ensures goes { GoesOn self.old self.new }
         ensures followers { self.new.followers ≡ self.old.followers }
 
         // The answer and the tables, as a merge of the store leaves them: a step of the plain machine.
-        ensures answer { WhereTold K.TELLS (MergesAs config.now.log_max (master_log config.now (K.state keepers.old).told (far_shard job.now))
-            from job.now.position job.now.edges result) }
-        ensures refusals { IfErr result IsOfMerges }
-        ensures tables { WhereTold K.TELLS (TableGains (K.state keepers.old).told (K.state keepers.new).told (master_store config.now (far_shard job.now))
-            (added_entry result) None) }
+        ensures done { MergeDone K.TELLS (master_store config.now (far_shard job.now))
+            (job_of_master config.now (K.state keepers.old).told (job_on from job.now)) (K.state keepers.old) (K.state keepers.new) result }
         ensures step { WhereTold K.TELLS (OnOk result (MergesOwed config.now (K.state keepers.old).told (K.state keepers.new).told (job_on from job.now))) }
         ensures merged { WhereTold K.TELLS (OnOk result (IsMergedJob config.now (K.state keepers.new).told (job_on from job.now))) }
-        ensures logs { LogsGrow K.TELLS (K.state keepers.old).told (K.state keepers.new).told }
-        ensures seen { IfOk result (λ wrote. IsSeen (pens_of self.new.masters) (far_shard job.now) wrote.note) }
-        ensures stands { IfOk result (λ wrote. IfSome wrote.entry (IsSeenEntry (pens_of self.new.masters) (far_shard job.now) wrote.note)) }
-        ensures here { IfOk result (λ wrote. IfSome wrote.entry (LiesOn wrote.note (far_shard job.now))) }
-        ensures calls { CallsKeeper StoreRefusal.KeeperFault (K.state keepers.old) (K.state keepers.new) result }
+        ensures seen { IfOk result (λ wrote. IsSeen (pens_of self.new.stores) (far_shard job.now) wrote.note) }
     {
+        masters_are_regions(config);
+        let preferred = serves_in_turn(config, leader, far_shard(job));
         merge_at(
             alloc,
             &mut self.leaders,
-            &mut self.masters,
+            &mut self.stores,
             keepers,
             config,
             leader,
+            preferred,
             from,
             job,
         )
@@ -278,7 +284,7 @@ impl Fleet {
         ensures logs { LogsGrow K.TELLS (K.state keepers.old).told (K.state keepers.new).told }
         ensures calls { CallsKeeper StoreRefusal.KeeperFault (K.state keepers.old) (K.state keepers.new) result }
     {
-        end_at(&mut self.masters, keepers, config, shard, job)
+        end_at(&mut self.stores, keepers, config, shard, job)
     }
 
     /// The open job of the least position of a shard, where one is open. One call of the keeper.
@@ -301,7 +307,7 @@ impl Fleet {
         ensures logs { LogsGrow K.TELLS (K.state keepers.old).told (K.state keepers.new).told }
         ensures calls { CallsKeeper StoreRefusal.KeeperFault (K.state keepers.old) (K.state keepers.new) result }
     {
-        first_at(&mut self.masters, keepers, config, shard)
+        first_at(&mut self.stores, keepers, config, shard)
     }
 
     /// Merges a job of a shard at the store of the shard on which its records lie, over the link from store to store and back, also where
@@ -324,14 +330,14 @@ impl Fleet {
         requires owed { WhereTold K.TELLS (IsOwedJob config.now (K.state keepers.old).told (job_on from job.now)) }
         ensures merges { MergesThere K.TELLS config.now (job_on from job.now) result
             (outside (K.state keepers.old) (L.shown link.old)) (outside (K.state keepers.new) (L.shown link.new)) }
-        ensures stands { IfOk result (λ repaired. IfSome repaired.wrote (StandsIn (pens_of self.new.masters (far_shard job.now)))) }
-        ensures lies { IfOk result (λ repaired. IfSome repaired.wrote (LiesOn (pens_of self.new.masters (far_shard job.now)) (far_shard job.now))) }
-        ensures rest { self.new ≡ record self.old { masters = self.new.masters } }
+        ensures stands { IfOk result (λ repaired. IfSome repaired.wrote (StandsIn (pens_of self.new.stores (far_shard job.now)))) }
+        ensures lies { IfOk result (λ repaired. IfSome repaired.wrote (LiesOn (pens_of self.new.stores (far_shard job.now)) (far_shard job.now))) }
+        ensures rest { self.new ≡ record self.old { stores = self.new.stores } }
         ensures consistent { IsConsistent K.TELLS config.now (K.state keepers.new).told self.new }
         ensures goes { GoesOn self.old self.new }
-        ensures grows { MastersGrow K.TELLS config.now (K.state keepers.old).told (K.state keepers.new).told }
+        ensures grows { StoresGrow K.TELLS config.now (K.state keepers.old).told (K.state keepers.new).told }
         ensures calls { CallsKeeper repair.KeeperFault (K.state keepers.old) (K.state keepers.new) result }
     {
-        merge_over(alloc, &mut self.masters, keepers, link, config, from, job)
+        merge_over(alloc, &mut self.stores, keepers, link, config, from, job)
     }
 }

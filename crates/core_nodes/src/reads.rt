@@ -1,14 +1,14 @@
 //! The stages of a read.
-ghost use Rattle.std.specs.Prelude.{◌≡◌, ◌≤◌, ◌<◌, IfErr, IfOk, IfSome, IsSome, OnErr, Some, length, slice_get, true};
+ghost use Rattle.std.specs.Prelude.{◌≡◌, ◌<◌, IfErr, IfOk, IfSome, IsSome, OnErr, Some, true};
 ghost use Rattle.cache_items.specs.Kept.{ask_at as open_ask_at};
 ghost use Rattle.cache_node.specs.Answered.{ViewAnswers};
 ghost use Rattle.core_model.specs.Consistent.{GoesOn, IsConsistent, IsFleetOf};
 ghost use Rattle.core_model.specs.Fleet.{ChangesNode, HasAsk, HasNode};
-ghost use Rattle.core_model.specs.Pens.{pens_of};
+ghost use Rattle.core_model.specs.Pens.{pens_of, store_in};
 ghost use Rattle.core_model.specs.Reads.{AsksAtOnce, EndsAsk, IsGivenAnswer, IsGivenFill, IsLegalLook, KeepsFill, LeaderAnswers, LooksFirst};
 ghost use Rattle.core_model.specs.Reads.{store_calls, taken_fill, wanted};
 ghost use Rattle.core_model.specs.Serving.{IsFollowerFor, IsLeaderFor};
-ghost use Rattle.core_model.specs.Stores.{HaveSeen};
+ghost use Rattle.core_model.specs.Stores.{AreStoresOf, IsConfiguredStore, region_store};
 ghost use Rattle.core_nodes.specs.Stages.{FollowerDoes, NodeIs, LeaderDoes, LooksTrue, OpensAsk};
 ghost use Rattle.leader_tier.specs.LeaderReads.{GivesAnswer, IsLegalAt, asked_read};
 ghost use Rattle.sealed_item.specs.Decided.{content_decides};
@@ -24,8 +24,9 @@ ghost use Rattle.tao_keeper.specs.Growing.{LogsGrow};
 ghost use Rattle.tao_schema.specs.Schema.{types_of};
 
 use crate::fleet::Fleet;
+use crate::stores::region_store;
 use ask_table::AskNo;
-use core_model::{Named, named_place};
+use core_model::{Named, named_place, store_place};
 use follower_cache::{Follower, Kept, Look, followers_are_true};
 use leader_tier::{Leader, leaders_are_true};
 use node_name::NodeName;
@@ -166,34 +167,36 @@ fn ask_leader<K: Keeper>(
 fn ask_at<K: Keeper>(
     alloc: Global,
     leaders: &mut [Named<Leader>],
-    masters: &mut [StoreNode],
+    stores: &mut [StoreNode],
     keepers: &mut K,
-    schema: &Schema,
+    config: &Config,
     name: NodeName,
+    region: u16,
     query: &Query,
     floor: u64,
 ) -> Result<LeaderAnswer, StoreRefusal>
     requires there { HasNode name leaders.old }
-    requires here { query_shard query.now < length masters.old }
-    requires logs { NodeIs name (λ node. (store : Store) → slice_get masters.old (query_shard query.now) ≡ Some store
+    requires here { IsConfiguredStore config.now (region_store region (query_shard query.now)) }
+    requires logs { NodeIs name (λ node. (store : Store) → store_in stores.old (region_store region (query_shard query.now)) ≡ Some store
         → log_at (query_shard query.now) node.served ≡ Some store.view.log) leaders.old }
-    requires keeper { HaveSeen K.TELLS (K.state keepers.old).told masters.old }
+    requires stores { AreStoresOf K.TELLS config.now (K.state keepers.old).told stores.old }
     ensures given { IfOk result (λ given. ChangesNode name (LeaderDoes
-        (LeaderAnswers (types_of schema.now) (wanted query.now floor) given (store_calls masters.old (K.state keepers.old) (K.state keepers.new))))
+        (LeaderAnswers (types_of config.now.schema) (wanted query.now floor) given (store_calls region stores.old (K.state keepers.old) (K.state keepers.new))))
         leaders.old leaders.new) }
-    ensures legal { IfOk result (IsLegalAt (types_of schema.now) query.now floor) }
+    ensures legal { IfOk result (IsLegalAt (types_of config.now.schema) query.now floor) }
     ensures err { OnErr result (leaders.new ≡ leaders.old) }
     ensures refused { IfErr result IsOfReads }
-    ensures same { masters.new ≡ masters.old }
+    ensures same { stores.new ≡ stores.old }
     ensures tables { KeepsTables K.TELLS (K.state keepers.old) (K.state keepers.new) }
     ensures logs { LogsGrow K.TELLS (K.state keepers.old).told (K.state keepers.new).told }
     ensures calls { CallsKeeper StoreRefusal.KeeperFault (K.state keepers.old) (K.state keepers.new) result }
 {
-    let place = named_place(leaders, name);
-    let shard = usize::from(query.shard());
-    let leader = &mut leaders[place].node;
-    let store = &mut masters[shard];
-    ask_leader(alloc, leader, store, keepers, schema, query, floor)
+    let spot = named_place(leaders, name);
+    let at = region_store(region, query.shard());
+    let place = store_place(config, at);
+    let leader = &mut leaders[spot].node;
+    let store = &mut stores[place];
+    ask_leader(alloc, leader, store, keepers, &config.schema, query, floor)
 }
 
 fn keep_fill(
@@ -285,7 +288,7 @@ impl Fleet {
         ensures fleet { IsFleetOf config.now self.new }
         ensures goes { GoesOn self.old self.new }
         ensures ask { IfOk result (λ first. IfSome first.ask (λ number. HasAsk follower number (query_key query.now) self.new.followers)) }
-        ensures legal { IfOk result (λ first. IsLegalLook (types_of config.now.schema) (pens_of self.new.masters) (wanted query.now floor) first.look) }
+        ensures legal { IfOk result (λ first. IsLegalLook (types_of config.now.schema) (pens_of self.new.stores) (wanted query.now floor) first.look) }
     {
         look_at(&mut self.followers, &config.schema, follower, query, floor)
     }
@@ -321,19 +324,21 @@ impl Fleet {
         config: &Config,
         keepers: &mut K,
         leader: NodeName,
+        region: u16,
         query: &Query,
         floor: u64,
     ) -> Result<LeaderAnswer, StoreRefusal>
         requires consistent { IsConsistent K.TELLS config.now (K.state keepers.old).told self.old }
         requires leader { IsLeaderFor config.now (query_shard query.now) leader }
+        requires here { IsConfiguredStore config.now (region_store region (query_shard query.now)) }
         ensures answers { IfOk result (λ given. ChangesNode leader
             (LeaderAnswers (types_of config.now.schema) (wanted query.now floor) given
-            (store_calls self.old.masters (K.state keepers.old) (K.state keepers.new))) self.old.leaders self.new.leaders) }
+            (store_calls region self.old.stores (K.state keepers.old) (K.state keepers.new))) self.old.leaders self.new.leaders) }
         ensures rest { self.new ≡ record self.old { leaders = self.new.leaders } }
         ensures err { OnErr result (self.new ≡ self.old) }
         ensures consistent { IsConsistent K.TELLS config.now (K.state keepers.new).told self.new }
         ensures goes { GoesOn self.old self.new }
-        ensures given { IfOk result (IsGivenAnswer (types_of config.now.schema) (pens_of self.new.masters) (wanted query.now floor)) }
+        ensures given { IfOk result (IsGivenAnswer (types_of config.now.schema) (pens_of self.new.stores) (wanted query.now floor)) }
         ensures refused { IfErr result IsOfReads }
         ensures tables { KeepsTables K.TELLS (K.state keepers.old) (K.state keepers.new) }
         ensures logs { LogsGrow K.TELLS (K.state keepers.old).told (K.state keepers.new).told }
@@ -342,10 +347,11 @@ impl Fleet {
         ask_at(
             alloc,
             &mut self.leaders,
-            &mut self.masters,
+            &mut self.stores,
             keepers,
-            &config.schema,
+            config,
             leader,
+            region,
             query,
             floor,
         )
@@ -366,7 +372,7 @@ impl Fleet {
     ) -> Result<(Answer, Kept), OutOfMemory>
         requires fleet { IsFleetOf config.now self.old }
         requires follower { IsFollowerFor config.now (query_shard query.now) follower }
-        requires given { IsGivenFill (types_of config.now.schema) (pens_of self.old.masters) (wanted query.now floor) fill }
+        requires given { IsGivenFill (types_of config.now.schema) (pens_of self.old.stores) (wanted query.now floor) fill }
         requires ask { IfSome ask (λ number. HasAsk follower number (query_key query.now) self.old.followers) }
         ensures keeps { IfOk result (λ r. ChangesNode follower
             (KeepsFill (types_of config.now.schema) query.now (taken_fill ask fill r.0 r.1)) self.old.followers self.new.followers) }
@@ -375,7 +381,7 @@ impl Fleet {
         ensures fleet { IsFleetOf config.now self.new }
         ensures goes { GoesOn self.old self.new }
         ensures legal { IfOk result (λ r.
-            IsLegalIn (types_of config.now.schema) (pens_of self.new.masters (query_shard query.now)) query.now floor r.0 fill.version) }
+            IsLegalIn (types_of config.now.schema) (pens_of self.new.stores (query_shard query.now)) query.now floor r.0 fill.version) }
     {
         keep_at(
             &mut self.followers,

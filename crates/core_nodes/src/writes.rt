@@ -1,32 +1,31 @@
 //! The stages of a write.
-ghost use Rattle.std.specs.Prelude.{◌≡◌, ◌<◌, IfOk, IfSome, IsTrue, OnErr, Some, slice_get, true};
+ghost use Rattle.std.specs.Bool.{OnTrue};
+ghost use Rattle.std.specs.Prelude.{◌≡◌, ◌<◌, IfOk, IfSome, IsTrue, OnErr, Some};
 ghost use Rattle.core_model.specs.Consistent.{GoesOn, IsConsistent, IsFleetOf};
-ghost use Rattle.core_model.specs.Fleet.{ChangesNode, HasNode};
+ghost use Rattle.core_model.specs.Fleet.{ChangesNode, HasNode, serves};
 ghost use Rattle.core_model.specs.Jobs.{IsOwedJob, job_on};
-ghost use Rattle.core_model.specs.Pens.{IsSeen, Rise, pens_of};
-ghost use Rattle.core_model.specs.Serving.{IsFollowerFor, IsLeaderFor};
-ghost use Rattle.core_model.specs.Stores.{AreStoresOf, master_log, master_store};
+ghost use Rattle.core_model.specs.Pens.{IsSeen, Rise, pens_of, store_in};
+ghost use Rattle.core_model.specs.Serving.{IsFollowerFor, IsLeaderIn};
+ghost use Rattle.core_model.specs.Stores.{AreStoresOf, master_of, master_store};
 ghost use Rattle.core_model.specs.Writes.{AppliesTo, IsSeenEntry};
-ghost use Rattle.core_nodes.specs.Stages.{FollowerDoes, LeaderDoes, NodeIs};
+ghost use Rattle.core_nodes.specs.MasterWrites.{asked_of_master};
+ghost use Rattle.core_nodes.specs.Stages.{FollowerDoes, LeaderDoes, NodeIs, taken_by};
 ghost use Rattle.graph_model.specs.Soundness.{IsSoundOf, is_client};
 ghost use Rattle.graph_model.specs.Told.{WhereTold};
 ghost use Rattle.leader_tier.specs.TakenWrites.{TakesWritten, taken_entry};
 ghost use Rattle.served_shards.specs.Served.{log_at};
-ghost use Rattle.shard_log.specs.View.{Grows, as_note};
-ghost use Rattle.shard_tables.specs.Jobs.{FindsJob, OpensJob, job_with};
-ghost use Rattle.shard_tables.specs.Stores.{IsStoreOf, store_with};
+ghost use Rattle.shard_log.specs.View.{as_note};
 ghost use Rattle.shard_tables.specs.StoreView.{Store as StoreSeen};
-ghost use Rattle.shard_tables.specs.Written.{HasEntry, LiesOn, StandsIn, TableGains, WriteAnswers, added_entry, asked_write};
+ghost use Rattle.shard_tables.specs.Stores.{IsStoreOf};
+ghost use Rattle.shard_tables.specs.WriteDone.{StoreGains, WriteDone, asked_at};
+ghost use Rattle.shard_tables.specs.Written.{LiesOn, StandsIn};
 ghost use Rattle.shard_tables.specs.declared.store.StoreRole.TheVariants.{Master};
 ghost use Rattle.tao_base.specs.Writes.{ChangesType, write_shard};
-ghost use Rattle.tao_keeper.specs.Given.{IsGivenJob};
-ghost use Rattle.tao_keeper.specs.Growing.{LogsGrow};
-ghost use Rattle.tao_keeper.specs.KeeperState.{CallsKeeper};
 ghost use Rattle.tao_schema.specs.Schema.{types_of};
-ghost use Rattle.write_model.specs.Writes.{FitsWrite};
 
 use crate::fleet::Fleet;
-use core_model::{Named, named_place};
+use crate::stores::region_store;
+use core_model::{Named, master_of, masters_are_regions, named_place, serves_in_turn, store_place};
 use follower_cache::{Follower, followers_are_true};
 use leader_tier::{Leader, leaders_are_true};
 use node_name::NodeName;
@@ -38,45 +37,32 @@ use tao_keeper::Keeper;
 use tao_schema::Schema;
 use topology::Config;
 
-/// Makes the write at the leader and its store.
+/// Makes the write at the leader and its store. A leader that stands in for the preferred one stays as it is.
 fn commit_of<K: Keeper>(
     alloc: Global,
     leader: &mut Leader,
+    preferred: bool,
     store: &mut StoreNode,
     keepers: &mut K,
     schema: &Schema,
     origin: Origin,
     write: &Write,
 ) -> Result<Wrote, StoreRefusal>
-    requires log { log_at store.old.name.shard leader.old.served ≡ Some store.old.view.log }
+    requires log { OnTrue preferred (log_at store.old.name.shard leader.old.served ≡ Some store.old.view.log) }
     requires master { store.old.role ≡ Master }
     requires keeper { IsStoreOf K.TELLS (K.state keepers.old).told store.old }
     requires client { IsTrue (is_client origin) }
     requires here { write_shard write.now ≡ store.old.name.shard }
     requires changes { ChangesType (types_of schema.now) write.now }
     requires sound { WhereTold K.TELLS (IsSoundOf (types_of schema.now) store.old.name.shard ((K.state keepers.old).told store.old.name).log) }
-    ensures node { LeaderDoes (TakesWritten (types_of schema.now) store.old.name.shard (taken_entry true result) (as_note store.new.view))
+    ensures node { LeaderDoes (TakesWritten (types_of schema.now) store.old.name.shard (taken_entry preferred result) (as_note store.new.view))
         leader.old leader.new }
-    ensures answer { WhereTold K.TELLS (WriteAnswers
-        (asked_write (types_of schema.now) store.old.log_max ((K.state keepers.old).told store.old.name).log origin write.now) result) }
-    ensures fits { IfOk result (λ wrote. IfSome wrote.entry (λ e. FitsWrite e write.now)) }
-    ensures entry { IfOk result (λ wrote. HasEntry write.now wrote.entry) }
-    ensures job { IfOk result (λ wrote. OpensJob (types_of schema.now) wrote.retry wrote.entry wrote.job) }
-    ensures found { WhereTold K.TELLS (IfOk result (λ wrote. FindsJob ((K.state keepers.old).told store.old.name) wrote.retry wrote.entry wrote.job)) }
-    ensures given { IfOk result (λ wrote. IfSome wrote.job IsGivenJob) }
-    ensures tables { WhereTold K.TELLS (TableGains (K.state keepers.old).told (K.state keepers.new).told store.old.name
-        (added_entry result) (job_with (types_of schema.now) (added_entry result))) }
-    ensures logs { LogsGrow K.TELLS (K.state keepers.old).told (K.state keepers.new).told }
-    ensures log { store.new ≡ store_with store.old (added_entry result) }
-    ensures grows { Grows store.old.view store.new.view }
-    ensures note { IfOk result (λ wrote. wrote.note ≡ as_note store.new.view) }
-    ensures stands { IfOk result (λ wrote. IfSome wrote.entry (StandsIn wrote.note)) }
-    ensures lies { IfOk result (λ wrote. IfSome wrote.entry (LiesOn wrote.note store.old.name.shard)) }
-    ensures keeper { IsStoreOf K.TELLS (K.state keepers.new).told store.new }
-    ensures calls { CallsKeeper StoreRefusal.KeeperFault (K.state keepers.old) (K.state keepers.new) result }
+    ensures done { WriteDone K.TELLS store.old.name (asked_at (types_of schema.now) (K.state keepers.old).told store.old origin write.now)
+        (K.state keepers.old) (K.state keepers.new) result }
+    ensures store { StoreGains K.TELLS (K.state keepers.new).told store.old store.new result }
 {
     leaders_are_true(leader);
-    let wrote = leader.write(alloc, true, store, keepers, schema, origin, write);
+    let wrote = leader.write(alloc, preferred, store, keepers, schema, origin, write);
     leaders_are_true(leader);
     wrote
 }
@@ -85,49 +71,51 @@ fn commit_of<K: Keeper>(
 fn commit_at<K: Keeper>(
     alloc: Global,
     leaders: &mut [Named<Leader>],
-    masters: &mut [StoreNode],
+    stores: &mut [StoreNode],
     keepers: &mut K,
     config: &Config,
     name: NodeName,
+    preferred: bool,
     origin: Origin,
     write: &Write,
 ) -> Result<Wrote, StoreRefusal>
     requires there { HasNode name leaders.old }
     requires shard { write_shard write.now < config.now.shards }
-    requires logs { NodeIs name (λ node. (store : StoreSeen) → slice_get masters.old (write_shard write.now) ≡ Some store
-        → log_at (write_shard write.now) node.served ≡ Some store.view.log) leaders.old }
-    requires stores { AreStoresOf K.TELLS config.now (K.state keepers.old).told masters.old }
+    requires logs { OnTrue preferred (NodeIs name (λ node. (store : StoreSeen)
+        → store_in stores.old (master_store config.now (write_shard write.now)) ≡ Some store
+        → log_at (write_shard write.now) node.served ≡ Some store.view.log) leaders.old) }
+    requires stores { AreStoresOf K.TELLS config.now (K.state keepers.old).told stores.old }
     requires client { IsTrue (is_client origin) }
     requires changes { ChangesType (types_of config.now.schema) write.now }
-    ensures node { ChangesNode name (LeaderDoes (TakesWritten (types_of config.now.schema) (write_shard write.now) (taken_entry true result)
-        (as_note (pens_of masters.new (write_shard write.now))))) leaders.old leaders.new }
-    ensures rest { OnErr result (masters.new ≡ masters.old) }
-    ensures stores { AreStoresOf K.TELLS config.now (K.state keepers.new).told masters.new }
-    ensures rise { Rise (pens_of masters.old) (pens_of masters.new) }
-    ensures note { IfOk result (λ wrote. wrote.note ≡ as_note (pens_of masters.new (write_shard write.now))) }
-    ensures answer { WhereTold K.TELLS (WriteAnswers (asked_write (types_of config.now.schema) config.now.log_max
-        (master_log config.now (K.state keepers.old).told (write_shard write.now)) origin write.now) result) }
-    ensures fits { IfOk result (λ wrote. IfSome wrote.entry (λ e. FitsWrite e write.now)) }
-    ensures entry { IfOk result (λ wrote. HasEntry write.now wrote.entry) }
-    ensures job { IfOk result (λ wrote. OpensJob (types_of config.now.schema) wrote.retry wrote.entry wrote.job) }
-    ensures found { WhereTold K.TELLS (IfOk result (λ wrote.
-        FindsJob ((K.state keepers.old).told (master_store config.now (write_shard write.now))) wrote.retry wrote.entry wrote.job)) }
-    ensures given { IfOk result (λ wrote. IfSome wrote.job IsGivenJob) }
+    ensures node { ChangesNode name (LeaderDoes (TakesWritten (types_of config.now.schema) (write_shard write.now) (taken_entry preferred result)
+        (as_note (pens_of stores.new (write_shard write.now))))) leaders.old leaders.new }
+    ensures rest { OnErr result (stores.new ≡ stores.old) }
+    ensures stores { AreStoresOf K.TELLS config.now (K.state keepers.new).told stores.new }
+    ensures rise { Rise (pens_of stores.old) (pens_of stores.new) }
+    ensures note { IfOk result (λ wrote. wrote.note ≡ as_note (pens_of stores.new (write_shard write.now))) }
+    ensures done { WriteDone K.TELLS (master_store config.now (write_shard write.now)) (asked_of_master config.now (K.state keepers.old).told origin write.now)
+        (K.state keepers.old) (K.state keepers.new) result }
     ensures owes { WhereTold K.TELLS (IfOk result (λ wrote. IfSome wrote.job (λ job.
         IsOwedJob config.now (K.state keepers.new).told (job_on (write_shard write.now) job)))) }
-    ensures tables { WhereTold K.TELLS (TableGains (K.state keepers.old).told (K.state keepers.new).told (master_store config.now (write_shard write.now))
-        (added_entry result) (job_with (types_of config.now.schema) (added_entry result))) }
-    ensures logs { LogsGrow K.TELLS (K.state keepers.old).told (K.state keepers.new).told }
-    ensures stands { IfOk result (λ wrote. IfSome wrote.entry (StandsIn wrote.note)) }
-    ensures lies { IfOk result (λ wrote. IfSome wrote.entry (LiesOn wrote.note (write_shard write.now))) }
-    ensures calls { CallsKeeper StoreRefusal.KeeperFault (K.state keepers.old) (K.state keepers.new) result }
 {
-    let place = named_place(leaders, name);
-    let shard = usize::from(write.shard());
-    let leader = &mut leaders[place].node;
-    let store = &mut masters[shard];
+    masters_are_regions(config);
+    let spot = named_place(leaders, name);
+    let shard = write.shard();
+    let at = region_store(master_of(config, shard), shard);
+    let place = store_place(config, at);
+    let leader = &mut leaders[spot].node;
+    let store = &mut stores[place];
     inverses_match(&config.schema);
-    commit_of(alloc, leader, store, keepers, &config.schema, origin, write)
+    commit_of(
+        alloc,
+        leader,
+        preferred,
+        store,
+        keepers,
+        &config.schema,
+        origin,
+        write,
+    )
 }
 
 /// Applies the entry at the follower.
@@ -162,8 +150,8 @@ fn apply_at(
 }
 
 impl Fleet {
-    /// The stage `commit`, once it was carried to the master's leader, the preferred one of its region for the shard: it makes
-    /// the write of a client at the shard's store, and its items take what was written.
+    /// The stage `commit`, once it was carried to a leader of the master's region: it makes the write of a client at the shard's store. Where
+    /// it serves the shard its items take what was written; one that stands in for another stays as it is.
     ///
     /// Refused as the store refuses it, with no node changed. Costs what `Leader::write` does.
     pub fn commit<K: Keeper>(
@@ -176,44 +164,36 @@ impl Fleet {
         write: &Write,
     ) -> Result<Wrote, StoreRefusal>
         requires consistent { IsConsistent K.TELLS config.now (K.state keepers.old).told self.old }
-        requires leader { IsLeaderFor config.now (write_shard write.now) leader }
+        requires leader { IsLeaderIn config.now (master_of config.now (write_shard write.now)) leader }
+        requires here { write_shard write.now < config.now.shards }
         requires client { IsTrue (is_client origin) }
         requires changes { ChangesType (types_of config.now.schema) write.now }
 
         // What the nodes are then.
-        ensures node { IfOk result (λ wrote. ChangesNode leader (TakesWritten (types_of config.now.schema) (write_shard write.now) wrote.entry wrote.note)
-            self.old.leaders self.new.leaders) }
+        ensures node { IfOk result (λ wrote. ChangesNode leader (TakesWritten (types_of config.now.schema) (write_shard write.now)
+            (taken_by (serves config.now leader (write_shard write.now)) wrote.entry) wrote.note) self.old.leaders self.new.leaders) }
         ensures err { OnErr result (self.new ≡ self.old) }
         ensures consistent { IsConsistent K.TELLS config.now (K.state keepers.new).told self.new }
         ensures goes { GoesOn self.old self.new }
         ensures followers { self.new.followers ≡ self.old.followers }
 
         // The answer and the tables, as a write of the store leaves them.
-        ensures answer { WhereTold K.TELLS (WriteAnswers (asked_write (types_of config.now.schema) config.now.log_max
-            (master_log config.now (K.state keepers.old).told (write_shard write.now)) origin write.now) result) }
-        ensures fits { IfOk result (λ wrote. IfSome wrote.entry (λ e. FitsWrite e write.now)) }
-        ensures entry { IfOk result (λ wrote. HasEntry write.now wrote.entry) }
-        ensures job { IfOk result (λ wrote. OpensJob (types_of config.now.schema) wrote.retry wrote.entry wrote.job) }
-        ensures found { WhereTold K.TELLS (IfOk result (λ wrote.
-            FindsJob ((K.state keepers.old).told (master_store config.now (write_shard write.now))) wrote.retry wrote.entry wrote.job)) }
-        ensures given { IfOk result (λ wrote. IfSome wrote.job IsGivenJob) }
+        ensures done { WriteDone K.TELLS (master_store config.now (write_shard write.now))
+            (asked_of_master config.now (K.state keepers.old).told origin write.now) (K.state keepers.old) (K.state keepers.new) result }
         ensures owes { WhereTold K.TELLS (IfOk result (λ wrote. IfSome wrote.job (λ job.
             IsOwedJob config.now (K.state keepers.new).told (job_on (write_shard write.now) job)))) }
-        ensures tables { WhereTold K.TELLS (TableGains (K.state keepers.old).told (K.state keepers.new).told (master_store config.now (write_shard write.now))
-            (added_entry result) (job_with (types_of config.now.schema) (added_entry result))) }
-        ensures logs { LogsGrow K.TELLS (K.state keepers.old).told (K.state keepers.new).told }
-        ensures seen { IfOk result (λ wrote. IsSeen (pens_of self.new.masters) (write_shard write.now) wrote.note) }
-        ensures stands { IfOk result (λ wrote. IfSome wrote.entry (IsSeenEntry (pens_of self.new.masters) (write_shard write.now) wrote.note)) }
-        ensures here { IfOk result (λ wrote. IfSome wrote.entry (LiesOn wrote.note (write_shard write.now))) }
-        ensures calls { CallsKeeper StoreRefusal.KeeperFault (K.state keepers.old) (K.state keepers.new) result }
+        ensures seen { IfOk result (λ wrote. IsSeen (pens_of self.new.stores) (write_shard write.now) wrote.note) }
     {
+        masters_are_regions(config);
+        let preferred = serves_in_turn(config, leader, write.shard());
         commit_at(
             alloc,
             &mut self.leaders,
-            &mut self.masters,
+            &mut self.stores,
             keepers,
             config,
             leader,
+            preferred,
             origin,
             write,
         )
@@ -230,7 +210,7 @@ impl Fleet {
     )
         requires fleet { IsFleetOf config.now self.old }
         requires follower { IsFollowerFor config.now shard follower }
-        requires seen { IsSeenEntry (pens_of self.old.masters) shard note entry.now }
+        requires seen { IsSeenEntry (pens_of self.old.stores) shard note entry.now }
         requires here { LiesOn note shard entry.now }
         ensures applies { ChangesNode follower (AppliesTo (types_of config.now.schema) shard entry.now note) self.old.followers self.new.followers }
         ensures rest { self.new ≡ record self.old { followers = self.new.followers } }

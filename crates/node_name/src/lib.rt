@@ -1,4 +1,8 @@
 //! The nodes of the store, as places of the configuration.
+//!
+//! What it promises. The names of nodes, as places.
+//!
+//! The contracts that say so: the type `NodeName`.
 #![tactic(auto)]
 
 use tao_base::StoreName;

@@ -12,6 +12,6 @@ pub record Switches (at : Carry) (whole : Bool) (old new : List Carry) : Type 0 
   pub here : Contains new at ↔ IsFalse whole
   pub others : (other : Carry) → other ≢ at → (Contains new other ↔ Contains old other)
 
--- the same of cuts that may be told: where they are, they still are
+-- where the cuts are told they still are, and one carry is switched and no other; where they aren't told, they still aren't
 abbrev pub SwitchesWhereTold : Carry → Bool → Option (List Carry) → Option (List Carry) → Type 0
 SwitchesWhereTold at whole old new = MatchOption old (new ≡ None) (λ cuts. IsSomeAnd new (Switches at whole cuts))

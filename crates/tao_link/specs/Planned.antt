@@ -10,10 +10,10 @@ pub record LinkPlan : Type 0 where
   pub faults : ℕ
   pub failed : Option Carry
 
--- nothing was carried yet
+-- a link whose carries of the listed numbers fail, before the first carry
 abbrev pub plan_of : List ℕ → LinkPlan
 plan_of fails = record { carries = from_one fails; faults = 0; failed = None }
 
--- it tells no cuts
+-- what contracts see of a link with a plan, which tells no cuts
 abbrev pub planned_shown : LinkPlan → LinkShown
 planned_shown link = record { cuts = None; carries = link.carries.count; faults = link.faults; failed = link.failed }

@@ -14,6 +14,6 @@ pub record Switched : Type 0 where
 abbrev pub uncut : Switched
 uncut = record { cuts = []; carries = 0; faults = 0; failed = None }
 
--- it tells its cuts
+-- what contracts see of a link that can be cut, which tells its cuts
 abbrev pub switch_shown : Switched → LinkShown
 switch_shown link = record { cuts = Some link.cuts; carries = link.carries; faults = link.faults; failed = link.failed }

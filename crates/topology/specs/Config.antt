@@ -4,6 +4,8 @@ use Rattle.tao_schema.specs.declared.schema.Schema.{Schema}
 use Rattle.topology.specs.Named.{in_range}
 use Rattle.topology.specs.declared.regions.Region.{Region}
 
+-- a configuration: the schema, how many shards there are, the regions, the master regions, which the shards take in turn,
+-- the most entries of a shard's log, and the most items of a cache node
 pub record Settings : Type 0 where
   pub schema : Schema
   pub shards : ℕ

@@ -7,6 +7,7 @@ pub record NodeCounts : Type 0 where
   pub leaders : ℕ
   pub followers : List ℕ
 
+-- how many leaders the region has, and how many followers each of its tiers, in their order
 abbrev pub counts_of : Region → NodeCounts
 counts_of region = record { leaders = region.leaders; followers = map (λ tier. tier.followers) region.tiers }
 

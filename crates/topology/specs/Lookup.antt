@@ -32,10 +32,11 @@ number_below count text = then_some (nat_lt (digits_value 10 text) count && byte
 abbrev pub is_padded : List ℕ → Bool
 is_padded text = (slice_index text 0 == 43) || ((slice_index text 0 == 48) && nat_lt 1 (length text))
 
--- what stands before the first `/` of a text, and what after it
+-- whether the byte is `/`
 abbrev pub is_slash : ℕ → Bool
 is_slash byte = byte == 47
 
+-- what stands before the first `/` of a text, and what after it; None where it has no `/`
 abbrev pub parts : List ℕ → Option (List ℕ × List ℕ)
 parts text = then_some (nat_lt (position_or_len is_slash text) (length text)) (before_first is_slash text, after_first is_slash text)
 

@@ -7,6 +7,6 @@ abbrev pub are_different : List (List ℕ) → Bool
 are_different [] = true
 are_different (name ∷ names) = not (list_any (bytes_eq name) names) && are_different names
 
--- from the least to the most
+-- whether n is from the least to the most, both included
 abbrev pub in_range : ℕ → ℕ → ℕ → Bool
 in_range least most n = nat_le least n && nat_le n most

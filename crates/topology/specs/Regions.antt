@@ -4,9 +4,11 @@ use Rattle.std.specs.List.{list_all, position_from}
 use Rattle.topology.specs.Named.{are_different, in_range}
 use Rattle.topology.specs.declared.regions.Region.{Region}
 
+-- whether the region has one to four leaders
 abbrev pub is_region : Region → Bool
 is_region region = in_range 1 4 region.leaders
 
+-- whether there are one to four regions, each with one to four leaders, and no two of one name
 abbrev pub are_regions : List Region → Bool
 are_regions regions = in_range 1 4 (length regions) && list_all is_region regions && are_different (map (λ region. region.name) regions)
 

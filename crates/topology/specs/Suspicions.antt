@@ -11,15 +11,17 @@ pub record Suspicion : Type 0 where
   pub tier : ℕ
   pub leader : NodeName
 
+-- the suspicion that a tier of a region has of a leader
 abbrev pub suspicion_of : ℕ → ℕ → NodeName → Suspicion
 suspicion_of region tier leader = record { region = region; tier = tier; leader = leader }
 
+-- whether the name is that of a leader which its region has
 abbrev pub is_leader : List NodeCounts → NodeName → Bool
 is_leader regions (Leader region index) = nat_lt index (leader_count regions region)
 is_leader regions (Store store) = false
 is_leader regions (Follower region tier index) = false
 
--- four places for each region's leaders
+-- the place of a leader among those of all regions, with four places for each region
 abbrev pub leader_index : NodeName → ℕ
 leader_index (Leader region index) = region * 4 + index
 leader_index (Store store) = 0

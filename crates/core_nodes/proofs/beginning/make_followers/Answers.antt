@@ -12,7 +12,7 @@ loop-name-preserved c =
       names = names_next c.args.names.now c.loop-name.followers.items c.push.new.self.items c.loop-name.name-index _ _ c.loop-name.invariant.names
           within pushed;
       begun =
-          each_next (λ (xs : List Store). IsBegunFollower c.args.config.now xs c.args.lengths.now) c.loop-name.masters c.args.masters.now
+          each_next (λ (xs : List Store). IsBegunFollower c.args.config.now xs c.args.lengths.now) c.loop-name.stores c.args.stores.now
           c.loop-name.followers.items c.push.new.self.items _
           c.loop-name.invariant.same c.loop-name.invariant.begun pushed c.in_ok-node.ensures.begun;
       same = c.in_ok-node.ensures.same ∙ c.loop-name.invariant.same;

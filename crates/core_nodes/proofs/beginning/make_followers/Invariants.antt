@@ -7,6 +7,6 @@ use Rattle.core_nodes.proofs.beginning.make_followers.Given as goal
 abbrev pub invariant-loop-name : goal.invariant-loop-name
 invariant-loop-name l = record {
   names : node_names l.followers.items ≡ take l.name-index l.names;
-  begun : All (IsBegunFollower l.config l.fn.masters l.lengths) l.followers.items;
-  same : l.masters ≡ l.fn.masters;
+  begun : All (IsBegunFollower l.config l.fn.stores l.lengths) l.followers.items;
+  same : l.stores ≡ l.fn.stores;
 }

@@ -7,6 +7,6 @@ use Rattle.core_nodes.proofs.beginning.make_leaders.Given as goal
 abbrev pub invariant-loop-name : goal.invariant-loop-name
 invariant-loop-name l = record {
   names : node_names l.leaders.items ≡ take l.name-index l.names;
-  begun : All (IsBegunLeader l.config l.fn.masters l.lengths) l.leaders.items;
-  same : l.masters ≡ l.fn.masters;
+  begun : All (IsBegunLeader l.config l.fn.stores l.lengths) l.leaders.items;
+  same : l.stores ≡ l.fn.stores;
 }

@@ -1,16 +1,15 @@
-use Rattle.std.proofs.Common.{◌≡◌, ℕ, ◌<◌, List, ap, refl, subst, sym, ◌∙◌, arith}
+use Rattle.std.proofs.Common.{◌≡◌, ◌<◌, ap, length, refl, subst, sym, ◌∙◌, arith}
 use Rattle.std.proofs.lemmas.Result.{err_from_is_err_and}
 use Rattle.node_name.specs.declared.NodeName.{NodeName}
-use Rattle.shard_tables.specs.StoreView.{Store}
 use Rattle.topology.specs.Config.{Settings}
-use Rattle.core_model.specs.Consistent.{IsNodeOf}
+use Rattle.core_model.specs.Fleet.{region_of}
 use Rattle.core_model.specs.Pens.{pens_of}
-use Rattle.core_model.specs.Stores.{AreStoresOf}
+use Rattle.core_model.specs.Stores.{IsConfiguredStore}
 use Rattle.core_nodes.specs.Beginning.{length_at}
 use Rattle.core_nodes.specs.Repairs.{outside}
-use Rattle.core_nodes.specs.Settling.{CacheGoesOn, IsAtFirstEnds, IsConfiguredCache, StopsCatchUp, seen_logs}
-use Rattle.core_nodes.proofs.AskLemmas.{stores_here}
-use Rattle.core_nodes.proofs.CatchLemmas.{cache_before, cache_goes_on, catches_up, ends_on, goes_same, length_here}
+use Rattle.core_nodes.specs.Settling.{CatchesUp, IsAtFirstStores, MayCatchUp, StopsCatchUp, seen_logs}
+use Rattle.core_nodes.proofs.CatchLemmas.{catches_up}
+use Rattle.core_nodes.proofs.CatchSteps.{cache_goes_on, cache_same, cache_then, ends_next, lengths_now, may_now, stores_now}
 use Rattle.core_nodes.proofs.SettleLemmas.{reads_none, reads_on, stops_later}
 use Rattle.core_nodes.proofs.catching.catch_up_node.Goals as goal
 
@@ -18,12 +17,8 @@ pub loop-shard-init : goal.loop-shard-init
 loop-shard-init g c =
     let state = g.K.Keeper.state in
     record {
-      goes = record {
-        name_is = refl;
-        goes = goes_same g.K.Keeper.TELLS c.args.config.now (state c.args.keepers.now).told (pens_of c.args.masters.now) c.args.cache.now.name
-            (g.C.Cache.node c.args.cache.now.node) c.requires.node;
-        rest = refl;
-      };
+      goes = cache_same g.C.Cache.node g.C.Cache.refills g.K.Keeper.TELLS c.args.config.now (state c.args.keepers.now).told (pens_of c.args.stores.now)
+          c.args.cache.now c.requires.may;
       ends = λ told. record { ends = λ shard served lt at. absurd (omega (arith, lt)) };
       same = refl;
       reads = reads_none g.K.Keeper.TELLS (outside (state c.args.keepers.now) (g.L.Link.shown c.args.link.now));
@@ -31,61 +26,66 @@ loop-shard-init g c =
 
 pub catch_up_at-requires : goal.catch_up_at-requires
 catch_up_at-requires g c =
+    let tells = g.K.Keeper.TELLS in
     let s = c.args.config.now in
     let was = c.loop-shard.invariant in
     let state = g.K.Keeper.state in
+    let before = (state c.args.keepers.now).told in
+    let now = (state c.loop-shard.keepers).told in
     let shards : c.config.inside.shards ≡ s.shards = ap (λ (x : Settings). x.shards) c.config.view_is in
     let here : c.loop-shard.shard < s.shards = omega (arith, shards, c.loop-shard-test.true) in
+    let configured : IsConfiguredStore s c.region_store-at.result =
+    subst (IsConfiguredStore s) (sym c.region_store-at.ensures) (record { region = c.requires.here; shard = here }) in
     record {
-      stores = subst (AreStoresOf g.K.Keeper.TELLS s (state c.loop-shard.keepers).told) (sym was.same)
-          (stores_here g.K.Keeper.TELLS s (state c.args.keepers.now).told
-          (state c.loop-shard.keepers).told c.args.masters.now c.requires.stores was.reads.tables);
-      cache = subst (IsConfiguredCache s) (sym was.goes.name_is) c.requires.cache;
-      node =
-          subst (λ (n : NodeName). IsNodeOf s (pens_of c.loop-shard.masters) n (g.C.Cache.node c.loop-shard.cache.node)) (sym was.goes.name_is)
-          (subst (λ (xs : List Store). IsNodeOf s (pens_of xs) c.args.cache.now.name (g.C.Cache.node c.loop-shard.cache.node))
-          (sym was.same) was.goes.goes.node);
-      here = here;
-      all = λ told. c.length_at-until.ensures ∙ ap (λ (xs : List ℕ). length_at xs c.loop-shard.shard) (c.requires.lengths told)
-          ∙ length_here s (state c.args.keepers.now).told (state c.loop-shard.keepers).told c.loop-shard.shard here (was.reads.tables told);
+      stores = stores_now tells s before now c.args.stores.now c.loop-shard.stores was.same was.reads.tables c.requires.stores;
+      may =
+          subst (λ (n : NodeName). MayCatchUp (seen_logs tells s now (pens_of c.loop-shard.stores)) n (g.C.Cache.node c.loop-shard.cache.node))
+          (sym was.goes.name_is)
+          (may_now tells s before now c.args.stores.now c.loop-shard.stores was.same was.reads.tables c.args.cache.now.name
+          (g.C.Cache.node c.loop-shard.cache.node) was.goes.goes.may);
+      here = configured;
+      region = ap region_of was.goes.name_is ∙ c.requires.region ∙ ap (λ at. at.region) (sym c.region_store-at.ensures);
+      all = λ told. c.length_at-until.ensures ∙ ap (length_at c.args.lengths.now) c.store_place.ensures
+          ∙ (lengths_now tells s before now c.args.stores.now c.loop-shard.stores was.same was.reads.tables c.args.lengths.now c.requires.lengths).each
+          c.region_store-at.result configured told;
     }
 
 pub loop-shard-preserved : goal.loop-shard-preserved
 loop-shard-preserved g c =
+    let tells = g.K.Keeper.TELLS in
     let s = c.args.config.now in
     let was = c.loop-shard.invariant in
     let state = g.K.Keeper.state in
     let shown = g.L.Link.shown in
+    let before = (state c.args.keepers.now).told in
+    let now = (state c.loop-shard.keepers).told in
     let done = c.in_ok-catch_up_at.ensures in
     record {
       goes =
-          cache_goes_on g.C.Cache.node g.C.Cache.refills g.K.Keeper.TELLS s (state c.args.keepers.now).told (pens_of c.args.masters.now)
-          c.args.cache.now c.loop-shard.cache c.catch_up_at.new.cache was.goes
-          (cache_before g.C.Cache.node g.C.Cache.refills g.K.Keeper.TELLS s (state c.args.keepers.now).told (state c.loop-shard.keepers).told
-          (pens_of c.args.masters.now) c.loop-shard.cache c.catch_up_at.new.cache was.reads.tables
-          (subst (λ (xs : List Store). CacheGoesOn g.C.Cache.node g.C.Cache.refills
-          (seen_logs g.K.Keeper.TELLS s (state c.loop-shard.keepers).told (pens_of xs))
-          c.loop-shard.cache c.catch_up_at.new.cache) was.same done.goes));
+          cache_goes_on g.C.Cache.node g.C.Cache.refills tells s before (pens_of c.args.stores.now) c.args.cache.now c.loop-shard.cache
+          c.catch_up_at.new.cache was.goes
+          (cache_then tells s before now c.args.stores.now c.loop-shard.stores was.same was.reads.tables g.C.Cache.node g.C.Cache.refills
+          c.loop-shard.cache c.catch_up_at.new.cache done.goes);
       ends =
-          ends_on g.K.Keeper.TELLS s (state c.args.keepers.now).told (state c.loop-shard.keepers).told c.loop-shard.shard
-          (g.C.Cache.node c.loop-shard.cache.node) (g.C.Cache.node c.catch_up_at.new.cache.node) was.reads.tables was.ends done.reaches;
+          ends_next tells before now c.args.region c.loop-shard.shard c.region_store-at.result (g.C.Cache.node c.loop-shard.cache.node)
+          (g.C.Cache.node c.catch_up_at.new.cache.node) was.reads.tables c.region_store-at.ensures was.ends done.reaches;
       same = done.same ∙ was.same;
       reads =
-          reads_on g.K.Keeper.TELLS (outside (state c.args.keepers.now) (shown c.args.link.now))
-          (outside (state c.loop-shard.keepers) (shown c.loop-shard.link))
+          reads_on tells (outside (state c.args.keepers.now) (shown c.args.link.now)) (outside (state c.loop-shard.keepers) (shown c.loop-shard.link))
           (outside (state c.catch_up_at.new.keepers) (shown c.catch_up_at.new.link)) was.reads done.reads;
     }
 
 pub returns-in_err-catch_up_at-clause-goes : goal.returns-in_err-catch_up_at-clause-goes
 returns-in_err-catch_up_at-clause-goes g c =
+    let tells = g.K.Keeper.TELLS in
+    let s = c.args.config.now in
     let was = c.loop-shard.invariant in
     let state = g.K.Keeper.state in
-    cache_goes_on g.C.Cache.node g.C.Cache.refills g.K.Keeper.TELLS c.args.config.now (state c.args.keepers.now).told (pens_of c.args.masters.now)
-    c.args.cache.now c.loop-shard.cache c.catch_up_at.new.cache was.goes
-    (cache_before g.C.Cache.node g.C.Cache.refills g.K.Keeper.TELLS c.args.config.now (state c.args.keepers.now).told (state c.loop-shard.keepers).told
-    (pens_of c.args.masters.now) c.loop-shard.cache c.catch_up_at.new.cache was.reads.tables
-    (subst (λ (xs : List Store). CacheGoesOn g.C.Cache.node g.C.Cache.refills (seen_logs g.K.Keeper.TELLS c.args.config.now (state c.loop-shard.keepers).told
-    (pens_of xs)) c.loop-shard.cache c.catch_up_at.new.cache) was.same c.in_err-catch_up_at.ensures.goes))
+    let before = (state c.args.keepers.now).told in
+    cache_goes_on g.C.Cache.node g.C.Cache.refills tells s before (pens_of c.args.stores.now) c.args.cache.now c.loop-shard.cache
+    c.catch_up_at.new.cache was.goes
+    (cache_then tells s before (state c.loop-shard.keepers).told c.args.stores.now c.loop-shard.stores was.same was.reads.tables g.C.Cache.node
+    g.C.Cache.refills c.loop-shard.cache c.catch_up_at.new.cache c.in_err-catch_up_at.ensures.goes)
 
 pub returns-in_err-catch_up_at-clause-stop : goal.returns-in_err-catch_up_at-clause-stop
 returns-in_err-catch_up_at-clause-stop g c =
@@ -108,11 +108,16 @@ returns-in_err-catch_up_at-clause-reads g c =
 pub returns-clause-caught : goal.returns-clause-caught
 returns-clause-caught g c told =
     let s = c.args.config.now in
-    let state = g.K.Keeper.state in
+    let before = (g.K.Keeper.state c.args.keepers.now).told in
     let shards : c.config.inside.shards ≡ s.shards = ap (λ (x : Settings). x.shards) c.config.view_is in
     let all : c.loop-shard.shard ≡ s.shards = omega (arith, shards, c.loop-shard-test.false) in
     let was = c.loop-shard.invariant in
-    let ends : IsAtFirstEnds s (state c.args.keepers.now).told s.shards (g.C.Cache.node c.loop-shard.cache.node) =
-    subst (λ n. IsAtFirstEnds s (state c.args.keepers.now).told n (g.C.Cache.node c.loop-shard.cache.node)) all (was.ends told) in
-    catches_up g.K.Keeper.TELLS s (state c.args.keepers.now).told c.args.masters.now c.args.cache.now.name c.requires.stores
-    (g.C.Cache.node c.args.cache.now.node) (g.C.Cache.node c.loop-shard.cache.node) told c.keys_differ.ensures was.goes.goes ends
+    let name = c.args.cache.now.name in
+    let now = g.C.Cache.node c.loop-shard.cache.node in
+    let there : region_of name < length s.regions = omega (arith, c.requires.here, c.requires.region) in
+    let ends : IsAtFirstStores before (region_of name) s.shards now =
+    subst (λ r. IsAtFirstStores before r s.shards now) (sym c.requires.region)
+    (subst (λ n. IsAtFirstStores before c.args.region n now) all (was.ends told)) in
+    subst (λ r. CatchesUp s before r (g.C.Cache.node c.args.cache.now.node) now) c.requires.region
+    (catches_up g.K.Keeper.TELLS s before c.args.stores.now name c.requires.stores there (g.C.Cache.node c.args.cache.now.node) now told
+    c.keys_differ.ensures was.goes.goes ends)

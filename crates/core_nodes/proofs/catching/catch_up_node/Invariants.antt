@@ -2,18 +2,18 @@ use Rattle.std.proofs.Common.{◌≡◌}
 use Rattle.graph_model.specs.Told.{WhereTold}
 use Rattle.core_model.specs.Pens.{pens_of}
 use Rattle.core_nodes.specs.Repairs.{outside}
-use Rattle.core_nodes.specs.Settling.{CacheGoesOn, IsAtFirstEnds, OnlyReads, seen_logs}
+use Rattle.core_nodes.specs.Settling.{CacheGoesOn, IsAtFirstStores, OnlyReads, seen_logs}
 use Rattle.core_nodes.proofs.catching.catch_up_node.Given as goal
 
--- the node went on, and is at the ends of the logs of the first shards
+-- the node went on, and is at the ends of its region's stores of the first shards
 abbrev pub invariant-loop-shard : goal.invariant-loop-shard
 invariant-loop-shard g l =
     let state = g.K.Keeper.state in
     let shown = g.L.Link.shown in
     let tables = (state l.fn.keepers).told in
     record {
-      goes : CacheGoesOn g.C.Cache.node g.C.Cache.refills (seen_logs g.K.Keeper.TELLS l.config tables (pens_of l.fn.masters)) l.fn.cache l.cache;
-      ends : WhereTold g.K.Keeper.TELLS (IsAtFirstEnds l.config tables l.shard (g.C.Cache.node l.cache.node));
-      same : l.masters ≡ l.fn.masters;
+      goes : CacheGoesOn g.C.Cache.node g.C.Cache.refills (seen_logs g.K.Keeper.TELLS l.config tables (pens_of l.fn.stores)) l.fn.cache l.cache;
+      ends : WhereTold g.K.Keeper.TELLS (IsAtFirstStores tables l.region l.shard (g.C.Cache.node l.cache.node));
+      same : l.stores ≡ l.fn.stores;
       reads : OnlyReads g.K.Keeper.TELLS (outside (state l.fn.keepers) (shown l.fn.link)) (outside (state l.keepers) (shown l.link));
     }

@@ -1,4 +1,4 @@
-use Rattle.std.proofs.Common.{◌≡◌, ◌-◌, ◌≤◌, drop, take}
+use Rattle.std.proofs.Common.{◌≡◌, ◌-◌, drop, take}
 use Rattle.graph_model.specs.Told.{WhereTold}
 use Rattle.tao_keeper.specs.KeeperState.{IsLater, KeepsTables}
 use Rattle.core_nodes.proofs.catching.entries_after.Given as goal

@@ -1,85 +1,100 @@
-use Rattle.std.proofs.Common.{◌≡◌, true, None, IfOk, IfSome, ap, sym, subst, ◌∙◌}
+use Rattle.std.proofs.Common.{◌≡◌, None, IfOk, ap, sym, subst}
 use Rattle.std.specs.Prelude.{slice_index_or, slice_set}
-use Rattle.graph_model.specs.Told.{WhereTold}
 use Rattle.leader_tier.specs.TakenWrites.{TakesWritten, taken_entry}
 use Rattle.shard_log.specs.View.{as_note}
-use Rattle.shard_tables.specs.Jobs.{MergesAs}
+use Rattle.shard_tables.specs.Jobs.{asked_merge}
 use Rattle.shard_tables.specs.StoreView.{Store}
-use Rattle.shard_tables.specs.Written.{LiesOn, TableGains, added_entry}
+use Rattle.shard_tables.specs.WriteDone.{MergeDone}
+use Rattle.shard_tables.specs.Written.{added_entry}
 use Rattle.tao_base.specs.EdgeTypes.{InversesMatch}
+use Rattle.tao_base.specs.declared.id.StoreName.{StoreName}
 use Rattle.tao_schema.specs.Schema.{types_of}
+use Rattle.topology.specs.Config.{Settings}
 use Rattle.write_model.specs.MergeLaws.{MayBeMerged}
 use Rattle.core_model.proofs.NamedNodes.{changes_at}
 use Rattle.core_model.specs.Jobs.{far_shard, job_on}
+use Rattle.core_model.specs.Stores.{master_store}
 use Rattle.core_nodes.specs.Stages.{LeaderDoes}
-use Rattle.core_nodes.proofs.CommitLemmas.{Written, err_rests, of_master, pen_set, place_is, rise_here}
+use Rattle.core_nodes.proofs.CommitLemmas.{Written, of_master}
 use Rattle.core_nodes.proofs.JobLemmas.{may_be_merged}
-use Rattle.core_nodes.proofs.MergeLemmas.{merged_after}
-use Rattle.core_nodes.proofs.StoreLemmas.{master_at, seen_at}
+use Rattle.core_nodes.proofs.MasterStores.{IsMasterRead, master_read, pen_is, pens_rise, rest_again, stores_left}
+use Rattle.core_nodes.proofs.MergeLemmas.{merge_left}
+use Rattle.core_nodes.proofs.StoreLemmas.{found_log, goes_with, others_stay}
 use Rattle.core_nodes.proofs.jobs.merge_at.Goals as goal
+
+pub merge_of-requires-clause-log : goal.merge_of-requires-clause-log
+merge_of-requires-clause-log g c =
+    let s : Settings = c.args.config.now in
+    let shard = far_shard c.args.job.now in
+    let store : Store = slice_index_or c.args.stores.now c.store_place-place.result c.index-stores-place.result in
+    let told = (g.K.Keeper.state c.args.keepers.now).told in
+    let is : IsMasterRead g.K.Keeper.TELLS s told c.args.stores.now shard c.store_place-place.result store =
+    master_read g.K.Keeper.TELLS s told c.args.stores.now c.requires.stores c.masters_are_regions.ensures shard c.requires.shard _ _ _ _
+    c.index-stores-place.result c.store_place-place.ensures c.region_store-at.ensures c.master_of.ensures c.far_shard-shard.ensures in
+    found_log c.args.preferred c.args.stores.now (master_store s shard) store shard c.args.leaders.now c.args.name c.named_place-spot.result
+    c.index-leaders-spot.result c.named_place-spot.ensures is.found (sym (ap (λ (n : StoreName). n.shard) is.named)) c.requires.logs
+
+pub merge_of-requires-clause-master : goal.merge_of-requires-clause-master
+merge_of-requires-clause-master g c =
+    let is = master_read g.K.Keeper.TELLS c.args.config.now (g.K.Keeper.state c.args.keepers.now).told c.args.stores.now c.requires.stores
+    c.masters_are_regions.ensures (far_shard c.args.job.now) c.requires.shard _ _ _ _ c.index-stores-place.result c.store_place-place.ensures
+    c.region_store-at.ensures c.master_of.ensures c.far_shard-shard.ensures in
+    is.role
 
 pub merge_of-requires-clause-keeper : goal.merge_of-requires-clause-keeper
 merge_of-requires-clause-keeper g c =
-    let here = c.from-shard.ensures ∙ c.far_shard.ensures in
-    seen_at g.K.Keeper.TELLS c.args.config.now (g.K.Keeper.state c.args.keepers.now).told c.args.masters.now c.from-shard.result
-    (far_shard c.args.job.now) c.index-masters-shard.result c.requires.stores here c.requires.shard
+    let is = master_read g.K.Keeper.TELLS c.args.config.now (g.K.Keeper.state c.args.keepers.now).told c.args.stores.now c.requires.stores
+    c.masters_are_regions.ensures (far_shard c.args.job.now) c.requires.shard _ _ _ _ c.index-stores-place.result c.store_place-place.ensures
+    c.region_store-at.ensures c.master_of.ensures c.far_shard-shard.ensures in
+    is.keeper
 
 pub merge_of-requires-clause-may : goal.merge_of-requires-clause-may
 merge_of-requires-clause-may g c = λ told.
-    let s = c.args.config.now in
+    let s : Settings = c.args.config.now in
     let tables = (g.K.Keeper.state c.args.keepers.now).told in
     let j = job_on c.args.from c.args.job.now in
-    let here = c.from-shard.ensures ∙ c.far_shard.ensures in
-    let is = master_at s c.args.masters.now c.from-shard.result (far_shard c.args.job.now) c.index-masters-shard.result c.requires.stores.masters here
-    c.requires.shard in
+    let is = master_read g.K.Keeper.TELLS s tables c.args.stores.now c.requires.stores c.masters_are_regions.ensures (far_shard c.args.job.now)
+    c.requires.shard _ _ _ _ c.index-stores-place.result c.store_place-place.ensures c.region_store-at.ensures c.master_of.ensures c.far_shard-shard.ensures in
     let match = subst (λ k. InversesMatch (types_of k)) (ap (λ s. s.schema) c.config.view_is) c.inverses_match.ensures in
     let may = may_be_merged s tables j c.requires.shard match (c.requires.stores.kept told) c.requires.given.some (c.requires.owed told) in
-    subst (λ at. MayBeMerged at.shard (tables at).log j.shard j.job.position j.job.edges) (sym is.name_is) may
+    subst (λ at. MayBeMerged at.shard (tables at).log j.shard j.job.position j.job.edges) (sym is.named) may
 
 pub returns : goal.returns
 returns g c =
-    let s = c.args.config.now in
+    let tells = g.K.Keeper.TELLS in
+    let s : Settings = c.args.config.now in
     let shard = far_shard c.args.job.now in
     let j = job_on c.args.from c.args.job.now in
-    let before = (g.K.Keeper.state c.args.keepers.now).told in
-    let after = (g.K.Keeper.state c.merge_of.new.keepers).told in
+    let xs = c.args.stores.now in
+    let place = c.store_place-place.result in
+    let store : Store = slice_index_or xs place c.index-stores-place.result in
+    let made = c.merge_of.ensures in
+    let after : Store = c.merge_of.new.store in
     let r = c.merge_of.result in
-    let of_s = ap (λ s. s.schema) c.config.view_is in
-    let here = c.from-shard.ensures ∙ c.far_shard.ensures in
-    let xs = c.args.masters.now in
-    let store : Store = slice_index_or xs c.from-shard.result c.index-masters-shard.result in
-    let made = c.merge_of.new.store in
-    let is = master_at s xs c.from-shard.result shard c.index-masters-shard.result c.requires.stores.masters here c.requires.shard in
-    let at = place_is s xs shard c.from-shard.result c.index-masters-shard.result c.requires.stores.masters here c.requires.shard in
-    let pen = pen_set xs shard c.from-shard.result store made here at in
-    let from = (slice_index_or c.args.leaders.now c.named_place-place.result c.index-leaders-place.result).node in
-    let took = of_master s c.config.inside.schema of_s store shard is
-    (λ types most name. LeaderDoes (TakesWritten types name.shard (taken_entry true r) (as_note made.view)) from c.merge_of.new.leader)
-    c.merge_of.ensures.node in
-    let answer = of_master s c.config.inside.schema of_s store shard is
-    (λ types most name. WhereTold g.K.Keeper.TELLS (MergesAs most (before name).log j.shard j.job.position j.job.edges r)) c.merge_of.ensures.answer in
-    let gains = of_master s c.config.inside.schema of_s store shard is
-    (λ types most name. WhereTold g.K.Keeper.TELLS (TableGains before after name (added_entry r) None)) c.merge_of.ensures.tables in
-    let match = subst (λ k. InversesMatch (types_of k)) of_s c.inverses_match.ensures in
-    let left = merged_after g.K.Keeper.TELLS s before after xs c.from-shard.result j store made r c.requires.stores here c.requires.shard is
-    match c.requires.owed c.merge_of.ensures.new answer gains c.merge_of.ensures.log c.merge_of.ensures.keeper in
+    let old = g.K.Keeper.state c.args.keepers.now in
+    let new = g.K.Keeper.state c.merge_of.new.keepers in
+    let is : IsMasterRead tells s old.told xs shard place store =
+    master_read tells s old.told xs c.requires.stores c.masters_are_regions.ensures shard c.requires.shard _ _ _ _ c.index-stores-place.result
+    c.store_place-place.ensures c.region_store-at.ensures c.master_of.ensures c.far_shard-shard.ensures in
+    let goes = goes_with store after (added_entry r) made.store.log made.store.grows in
+    let pen = sym (pen_is tells s old.told new.told xs shard place store after c.requires.stores is goes) in
+    let from = (slice_index_or c.args.leaders.now c.named_place-spot.result c.index-leaders-spot.result).node in
+    let words = of_master s c.config.inside.schema (ap (λ s. s.schema) c.config.view_is) store shard is.named is.limit in
+    let node = words (λ types most name. LeaderDoes (TakesWritten types name.shard (taken_entry c.args.preferred r) (as_note after.view))
+    from c.merge_of.new.leader) made.node in
+    let done = words (λ types most name. MergeDone tells name (asked_merge most (old.told name).log c.args.from c.args.job.now) old new r) made.done in
+    let left = merge_left tells s old new j r c.requires.shard (words (λ types most name. InversesMatch types) c.inverses_match.ensures)
+    c.requires.stores.kept c.requires.owed done in
     record {
-      node = changes_at (Written s shard (slice_set xs c.from-shard.result made) r) c.args.leaders.now c.args.name c.named_place-place.result
-          c.index-leaders-place.result c.merge_of.new.leader c.named_place-place.ensures
-          (subst (λ v. LeaderDoes (TakesWritten (types_of s.schema) shard (taken_entry true r) (as_note v)) from c.merge_of.new.leader) (sym pen) took);
-      rest = err_rests s xs shard c.from-shard.result c.index-masters-shard.result made r c.requires.stores.masters here c.requires.shard
-          c.merge_of.ensures.log;
-      stores = left.stores;
-      rise = rise_here xs shard c.from-shard.result store made here at c.merge_of.ensures.grows;
-      note = subst (λ v. IfOk r (λ wrote. wrote.note ≡ as_note v)) (sym pen) c.merge_of.ensures.note;
-      answer = answer;
-      refusals = c.merge_of.ensures.refusals;
-      tables = gains;
-      step = left.step;
-      merged = left.merged;
-      logs = c.merge_of.ensures.logs;
-      stands = c.merge_of.ensures.stands;
-      lies = of_master s c.config.inside.schema of_s store shard is
-          (λ types most name. IfOk r (λ wrote. IfSome wrote.entry (LiesOn wrote.note name.shard))) c.merge_of.ensures.lies;
-      calls = c.merge_of.ensures.calls;
+      node = changes_at (Written s shard c.args.preferred (slice_set xs place after) r) c.args.leaders.now c.args.name c.named_place-spot.result
+          c.index-leaders-spot.result c.merge_of.new.leader c.named_place-spot.ensures
+          (subst (λ v. LeaderDoes (TakesWritten (types_of s.schema) shard (taken_entry c.args.preferred r) (as_note v)) from c.merge_of.new.leader) pen node);
+      rest = rest_again xs place store after r is.stands made.store.log;
+      stores = stores_left tells s old.told new.told xs shard place store after c.requires.stores is goes made.store.keeper
+          (λ is_told. others_stay old.told new.told store.name (added_entry r) None (made.done.tables is_told)) (λ is_told. (left is_told).kept);
+      rise = pens_rise tells s old.told new.told xs shard place store after c.requires.stores is goes;
+      note = subst (λ v. IfOk r (λ wrote. wrote.note ≡ as_note v)) pen made.store.note;
+      done = done;
+      step = λ is_told. (left is_told).step;
+      merged = λ is_told. (left is_told).merged;
     }

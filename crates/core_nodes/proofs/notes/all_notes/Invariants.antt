@@ -5,6 +5,6 @@ use Rattle.core_nodes.proofs.notes.all_notes.Given as goal
 -- the notes so far are those of the first shards
 abbrev pub invariant-loop-shard : goal.invariant-loop-shard
 invariant-loop-shard l = record {
-  notes : AreFirstNotes (pens_of l.fn.masters) l.shard l.notes.items;
-  same : l.masters ≡ l.fn.masters;
+  notes : AreFirstNotes (pens_of l.fn.stores) l.shard l.notes.items;
+  same : l.stores ≡ l.fn.stores;
 }

@@ -1,18 +1,17 @@
-use Rattle.std.proofs.Common.{◌∙◌, arith}
-use Rattle.core_nodes.proofs.StoreLemmas.{pushed, seen_more, seen_stay, stores_more}
+use Rattle.core_nodes.proofs.OrderedStores.{ordered, ordered_follow, ordered_seen}
 use Rattle.core_nodes.proofs.opening.make_stores.Goals as goal
 
-pub loop-shard-preserved : goal.loop-shard-preserved
-loop-shard-preserved g c =
-    let longer = pushed c.push.result c.is_err.result _ _ _ c.is_err.ensures.value c.if-is_err.false c.push.ensures.items in
-    record {
-      stores = stores_more c.args.config.now c.loop-shard.shard c.loop-shard.stores.items c.push.new.self.items c.in_ok-store.store
-          c.loop-shard.invariant.stores c.in_ok-store.ensures.store longer;
-      seen =
-          seen_more g.K.Keeper.TELLS (g.K.Keeper.state c.make_store.new.keepers).told c.loop-shard.stores.items c.push.new.self.items c.in_ok-store.store
-          (seen_stay g.K.Keeper.TELLS (g.K.Keeper.state c.loop-shard.keepers).told (g.K.Keeper.state c.make_store.new.keepers).told
-          c.loop-shard.stores.items c.loop-shard.invariant.seen c.in_ok-store.ensures.stays)
-          c.in_ok-store.ensures.seen longer;
-      stays = λ told at. c.in_ok-store.ensures.stays told at ∙ c.loop-shard.invariant.stays told at;
-      later = record { calls = omega arith; faults = omega arith };
-    }
+pub returns-in-Ok-clause-stores : goal.returns-in-Ok-clause-stores
+returns-in-Ok-clause-stores g c =
+    ordered g.K.Keeper.TELLS c.args.config.now (g.K.Keeper.state c.make_shards.new.keepers).told c.masters_are_regions.ensures c.in-Ok.stores.items
+    c.in_order.result.items c.in-Ok.ensures.made c.in_order.ensures.moved c.in_order.ensures.sorted
+
+pub returns-in-Ok-clause-seen : goal.returns-in-Ok-clause-seen
+returns-in-Ok-clause-seen g c =
+    ordered_seen g.K.Keeper.TELLS c.args.config.now (g.K.Keeper.state c.make_shards.new.keepers).told c.masters_are_regions.ensures c.in-Ok.stores.items
+    c.in_order.result.items c.in-Ok.ensures.made c.in_order.ensures.moved c.in_order.ensures.sorted
+
+pub returns-in-Ok-clause-follow : goal.returns-in-Ok-clause-follow
+returns-in-Ok-clause-follow g c =
+    ordered_follow g.K.Keeper.TELLS c.args.config.now (g.K.Keeper.state c.make_shards.new.keepers).told c.masters_are_regions.ensures c.in-Ok.stores.items
+    c.in_order.result.items c.in-Ok.ensures.made c.in_order.ensures.moved c.in_order.ensures.sorted

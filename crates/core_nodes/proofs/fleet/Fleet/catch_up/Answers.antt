@@ -3,6 +3,7 @@ use Rattle.cache_items.specs.Node.{Node}
 use Rattle.follower_cache.specs.Seen.{FollowerState}
 use Rattle.shard_tables.specs.StoreView.{Store}
 use Rattle.tao_keeper.proofs.Growing.{stays_grow}
+use Rattle.topology.specs.States.{is_up}
 use Rattle.core_model.specs.Fleet.{Fleet}
 use Rattle.core_model.specs.Pens.{pens_of}
 use Rattle.core_model.specs.Stores.{AreStoresOf}
@@ -16,16 +17,20 @@ catch_up_caches-requires g c =
     let s = c.args.config.now in
     let leaders = c.deref_mut.ensures.value ∙ ap (λ (f : Fleet). f.leaders) c.self.view_is in
     let followers = c.deref_mut-2.ensures.value ∙ ap (λ (f : Fleet). f.followers) c.self.view_is in
-    let masters = c.deref_mut-3.ensures.value ∙ ap (λ (f : Fleet). f.masters) c.self.view_is in
+    let stores = c.deref_mut-3.ensures.value ∙ ap (λ (f : Fleet). f.stores) c.self.view_is in
+    let tells = g.K.Keeper.TELLS in
+    let tables = (g.K.Keeper.state c.args.keepers.now).told in
+    let old = c.args.self.now in
     record {
-      stores = subst (AreStoresOf g.K.Keeper.TELLS s (g.K.Keeper.state c.args.keepers.now).told) (sym masters) c.requires.consistent.stores;
+      stores = subst (AreStoresOf tells s tables) (sym stores) c.requires.consistent.stores;
       leaders =
-          subst (λ (ms : List Store). AreCaches leader_node s (pens_of ms) c.deref_mut.result.now) (sym masters)
-          (subst (AreCaches leader_node s (pens_of c.args.self.now.masters)) (sym leaders) (leaders_are s c.args.self.now c.requires.consistent.fleet));
+          subst (λ (ms : List Store). AreCaches leader_node (seen_logs tells s tables (pens_of ms)) c.deref_mut.result.now) (sym stores)
+          (subst (AreCaches leader_node (seen_logs tells s tables (pens_of old.stores))) (sym leaders)
+          (leaders_are tells s tables old c.requires.consistent));
       followers =
-          subst (λ (ms : List Store). AreCaches follower_node s (pens_of ms) c.deref_mut-2.result.now) (sym masters)
-          (subst (AreCaches follower_node s (pens_of c.args.self.now.masters)) (sym followers)
-          (followers_are s c.args.self.now c.requires.consistent.fleet));
+          subst (λ (ms : List Store). AreCaches follower_node (seen_logs tells s tables (pens_of ms)) c.deref_mut-2.result.now) (sym stores)
+          (subst (AreCaches follower_node (seen_logs tells s tables (pens_of old.stores))) (sym followers)
+          (followers_are tells s tables old c.requires.consistent));
       lengths = c.requires.lengths;
     }
 
@@ -41,31 +46,33 @@ returns g c =
     let given = c.catch_up_caches.ensures in
     let leaders = c.deref_mut.ensures.value ∙ ap (λ (f : Fleet). f.leaders) c.self.view_is in
     let followers = c.deref_mut-2.ensures.value ∙ ap (λ (f : Fleet). f.followers) c.self.view_is in
-    let masters = c.deref_mut-3.ensures.value ∙ ap (λ (f : Fleet). f.masters) c.self.view_is in
-    let lends : LendsAll c.self.inside old ls fs c.deref_mut-3.result.now c.catch_up_caches.new.masters =
-    record { view = c.self.view_is; long_leaders = omega arith; long_followers = omega arith; long = omega arith; own = masters; is = given.same } in
-    let is = all_after c.self.inside old ls fs c.deref_mut-3.result.now c.catch_up_caches.new.masters lends in
+    let stores = c.deref_mut-3.ensures.value ∙ ap (λ (f : Fleet). f.stores) c.self.view_is in
+    let lends : LendsAll c.self.inside old ls fs c.deref_mut-3.result.now c.catch_up_caches.new.stores =
+    record { view = c.self.view_is; long_leaders = omega arith; long_followers = omega arith; long = omega arith; own = stores; is = given.same } in
+    let is = all_after c.self.inside old ls fs c.deref_mut-3.result.now c.catch_up_caches.new.stores lends in
+    let states = c.args.topology.now in
+    let up = is_up states in
     let on_leaders =
-    subst (λ (xs : List (Named Node)). CachesGoOn leader_node leader_refills (seen_logs tells s before (pens_of old.masters)) xs ls) leaders
-    (subst (λ (ms : List Store). CachesGoOn leader_node leader_refills (seen_logs tells s before (pens_of ms)) c.deref_mut.result.now ls) masters
+    subst (λ (xs : List (Named Node)). CachesGoOn leader_node leader_refills (seen_logs tells s before (pens_of old.stores)) up xs ls) leaders
+    (subst (λ (ms : List Store). CachesGoOn leader_node leader_refills (seen_logs tells s before (pens_of ms)) up c.deref_mut.result.now ls) stores
     given.leaders) in
     let on_followers =
-    subst (λ (xs : List (Named FollowerState)). CachesGoOn follower_node follower_refills (seen_logs tells s before (pens_of old.masters)) xs fs) followers
-    (subst (λ (ms : List Store). CachesGoOn follower_node follower_refills (seen_logs tells s before (pens_of ms)) c.deref_mut-2.result.now fs) masters
+    subst (λ (xs : List (Named FollowerState)). CachesGoOn follower_node follower_refills (seen_logs tells s before (pens_of old.stores)) up xs fs) followers
+    (subst (λ (ms : List Store). CachesGoOn follower_node follower_refills (seen_logs tells s before (pens_of ms)) up c.deref_mut-2.result.now fs) stores
     given.followers) in
-    let step = subst (SettleStep tells s tables old) (sym is)
-    (settle_step tells s before tables old ls fs c.requires.consistent given.reads.tables on_leaders on_followers) in
+    let step = subst (SettleStep tells s states tables old) (sym is)
+    (settle_step tells s states before tables old ls fs c.requires.consistent given.reads.tables on_leaders on_followers) in
     record {
       caught = λ told.
           after_both_ok c.catch_up_caches.result
-          (λ first second. subst (AllCatchUp s tables old) (sym is)
-          (settle_catches tells s before tables old ls fs c.requires.consistent given.reads.tables on_leaders on_followers told
-          (subst (λ (xs : List (Named Node)). HaveCaughtUp leader_node s before xs ls) leaders first)
-          (subst (λ (xs : List (Named FollowerState)). HaveCaughtUp follower_node s before xs fs) followers second)))
+          (λ first second. subst (AllCatchUp s states tables old) (sym is)
+          (settle_catches tells s states before tables old ls fs c.requires.consistent given.reads.tables on_leaders on_followers told
+          (subst (λ (xs : List (Named Node)). HaveCaughtUp leader_node s before up xs ls) leaders first)
+          (subst (λ (xs : List (Named FollowerState)). HaveCaughtUp follower_node s before up xs fs) followers second)))
           (given.caught told) (given.also told);
       on = step.on;
       stop = given.stop;
-      masters = step.masters;
+      stores = step.stores;
       consistent = step.consistent;
       goes = step.goes;
       reads = given.reads;

@@ -1,0 +1,113 @@
+-- Nodes that catch up, step after step.
+use Rattle.std.proofs.Common.{◌≡◌, ℕ, ◌+◌, Bool, List, length, refl, ap, sym, ◌∙◌, subst}
+use Rattle.cache_items.specs.Node.{Node}
+use Rattle.follower_cache.specs.declared.queue.Refill.{Refill}
+use Rattle.graph_model.specs.Told.{WhereTold}
+use Rattle.node_name.specs.declared.NodeName.{NodeName}
+use Rattle.shard_tables.specs.StoreView.{Store}
+use Rattle.tao_base.specs.declared.id.StoreName.{StoreName}
+use Rattle.tao_keeper.specs.Table.{Stays, Table, Tables}
+use Rattle.topology.specs.Config.{Settings}
+use Rattle.core_model.specs.Pens.{Pens, pens_of}
+use Rattle.core_model.specs.Stores.{AreStoresOf, region_store}
+use Rattle.core_model.specs.declared.named.Named.{Named}
+use Rattle.core_nodes.specs.Beginning.{AreLengths}
+use Rattle.core_nodes.specs.Settling.{AreCaches, CacheGoesOn, CachesGoOn, CatchesUp, GoesInTurn, HaveCaughtUp, IsAtFirstStores, MayCatchUp}
+use Rattle.core_nodes.specs.Settling.{NodeGoesOn, ReachesStore, SeenLogs, seen_logs}
+use Rattle.core_nodes.proofs.AskLemmas.{stores_here}
+use Rattle.core_nodes.proofs.CatchLemmas.{goes_before, goes_on, goes_same, may_before, so_before}
+
+-- ---- step after step
+
+-- a leader or a follower goes on, by tables that were the same before
+pub cache_before : {N : Type 0} (node : N → Node) (refills : N → List Refill) (tells : Bool) (s : Settings) (before tables : Tables) (pens : Pens)
+    (old new : Named N) → WhereTold tells (Stays before tables) → CacheGoesOn node refills (seen_logs tells s tables pens) old new
+    → CacheGoesOn node refills (seen_logs tells s before pens) old new
+cache_before node refills tells s before tables pens old new stays goes = record {
+  name_is = goes.name_is;
+  goes = goes_before tells s tables pens old.name before stays (node old.node) (node new.node) goes.goes;
+  rest = goes.rest;
+}
+
+-- and goes on
+pub cache_goes_on : {N : Type 0} (node : N → Node) (refills : N → List Refill) (tells : Bool) (s : Settings) (tables : Tables) (pens : Pens)
+    (start now new : Named N) → CacheGoesOn node refills (seen_logs tells s tables pens) start now
+    → CacheGoesOn node refills (seen_logs tells s tables pens) now new
+    → CacheGoesOn node refills (seen_logs tells s tables pens) start new
+cache_goes_on node refills tells s tables pens start now new first second = record {
+  name_is = second.name_is ∙ first.name_is;
+  goes = goes_on tells s tables pens start.name (node start.node) (node now.node) (node new.node) first.goes
+      (subst (λ (n : NodeName). NodeGoesOn (seen_logs tells s tables pens) n (node now.node) (node new.node)) first.name_is second.goes);
+  rest = second.rest ∙ first.rest;
+}
+
+-- or stays as it is
+pub cache_same : {N : Type 0} (node : N → Node) (refills : N → List Refill) (tells : Bool) (s : Settings) (tables : Tables) (pens : Pens) (cache : Named N)
+    → MayCatchUp (seen_logs tells s tables pens) cache.name (node cache.node) → CacheGoesOn node refills (seen_logs tells s tables pens) cache cache
+cache_same node refills tells s tables pens cache may =
+    record { name_is = refl; goes = goes_same tells s tables pens cache.name (node cache.node) may; rest = refl }
+
+-- with one more shard it is at the end of one more store
+pub ends_next : (tells : Bool) (before now : Tables) (region shard : ℕ) (at : StoreName) (from to : Node) → WhereTold tells (Stays before now)
+    → at ≡ region_store region shard → WhereTold tells (IsAtFirstStores before region shard from) → WhereTold tells (ReachesStore now at from to)
+    → WhereTold tells (IsAtFirstStores before region (shard + 1) to)
+ends_next tells before now region shard at from to stays named ends reaches told =
+    (subst (λ n. ReachesStore before n from to) named (so_before (λ t. ReachesStore t at from to) before now (stays told) (reaches told))).next (ends told)
+
+-- the lengths stay with the tables
+pub lengths_stay : (tells : Bool) (s : Settings) (before now : Tables) (lengths : List ℕ) → WhereTold tells (Stays before now)
+    → AreLengths tells s before lengths → AreLengths tells s now lengths
+lengths_stay tells s before now lengths stays are = record {
+  long = are.long;
+  each = λ at here told. are.each at here told ∙ ap (λ (t : Table). length t.log) (sym (stays told at));
+}
+
+-- ---- at a later moment, at which stores and tables are as they were
+
+module _ (tells : Bool) (s : Settings) (before now : Tables) (xs ys : List Store) (same : ys ≡ xs) (stays : WhereTold tells (Stays before now)) where
+  abbrev Start : SeenLogs
+  Start = seen_logs tells s before (pens_of xs)
+
+  abbrev Now : SeenLogs
+  Now = seen_logs tells s now (pens_of ys)
+
+  back : WhereTold tells (Stays now before)
+  back told at = sym (stays told at)
+
+  pub stores_now : AreStoresOf tells s before xs → AreStoresOf tells s now ys
+  stores_now are = subst (AreStoresOf tells s now) (sym same) (stores_here tells s before now xs are stays)
+
+  pub lengths_now : (lengths : List ℕ) → AreLengths tells s before lengths → AreLengths tells s now lengths
+  lengths_now lengths are = lengths_stay tells s before now lengths stays are
+
+  pub may_now : (name : NodeName) (node : Node) → MayCatchUp Start name node → MayCatchUp Now name node
+  may_now name node may =
+      subst (λ (zs : List Store). MayCatchUp (seen_logs tells s now (pens_of zs)) name node) (sym same)
+      (may_before tells s before (pens_of xs) name now back node may)
+
+  pub catches_then : (region : ℕ) (from to : Node) → WhereTold tells (CatchesUp s now region from to) → WhereTold tells (CatchesUp s before region from to)
+  catches_then region from to catches told = so_before (λ t. CatchesUp s t region from to) before now (stays told) (catches told)
+
+  module _ {N : Type 0} (node : N → Node) (refills : N → List Refill) where
+    pub cache_then : (from to : Named N) → CacheGoesOn node refills Now from to → CacheGoesOn node refills Start from to
+    cache_then from to goes =
+        cache_before node refills tells s before now (pens_of xs) from to stays
+        (subst (λ (zs : List Store). CacheGoesOn node refills (seen_logs tells s now (pens_of zs)) from to) same goes)
+
+    pub turn_then : (turn : Bool) (from to : Named N) → GoesInTurn node refills Now turn from to → GoesInTurn node refills Start turn from to
+    turn_then turn from to goes = record { goes = cache_then from to goes.goes; same = goes.same }
+
+    pub caches_now : (caches : List (Named N)) → AreCaches node Start caches → AreCaches node Now caches
+    caches_now caches are place cache at = may_now cache.name (node cache.node) (are place cache at)
+
+    pub on_then : (turn : NodeName → Bool) (from to : List (Named N)) → CachesGoOn node refills Now turn from to → CachesGoOn node refills Start turn from to
+    on_then turn from to on = record {
+      names = on.names;
+      each = λ place last at.
+          let was = on.each place last at in
+          (was.0, was.1, turn_then (turn was.0.name) was.0 last was.2);
+    }
+
+    pub caught_then : (turn : NodeName → Bool) (from to : List (Named N)) → WhereTold tells (HaveCaughtUp node s now turn from to)
+        → WhereTold tells (HaveCaughtUp node s before turn from to)
+    caught_then turn from to caught told = so_before (λ t. HaveCaughtUp node s t turn from to) before now (stays told) (caught told)

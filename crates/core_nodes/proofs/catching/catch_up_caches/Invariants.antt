@@ -1,0 +1,25 @@
+use Rattle.std.proofs.Common.{◌≡◌}
+use Rattle.graph_model.specs.Told.{WhereTold}
+use Rattle.core_model.specs.Pens.{pens_of}
+use Rattle.core_nodes.specs.Repairs.{outside}
+use Rattle.core_nodes.specs.Settling.{CachesGoOn, HaveCaughtUp, OnlyReads, follower_node, follower_refills, leader_node, leader_refills, seen_logs}
+use Rattle.core_nodes.proofs.CachesLemmas.{had_turn}
+use Rattle.core_nodes.proofs.catching.catch_up_caches.Given as goal
+
+-- the nodes of the regions so far have caught up, and no other has changed
+abbrev pub invariant-loop-region : goal.invariant-loop-region
+invariant-loop-region g l =
+    let tells = g.K.Keeper.TELLS in
+    let state = g.K.Keeper.state in
+    let shown = g.L.Link.shown in
+    let tables = (state l.fn.keepers).told in
+    let logs = seen_logs tells l.config tables (pens_of l.fn.stores) in
+    let turn = had_turn l.topology l.region in
+    record {
+      leaders : CachesGoOn leader_node leader_refills logs turn l.fn.leaders l.leaders;
+      followers : CachesGoOn follower_node follower_refills logs turn l.fn.followers l.followers;
+      caught : WhereTold tells (HaveCaughtUp leader_node l.config tables turn l.fn.leaders l.leaders);
+      also : WhereTold tells (HaveCaughtUp follower_node l.config tables turn l.fn.followers l.followers);
+      same : l.stores ≡ l.fn.stores;
+      reads : OnlyReads tells (outside (state l.fn.keepers) (shown l.fn.link)) (outside (state l.keepers) (shown l.link));
+    }

@@ -1,47 +1,42 @@
 -- Open asks, and which stages open none.
-use Rattle.std.proofs.Common.{◌≡◌, ◌⊎◌, ℕ, zero, suc, ◌+◌, Bool, true, false, ◌||◌, not, List, [], ◌∷◌, Option, Some, None}
+use Rattle.std.proofs.Common.{◌≡◌, ◌⊎◌, ℕ, ◌+◌, Bool, true, false, ◌||◌, not, List, [], ◌∷◌, Option, Some, None}
 use Rattle.std.proofs.Common.{refl, ap, sym, subst, ◌∙◌, inl, inr, arith}
 use Rattle.std.specs.List.{list_any}
 use Rattle.std.specs.Prelude.{◌==◌, ⊤, Err, Ok, Result, filter, if◌then◌else◌, map, slice_get, slice_set}
-use Rattle.std.proofs.lemmas.Bool.{cases_Bool, cases_order}
+use Rattle.std.proofs.lemmas.Bool.{cases_Bool, or_right}
 use Rattle.std.proofs.lemmas.List.Folds.{list_any-append}
 use Rattle.std.proofs.lemmas.Map.Views.{any-filter_same}
 use Rattle.ask_table.specs.Asks.{Asks, with_floor}
 use Rattle.ask_table.specs.Open.{raised_ask}
 use Rattle.ask_table.specs.declared.ask.Ask.{Ask}
 use Rattle.cache_items.specs.Kept.{is_yes, item_of, took, with_item}
-use Rattle.cache_items.specs.Node.{Node, raised_all, with_ended_ask}
+use Rattle.cache_items.specs.Node.{Node, emptied, raised_all, with_ended_ask}
 use Rattle.cache_items.specs.declared.look.Kept.{Kept}
 use Rattle.cache_items.specs.declared.look.Look.TheVariants.{Hit, Miss}
+use Rattle.core_model.specs.Emptied.{Anew, FollowerBeginsAnew}
 use Rattle.core_model.specs.Evictions.{Evicts}
 use Rattle.core_model.specs.Fleet.{ChangesNode, Fleet, named}
-use Rattle.core_model.specs.Jobs.{ShardJob, job_on}
+use Rattle.core_model.specs.Jobs.{ShardJob}
 use Rattle.core_model.specs.Messages.{DeliversThere, TakesRefill}
-use Rattle.core_model.specs.Reads.{AfterLook, AsksAtOnce, EndsAsk, KeepsFill, LooksFirst, Wanted, given_of, taken_fill}
+use Rattle.core_model.specs.Pens.{Pens}
+use Rattle.core_model.specs.Reads.{AfterLook, EndsAsk, KeepsFill, LooksFirst, Wanted, taken_fill}
 use Rattle.core_model.specs.Writes.{AppliesTo}
 use Rattle.core_model.specs.declared.named.Named.{Named}
-use Rattle.core_model.proofs.Places.{get_set, one_some, set_get, some_and}
+use Rattle.core_model.proofs.Places.{get_set, one_some}
 use Rattle.core_plans.specs.HeldLaws.{AsksStayHeld}
 use Rattle.core_plans.specs.Held.{AsksAreHeld, OpensNone, Plans, is_open_ask}
 use Rattle.core_plans.specs.HeldWrites.{DoesWriteStage, call_of_plan, job_by, way_by}
 use Rattle.core_plans.specs.LedBy.{led_by}
-use Rattle.core_steps.specs.CriticalReads.{ReadsCritical, follower_read}
-use Rattle.core_steps.specs.Reads.{Ends, IsAnswered, IsFailedRead, ReadsAlong, asked_by, sent_read}
-use Rattle.core_steps.specs.Routes.{Scene}
-use Rattle.core_steps.specs.OtherEnds.{ChangesKeepers, EndsOver, JobWay, LeavesJob, MergesOver, WorksOffJob, WorksOffOf, job_way, write_other_end}
+use Rattle.core_steps.specs.OtherEnds.{ChangesKeepers, EndsOver, JobWay, LeavesJob, MergesOver, job_way}
 use Rattle.core_steps.specs.Posting.{ChangesNoNode, Posting}
-use Rattle.core_steps.specs.Writes.{AuthoredWrite, FollowerTakes, IsWorkedOff, NotCommitted, RefusesCommit, WriteRefused, WritesAlong, sent_write}
-use Rattle.core_steps.specs.declared.jobs.OtherEndDone.{OtherEndDone}
+use Rattle.core_steps.specs.Writes.{FollowerTakes, NotCommitted, RefusesCommit, sent_write}
 use Rattle.core_steps.specs.declared.routes.Route.{Route}
-use Rattle.core_steps.specs.declared.writes.CarriedOut.{CarriedOut}
 use Rattle.follower_cache.specs.Seen.{FollowerState}
 use Rattle.follower_cache.specs.declared.queue.Refill.{Refill}
 use Rattle.maint_msg.specs.KeyVersions.{keys_of}
 use Rattle.maint_msg.specs.Maints.{SeenMaint}
 use Rattle.maint_msg.specs.declared.key_versions.KeyVersion.{KeyVersion}
 use Rattle.node_name.specs.declared.NodeName.{NodeName}
-use Rattle.replies.specs.declared.calls.CallReply.TheVariants as called
-use Rattle.replies.specs.declared.calls.ReadReply.{ReadReply}
 use Rattle.replies.specs.declared.calls.ScheduledWhy.{ScheduledWhy}
 use Rattle.replies.specs.declared.calls.ScheduledWhy.TheVariants.{NoServer}
 use Rattle.replies.specs.declared.calls.ScheduledWhy.TheVariants as why
@@ -49,30 +44,25 @@ use Rattle.replies.specs.declared.refusals.Refusal.TheVariants.{Store, Memory}
 use Rattle.replies.specs.declared.refusals.StoreRefused.{StoreRefused}
 use Rattle.replies.specs.declared.refusals.StoreRefused.TheVariants.{SeqReused, ShardFull, StampFull, LogFull, KeeperFault, LinkFault, Unsettled}
 use Rattle.replies.specs.declared.reply.Reply.{Reply}
-use Rattle.replies.specs.declared.reply.Reply.TheVariants.{Called, Refused}
+use Rattle.replies.specs.declared.reply.Reply.TheVariants.{Refused}
 use Rattle.sealed_item.specs.Fills.{SealedItem}
 use Rattle.shard_log.specs.View.{View}
-use Rattle.shard_tables.specs.declared.leader_answer.LeaderAnswer.{LeaderAnswer}
-use Rattle.shard_tables.specs.declared.leader_answer.LeaderAnswer.TheVariants as leader
 use Rattle.shard_tables.specs.declared.writes.Wrote.{Wrote}
 use Rattle.tao_base.specs.EdgeTypes.{EdgeTypes}
-use Rattle.tao_base.specs.Keys.{same_key}
-use Rattle.tao_base.specs.Queries.{query_key}
 use Rattle.tao_base.specs.Writes.{write_shard}
 use Rattle.tao_base.specs.declared.entry.Entry.{Entry}
 use Rattle.tao_base.specs.declared.id.Key.{Key}
 use Rattle.tao_base.specs.declared.query.Answer.{Answer}
 use Rattle.tao_base.specs.declared.query.Query.{Query}
-use Rattle.tao_keeper.specs.declared.jobs.Job.{Job}
 use Rattle.tao_schema.specs.Schema.{types_of}
 use Rattle.topology.specs.Config.{Settings}
 use Rattle.write_plan.specs.Plans.{Writing}
-use Rattle.write_plan.specs.declared.committed.Committed.{Committed}
 use Rattle.write_plan.specs.declared.results.Late.{Late}
 use Rattle.write_plan.specs.declared.results.Late.TheVariants.{Scheduled}
 use Rattle.write_plan.specs.declared.results.Late.TheVariants as late
 use Rattle.write_plan.specs.declared.stage.WriteStage.{WriteStage}
 use Rattle.write_plan.specs.declared.stage.WriteStage.TheVariants.{Commit, Inverse, End, Relay, Apply, Done}
+use Rattle.ask_table.proofs.Tables.{raised_number}
 
 -- ---- the asks of one node
 
@@ -87,23 +77,16 @@ or_mono : (b x y : Bool) → (x ≡ true → y ≡ true) → (b || x) ≡ true �
 or_mono true x y f h = refl
 or_mono false x y f h = f h
 
-or_later : (b y : Bool) → y ≡ true → (b || y) ≡ true
-or_later true y h = refl
-or_later false y h = h
-
 filtered : (number : ℕ) (q : Ask → Bool) (xs : List Ask) → has_number number (filter q xs) ≡ true → has_number number xs ≡ true
 filtered number q [] = λ h. h
 filtered number q (x ∷ xs) = elim (cases_Bool (q x)) [
   | inl k ↦ rw k (or_mono (x.number == number) (has_number number (filter q xs)) (has_number number xs) (filtered number q xs))
-  | inr k ↦ rw k (λ h. or_later (x.number == number) (has_number number xs) (filtered number q xs h))
+  | inr k ↦ rw k (λ h. or_right (x.number == number) (has_number number xs) (filtered number q xs h))
 ]
 
 -- one that ended isn't open
 none_ended : (number : ℕ) (xs : List Ask) → has_number number (filter (λ a. not (a.number == number)) xs) ≡ false
 none_ended number xs = any-filter_same (λ a. a.number == number) (λ a. not (a.number == number)) false (λ a h. ap not h) xs
-
-raised_number : (key : Key) (version : ℕ) (a : Ask) → (raised_ask key version a).number ≡ a.number
-raised_number key version a = elim (cases_Bool (same_key a.key key)) [ inl h ↦ rw h refl | inr h ↦ rw h refl ]
 
 raised : (number : ℕ) (key : Key) (version : ℕ) (xs : List Ask) → has_number number (map (raised_ask key version) xs) ≡ has_number number xs
 raised number key version [] = refl
@@ -198,14 +181,11 @@ misses_open key (Some given) from to looks number h =
       | inr closed ↦ inr (ap Some (let given_is = looks.1 in grind (arith)))
     ]
 
-vain_none : (key : Key) (ask : Option ℕ) (from mid to : FollowerState) → AfterLook key Miss ask from.node mid.node
-    → EndsOpen ask mid.node.asks to.node.asks → OpensNo from to
-vain_none key ask from mid to opens ends number h =
-    let last = ends number h in
-    elim (misses_open key ask from.node mid.node opens number last.0) [
-      | inl was ↦ was
-      | inr given ↦ absurd (last.1 given)
-    ]
+empties_none : (pens : Pens) (at : Anew) (from to : FollowerState) → FollowerBeginsAnew pens at from to → OpensNo from to
+empties_none pens at from to begins number h =
+    let none : is_open_ask number (emptied begins.node.lows begins.node.notes from.node).asks ≡ true =
+    subst (λ (n : Node). is_open_ask number n.asks ≡ true) begins.node.node_is h in
+    absurd (cc)
 
 -- ---- the followers of a core
 
@@ -228,47 +208,6 @@ change_opens_none By name old new so change = record {
         }
       ];
 }
-
--- two changes at a name are at one place
-pub same_place : {N : Type 0} (By So : N → N → Type 0) (name : NodeName) (old mid new : List (Named N)) (one : ChangesNode name By old mid)
-    (two : ChangesNode name So mid new) → two.place ≡ one.place
-same_place By So name old mid new one two = elim (cases_order two.place one.place) [
-  | inl same ↦ same
-  | inr (inl before) ↦
-      let at : slice_get (slice_set old one.place (named name one.to)) two.place ≡ Some (named name two.from) =
-      subst (λ xs. slice_get xs two.place ≡ Some (named name two.from)) one.is two.stands in
-      elim (get_set old one.place (named name one.to) two.place (named name two.from) at) [
-        | inl e ↦ absurd (one.first.before two.place before (some_and (slice_get old two.place) (named name two.from) (λ n. n.name ≡ name) e.1 refl))
-        | inr e ↦ e.0
-      ]
-  | inr (inr after) ↦
-      let there = ap (λ xs. slice_get xs one.place) one.is ∙ set_get old one.place (named name one.from) (named name one.to) one.stands in
-      absurd (two.first.before one.place after (some_and (slice_get mid one.place) (named name one.to) (λ n. n.name ≡ name) there refl))
-]
-
-set_twice : {X : Type 0} (xs : List X) (k : ℕ) (x y : X) → slice_set (slice_set xs k x) k y ≡ slice_set xs k y
-set_twice [] k x y = refl
-set_twice (z ∷ zs) zero x y = refl
-set_twice (z ∷ zs) (suc k) x y = ap (λ l. z ∷ l) (set_twice zs k x y)
-
--- two changes after each other are one
-pub changes_twice : {N : Type 0} (By So : N → N → Type 0) (name : NodeName) (old mid new : List (Named N)) → ChangesNode name By old mid
-    → ChangesNode name So mid new → ChangesNode name (λ from to. (between : N) × By from between × So between to) old new
-changes_twice By So name old mid new one two =
-    let same = same_place By So name old mid new one two in
-    let there = ap (λ xs. slice_get xs one.place) one.is ∙ set_get old one.place (named name one.from) (named name one.to) one.stands in
-    let here = subst (λ k. slice_get mid k ≡ Some (named name two.from)) same two.stands in
-    let met : two.from ≡ one.to = ap (λ n. n.node) (one_some (named name two.from) (named name one.to) (sym here ∙ there)) in
-    record {
-      place = one.place;
-      first = one.first;
-      from = one.from;
-      to = two.to;
-      stands = one.stands;
-      by = (one.to, one.by, subst (λ n. So n two.to) met two.by);
-      is = two.is ∙ ap (λ k. slice_set mid k (named name two.to)) same ∙ ap (λ xs. slice_set xs one.place (named name two.to)) one.is
-          ∙ set_twice old one.place (named name one.to) (named name two.to);
-    }
 
 pub same_opens_none : (old new : List (Named FollowerState)) → new ≡ old → OpensNone old new
 same_opens_none old new same = subst (OpensNone old) (sym same) (record { still = λ name number h. h })
@@ -309,74 +248,8 @@ module _ (name : NodeName) (old new : List (Named FollowerState)) where
       change_opens_none (λ from to. Evicts key held from.node to.node × (to.refills ≡ from.refills)) name old new
       (λ from to evicts. evicts_none key held from to evicts.0)
 
-  -- an ask that is opened, and what ends it
-  asked_opens_none : (Opens Ending : FollowerState → FollowerState → Type 0) (key : Key) (ask : Option ℕ) (looked : List (Named FollowerState))
-      → ((from to : FollowerState) → Opens from to → AfterLook key Miss ask from.node to.node)
-      → ((from to : FollowerState) → Ending from to → EndsOpen ask from.node.asks to.node.asks)
-      → ChangesNode name Opens old looked → ChangesNode name Ending looked new → OpensNone old new
-  asked_opens_none Opens Ending key ask looked opens ending asks ends =
-      change_opens_none _ name old new
-      (λ from to both. vain_none key ask from both.0 to (opens from both.0 both.1) (ending both.0 to both.2))
-      (changes_twice Opens Ending name old looked new asks ends)
-
-  -- a look that finds nothing, and then the end of its ask
-  pub vain_opens_none : (types : EdgeTypes) (read : Wanted) (ask : Option ℕ) (looked : List (Named FollowerState))
-      → ChangesNode name (LooksFirst types read Miss ask) old looked → ChangesNode name (EndsAsk ask) looked new → OpensNone old new
-  vain_opens_none types read ask looked =
-      asked_opens_none (LooksFirst types read Miss ask) (EndsAsk ask) (query_key read.query) ask looked (λ from to looks. looks.node) (ends_open ask)
-
-  -- or what was given in answer to it
-  pub filled_opens_none : (types : EdgeTypes) (read : Wanted) (ask : Option ℕ) (fill : SealedItem) (answer : Answer) (kept : Kept)
-      (looked : List (Named FollowerState)) → ChangesNode name (LooksFirst types read Miss ask) old looked
-      → ChangesNode name (KeepsFill types read.query (taken_fill ask fill answer kept)) looked new → OpensNone old new
-  filled_opens_none types read ask fill answer kept looked =
-      asked_opens_none (LooksFirst types read Miss ask) (KeepsFill types read.query (taken_fill ask fill answer kept)) (query_key read.query) ask looked
-      (λ from to looks. looks.node) (keeps_open types read.query ask fill answer kept)
-
-  answered_opens_none : (Opens : FollowerState → FollowerState → Type 0) (types : EdgeTypes) (read : Wanted) (ask : Option ℕ) (given : LeaderAnswer)
-      (reply : ReadReply) (looked : List (Named FollowerState))
-      → ((from to : FollowerState) → Opens from to → AfterLook (query_key read.query) Miss ask from.node to.node)
-      → ChangesNode name Opens old looked → Ends types (asked_by name read ask) given reply looked new → OpensNone old new
-  answered_opens_none Opens types read ask (leader.Filled fill) reply looked opens asks ends =
-      asked_opens_none Opens (KeepsFill types read.query (taken_fill ask fill reply.answer ends.0)) (query_key read.query) ask looked opens
-      (keeps_open types read.query ask fill reply.answer ends.0) asks ends.1
-  answered_opens_none Opens types read ask (leader.Past answer version total note) reply looked opens asks ends =
-      asked_opens_none Opens (EndsAsk ask) (query_key read.query) ask looked opens (ends_open ask) asks ends.0
-  answered_opens_none Opens types read ask (leader.Behind version) reply looked opens asks ends = absurd ends
-
--- ---- whole reads and writes
-
-answer_opens_none : (tells : Bool) (s : Settings) (route : Route) (read : Wanted) (reply : ReadReply) (old new : Scene)
-    → IsAnswered tells s (sent_read route read) reply old new → OpensNone old.fleet.followers new.fleet.followers
-answer_opens_none tells s route read reply old new is = elim is.went [
-  | inl hits ↦ hit_opens_none route.follower old.fleet.followers new.fleet.followers (types_of s.schema) read reply.answer reply.version None hits.looks
-  | inr misses ↦ answered_opens_none route.follower old.fleet.followers new.fleet.followers (LooksFirst (types_of s.schema) read Miss misses.ask)
-      (types_of s.schema) read misses.ask misses.given reply misses.looked (λ from to looks. looks.node) misses.looks misses.ends
-]
-
-failed_opens_none : (s : Settings) (route : Route) (read : Wanted) (reply : Reply) (old new : Scene) → IsFailedRead s route read reply old new
-    → OpensNone old.fleet.followers new.fleet.followers
-failed_opens_none s route read reply old new is = elim is.nodes.followers [
-  | inl same ↦ same_opens_none old.fleet.followers new.fleet.followers same
-  | inr asked ↦ vain_opens_none route.follower old.fleet.followers new.fleet.followers (types_of s.schema) read asked.ask asked.looked asked.looks asked.ends
-]
-
-pub read_opens_none : (tells : Bool) (s : Settings) (route : Route) (read : Wanted) (reply : Reply) (old new : Scene)
-    → ReadsAlong tells s (sent_read route read) reply old new → OpensNone old.fleet.followers new.fleet.followers
-read_opens_none tells s route read (Called (called.Read reply)) old new is = answer_opens_none tells s route read reply old new is
-read_opens_none tells s route read (Refused refused) old new is = failed_opens_none s route read (Refused refused) old new is
-read_opens_none tells s route read reply old new is = absurd is
-
--- a critical read opens its ask at once
-pub critical_opens_none : (tells : Bool) (s : Settings) (follower : NodeName) (read : Wanted) (reply : Reply) (old new : Scene)
-    → ReadsCritical tells s (follower_read follower read) reply old new → OpensNone old.fleet.followers new.fleet.followers
-critical_opens_none tells s follower read (Called (called.Read reply)) old new is =
-    answered_opens_none follower old.fleet.followers new.fleet.followers (AsksAtOnce (query_key read.query) is.ask) (types_of s.schema) read is.ask
-    (given_of is.out) reply is.looked (λ from to asks. asks.node) is.asks is.ends
-critical_opens_none tells s follower read (Refused refused) old new is =
-    asked_opens_none follower old.fleet.followers new.fleet.followers (AsksAtOnce (query_key read.query) is.ask) (EndsAsk is.ask) (query_key read.query)
-    is.ask is.looked (λ from to asks. asks.node) (ends_open is.ask) is.asks is.ends
-critical_opens_none tells s follower read reply old new is = absurd is
+  pub empty_opens_none : (pens : Pens) (at : Anew) → ChangesNode name (FollowerBeginsAnew pens at) old new → OpensNone old new
+  empty_opens_none pens at = change_opens_none (FollowerBeginsAnew pens at) name old new (empties_none pens at)
 
 follower_takes_none : (types : EdgeTypes) (route : Route) (shard : ℕ) (entry : Option Entry) (old new : Fleet)
     → FollowerTakes types route shard entry old new → OpensNone old.followers new.followers
@@ -431,59 +304,9 @@ end_same tells s j (Ok done) old new is = changed_keepers old new is.1
 end_same tells s j (Err (Scheduled why wrote)) old new is = late_same tells s j why wrote old new is
 end_same tells s j (Err (late.Refused reply)) old new is = absurd is
 
-job_same : (tells : Bool) (s : Settings) (way : JobWay) (done : OtherEndDone) (old new : Posting) → WorksOffJob tells s way done old new
-    → followers_in new ≡ followers_in old
-job_same tells s way done old new (inl both) =
-    end_same tells s way.job (Ok tt) both.between new both.ends ∙ merge_same tells s way old both.between (Ok both.wrote) both.merges
-job_same tells s way done old new (inr (inl open_still)) =
-    end_same tells s way.job (Err (Scheduled open_still.why None)) open_still.between new open_still.ends
-    ∙ merge_same tells s way old open_still.between (Ok open_still.wrote) open_still.merges
-job_same tells s way done old new (inr (inr left)) = merge_same tells s way old new (Err (Scheduled left.why done.wrote)) left.merges
+-- ---- the stages of a write
 
-other_end_same : (tells : Bool) (s : Settings) (shard : ℕ) (c : Committed) (job : Option Job) (done : OtherEndDone) (old new : Posting)
-    → WorksOffOf tells s (write_other_end shard c done) job old new → followers_in new ≡ followers_in old
-other_end_same tells s shard c None done old new is = ap followers_in is.2
-other_end_same tells s shard c (Some job) done old new is = job_same tells s (job_way c.leader (job_on shard job)) done old new is
-
--- a write changes none up to its way back
-worked_off_same : (tells : Bool) (s : Settings) (route : Route) (call : AuthoredWrite) (old new : Posting) → IsWorkedOff tells s (sent_write route call) old new
-    → followers_in new ≡ followers_in old
-worked_off_same tells s route call old new is =
-    other_end_same tells s (write_shard call.write) is.committed is.committed.wrote.job is.other_end is.between new is.works_off
-    ∙ is.commits.followers
-
--- ---- whole writes, and those that are held
-
-module _ (tells : Bool) (s : Settings) (route : Route) (call : AuthoredWrite) (old new : Posting) where
-  rests_none : ChangesNoNode tells old new → OpensNone old.scene.fleet.followers new.scene.fleet.followers
-  rests_none rests = same_opens_none old.scene.fleet.followers new.scene.fleet.followers (ap (λ (f : Fleet). f.followers) rests.fleet)
-
-  refused_none : (refused : StoreRefused) → WriteRefused tells s (sent_write route call) refused old new
-      → OpensNone old.scene.fleet.followers new.scene.fleet.followers
-  refused_none (LinkFault count when) is = elim is.1 [
-    | inl there ↦ rests_none there.same
-    | inr back ↦ same_opens_none old.scene.fleet.followers new.scene.fleet.followers
-        (ap (λ (f : Fleet). f.followers) back.fleet ∙ worked_off_same tells s route call old back.worked_off back.works)
-  ]
-  refused_none (SeqReused position) is = rests_none is.1
-  refused_none (ShardFull serial) is = rests_none is.1
-  refused_none (StampFull number) is = rests_none is.1
-  refused_none (LogFull count) is = rests_none is.1
-  refused_none (KeeperFault count) is = rests_none is.1
-  refused_none (Unsettled at why) is = rests_none is.1
-
-  pub write_opens_none : (outcome : Result CarriedOut Reply) → WritesAlong tells s (sent_write route call) outcome old new
-      → OpensNone old.scene.fleet.followers new.scene.fleet.followers
-  write_opens_none (Ok done) is =
-      opens_none_on old.scene.fleet.followers is.worked_off.scene.fleet.followers new.scene.fleet.followers
-      (same_opens_none old.scene.fleet.followers is.worked_off.scene.fleet.followers (worked_off_same tells s route call old is.worked_off is.works))
-      (follower_takes_none (types_of s.schema) route (write_shard call.write) is.works.committed.wrote.entry is.worked_off.scene.fleet new.scene.fleet
-      is.follower)
-  write_opens_none (Err (Refused (Store refused))) is = refused_none refused is
-  write_opens_none (Err (Refused (Memory position))) is = rests_none is.1
-  write_opens_none (Err reply) is = absurd is
-
--- no stage of a write that is held opens one
+-- no stage of a write opens one
 module _ (tells : Bool) (s : Settings) (leader : NodeName) (p q : Writing) (old new : Posting) where
   refusal_none : (refused : StoreRefused) → NotCommitted tells s (sent_write (way_by leader p) (call_of_plan p)) refused old new → ChangesNoNode tells old new
   refusal_none (LinkFault count when) is = is.1.same
@@ -537,11 +360,7 @@ asks_stay_held = record {
     delivers = deliver_opens_none name old new;
     refills = refill_opens_none name old new;
     evicts = evict_opens_none name old new;
-    in_vain = vain_opens_none name old new;
-    filled = filled_opens_none name old new;
+    empties = empty_opens_none name old new;
   };
-  reads = read_opens_none;
-  critical = critical_opens_none;
-  writes = λ tells s route call outcome old new. write_opens_none tells s route call old new outcome;
   stages = λ tells s leader at p q old new. stage_opens_none tells s leader p q old new at;
 }

@@ -190,7 +190,7 @@ asks_on name (Some number) key f g goes has = has_ask_on name number key f g goe
 
 pub goes_so : (tells : Bool) (s : Settings) (tables later : Tables) (f g : Fleet) (p : Reading) (outcome : ReadResult) (hops : ℕ) (store : Bool)
     → IsReadUnderWay tells s tables f p → WhereTold tells (Stays tables later) → GoesOn f g
-    → StandsSo (types_of s.schema) (pens_of g.masters) (wanted_by p) (standing_after p.critical p.bound p.at outcome)
+    → StandsSo (types_of s.schema) (pens_of g.stores) (wanted_by p) (standing_after p.critical p.bound p.at outcome)
     → IsReadUnderWay tells s later g (taken outcome hops store p)
 goes_so tells s tables later f g p outcome hops store is stays goes stands = record {
   follower = is.follower;

@@ -4,20 +4,20 @@ use Rattle.std.specs.Prelude.{◌-◌, IfSome, Ok, Err, nat_lt}
 use Rattle.cache_items.specs.declared.look.Kept.{Kept as KeptWhy}
 use Rattle.cache_items.specs.declared.look.Look.{Look}
 use Rattle.cache_items.specs.declared.look.Look.TheVariants.{Hit, Miss}
-use Rattle.core_model.specs.Consistent.{GoesOn, IsConsistent, IsFleetOf}
+use Rattle.core_model.specs.Consistent.{GoesOn, HaveReached, IsConsistent, IsFleetOf}
 use Rattle.core_model.specs.Fleet.{ChangesNode, Fleet, HasAsk}
 use Rattle.core_model.specs.Pens.{pens_of}
-use Rattle.core_model.specs.Reads.{AsksAtOnce, EndsAsk, IsGivenFill, IsLegalLook, KeepsFill, LeaderAnswers, LooksFirst, store_calls, taken_fill, wanted}
-use Rattle.core_model.specs.Stores.{AreStoresOf}
-use Rattle.core_steps.specs.Reads.{MayAnswer}
+use Rattle.core_model.specs.Reads.{AsksAtOnce, EndsAsk, IsGivenFill, IsLegalLook, KeepsFill, LeaderAnswers, LooksFirst, taken_fill, wanted}
+use Rattle.core_model.specs.Stores.{AreStoresOf, HaveMasterRegions}
+use Rattle.core_steps.specs.Reads.{MayAnswer, leader_calls}
 use Rattle.core_steps.specs.ReadSteps.{IsGivenOver, IsNotGiven, IsNotRead, IsReadOver, ReadOverFails, ReadsOn}
 use Rattle.core_steps.specs.Routes.{Scene, hops_between, master_node, scene, was_called}
 use Rattle.core_model.proofs.NamedNodes.{changes_so}
 use Rattle.core_nodes.specs.Stages.{NodeIs}
 use Rattle.core_nodes.proofs.NodesOfNames.{is_after}
-use Rattle.core_steps.proofs.AlongLemmas.{hit_alone, not_past, on_after, on_same}
-use Rattle.core_steps.proofs.ReadLemmas.{legal_in_log, where_told}
-use Rattle.core_steps.proofs.Repeats.{RepeatsHit, filled_repeats, hit_repeats}
+use Rattle.core_steps.proofs.ReachLemmas.{end_reaches}
+use Rattle.core_steps.proofs.ReadLemmas.{legal_in_log, on_after, on_same, where_told}
+use Rattle.core_steps.proofs.Repeats.{RepeatsHit, filled_repeats, hit_alone, hit_repeats, not_past}
 use Rattle.shard_log.proofs.GrowthLemmas.{legal-grows}
 use Rattle.node_name.specs.declared.NodeName.{NodeName}
 use Rattle.read_plan.proofs.RunLemmas.{answers_are_given}
@@ -105,7 +105,7 @@ module _ (tells : Bool) (s : Settings) (leader : NodeName) (p : Reading) (old ne
   })
 
   read_on : (outcome : ReadResult) (hops : ℕ) (store : Bool)
-      → StandsSo (types_of s.schema) (pens_of new.fleet.masters) (wanted_by p) (standing_after p.critical p.bound p.at outcome)
+      → StandsSo (types_of s.schema) (pens_of new.fleet.stores) (wanted_by p) (standing_after p.critical p.bound p.at outcome)
       → IsReadUnderWay tells s new.keepers.told new.fleet (taken outcome hops store p)
   read_on outcome hops store = goes_so tells s old.keepers.told new.keepers.told old.fleet new.fleet p outcome hops store is on.tables on.goes
 
@@ -118,7 +118,7 @@ module _ (tells : Bool) (s : Settings) (leader : NodeName) (p : Reading) (old ne
       let r : Reading = taken outcome hops store p in
       passes q r at at_is took does (legally tells s r new (Ended (ended.Refused reply)) over no_read)
       (λ least was told critical. subst (HasComeTo least (version_now s p new.keepers)) (sym over) tt)
-      (read_on outcome hops store (subst (StandsSo (types_of s.schema) (pens_of new.fleet.masters) (wanted_by p)) (sym over) tt))
+      (read_on outcome hops store (subst (StandsSo (types_of s.schema) (pens_of new.fleet.stores) (wanted_by p)) (sym over) tt))
 
 no_refusal : (refusal : Refusal) (read : ReadReply) → Refused refusal ≡ Called (called.Read read) → ⊥
 no_refusal refusal read is = absurd (cc)
@@ -127,41 +127,43 @@ no_refusal refusal read is = absurd (cc)
 
 -- no other node takes part in it
 pub record AtFollower (tells : Bool) (s : Settings) (p : Reading) (keepers : KeeperState) (old new : Fleet) : Type 0 where
+  pub masters : HaveMasterRegions s
   pub consistent : IsConsistent tells s keepers.told old
   pub read : IsReadUnderWay tells s keepers.told old p
   pub rest : new ≡ record old { followers = new.followers }
   pub fleet : IsFleetOf s new
   pub goes : GoesOn old new
+  pub reaches : HaveReached keepers.told old → HaveReached keepers.told new
 
 follower_on : (tells : Bool) (s : Settings) (p : Reading) (keepers : KeeperState) (old new : Fleet) (link : LinkShown)
     → AtFollower tells s p keepers old new → ReadsOn tells s (scene old keepers link) (scene new keepers link)
 follower_on tells s p keepers old new link there =
     let from : Scene = scene old keepers link in
     on_after tells s from from new (on_same tells s from old keepers link refl there.consistent (λ told store. refl)
-    (later_self keepers)) there.rest there.fleet there.goes
+    (later_self keepers)) there.rest there.fleet there.goes there.reaches
 
 -- ---- look
 
 look_legal : (tells : Bool) (s : Settings) (p : Reading) (old new : Fleet) (keepers : KeeperState) (link : LinkShown) (look : Look) (ask : Option ℕ)
-    → p.critical ≡ false → AreStoresOf tells s keepers.told old.masters → query_shard p.query < s.shards
+    → p.critical ≡ false → HaveMasterRegions s → AreStoresOf tells s keepers.told old.stores → query_shard p.query < s.shards
     → ChangesNode p.follower (LooksFirst (types_of s.schema) (wanted_by p) look ask) old.followers new.followers
     → new ≡ record old { followers = new.followers }
-    → IsLegalLook (types_of s.schema) (pens_of new.masters) (wanted_by p) look
+    → IsLegalLook (types_of s.schema) (pens_of new.stores) (wanted_by p) look
     → EndsLegally tells s (taken (came.Look (Ok look)) 0 false (record p { ask = ask })) (scene new keepers link)
-look_legal tells s p old new keepers link (Hit answer version) ask plain are here change rest legal =
+look_legal tells s p old new keepers link (Hit answer version) ask plain masters are here change rest legal =
     let types = types_of s.schema in
     let shard = query_shard p.query in
     let q : Reading = taken (came.Look (Ok (Hit answer version))) 0 false (record p { ask = ask }) in
     let alone = changes_so (LooksFirst types (wanted_by p) (Hit answer version) ask) (LooksFirst types (wanted_by p) (Hit answer version) None)
     p.follower old.followers new.followers (hit_alone s (wanted_by p) answer version ask) change in
-    let was = subst (λ (f : Fleet). IsLegalIn types (pens_of f.masters shard) p.query p.floor answer version) rest legal in
+    let was = subst (λ (f : Fleet). IsLegalIn types (pens_of f.stores shard) p.query p.floor answer version) rest legal in
     let repeats = is_after (RepeatsHit types p.query answer version) (LooksFirst types (wanted_by p) (Hit answer version) None) p.follower
     old.followers new.followers alone (hit_repeats types (wanted_by p) answer version alone.from alone.to alone.by) in
     legally tells s q (scene new keepers link) (Ended (ended.Answered answer version Kept)) (ap (λ c. after_look c (Hit answer version)) plain) (
-      legal_in_log tells s keepers.told old.masters shard types p.query p.floor answer version are here was,
+      legal_in_log tells s keepers.told old.stores shard types p.query p.floor answer version masters are here was,
       (λ told kept place f floor first at le. repeats place f first at floor le),
     )
-look_legal tells s p old new keepers link Miss ask plain are here change rest legal =
+look_legal tells s p old new keepers link Miss ask plain masters are here change rest legal =
     legally tells s (taken (came.Look (Ok Miss)) 0 false (record p { ask = ask })) (scene new keepers link) Asking (ap (λ c. after_look c Miss) plain) tt
 
 module _ (tells : Bool) (s : Settings) (leader : NodeName) (p q : Reading) (keepers : KeeperState) (link : LinkShown) (old new : Fleet)
@@ -195,14 +197,14 @@ module _ (tells : Bool) (s : Settings) (leader : NodeName) (p q : Reading) (keep
     bound = there.read.bound;
     reached = there.read.reached;
     ask = has;
-    stands = looked_stands (types_of s.schema) (pens_of new.masters) (wanted_by p) p.critical look;
+    stands = looked_stands (types_of s.schema) (pens_of new.stores) (wanted_by p) p.critical look;
   }
 
   pub looks_done : (asked : Reading) (look : Look) (ask : Option ℕ) (follower : NodeName) (query : Query) (floor : ℕ)
       → stage_of p.at ≡ stage.Look → p.critical ≡ false
       → IsOfPlan p follower query floor
       → ChangesNode follower (LooksFirst (types_of s.schema) (wanted query floor) look ask) old.followers new.followers
-      → IsLegalLook (types_of s.schema) (pens_of new.masters) (wanted query floor) look
+      → IsLegalLook (types_of s.schema) (pens_of new.stores) (wanted query floor) look
       → IfSome ask (λ number. HasAsk follower number (query_key query) new.followers)
       → asked ≡ record p { ask = ask } → q ≡ taken (came.Look (Ok look)) 0 false asked
       → PassesReadStage (led_by tells s leader) p from q to
@@ -210,7 +212,7 @@ module _ (tells : Bool) (s : Settings) (leader : NodeName) (p q : Reading) (keep
       let types = types_of s.schema in
       let r : Reading = taken (came.Look (Ok look)) 0 false (record p { ask = ask }) in
       let looks = of_plan (λ f q n. ChangesNode f (LooksFirst types (wanted q n) look ask) old.followers new.followers) p follower query floor of change in
-      let right = of_plan (λ f q n. IsLegalLook types (pens_of new.masters) (wanted q n) look) p follower query floor of legal in
+      let right = of_plan (λ f q n. IsLegalLook types (pens_of new.stores) (wanted q n) look) p follower query floor of legal in
       passes_there r Looking (looking p.at at) (took ∙ ap (taken (came.Look (Ok look)) 0 false) opened)
       (subst (λ c. DoesLook s c p from r to) (sym plain) (inl (record {
         look = look;
@@ -219,7 +221,7 @@ module _ (tells : Bool) (s : Settings) (leader : NodeName) (p q : Reading) (keep
         rest = ap (λ f. scene f keepers link) there.rest;
         then = refl;
       })))
-      (look_legal tells s p old new keepers link look ask plain there.consistent.stores there.read.follower.here looks there.rest right)
+      (look_legal tells s p old new keepers link look ask plain there.masters there.consistent.stores there.read.follower.here looks there.rest right)
       (λ least was told critical. absurd (not_both p.critical plain critical))
       (read_there look ask (of_plan (λ f q n. IfSome ask (λ number. HasAsk f number (query_key q) new.followers)) p follower query floor of has))
 
@@ -258,7 +260,7 @@ module _ (tells : Bool) (s : Settings) (leader : NodeName) (p q : Reading) (keep
   pub keeps_done : (handed : Reading) (fill : SealedItem) (answer : Answer) (kept : KeptWhy) (follower : NodeName) (query : Query) (floor : ℕ)
       (ask : Option ℕ) → fill_of p.at ≡ Some fill → IsSealed fill → handed ≡ fill_handed p → IsOfPlan handed follower query floor → ask ≡ handed.ask
       → ChangesNode follower (KeepsFill (types_of s.schema) query (taken_fill ask fill answer kept)) old.followers new.followers
-      → IsLegalIn (types_of s.schema) (pens_of new.masters (query_shard query)) query floor answer fill.version
+      → IsLegalIn (types_of s.schema) (pens_of new.stores (query_shard query)) query floor answer fill.version
       → q ≡ taken (came.Keep (Ok (Some (answer, kept)))) 0 false handed
       → PassesReadStage (led_by tells s leader) p from q to
   keeps_done handed fill answer kept follower query floor ask found sealed out_is of_handed same change legal took =
@@ -270,16 +272,16 @@ module _ (tells : Bool) (s : Settings) (leader : NodeName) (p q : Reading) (keep
       let r : Reading = taken outcome 0 false p in
       let at = filled p.at fill found in
       let of = of_handed_out p handed follower query floor out_is of_handed in
-      let given : IsGivenFill types (pens_of old.masters) (wanted_by p) fill =
-      subst (StandsSo types (pens_of old.masters) (wanted_by p)) at there.read.stands in
+      let given : IsGivenFill types (pens_of old.stores) (wanted_by p) fill =
+      subst (StandsSo types (pens_of old.stores) (wanted_by p)) at there.read.stands in
       let next : IsOfNextStage p outcome = record { stage = ap stage_of (sym at); answered = ap has_fill at } in
       let keeps = subst (λ a. ChangesNode p.follower (KeepsFill types p.query (taken_fill a fill answer kept)) old.followers new.followers)
       (same ∙ ap (λ (r : Reading). r.ask) out_is)
       (of_plan (λ f q n. ChangesNode f (KeepsFill types q (taken_fill ask fill answer kept)) old.followers new.followers) p follower query floor of change) in
-      let right = of_plan (λ f q n. IsLegalIn types (pens_of new.masters (query_shard q)) q n answer fill.version) p follower query floor of legal in
-      let was = subst (λ (f : Fleet). IsLegalIn types (pens_of f.masters shard) p.query p.floor answer fill.version) there.rest right in
+      let right = of_plan (λ f q n. IsLegalIn types (pens_of new.stores (query_shard q)) q n answer fill.version) p follower query floor of legal in
+      let was = subst (λ (f : Fleet). IsLegalIn types (pens_of f.stores shard) p.query p.floor answer fill.version) there.rest right in
       let again = where_told (kept_or_not kept ≡ Kept → NodeIs p.follower (RepeatsHit types p.query answer fill.version) new.followers)
-      tells s keepers.told old.masters shard are here
+      tells s keepers.told old.stores shard there.masters are here
       (λ told held. is_after (RepeatsHit types p.query answer fill.version) (KeepsFill types p.query (taken_fill p.ask fill answer kept)) p.follower
       old.followers new.followers keeps
       (filled_repeats s old new.followers p.follower (wanted_by p) p.ask fill answer kept there.consistent.fleet keeps given sealed told held)) in
@@ -287,13 +289,13 @@ module _ (tells : Bool) (s : Settings) (leader : NodeName) (p q : Reading) (keep
       passes_there r (Keeping (Fill fill)) at (took ∙ ap (taken outcome 0 false) out_is ∙ (answers_are_given p outcome 0 false).fill_out next)
       (inl (record { answer = answer; kept = kept; keeps = keeps; rest = ap (λ f. scene f keepers link) there.rest; then = refl }))
       (legally tells s r to (Ended (ended.Answered answer fill.version (kept_or_not kept))) (ap (λ a. after_keep p.bound a (Some (answer, kept))) at) (
-        legal_in_log tells s keepers.told old.masters shard types p.query p.floor answer fill.version are here was,
+        legal_in_log tells s keepers.told old.stores shard types p.query p.floor answer fill.version there.masters are here was,
         (λ told held place f floor first there le. again told held place f first there floor le),
       ))
       (λ least was told critical. subst (λ a. HasComeTo least now (after_keep p.bound a (Some (answer, kept)))) (sym at)
       (subst (HasComeTo least now) at (was told critical)))
       (read_on tells s leader p from to there.read (follower_on tells s p keepers old new link there) outcome 0 false
-      (subst (λ a. StandsSo types (pens_of new.masters) (wanted_by p) (after_keep p.bound a (Some (answer, kept)))) (sym at) tt))
+      (subst (λ a. StandsSo types (pens_of new.stores) (wanted_by p) (after_keep p.bound a (Some (answer, kept)))) (sym at) tt))
 
   -- memory was wanting for the answer
   pub keeps_lost : (handed : Reading) (fill : SealedItem) (reply : Reply) (follower : NodeName) (ask : Option ℕ) → fill_of p.at ≡ Some fill
@@ -307,10 +309,10 @@ module _ (tells : Bool) (s : Settings) (leader : NodeName) (p q : Reading) (keep
       (inr (record { ends = ends; rest = ap (λ f. scene f keepers link) there.rest; then = refl }))
 
 pub hands_done : (tells : Bool) (s : Settings) (leader : NodeName) (p q : Reading) (keepers : KeeperState) (link : LinkShown) (old new : Fleet)
-    (handed : Reading) → IsConsistent tells s keepers.told old → IsReadUnderWay tells s keepers.told old p → fill_of p.at ≡ None
+    (handed : Reading) → HaveMasterRegions s → IsConsistent tells s keepers.told old → IsReadUnderWay tells s keepers.told old p → fill_of p.at ≡ None
     → stage_of p.at ≡ stage.Keep → handed ≡ fill_handed p → EndsAskAlone s handed old new → q ≡ taken (came.Keep (Ok None)) 0 false handed
     → PassesReadStage (led_by tells s leader) p (scene old keepers link) q (scene new keepers link)
-hands_done tells s leader p q keepers link old new handed consistent is none stage_is out_is ended_ask took =
+hands_done tells s leader p q keepers link old new handed masters consistent is none stage_is out_is ended_ask took =
     let types = types_of s.schema in
     let shard = query_shard p.query in
     let from : Scene = scene old keepers link in
@@ -318,23 +320,31 @@ hands_done tells s leader p q keepers link old new handed consistent is none sta
     let outcome = came.Keep (Ok None) in
     let r : Reading = taken outcome 0 false p in
     let there : AtFollower tells s p keepers old new =
-    record { consistent = consistent; read = is; rest = ended_ask.rest; fleet = ended_ask.fleet; goes = ended_ask.goes } in
-    let b : IsPast p.at = past types (pens_of old.masters) (wanted_by p) p.at none stage_is is.stands in
-    let given = subst (StandsSo types (pens_of old.masters) (wanted_by p)) b.is is.stands in
+    record {
+      masters = masters;
+      consistent = consistent;
+      read = is;
+      rest = ended_ask.rest;
+      fleet = ended_ask.fleet;
+      goes = ended_ask.goes;
+      reaches = end_reaches keepers.told handed.follower old new ended_ask.rest handed.ask ended_ask.ends;
+    } in
+    let b : IsPast p.at = past types (pens_of old.stores) (wanted_by p) p.at none stage_is is.stands in
+    let given = subst (StandsSo types (pens_of old.stores) (wanted_by p)) b.is is.stands in
     let next : IsOfNextStage p outcome = record { stage = ap stage_of (sym b.is); answered = ap has_fill b.is } in
     let ends = subst (λ (r : Reading). ChangesNode r.follower (EndsAsk r.ask) old.followers new.followers) out_is ended_ask.ends in
-    let right = legal-grows b.note (pens_of old.masters shard) types p.query p.floor b.answer b.version given.1 given.0 in
+    let right = legal-grows b.note (pens_of old.stores shard) types p.query p.floor b.answer b.version given.1 given.0 in
     let now = version_now s p keepers in
     passes_there tells s leader p q keepers link old new there r (Keeping (Past b.answer b.version b.total (Some b.note))) b.is
     (took ∙ ap (taken outcome 0 false) out_is ∙ (answers_are_given p outcome 0 false).fill_out next)
     (record { ends = ends; rest = ap (λ f. scene f keepers link) ended_ask.rest; then = refl })
     (legally tells s r to (Ended (ended.Answered b.answer b.version (past_bound p.bound b.total))) (ap (λ a. after_keep p.bound a None) b.is) (
-      legal_in_log tells s keepers.told old.masters shard types p.query p.floor b.answer b.version consistent.stores is.follower.here right,
+      legal_in_log tells s keepers.told old.stores shard types p.query p.floor b.answer b.version masters consistent.stores is.follower.here right,
       (λ told kept. not_past p.bound b.total _ kept),
     ))
     (λ least was told critical. subst (λ a. HasComeTo least now (after_keep p.bound a None)) (sym b.is) (subst (HasComeTo least now) b.is (was told critical)))
     (read_on tells s leader p from to is (follower_on tells s p keepers old new link there) outcome 0 false
-    (subst (λ a. StandsSo types (pens_of new.masters) (wanted_by p) (after_keep p.bound a None)) (sym b.is) tt))
+    (subst (λ a. StandsSo types (pens_of new.stores) (wanted_by p) (after_keep p.bound a None)) (sym b.is) tt))
 
 -- ---- a stage over the link
 
@@ -358,7 +368,7 @@ module _ (tells : Bool) (s : Settings) (leader : NodeName) (p q : Reading) (old 
       → DoesReadStage (led_by tells s leader) at p old (over outcome) new
       → MayEnd tells s (over outcome) new (standing_after p.critical p.bound p.at outcome)
       → ((least : ℕ) → MissesNone tells s least p old.keepers → MissesNone tells s least (over outcome) new.keepers)
-      → StandsSo (types_of s.schema) (pens_of new.fleet.masters) (wanted_by p) (standing_after p.critical p.bound p.at outcome)
+      → StandsSo (types_of s.schema) (pens_of new.fleet.stores) (wanted_by p) (standing_after p.critical p.bound p.at outcome)
       → PassesReadStage (led_by tells s leader) p old q new
   came_over outcome at at_is took does may whole stands = passes tells s leader p old new is on q (over outcome) at at_is took does
       (legally tells s (over outcome) new (standing_after p.critical p.bound p.at outcome) refl may) whole
@@ -372,17 +382,17 @@ module _ (tells : Bool) (s : Settings) (leader : NodeName) (p q : Reading) (old 
       came_over (came.Ask (Ok given)) Asking (asking p.at at) took (inl (record { given = given; over = gave; then = refl }))
       (asked_on tells s (over (came.Ask (Ok given))) new given)
       (λ least was told critical. absurd (asks_plain p.critical p.at (asking p.at at) is.never_asks critical))
-      (asked_stands (types_of s.schema) (pens_of new.fleet.masters) (wanted_by p) given gave.given_is)
+      (asked_stands (types_of s.schema) (pens_of new.fleet.stores) (wanted_by p) given gave.given_is)
 
-  pub masters_done : (read : ReadOut) (query : Query) → stage_of p.at ≡ stage.Master → AreStoresOf tells s old.keepers.told old.fleet.masters
+  pub masters_done : (read : ReadOut) (query : Query) → stage_of p.at ≡ stage.Master → AreStoresOf tells s old.keepers.told old.fleet.stores
       → query ≡ p.query → IsReadOver tells s query read old new → q ≡ over (came.Master (Ok read)) → PassesReadStage (led_by tells s leader) p old q new
   masters_done read query at are same reads took =
       let gave = subst (λ x. IsReadOver tells s x read old new) same reads in
       came_over (came.Master (Ok read)) Mastering (mastering p.at at) took (inl (record { out = read; over = gave; then = refl }))
       (mastered_on tells s (over (came.Master (Ok read))) new read)
-      (λ least was told critical. store_comes tells s p old.keepers new.keepers old.fleet.masters read least (version_now s p new.keepers) are gave.reads told
+      (λ least was told critical. store_comes tells s p old.keepers new.keepers old.fleet.stores read least (version_now s p new.keepers) are gave.reads told
       (subst (HasComeTo least (version_now s p old.keepers)) (mastering p.at at) (was told critical)))
-      (mastered_stands (types_of s.schema) (pens_of new.fleet.masters) (wanted_by p) read (gave.given p.floor is.reached))
+      (mastered_stands (types_of s.schema) (pens_of new.fleet.stores) (wanted_by p) read (gave.given p.floor is.reached))
 
 -- why nothing was carried back does not depend on the nodes
 over_there : (follower store : NodeName) (reply : Reply) (old mid : Scene) (end : Fleet) → ReadOverFails follower store reply old mid
@@ -409,7 +419,8 @@ module _ (tells : Bool) (s : Settings) (leader : NodeName) (p q : Reading) (old 
       → standing_after p.critical p.bound p.at outcome ≡ Ended (ended.Refused reply) → ReadOverFails p.follower other reply old new
       → q ≡ lost outcome → DoesReadStage (led_by tells s leader) at p old (lost outcome) new → PassesReadStage (led_by tells s leader) p old q new
   lost_over outcome other at at_is over fails =
-      refused tells s leader p old new is (on_after tells s old mid end on ends.rest ends.fleet ends.goes) q outcome (hops_between old.link mid.link)
+      refused tells s leader p old new is (on_after tells s old mid end on ends.rest ends.fleet ends.goes
+      (end_reaches mid.keepers.told p.follower mid.fleet end ends.rest p.ask ends.ends)) q outcome (hops_between old.link mid.link)
       (was_called old.keepers mid.keepers) reply at at_is over (no_out p.follower other reply old new fails)
 
   pub asks_lost : (follower : NodeName) (query : Query) (floor : ℕ) → stage_of p.at ≡ stage.Ask → IsOfPlan p follower query floor
@@ -425,7 +436,7 @@ module _ (tells : Bool) (s : Settings) (leader : NodeName) (p q : Reading) (old 
         | inr one ↦ inr (
           one.0,
           one.1,
-          subst (λ ls. ChangesNode leader (LeaderAnswers types (wanted_by p) one.0 (store_calls old.fleet.masters old.keepers one.1))
+          subst (λ ls. ChangesNode leader (LeaderAnswers types (wanted_by p) one.0 (leader_calls leader old.fleet.stores old.keepers one.1))
               old.fleet.leaders ls) (sym leaders) one.2,
         )
       ] in
@@ -434,7 +445,7 @@ module _ (tells : Bool) (s : Settings) (leader : NodeName) (p q : Reading) (old 
         fails = fails;
         leaders = may;
         ends = subst (λ fs. ChangesNode p.follower (EndsAsk p.ask) fs end.followers) (ap (λ (f : Fleet). f.followers) not.rest) ends.ends;
-        masters = ap (λ (f : Fleet). f.masters) ends.rest ∙ ap (λ (f : Fleet). f.masters) not.rest;
+        stores = ap (λ (f : Fleet). f.stores) ends.rest ∙ ap (λ (f : Fleet). f.stores) not.rest;
         then = refl;
       }))
 

@@ -99,7 +99,7 @@ none_answered None None job back is = refl
 none_answered None (Some c) job back is = absurd (not_commit job (stage_of_job c.wrote.job c.passed job back Commit refl is).1)
 
 -- before its commit nothing was answered
-before_commit : (p : Writing) → next_of p ≡ Commit → p.committed ≡ None
+pub before_commit : (p : Writing) → next_of p ≡ Commit → p.committed ≡ None
 before_commit p is = none_answered p.refused p.committed p.job p.back is
 
 job_ahead : (refused : Option Reply) (committed : Option Committed) (job : OtherEnd) (back : WayBack) (at : WriteStage) → is_back at ≡ false
@@ -128,14 +128,14 @@ answered_none p job is none =
     absurd (cc)
 
 -- what was written at the other end stands there, and stays so where more is told
-none_there : (s : Settings) (masters : List Store) (o : Option Job) → IfSome o (λ j. StandsThere s j None masters)
-none_there s masters None = tt
-none_there s masters (Some j) = tt
+none_there : (s : Settings) (stores : List Store) (o : Option Job) → IfSome o (λ j. StandsThere s j None stores)
+none_there s stores None = tt
+none_there s stores (Some j) = tt
 
-more_there : (s : Settings) (masters : List Store) (job : Job) (before more : Option Wrote) → StandsThere s job before masters
-    → StandsThere s job more masters → StandsThere s job (written_there before more) masters
-more_there s masters job (Some w) more was now = was
-more_there s masters job None more was now = now
+more_there : (s : Settings) (stores : List Store) (job : Job) (before more : Option Wrote) → StandsThere s job before stores
+    → StandsThere s job more stores → StandsThere s job (written_there before more) stores
+more_there s stores job (Some w) more was now = was
+more_there s stores job None more was now = now
 
 -- what the end of a job writes there
 abbrev late_wrote : Result ⊤ Late → Option Wrote
@@ -166,10 +166,10 @@ taken_on tells s tables f p q result hops then = subst (IsWriteUnderWay tells s 
 
 module _ (tells : Bool) (s : Settings) (tables : Tables) (f : Fleet) (p : Writing) (is : IsWriteUnderWay tells s tables f p) where
   -- what its commit answered stays that
-  answer_stays : (q : Writing) → q.write ≡ p.write → q.origin ≡ p.origin → (c : Committed) → IsAnswerTo s f.masters p c → IsAnswerTo s f.masters q c
+  answer_stays : (q : Writing) → q.write ≡ p.write → q.origin ≡ p.origin → (c : Committed) → IsAnswerTo s f.stores p c → IsAnswerTo s f.stores q c
   answer_stays q write origin c answer = record {
-    apply = subst (λ w. CanBeApplied (client_call q.origin w) c.wrote f.masters) (sym write)
-        (subst (λ o. CanBeApplied (client_call o p.write) c.wrote f.masters) (sym origin) answer.apply);
+    apply = subst (λ w. CanBeApplied (client_call q.origin w) c.wrote f.stores) (sym write)
+        (subst (λ o. CanBeApplied (client_call o p.write) c.wrote f.stores) (sym origin) answer.apply);
     kind = subst (λ w. told_kind w c.wrote.entry ≡ Some c.kind) (sym write) answer.kind;
     passed = answer.passed;
     paired = subst (λ w. c.paired ≡ has_inverse (types_of s.schema) w) (sym write) answer.paired;
@@ -179,7 +179,7 @@ module _ (tells : Bool) (s : Settings) (tables : Tables) (f : Fleet) (p : Writin
   moves : (job : OtherEnd) (other : Option Wrote) (back : WayBack) (refused : Option Reply) (hops : ℕ)
       → (p.committed ≡ None → (job ≡ Due) × (other ≡ None))
       → (job ≡ Merged → IfSome (answered_job p) (λ j. WhereTold tells (IsMergedJob s tables (job_by p j))))
-      → IfSome (answered_job p) (λ j. StandsThere s j other f.masters)
+      → IfSome (answered_job p) (λ j. StandsThere s j other f.stores)
       → IsWriteUnderWay tells s tables f (record p { job = job; other = other; back = back; refused = refused; hops = hops })
   moves job other back refused hops begun merged stands = record {
     follower = is.follower;
@@ -204,7 +204,7 @@ module _ (tells : Bool) (s : Settings) (tables : Tables) (f : Fleet) (p : Writin
 
   -- it was committed, or not
   committed_still : (outcome : Result Committed Reply) (hops : ℕ) → p.committed ≡ None
-      → IfOk outcome (IsAnswerTo s f.masters p) → IfOk outcome (λ c. IfSome c.wrote.job (λ j. CanBeMerged tells s tables (job_by p j)))
+      → IfOk outcome (IsAnswerTo s f.stores p) → IfOk outcome (λ c. IfSome c.wrote.job (λ j. CanBeMerged tells s tables (job_by p j)))
       → IsWriteUnderWay tells s tables f (after_stage p (came.Commit outcome) hops)
   committed_still (Ok c) hops none answer job = record {
     follower = is.follower;
@@ -215,7 +215,7 @@ module _ (tells : Bool) (s : Settings) (tables : Tables) (f : Fleet) (p : Writin
     committed = answer_stays _ refl refl c answer;
     job = job;
     merged = λ at. (let due = (is.begun none).0 in absurd (cc));
-    other = subst (λ o. IfSome c.wrote.job (λ j. StandsThere s j o f.masters)) (sym (is.begun none).1) (none_there s f.masters c.wrote.job);
+    other = subst (λ o. IfSome c.wrote.job (λ j. StandsThere s j o f.stores)) (sym (is.begun none).1) (none_there s f.stores c.wrote.job);
   }
   committed_still (Err reply) hops none answer job = refused_still reply _
 
@@ -223,13 +223,13 @@ module _ (tells : Bool) (s : Settings) (tables : Tables) (f : Fleet) (p : Writin
     not_begun : (due : OtherEnd) (other : Option Wrote) → p.committed ≡ None → (due ≡ Due) × (other ≡ None)
     not_begun due other none = absurd (answered_none p job at none)
 
-    there : (more : Option Wrote) → StandsThere s job more f.masters → IfSome (answered_job p) (λ j. StandsThere s j (written_there p.other more) f.masters)
-    there more now = subst (λ o. IfSome o (λ j. StandsThere s j (written_there p.other more) f.masters)) (sym at)
-        (more_there s f.masters job p.other more (subst (λ o. IfSome o (λ j. StandsThere s j p.other f.masters)) at is.other) now)
+    there : (more : Option Wrote) → StandsThere s job more f.stores → IfSome (answered_job p) (λ j. StandsThere s j (written_there p.other more) f.stores)
+    there more now = subst (λ o. IfSome o (λ j. StandsThere s j (written_there p.other more) f.stores)) (sym at)
+        (more_there s f.stores job p.other more (subst (λ o. IfSome o (λ j. StandsThere s j p.other f.stores)) at is.other) now)
 
     -- its job was merged, or not
     merged_still : (result : Result Wrote Late) (hops : ℕ) → WhereTold tells (OnOk result (IsMergedJob s tables (job_by p job)))
-        → StandsThere s job (known_of result) f.masters → IsWriteUnderWay tells s tables f (after_stage p (came.Inverse result) hops)
+        → StandsThere s job (known_of result) f.stores → IsWriteUnderWay tells s tables f (after_stage p (came.Inverse result) hops)
     merged_still (Ok wrote) hops merged stands =
         moves Merged (written_there p.other (Some wrote)) p.back p.refused _ (not_begun Merged (written_there p.other (Some wrote)))
         (λ now. subst (λ o. IfSome o (λ j. WhereTold tells (IsMergedJob s tables (job_by p j)))) (sym at) merged) (there (Some wrote) stands)
@@ -244,7 +244,7 @@ module _ (tells : Bool) (s : Settings) (tables : Tables) (f : Fleet) (p : Writin
     ended_still (Ok done) hops none = moves Ended p.other p.back p.refused _ (not_begun Ended p.other) (λ now. absurd (cc)) is.other
     ended_still (Err (Scheduled why wrote)) hops none =
         moves (Open why) (written_there p.other wrote) p.back p.refused _ (not_begun (Open why) (written_there p.other wrote))
-        (λ now. absurd (cc)) (there wrote (subst (λ o. StandsThere s job o f.masters) (sym none) tt))
+        (λ now. absurd (cc)) (there wrote (subst (λ o. StandsThere s job o f.stores) (sym none) tt))
     ended_still (Err (Refused reply)) hops none = refused_still reply _
 
 -- ---- commit
@@ -266,22 +266,22 @@ of_write leader p follower origin write P of h =
 -- what a commit came to: its follower may take it, its job may be merged, or it was refused
 pub record ComesOfCommit (tells : Bool) (s : Settings) (sent : SentWrite) (wrote : Result Wrote Reply) (old new : Posting) : Type 0 where
   pub committed : IfOk wrote (λ w. IsCommitted tells s sent w old new)
-  pub apply : IfOk wrote (λ w. CanBeApplied sent.call w new.scene.fleet.masters)
+  pub apply : IfOk wrote (λ w. CanBeApplied sent.call w new.scene.fleet.stores)
   pub job : IfOk wrote (λ w. IfSome w.job (λ j. CanBeMerged tells s new.scene.keepers.told (job_on (write_shard sent.call.write) j)))
   pub refused : IfErr wrote (λ reply. RefusesCommit tells s sent reply old new)
 
 -- what the leader answered, its follower may take
-answer_of : (s : Settings) (masters : List Store) (p : Writing) (wrote : Result Wrote Reply) (outcome : Result Committed Reply)
-    → IsTakenAs s p.write wrote outcome → IfOk wrote (λ w. CanBeApplied (call_of_plan p) w masters) → IfOk outcome (IsAnswerTo s masters p)
-answer_of s masters p (Ok w) (Ok c) taken apply = record {
-  apply = subst (λ x. CanBeApplied (call_of_plan p) x masters) (sym taken.0) apply;
+answer_of : (s : Settings) (stores : List Store) (p : Writing) (wrote : Result Wrote Reply) (outcome : Result Committed Reply)
+    → IsTakenAs s p.write wrote outcome → IfOk wrote (λ w. CanBeApplied (call_of_plan p) w stores) → IfOk outcome (IsAnswerTo s stores p)
+answer_of s stores p (Ok w) (Ok c) taken apply = record {
+  apply = subst (λ x. CanBeApplied (call_of_plan p) x stores) (sym taken.0) apply;
   kind = subst (λ (x : Wrote). told_kind p.write x.entry ≡ Some c.kind) (sym taken.0) taken.1;
   passed = taken.2;
   paired = taken.3;
 }
-answer_of s masters p (Ok w) (Err reply) taken apply = tt
-answer_of s masters p (Err refusal) (Ok c) taken apply = absurd taken
-answer_of s masters p (Err refusal) (Err reply) taken apply = tt
+answer_of s stores p (Ok w) (Err reply) taken apply = tt
+answer_of s stores p (Err refusal) (Ok c) taken apply = absurd taken
+answer_of s stores p (Err refusal) (Err reply) taken apply = tt
 
 -- and its job may be merged
 job_of_answer : (s : Settings) (write : Write) (P : Job → Type 0) (wrote : Result Wrote Reply) (outcome : Result Committed Reply)
@@ -297,7 +297,7 @@ commits_done : (tells : Bool) (s : Settings) (leader : NodeName) (p q : Writing)
 commits_done tells s leader p q old new (Ok w) (Ok c) taken comes then = inl (record {
   committed = c;
   commits = subst (λ x. IsCommitted tells s (sent_write (way_by leader p) (call_of_plan p)) x old new) (sym taken.0) comes.committed;
-  answer = answer_of s new.scene.fleet.masters p (Ok w) (Ok c) taken comes.apply;
+  answer = answer_of s new.scene.fleet.stores p (Ok w) (Ok c) taken comes.apply;
   then = then;
 })
 commits_done tells s leader p q old new (Err refusal) (Err reply) taken comes then = inr (record {
@@ -359,13 +359,13 @@ module _ (tells : Bool) (s : Settings) (leader : NodeName) (p q : Writing) (old 
       let comes = of_write leader p follower origin write (λ way call. ComesOfCommit tells s (sent_write way call) wrote old new) of comes_so in
       passes Commit (came.Commit outcome) then (commits_done tells s leader p q old new wrote outcome taken comes then)
       (committed_still tells s tables new.scene.fleet p later outcome hops (before_commit p at)
-      (answer_of s new.scene.fleet.masters p wrote outcome taken comes.apply)
+      (answer_of s new.scene.fleet.stores p wrote outcome taken comes.apply)
       (job_of_answer s p.write (λ j. CanBeMerged tells s tables (job_by p j)) wrote outcome taken comes.job))
 
   pub merges_pass : (job : Job) (shard : ℕ) (result : Result Wrote Late) (took : ℕ) → answered_job p ≡ Some job → shard ≡ write_shard p.write
       → MergesOver tells s (job_way leader (job_on shard job)) result old new
       → WhereTold tells (OnOk result (IsMergedJob s new.scene.keepers.told (job_on shard job)))
-      → StandsThere s job (known_of result) new.scene.fleet.masters
+      → StandsThere s job (known_of result) new.scene.fleet.stores
       → took ≡ hops → q ≡ after_stage p (came.Inverse result) took → PassesWriteStage (led_by tells s leader) Inverse p old q new
   merges_pass job shard result took answered shard_is merges merged stands took_is took_so =
       let tables = new.scene.keepers.told in

@@ -8,3 +8,12 @@ pub mod Standing
 pub mod WholeStages
 pub mod WritesGoOn
 pub mod HeldWriteStages
+pub mod StagesLeft
+pub mod InTurn
+mod InverseThere
+pub mod ReadRefusals
+mod Taking
+mod WholeReads
+pub mod WholeRuns
+mod WholeWrites
+pub mod WriteRefusals

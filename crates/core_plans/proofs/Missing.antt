@@ -1,7 +1,10 @@
 -- A critical read misses nothing that it didn't before.
 use Rattle.std.proofs.Common.{◌≡◌, ◌∙◌, ℕ, ◌≤◌, true, Bool, List, length, drop, sym, ap, subst, arith}
+use Rattle.core_model.proofs.FoundStores.{found_at, is_called_so}
+use Rattle.core_model.specs.Pens.{is_called}
 use Rattle.core_model.specs.Reads.{StoreReads}
 use Rattle.core_model.specs.Stores.{AreStoresOf, master_log, master_store}
+use Rattle.core_steps.specs.Reads.{master_calls}
 use Rattle.graph_model.proofs.Versions.{version-append}
 use Rattle.graph_model.specs.Log.{version}
 use Rattle.read_plan.specs.Readings.{Reading}
@@ -61,13 +64,15 @@ out_comes types log query (out.Filled fill) least now is le = subst (λ v. least
 out_comes types log query (out.Past answer v total note) least now is le = subst (λ n. least ≤ n) (sym is.0.version_is) le
 
 -- it read the whole log
-pub store_comes : (tells : Bool) (s : Settings) (p : Reading) (old new : KeeperState) (masters : List Store) (read : ReadOut) (least now : ℕ)
-    → AreStoresOf tells s old.told masters → StoreReads (types_of s.schema) p.query read masters old new → tells ≡ true
+pub store_comes : (tells : Bool) (s : Settings) (p : Reading) (old new : KeeperState) (stores : List Store) (read : ReadOut) (least now : ℕ)
+    → AreStoresOf tells s old.told stores → StoreReads (types_of s.schema) p.query read (master_calls s p.query stores old new) → tells ≡ true
     → least ≤ version_now s p old → HasComeTo least now (after_master read)
-store_comes tells s p old new masters read least now are reads told le =
+store_comes tells s p old new stores read least now are reads told le =
     let types = types_of s.schema in
     let shard = query_shard p.query in
-    let told_is = (are.seen shard reads.store reads.stands).told_is in
-    let name_is = (are.masters.each shard reads.store reads.stands).name_is in
+    let at = master_store s shard in
+    let found = found_at (is_called at) stores reads.store reads.stands in
+    let told_is = (are.seen found.0 reads.store found.1).told_is in
+    let name_is = is_called_so at reads.store found.2 in
     let is = subst (λ n. IsReadOutOf types (old.told n).log p.query read) name_is (reads.reads (told_is ∙ told)) in
     out_comes types (master_log s old.told shard) p.query read least now is le

@@ -1,9 +1,8 @@
 -- Plans by their numbers, of which one changes.
-use Rattle.std.proofs.Common.{◌≡◌, ◌∙◌, ℕ, Bool, cond, refl, sym, ap, subst, arith}
-use Rattle.std.proofs.lemmas.Bool.Decides.{nat_tests}
+use Rattle.std.proofs.Common.{◌≡◌, ◌∙◌, ℕ, Bool, cond, refl, sym, ap, subst}
 use Rattle.std.specs.BTreeMap.{BTreeMap, WritesThrough, get}
-use Rattle.std.specs.Ordering.{is_eq, nat_cmp}
-use Rattle.std.specs.Prelude.{◌==◌, IfSome, IsSome, Some, true}
+use Rattle.std.specs.Ordering.{nat_cmp}
+use Rattle.std.specs.Prelude.{IfSome, IsSome, Some}
 use Rattle.core_model.specs.Fleet.{Fleet}
 use Rattle.core_plans.specs.Held.{ChangesPlan, IsUnderWay, Plans, StepsHeld, StepsPlan, plan_at}
 use Rattle.core_plans.specs.declared.held.HeldPlan.{HeldPlan}
@@ -12,9 +11,7 @@ use Rattle.core_steps.specs.Posting.{Posting}
 use Rattle.node_name.specs.declared.NodeName.{NodeName}
 use Rattle.tao_keeper.specs.Table.{Tables}
 use Rattle.topology.specs.Config.{Settings}
-
-same_order : (x y : ℕ) → is_eq (nat_cmp x y) ≡ (y == x)
-same_order x y = grind (arith, nat_tests)
+use Rattle.tao_base.proofs.Tests.{eqb-self, same_order}
 
 changes_plan : (number : ℕ) (after : HeldPlan) (old new : BTreeMap ℕ HeldPlan) → IsSome (get nat_cmp old number)
     → WritesThrough nat_cmp (nat_cmp number) old after new → ChangesPlan number after old.entries new.entries
@@ -36,9 +33,6 @@ steps_plan tells s leader number plans map later before after old new is found s
       changes = changes_plan number after map later (subst IsSome found refl) writes;
     })
 
-same_self : (n : ℕ) → (n == n) ≡ true
-same_self n = grind (arith, nat_tests)
-
 -- the plan that was found was written back as it is then, which can go on where it could
 pub still_under_way : (tells : Bool) (s : Settings) (tables : Tables) (f : Fleet) (number : ℕ) (plans : Plans) (map later : BTreeMap ℕ HeldPlan)
     (before after : HeldPlan) → map.entries ≡ plans → Some before ≡ get nat_cmp map number → WritesThrough nat_cmp (nat_cmp number) map after later
@@ -48,6 +42,6 @@ still_under_way tells s tables f number plans map later before after is found wr
     let P = IsUnderWay tells s tables f in
     let change = changes_plan number after map later (subst IsSome found refl) writes in
     let now : plan_at later.entries number ≡ Some after =
-    change.sets number ∙ ap (λ b. cond b (Some after) (plan_at map.entries number)) (same_self number) in
+    change.sets number ∙ ap (λ b. cond b (Some after) (plan_at map.entries number)) (eqb-self number) in
     let then : plan_at plans number ≡ Some before = subst (λ seen. plan_at seen number ≡ Some before) is (sym found) in
     subst (λ o. IfSome o P) (sym now) (still (subst (λ o. IfSome o P) then was))

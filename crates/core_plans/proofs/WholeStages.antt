@@ -1,13 +1,13 @@
--- A stage of a read, from nodes that have processed the whole logs, misses nothing that the read didn't miss before.
+-- A stage of a read, from nodes that are up, where stores and nodes are settled, misses nothing that the read didn't miss before.
 use Rattle.std.proofs.Common.{◌≡◌, ℕ, ◌≤◌, Bool, true, false, Option, Some, None, refl, sym, subst, inl, inr, arith}
 use Rattle.cache_items.specs.declared.look.Look.{Look}
 use Rattle.cache_items.specs.declared.look.Look.TheVariants.{Hit, Miss}
 use Rattle.core_model.specs.Consistent.{IsConsistent}
 use Rattle.core_model.specs.Fleet.{ChangesNode}
 use Rattle.core_model.specs.Reads.{LooksFirst}
-use Rattle.core_nodes.specs.Beginning.{AreAtEnds}
+use Rattle.core_model.specs.States.{AreSettled, nodes_now}
 use Rattle.core_steps.specs.Routes.{Scene}
-use Rattle.core_steps.proofs.WholeReads.{GivesLast, given_last, hit_last}
+use Rattle.core_steps.proofs.LastVersions.{GivesLast, given_last, hit_last}
 use Rattle.node_name.specs.declared.NodeName.{NodeName}
 use Rattle.read_plan.specs.Readings.{Reading}
 use Rattle.read_plan.specs.Standings.{after_ask, after_keep, after_look}
@@ -21,6 +21,7 @@ use Rattle.tao_base.specs.Queries.{query_key, query_shard}
 use Rattle.tao_keeper.specs.Growing.{LogsGrow}
 use Rattle.tao_schema.specs.Schema.{types_of}
 use Rattle.topology.specs.Config.{Settings}
+use Rattle.topology.specs.States.{NodeStates, is_up}
 use Rattle.core_plans.specs.HeldLaws.{StagesMissNothing}
 use Rattle.core_plans.specs.HeldReads.{DoesLook, DoesReadStage, HasComeTo, DoesKeep, version_now, wanted_by}
 use Rattle.core_plans.proofs.Missing.{store_comes, version_later}
@@ -32,8 +33,10 @@ given_comes floor last least now (leads.Filled fill) gives le on = omega (arith,
 given_comes floor last least now (leads.Past answer version total note) gives le on = omega (arith, gives, le)
 given_comes floor last least now (leads.Behind version) gives le on = omega (arith, le, on)
 
-module _ (s : Settings) (leader : NodeName) (p q : Reading) (old new : Scene) (are : IsConsistent true s old.keepers.told old.fleet)
-    (ends : AreAtEnds s old.keepers.told old.fleet) (grows : LogsGrow true old.keepers.told new.keepers.told) (least : ℕ) where
+module _ (s : Settings) (leader : NodeName) (p q : Reading) (old new : Scene) (states : NodeStates)
+    (are : IsConsistent true s old.keepers.told old.fleet) (settled : AreSettled s old.keepers.told (nodes_now old.fleet states))
+    (follower_up : is_up states p.follower ≡ true) (leader_up : is_up states leader ≡ true)
+    (grows : LogsGrow true old.keepers.told new.keepers.told) (least : ℕ) where
   abbrev last : ℕ
   last = version_now s p old.keepers
 
@@ -52,7 +55,7 @@ module _ (s : Settings) (leader : NodeName) (p q : Reading) (old new : Scene) (a
       → ChangesNode p.follower (LooksFirst (types_of s.schema) (wanted_by p) look ask) old.fleet.followers new.fleet.followers
       → least ≤ last → HasComeTo least now (after_look false look)
   look_comes (Hit answer version) ask change le =
-      let is = hit_last s (wanted_by p) old.keepers old.fleet are ends p.follower answer version ask new.fleet.followers change in
+      let is = hit_last s (wanted_by p) old.keepers old.fleet states are settled p.follower answer version ask new.fleet.followers follower_up change in
       omega (arith, is, le)
   look_comes Miss ask change le = omega (arith, le, on)
 
@@ -85,14 +88,15 @@ module _ (s : Settings) (leader : NodeName) (p q : Reading) (old new : Scene) (a
   stage_comes Looking at does come = looks_come p.critical refl does come
   stage_comes Asking at does come = elim does [
     | inl asks ↦
-        let gave = given_last s (wanted_by p) old.keepers old.fleet are ends leader asks.given new.keepers new.fleet.leaders asks.over.gives.asks in
+        let gave = given_last s (wanted_by p) old.keepers old.fleet states are settled leader asks.given new.keepers new.fleet.leaders leader_up
+        asks.over.gives.asks in
         subst Comes (sym asks.then) (given_comes p.floor last least now asks.given gave come on)
     | inr vain ↦ subst Comes (sym vain.then) tt
   ]
   stage_comes Mastering at does come = elim does [
     | inl masters ↦
         subst Comes (sym masters.then)
-        (store_comes true s p old.keepers new.keepers old.fleet.masters masters.out least now are.stores masters.over.reads refl come)
+        (store_comes true s p old.keepers new.keepers old.fleet.stores masters.out least now are.stores masters.over.reads refl come)
     | inr vain ↦ subst Comes (sym vain.then) tt
   ]
   stage_comes (Keeping given) at does come = keeps_come given at does come
@@ -100,5 +104,6 @@ module _ (s : Settings) (leader : NodeName) (p q : Reading) (old new : Scene) (a
 
 pub stages_miss_nothing : (s : Settings) (leader : NodeName) (p q : Reading) (old new : Scene) → StagesMissNothing s leader p old q new
 stages_miss_nothing s leader p q old new = record {
-  whole = λ steps are ends grows least come. stage_comes s leader p q old new are ends grows least p.at refl steps.does come;
+  whole = λ states steps are settled follower_up leader_up grows least come.
+      stage_comes s leader p q old new states are settled follower_up leader_up grows least p.at refl steps.does come;
 }

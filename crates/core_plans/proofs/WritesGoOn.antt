@@ -5,7 +5,7 @@ use Rattle.std.proofs.lemmas.Option.{IfSome_then}
 use Rattle.core_model.proofs.StayingJobs.{jobs_stay_owed}
 use Rattle.core_model.specs.Consistent.{GoesOn, IsConsistent}
 use Rattle.core_model.specs.Fleet.{Fleet}
-use Rattle.core_model.specs.Growing.{MastersGrow}
+use Rattle.core_model.specs.Growing.{StoresGrow}
 use Rattle.core_model.specs.Jobs.{CanBeMerged, IsMergedJob, ShardJob, far_shard}
 use Rattle.core_model.specs.Pens.{Rise, pens_of}
 use Rattle.core_model.specs.Stores.{AreKeptIn}
@@ -74,37 +74,37 @@ module _ (tells : Bool) (s : Settings) (tables later : Tables) (grows : LogsGrow
 
 -- it can go on
 pub write_later : (tells : Bool) (s : Settings) (tables later : Tables) (f g : Fleet) (p : Writing) → IsConsistent tells s later g → GoesOn f g
-    → MastersGrow tells s tables later → IsWriteUnderWay tells s tables f p → IsWriteUnderWay tells s later g p
+    → StoresGrow tells s tables later → IsWriteUnderWay tells s tables f p → IsWriteUnderWay tells s later g p
 write_later tells s tables later f g p consistent goes grows is = record {
   follower = is.follower;
   region = is.region;
   changes = is.changes;
   client = is.client;
   begun = is.begun;
-  committed = IfSome_then p.committed is.committed (answer_later f.masters g.masters goes.rise s p);
+  committed = IfSome_then p.committed is.committed (answer_later f.stores g.stores goes.rise s p);
   job = IfSome_then (answered_job p) is.job (λ job. owed_later tells s tables later grows.logs (job_by p job));
   merged = λ at. IfSome_then (answered_job p) (is.merged at)
       (λ job. merged_later tells s tables later grows.logs consistent.stores.kept (job_by p job));
-  other = IfSome_then (answered_job p) is.other (λ job. stands_later f.masters g.masters goes.rise s job p.other);
+  other = IfSome_then (answered_job p) is.other (λ job. stands_later f.stores g.stores goes.rise s job p.other);
 }
 
 -- also where no log of a master changed
-pub same_masters : (tells : Bool) (s : Settings) (tables : Tables) (f g : Fleet) (p : Writing) → g.masters ≡ f.masters
+pub same_stores : (tells : Bool) (s : Settings) (tables : Tables) (f g : Fleet) (p : Writing) → g.stores ≡ f.stores
     → IsWriteUnderWay tells s tables f p → IsWriteUnderWay tells s tables g p
-same_masters tells s tables f g p same is = record {
+same_stores tells s tables f g p same is = record {
   follower = is.follower;
   region = is.region;
   changes = is.changes;
   client = is.client;
   begun = is.begun;
-  committed = subst (λ masters. IfSome p.committed (IsAnswerTo s masters p)) (sym same) is.committed;
+  committed = subst (λ stores. IfSome p.committed (IsAnswerTo s stores p)) (sym same) is.committed;
   job = is.job;
   merged = is.merged;
-  other = subst (λ masters. IfSome (answered_job p) (λ job. StandsThere s job p.other masters)) (sym same) is.other;
+  other = subst (λ stores. IfSome (answered_job p) (λ job. StandsThere s job p.other stores)) (sym same) is.other;
 }
 
 -- so each plan that is held
 pub plan_later : (tells : Bool) (s : Settings) (tables later : Tables) (f g : Fleet) (plan : HeldPlan) → IsConsistent tells s later g → GoesOn f g
-    → MastersGrow tells s tables later → IsUnderWay tells s tables f plan → IsUnderWay tells s later g plan
+    → StoresGrow tells s tables later → IsUnderWay tells s tables f plan → IsUnderWay tells s later g plan
 plan_later tells s tables later f g (Read p) consistent goes grows is = under_way_later tells s tables later f g p is goes grows
 plan_later tells s tables later f g (Write p) consistent goes grows is = write_later tells s tables later f g p consistent goes grows is

@@ -6,7 +6,8 @@ use Rattle.std.specs.Ordering.{nat_cmp}
 use Rattle.ask_table.specs.Asks.{Asks}
 use Rattle.std.specs.List.{list_any}
 use Rattle.core_model.specs.Fleet.{Fleet, named}
-use Rattle.core_model.specs.Serving.{IsLeaderFor}
+use Rattle.core_model.specs.Serving.{IsLeaderFor, IsLeaderIn}
+use Rattle.core_model.specs.Stores.{master_of}
 use Rattle.core_model.specs.declared.named.Named.{Named}
 use Rattle.core_steps.specs.OtherEnds.{told_entry, told_there}
 use Rattle.core_steps.specs.Posting.{Posting}
@@ -49,12 +50,12 @@ abbrev pub next_stage : HeldPlan → Option Stage
 next_stage (Read p) = stage_named (stage_of p.at)
 next_stage (Write p) = told_stage (next_of p)
 
--- it is over, with this reply
+-- the plan is over, with this reply
 abbrev pub IsOver : HeldPlan → Reply → Type 0
 IsOver (Read p) reply = EndsWith p reply
 IsOver (Write p) reply = reply_of p ≡ Some reply
 
--- it is under way, as its kind is
+-- the plan is under way, as a read or as a write
 abbrev pub IsUnderWay : Bool → Settings → Tables → Fleet → HeldPlan → Type 0
 IsUnderWay tells s tables f (Read p) = IsReadUnderWay tells s tables f p
 IsUnderWay tells s tables f (Write p) = IsWriteUnderWay tells s tables f p
@@ -69,6 +70,7 @@ told_here p = option_and_then (λ c. told_entry (write_shard p.write) c.wrote) p
 abbrev pub told_of_write : Writing → ToldEntries
 told_of_write p = record { here = told_here p; other = told_there (answered_job p) p.other }
 
+-- what a session is told where there is no entry to learn, here or at the other end
 abbrev pub nothing_told : ToldEntries
 nothing_told = record { here = None; other = None }
 
@@ -84,7 +86,7 @@ learner_at Apply (Client session seq) = Some session
 learner_at Apply (Merge shard position) = None
 learner_at next origin = None
 
--- the same of a plan; a read teaches none
+-- the session that learns of a plan of which only the last stage is left; None at other stages, and for reads and merges
 abbrev pub learner : HeldPlan → Option ℕ
 learner (Write p) = learner_at (next_of p) p.origin
 learner (Read p) = None
@@ -100,6 +102,7 @@ given_up (Read p) = Read p
 abbrev pub Plans : Type 0
 Plans = List (ℕ × HeldPlan)
 
+-- the plans that are held, as contracts see them
 abbrev pub plans_seen : Inside → Plans
 plans_seen p = p.plans.entries
 
@@ -107,7 +110,7 @@ plans_seen p = p.plans.entries
 abbrev pub plan_at : Plans → ℕ → Option HeldPlan
 plan_at plans number = lookup (is_at (nat_cmp number)) plans
 
--- how many they are
+-- how many plans are held
 abbrev pub plan_count : Plans → ℕ
 plan_count plans = length plans
 
@@ -132,18 +135,18 @@ pub record ChangesPlan (number : ℕ) (plan : HeldPlan) (old new : Plans) : Type
 
 -- ---- one step
 
--- the leader is one for the plan's shard
+-- the leader may lead the plan's stages: for a read it serves the shard, for a write it is one of the master's region, and may stand in for another
 abbrev pub IsLeaderOf : Settings → NodeName → HeldPlan → Type 0
 IsLeaderOf s leader (Read p) = IsLeaderFor s (query_shard p.query) leader
-IsLeaderOf s leader (Write p) = IsLeaderFor s (write_shard p.write) leader
+IsLeaderOf s leader (Write p) = IsLeaderIn s (master_of s (write_shard p.write)) leader
 
--- a plan is there that can go on, and the leader is one for its shard
+-- a plan is there that can go on, and the leader may lead it
 pub record IsThere (tells : Bool) (s : Settings) (tables : Tables) (f : Fleet) (leader : NodeName) (plan : HeldPlan) : Type 0 where
   pub under_way : IsUnderWay tells s tables f plan
   pub goes_on : IsSome (next_stage plan)
   pub leader_is : IsLeaderOf s leader plan
 
--- a plan is held there, and that leader may do its next stage
+-- a plan is held there, and that leader may lead its next stage
 abbrev pub CanStep : Bool → Settings → Tables → Fleet → NodeName → Option HeldPlan → Type 0
 CanStep tells s tables f leader None = ⊥
 CanStep tells s tables f leader (Some plan) = IsThere tells s tables f leader plan
@@ -211,7 +214,7 @@ IsBefore Ahead = ⊤
 IsBefore Relayed = ⊤
 IsBefore Applied = ⊥
 
--- and a write's way back is done last
+-- a read opens no ask before it has looked, and of a write that is held the way back isn't done
 abbrev pub OpensFirst : HeldPlan → Type 0
 OpensFirst (Read p) = HasNoneAt p.at p.ask
 OpensFirst (Write p) = IsBefore p.back

@@ -1,33 +1,29 @@
 -- What stays so of the asks of held reads.
-use Rattle.std.specs.Prelude.{ℕ, ◌≡◌, ◌≤◌, Bool, List, Option, Result, true}
+use Rattle.std.specs.Prelude.{ℕ, ◌≡◌, ◌≤◌, Bool, List, Option, true}
 use Rattle.cache_items.specs.declared.look.Kept.{Kept}
-use Rattle.cache_items.specs.declared.look.Look.TheVariants.{Hit, Miss}
+use Rattle.cache_items.specs.declared.look.Look.TheVariants.{Hit}
 use Rattle.core_model.specs.Consistent.{IsConsistent}
+use Rattle.core_model.specs.Emptied.{Anew, FollowerBeginsAnew}
 use Rattle.core_model.specs.Evictions.{Evicts}
 use Rattle.core_model.specs.Fleet.{ChangesNode}
 use Rattle.core_model.specs.Messages.{DeliversThere, TakesRefill}
+use Rattle.core_model.specs.Pens.{Pens}
 use Rattle.core_model.specs.Reads.{EndsAsk, KeepsFill, LooksFirst, Wanted, taken_fill}
+use Rattle.core_model.specs.States.{AreSettled, nodes_now}
 use Rattle.core_model.specs.Writes.{AppliesTo}
 use Rattle.core_model.specs.declared.named.Named.{Named}
-use Rattle.core_nodes.specs.Beginning.{AreAtEnds}
 use Rattle.core_plans.specs.Held.{AsksAreHeld, OpensNone, Plans}
 use Rattle.core_plans.specs.HeldReads.{HasComeTo, MissesNone, StepsRead, version_now}
 use Rattle.core_plans.specs.HeldWrites.{DoesWriteStage}
 use Rattle.core_plans.specs.LedBy.{led_by}
-use Rattle.core_steps.specs.CriticalReads.{ReadsCritical, follower_read}
-use Rattle.core_steps.specs.Reads.{ReadsAlong, sent_read}
 use Rattle.core_steps.specs.Routes.{Scene}
 use Rattle.core_steps.specs.Posting.{Posting}
-use Rattle.core_steps.specs.Writes.{AuthoredWrite, WritesAlong, sent_write}
-use Rattle.core_steps.specs.declared.routes.Route.{Route}
-use Rattle.core_steps.specs.declared.writes.CarriedOut.{CarriedOut}
 use Rattle.follower_cache.specs.Seen.{FollowerState}
 use Rattle.follower_cache.specs.declared.queue.Refill.{Refill}
 use Rattle.maint_msg.specs.Maints.{SeenMaint}
 use Rattle.node_name.specs.declared.NodeName.{NodeName}
 use Rattle.read_plan.specs.Readings.{Reading}
 use Rattle.read_plan.specs.declared.standing.Standing.TheVariants.{Looking}
-use Rattle.replies.specs.declared.reply.Reply.{Reply}
 use Rattle.sealed_item.specs.Fills.{SealedItem}
 use Rattle.shard_log.specs.View.{View}
 use Rattle.tao_base.specs.EdgeTypes.{EdgeTypes}
@@ -38,6 +34,7 @@ use Rattle.tao_base.specs.declared.query.Query.{Query}
 use Rattle.tao_keeper.specs.Growing.{LogsGrow}
 use Rattle.tao_keeper.specs.KeeperState.{KeeperState}
 use Rattle.topology.specs.Config.{Settings}
+use Rattle.topology.specs.States.{NodeStates, is_up}
 use Rattle.write_plan.specs.Plans.{Writing}
 use Rattle.write_plan.specs.declared.stage.WriteStage.{WriteStage}
 
@@ -58,26 +55,14 @@ pub record ChangesOpenNone (name : NodeName) (old new : Followers) : Type 0 wher
   pub refills : (refill : Option Refill) → ChangesNode name (TakesRefill refill) old new → OpensNone old new
   pub evicts : (key : Option Key) (held : Bool)
       → ChangesNode name (λ from to. Evicts key held from.node to.node × (to.refills ≡ from.refills)) old new → OpensNone old new
-  -- a look that finds nothing opens one, which ends with the read
-  pub in_vain : (types : EdgeTypes) (read : Wanted) (ask : Option ℕ) (looked : Followers)
-      → ChangesNode name (LooksFirst types read Miss ask) old looked → ChangesNode name (EndsAsk ask) looked new → OpensNone old new
-  pub filled : (types : EdgeTypes) (read : Wanted) (ask : Option ℕ) (fill : SealedItem) (answer : Answer) (kept : Kept) (looked : Followers)
-      → ChangesNode name (LooksFirst types read Miss ask) old looked
-      → ChangesNode name (KeepsFill types read.query (taken_fill ask fill answer kept)) looked new → OpensNone old new
+  pub empties : (pens : Pens) (at : Anew) → ChangesNode name (FollowerBeginsAnew pens at) old new → OpensNone old new
 
--- where no ask opens, each that is open is still that of a held read; and whole reads and writes open none
+-- where no ask opens, each that is open is still that of a held read; and a write opens none
 pub record AsksStayHeld : Type 0 where
   pub held : (plans : Plans) (old new : Followers) → OpensNone old new → AsksAreHeld plans old → AsksAreHeld plans new
   pub same : (old new : Followers) → new ≡ old → OpensNone old new
   pub on : (old mid new : Followers) → OpensNone old mid → OpensNone mid new → OpensNone old new
   pub changes : (name : NodeName) (old new : Followers) → ChangesOpenNone name old new
-  pub reads : (tells : Bool) (s : Settings) (route : Route) (read : Wanted) (reply : Reply) (old new : Scene)
-      → ReadsAlong tells s (sent_read route read) reply old new → OpensNone old.fleet.followers new.fleet.followers
-  pub critical : (tells : Bool) (s : Settings) (follower : NodeName) (read : Wanted) (reply : Reply) (old new : Scene)
-      → ReadsCritical tells s (follower_read follower read) reply old new → OpensNone old.fleet.followers new.fleet.followers
-  pub writes : (tells : Bool) (s : Settings) (route : Route) (call : AuthoredWrite) (outcome : Result CarriedOut Reply) (old new : Posting)
-      → WritesAlong tells s (sent_write route call) outcome old new → OpensNone old.scene.fleet.followers new.scene.fleet.followers
-  -- nor does a stage of a held write
   pub stages : (tells : Bool) (s : Settings) (leader : NodeName) (at : WriteStage) (p q : Writing) (old new : Posting)
       → DoesWriteStage (led_by tells s leader) at p old q new → OpensNone old.scene.fleet.followers new.scene.fleet.followers
 
@@ -89,9 +74,10 @@ pub record NothingIsMissedLater : Type 0 where
   pub begun : (tells : Bool) (s : Settings) (least : ℕ) (p : Reading) (keepers : KeeperState) → p.at ≡ Looking
       → least ≤ version_now s p keepers → MissesNone tells s least p keepers
 
--- nor does a stage of any read miss anything that the read didn't before, where the nodes have processed the whole logs: a hit of its look, and what its
--- leader gives, have the last version
+-- no stage of any read misses anything that the read didn't before, where each store has its shard's whole log, and the read's follower and leader
+-- are up and have processed it: a hit of its look, and what its leader gives, have the last version
 pub record StagesMissNothing (s : Settings) (leader : NodeName) (p : Reading) (old : Scene) (q : Reading) (new : Scene) : Type 0 where
-  pub whole : StepsRead (led_by true s leader) p old q new → IsConsistent true s old.keepers.told old.fleet → AreAtEnds s old.keepers.told old.fleet
+  pub whole : (states : NodeStates) → StepsRead (led_by true s leader) p old q new → IsConsistent true s old.keepers.told old.fleet
+      → AreSettled s old.keepers.told (nodes_now old.fleet states) → is_up states p.follower ≡ true → is_up states leader ≡ true
       → LogsGrow true old.keepers.told new.keepers.told
       → (least : ℕ) → HasComeTo least (version_now s p old.keepers) p.at → HasComeTo least (version_now s q new.keepers) q.at

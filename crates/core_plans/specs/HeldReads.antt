@@ -52,7 +52,7 @@ wanted_by p = wanted p.query p.floor
 abbrev pub at_bound : Settings → Reading → Reading
 at_bound s p = record p { bound = key_bound (types_of s.schema) (query_key p.query) }
 
--- its way, by a leader
+-- the route of a read, by a leader
 abbrev pub route_by : NodeName → Reading → Route
 route_by leader p = record { follower = p.follower; leader = leader }
 
@@ -65,7 +65,7 @@ IsGivenTo types pens read (Past answer version total (Some note)) = IsGivenAnswe
 IsGivenTo types pens read (Past answer version total None) = ⊥
 IsGivenTo types pens read (HandedOut version) = ⊥
 
--- so where it stands: only a read that is to keep has been given something
+-- what the read was given is right for it, where it stands so: only a read that is to keep has been given something
 abbrev pub StandsSo : EdgeTypes → Pens → Wanted → Standing → Type 0
 StandsSo types pens read (Keeping given) = IsGivenTo types pens read given
 StandsSo types pens read Looking = ⊤
@@ -82,7 +82,7 @@ pub record IsReadUnderWay (tells : Bool) (s : Settings) (tables : Tables) (f : F
   pub bound : p.bound ≡ key_bound (types_of s.schema) (query_key p.query)
   pub reached : WhereTold tells (p.floor ≤ version (master_log s tables (query_shard p.query)) (query_key p.query))
   pub ask : IfSome p.ask (λ number. HasAsk p.follower number (query_key p.query) f.followers)
-  pub stands : StandsSo (types_of s.schema) (pens_of f.masters) (wanted_by p) p.at
+  pub stands : StandsSo (types_of s.schema) (pens_of f.stores) (wanted_by p) p.at
 
 -- ---- what its stages do
 
@@ -90,11 +90,11 @@ pub record IsReadUnderWay (tells : Bool) (s : Settings) (tables : Tables) (f : F
 abbrev pub ChangesFollowers : Scene → Scene → Type 0
 ChangesFollowers old new = new ≡ record old { fleet = record old.fleet { followers = new.fleet.followers } }
 
--- its ask ended
+-- the ask of the read ended at its follower
 abbrev pub EndsItsAsk : Reading → Scene → Scene → Type 0
 EndsItsAsk p old new = ChangesNode p.follower (EndsAsk p.ask) old.fleet.followers new.fleet.followers
 
--- and no other node changed
+-- the ask of the read ended at its follower, and no other node changed
 pub record EndsAskAlone (s : Settings) (p : Reading) (old new : Fleet) : Type 0 where
   pub ends : ChangesNode p.follower (EndsAsk p.ask) old.followers new.followers
   pub rest : new ≡ record old { followers = new.followers }
@@ -109,14 +109,14 @@ pub record LooksThere (s : Settings) (p : Reading) (old : Scene) (q : Reading) (
   pub rest : ChangesFollowers old new
   pub then : q ≡ taken (came.Look (Ok look)) 0 false (record p { ask = ask })
 
--- or where it is critical, opens an ask at once
+-- `look` of a critical read: the follower opens an ask at once
 pub record LooksPast (p : Reading) (old : Scene) (q : Reading) (new : Scene) : Type 0 where
   pub ask : Option ℕ
   pub asks : ChangesNode p.follower (AsksAtOnce (query_key p.query) ask) old.fleet.followers new.fleet.followers
   pub rest : ChangesFollowers old new
   pub then : q ≡ taken (came.Look (Ok Miss)) 0 false (record p { ask = ask })
 
--- or memory was wanting for its answer
+-- `look` fails: memory was wanting for the follower's answer
 pub record LooksInVain (p : Reading) (old : Scene) (q : Reading) (new : Scene) : Type 0 where
   pub same : new ≡ old
   pub then : q ≡ taken (came.Look (Err (Refused (Memory 0)))) 0 false p
@@ -132,13 +132,13 @@ pub record AsksLeader (s : Settings) (leader : NodeName) (p : Reading) (old : Sc
   pub over : IsGivenOver s (route_by leader p) (wanted_by p) given old new
   pub then : q ≡ taken (came.Ask (Ok given)) (hops_between old.link new.link) (was_called old.keepers new.keepers) p
 
--- or nothing was carried back, and its ask ends
+-- `ask` fails: nothing was carried back from the leader, and the read's ask ends
 pub record AsksInVain (s : Settings) (leader : NodeName) (p : Reading) (old : Scene) (q : Reading) (new : Scene) : Type 0 where
   pub reply : Reply
   pub fails : ReadOverFails p.follower leader reply old new
   pub leaders : MayAnswer (types_of s.schema) (route_by leader p) (wanted_by p) old new
   pub ends : EndsItsAsk p old new
-  pub masters : new.fleet.masters ≡ old.fleet.masters
+  pub stores : new.fleet.stores ≡ old.fleet.stores
   pub then : q ≡ taken (came.Ask (Err reply)) (hops_between old.link new.link) (was_called old.keepers new.keepers) p
 
 -- `master`: the master's store answers, over the link there and back
@@ -147,7 +147,7 @@ pub record AsksMaster (tells : Bool) (s : Settings) (p : Reading) (old : Scene) 
   pub over : IsReadOver tells s p.query out old new
   pub then : q ≡ taken (came.Master (Ok out)) (hops_between old.link new.link) (was_called old.keepers new.keepers) p
 
--- or nothing was carried back, and its ask ends
+-- `master` fails: nothing was carried back from the master's store, and the read's ask ends
 pub record MastersInVain (s : Settings) (p : Reading) (old : Scene) (q : Reading) (new : Scene) : Type 0 where
   pub reply : Reply
   pub fails : ReadOverFails p.follower (master_node s (query_shard p.query)) reply old new
@@ -163,7 +163,7 @@ pub record AnswersFrom (s : Settings) (p : Reading) (fill : SealedItem) (old : S
   pub rest : ChangesFollowers old new
   pub then : q ≡ taken (came.Keep (Ok (Some (answer, kept)))) 0 false p
 
--- or memory was wanting for its answer, and its ask ends
+-- `keep` fails: memory was wanting for the follower's answer, and the read's ask ends
 pub record KeepsInVain (p : Reading) (old : Scene) (q : Reading) (new : Scene) : Type 0 where
   pub ends : EndsItsAsk p old new
   pub rest : ChangesFollowers old new
@@ -208,11 +208,11 @@ HasComeTo least now (Ended (end.Refused reply)) = ⊤
 abbrev pub version_now : Settings → Reading → KeeperState → ℕ
 version_now s p keepers = version (master_log s keepers.told (query_shard p.query)) (query_key p.query)
 
--- where it is critical, it misses nothing of its key up to that version
+-- a critical read misses nothing of its key up to that version
 abbrev pub MissesNone : Bool → Settings → ℕ → Reading → KeeperState → Type 0
 MissesNone tells s least p keepers = WhereTold tells (p.critical ≡ true → HasComeTo least (version_now s p keepers) p.at)
 
--- where it ends with an answer, that is legal in the log as it is then, and what is kept is held and answers again
+-- the answer of a read that ends with one is legal in the log as it is then, and what is kept is held and answers again
 abbrev pub EndsLegally : Bool → Settings → Reading → Scene → Type 0
 EndsLegally tells s q new = (reply : ReadReply) → EndsWith q (Called (called.Read reply)) → IsLegalNow tells s (wanted_by q) reply new.keepers
     × WhereTold tells (reply.kept ≡ Kept → AnswersAgain (types_of s.schema) q.follower q.query reply new.fleet.followers)

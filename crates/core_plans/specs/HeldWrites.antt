@@ -35,10 +35,11 @@ use Rattle.write_plan.specs.declared.stage.WriteStage.{WriteStage}
 use Rattle.write_plan.specs.declared.stage.WriteStage.TheVariants.{Commit, Inverse, End, Relay, Apply, Done}
 use Rattle.core_plans.specs.LedBy.{LedBy}
 
+-- the client's write that a plan carries out, under its origin
 abbrev pub call_of_plan : Writing → AuthoredWrite
 call_of_plan p = client_call p.origin p.write
 
--- its way, by a leader
+-- the route of a write, by a leader
 abbrev pub way_by : NodeName → Writing → Route
 way_by leader p = record { follower = p.follower; leader = leader }
 
@@ -48,8 +49,8 @@ entry_position None = 0
 entry_position (Some e) = e.position
 
 -- what its commit answered: its follower may take it, and it passed no other leader
-pub record IsAnswerTo (s : Settings) (masters : List StoreSeen) (p : Writing) (c : Committed) : Type 0 where
-  pub apply : CanBeApplied (call_of_plan p) c.wrote masters
+pub record IsAnswerTo (s : Settings) (stores : List StoreSeen) (p : Writing) (c : Committed) : Type 0 where
+  pub apply : CanBeApplied (call_of_plan p) c.wrote stores
   pub kind : told_kind p.write c.wrote.entry ≡ Some c.kind
   pub passed : c.passed ≡ None
   pub paired : c.paired ≡ has_inverse (types_of s.schema) p.write
@@ -74,10 +75,10 @@ pub record IsWriteUnderWay (tells : Bool) (s : Settings) (tables : Tables) (f : 
   pub changes : ChangesType (types_of s.schema) p.write
   pub client : IsTrue (is_client p.origin)
   pub begun : p.committed ≡ None → (p.job ≡ Due) × (p.other ≡ None)
-  pub committed : IfSome p.committed (IsAnswerTo s f.masters p)
+  pub committed : IfSome p.committed (IsAnswerTo s f.stores p)
   pub job : IfSome (answered_job p) (λ job. CanBeMerged tells s tables (job_by p job))
   pub merged : p.job ≡ Merged → IfSome (answered_job p) (λ job. WhereTold tells (IsMergedJob s tables (job_by p job)))
-  pub other : IfSome (answered_job p) (λ job. StandsThere s job p.other f.masters)
+  pub other : IfSome (answered_job p) (λ job. StandsThere s job p.other f.stores)
 
 -- ---- what its stages do
 
@@ -85,10 +86,10 @@ pub record IsWriteUnderWay (tells : Bool) (s : Settings) (tables : Tables) (f : 
 pub record CommitsHeld (led : LedBy) (p : Writing) (old : Posting) (q : Writing) (new : Posting) : Type 0 where
   pub committed : Committed
   pub commits : IsCommitted led.tells led.settings (sent_write (way_by led.leader p) (call_of_plan p)) committed.wrote old new
-  pub answer : IsAnswerTo led.settings new.scene.fleet.masters p committed
+  pub answer : IsAnswerTo led.settings new.scene.fleet.stores p committed
   pub then : q ≡ after_stage p (came.Commit (Ok committed)) (hops_between old.scene.link new.scene.link)
 
--- or it was refused, and nothing changed
+-- `commit` fails: the write was refused, and no node, inbox or table changed
 pub record RefusesHeld (led : LedBy) (p : Writing) (old : Posting) (q : Writing) (new : Posting) : Type 0 where
   pub reply : Reply
   pub refuses : RefusesCommit led.tells led.settings (sent_write (way_by led.leader p) (call_of_plan p)) reply old new
@@ -119,7 +120,7 @@ pub record AppliesHeld (s : Settings) (leader : NodeName) (p : Writing) (old : P
   pub rest : AppliesAlone old new
   pub then : q ≡ after_stage p (came.Apply (Ok tt)) (hops_between old.scene.link new.scene.link)
 
--- or the way back failed: the write stands, at the position that the reply tells where there is an entry
+-- `apply` fails on the way back: the write stands, at the position that the reply tells where there is an entry
 pub record LosesWayBack (leader : NodeName) (p : Writing) (old : Posting) (q : Writing) (new : Posting) : Type 0 where
   pub committed : Committed
   pub answered : p.committed ≡ Some committed
@@ -133,7 +134,7 @@ pub record LosesWayBack (leader : NodeName) (p : Writing) (old : Posting) (q : W
 abbrev pub way_given_up : Writing → Writing
 way_given_up p = after_stage p (came.Apply (Err (Refused (Memory (entry_position (answered_entry p)))))) 0
 
--- so the write stands as well
+-- `apply` fails for want of memory: the plan ends, and the write stands as well
 pub record AppliesInVain (p : Writing) (old : Posting) (q : Writing) (new : Posting) : Type 0 where
   pub same : new ≡ old
   pub then : q ≡ way_given_up p

@@ -9,5 +9,6 @@ pub record LedBy : Type 0 where
   pub settings : Settings
   pub leader : NodeName
 
+-- the leader of that name, by a configuration, over keepers that tell their tables or not
 abbrev pub led_by : Bool → Settings → NodeName → LedBy
 led_by tells s leader = record { tells = tells; settings = s; leader = leader }

@@ -3,3 +3,5 @@ pub mod HeldLaws
 pub mod HeldReads
 pub mod HeldWrites
 pub mod LedBy
+pub mod WholeCalls
+pub mod WholeLaws

@@ -1,9 +1,14 @@
-//! What stays so. The law is the contract of a function that does nothing.
+//! What stays so, and what a plan comes to that is carried out whole. Each law is the contract of a function that does nothing.
 ghost use Rattle.core_plans.specs.HeldLaws.{AsksStayHeld, NothingIsMissedLater, StagesMissNothing};
+ghost use Rattle.core_plans.specs.LedBy.{LedBy};
+ghost use Rattle.core_plans.specs.WholeLaws.{WholeRead, WholeWrite, WrittenIsThere};
+ghost use Rattle.core_plans.specs.declared.held.HeldPlan.{HeldPlan as AnyPlan};
+ghost use Rattle.core_steps.specs.Posting.{Posting};
 ghost use Rattle.core_steps.specs.Routes.{Scene};
 ghost use Rattle.node_name.specs.declared.NodeName.{NodeName as AnyNode};
 ghost use Rattle.read_plan.specs.Readings.{Reading};
 ghost use Rattle.topology.specs.Config.{Settings};
+ghost use Rattle.write_plan.specs.Plans.{Writing};
 
 /// Each open ask stays that of one held read, whatever is done to the nodes but for the look of a held read.
 #[tactic(auto, using(crate::proofs::AsksHeld::asks_stay_held))]
@@ -17,8 +22,28 @@ pub fn nothing_is_missed_later()
     ensures { NothingIsMissedLater }
 {}
 
-/// A stage of a held read misses nothing that the read didn't miss before, where all nodes have processed the whole logs.
+/// A stage of a held read misses nothing that the read didn't miss before, where stores and nodes are settled and its follower and leader are up.
 #[tactic(auto, using(crate::proofs::WholeStages::stages_miss_nothing))]
 pub fn stages_miss_nothing()
     ensures { (s : Settings) (leader : AnyNode) (p q : Reading) (old new : Scene) → StagesMissNothing s leader p old q new }
+{}
+
+/// An answer of a read that does all of its stages tells exactly the carries that they took, and whether they called a keeper. Such a read
+/// changes no table and no message.
+#[tactic(auto, using(crate::proofs::WholeReads::whole_reads))]
+pub fn whole_reads()
+    ensures { (led : LedBy) (p : Reading) (old : Posting) (q : AnyPlan) (new : Posting) → WholeRead led p old q new }
+{}
+
+/// An Ok reply of a write that does all of its stages tells exactly the carries that they took.
+#[tactic(auto, using(crate::proofs::WholeWrites::whole_writes))]
+pub fn whole_writes()
+    ensures { (led : LedBy) (p : Writing) (old : Posting) (q : AnyPlan) (new : Posting) → WholeWrite led p old q new }
+{}
+
+/// Where the Ok reply of a write that does all of its stages tells its inverse as written, each record that its entry owes to another shard
+/// is there, or a later one.
+#[tactic(auto, using(crate::proofs::InverseThere::written_is_there))]
+pub fn written_is_there()
+    ensures { (s : Settings) (leader : AnyNode) (p : Writing) (old : Posting) (q : AnyPlan) (new : Posting) → WrittenIsThere s leader p old q new }
 {}

@@ -1,16 +1,37 @@
-//! Reads and writes that are held between their stages, in plans with numbers: each step does the one stage that follows.
+//! The plans of reads and writes: held between their stages, under numbers, where each step does the one stage that follows, or carried
+//! out whole.
 //!
 //! A plan's step does to the nodes, the keepers and the link what `core_steps` says of its stage; what was consistent stays so, and
 //! the plan can go on, whatever is done to the nodes in between. Which nodes are on its way is not said here.
+//!
+//! What it promises. Reads and writes that are held between their stages: a step does exactly the stage that
+//! follows, and no other plan changes; a read that ends with an answer is legal in the log as it is then, and
+//! what is said to be kept is held and answers again; a stage that fails ends the plan, and its ask; a plan can
+//! go on whatever is done to the nodes in between; no ask stays open but those of held reads, through each stage,
+//! read and write; a critical read misses nothing that it didn't miss before, so nothing that stood when it
+//! began, and no read does in a stage from nodes that are up, where stores and such nodes have the whole logs; with the Ok reply of a write
+//! come its entry and the one that it wrote at the other end, and a write of which only the last stage is left
+//! can be given up, at the position of its entry.
+//!
+//! A plan that is carried out whole does all of its stages, one after another, with nothing between them. Its reply
+//! then tells exactly the carries that they took, and of a read whether a keeper was called; such a read changes no
+//! table and no message; and where a write tells its inverse as written, the other end has it.
+//!
+//! The contracts that say so: `HeldPlans::step`, `add`, `take`, `give_up`, `read_stage`, `write_stage`,
+//! `HeldPlan::finish`, `carry_out`; `StepsPlan`, `StepsRead`, `MissesNone`, `AsksAreHeld`, `CarriesOut`; the laws
+//! `asks_stay_held`, `nothing_is_missed_later`, `stages_miss_nothing`, `whole_reads`, `whole_writes`,
+//! `written_is_there`.
 #![tactic(auto)]
 
 mod held;
 pub mod laws;
 mod plans;
 mod reads;
+mod whole;
 mod writes;
 
 pub use held::{EndedPlan, HeldPlan, ToldEntries};
 pub use plans::HeldPlans;
 pub use reads::{begin_read, read_stage};
+pub use whole::carry_out;
 pub use writes::write_stage;

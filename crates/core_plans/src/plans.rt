@@ -25,7 +25,7 @@ fn let_go<T: Drop>(value: T) {
 }
 
 /// Does the stage of a plan that follows.
-fn held_stage<K: Keeper, L: Link>(
+pub(crate) fn held_stage<K: Keeper, L: Link>(
     alloc: Global,
     fleet: &mut Fleet,
     mail: &mut Mail,
@@ -150,8 +150,8 @@ impl HeldPlans {
         }
     }
 
-    /// Does the stage of the plan of that number that follows, with a leader that serves its shard: for a read one of its region, for a
-    /// write the master's. The plan stays, also where it is over then. Costs what the stage does in `core_steps`.
+    /// Does the stage of the plan of that number that follows, with a leader: for a read one that serves its shard, for a write one of the
+    /// master's region. The plan stays, also where it is over then. Costs what the stage does in `core_steps`.
     pub fn step<K: Keeper, L: Link>(
         &mut self,
         alloc: Global,

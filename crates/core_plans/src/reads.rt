@@ -11,6 +11,7 @@ ghost use Rattle.read_plan.specs.declared.stages.ReadStage.TheVariants as stage;
 ghost use Rattle.tao_base.specs.Queries.{query_shard};
 
 use cache_items::Look;
+use core_model::masters_are_regions;
 use core_nodes::{FirstLook, Fleet};
 use core_steps::{Route, ask_over, out_of_memory, read_over};
 use node_name::NodeName;
@@ -100,6 +101,7 @@ fn look_past<K: Keeper, L: Link>(
     ensures { PassesReadStage (led_by K.TELLS config.now leader) plan.old (scene fleet.old (K.state keepers.now) (L.shown link.now))
         plan.new (scene fleet.new (K.state keepers.now) (L.shown link.now)) }
 {
+    masters_are_regions(config);
     let ask = fleet.ask_at_once(config, plan.follower(), plan.query());
     plan.set_ask(ask);
     plan.take(ReadResult::Look(Ok(Look::Miss)), 0, false);
@@ -121,6 +123,7 @@ fn look_first<K: Keeper, L: Link>(
     ensures { PassesReadStage (led_by K.TELLS config.now leader) plan.old (scene fleet.old (K.state keepers.now) (L.shown link.now))
         plan.new (scene fleet.new (K.state keepers.now) (L.shown link.now)) }
 {
+    masters_are_regions(config);
     match fleet.look(config, plan.follower(), plan.query(), plan.floor()) {
         Ok(FirstLook { look, ask }) => {
             plan.set_ask(ask);
@@ -226,6 +229,7 @@ fn keep_stage<K: Keeper, L: Link>(
     ensures { PassesReadStage (led_by K.TELLS config.now leader) plan.old (scene fleet.old (K.state keepers.now) (L.shown link.now))
         plan.new (scene fleet.new (K.state keepers.now) (L.shown link.now)) }
 {
+    masters_are_regions(config);
     match plan.fill() {
         Some(fill) => {
             fills_are_sealed(&fill);

@@ -1,9 +1,10 @@
 //! The stages of held writes.
 ghost use Rattle.std.specs.Prelude.{◌≡◌, Bool, IfErr, IfOk, IfSome, IsSome, OnErr, OnOk, true};
 ghost use Rattle.core_mail.specs.Inboxes.{Inboxes};
-ghost use Rattle.core_model.specs.Consistent.{GoesOn, IsConsistent, IsFleetOf};
-ghost use Rattle.core_model.specs.Growing.{MastersGrow};
-ghost use Rattle.core_model.specs.Serving.{IsFollowerFor, IsLeaderFor};
+ghost use Rattle.core_model.specs.Consistent.{GoesOn, HaveReached, IsConsistent, IsFleetOf};
+ghost use Rattle.core_model.specs.Growing.{StoresGrow};
+ghost use Rattle.core_model.specs.Serving.{IsFollowerFor, IsLeaderIn};
+ghost use Rattle.core_model.specs.Stores.{master_of};
 ghost use Rattle.core_plans.specs.HeldWrites.{DoesWriteStage, IsAnswerTo, IsTakenAs, IsWriteUnderWay, PassesWriteStage, entry_position, way_given_up};
 ghost use Rattle.core_plans.specs.LedBy.{led_by};
 ghost use Rattle.core_steps.specs.Routes.{FailsCarry, scene};
@@ -65,7 +66,7 @@ fn commit_stage<K: Keeper, L: Link>(
     plan: &mut WritePlan,
 )
     requires ready { CanPost K.TELLS config.now (posting (scene fleet.old (K.state keepers.old) (L.shown link.old)) mail.old topology.now) }
-    requires leader { IsLeaderFor config.now (write_shard plan.old.write) leader }
+    requires leader { IsLeaderIn config.now (master_of config.now (write_shard plan.old.write)) leader }
     requires write { IsWriteUnderWay K.TELLS config.now (K.state keepers.old).told fleet.old plan.old }
     requires stage { next_of plan.old ≡ stage.Commit }
     ensures { PassesWriteStage (led_by K.TELLS config.now leader) stage.Commit
@@ -142,7 +143,7 @@ fn end_stage<K: Keeper>(
     ensures write { IsWriteUnderWay K.TELLS config.now (K.state keepers.new).told fleet.new plan.new }
     ensures same { fleet.new ≡ fleet.old }
     ensures consistent { IsConsistent K.TELLS config.now (K.state keepers.new).told fleet.new }
-    ensures grows { MastersGrow K.TELLS config.now (K.state keepers.old).told (K.state keepers.new).told }
+    ensures grows { StoresGrow K.TELLS config.now (K.state keepers.old).told (K.state keepers.new).told }
     ensures later { IsLater (K.state keepers.old) (K.state keepers.new) }
 {
     let shard = plan.write().shard();
@@ -198,7 +199,7 @@ fn carry_back<L: Link>(
 ) -> Result<(), Reply>
     requires fleet { IsFleetOf config.now fleet.old }
     requires follower { IsFollowerFor config.now (write_shard plan.now.write) plan.now.follower }
-    requires answer { IfSome plan.now.committed (IsAnswerTo config.now fleet.old.masters plan.now) }
+    requires answer { IfSome plan.now.committed (IsAnswerTo config.now fleet.old.stores plan.now) }
     requires route { route.follower ≡ plan.now.follower }
     requires committed { IsSome plan.now.committed }
     requires note { IfSome plan.now.committed (λ c. note ≡ c.wrote.note) }
@@ -211,6 +212,7 @@ fn carry_back<L: Link>(
     ensures stays { OnErr result (fleet.new ≡ fleet.old) }
     ensures rest { fleet.new ≡ record fleet.old { followers = fleet.new.followers } }
     ensures fleet { IsFleetOf config.now fleet.new }
+    ensures reached { (tables : Tables) → HaveReached tables fleet.old → HaveReached tables fleet.new }
     ensures goes { GoesOn fleet.old fleet.new }
 {
     let Some(committed) = plan.committed() else {
@@ -241,7 +243,7 @@ fn apply_stage<L: Link>(
 )
     requires fleet { IsFleetOf config.now fleet.old }
     requires follower { IsFollowerFor config.now (write_shard plan.old.write) plan.old.follower }
-    requires answer { IfSome plan.old.committed (IsAnswerTo config.now fleet.old.masters plan.old) }
+    requires answer { IfSome plan.old.committed (IsAnswerTo config.now fleet.old.stores plan.old) }
     requires stage { next_of plan.old ≡ stage.Apply }
     ensures does { (keepers : KeeperState) (inboxes : Inboxes) (states : NodeStates) → DoesWriteStage (led_by true config.now leader) stage.Apply
         plan.old (posting (scene fleet.old keepers (L.shown link.old)) inboxes states)
@@ -250,6 +252,7 @@ fn apply_stage<L: Link>(
         → IsWriteUnderWay tells config.now tables fleet.new plan.new }
     ensures rest { fleet.new ≡ record fleet.old { followers = fleet.new.followers } }
     ensures fleet { IsFleetOf config.now fleet.new }
+    ensures reached { (tables : Tables) → HaveReached tables fleet.old → HaveReached tables fleet.new }
     ensures goes { GoesOn fleet.old fleet.new }
 {
     let carries = link.carries();
@@ -265,8 +268,7 @@ fn apply_stage<L: Link>(
     plan.take(WriteResult::Apply(outcome), hops);
 }
 
-/// Does the stage of a held write that follows, with the leader of the master's region that serves the shard. A stage that fails ends
-/// the write.
+/// Does the stage of a held write that follows, with a leader of the master's region. A stage that fails ends the write.
 ///
 /// Costs what the stage does in `core_steps`.
 pub fn write_stage<K: Keeper, L: Link>(
@@ -281,7 +283,7 @@ pub fn write_stage<K: Keeper, L: Link>(
     plan: &mut WritePlan,
 )
     requires ready { CanPost K.TELLS config.now (posting (scene fleet.old (K.state keepers.old) (L.shown link.old)) mail.old topology.now) }
-    requires leader { IsLeaderFor config.now (write_shard plan.old.write) leader }
+    requires leader { IsLeaderIn config.now (master_of config.now (write_shard plan.old.write)) leader }
     requires write { IsWriteUnderWay K.TELLS config.now (K.state keepers.old).told fleet.old plan.old }
     requires goes_on { IsSome (told_stage (next_of plan.old)) }
     ensures does { DoesWriteStage (led_by K.TELLS config.now leader) (next_of plan.old)

@@ -1,74 +1,76 @@
 -- What the stages of a repair come to.
-use Rattle.std.proofs.Common.{◌≡◌, ℕ, ◌<◌, ◌++◌, Bool, true, List, [], ◌∷◌, Option, Some, None, Result, Ok, Err, IfSome, refl, sym, ap, ◌∙◌, subst, inl, inr}
-use Rattle.std.proofs.lemmas.List.Elements.{Contains-append_left}
-use Rattle.std.specs.Prelude.{⊤, Contains, filter, if◌then◌else◌}
+use Rattle.std.proofs.Common.{◌≡◌, ℕ, ◌≤◌, ◌<◌, Bool, List, Option, Some, None, Ok, Err, IfSome, refl, sym, subst, inl, inr}
 use Rattle.counts.proofs.Rises.{Rose-earlier}
 use Rattle.counts.specs.Count.{Rose}
 use Rattle.edge_repair.specs.declared.refusal.RepairRefusal.{RepairRefusal}
 use Rattle.edge_repair.specs.declared.refusal.RepairRefusal.TheVariants.{KeeperFault, LinkFault, LogFull, OutOfMemory}
+use Rattle.graph_model.proofs.Later.{all_append}
 use Rattle.graph_model.specs.Told.{WhereTold}
-use Rattle.node_name.specs.declared.NodeName.{NodeName}
+use Rattle.maint_msg.specs.Maints.{SeenMaint}
 use Rattle.shard_log.specs.View.{View}
+use Rattle.shard_tables.specs.StoreView.{Store}
+use Rattle.shard_tables.specs.Written.{StandsIn}
 use Rattle.shard_tables.specs.declared.refusal.StoreRefusal.{StoreRefusal}
 use Rattle.shard_tables.specs.declared.refusal.StoreRefusal.TheVariants as store
 use Rattle.tao_base.specs.declared.entry.Entry.{Entry}
 use Rattle.tao_keeper.proofs.Later.{later_trans}
-use Rattle.tao_keeper.specs.Growing.{LogsGrow}
 use Rattle.tao_keeper.specs.KeeperState.{IsLater, KeeperState, KeepsTables}
-use Rattle.tao_keeper.specs.Table.{Changes, IsLeastJob, Table, Tables, after_end}
+use Rattle.tao_keeper.specs.Table.{IsLeastJob, Tables}
 use Rattle.tao_keeper.specs.declared.jobs.Job.{Job}
-use Rattle.topology.specs.Choices.{master_region, preferred_leader}
+use Rattle.topology.specs.Choices.{master_region}
 use Rattle.topology.specs.Config.{Settings}
-use Rattle.topology.specs.States.{NodeStates, is_up}
-use Rattle.core_mail.specs.Inboxes.{AreInboxesOf, Inboxes, Sends, cache_names, entry_message}
+use Rattle.topology.specs.States.{NodeStates}
+use Rattle.core_mail.proofs.Arrivals.{arrived_stay, told_of_store}
+use Rattle.core_mail.specs.Inboxes.{AreInboxesOf, HaveArrived, Inboxes, Sends, entry_message}
 use Rattle.core_model.specs.Consistent.{GoesOn, IsConsistent}
-use Rattle.core_model.specs.Fleet.{HasNode, follower_names, leader_names, node_names}
-use Rattle.core_model.specs.Growing.{MastersGrow}
+use Rattle.core_model.specs.Growing.{StoresGrow}
 use Rattle.core_model.specs.Jobs.{IsFirstJobOf, ShardJob, job_on}
-use Rattle.core_model.specs.Messages.{told_of}
+use Rattle.core_model.specs.Messages.{IsOfStore, told_besides, told_of}
 use Rattle.core_model.specs.Pens.{pens_of}
-use Rattle.core_model.specs.Serving.{IsLeaderFor}
-use Rattle.core_model.specs.Stores.{master_store}
-use Rattle.core_nodes.proofs.GrowingLemmas.{becomes_masters, masters_in_turn, stays_masters}
+use Rattle.core_model.specs.States.{AreStatesOf}
+use Rattle.core_model.specs.Stores.{AreStoresOf, HaveMasterRegions, master_store, store_length}
+use Rattle.core_nodes.proofs.GrowingLemmas.{stays_stores, stores_in_turn}
 use Rattle.core_nodes.specs.Repairs.{MergesThere, Outside, outside}
+use Rattle.core_steps.proofs.TellLemmas.{master_is, sends_both, within_master}
 use Rattle.core_steps.specs.Posting.{Posting, PostsOn}
 use Rattle.core_repairs.specs.Repairs.{FailsAs, FailsToMerge, FindsFirst, FindsOpenJob, IsMergedAlone, IsNotRepaired, IsNotRun}
-use Rattle.core_repairs.specs.Repairs.{LeavesRest, RunsJob, StopsRepair, TellsOfRepair, shown_of}
+use Rattle.core_repairs.specs.Repairs.{LeavesRest, RunsJob, StopsRepair, TellsOfRepair, shown_of, told_of_repair}
 use Rattle.core_repairs.specs.declared.repairs.RepairFailed.{RepairFailed}
 use Rattle.core_repairs.specs.declared.repairs.RepairFailed.TheVariants.{NoServer, Refused}
 
 -- ---- who is told
 
-sends_both : (a b : List NodeName) (old mid new : Inboxes) (shard : ℕ) (e : Entry) (note : View) → Sends a (entry_message shard e note) old mid
-    → Sends b (entry_message shard e note) mid new → Sends (a ++ b) (entry_message shard e note) old new
-sends_both [] b old mid new shard e note one two = subst (λ x. Sends b (entry_message shard e note) x new) one two
-sends_both (name ∷ a) b old mid new shard e note one two = (one.0, one.1, sends_both a b one.0 mid new shard e note one.2 two)
-
--- a leader of the configuration has an inbox
-pub leader_has : (s : Settings) (shard : ℕ) (leader : NodeName) (inboxes : Inboxes) → node_names inboxes ≡ cache_names s → IsLeaderFor s shard leader
-    → HasNode leader inboxes
-leader_has s shard leader inboxes names leads =
-    subst (λ l. Contains l leader) (sym names) (Contains-append_left (leader_names s) (follower_names s) leader leads.configured)
-
 -- the followers and then the leader are told
-pub told_both : (states : NodeStates) (shard region : ℕ) (leader : NodeName) (wrote : Option Entry) (e : Entry) (note again : View) (old mid new : Inboxes)
-    → wrote ≡ Some e → region ≡ master_region states shard → leader ≡ preferred_leader states region shard → is_up states leader ≡ true → again ≡ note
-    → Sends (told_of states region shard) (entry_message shard e note) old mid → Sends (leader ∷ []) (entry_message shard e again) mid new
-    → TellsOfRepair states shard wrote old new
-told_both states shard region leader wrote e note again old mid new is here leads up same one two =
-    let leads_is : leader ≡ preferred_leader states (master_region states shard) shard = leads ∙ ap (λ r. preferred_leader states r shard) here in
-    let alone : filter (is_up states) (leader ∷ []) ≡ leader ∷ [] = ap (λ b. if b then leader ∷ [] else []) up in
+pub told_repair : (states : NodeStates) (shard region : ℕ) (wrote : Option Entry) (e : Entry) (note again : View) (old mid new : Inboxes)
+    → wrote ≡ Some e → region ≡ master_region states shard → again ≡ note → Sends (told_of states region shard) (entry_message shard e note) old mid
+    → Sends (told_besides states shard) (entry_message shard e again) mid new → TellsOfRepair states shard wrote old new
+told_repair states shard region wrote e note again old mid new is here same one two =
     let followers = subst (λ r. Sends (told_of states r shard) (entry_message shard e note) old mid) here one in
-    let more = subst (λ n. Sends (leader ∷ []) (entry_message shard e n) mid new) same two in
-    let last = subst (λ l. Sends l (entry_message shard e note) mid new) (sym alone) more in
-    let named = subst (λ n. Sends (filter (is_up states) (n ∷ [])) (entry_message shard e note) mid new) leads_is last in
+    let more = subst (λ n. Sends (told_besides states shard) (entry_message shard e n) mid new) same two in
     let told : TellsOfRepair states shard (Some e) old new =
     inr (
       note,
-      sends_both (told_of states (master_region states shard) shard)
-          (filter (is_up states) (preferred_leader states (master_region states shard) shard ∷ [])) old mid new shard e note followers named,
+      sends_both (told_of states (master_region states shard) shard) (told_besides states shard) (entry_message shard e note) old mid new followers more,
     ) in
     subst (λ found. TellsOfRepair states shard found old new) (sym is) told
+
+-- the stores of their region have come to it
+pub arrived_repair : (tells : Bool) (s : Settings) (tables : Tables) (stores : List Store) (shard : ℕ) (states : NodeStates) (wrote : Option Entry)
+    (old new : Inboxes) → HaveMasterRegions s → AreStoresOf tells s tables stores → shard < s.shards → AreStatesOf s states
+    → IfSome wrote (StandsIn (pens_of stores shard)) → TellsOfRepair states shard wrote old new → WhereTold tells (HaveArrived tables old)
+    → WhereTold tells (HaveArrived tables new)
+arrived_repair tells s tables stores shard states None old new regions are here of stands sent have =
+    subst (λ i. WhereTold tells (HaveArrived tables i)) (sym sent) have
+arrived_repair tells s tables stores shard states (Some e) old new regions are here of stands (inl same) have =
+    subst (λ i. WhereTold tells (HaveArrived tables i)) (sym same) have
+arrived_repair tells s tables stores shard states (Some e) old new regions are here of stands (inr sent) have = λ told.
+    let m : SeenMaint = entry_message shard e sent.0 in
+    let within = subst (λ r. e.position ≤ store_length tables r shard) (sym (master_is s states shard of.masters))
+    (within_master tells s tables stores shard regions are here e stands told) in
+    let by = told_of_store tables states shard m in
+    (arrived_stay tables).sends (told_of_repair states shard) m old new sent.1
+    (all_append (λ name. IsOfStore tables name m) (told_of states (master_region states shard) shard) (told_besides states shard)
+    (by.of (master_region states shard) within) (by.besides within)) (have told)
 
 -- ---- the first job
 
@@ -119,18 +121,6 @@ module _ (tells : Bool) (s : Settings) (j : ShardJob) (old new : Outside) where
   refuses_end (store.StampFull number) failed is alone cause = absurd is
   refuses_end (store.SeqReused position) failed is alone cause = absurd is
 
--- no line changes where a job is ended, or isn't
-pub end_grows : (tells : Bool) (s : Settings) (old new : Tables) (shard position : ℕ) (r : Result ⊤ StoreRefusal) → shard < s.shards
-    → LogsGrow tells old new → WhereTold tells (Changes r old new (master_store s shard) (after_end (old (master_store s shard)) position))
-    → MastersGrow tells s old new
-end_grows tells s old new shard position (Ok done) here logs changes =
-    becomes_masters tells s old new shard (after_end (old (master_store s shard)) position) here logs refl changes
-end_grows tells s old new shard position (Err refusal) here logs changes = record {
-  logs = logs;
-  lines = λ told at. ap (λ (t : Table). t.line) (changes told at);
-  others = λ told at none. changes told at;
-}
-
 -- ---- both, seen from the core
 
 module _ (tells : Bool) (s : Settings) (shard : ℕ) (old new : Posting) where
@@ -170,12 +160,13 @@ module _ (tells : Bool) (s : Settings) (shard : ℕ) (old new : Posting) where
 -- a job was looked up, which changes no table, and then merged and ended, as far as that went
 pub posts_repaired : (tells : Bool) (s : Settings) (old new : Posting) (found : KeeperState) → KeepsTables tells old.scene.keepers found
     → IsLater old.scene.keepers found → IsConsistent tells s new.scene.keepers.told new.scene.fleet
-    → AreInboxesOf s (pens_of new.scene.fleet.masters) new.inboxes → GoesOn old.scene.fleet new.scene.fleet
-    → MastersGrow tells s found.told new.scene.keepers.told → IsLater found new.scene.keepers → PostsOn tells s old new
-posts_repaired tells s old new found tables finds consistent inboxes goes grows later = record {
+    → AreInboxesOf s (pens_of new.scene.fleet.stores) new.inboxes → WhereTold tells (HaveArrived new.scene.keepers.told new.inboxes)
+    → GoesOn old.scene.fleet new.scene.fleet → StoresGrow tells s found.told new.scene.keepers.told → IsLater found new.scene.keepers → PostsOn tells s old new
+posts_repaired tells s old new found tables finds consistent inboxes arrived goes grows later = record {
   consistent = consistent;
   inboxes = inboxes;
+  arrived = arrived;
   goes = goes;
-  grows = masters_in_turn tells s old.scene.keepers.told found.told new.scene.keepers.told (stays_masters tells s old.scene.keepers found tables) grows;
+  grows = stores_in_turn tells s old.scene.keepers.told found.told new.scene.keepers.told (stays_stores tells s old.scene.keepers found tables) grows;
   later = later_trans old.scene.keepers found new.scene.keepers finds later;
 }

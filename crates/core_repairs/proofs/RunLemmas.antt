@@ -23,9 +23,10 @@ use Rattle.tao_link.specs.declared.link.Carry.{Carry}
 use Rattle.tao_schema.specs.Schema.{types_of}
 use Rattle.topology.specs.Config.{Settings}
 use Rattle.write_model.proofs.CoverMerges.{merges_keep}
+use Rattle.write_model.proofs.OpenJobs.{job_found}
 use Rattle.write_model.proofs.Settled.{settles_in_order}
-use Rattle.write_model.specs.Machine.{IsFirstJob, Owed}
-use Rattle.write_model.specs.Merges.{Stores, log_of}
+use Rattle.write_model.specs.Machine.{IsFirstJob}
+use Rattle.write_model.specs.Merges.{Owed, Stores, log_of}
 use Rattle.write_model.specs.Steps.{EndsJob, IsNextJob, IsOwed, MergesJob}
 use Rattle.core_model.specs.Fleet.{Fleet}
 use Rattle.core_model.specs.Jobs.{EndsOwed, IsFirstJobOf, OwesShardJob, MergesOwed, ShardJob, job_on}
@@ -92,10 +93,10 @@ link_back s j old new (inr fails) = failed_back (carry_back s j) old new fails
 -- no count of the link fell, and only stores changed
 pub record ChangesStoresAlone (old new : Posting) : Type 0 where
   pub link : IsLaterLink old.scene.link new.scene.link
-  pub fleet : new.scene.fleet ≡ record old.scene.fleet { masters = new.scene.fleet.masters }
+  pub fleet : new.scene.fleet ≡ record old.scene.fleet { stores = new.scene.fleet.stores }
 
-same_fleet : (old new : Fleet) → new ≡ old → new ≡ record old { masters = new.masters }
-same_fleet old new same = subst (λ (f : Fleet). f ≡ record old { masters = f.masters }) (sym same) refl
+same_fleet : (old new : Fleet) → new ≡ old → new ≡ record old { stores = new.stores }
+same_fleet old new same = subst (λ (f : Fleet). f ≡ record old { stores = f.stores }) (sym same) refl
 
 asks_leave : (tells : Bool) (old new : Posting) → OnlyAsks tells old new → ChangesStoresAlone old new
 asks_leave tells old new asks = record {
@@ -160,10 +161,11 @@ same_owed s j tables a b p q x y =
     let shard : a.shard ≡ b.shard = p.shard_is ∙ sym q.shard_is in
     let position : a.entry.position ≡ b.entry.position = p.position_is ∙ sym q.position_is in
     let other : a.other ≡ b.other = p.other_is ∙ sym q.other_is in
-    let there = subst (λ n. entry_at (log_of logs a.shard) n ≡ Some a.entry) position x.stands.stands in
+    let there = subst (λ n. entry_at (log_of logs a.shard) n ≡ Some a.entry) position x.stands in
     let here = subst (λ n. entry_at (log_of logs n) b.entry.position ≡ Some a.entry) shard there in
-    let entry : a.entry ≡ b.entry = same_Some a.entry b.entry (sym here ∙ y.stands.stands) in
-    λ i. record { shard = shard i; entry = entry i; other = other i }
+    let entry : a.entry ≡ b.entry = same_Some a.entry b.entry (sym here ∙ y.stands) in
+    let epoch : a.epoch ≡ b.epoch = x.epoch_is ∙ sym y.epoch_is in
+    λ i. record { shard = shard i; epoch = epoch i; entry = entry i; other = other i }
 
 -- the first job of its shard was merged and then ended
 record WorksOffFirst (s : Settings) (shard position : ℕ) (old new : Tables) : Type 0 where
@@ -409,7 +411,7 @@ none_at_zero tells s tables shard kept = λ told position le.
     first_none : (found : Option (List EdgeUpdate)) → (stores_in s tables).job shard 0 ≡ found → tells ≡ true → (stores_in s tables).job shard 0 ≡ None
     first_none None is told = is
     first_none (Some us) is told =
-        let stands = ((kept told).covered.jobs shard 0 us is).stands.stands in
+        let stands = (job_found (types_of s.schema) (stores_in s tables) shard 0 us (kept told) is).stands in
         absurd (cc)
 
 -- it begins
@@ -447,5 +449,5 @@ first_leaves tells s shard old new (Ok None) is = none_leaves tells s shard old 
 first_leaves tells s shard old new (Ok (Some ran)) is = repaired_leaves tells s shard old new ran is
 first_leaves tells s shard old new (Err failed) is = not_repaired_leaves tells s shard old new failed is
 
-pub rest_trans : (a b c : Fleet) → b ≡ record a { masters = b.masters } → c ≡ record b { masters = c.masters } → c ≡ record a { masters = c.masters }
-rest_trans a b c p q = q ∙ ap (λ (f : Fleet). record f { masters = c.masters }) p
+pub rest_trans : (a b c : Fleet) → b ≡ record a { stores = b.stores } → c ≡ record b { stores = c.stores } → c ≡ record a { stores = c.stores }
+rest_trans a b c p q = q ∙ ap (λ (f : Fleet). record f { stores = c.stores }) p

@@ -1,9 +1,9 @@
 -- Repairs: what becomes of the first open job of a shard, and of all jobs in a settle.
-use Rattle.std.specs.Prelude.{ℕ, ◌≡◌, ◌≤◌, ◌<◌, ◌+◌, ◌⊎◌, ◌++◌, ⊤, Bool, List, [], ◌∷◌, Option, Some, None, Result, Ok, Err, filter}
+use Rattle.std.specs.Prelude.{ℕ, ◌≡◌, ◌≤◌, ◌<◌, ◌+◌, ◌⊎◌, ◌++◌, ⊤, Bool, List, [], ◌∷◌, Option, Some, None, Result, Ok, Err}
 use Rattle.counts.specs.Count.{Rose}
 use Rattle.core_mail.specs.Inboxes.{Inboxes, Sends, entry_message}
 use Rattle.core_model.specs.Jobs.{EndsOwed, IsFirstJobOf, ShardJob, far_shard, job_on}
-use Rattle.core_model.specs.Messages.{told_of}
+use Rattle.core_model.specs.Messages.{told_besides, told_of}
 use Rattle.core_model.specs.Stores.{master_store, stores_in}
 use Rattle.core_nodes.specs.Repairs.{MergesThere, Outside, outside}
 use Rattle.core_nodes.specs.Settling.{IsLaterLink}
@@ -24,10 +24,10 @@ use Rattle.tao_keeper.specs.declared.jobs.Job.{Job}
 use Rattle.tao_schema.specs.Schema.{types_of}
 use Rattle.topology.specs.Choices.{master_region}
 use Rattle.topology.specs.Config.{Settings}
-use Rattle.topology.specs.States.{NodeStates, is_up}
-use Rattle.write_model.specs.Machine.{Owed, Settles}
+use Rattle.topology.specs.States.{NodeStates}
+use Rattle.write_model.specs.Merges.{Owed}
+use Rattle.write_model.specs.Machine.{Settles}
 use Rattle.write_model.specs.Steps.{HaveNoJobs, Settling}
-use Rattle.core_steps.specs.OtherEnds.{master_leader}
 use Rattle.core_steps.specs.Posting.{ChangesNoNode, Posting}
 use Rattle.core_steps.specs.Routes.{Scene}
 use Rattle.core_repairs.specs.declared.repairs.Ran.{Ran}
@@ -38,9 +38,9 @@ use Rattle.core_repairs.specs.declared.repairs.RepairFailed.TheVariants.{NoServe
 
 -- of an entry that a repair wrote on a shard: the followers of the master's region as of any other, and then the leader that it prefers, where that is up
 abbrev pub told_of_repair : NodeStates → ℕ → List NodeName
-told_of_repair states shard = told_of states (master_region states shard) shard ++ filter (is_up states) (master_leader states shard ∷ [])
+told_of_repair states shard = told_of states (master_region states shard) shard ++ told_besides states shard
 
--- they are told of the entry, where there is one; without memory for a note of the log nobody is
+-- the nodes that are told of a repair get a message of its entry, where there is one; without memory for a note of the log none does
 abbrev pub TellsOfRepair : NodeStates → ℕ → Option Entry → Inboxes → Inboxes → Type 0
 TellsOfRepair states shard None old new = new ≡ old
 TellsOfRepair states shard (Some e) old new =
@@ -54,7 +54,7 @@ shown_of scene = outside scene.keepers scene.link
 
 -- no leader and no follower changed, nor which nodes are up
 pub record LeavesCaches (old new : Posting) : Type 0 where
-  pub fleet : new.scene.fleet ≡ record old.scene.fleet { masters = new.scene.fleet.masters }
+  pub fleet : new.scene.fleet ≡ record old.scene.fleet { stores = new.scene.fleet.stores }
   pub states : new.states ≡ old.states
 
 -- nothing changed but that keepers were asked
@@ -110,14 +110,14 @@ pub record IsRun (tells : Bool) (s : Settings) (j : ShardJob) (wrote : Option En
   pub merges : MergesThere tells s j (Ok (record { wrote = wrote })) old (outside merged new.link)
   pub ends : WhereTold tells (EndsOwed s merged.told new.keepers.told j)
 
--- it was merged, and not ended
+-- the job was merged, and not ended
 pub record IsMergedAlone (tells : Bool) (s : Settings) (j : ShardJob) (old new : Outside) : Type 0 where
   pub wrote : Option Entry
   pub merged : KeeperState
   pub merges : MergesThere tells s j (Ok (record { wrote = wrote })) old (outside merged new.link)
   pub stays : KeepsTables tells merged new.keepers
 
--- it was not merged, or not ended
+-- the job was not merged, or it was merged and not ended
 abbrev pub IsNotRun : Bool → Settings → ShardJob → RepairRefusal → Outside → Outside → Type 0
 IsNotRun tells s j refusal old new = MergesThere tells s j (Err refusal) old new ⊎ IsMergedAlone tells s j old new
 
@@ -132,7 +132,7 @@ RunsJob tells s j (Err NoServer) old new = ⊥
 
 -- ---- why it was not run
 
--- its records lie on no configured shard
+-- the records of the shard's first job lie on no configured shard
 pub record LiesNowhere (tells : Bool) (s : Settings) (shard : ℕ) (old new : Posting) : Type 0 where
   pub job : Job
   pub finds : FindsOpenJob tells s shard job old.scene.keepers new.scene.keepers
@@ -144,7 +144,7 @@ pub record LeavesRest (old new : Posting) : Type 0 where
   pub caches : LeavesCaches old new
   pub inboxes : new.inboxes ≡ old.inboxes
 
--- it was not merged, or its answer was lost
+-- the first job of the shard was not merged, or the answer of the merge was lost
 pub record FailsToMerge (tells : Bool) (s : Settings) (shard : ℕ) (refusal : RepairRefusal) (old new : Posting) : Type 0 where
   pub job : Job
   pub found : KeeperState
@@ -152,7 +152,7 @@ pub record FailsToMerge (tells : Bool) (s : Settings) (shard : ℕ) (refusal : R
   pub merges : MergesThere tells s (job_on shard job) (Err refusal) (outside found old.scene.link) (shown_of new.scene)
   pub rest : LeavesRest old new
 
--- it was merged, and not ended
+-- the first job of the shard was merged, and not ended
 pub record FailsToEnd (tells : Bool) (s : Settings) (shard : ℕ) (old new : Posting) : Type 0 where
   pub ran : Ran
   pub found : KeeperState
@@ -162,7 +162,7 @@ pub record FailsToEnd (tells : Bool) (s : Settings) (shard : ℕ) (old new : Pos
   pub stays : KeepsTables tells merged new.scene.keepers
   pub rest : LeavesRest old new
 
--- it was not found, not merged, or not ended
+-- the first job of the shard was not found, not merged, or not ended
 abbrev pub StopsRepair : Bool → Settings → ℕ → RepairRefusal → Posting → Posting → Type 0
 StopsRepair tells s shard refusal old new =
     OnlyAsks tells old new ⊎ (FailsToMerge tells s shard refusal old new ⊎ FailsToEnd tells s shard old new)
@@ -189,16 +189,17 @@ pub record RanOn : Type 0 where
   pub shard : ℕ
   pub ran : Ran
 
+-- a job that was run, and the shard whose job it was
 abbrev pub ran_on : ℕ → Ran → RanOn
 ran_on shard ran = record { shard = shard; ran = ran }
 
--- these were run one after another, the last one first
+-- the jobs were run one after another; the list has the last one first
 abbrev pub HaveRun : Bool → Settings → List RanOn → Posting → Posting → Type 0
 HaveRun tells s [] old new = OnlyAsks tells old new
 HaveRun tells s (r ∷ earlier) old new = (before after : Posting)
     × HaveRun tells s earlier old before × IsRepaired tells s r.shard r.ran before after × OnlyAsks tells after new
 
--- they were a step of the plain machine's settle: open jobs, shard by shard, each shard's in order of position
+-- the logs went on by a settle of the plain machine: open jobs were merged, shard by shard, each shard's in order of position
 abbrev pub SettlesLogs : Settings → Tables → Tables → Type 0
 SettlesLogs s old new = Settles (types_of s.schema) (stores_in s old) (stores_in s new).logs
 
@@ -253,7 +254,7 @@ AreSettling s old new = (jobs : List Owed) × Settling (types_of s.schema) (stor
 abbrev pub HaveNoneBelow : Settings → Tables → ℕ → Type 0
 HaveNoneBelow s tables shard = (lower position : ℕ) → lower < shard → (stores_in s tables).job lower position ≡ None
 
--- nor has the shard one up to the position
+-- the shard has no open job up to the position
 abbrev pub HasNoneUpTo : Settings → Tables → ℕ → ℕ → Type 0
 HasNoneUpTo s tables shard last = (position : ℕ) → position ≤ last → (stores_in s tables).job shard position ≡ None
 
@@ -266,7 +267,7 @@ pub record RunsTo (tells : Bool) (s : Settings) (shard : ℕ) (old new : Posting
   pub link : IsLaterLink old.scene.link new.scene.link
   pub keepers : IsLater old.scene.keepers new.scene.keepers
 
--- so with some more jobs of the shard
+-- some more jobs of the shard were run, in whichever settle came to it
 pub record RunsMore (tells : Bool) (s : Settings) (shard : ℕ) (old new : Posting) : Type 0 where
   pub more : (start : Posting) → RunsTo tells s shard start old → RunsTo tells s shard start new
 

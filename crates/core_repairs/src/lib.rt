@@ -2,6 +2,12 @@
 //!
 //! Each call says which jobs were run, stage by stage, who is told of what they wrote, and what a refusal left; what was consistent
 //! stays so.
+//!
+//! What it promises. A shard's first open job is merged from store to store with two carries, then ended, and
+//! then those who see its records are told, or it stays open, at most merged, with its cause; all open jobs are
+//! run so, shard by shard, each shard's in order, which is the plain machine's settle.
+//!
+//! The contracts that say so: `repair_first`, `run_jobs`; `RepairsFirst`, `RunsJobs`.
 #![tactic(auto)]
 
 mod repairs;

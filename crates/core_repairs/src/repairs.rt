@@ -2,10 +2,11 @@
 ghost use Rattle.std.specs.Prelude.{◌≡◌, ◌<◌, IfOk, IfSome};
 ghost use Rattle.core_mail.specs.Inboxes.{AreInboxesOf};
 ghost use Rattle.core_model.specs.Consistent.{GoesOn, IsConsistent};
-ghost use Rattle.core_model.specs.Growing.{MastersGrow};
+ghost use Rattle.core_model.specs.Growing.{StoresGrow};
 ghost use Rattle.core_model.specs.Jobs.{IsOwedJob, far_shard, job_on};
 ghost use Rattle.core_model.specs.Pens.{pens_of};
-ghost use Rattle.core_model.specs.Stores.{AreStores};
+ghost use Rattle.core_model.specs.States.{AreStatesOf};
+ghost use Rattle.core_model.specs.Stores.{AreStores, store_count};
 ghost use Rattle.core_nodes.specs.Repairs.{outside};
 ghost use Rattle.core_steps.specs.Posting.{CanPost, PostsOn, posting};
 ghost use Rattle.core_repairs.specs.Repairs.{FailsAs, FindsFirst, RepairsFirst, RunsJob, TellsOfRepair};
@@ -15,11 +16,11 @@ ghost use Rattle.shard_tables.specs.Refusals.{IsOfReads};
 ghost use Rattle.shard_tables.specs.Written.{LiesOn, StandsIn};
 ghost use Rattle.tao_keeper.specs.Given.{IsGivenJob};
 ghost use Rattle.tao_keeper.specs.KeeperState.{IsLater, KeepsTables};
-ghost use Rattle.topology.specs.States.{all_up};
 
 use core_mail::Mail;
-use core_model::far_shard;
+use core_model::{far_shard, masters_are_regions};
 use core_nodes::Fleet;
+use core_steps::tell_besides;
 use edge_repair::{RepairRefusal, passed_on};
 use shard_tables::StoreRefusal;
 use std::alloc::Global;
@@ -36,7 +37,7 @@ pub struct Ran {
 }
 
 /// Why the first job of a shard was not run. It is open as before, and at most merged.
-#[derive(Clone, Copy, Debug, PartialEq, Eq)]
+#[derive(Clone, Copy, PartialEq, Eq)]
 pub enum RepairFailed {
     /// The shard on which the job's records lie isn't configured.
     NoServer,
@@ -66,13 +67,13 @@ fn tell_of_repair(
     wrote: &Option<Entry>,
 )
     requires here { shard < config.now.shards }
-    requires states { topology.now ≡ all_up config.now }
-    requires stores { AreStores config.now config.now.shards fleet.old.masters }
-    requires stands { IfSome wrote.now (StandsIn (pens_of fleet.old.masters shard)) }
-    requires lies { IfSome wrote.now (LiesOn (pens_of fleet.old.masters shard) shard) }
-    requires inboxes { AreInboxesOf config.now (pens_of fleet.old.masters) mail.old }
+    requires states { AreStatesOf config.now topology.now }
+    requires stores { AreStores config.now (store_count config.now) fleet.old.stores }
+    requires stands { IfSome wrote.now (StandsIn (pens_of fleet.old.stores shard)) }
+    requires lies { IfSome wrote.now (LiesOn (pens_of fleet.old.stores shard) shard) }
+    requires inboxes { AreInboxesOf config.now (pens_of fleet.old.stores) mail.old }
     ensures told { TellsOfRepair topology.now shard wrote.now mail.old mail.new }
-    ensures inboxes { AreInboxesOf config.now (pens_of fleet.new.masters) mail.new }
+    ensures inboxes { AreInboxesOf config.now (pens_of fleet.new.stores) mail.new }
     ensures same { fleet.new ≡ fleet.old }
 {
     let Some(entry) = wrote else { return };
@@ -81,10 +82,7 @@ fn tell_of_repair(
     };
     let region = topology.master(shard);
     mail.send(alloc, config, topology, region, shard, entry, &mut note);
-    let leader = topology.preferred(region, shard);
-    if topology.is_up(leader) {
-        mail.tell(alloc, config, leader, shard, entry, &mut note);
-    }
+    tell_besides(alloc, mail, config, topology, shard, entry, &mut note);
 }
 
 /// Why a job was not run which its store refused to give, or to end.
@@ -134,14 +132,15 @@ fn merge_and_end<K: Keeper, L: Link>(
     requires owed { WhereTold K.TELLS (IsOwedJob config.now (K.state keepers.old).told (job_on shard job.now)) }
     ensures runs { RunsJob K.TELLS config.now (job_on shard job.now) result
         (outside (K.state keepers.old) (L.shown link.old)) (outside (K.state keepers.new) (L.shown link.new)) }
-    ensures stands { IfOk result (λ wrote. IfSome wrote (StandsIn (pens_of fleet.new.masters (far_shard job.now)))) }
-    ensures lies { IfOk result (λ wrote. IfSome wrote (LiesOn (pens_of fleet.new.masters (far_shard job.now)) (far_shard job.now))) }
-    ensures rest { fleet.new ≡ record fleet.old { masters = fleet.new.masters } }
+    ensures stands { IfOk result (λ wrote. IfSome wrote (StandsIn (pens_of fleet.new.stores (far_shard job.now)))) }
+    ensures lies { IfOk result (λ wrote. IfSome wrote (LiesOn (pens_of fleet.new.stores (far_shard job.now)) (far_shard job.now))) }
+    ensures rest { fleet.new ≡ record fleet.old { stores = fleet.new.stores } }
     ensures consistent { IsConsistent K.TELLS config.now (K.state keepers.new).told fleet.new }
     ensures goes { GoesOn fleet.old fleet.new }
-    ensures grows { MastersGrow K.TELLS config.now (K.state keepers.old).told (K.state keepers.new).told }
+    ensures grows { StoresGrow K.TELLS config.now (K.state keepers.old).told (K.state keepers.new).told }
     ensures later { IsLater (K.state keepers.old) (K.state keepers.new) }
 {
+    masters_are_regions(config);
     let repaired = fleet.merge_there(alloc, config, keepers, link, shard, job)?;
     match fleet.end_job(config, keepers, shard, job) {
         Ok(()) => Ok(repaired.wrote),
@@ -181,6 +180,7 @@ pub fn repair_first<K: Keeper, L: Link>(
     if far >= config.shards {
         return Err(RepairFailed::NoServer);
     }
+    masters_are_regions(config);
     let wrote = merge_and_end(alloc, fleet, config, keepers, link, shard, &job)?;
     tell_of_repair(alloc, fleet, mail, config, topology, far, &wrote);
     Ok(Some(Ran { job, wrote }))

@@ -46,7 +46,7 @@ fn run_shard<K: Keeper, L: Link>(
     ensures runs { RunsShard K.TELLS config.now shard result
         (posting (scene fleet.old (K.state keepers.old) (L.shown link.old)) mail.old topology.now)
         (posting (scene fleet.new (K.state keepers.new) (L.shown link.new)) mail.new topology.now) }
-    ensures rest { fleet.new ≡ record fleet.old { masters = fleet.new.masters } }
+    ensures rest { fleet.new ≡ record fleet.old { stores = fleet.new.stores } }
     ensures on { PostsOn K.TELLS config.now
         (posting (scene fleet.old (K.state keepers.old) (L.shown link.old)) mail.old topology.now)
         (posting (scene fleet.new (K.state keepers.new) (L.shown link.new)) mail.new topology.now) }
@@ -85,7 +85,7 @@ pub fn run_jobs<K: Keeper, L: Link>(
     ensures runs { RunsJobs K.TELLS config.now result
         (posting (scene fleet.old (K.state keepers.old) (L.shown link.old)) mail.old topology.now)
         (posting (scene fleet.new (K.state keepers.new) (L.shown link.new)) mail.new topology.now) }
-    ensures rest { fleet.new ≡ record fleet.old { masters = fleet.new.masters } }
+    ensures rest { fleet.new ≡ record fleet.old { stores = fleet.new.stores } }
     ensures on { PostsOn K.TELLS config.now
         (posting (scene fleet.old (K.state keepers.old) (L.shown link.old)) mail.old topology.now)
         (posting (scene fleet.new (K.state keepers.new) (L.shown link.new)) mail.new topology.now) }

@@ -3,7 +3,7 @@ use Rattle.std.proofs.Common.{◌≡◌, ℕ, zero, suc, ◌+◌, ◌<◌, ◌�
 use Rattle.std.proofs.Common.{IfSome, refl, ap, sym, ◌∙◌, subst, arith, inl, inr, slice_set}
 use Rattle.std.specs.Prelude.{◌==◌, nat_lt, slice_get}
 use Rattle.std.specs.List.{find, AllByRecursion}
-use Rattle.std.proofs.lemmas.Bool.{cases_lt, false≢true}
+use Rattle.std.proofs.lemmas.Bool.{cases_lt, false≢true, eq-eqb}
 use Rattle.std.proofs.lemmas.Bool.Decides.{nat_tests}
 use Rattle.std.proofs.lemmas.Option.{slice_get_past, slice_get_read}
 use Rattle.core_sessions.proofs.InOrder.{IsPlace, above_first, found_at, is_found, other_number, rest_in_order}
@@ -13,18 +13,13 @@ use Rattle.session_pass.specs.Passes.{LearnsEntry, SeenPass}
 use Rattle.shard_log.specs.View.{View}
 use Rattle.tao_base.specs.Ids.{IsRising}
 use Rattle.tao_base.specs.declared.entry.Entry.{Entry}
+use Rattle.tao_base.proofs.Tests.{eqb-same}
 
 -- the session's pass stands at the place
 pub record StandsAt (n : ℕ) (xs : List SeenPass) (i : ℕ) (p : SeenPass) : Type 0 where
   pub up : HaveRisingNumbers xs
   pub at : slice_get xs i ≡ Some p
   pub number : p.session ≡ n
-
-same_number : (m n : ℕ) → m ≡ n → (m == n) ≡ true
-same_number m n h = grind (arith, nat_tests)
-
-number_is : (m n : ℕ) → (m == n) ≡ true → m ≡ n
-number_is m n h = grind (arith, nat_tests)
 
 lower_number : (m n : ℕ) → m < n → (m == n) ≡ false
 lower_number m n h = grind (arith, nat_tests)
@@ -47,7 +42,7 @@ above_there m (x ∷ xs) (suc i) p above at = above_there m xs i p above.1 at
 -- the pass at a place is the first of its number
 first_at : (xs : List SeenPass) (i : ℕ) (p : SeenPass) → HaveRisingNumbers xs → slice_get xs i ≡ Some p → find (λ q. q.session == p.session) xs ≡ Some p
 first_at [] i p up at = absurd cc
-first_at (x ∷ xs) zero p up at = rw (same_number x.session p.session (ap (λ q. q.session) (some_same x p at))) at
+first_at (x ∷ xs) zero p up at = rw (eq-eqb x.session p.session (ap (λ q. q.session) (some_same x p at))) at
 first_at (x ∷ xs) (suc i) p up at =
     rw (lower_number x.session p.session (above_there x.session xs i p (above_first x xs up) at)) (first_at xs i p (rest_in_order x xs up) at)
 
@@ -83,7 +78,7 @@ set_changes : (xs : List SeenPass) (i : ℕ) (p q : SeenPass) → HaveRisingNumb
 set_changes [] i p q up at same = absurd cc
 set_changes (x ∷ xs) zero p q up at same =
     let here : x.session ≡ q.session = ap (λ r. r.session) (some_same x p at) ∙ sym same in
-    rw (same_number x.session q.session here)
+    rw (eq-eqb x.session q.session here)
     (ap (λ l. session_of q ∷ l) (sym (changes_none (session_of q) xs (subst (λ m. AllByRecursion (λ r. m < r.session) xs) here (above_first x xs up)))))
 set_changes (x ∷ xs) (suc i) p q up at same =
     let lower : x.session < q.session = subst (λ m. x.session < m) (sym same) (above_there x.session xs i p (above_first x xs up) at) in
@@ -160,7 +155,7 @@ pub stands : (n : ℕ) (xs slice : List SeenPass) (i : ℕ) (p : SeenPass) → s
 stands n xs slice i p lent up there point is =
     let at : slice_get xs i ≡ Some p = slice_get_read xs (length xs) i p refl (within n xs slice i lent up there point) is in
     let found = found_at n xs i up (subst (λ ys. IsPlace n ys i) lent point) in
-    record { up = up; at = at; number = number_is p.session n (ap (is_found n) (sym at) ∙ found ∙ there) }
+    record { up = up; at = at; number = eqb-same p.session n (ap (is_found n) (sym at) ∙ found ∙ there) }
 
 -- what the code finds at the place
 pub looked_up : (xs again : List SeenPass) (i : ℕ) (p : SeenPass) → again ≡ xs → true ≡ nat_lt i (length again) → p ≡ get_or again i p → slice_get xs i ≡ Some p
@@ -178,4 +173,4 @@ open_is n xs slice i o lent up point at = ap (is_found n) (sym at) ∙ found_at 
 
 pub stands_found : (n : ℕ) (xs : List SeenPass) (i : ℕ) (p : SeenPass) → HaveRisingNumbers xs → slice_get xs i ≡ Some p → (p.session == n) ≡ true
     → StandsAt n xs i p
-stands_found n xs i p up at same = record { up = up; at = at; number = number_is p.session n same }
+stands_found n xs i p up at same = record { up = up; at = at; number = eqb-same p.session n same }

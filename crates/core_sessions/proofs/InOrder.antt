@@ -4,12 +4,13 @@ use Rattle.std.proofs.Common.{subst, arith, inl, inr}
 use Rattle.std.specs.Prelude.{◌==◌, ◌||◌, nat_lt, slice_get, filter}
 use Rattle.std.specs.List.{insert, AllByRecursion}
 use Rattle.std.specs.List.Sorted.{IsPartitionedBy, IsPartitionPoint}
-use Rattle.std.proofs.lemmas.Bool.{cases_Bool}
+use Rattle.std.proofs.lemmas.Bool.{cases_Bool, or_parts}
 use Rattle.std.proofs.lemmas.Bool.Decides.{nat_tests}
 use Rattle.core_sessions.specs.Sessions.{HaveRisingNumbers, is_open, new_session, session_at, session_of, sessions_of, with_session}
 use Rattle.core_sessions.specs.declared.sessions.OpenSession.{OpenSession}
 use Rattle.shard_log.specs.View.{View}
 use Rattle.session_pass.specs.Passes.{SeenPass}
+use Rattle.tao_base.proofs.Tests.{is_lower}
 
 above_trans : (m n : ℕ) (xs : List SeenPass) → m < n → AllByRecursion (λ p. n < p.session) xs → AllByRecursion (λ p. m < p.session) xs
 above_trans m n [] h above = tt
@@ -48,9 +49,6 @@ lower_first n (x ∷ xs) up (suc i) (suc j) d l h on = lower_first n xs (rest_in
 not_lower : (m n : ℕ) → m < n → nat_lt n m ≡ false
 not_lower m n h = grind (arith, nat_tests)
 
-is_lower : (m n : ℕ) → m < n → nat_lt m n ≡ true
-is_lower m n h = grind (arith, nat_tests)
-
 none_lower : (n : ℕ) (xs : List SeenPass) → AllByRecursion (λ p. n < p.session) xs → filter (λ s. nat_lt s.session n) (sessions_of xs) ≡ []
 none_lower n [] above = refl
 none_lower n (x ∷ xs) above = rw (not_lower n x.session above.0) (none_lower n xs above.1)
@@ -68,10 +66,6 @@ none_open n (x ∷ xs) above = rw (other_number x.session n above.0) (none_open 
 
 greater : (m n : ℕ) → nat_lt m n ≡ false → (m == n) ≡ false → n < m
 greater m n h k = grind (arith, nat_tests)
-
-neither : (a b : Bool) → (a || b) ≡ false → (a ≡ false) × (b ≡ false)
-neither true b h = cc
-neither false b h = (refl, h)
 
 -- what is not lower and not the same is above, and so is all behind it
 above_all : (n : ℕ) (x : SeenPass) (xs : List SeenPass) → HaveRisingNumbers (x ∷ xs) → n < x.session → AllByRecursion (λ p. n < p.session) (x ∷ xs)
@@ -99,13 +93,13 @@ insert_at : (new : SeenPass) (xs : List SeenPass) (i : ℕ) → HaveRisingNumber
 insert_at new [] zero up none point le = refl
 insert_at new [] (suc i) up none point le = absurd (omega arith)
 insert_at new (x ∷ xs) zero up none point le =
-    let differs = neither (x.session == new.session) (is_open (sessions_of xs) new.session) none in
+    let differs = or_parts (x.session == new.session) (is_open (sessions_of xs) new.session) none in
     let above : AllByRecursion (λ p. new.session < p.session) (x ∷ xs) = above_all new.session x xs up
     (greater x.session new.session (point.1 zero x (omega arith) (omega arith)) differs.0) in
     rw (none_lower new.session (x ∷ xs) above, all_greater new.session (x ∷ xs) above) refl
 insert_at new (x ∷ xs) (suc i) up none point le =
     let lower : nat_lt x.session new.session ≡ true = point.0 zero x (omega arith) (omega arith) in
-    let differs = neither (x.session == new.session) (is_open (sessions_of xs) new.session) none in
+    let differs = or_parts (x.session == new.session) (is_open (sessions_of xs) new.session) none in
     rw (lower, lower_of_two x.session new.session lower)
     (ap (λ l. session_of x ∷ l) (insert_at new xs i (rest_in_order x xs up) differs.1 (later_place new.session x xs i point) (omega arith)))
 
@@ -121,11 +115,11 @@ insert_in_order : (new : SeenPass) (xs : List SeenPass) (i : ℕ) → HaveRising
 insert_in_order new [] zero up none point le = tt
 insert_in_order new [] (suc i) up none point le = absurd (omega arith)
 insert_in_order new (x ∷ xs) zero up none point le =
-    let differs = neither (x.session == new.session) (is_open (sessions_of xs) new.session) none in
+    let differs = or_parts (x.session == new.session) (is_open (sessions_of xs) new.session) none in
     (greater x.session new.session (point.1 zero x (omega arith) (omega arith)) differs.0, up)
 insert_in_order new (x ∷ xs) (suc i) up none point le =
     let lower : nat_lt x.session new.session ≡ true = point.0 zero x (omega arith) (omega arith) in
-    let differs = neither (x.session == new.session) (is_open (sessions_of xs) new.session) none in
+    let differs = or_parts (x.session == new.session) (is_open (sessions_of xs) new.session) none in
     put_first x (insert xs i new) (above_insert x.session new xs i (lt_from_lower x.session new.session lower) (above_first x xs up) (omega arith))
     (insert_in_order new xs i (rest_in_order x xs up) differs.1 (later_place new.session x xs i point) (omega arith))
 
@@ -149,7 +143,7 @@ found_at n (x ∷ xs) (suc i) up point =
 -- where none is open, none is found
 pub none_found : (n : ℕ) (xs : List SeenPass) → is_open (sessions_of xs) n ≡ false → session_at (sessions_of xs) n ≡ None
 none_found n [] none = refl
-none_found n (x ∷ xs) none = let differs = neither (x.session == n) (is_open (sessions_of xs) n) none in rw differs.0 (none_found n xs differs.1)
+none_found n (x ∷ xs) none = let differs = or_parts (x.session == n) (is_open (sessions_of xs) n) none in rw differs.0 (none_found n xs differs.1)
 
 -- a session that was put in its place
 pub added : (new : OpenSession) (notes : List View) (pass : SeenPass) (xs slice after : List SeenPass) (i : ℕ) → session_of pass ≡ new_session new notes

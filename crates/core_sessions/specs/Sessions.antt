@@ -21,10 +21,11 @@ pub record Session : Type 0 where
 abbrev pub session_of : SeenPass → Session
 session_of p = record { session = p.session; region = p.region; tier = p.tier; floors = p.floors; notes = p.notes }
 
+-- the sessions of the passes, in the order of these
 abbrev pub sessions_of : List SeenPass → List Session
 sessions_of passes = map session_of passes
 
--- its number and its place
+-- the number of a session, and its place: region and tier
 abbrev pub opening_of : Session → OpenSession
 opening_of s = record { session = s.session; region = s.region; tier = s.tier }
 
@@ -77,6 +78,6 @@ pub record SessionLearns (number shard : ℕ) (entry : Entry) (note : View) (old
 abbrev pub HasRoom : ℕ → List SeenPass → Type 0
 HasRoom number passes = IfSome (find (λ p. p.session == number) passes) (λ p. 8 ≤ p.spare)
 
--- or for those of the two entries of a write
+-- the first pass of that number has room for the keys of both entries of a write
 abbrev pub HasRoomForBoth : ℕ → List SeenPass → Type 0
 HasRoomForBoth number passes = IfSome (find (λ p. p.session == number) passes) (λ p. 16 ≤ p.spare)

@@ -1,10 +1,10 @@
-pub mod AlongLemmas
-pub mod CriticalLemmas
-pub mod InverseThere
+pub mod LastVersions
+pub mod LeaderNames
 pub mod MergeLemmas
 pub mod PostsLemmas
 pub mod ReadLemmas
+pub mod ReachLemmas
 pub mod Repeats
 pub mod StepLemmas
-pub mod WholeReads
+pub mod TellLemmas
 pub mod WriteLemmas

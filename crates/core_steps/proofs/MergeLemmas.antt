@@ -1,32 +1,32 @@
 -- What the stages of a job come to.
-use Rattle.std.proofs.Common.{◌≡◌, ◌≢◌, ℕ, ◌<◌, Bool, Option, Some, None, Result, Ok, Err, IfSome, sym, ap, subst, ◌∙◌, inl, inr}
-use Rattle.std.specs.Prelude.{IfErr, IfOk, IsTrue, OnErr, OnOk, ⊤}
+use Rattle.std.proofs.Common.{◌≡◌, ◌≢◌, ◌<◌, ℕ, Bool, Option, Some, None, Result, Ok, Err, IfSome, refl, sym, ap, subst, ◌∙◌, inl, inr}
+use Rattle.std.specs.Prelude.{IfErr, IfOk, OnErr, OnOk, ⊤}
 use Rattle.graph_model.specs.Told.{WhereTold}
 use Rattle.node_name.specs.declared.NodeName.{NodeName}
-use Rattle.replies.specs.declared.calls.ScheduledWhy.TheVariants as reason
 use Rattle.shard_tables.specs.declared.refusal.StoreRefusal.{StoreRefusal}
 use Rattle.shard_tables.specs.declared.refusal.StoreRefusal.TheVariants.{KeeperFault, LogFull, ShardFull, StampFull, SeqReused, OutOfMemory}
 use Rattle.shard_tables.specs.declared.writes.Wrote.{Wrote}
 use Rattle.tao_keeper.specs.Given.{IsGivenJob}
 use Rattle.tao_keeper.specs.KeeperState.{KeepsTables}
-use Rattle.tao_keeper.specs.Table.{Tables}
+use Rattle.tao_keeper.specs.Growing.{LogsGrow}
+use Rattle.tao_keeper.specs.Table.{Changes, Table, Tables, after_end}
 use Rattle.tao_keeper.specs.declared.jobs.Job.{Job}
 use Rattle.tao_link.specs.Shown.{LinkShown, after_carry}
 use Rattle.tao_link.specs.declared.link.LinkFailed.{LinkFailed}
 use Rattle.topology.specs.Choices.{master_region, preferred_leader}
 use Rattle.topology.specs.Config.{Settings}
-use Rattle.topology.specs.States.{NodeStates, all_up, is_cache}
+use Rattle.topology.specs.States.{NodeStates}
 use Rattle.write_plan.specs.declared.results.Late.{Late}
-use Rattle.write_plan.specs.declared.results.Late.TheVariants.{Scheduled, Refused}
-use Rattle.core_model.proofs.Turns.{choices_serve}
-use Rattle.core_model.specs.Jobs.{CanBeMerged, IsOwedJob, ShardJob, job_on}
-use Rattle.core_model.specs.Serving.{IsLeaderFor}
-use Rattle.core_steps.specs.MergeAnswers.{IsScheduled, RefusesMerge, merge_answer, told_after, why_late}
-use Rattle.core_steps.specs.OtherEnds.{Crosses, EndsOver, FailsToCross, GoesBetween, JobWay, LeavesJob}
-use Rattle.core_steps.specs.OtherEnds.{MayComeBack, MergesOver, TakesMerge, WorksOffJob, master_leader, merging_leader}
+use Rattle.write_plan.specs.declared.results.Late.TheVariants.{Scheduled}
+use Rattle.core_model.specs.Growing.{StoresGrow}
+use Rattle.core_model.specs.Jobs.{CanBeMerged, IsOwedJob, job_on}
+use Rattle.core_model.specs.Stores.{HaveMasterRegions, master_store}
+use Rattle.core_nodes.proofs.GrowingLemmas.{becomes_stores}
+use Rattle.core_steps.specs.MergeAnswers.{RefusesMerge, merge_answer, why_late}
+use Rattle.core_steps.specs.OtherEnds.{Crosses, FailsToCross, GoesBetween, JobWay, LeavesJob}
+use Rattle.core_steps.specs.OtherEnds.{MayComeBack, MergesOver, TakesMerge, master_leader, merging_leader}
 use Rattle.core_steps.specs.Posting.{ChangesNoNode, Posting}
 use Rattle.core_steps.specs.Routes.{FailsCarry}
-use Rattle.core_steps.specs.declared.jobs.OtherEndDone.{OtherEndDone}
 
 -- ---- carries between two nodes that may be one
 
@@ -43,14 +43,7 @@ module _ (from to : NodeName) (old mid new : LinkShown) where
 
 -- ---- who merges
 
--- the leader that the master's region prefers serves the shard
-pub merging_leads : (s : Settings) (states : NodeStates) (region shard : ℕ) (leader : NodeName) → states ≡ all_up s → shard < s.shards
-    → leader ≡ preferred_leader states region shard → IsTrue (is_cache states.regions leader) → IsLeaderFor s shard leader
-merging_leads s states region shard leader up here is cache =
-    subst (IsLeaderFor s shard) (sym is) ((choices_serve s states).leader region shard (ap (λ (n : NodeStates). n.regions) up) here
-    (subst (λ n. IsTrue (is_cache states.regions n)) is cache))
-
--- and is the one that merges
+-- the leader that the master's region prefers is the one that merges
 pub master_prefers : (states : NodeStates) (shard far region : ℕ) (leader : NodeName) → far ≡ shard → region ≡ master_region states far
     → leader ≡ preferred_leader states region far → leader ≡ master_leader states shard
 master_prefers states shard far region leader far_is region_is is =
@@ -113,26 +106,17 @@ module _ (tells : Bool) (s : Settings) (way : JobWay) (old new : Posting) (mid :
   merges_over result merged back is takes refuses fleet inboxes tables crosses fails =
       subst (λ r. MergesOver tells s way r old new) (sym is) (answered merged back takes refuses fleet inboxes tables crosses fails)
 
--- ---- both
+-- ---- the end
 
--- a job that isn't ended is late
-pub ends_scheduled : (tells : Bool) (s : Settings) (j : ShardJob) (old new : Posting) (ended : Result ⊤ Late) → EndsOver tells s j ended old new
-    → IfErr ended IsScheduled
-ends_scheduled tells s j old new (Ok done) ends = tt
-ends_scheduled tells s j old new (Err (Scheduled why wrote)) ends = tt
-ends_scheduled tells s j old new (Err (Refused reply)) ends = absurd ends
-
--- one that was merged is ended, or late
-module _ (tells : Bool) (s : Settings) (way : JobWay) (old between new : Posting) where
-  pub works_off : (wrote : Wrote) (ended : Result ⊤ Late) (done : OtherEndDone) → MergesOver tells s way (Ok wrote) old between
-      → EndsOver tells s way.job ended between new → done.told ≡ told_after ended → done.wrote ≡ Some wrote → WorksOffJob tells s way done old new
-  works_off wrote (Ok one) done merges ends told_is wrote_is =
-      inl (record { wrote = wrote; between = between; merges = merges; ends = ends; wrote_is = wrote_is; told_is = told_is })
-  works_off wrote (Err (Scheduled why None)) done merges ends told_is wrote_is =
-      inr (inl (record { wrote = wrote; why = why; between = between; merges = merges; ends = ends; wrote_is = wrote_is; told_is = told_is }))
-  works_off wrote (Err (Scheduled reason.LinkFault (Some more))) done merges ends told_is wrote_is = absurd ends
-  works_off wrote (Err (Scheduled reason.KeeperFault (Some more))) done merges ends told_is wrote_is = absurd ends
-  works_off wrote (Err (Scheduled reason.LogFull (Some more))) done merges ends told_is wrote_is = absurd ends
-  works_off wrote (Err (Scheduled reason.NoServer (Some more))) done merges ends told_is wrote_is = absurd ends
-  works_off wrote (Err (Scheduled reason.Memory (Some more))) done merges ends told_is wrote_is = absurd ends
-  works_off wrote (Err (Refused reply)) done merges ends told_is wrote_is = absurd ends
+-- no line changes where a job is ended, or isn't
+pub end_grows : (tells : Bool) (s : Settings) (old new : Tables) (shard position : ℕ) (r : Result ⊤ StoreRefusal) → HaveMasterRegions s
+    → shard < s.shards → LogsGrow tells old new → WhereTold tells (Changes r old new (master_store s shard) (after_end (old (master_store s shard)) position))
+    → StoresGrow tells s old new
+end_grows tells s old new shard position (Ok done) regions here logs changes =
+    becomes_stores tells s old new (master_store s shard) (after_end (old (master_store s shard)) position)
+    (record { region = regions shard; shard = here }) logs refl changes
+end_grows tells s old new shard position (Err refusal) regions here logs changes = record {
+  logs = logs;
+  lines = λ told at. ap (λ (t : Table). t.line) (changes told at);
+  others = λ told at none. changes told at;
+}

@@ -1,4 +1,4 @@
--- What a follower keeps answers again.
+-- What a follower answers of an item that it holds or keeps, it answers again.
 use Rattle.std.proofs.Common.{◌≡◌, ℕ, ◌≤◌, true, List, Option, Some, None, refl, ap, sym, ◌∙◌, subst}
 use Rattle.std.specs.Prelude.{IsSome}
 use Rattle.cache_items.specs.Kept.{item_of, kept_items}
@@ -18,7 +18,7 @@ use Rattle.core_model.specs.declared.named.Named.{Named}
 use Rattle.follower_cache.specs.Seen.{FollowerState}
 use Rattle.graph_model.specs.Told.{WhereTold}
 use Rattle.node_name.specs.declared.NodeName.{NodeName}
-use Rattle.read_plan.specs.Keeping.{kept_or_not}
+use Rattle.read_plan.specs.Keeping.{kept_or_not, past_bound}
 use Rattle.replies.specs.declared.nodes.KeptOrNot.TheVariants.{Kept}
 use Rattle.sealed_item.proofs.FillLemmas.{contents_stay}
 use Rattle.sealed_item.specs.Fills.{IsExactContent, IsSealed, SealedItem}
@@ -37,6 +37,11 @@ abbrev pub RepeatsHit : EdgeTypes → Query → Answer → ℕ → FollowerState
 RepeatsHit types query answer version f =
     (floor : ℕ) → floor ≤ version → look_of types (item_at f.node.items (query_key query)) query floor ≡ Hit answer version
 
+-- a hit opened no ask
+pub hit_alone : (s : Settings) (read : Wanted) (answer : Answer) (version : ℕ) (ask : Option ℕ) (from to : FollowerState)
+    → LooksFirst (types_of s.schema) read (Hit answer version) ask from to → LooksFirst (types_of s.schema) read (Hit answer version) None from to
+hit_alone s read answer version ask from to looks = subst (λ a. LooksFirst (types_of s.schema) read (Hit answer version) a from to) looks.node.0 looks
+
 -- after a hit
 pub hit_repeats : (types : EdgeTypes) (read : Wanted) (answer : Answer) (version : ℕ) (from to : FollowerState)
     → LooksFirst types read (Hit answer version) None from to → RepeatsHit types read.query answer version to
@@ -45,6 +50,10 @@ hit_repeats types read answer version from to looks floor le =
     (answers_repeat.hit types from.node.items read.query read.floor floor version answer (sym looks.look_is) le)
 
 -- ---- after a fill
+
+-- an answer past the bound is never kept
+pub not_past : (bound total : ℕ) (P : Type 0) → past_bound bound total ≡ Kept → P
+not_past bound total P h = absurd (cc)
 
 kept_yes : (kept : KeptWhy) → kept_or_not kept ≡ Kept → kept ≡ was.Yes
 kept_yes was.Yes h = refl
@@ -102,11 +111,11 @@ kept_repeats s pens name read ask fill answer from to keeps is given sealed told
 pub filled_repeats : (s : Settings) (old : Fleet) (fs : List (Named FollowerState)) (name : NodeName) (read : Wanted) (ask : Option ℕ) (fill : SealedItem)
     (answer : Answer) (kept : KeptWhy)
     → IsFleetOf s old → (change : ChangesNode name (KeepsFill (types_of s.schema) read.query (taken_fill ask fill answer kept)) old.followers fs)
-    → IsGivenFill (types_of s.schema) (pens_of old.masters) read fill → IsSealed fill
-    → WhereTold (pens_of old.masters (query_shard read.query)).log.told
+    → IsGivenFill (types_of s.schema) (pens_of old.stores) read fill → IsSealed fill
+    → WhereTold (pens_of old.stores (query_shard read.query)).log.told
     (kept_or_not kept ≡ Kept → RepeatsHit (types_of s.schema) read.query answer fill.version change.to)
 filled_repeats s old fs name read ask fill answer kept fleet change given sealed told held =
     let by : KeepsFill (types_of s.schema) read.query (taken_fill ask fill answer was.Yes) change.from change.to =
     subst (λ k. KeepsFill (types_of s.schema) read.query (taken_fill ask fill answer k) change.from change.to) (kept_yes kept held) change.by in
-    kept_repeats s (pens_of old.masters) name read ask fill answer change.from change.to by
+    kept_repeats s (pens_of old.stores) name read ask fill answer change.from change.to by
     (fleet.followers change.place name change.from change.stands).node given sealed told

@@ -1,4 +1,4 @@
--- A write that was carried out is a step of the plain machine.
+-- A write that was committed is a step of the plain machine.
 use Rattle.std.proofs.Common.{◌<◌, Bool, true, false, Option, Some, None, refl}
 use Rattle.graph_model.specs.Soundness.{IsSoundOf}
 use Rattle.graph_model.specs.Told.{WhereTold}
@@ -20,7 +20,7 @@ module _ (s : Settings) (old new : KeeperState) (call : AuthoredWrite) (within :
   module _ (sound : IsSoundOf (types_of s.schema) (write_shard call.write) (master_log s old.told (write_shard call.write)))
       (jobs : AreOfEntries (old.told (master_store s (write_shard call.write)))) where
     step : WriteIsStep (masters_of s) old.told new.told (write_shard call.write) (asked_of_log s old call)
-    step = write_is_step (masters_of s) old.told new.told (write_shard call.write) (asked_of_log s old call) within refl sound jobs
+    step = write_is_step (masters_of s) old.told new.told (write_shard call.write) (asked_of_log s old call) within refl refl sound jobs
 
     write_steps : (retry : Bool) (entry : Option Entry) → AnswersAs (asked_of_log s old call) retry entry
         → TableGains old.told new.told (master_store s (write_shard call.write)) (new_entry retry entry) (job_with (types_of s.schema) (new_entry retry entry))

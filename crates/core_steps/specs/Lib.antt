@@ -1,6 +1,3 @@
-pub mod CarriedOut
-pub mod CriticalReads
-pub mod Laws
 pub mod MergeAnswers
 pub mod OtherEnds
 pub mod Posting

@@ -1,11 +1,9 @@
 -- What the stages of a job answer, by what the stores and the link answered them.
-use Rattle.std.specs.Prelude.{◌≡◌, ⊤, Bool, Some, None, Result, Ok, Err}
+use Rattle.std.specs.Prelude.{⊤, Bool, Some, None, Result, Ok, Err}
 use Rattle.counts.specs.Count.{Rose}
 use Rattle.core_model.specs.Jobs.{ShardJob}
 use Rattle.core_nodes.specs.Repairs.{FindsNoRoom}
 use Rattle.graph_model.specs.Told.{WhereTold}
-use Rattle.replies.specs.declared.calls.InverseEnd.{InverseEnd}
-use Rattle.replies.specs.declared.calls.InverseEnd.TheVariants as inverse
 use Rattle.replies.specs.declared.calls.ScheduledWhy.{ScheduledWhy}
 use Rattle.replies.specs.declared.calls.ScheduledWhy.TheVariants as why
 use Rattle.shard_tables.specs.declared.refusal.StoreRefusal.{StoreRefusal}
@@ -15,8 +13,7 @@ use Rattle.tao_keeper.specs.KeeperState.{KeeperState}
 use Rattle.tao_link.specs.declared.link.LinkFailed.{LinkFailed}
 use Rattle.topology.specs.Config.{Settings}
 use Rattle.write_plan.specs.declared.results.Late.{Late}
-use Rattle.write_plan.specs.declared.results.Late.TheVariants.{Scheduled, Refused}
-use Rattle.core_steps.specs.declared.jobs.OtherEndDone.{OtherEndDone}
+use Rattle.write_plan.specs.declared.results.Late.TheVariants.{Scheduled}
 
 -- why a store refused to merge a job: a fault that came now, a log that has no room, or want of memory
 abbrev pub RefusesMerge : Bool → Settings → ShardJob → StoreRefusal → KeeperState → KeeperState → Type 0
@@ -42,19 +39,3 @@ abbrev pub merge_answer : Result Wrote StoreRefusal → Result ⊤ LinkFailed �
 merge_answer (Ok wrote) (Ok done) = Ok wrote
 merge_answer (Ok wrote) (Err lost) = Err (Scheduled why.LinkFault (Some wrote))
 merge_answer (Err refusal) back = Err (late_as refusal)
-
--- the write goes on
-abbrev pub IsScheduled : Late → Type 0
-IsScheduled (Scheduled why wrote) = ⊤
-IsScheduled (Refused reply) = ⊥
-
--- how the reply tells the inverse, once its job was merged: it is written only where the job ended too
-abbrev pub told_after : Result ⊤ Late → InverseEnd
-told_after (Ok done) = inverse.Written
-told_after (Err (Scheduled why wrote)) = inverse.Scheduled why
-told_after (Err (Refused reply)) = inverse.None
-
--- the job stays open, for that reason, with what was written all the same
-abbrev pub LeavesOpen : Late → OtherEndDone → Type 0
-LeavesOpen (Scheduled why wrote) done = (done.told ≡ inverse.Scheduled why) × (done.wrote ≡ wrote)
-LeavesOpen (Refused reply) done = ⊥

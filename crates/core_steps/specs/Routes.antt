@@ -1,5 +1,5 @@
 -- What the steps of a call see, and what its carries over links do.
-use Rattle.std.specs.Prelude.{ℕ, ◌≡◌, ◌⊎◌, ◌-◌, Bool, Some, nat_lt}
+use Rattle.std.specs.Prelude.{ℕ, ◌≡◌, ◌-◌, Bool, Some, nat_lt}
 use Rattle.counts.specs.Count.{Counted, Rose}
 use Rattle.node_name.specs.declared.NodeName.{NodeName}
 use Rattle.node_name.specs.declared.NodeName.TheVariants.{Store as StoreName_}
@@ -9,7 +9,6 @@ use Rattle.tao_link.specs.Shown.{LinkShown, after_carry}
 use Rattle.topology.specs.Config.{Settings}
 use Rattle.core_model.specs.Fleet.{Fleet}
 use Rattle.core_model.specs.Stores.{master_store}
-use Rattle.core_steps.specs.declared.routes.Route.{Route}
 
 -- ---- what a step sees
 
@@ -19,6 +18,7 @@ pub record Scene : Type 0 where
   pub keepers : KeeperState
   pub link : LinkShown
 
+-- the nodes of a core, with what its keepers and its link show
 abbrev pub scene : Fleet → KeeperState → LinkShown → Scene
 scene fleet keepers link = record { fleet = fleet; keepers = keepers; link = link }
 
@@ -38,12 +38,6 @@ pub record FailsCarry (from to : NodeName) (old new : LinkShown) : Type 0 where
 -- the store of a shard's master, as a node
 abbrev pub master_node : Settings → ℕ → NodeName
 master_node s shard = StoreName_ (master_store s shard)
-
--- a carry of a read failed: to the leader, or back from it; or, where that was behind, to the master's store, or back from that
-abbrev pub FailsOnTheWay : Settings → Route → ℕ → LinkShown → LinkShown → Type 0
-FailsOnTheWay s route shard old new = FailsCarry route.follower route.leader old new ⊎ (FailsCarry route.leader route.follower (after_carry old) new
-    ⊎ (FailsCarry route.follower (master_node s shard) (there_and_back old) new
-    ⊎ FailsCarry (master_node s shard) route.follower (after_carry (there_and_back old)) new))
 
 -- how many carries there were
 abbrev pub hops_between : LinkShown → LinkShown → ℕ

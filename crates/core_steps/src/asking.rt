@@ -3,9 +3,10 @@ ghost use Rattle.std.specs.Prelude.{ℕ, ◌≡◌, ◌<◌, IfErr, IfOk, OnErr,
 ghost use Rattle.core_model.specs.Consistent.{GoesOn, IsConsistent};
 ghost use Rattle.core_model.specs.Fleet.{ChangesNode};
 ghost use Rattle.core_model.specs.Pens.{pens_of};
-ghost use Rattle.core_model.specs.Reads.{IsGivenAnswer, LeaderAnswers, StoreReads, given_of, store_calls, wanted};
+ghost use Rattle.core_model.specs.Reads.{IsGivenAnswer, LeaderAnswers, StoreReads, given_of, wanted};
 ghost use Rattle.core_model.specs.Serving.{IsLeaderFor};
 ghost use Rattle.core_steps.specs.ReadSteps.{AskFails, IsGivenOver, IsNotGiven, IsNotRead, IsReached, IsReadOver, ReadsOn};
+ghost use Rattle.core_steps.specs.Reads.{leader_calls, master_calls};
 ghost use Rattle.core_steps.specs.Routes.{FailsCarry, scene};
 ghost use Rattle.tao_base.specs.Queries.{query_shard};
 ghost use Rattle.tao_keeper.specs.KeeperState.{IsLater, KeepsTables};
@@ -14,6 +15,7 @@ ghost use Rattle.tao_schema.specs.Schema.{types_of};
 
 use crate::refusals::{link_fault, refused_as};
 use crate::routes::{Route, carry};
+use core_model::{master_of, masters_are_regions, region_of};
 use core_nodes::{Fleet, master_store};
 use node_name::NodeName;
 use replies::{Refusal, Reply, StoreRefused, When};
@@ -49,10 +51,11 @@ fn asked<K: Keeper>(
     requires consistent { IsConsistent K.TELLS config.now (K.state keepers.old).told fleet.old }
     requires leader { IsLeaderFor config.now (query_shard query.now) leader }
     ensures answers { IfOk result (λ given. ChangesNode leader
-        (LeaderAnswers (types_of config.now.schema) (wanted query.now floor) given (store_calls fleet.old.masters (K.state keepers.old) (K.state keepers.new)))
+        (LeaderAnswers (types_of config.now.schema) (wanted query.now floor) given
+        (leader_calls leader fleet.old.stores (K.state keepers.old) (K.state keepers.new)))
         fleet.old.leaders fleet.new.leaders) }
     ensures rest { fleet.new ≡ record fleet.old { leaders = fleet.new.leaders } }
-    ensures given { IfOk result (IsGivenAnswer (types_of config.now.schema) (pens_of fleet.new.masters) (wanted query.now floor)) }
+    ensures given { IfOk result (IsGivenAnswer (types_of config.now.schema) (pens_of fleet.new.stores) (wanted query.now floor)) }
     ensures err { IfErr result (λ reply. AskFails reply (K.state keepers.old) (K.state keepers.new)) }
     ensures same { OnErr result (fleet.new ≡ fleet.old) }
     ensures consistent { IsConsistent K.TELLS config.now (K.state keepers.new).told fleet.new }
@@ -60,13 +63,14 @@ fn asked<K: Keeper>(
     ensures tables { KeepsTables K.TELLS (K.state keepers.old) (K.state keepers.new) }
     ensures later { IsLater (K.state keepers.old) (K.state keepers.new) }
 {
-    match fleet.ask(alloc, config, keepers, leader, query, floor) {
+    let region = region_of(leader);
+    match fleet.ask(alloc, config, keepers, leader, region, query, floor) {
         Ok(given) => Ok(given),
         Err(refusal) => Err(refused_as(refusal, keepers.faults())),
     }
 }
 
-/// The stage `ask` of a read: its question is carried to the leader, which answers of an item of its own or of the shard's store,
+/// The stage `ask` of a read: its question is carried to the leader, which answers of an item of its own or of its region's store,
 /// and what it gives is carried back.
 ///
 /// `LinkFault` comes only where the link's count of faults rose at one of the two carries, `KeeperFault` only where the keepers' rose,
@@ -97,26 +101,6 @@ pub fn ask_over<K: Keeper, L: Link>(
     Ok(given)
 }
 
-/// What was read, as it is given to a follower.
-pub(crate) fn given_of(out: ReadOut) -> LeaderAnswer
-    ensures { result ≡ given_of out }
-{
-    match out {
-        ReadOut::Filled(fill) => LeaderAnswer::Filled(fill),
-        ReadOut::Past {
-            answer,
-            version,
-            total,
-            note,
-        } => LeaderAnswer::Past {
-            answer,
-            version,
-            total,
-            note,
-        },
-    }
-}
-
 /// What the master's store reads.
 fn mastered<K: Keeper>(
     alloc: Global,
@@ -128,16 +112,19 @@ fn mastered<K: Keeper>(
     requires consistent { IsConsistent K.TELLS config.now (K.state keepers.old).told fleet.old }
     requires here { query_shard query.now < config.now.shards }
     ensures reads { IfOk result (λ out.
-        StoreReads (types_of config.now.schema) query.now out fleet.old.masters (K.state keepers.old) (K.state keepers.new)) }
+        StoreReads (types_of config.now.schema) query.now out
+        (master_calls config.now query.now fleet.old.stores (K.state keepers.old) (K.state keepers.new))) }
     ensures given { IfOk result (λ out. (floor : ℕ) → IsReached K.TELLS config.now (wanted query.now floor) (K.state keepers.old)
-        → IsGivenAnswer (types_of config.now.schema) (pens_of fleet.new.masters) (wanted query.now floor) (given_of out)) }
+        → IsGivenAnswer (types_of config.now.schema) (pens_of fleet.new.stores) (wanted query.now floor) (given_of out)) }
     ensures err { IfErr result (λ reply. AskFails reply (K.state keepers.old) (K.state keepers.new)) }
     ensures same { fleet.new ≡ fleet.old }
     ensures consistent { IsConsistent K.TELLS config.now (K.state keepers.new).told fleet.new }
     ensures tables { KeepsTables K.TELLS (K.state keepers.old) (K.state keepers.new) }
     ensures later { IsLater (K.state keepers.old) (K.state keepers.new) }
 {
-    match fleet.master(alloc, config, keepers, query) {
+    masters_are_regions(config);
+    let region = master_of(config, query.shard());
+    match fleet.read_store(alloc, config, keepers, region, query) {
         Ok(out) => Ok(out),
         Err(refusal) => Err(refused_as(refusal, keepers.faults())),
     }

@@ -1,14 +1,15 @@
 //! The stages of a write's other end: its job is merged at the other shard, and then ended.
-ghost use Rattle.std.specs.Prelude.{◌≡◌, ◌<◌, IfErr, IfOk, IfSome, OnErr, OnOk, Some};
-ghost use Rattle.core_mail.specs.Inboxes.{AreInboxesOf, Inboxes};
+ghost use Rattle.std.specs.Prelude.{◌≡◌, ◌<◌, IfErr, IfOk, OnErr, OnOk, Some};
+ghost use Rattle.core_mail.specs.Inboxes.{AreInboxesOf, HaveArrived, Inboxes};
 ghost use Rattle.core_model.specs.Consistent.{IsConsistent};
-ghost use Rattle.core_model.specs.Growing.{MastersGrow};
+ghost use Rattle.core_model.specs.Growing.{StoresGrow};
 ghost use Rattle.core_model.specs.Jobs.{CanBeMerged, IsMergedJob, far_shard, job_on};
 ghost use Rattle.core_model.specs.Pens.{pens_of};
-ghost use Rattle.core_model.specs.Serving.{IsLeaderFor};
-ghost use Rattle.core_steps.specs.MergeAnswers.{IsScheduled, LeavesOpen, RefusesMerge, late_as, merge_answer, told_after, why_late};
-ghost use Rattle.core_steps.specs.OtherEnds.{Crosses, EndsOver, FailsToCross, MergesOver, StandsThere, TakesMerge, WorksOffJob, WorksOffOf, job_way};
-ghost use Rattle.core_steps.specs.OtherEnds.{write_other_end};
+ghost use Rattle.core_model.specs.Serving.{IsLeaderIn};
+ghost use Rattle.core_model.specs.States.{AreStatesOf};
+ghost use Rattle.core_model.specs.Stores.{master_of};
+ghost use Rattle.core_steps.specs.MergeAnswers.{RefusesMerge, late_as, merge_answer, why_late};
+ghost use Rattle.core_steps.specs.OtherEnds.{Crosses, EndsOver, FailsToCross, MergesOver, StandsThere, TakesMerge, job_way};
 ghost use Rattle.core_steps.specs.OtherEnds.{known_of, master_leader, told_entry, told_there};
 ghost use Rattle.core_steps.specs.Posting.{CanPost, PostsOn, posting};
 ghost use Rattle.core_steps.specs.Routes.{scene};
@@ -17,15 +18,15 @@ ghost use Rattle.node_name.specs.declared.NodeName.{NodeName as AnyNode};
 ghost use Rattle.shard_tables.specs.Jobs.{IsOfMerges};
 ghost use Rattle.tao_keeper.specs.KeeperState.{IsLater, KeepsTables};
 ghost use Rattle.tao_link.specs.Shown.{LinkShown};
-ghost use Rattle.topology.specs.States.{NodeStates, all_up};
+ghost use Rattle.topology.specs.States.{NodeStates};
 
 use crate::routes::carry;
 use crate::telling::tell_of;
 use core_mail::Mail;
-use core_model::far_shard;
+use core_model::{far_shard, masters_are_regions};
 use core_nodes::Fleet;
 use node_name::NodeName;
-use replies::{InverseEnd, ScheduledWhy};
+use replies::ScheduledWhy;
 use shard_log::Note;
 use shard_tables::{StoreRefusal, Wrote};
 use std::alloc::Global;
@@ -33,7 +34,7 @@ use tao_base::Entry;
 use tao_keeper::{Job, Keeper};
 use tao_link::{Link, LinkFailed};
 use topology::{Config, Topology};
-use write_plan::{Committed, Late};
+use write_plan::Late;
 
 /// An entry of a shard's log, and a note that has seen it there.
 #[derive(Drop)]
@@ -41,13 +42,6 @@ pub struct ToldEntry {
     pub shard: u16,
     pub entry: Entry,
     pub note: Note,
-}
-
-/// What came of the other end of a write: how its reply tells the inverse, and what was written there, as far as that is known.
-#[derive(Drop)]
-pub struct OtherEndDone {
-    pub told: InverseEnd,
-    pub wrote: Option<Wrote>,
 }
 
 /// The entry of what was written on a shard, where there is one. Takes no memory.
@@ -124,7 +118,7 @@ fn merge_answer(
     }
 }
 
-/// Merges the job at the leader of the shard on which its records lie. Of a new entry the followers of the master's region are told.
+/// Merges the job at a leader of the shard on which its records lie. Of a new entry those who see the shard's log are told.
 fn merge_at<K: Keeper>(
     alloc: Global,
     fleet: &mut Fleet,
@@ -137,9 +131,11 @@ fn merge_at<K: Keeper>(
     job: &Job,
 ) -> Result<Wrote, StoreRefusal>
     requires consistent { IsConsistent K.TELLS config.now (K.state keepers.old).told fleet.old }
-    requires inboxes { AreInboxesOf config.now (pens_of fleet.old.masters) mail.old }
-    requires states { topology.now ≡ all_up config.now }
-    requires leader { IsLeaderFor config.now (far_shard job.now) leader }
+    requires inboxes { AreInboxesOf config.now (pens_of fleet.old.stores) mail.old }
+    requires arrived { WhereTold K.TELLS (HaveArrived (K.state keepers.old).told mail.old) }
+    requires states { AreStatesOf config.now topology.now }
+    requires here { far_shard job.now < config.now.shards }
+    requires leader { IsLeaderIn config.now (master_of config.now (far_shard job.now)) leader }
     requires preferred { leader ≡ master_leader topology.now (far_shard job.now) }
     requires job { CanBeMerged K.TELLS config.now (K.state keepers.old).told (job_on shard job.now) }
     ensures takes { (by : AnyNode) (before after : LinkShown) → IfOk result (λ wrote.
@@ -152,19 +148,28 @@ fn merge_at<K: Keeper>(
     ensures untold { OnErr result (mail.new ≡ mail.old) }
     ensures tables { OnErr result (KeepsTables K.TELLS (K.state keepers.old) (K.state keepers.new)) }
     ensures merged { WhereTold K.TELLS (OnOk result (IsMergedJob config.now (K.state keepers.new).told (job_on shard job.now))) }
-    ensures stands { IfOk result (λ wrote. StandsThere config.now job.now (Some wrote) fleet.new.masters) }
+    ensures stands { IfOk result (λ wrote. StandsThere config.now job.now (Some wrote) fleet.new.stores) }
     ensures on { (before after : LinkShown) → PostsOn K.TELLS config.now
         (posting (scene fleet.old (K.state keepers.old) before) mail.old topology.now)
         (posting (scene fleet.new (K.state keepers.new) after) mail.new topology.now) }
 {
+    masters_are_regions(config);
     let mut wrote = fleet.merge(alloc, config, keepers, leader, shard, job)?;
-    tell_of(alloc, mail, config, topology, far_shard(job), &mut wrote);
+    tell_of(
+        alloc,
+        mail,
+        config,
+        topology,
+        leader,
+        far_shard(job),
+        &mut wrote,
+    );
     Ok(wrote)
 }
 
 /// The stage `inverse`: a job of a shard is carried from the leader that committed it to the one that the master's region prefers for the shard on
 /// which its records lie, which merges it and takes what was written, and the answer is carried back, also that of a merge that was refused.
-/// Where both are one node nothing is carried. Of a new entry the followers are told as after a write.
+/// Where both are one node nothing is carried. Of a new entry those who see the log are told as after a write.
 ///
 /// The job stays open. Whatever fails leaves it so: `LinkFault` only where the link's count of faults rose, `KeeperFault` only where the keepers'
 /// did, `LogFull` where the other shard's log has no room for the entry, `NoServer` where that shard isn't configured, `Memory` where there was none.
@@ -187,7 +192,7 @@ pub fn merge_over<K: Keeper, L: Link>(
         (posting (scene fleet.old (K.state keepers.old) (L.shown link.old)) mail.old topology.now)
         (posting (scene fleet.new (K.state keepers.new) (L.shown link.new)) mail.new topology.now) }
     ensures merged { WhereTold K.TELLS (OnOk result (IsMergedJob config.now (K.state keepers.new).told (job_on shard job.now))) }
-    ensures stands { StandsThere config.now job.now (known_of result) fleet.new.masters }
+    ensures stands { StandsThere config.now job.now (known_of result) fleet.new.stores }
     ensures on { PostsOn K.TELLS config.now
         (posting (scene fleet.old (K.state keepers.old) (L.shown link.old)) mail.old topology.now)
         (posting (scene fleet.new (K.state keepers.new) (L.shown link.new)) mail.new topology.now) }
@@ -229,119 +234,12 @@ pub fn end_over<K: Keeper>(
         (posting (scene fleet.old (K.state keepers.old) link) inboxes states) (posting (scene fleet.new (K.state keepers.new) link) inboxes states) }
     ensures same { fleet.new ≡ fleet.old }
     ensures consistent { IsConsistent K.TELLS config.now (K.state keepers.new).told fleet.new }
-    ensures grows { MastersGrow K.TELLS config.now (K.state keepers.old).told (K.state keepers.new).told }
+    ensures grows { StoresGrow K.TELLS config.now (K.state keepers.old).told (K.state keepers.new).told }
     ensures later { IsLater (K.state keepers.old) (K.state keepers.new) }
 {
+    masters_are_regions(config);
     match fleet.end_job(config, keepers, shard, job) {
         Ok(()) => Ok(()),
         Err(refusal) => Err(late_as(refusal)),
-    }
-}
-
-/// How the reply tells the inverse, once its job was merged, by what came of its end.
-fn told_after(ended: Result<(), Late>) -> InverseEnd
-    requires { IfErr ended IsScheduled }
-    ensures { result ≡ told_after ended }
-{
-    match ended {
-        Ok(()) => InverseEnd::Written,
-        Err(Late::Scheduled { why, .. }) => InverseEnd::Scheduled { why },
-        Err(Late::Refused(_)) => unreachable!(),
-    }
-}
-
-/// What came of the other end where the job stays open.
-fn left_open(late: Late) -> OtherEndDone
-    requires { IsScheduled late }
-    ensures { LeavesOpen late result }
-{
-    match late {
-        Late::Scheduled { why, wrote } => OtherEndDone {
-            told: InverseEnd::Scheduled { why },
-            wrote,
-        },
-        Late::Refused(_) => unreachable!(),
-    }
-}
-
-/// Merges a job, and then ends it.
-fn work_off_job<K: Keeper, L: Link>(
-    alloc: Global,
-    fleet: &mut Fleet,
-    mail: &mut Mail,
-    config: &Config,
-    topology: &Topology,
-    keepers: &mut K,
-    link: &mut L,
-    leader: NodeName,
-    shard: u16,
-    job: &Job,
-) -> OtherEndDone
-    requires ready { CanPost K.TELLS config.now (posting (scene fleet.old (K.state keepers.old) (L.shown link.old)) mail.old topology.now) }
-    requires here { shard < config.now.shards }
-    requires job { CanBeMerged K.TELLS config.now (K.state keepers.old).told (job_on shard job.now) }
-    ensures works { WorksOffJob K.TELLS config.now (job_way leader (job_on shard job.now)) result
-        (posting (scene fleet.old (K.state keepers.old) (L.shown link.old)) mail.old topology.now)
-        (posting (scene fleet.new (K.state keepers.new) (L.shown link.new)) mail.new topology.now) }
-    ensures stands { StandsThere config.now job.now result.wrote fleet.new.masters }
-    ensures on { PostsOn K.TELLS config.now
-        (posting (scene fleet.old (K.state keepers.old) (L.shown link.old)) mail.old topology.now)
-        (posting (scene fleet.new (K.state keepers.new) (L.shown link.new)) mail.new topology.now) }
-{
-    match merge_over(
-        alloc, fleet, mail, config, topology, keepers, link, leader, shard, job,
-    ) {
-        Ok(merged) => OtherEndDone {
-            told: told_after(end_over(fleet, config, keepers, shard, job)),
-            wrote: Some(merged),
-        },
-        Err(late) => left_open(late),
-    }
-}
-
-/// Does all that can be done of the job of what a commit answered: merges it, and then ends it.
-pub(crate) fn work_off<K: Keeper, L: Link>(
-    alloc: Global,
-    fleet: &mut Fleet,
-    mail: &mut Mail,
-    config: &Config,
-    topology: &Topology,
-    keepers: &mut K,
-    link: &mut L,
-    shard: u16,
-    committed: &Committed,
-) -> OtherEndDone
-    requires ready { CanPost K.TELLS config.now (posting (scene fleet.old (K.state keepers.old) (L.shown link.old)) mail.old topology.now) }
-    requires here { shard < config.now.shards }
-    requires job { IfSome committed.now.wrote.job (λ job. CanBeMerged K.TELLS config.now (K.state keepers.old).told (job_on shard job)) }
-    ensures works { WorksOffOf K.TELLS config.now (write_other_end shard committed.now result) committed.now.wrote.job
-        (posting (scene fleet.old (K.state keepers.old) (L.shown link.old)) mail.old topology.now)
-        (posting (scene fleet.new (K.state keepers.new) (L.shown link.new)) mail.new topology.now) }
-    ensures stands { IfSome committed.now.wrote.job (λ job. StandsThere config.now job result.wrote fleet.new.masters) }
-    ensures on { PostsOn K.TELLS config.now
-        (posting (scene fleet.old (K.state keepers.old) (L.shown link.old)) mail.old topology.now)
-        (posting (scene fleet.new (K.state keepers.new) (L.shown link.new)) mail.new topology.now) }
-{
-    match &committed.wrote.job {
-        Some(job) => work_off_job(
-            alloc,
-            fleet,
-            mail,
-            config,
-            topology,
-            keepers,
-            link,
-            committed.leader,
-            shard,
-            job,
-        ),
-        None => OtherEndDone {
-            told: if committed.paired {
-                InverseEnd::Written
-            } else {
-                InverseEnd::None
-            },
-            wrote: None,
-        },
     }
 }

@@ -1,24 +1,33 @@
-//! Reads and writes along their route: from the follower of a session over a link to a leader, and back.
+//! The stages of reads and writes over a link: from the follower of a session to a leader or to the master's store, and back.
 //!
-//! Each call says what it did to the nodes, stage by stage, which carries it took, and what its reply tells of the log; what was
-//! consistent stays so. Which nodes are on the route is not said here.
+//! Each call says what it did to the nodes, which carries it took, and what it was answered; what was consistent stays so.
+//! Which stage follows which, and which nodes are on the route, is not said here.
+//!
+//! What it promises. What a leader gives, or the master's store reads, by one carry there and one back, is right for
+//! the query at its floor. A commit is a step of the plain machine; of a new entry, and of no other, the followers
+//! of the master's region are told, and the leader that another stands in for; where it is refused, no node and no
+//! table changes. A job is merged by the leader of the other shard, two carries away, or none where that is the same
+//! node, and of what it wrote that shard's followers are told; it is ended only once it is merged; what fails leaves
+//! it open, with its cause, and a merge that was refused is carried back all the same. What was committed is carried
+//! back to the follower, which takes the changes. A fault of the link comes only where its count rose at a carry
+//! between the two nodes of the stage. After each of these stages all is consistent, the logs only grew, and no
+//! count fell (`ReadsOn`, `PostsOn`).
+//!
+//! The contracts that say so: `ask_over`, `read_over`, `commit_over`, `merge_over`, `end_over`, `apply_over`,
+//! `tell_besides`; `IsGivenOver`, `IsReadOver`, `ReadOverFails`, `IsCommitted`, `RefusesCommit`, `TellsOfNew`,
+//! `MergesOver`, `EndsOver`.
 #![tactic(auto)]
 
 mod asking;
-mod critical;
 mod jobs;
-mod laws;
-mod reads;
 mod refusals;
 mod routes;
 mod telling;
 mod writes;
 
 pub use asking::{ask_over, read_over};
-pub use critical::read_critical;
-pub use jobs::{OtherEndDone, ToldEntry, end_over, merge_over, told_entry, told_there};
-pub use laws::written_is_there;
-pub use reads::read_along;
+pub use jobs::{ToldEntry, end_over, merge_over, told_entry, told_there};
 pub use refusals::{link_fault, out_of_memory, refilled_as, refused_as};
 pub use routes::Route;
-pub use writes::{CarriedOut, apply_over, commit_over, write_along};
+pub use telling::tell_besides;
+pub use writes::{apply_over, commit_over};

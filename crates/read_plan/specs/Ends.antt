@@ -17,6 +17,7 @@ read_reply word hops store (Answered answer version kept) =
     Called (Read (record { word = word; answer = answer; version = version; hops = hops; store = store; kept = kept }))
 read_reply word hops store (Refused reply) = reply
 
+-- the read stands at its end, with this reply; one that stands elsewhere has no reply yet
 abbrev pub EndsAt : Standing → Reading → Reply → Type 0
 EndsAt (Ended end) p reply = reply ≡ read_reply (query_word p.query) p.hops p.store end
 EndsAt Looking p reply = ⊥

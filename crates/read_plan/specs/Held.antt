@@ -27,6 +27,7 @@ pub record IsHeldFill (types : EdgeTypes) (query : Query) (floor : ℕ) (fill : 
   pub decides : content_decides types fill.content query ≡ true
   pub reaches : WhereTold fill.note.log.told (floor ≤ fill.version)
 
+-- the version of what a store read: that of its fill, or of its answer past the bound
 abbrev pub read_out_version : ReadOut → ℕ
 read_out_version (store.Filled fill) = fill.version
 read_out_version (store.Past answer version total note) = version
@@ -46,6 +47,7 @@ IsGiven types query floor (Past answer version total (Some seen)) =
 IsGiven types query floor (Past answer version total None) = ⊥
 IsGiven types query floor (HandedOut version) = ⊥
 
+-- a read that is to keep was given what is right for the query and the floor; of one that stands elsewhere nothing is asked
 abbrev pub IsStandingFor : EdgeTypes → Query → ℕ → Standing → Type 0
 IsStandingFor types query floor (Keeping given) = IsGiven types query floor given
 IsStandingFor types query floor Looking = ⊤

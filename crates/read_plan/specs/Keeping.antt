@@ -7,6 +7,7 @@ use Rattle.replies.specs.declared.nodes.KeptOrNot.TheVariants.{Kept, Not}
 use Rattle.replies.specs.declared.nodes.NotKeptWhy.{NotKeptWhy}
 use Rattle.replies.specs.declared.nodes.NotKeptWhy.TheVariants.{Bound, Asks, Lost, Mark, Floor, Memory}
 
+-- a fill that isn't kept, for that reason, with what it had and what it needed
 abbrev pub not_kept : NotKeptWhy → ℕ → ℕ → KeptOrNot
 not_kept why have need = Not (record { why = why; have = have; need = need })
 

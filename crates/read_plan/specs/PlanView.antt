@@ -2,6 +2,7 @@
 use Rattle.read_plan.specs.Readings.{Reading}
 use Rattle.read_plan.specs.declared.plan.ReadPlan.TheInside.{Inside}
 
+-- the plan of a read, as contracts see it
 abbrev pub reading_seen : Inside → Reading
 reading_seen p = record {
   query = p.query;

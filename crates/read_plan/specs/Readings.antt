@@ -44,10 +44,11 @@ abbrev pub taken : ReadResult → ℕ → Bool → Reading → Reading
 taken outcome hops store p =
     record p { at = standing_after p.critical p.bound p.at outcome; hops = hops_after p.hops hops; store = p.store || store }
 
--- a read whose fill, or note, is handed out
+-- a read whose fill is handed out
 abbrev pub fill_handed : Reading → Reading
 fill_handed p = record p { at = without_fill p.at }
 
+-- a read whose note, of an answer past the bound, is handed out
 abbrev pub note_handed : Reading → Reading
 note_handed p = record p { at = without_note p.at }
 

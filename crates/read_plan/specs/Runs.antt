@@ -34,10 +34,12 @@ abbrev pub Goes : Reading → List DoneStage → Reading → Type 0
 Goes p [] q = q ≡ p
 Goes p (s ∷ rest) q = IsOfNextStage p s.came × Goes (taken s.came s.hops s.store p) rest q
 
+-- how many hops the stages took in all
 abbrev pub hops_of : List DoneStage → ℕ
 hops_of [] = 0
 hops_of (s ∷ rest) = s.hops + hops_of rest
 
+-- whether the result is that of the stage `ask`, which asks a leader
 abbrev pub is_ask : ReadResult → Bool
 is_ask (came.Ask answer) = true
 is_ask (came.Look look) = false
@@ -51,7 +53,7 @@ pub record StagesAdd (critical : Bool) (stages : List DoneStage) (q : Reading) :
   pub store : q.store ≡ list_any (λ s. s.store) stages
   pub unasked : critical ≡ true → list_any (λ s. is_ask s.came) stages ≡ false
 
--- so it is of each read that was begun
+-- each read that was begun takes at most four stages, and its hops and its calls of a keeper are those of its stages
 pub record ReadsEnd (query : Query) (region tier floor : ℕ) (critical : Bool) (follower : NodeName) : Type 0 where
   pub adds : (stages : List DoneStage) (q : Reading) → Goes (new_reading query region tier floor critical follower) stages q → StagesAdd critical stages q
 

@@ -39,7 +39,7 @@ came_of (came.Ask answer) = stage.Ask
 came_of (came.Master out) = stage.Master
 came_of (came.Keep found) = stage.Keep
 
--- its name in replies
+-- the name that a stage has in replies; None for a read that is over
 abbrev pub stage_named : ReadStage → Option Stage
 stage_named stage.Look = Some named.Look
 stage_named stage.Ask = Some named.Ask
@@ -65,6 +65,7 @@ after_ask (leader.Filled fill) = Keeping (Fill fill)
 after_ask (leader.Past answer version total note) = Keeping (Past answer version total (Some note))
 after_ask (leader.Behind version) = Mastering
 
+-- what the master's store gave goes to the follower: a fill, or an answer past the bound with its note
 abbrev pub after_master : ReadOut → Standing
 after_master (store.Filled fill) = Keeping (Fill fill)
 after_master (store.Past answer version total note) = Keeping (Past answer version total (Some note))
@@ -78,6 +79,7 @@ after_given bound (Past answer version total seen) (Some found) = Keeping (Past 
 after_given bound (Fill fill) None = Keeping (Fill fill)
 after_given bound (HandedOut version) None = Keeping (HandedOut version)
 
+-- where a read stands after the stage `keep`, by what the follower answered from the fill: None where none was given
 abbrev pub after_keep : ℕ → Standing → Option (Answer × KeptWhy) → Standing
 after_keep bound (Keeping given) found = after_given bound given found
 after_keep bound at found = at
@@ -119,7 +121,7 @@ fill_of Asking = None
 fill_of Mastering = None
 fill_of (Ended end) = None
 
--- once it is handed out its version is left
+-- where a read stands once its fill was handed out: of the fill its version is left
 abbrev pub without_fill : Standing → Standing
 without_fill (Keeping (Fill fill)) = Keeping (HandedOut fill.version)
 without_fill (Keeping (HandedOut version)) = Keeping (HandedOut version)
@@ -139,6 +141,7 @@ standing_note Asking = None
 standing_note Mastering = None
 standing_note (Ended end) = None
 
+-- where a read stands once its note was handed out; one that has no note stands as before
 abbrev pub without_note : Standing → Standing
 without_note (Keeping (Past answer version total seen)) = Keeping (Past answer version total None)
 without_note (Keeping (Fill fill)) = Keeping (Fill fill)

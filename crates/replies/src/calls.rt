@@ -7,14 +7,14 @@ use tao_base::{Answer, Id, Query};
 use words::{ReadWord, WriteWord};
 
 /// The reply to a write or a read that was carried out.
-#[derive(Debug, Drop)]
+#[derive(Drop)]
 pub enum CallReply {
     Write(WriteReply),
     Read(ReadReply),
 }
 
 /// The reply to a write.
-#[derive(Clone, Copy, Debug, PartialEq, Eq)]
+#[derive(Clone, Copy, PartialEq, Eq)]
 pub struct WriteReply {
     pub kind: WriteKind,
     pub written: Written,
@@ -23,7 +23,7 @@ pub struct WriteReply {
 }
 
 /// Which write was asked.
-#[derive(Clone, Copy, Debug, PartialEq, Eq)]
+#[derive(Clone, Copy, PartialEq, Eq)]
 pub enum WriteKind {
     /// An object was added under this id.
     ObjAdd { id: Id },
@@ -35,7 +35,7 @@ pub enum WriteKind {
 }
 
 /// What a write did.
-#[derive(Clone, Copy, Debug, PartialEq, Eq)]
+#[derive(Clone, Copy, PartialEq, Eq)]
 pub struct Written {
     /// Whether there was something to write; on a retry, whether the first try wrote something.
     pub changed: bool,
@@ -48,7 +48,7 @@ pub struct Written {
 }
 
 /// What became of the inverse of an edge that was written.
-#[derive(Clone, Copy, Debug, PartialEq, Eq)]
+#[derive(Clone, Copy, PartialEq, Eq)]
 pub enum InverseEnd {
     /// There is none to be written.
     None,
@@ -59,7 +59,7 @@ pub enum InverseEnd {
 }
 
 /// Why an inverse is not yet written.
-#[derive(Clone, Copy, Debug, PartialEq, Eq)]
+#[derive(Clone, Copy, PartialEq, Eq)]
 pub enum ScheduledWhy {
     LinkFault,
     KeeperFault,
@@ -71,7 +71,7 @@ pub enum ScheduledWhy {
 }
 
 /// The reply to a read: what was found, and the version of its key.
-#[derive(Debug, Drop)]
+#[derive(Drop)]
 pub struct ReadReply {
     pub word: ReadWord,
     pub answer: Answer,

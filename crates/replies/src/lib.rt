@@ -1,5 +1,9 @@
 //! The replies to lines: what was done, found or refused; and why stores could not be opened. A reply holds nodes, regions and object types as
 //! their places in the configuration. How a line spells it is not said here.
+//!
+//! What it promises. What lines ask and what is replied, apart from how it is spelled.
+//!
+//! The contracts that say so: the types `Request`, `Reply`.
 #![tactic(auto)]
 
 mod calls;

@@ -2,7 +2,7 @@
 use std::marker::Model;
 
 /// The lengths of logs, by shard. Contracts see their list.
-#[derive(Debug, Drop)]
+#[derive(Drop)]
 pub struct Lengths {
     lengths: Vec<u64>,
 }
@@ -33,14 +33,14 @@ impl Lengths {
 }
 
 /// A message of a node's inbox: the shard and the position of the entry that it is about.
-#[derive(Clone, Copy, Debug, PartialEq, Eq)]
+#[derive(Clone, Copy, PartialEq, Eq)]
 pub struct Message {
     pub shard: u16,
     pub position: u64,
 }
 
 /// Messages, in the order in which they were sent. Contracts see their list.
-#[derive(Debug, Drop)]
+#[derive(Drop)]
 pub struct Messages {
     messages: Vec<Message>,
 }

@@ -5,7 +5,7 @@ use tao_base::{Edges, Object};
 use words::{DeliveryWord, HealthWord, LinkWord};
 
 /// The reply about a node.
-#[derive(Debug, Drop)]
+#[derive(Drop)]
 pub enum NodeReply {
     Cache(CacheReply),
     Streamed(Streamed),
@@ -18,7 +18,7 @@ pub enum NodeReply {
 
 /// A store took the next entry of its master's log, if there was one. `next` is the position that it
 /// takes next.
-#[derive(Clone, Copy, Debug, PartialEq, Eq)]
+#[derive(Clone, Copy, PartialEq, Eq)]
 pub struct Streamed {
     pub hops: u64,
     pub next: u64,
@@ -27,7 +27,7 @@ pub struct Streamed {
 
 /// The first open job of a shard was run: the position of the entry that left it, 0 where no job was
 /// open, and whether an entry was written at the other end.
-#[derive(Clone, Copy, Debug, PartialEq, Eq)]
+#[derive(Clone, Copy, PartialEq, Eq)]
 pub struct Repaired {
     pub hops: u64,
     pub job: u64,
@@ -35,7 +35,7 @@ pub struct Repaired {
 }
 
 /// The reply about a cache node.
-#[derive(Debug, Drop)]
+#[derive(Drop)]
 pub enum CacheReply {
     Delivered(DeliveredReply),
     /// A message was taken out of the inbox and dropped.
@@ -51,7 +51,7 @@ pub enum CacheReply {
 
 /// A message was delivered: how many items it dropped, and the node's mark for the shard, up to which it
 /// has seen all entries.
-#[derive(Clone, Copy, Debug, PartialEq, Eq)]
+#[derive(Clone, Copy, PartialEq, Eq)]
 pub struct DeliveredReply {
     pub word: DeliveryWord,
     pub dropped: u64,
@@ -60,7 +60,7 @@ pub struct DeliveredReply {
 }
 
 /// The first list of the refill queue was filled again, by a keeper's call where `store`.
-#[derive(Clone, Copy, Debug, PartialEq, Eq)]
+#[derive(Clone, Copy, PartialEq, Eq)]
 pub struct Refilled {
     pub hops: u64,
     pub store: bool,
@@ -69,14 +69,14 @@ pub struct Refilled {
 }
 
 /// Whether a node kept a fill.
-#[derive(Clone, Copy, Debug, PartialEq, Eq)]
+#[derive(Clone, Copy, PartialEq, Eq)]
 pub enum KeptOrNot {
     Kept,
     Not(NotKept),
 }
 
 /// Why a fill was not kept: what it had, and what it needed.
-#[derive(Clone, Copy, Debug, PartialEq, Eq)]
+#[derive(Clone, Copy, PartialEq, Eq)]
 pub struct NotKept {
     pub why: NotKeptWhy,
     pub have: u64,
@@ -84,7 +84,7 @@ pub struct NotKept {
 }
 
 /// Why a fill was not kept.
-#[derive(Clone, Copy, Debug, PartialEq, Eq)]
+#[derive(Clone, Copy, PartialEq, Eq)]
 pub enum NotKeptWhy {
     /// The most edges that a node keeps of the list don't decide the query.
     Bound,
@@ -100,21 +100,21 @@ pub enum NotKeptWhy {
 }
 
 /// What a node holds of a key.
-#[derive(Debug, Drop)]
+#[derive(Drop)]
 pub enum Shown {
     Nothing,
     Held { version: u64, item: ShownItem },
 }
 
 /// The item of a key: an object, or the first edges of a list and the list's length.
-#[derive(Debug, Drop)]
+#[derive(Drop)]
 pub enum ShownItem {
     Object(Option<Object>),
     List { edges: Edges, total: u64 },
 }
 
 /// What a store did with the entry that was streamed to it.
-#[derive(Clone, Copy, Debug, PartialEq, Eq)]
+#[derive(Clone, Copy, PartialEq, Eq)]
 pub enum StreamVerdict {
     /// It took the entry.
     Applied,

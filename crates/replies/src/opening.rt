@@ -4,6 +4,7 @@ ghost use Rattle.replies.specs.OpenTexts.{open_text};
 
 use std::error::Error;
 use std::fmt;
+use tao_base::StoreName;
 
 /// Why the stores of a configuration could not be opened.
 #[derive(Clone, Copy, Debug, PartialEq, Eq)]
@@ -12,6 +13,8 @@ pub enum OpenRefusal {
     KeeperFault,
     /// A store was first opened with another line, and keeps that.
     OtherLine,
+    /// At this position, and at none before, what the store has of its shard's log isn't what the shard's master has.
+    Disagree { store: StoreName, position: u64 },
     /// There was no memory. The stores may be opened again.
     OutOfMemory,
 }
@@ -23,6 +26,7 @@ impl fmt::Display for OpenRefusal {
         match self {
             OpenRefusal::KeeperFault => write!(f, "the keeper failed"),
             OpenRefusal::OtherLine => write!(f, "a store was first opened with another line"),
+            OpenRefusal::Disagree { .. } => write!(f, "a store's log isn't its master's"),
             OpenRefusal::OutOfMemory => write!(f, "out of memory"),
         }
     }

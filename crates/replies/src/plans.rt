@@ -3,7 +3,7 @@ use super::calls::CallReply;
 use words::PlanWord;
 
 /// The reply to a request that took a plan one stage further.
-#[derive(Debug, Drop)]
+#[derive(Drop)]
 pub enum PlanReply {
     /// The plan is held before this stage.
     Next {
@@ -19,7 +19,7 @@ pub enum PlanReply {
 }
 
 /// A stage of a read or a write.
-#[derive(Clone, Copy, Debug, PartialEq, Eq)]
+#[derive(Clone, Copy, PartialEq, Eq)]
 pub enum Stage {
     /// The follower looks for the key among its items.
     Look,

@@ -4,7 +4,7 @@ use tao_base::{StoreName, Text};
 use words::Word;
 
 /// Why a request was refused.
-#[derive(Debug, Drop)]
+#[derive(Drop)]
 pub enum Refusal {
     Line(LineRefused),
     Plan(PlanRefused),
@@ -17,7 +17,7 @@ pub enum Refusal {
 }
 
 /// What of a line was refused.
-#[derive(Debug, Drop)]
+#[derive(Drop)]
 pub enum LineRefused {
     /// The line says no request: its first bad field, the empty text for the line as a whole.
     BadLine { field: Text },
@@ -30,7 +30,7 @@ pub enum LineRefused {
 }
 
 /// Why a plan was not taken further.
-#[derive(Clone, Copy, Debug, PartialEq, Eq)]
+#[derive(Clone, Copy, PartialEq, Eq)]
 pub enum PlanRefused {
     NoPlan { plan: u32 },
     /// The plan is held already.
@@ -40,7 +40,7 @@ pub enum PlanRefused {
 }
 
 /// What is wrong with a session.
-#[derive(Clone, Copy, Debug, PartialEq, Eq)]
+#[derive(Clone, Copy, PartialEq, Eq)]
 pub enum SessionRefused {
     NoSession { session: u32 },
     /// The session is open already.
@@ -50,7 +50,7 @@ pub enum SessionRefused {
 }
 
 /// What is wrong with a name that a request gave.
-#[derive(Debug, Drop)]
+#[derive(Drop)]
 pub enum NameRefused {
     /// No such region, as `east`, or no such tier, as `east/t9`.
     NoTier { name: Text },
@@ -64,7 +64,7 @@ pub enum NameRefused {
 }
 
 /// Why a node could not do what was asked.
-#[derive(Clone, Copy, Debug, PartialEq, Eq)]
+#[derive(Clone, Copy, PartialEq, Eq)]
 pub enum NodeRefused {
     /// The inbox has no message at that place.
     NoMessage { message: u32 },
@@ -81,14 +81,14 @@ pub enum NodeRefused {
 }
 
 /// Whether a plan ended before its entry was committed, or after, and at which position it stands.
-#[derive(Clone, Copy, Debug, PartialEq, Eq)]
+#[derive(Clone, Copy, PartialEq, Eq)]
 pub enum When {
     Before,
     After { position: u64 },
 }
 
 /// Why a store could not do what was asked.
-#[derive(Clone, Copy, Debug, PartialEq, Eq)]
+#[derive(Clone, Copy, PartialEq, Eq)]
 pub enum StoreRefused {
     /// The session's write of that number stands at the position, and is another one.
     SeqReused { position: u64 },
@@ -107,7 +107,7 @@ pub enum StoreRefused {
 }
 
 /// Why `settle` came to no end.
-#[derive(Clone, Copy, Debug, PartialEq, Eq)]
+#[derive(Clone, Copy, PartialEq, Eq)]
 pub enum UnsettledWhy {
     LinkFault,
     KeeperFault,

@@ -7,7 +7,7 @@ use super::refusals::Refusal;
 use tao_base::{Answer, StoreName, Text};
 
 /// The reply to a line.
-#[derive(Debug, Drop)]
+#[derive(Drop)]
 pub enum Reply {
     /// The first line was taken as the configuration.
     Configured,

@@ -18,7 +18,7 @@ use Rattle.requests.specs.declared.request.Request.TheVariants as request
 use Rattle.requests.specs.declared.request.WriteText.{WriteText}
 use Rattle.requests.specs.declared.request.WriteText.TheVariants.{ObjAdd, ObjUpdate, ObjDelete, AssocAdd, AssocDelete, AssocChangeType}
 
--- which write it is
+-- the word of a write: which kind of write it is
 abbrev pub write_word : WriteText → WriteWord
 write_word (ObjAdd shard otype payload) = write.ObjAdd
 write_word (ObjUpdate id payload) = write.ObjUpdate
@@ -27,7 +27,7 @@ write_word (AssocAdd edge time payload) = write.AssocAdd
 write_word (AssocDelete edge) = write.AssocDelete
 write_word (AssocChangeType edge newtype) = write.AssocChangeType
 
--- which read it is
+-- the word of a read: which kind of query it asks
 abbrev pub read_word : QueryText → ReadWord
 read_word (ObjGet id) = read.ObjGet
 read_word (AssocGet list ids high low) = read.AssocGet

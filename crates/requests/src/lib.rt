@@ -1,5 +1,9 @@
 //! Requests, with the names of types, regions, tiers and nodes as lines give them. How a line spells them
 //! is not said here.
+//!
+//! What it promises. What lines ask and what is replied, apart from how it is spelled.
+//!
+//! The contracts that say so: the types `Request`, `Reply`.
 #![tactic(auto)]
 
 mod request;

@@ -6,28 +6,28 @@ use tao_base::{Data, Id, IdSet, Text, Time};
 use words::{DeliveryWord, HealthWord, LinkWord, PlanWord, ReadWord, Word, WriteWord};
 
 /// An association list: the associations of one type that go out from an id.
-#[derive(Debug, Drop)]
+#[derive(Drop)]
 pub struct ListName {
     pub id1: Id,
     pub atype: Text,
 }
 
 /// An association: its list and its other end.
-#[derive(Debug, Drop)]
+#[derive(Drop)]
 pub struct EdgeName {
     pub list: ListName,
     pub id2: Id,
 }
 
 /// What a cache node holds an item of.
-#[derive(Debug, Drop)]
+#[derive(Drop)]
 pub enum KeyName {
     Object(Id),
     List(ListName),
 }
 
 /// What a session asks to be written: `tao_base::Write` with names in place of types.
-#[derive(Debug, Drop)]
+#[derive(Drop)]
 pub enum WriteText {
     ObjAdd {
         shard: u16,
@@ -56,7 +56,7 @@ pub enum WriteText {
 }
 
 /// What a session asks to be read: `tao_base::Query` with names in place of types.
-#[derive(Debug, Drop)]
+#[derive(Drop)]
 pub enum QueryText {
     ObjGet {
         id: Id,
@@ -84,7 +84,7 @@ pub enum QueryText {
 }
 
 /// A session's write, by its number.
-#[derive(Debug, Drop)]
+#[derive(Drop)]
 pub struct WriteCall {
     pub session: u32,
     pub seq: u64,
@@ -92,7 +92,7 @@ pub struct WriteCall {
 }
 
 /// A session's read. A critical one is answered by the master's leader.
-#[derive(Debug, Drop)]
+#[derive(Drop)]
 pub struct ReadCall {
     pub session: u32,
     pub query: QueryText,
@@ -100,14 +100,14 @@ pub struct ReadCall {
 }
 
 /// One of the eleven calls on objects and associations.
-#[derive(Debug, Drop)]
+#[derive(Drop)]
 pub enum Call {
     Write(WriteCall),
     Read(ReadCall),
 }
 
 /// A tier of a region, which a session opens in.
-#[derive(Debug, Drop)]
+#[derive(Drop)]
 pub struct OpenCall {
     pub session: u32,
     pub region: Text,
@@ -115,14 +115,14 @@ pub struct OpenCall {
 }
 
 /// A node, and the place of a message in its inbox.
-#[derive(Debug, Drop)]
+#[derive(Drop)]
 pub struct MessageName {
     pub node: Text,
     pub message: u32,
 }
 
 /// A leader, as the nodes of a tier see it.
-#[derive(Debug, Drop)]
+#[derive(Drop)]
 pub struct LeaderName {
     pub region: Text,
     pub tier: Text,
@@ -130,14 +130,14 @@ pub struct LeaderName {
 }
 
 /// The link from a node to another.
-#[derive(Debug, Drop)]
+#[derive(Drop)]
 pub struct LinkName {
     pub from: Text,
     pub to: Text,
 }
 
 /// What a line asks.
-#[derive(Debug, Drop)]
+#[derive(Drop)]
 pub enum Request {
     Open(OpenCall),
     Call(Call),

@@ -73,7 +73,7 @@ told_below log n key (t ∷ ts) all = most (cond (same_key key t.key) t.version 
         omega (arith, here, rises)
     by false e = omega arith
 
-told_reached : (log : List Entry) (position : ℕ) (e : Entry) (key : Key) → IsSound log → entry_at log position ≡ Some e
+pub told_reached : (log : List Entry) (position : ℕ) (e : Entry) (key : Key) → IsSound log → entry_at log position ≡ Some e
     → version_told key (learnt_touches e) ≤ version log key
 told_reached log zero e key sound at = absurd (cc (at))
 told_reached log (suc n) e key sound at =

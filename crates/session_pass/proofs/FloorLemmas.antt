@@ -8,15 +8,13 @@ use Rattle.tao_base.proofs.SameKeys.{same_key-Decides}
 use Rattle.tao_base.specs.Keys.{same_key}
 use Rattle.tao_base.specs.declared.id.Key.{Key}
 use Rattle.session_pass.specs.Floors.{FloorsRise, Learns, floor_at, with_learnt}
-
-same_self : (key : Key) → same_key key key ≡ true
-same_self key = (same_key-Decides key key).1 refl
+use Rattle.graph_model.proofs.Keys.{same_key-self}
 
 apart : (key other : Key) → other ≢ key → same_key other key ≡ false
 apart key other differs = elim (cases_Bool (same_key other key)) [ inl e ↦ absurd (differs ((same_key-Decides other key).0 e)) | inr e ↦ e ]
 
 inserted : (floors : List (Key × ℕ)) (key : Key) (v : ℕ) → floor_at (insert_entry same_key floors key v) key ≡ v
-inserted [] key v = rw (same_self key) refl
+inserted [] key v = rw (same_key-self key) refl
 inserted (f ∷ fs) key v = elim (cases_Bool (same_key key f.0)) [ inl e ↦ rw e (rw e refl) | inr e ↦ rw e (rw e (inserted fs key v)) ]
 
 elsewhere : (floors : List (Key × ℕ)) (key other : Key) (v : ℕ) → other ≢ key → floor_at (insert_entry same_key floors key v) other ≡ floor_at floors other

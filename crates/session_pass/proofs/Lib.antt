@@ -1,3 +1,3 @@
-mod EntryLemmas
+pub mod EntryLemmas
 mod FloorLemmas
 mod PassLemmas

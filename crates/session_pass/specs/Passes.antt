@@ -21,7 +21,7 @@ pub record SeenPass : Type 0 where
 abbrev pub ReachesIn : View → Key → ℕ → Type 0
 ReachesIn note key at = WhereTold note.log.told (at ≤ version note.entries key)
 
--- the same in what was seen of the key's shard. A key of a shard that isn't configured has no version
+-- a key has reached a version in what was seen of its shard's log. A key of a shard that isn't configured has no version
 abbrev pub HasReached : List View → Key → ℕ → Type 0
 HasReached notes key at = MatchOption (slice_get notes (key_shard key)) (at ≡ 0) (λ note. ReachesIn note key at)
 

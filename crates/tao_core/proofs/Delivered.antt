@@ -17,7 +17,7 @@ use Rattle.words.specs.declared.DeliveryWord.TheVariants as word
 use Rattle.tao_core.specs.Core.{CoreState, StaysHeld}
 use Rattle.tao_core.specs.Deliveries.{AnswersDeliver, AnswersLoss, AnswersSecond, FindsNone, IsProcessed, lost_as}
 use Rattle.tao_core.proofs.HeldOn.{same_held}
-use Rattle.tao_core.proofs.Delivering.{copied_answers, none_taken, none_waits, processed_masters, taken_answers}
+use Rattle.tao_core.proofs.Delivering.{copied_answers, none_taken, none_waits, processed_stores, taken_answers}
 
 -- ---- a message is delivered
 
@@ -25,14 +25,14 @@ use Rattle.tao_core.proofs.Delivering.{copied_answers, none_taken, none_waits, p
 pub record IsDelivered (node : NodeName) (place : ℕ) (old : CoreState) (reply : Reply) (new : CoreState) : Type 0 where
   pub does : AnswersDeliver node place old reply new
   pub fleet : IsFleetOf old.settings new.fleet
-  pub inboxes : AreInboxesOf old.settings (pens_of old.fleet.masters) new.mail
-  pub masters : new.fleet.masters ≡ old.fleet.masters
+  pub inboxes : AreInboxesOf old.settings (pens_of old.fleet.stores) new.mail
+  pub stores : new.fleet.stores ≡ old.fleet.stores
   pub on : StaysHeld old.fleet new.fleet
   pub rest : new ≡ record old { fleet = new.fleet; mail = new.mail }
 
 module _ (node : NodeName) (place : ℕ) (old now : CoreState) (mail : Inboxes) (reply : Reply) (own : old ≡ now) where
   pub delivered : (m : SeenMaint) (new : CoreState) → ChangesNode node (TakesOut place (Some m)) old.mail mail
-      → AreInboxesOf old.settings (pens_of old.fleet.masters) mail → IsProcessed word.Deliver node m (record old { mail = mail }) reply new
+      → AreInboxesOf old.settings (pens_of old.fleet.stores) mail → IsProcessed word.Deliver node m (record old { mail = mail }) reply new
       → IsFleetOf old.settings new.fleet → StaysHeld old.fleet new.fleet → new ≡ record old { fleet = new.fleet; mail = mail }
       → IsDelivered node place now reply new
   delivered m new change inboxes does fleet on rest =
@@ -41,8 +41,8 @@ module _ (node : NodeName) (place : ℕ) (old now : CoreState) (mail : Inboxes) 
       subst (λ x. IsDelivered node place x reply new) own (record {
         does = taken_answers node place m old between new reply refl change same does;
         fleet = fleet;
-        inboxes = subst (AreInboxesOf old.settings (pens_of old.fleet.masters)) (sym same) inboxes;
-        masters = processed_masters word.Deliver node m between new reply does;
+        inboxes = subst (AreInboxesOf old.settings (pens_of old.fleet.stores)) (sym same) inboxes;
+        stores = processed_stores word.Deliver node m between new reply does;
         on = on;
         rest = rest ∙ ap (λ xs. record old { fleet = new.fleet; mail = xs }) (sym same);
       })
@@ -53,14 +53,14 @@ module _ (node : NodeName) (place : ℕ) (old now : CoreState) (mail : Inboxes) 
   found_none is change = (refl, none_waits node place old.mail mail change, ap (λ xs. record old { mail = xs }) (none_taken node place old.mail mail change))
 
   pub none_delivered : reply ≡ Refused (OfNode (NoMessage place)) → ChangesNode node (TakesOut place None) old.mail mail
-      → AreInboxesOf old.settings (pens_of old.fleet.masters) mail → IsFleetOf old.settings old.fleet
+      → AreInboxesOf old.settings (pens_of old.fleet.stores) mail → IsFleetOf old.settings old.fleet
       → IsDelivered node place now reply (record old { mail = mail })
   none_delivered is change inboxes fleet =
       subst (λ x. IsDelivered node place x reply (record old { mail = mail })) own (record {
         does = subst (λ r. AnswersDeliver node place old r (record old { mail = mail })) (sym is) (found_none is change);
         fleet = fleet;
         inboxes = inboxes;
-        masters = refl;
+        stores = refl;
         on = same_held old.fleet;
         rest = refl;
       })
@@ -91,7 +91,7 @@ module _ (node : NodeName) (place : ℕ) (old now : CoreState) (mail : Inboxes) 
 pub record IsRepeated (node : NodeName) (place : ℕ) (old : CoreState) (reply : Reply) (new : CoreState) : Type 0 where
   pub does : AnswersSecond node place old reply new
   pub fleet : IsFleetOf old.settings new.fleet
-  pub masters : new.fleet.masters ≡ old.fleet.masters
+  pub stores : new.fleet.stores ≡ old.fleet.stores
   pub on : StaysHeld old.fleet new.fleet
   pub rest : new ≡ record old { fleet = new.fleet }
 
@@ -108,7 +108,7 @@ module _ (node : NodeName) (place : ℕ) (old now : CoreState) (mail : Inboxes) 
         does = copied_answers node place m old new reply waits (ap (λ (x : CoreState). x.mail) there)
             (subst (λ x. IsProcessed word.Again node m x reply new) stays does);
         fleet = fleet;
-        masters = processed_masters word.Again node m (record old { mail = mail }) new reply does;
+        stores = processed_stores word.Again node m (record old { mail = mail }) new reply does;
         on = on;
         rest = there;
       })
@@ -119,7 +119,7 @@ module _ (node : NodeName) (place : ℕ) (old now : CoreState) (mail : Inboxes) 
       subst (λ x. IsRepeated node place x reply (record old { mail = mail })) own (record {
         does = subst (λ r. AnswersSecond node place old r (record old { mail = mail })) (sym is) (refl, none, stays);
         fleet = fleet;
-        masters = refl;
+        stores = refl;
         on = same_held old.fleet;
         rest = stays;
       })

@@ -2,10 +2,11 @@
 use Rattle.std.proofs.Common.{◌≡◌, ℕ, Bool, true, false, List, Option, Some, None, refl, ap, sym, ◌∙◌, subst, inl, inr}
 use Rattle.std.specs.Prelude.{◌==◌, All, IfSome, IsSome, IsTrue, if◌then◌else◌, option_and_then}
 use Rattle.std.proofs.lemmas.Bool.{cases_Bool, eq-eqb, eqb-true}
-use Rattle.core_mail.specs.Inboxes.{AreInboxesOf, Inboxes}
+use Rattle.core_mail.specs.Inboxes.{AreInboxesOf, HaveArrived, Inboxes}
 use Rattle.core_model.specs.Consistent.{GoesOn, IsConsistent}
 use Rattle.core_model.specs.Fleet.{Fleet, HasAsk}
-use Rattle.core_model.specs.Growing.{MastersGrow}
+use Rattle.core_model.specs.Stores.{HaveMasterRegions}
+use Rattle.core_model.specs.Growing.{StoresGrow}
 use Rattle.core_model.specs.Pens.{pens_of}
 use Rattle.core_model.proofs.Places.{one_some}
 use Rattle.core_plans.specs.Held.{
@@ -30,9 +31,11 @@ use Rattle.core_plans.specs.declared.held.HeldPlan.TheVariants.{Read, Write}
 use Rattle.core_sessions.specs.Sessions.{Session}
 use Rattle.core_plans.proofs.WritesGoOn.{plan_later}
 use Rattle.core_plans.specs.LedBy.{led_by}
+use Rattle.core_steps.proofs.TellLemmas.{merges_in}
 use Rattle.core_steps.specs.Routes.{scene}
 use Rattle.core_steps.specs.Posting.{posting}
 use Rattle.graph_model.proofs.Members.{if_some_at}
+use Rattle.graph_model.specs.Told.{WhereTold}
 use Rattle.node_name.specs.declared.NodeName.{NodeName}
 use Rattle.replies.specs.declared.plans.PlanReply.TheVariants.{Next}
 use Rattle.replies.specs.declared.plans.Stage.{Stage}
@@ -139,7 +142,7 @@ module _ (tells : Bool) (s : Settings) (before later : Tables) (f g : Fleet) (nu
     may_first : (plan : HeldPlan) → held ≡ Some plan → OpensFirst plan
     may_first plan is = subst MayHold is steps.may
 
-    pub plans_set : GoesOn f g → MastersGrow tells s before later → IsConsistent tells s later g
+    pub plans_set : GoesOn f g → StoresGrow tells s before later → IsConsistent tells s later g
         → ((plan : HeldPlan) → held ≡ Some plan → IsUnderWay tells s later g plan × IsSome (next_stage plan)) → ArePlansOf tells s later g new
     plans_set goes grows consistent can = record {
       under_way = each (IsUnderWay tells s later g) (λ plan is. (can plan is).0)
@@ -151,58 +154,72 @@ module _ (tells : Bool) (s : Settings) (before later : Tables) (f g : Fleet) (nu
 
 -- ---- a plan can do its stage
 
-module _ (tells : Bool) (tables : Tables) (core : CoreState) (of : IsCoreOf tells tables core) where
-  leads : (plan : HeldPlan) → IsUnderWay tells core.settings tables core.fleet plan
+module _ (tells : Bool) (tables : Tables) (core : CoreState) (of : IsConsistentCore tells tables core) where
+  leads_plan : (plan : HeldPlan) → IsUnderWay tells core.settings tables core.fleet plan
       → (IsOfRegion core.states plan → IsTrue (is_cache core.states.regions (plan_leader core plan))) → IsLeaderOf core.settings (plan_leader core plan) plan
-  leads (Read p) is known =
-      leads_at tells tables core of.is_consistent p.region (query_shard p.query) is.follower.here
-      (known (region_within tells tables core of.is_consistent p.region is.region))
-  leads (Write p) is known =
-      leads_at tells tables core of.is_consistent (master_region core.states (write_shard p.write)) (write_shard p.write) is.follower.here (known tt)
+  leads_plan (Read p) is known =
+      leads_at tells tables core of p.region (query_shard p.query) is.follower.here
+      (known (region_within tells tables core of p.region is.region))
+  leads_plan (Write p) is known =
+      merges_in core.settings core.states (master_region core.states (write_shard p.write)) (write_shard p.write) (plan_leader core (Write p))
+      of.states refl refl (known tt)
 
+  -- whoever is preferred for it leads it
+  pub leads_it : (plan : HeldPlan) (leader : NodeName) → IsUnderWay tells core.settings tables core.fleet plan → leader ≡ plan_leader core plan
+      → (IsOfRegion core.states plan → IsTrue (is_cache core.states.regions leader)) → IsLeaderOf core.settings leader plan
+  leads_it plan leader under is known =
+      subst (λ (n : NodeName). IsLeaderOf core.settings n plan) (sym is)
+      (leads_plan plan under (λ within. subst (λ (n : NodeName). IsTrue (is_cache core.states.regions n)) is (known within)))
+
+module _ (tells : Bool) (tables : Tables) (core : CoreState) (of : IsCoreOf tells tables core) where
   pub can_step : (number : ℕ) (plan : HeldPlan) (leader : NodeName) → plan_at core.plans number ≡ Some plan → leader ≡ plan_leader core plan
       → (IsOfRegion core.states plan → IsTrue (is_cache core.states.regions leader))
       → CanStep tells core.settings tables core.fleet leader (plan_at core.plans number)
   can_step number plan leader at is known =
       let under = of.plans.under_way number plan at in
-      let so = leads plan under (λ within. subst (λ (n : NodeName). IsTrue (is_cache core.states.regions n)) is (known within)) in
       subst (CanStep tells core.settings tables core.fleet leader) (sym at) (record {
         under_way = under;
         goes_on = of.plans.goes_on number plan at;
-        leader_is = subst (λ (n : NodeName). IsLeaderOf core.settings n plan) (sym is) so;
+        leader_is = leads_it tells tables core of.is_consistent plan leader under is known;
       })
 
 -- the nodes and their messages are as consistent with other plans
 pub with_plans : (tells : Bool) (tables : Tables) (core : CoreState) (plans : Plans) → IsConsistentCore tells tables core
     → IsConsistentCore tells tables (record core { plans = plans })
 with_plans tells tables core plans of = record {
+  masters = of.masters;
   consistent = of.consistent;
+  states = of.states;
   mail = of.mail;
-  up = of.up;
+  arrived = of.arrived;
   sessions = of.sessions;
 }
 
 -- and with other sessions, each of which is one of the core
 pub with_sessions : (tells : Bool) (tables : Tables) (core : CoreState) (plans : Plans) (sessions : List Session) → IsConsistentCore tells tables core
-    → All (IsSessionOf tells core.settings tables (pens_of core.fleet.masters)) sessions
+    → All (IsSessionOf tells core.settings tables (pens_of core.fleet.stores)) sessions
     → IsConsistentCore tells tables (record core { plans = plans; sessions = sessions })
 with_sessions tells tables core plans sessions of all = record {
+  masters = of.masters;
   consistent = of.consistent;
+  states = of.states;
   mail = of.mail;
-  up = of.up;
+  arrived = of.arrived;
   sessions = all;
 }
 
 -- and after a step of one of them
 pub stepped_core : (tells : Bool) (tables later : Tables) (core : CoreState) (fleet : Fleet) (mail : Inboxes) (plans : Plans)
-    → IsConsistentCore tells tables core → IsConsistent tells core.settings later fleet → AreInboxesOf core.settings (pens_of fleet.masters) mail
-    → GoesOn core.fleet fleet → MastersGrow tells core.settings tables later
+    → IsConsistentCore tells tables core → IsConsistent tells core.settings later fleet → AreInboxesOf core.settings (pens_of fleet.stores) mail
+    → WhereTold tells (HaveArrived later mail) → GoesOn core.fleet fleet → StoresGrow tells core.settings tables later
     → IsConsistentCore tells later (record core { fleet = fleet; mail = mail; plans = plans })
-stepped_core tells tables later core fleet mail plans of consistent inboxes goes grows = record {
+stepped_core tells tables later core fleet mail plans of consistent inboxes arrived goes grows = record {
+  masters = of.masters;
   consistent = consistent;
+  states = of.states;
   mail = inboxes;
-  up = of.up;
-  sessions = sessions_later tells core.settings tables later (pens_of core.fleet.masters) (pens_of fleet.masters) core.sessions grows.logs goes.rise
+  arrived = arrived;
+  sessions = sessions_later tells core.settings tables later (pens_of core.fleet.stores) (pens_of fleet.stores) core.sessions grows.logs goes.rise
       of.sessions;
 }
 
@@ -242,7 +259,7 @@ module _ (tells : Bool) (number : ℕ) (old mid : Moment) (does : DoesStage tell
 
     -- what is held then, where the plan stays or goes
     pub held_then : (next : Option Stage) (plans : Plans) (later : Tables) → next_stage After ≡ next → SetsPlan number (kept next After) old.core.plans plans
-        → GoesOn old.core.fleet mid.core.fleet → MastersGrow tells old.core.settings old.keepers.told later
+        → GoesOn old.core.fleet mid.core.fleet → StoresGrow tells old.core.settings old.keepers.told later
         → IsConsistent tells old.core.settings later mid.core.fleet
         → IfSome (plan_at mid.core.plans number) (IsUnderWay tells old.core.settings later mid.core.fleet)
         → ArePlansOf tells old.core.settings later mid.core.fleet plans
@@ -267,7 +284,7 @@ module _ (tells : Bool) (number : ℕ) (old mid : Moment) (does : DoesStage tell
     -- the plan is held before the stage that follows
     pub next_core : (stage : Stage) → next_at mid.core.plans number ≡ Some stage → IsConsistentCore tells mid.keepers.told mid.core
         → mid.core.settings ≡ old.core.settings → mid.core.sessions ≡ old.core.sessions → GoesOn old.core.fleet mid.core.fleet
-        → MastersGrow tells old.core.settings old.keepers.told mid.keepers.told
+        → StoresGrow tells old.core.settings old.keepers.told mid.keepers.told
         → IfSome (plan_at mid.core.plans number) (IsUnderWay tells old.core.settings mid.keepers.told mid.core.fleet)
         → IsCoreOf tells mid.keepers.told mid.core
     next_core stage next is own same goes grows under = record {
@@ -307,14 +324,15 @@ module _ (tells : Bool) (number : ℕ) (old mid : Moment) (does : DoesStage tell
 
     pub ends_core : (of : IsCoreOf tells old.keepers.told old.core) → IsConsistentCore tells mid.keepers.told mid.core
         → mid.core.settings ≡ old.core.settings → mid.core.sessions ≡ old.core.sessions → GoesOn old.core.fleet mid.core.fleet
-        → MastersGrow tells old.core.settings old.keepers.told mid.keepers.told
+        → StoresGrow tells old.core.settings old.keepers.told mid.keepers.told
         → IfSome (plan_at mid.core.plans number) (IsUnderWay tells old.core.settings mid.keepers.told mid.core.fleet)
         → IsCoreOf tells mid.keepers.told (record mid.core { plans = later; sessions = sessions })
     ends_core of is own same goes grows under =
         let here = if_some_at (IsUnderWay tells old.core.settings mid.keepers.told mid.core.fleet) (plan_at mid.core.plans number) After under at_after in
         record {
           is_consistent = with_sessions tells mid.keepers.told mid.core later sessions is
-              (learns_ours tells mid.core.settings mid.keepers.told mid.core.fleet After ends_after.ended mid.core.sessions sessions is.consistent.stores
+              (learns_ours tells mid.core.settings mid.keepers.told mid.core.fleet After ends_after.ended mid.core.sessions sessions is.masters
+              is.consistent.stores
               (subst (λ s. IsUnderWay tells s mid.keepers.told mid.core.fleet After) (sym own) here)
               (subst (λ xs. LearnsOf After (told_with ends_after.ended After) xs sessions) (sym same) ends_after.learns) is.sessions);
           plans = subst (λ s. ArePlansOf tells s mid.keepers.told mid.core.fleet later) (sym own)
@@ -372,9 +390,10 @@ pub does_stage : (tells : Bool) (number : ℕ) (core : CoreState) (fleet : Fleet
     (from to : LinkShown) (plan : HeldPlan) (leader : NodeName) → plan_at core.plans number ≡ Some plan → leader ≡ plan_leader core plan
     → StepsPlan (led_by tells core.settings leader) number core.plans (posting (scene core.fleet before from) core.mail core.states) plans
     (posting (scene fleet now to) mail core.states)
-    → IsConsistent tells core.settings now.told fleet → IfSome (plan_at plans number) (IsUnderWay tells core.settings now.told fleet)
+    → HaveMasterRegions core.settings → IsConsistent tells core.settings now.told fleet
+    → IfSome (plan_at plans number) (IsUnderWay tells core.settings now.told fleet)
     → DoesStage tells number (moment core before from) (moment (record core { fleet = fleet; mail = mail; plans = plans }) now to)
-does_stage tells number core fleet mail plans before now from to plan leader stands leads steps consistent under =
+does_stage tells number core fleet mail plans before now from to plan leader stands leads steps masters consistent under =
     let old = posting (scene core.fleet before from) core.mail core.states in
     let new = posting (scene fleet now to) mail core.states in
     record {
@@ -387,7 +406,7 @@ does_stage tells number core fleet mail plans before now from to plan leader sta
         steps = subst (λ l. StepsHeld (led_by tells core.settings l) steps.before old steps.after new) leads steps.steps;
         changes = steps.changes;
       };
-      reaches = held_reaches tells core.settings leader steps.before steps.after old new now.told fleet steps.steps consistent
+      reaches = held_reaches tells core.settings leader steps.before steps.after old new now.told fleet steps.steps masters consistent
           (if_some_at (IsUnderWay tells core.settings now.told fleet) (plan_at plans number) steps.after under
           (set_here number (Some steps.after) core.plans plans steps.changes.sets));
     }

@@ -5,7 +5,7 @@ use Rattle.core_model.proofs.Places.{one_some}
 use Rattle.core_model.specs.Fleet.{Fleet}
 use Rattle.core_model.specs.Jobs.{far_shard}
 use Rattle.core_model.specs.Pens.{pens_of}
-use Rattle.core_model.specs.Stores.{AreStoresOf}
+use Rattle.core_model.specs.Stores.{AreStoresOf, HaveMasterRegions}
 use Rattle.core_model.specs.Writes.{IsSeenEntry}
 use Rattle.core_plans.specs.Held.{
   IsBefore,
@@ -63,7 +63,7 @@ use Rattle.tao_core.proofs.WriteStages.{KeepsOn, end_keeps, inverse_keeps, stage
 -- ---- the session of a write
 
 -- a write stays that of its client
-origin_stays : (tells : Bool) (s : Settings) (by : NodeName) (at : WriteStage) (p q : Writing) (old new : Posting)
+pub origin_stays : (tells : Bool) (s : Settings) (by : NodeName) (at : WriteStage) (p q : Writing) (old new : Posting)
     → DoesWriteStage (led_by tells s by) at p old q new
     → q.origin ≡ p.origin
 origin_stays tells s by Commit p q old new (inl commits) = ap (λ (x : Writing). x.origin) commits.then
@@ -192,60 +192,62 @@ room_given_up tells s by (Write p) (Read q) now passes still some steps = tt
 -- ---- what is told was seen
 
 here_seen : (tells : Bool) (s : Settings) (tables : Tables) (f : Fleet) (p : Writing) (committed : Option Committed) → IsWriteUnderWay tells s tables f p
-    → IfSome committed (IsAnswerTo s f.masters p)
-    → IfSome (option_and_then (λ c. told_by_note (write_shard p.write) c.wrote.note c.wrote.entry) committed) (IsToldOf s f.masters)
+    → IfSome committed (IsAnswerTo s f.stores p)
+    → IfSome (option_and_then (λ c. told_by_note (write_shard p.write) c.wrote.note c.wrote.entry) committed) (IsToldOf s f.stores)
 here_seen tells s tables f p None under is = tt
 here_seen tells s tables f p (Some c) under is = by c.wrote.entry is.apply.seen
   where
-    by : (entry : Option Entry) → IfSome entry (IsSeenEntry (pens_of f.masters) (write_shard p.write) c.wrote.note)
-        → IfSome (told_by_note (write_shard p.write) c.wrote.note entry) (IsToldOf s f.masters)
+    by : (entry : Option Entry) → IfSome entry (IsSeenEntry (pens_of f.stores) (write_shard p.write) c.wrote.note)
+        → IfSome (told_by_note (write_shard p.write) c.wrote.note entry) (IsToldOf s f.stores)
     by None seen = tt
     by (Some e) seen = (under.follower.here, seen)
 
-there_seen : (s : Settings) (masters : List StoreSeen) (job : Option Job) (wrote : Option Wrote) → IfSome job (λ j. StandsThere s j wrote masters)
-    → IfSome (told_there job wrote) (IsToldOf s masters)
-there_seen s masters None wrote stands = tt
-there_seen s masters (Some j) None stands = tt
-there_seen s masters (Some j) (Some w) stands = by w.entry stands
+there_seen : (s : Settings) (stores : List StoreSeen) (job : Option Job) (wrote : Option Wrote) → IfSome job (λ j. StandsThere s j wrote stores)
+    → IfSome (told_there job wrote) (IsToldOf s stores)
+there_seen s stores None wrote stands = tt
+there_seen s stores (Some j) None stands = tt
+there_seen s stores (Some j) (Some w) stands = by w.entry stands
   where
-    by : (entry : Option Entry) → IfSome entry (λ e. (far_shard j < s.shards) × IsSeenEntry (pens_of masters) (far_shard j) w.note e)
-        → IfSome (told_by_note (far_shard j) w.note entry) (IsToldOf s masters)
+    by : (entry : Option Entry) → IfSome entry (λ e. (far_shard j < s.shards) × IsSeenEntry (pens_of stores) (far_shard j) w.note e)
+        → IfSome (told_by_note (far_shard j) w.note entry) (IsToldOf s stores)
     by None seen = tt
     by (Some e) seen = seen
 
 plan_told : (tells : Bool) (s : Settings) (tables : Tables) (f : Fleet) (p : Writing) → IsWriteUnderWay tells s tables f p
-    → AreToldOf s f.masters (told_of_write p)
+    → AreToldOf s f.stores (told_of_write p)
 plan_told tells s tables f p under = record {
   here = here_seen tells s tables f p p.committed under under.committed;
-  other = there_seen s f.masters (answered_job p) p.other under.other;
+  other = there_seen s f.stores (answered_job p) p.other under.other;
 }
 
 with_told : (tells : Bool) (s : Settings) (tables : Tables) (f : Fleet) (p : Writing) (ended : Reply) → IsWriteUnderWay tells s tables f p
-    → AreToldOf s f.masters (told_with ended (Write p))
+    → AreToldOf s f.stores (told_with ended (Write p))
 with_told tells s tables f p (Called reply) under = plan_told tells s tables f p under
 with_told tells s tables f p ended under = record { here = tt; other = tt }
 
 module _ (tells : Bool) (s : Settings) (tables : Tables) (f : Fleet) where
   -- the session may learn it
   pub may_learn : (plan : HeldPlan) (passes : List SeenPass) → IsUnderWay tells s tables f plan → IsOfSession (sessions_of passes) plan
-      → HasRoomFor plan passes → AreOurs tells s tables f.masters (sessions_of passes) → MayLearn plan passes
+      → HasRoomFor plan passes → AreOurs tells s tables f.stores (sessions_of passes) → MayLearn plan passes
   may_learn (Read p) passes under found room all = tt
   may_learn (Write p) passes under found room all = record {
     author_is = found;
     room = room;
-    told = may_both tells s tables f.masters (sessions_of passes) (author p.origin) (told_of_write p) all (plan_told tells s tables f p under);
+    told = may_both tells s tables f.stores (sessions_of passes) (author p.origin) (told_of_write p) all (plan_told tells s tables f p under);
   }
 
   -- and is one of the core then
-  pub learns_ours : (plan : HeldPlan) (ended : Reply) (old new : List Session) → AreStoresOf tells s tables f.masters
-      → IsUnderWay tells s tables f plan → LearnsOf plan (told_with ended plan) old new → AreOurs tells s tables f.masters old
-      → AreOurs tells s tables f.masters new
-  learns_ours (Read p) ended old new stores under learns all = subst (AreOurs tells s tables f.masters) (sym learns) all
-  learns_ours (Write p) ended old new stores under learns all =
-      both_ours tells s tables f.masters (author p.origin) (told_with ended (Write p)) old new stores (with_told tells s tables f p ended under) learns all
+  pub learns_ours : (plan : HeldPlan) (ended : Reply) (old new : List Session) → HaveMasterRegions s
+      → AreStoresOf tells s tables f.stores → IsUnderWay tells s tables f plan → LearnsOf plan (told_with ended plan) old new
+      → AreOurs tells s tables f.stores old
+      → AreOurs tells s tables f.stores new
+  learns_ours (Read p) ended old new masters stores under learns all = subst (AreOurs tells s tables f.stores) (sym learns) all
+  learns_ours (Write p) ended old new masters stores under learns all =
+      both_ours tells s tables f.stores (author p.origin) (told_with ended (Write p)) old new masters stores
+      (with_told tells s tables f p ended under) learns all
 
 -- each session that is open stays so
-learns_open : (plan : HeldPlan) (told : ToldEntries) (old new : List Session) → LearnsOf plan told old new → (n : ℕ) → is_open new n ≡ is_open old n
+pub learns_open : (plan : HeldPlan) (told : ToldEntries) (old new : List Session) → LearnsOf plan told old new → (n : ℕ) → is_open new n ≡ is_open old n
 learns_open (Read p) told old new learns n = ap (λ xs. is_open xs n) learns
 learns_open (Write p) told old new learns n = both_open (author p.origin) told old new learns n
 

@@ -1,17 +1,18 @@
 -- What is held goes on, whatever else is done.
-use Rattle.std.proofs.Common.{◌≡◌, ℕ, Bool, List, Option, Some, refl, ap, sym, subst}
+use Rattle.std.proofs.Common.{◌≡◌, ℕ, Bool, List, Option, Some, true, refl, ap, sym, subst}
 use Rattle.core_model.specs.Consistent.{IsConsistent}
 use Rattle.core_model.specs.Evictions.{ChangesCache, Evicts}
 use Rattle.core_model.specs.Fleet.{Fleet}
-use Rattle.core_model.specs.Growing.{MastersGrow}
+use Rattle.core_model.specs.Growing.{StoresGrow}
 use Rattle.core_model.specs.Messages.{DeliversAt}
+use Rattle.core_model.specs.States.{ComesUp}
 use Rattle.core_nodes.proofs.FleetLemmas.{goes_self}
 use Rattle.core_plans.specs.Held.{ArePlansOf, OpensNone, Plans, plan_at}
 use Rattle.core_plans.specs.declared.held.HeldPlan.{HeldPlan}
 use Rattle.core_plans.specs.declared.held.HeldPlan.TheVariants.{Read, Write}
 use Rattle.core_plans.proofs.AsksHeld.{asks_still_held, deliver_opens_none, evict_opens_none, same_opens_none, opens_none_on}
 use Rattle.core_plans.proofs.WritesGoOn.{plan_later}
-use Rattle.core_nodes.proofs.GrowingLemmas.{stays_masters}
+use Rattle.core_nodes.proofs.GrowingLemmas.{stays_stores}
 use Rattle.core_steps.proofs.ReadLemmas.{goes_trans}
 use Rattle.maint_msg.specs.Maints.{SeenMaint}
 use Rattle.node_name.specs.declared.NodeName.{NodeName}
@@ -22,13 +23,29 @@ use Rattle.tao_keeper.proofs.Later.{later_self}
 use Rattle.tao_keeper.specs.KeeperState.{IsLater, KeeperState, KeepsTables}
 use Rattle.tao_keeper.specs.Table.{Tables}
 use Rattle.topology.specs.Config.{Settings}
-use Rattle.tao_core.specs.Core.{CoreState, IsConsistentCore, IsCoreOf, IsOfSession, LeavesCore, StaysHeld, StaysUsable, author}
+use Rattle.topology.specs.States.{NodeStates, is_up}
+use Rattle.tao_core.specs.Core.{ComeUp, CoreState, IsConsistentCore, IsCoreOf, IsOfSession, LeavesCore, StaysHeld, StaysUsable, author}
 use Rattle.tao_core.proofs.StayOpen.{StayOpen, same_open}
 use Rattle.core_sessions.specs.Sessions.{Session}
 
+-- ---- who comes up
+
+pub comes_not : (name : NodeName) (old new : NodeStates) → new ≡ old → ComesUp name old new → ⊥
+comes_not name old new same comes =
+    let up : is_up old name ≡ true = subst (λ n. is_up n name ≡ true) same comes.up in
+    let down = comes.down in
+    absurd (cc)
+
+-- nobody does, where the nodes stay up or down
+pub none_come : (tells : Bool) (tables : Tables) (old new : CoreState) → new.states ≡ old.states → ComeUp tells tables old new
+none_come tells tables old new same told = record {
+  leaders = λ place name node at comes. absurd (comes_not name old.states new.states same comes);
+  followers = λ place name node at comes. absurd (comes_not name old.states new.states same comes);
+}
+
 -- ---- what is held
 
-plans_later : (tells : Bool) (s : Settings) (before later : Tables) (f g : Fleet) (plans : Plans) → StaysHeld f g → MastersGrow tells s before later
+plans_later : (tells : Bool) (s : Settings) (before later : Tables) (f g : Fleet) (plans : Plans) → StaysHeld f g → StoresGrow tells s before later
     → IsConsistent tells s later g → ArePlansOf tells s before f plans → ArePlansOf tells s later g plans
 plans_later tells s before later f g plans on grows consistent are = record {
   under_way = λ number plan at. plan_later tells s before later f g plan consistent on.goes grows (are.under_way number plan at);
@@ -57,6 +74,7 @@ core_goes_on tells before now old new of leaves own same stay = record {
         (of.authors number plan (subst (λ plans. plan_at plans number ≡ Some plan) same at));
   };
   goes = leaves.on.goes;
+  comes = leaves.comes;
   grows = leaves.grows;
   later = leaves.later;
 }
@@ -68,7 +86,8 @@ core_unchanged tells keepers core of = record {
   settings = refl;
   keepers = of;
   goes = goes_self core.fleet;
-  grows = stays_masters tells core.settings keepers keepers (λ told at. refl);
+  comes = none_come tells keepers.told core core refl;
+  grows = stays_stores tells core.settings keepers keepers (λ told at. refl);
   later = later_self keepers;
 }
 
@@ -78,7 +97,13 @@ pub core_held : (tells : Bool) (before now : KeeperState) (old new : CoreState) 
     → new ≡ record old { fleet = new.fleet; mail = new.mail } → StaysUsable tells before now old new
 core_held tells before now old new of is on stays later rest =
     core_goes_on tells before now old new of
-    (record { is_consistent = is; on = on; grows = stays_masters tells old.settings before now stays; later = later })
+    (record {
+      is_consistent = is;
+      on = on;
+      comes = none_come tells now.told old new (ap (λ (x : CoreState). x.states) rest);
+      grows = stays_stores tells old.settings before now stays;
+      later = later;
+    })
     (ap (λ (x : CoreState). x.settings) rest) (ap (λ (x : CoreState). x.plans) rest)
     (same_open old.sessions new.sessions (ap (λ (x : CoreState). x.sessions) rest))
 
@@ -102,7 +127,8 @@ core_opened tells keepers old new of is rest stay =
     core_goes_on tells keepers keepers old new of (record {
       is_consistent = is;
       on = fleet_stays old.fleet new.fleet (ap (λ (x : CoreState). x.fleet) rest);
-      grows = stays_masters tells old.settings keepers keepers (λ told at. refl);
+      comes = none_come tells keepers.told old new (ap (λ (x : CoreState). x.states) rest);
+      grows = stays_stores tells old.settings keepers keepers (λ told at. refl);
       later = later_self keepers;
     }) (ap (λ (x : CoreState). x.settings) rest) (ap (λ (x : CoreState). x.plans) rest) stay
 

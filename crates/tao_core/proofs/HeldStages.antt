@@ -25,6 +25,7 @@ use Rattle.topology.specs.States.{NodeStates}
 use Rattle.words.specs.declared.PlanWord.{PlanWord}
 use Rattle.tao_core.specs.Core.{CoreState, IsConsistentCore, IsCoreOf, IsOfSession, IsSessionOf, Moment, StaysUsable, moment}
 use Rattle.tao_core.specs.HeldCalls.{DoesStage, EndsPlan, HasRoomFor, MayLearn, StepsAt, held_seen, next_at, plan_leader}
+use Rattle.tao_core.proofs.HeldOn.{none_come}
 use Rattle.tao_core.proofs.HeldKeeping.{author_held, does_stage, end_steps, ends_core, next_core, next_steps, set_here, stepped_core}
 use Rattle.tao_core.proofs.HeldLearning.{may_learn, room_after, room_given_up}
 
@@ -87,10 +88,11 @@ module _ (tells : Bool) (number : ℕ) (core seen : CoreState) (own : core ≡ s
   leads = subst (λ (x : CoreState). leader ≡ plan_leader x plan) (sym own) leads_seen
 
   does : DoesStage tells number (moment core before from) (moment Mid now to)
-  does = does_stage tells number core fleet mail plans before now from to plan leader stands leads steps posts.consistent under
+  does = does_stage tells number core fleet mail plans before now from to plan leader stands leads steps of.is_consistent.masters posts.consistent under
 
   is_mid : IsConsistentCore tells now.told Mid
-  is_mid = stepped_core tells before.told now.told core fleet mail plans of.is_consistent posts.consistent posts.inboxes posts.goes posts.grows
+  is_mid = stepped_core tells before.told now.told core fleet mail plans of.is_consistent posts.consistent posts.inboxes posts.arrived posts.goes
+      posts.grows
 
   -- as its callers see the core
   leaves_so : (asked : PlanWord) (reply : Reply) (later : Plans) (learnt : List Session)
@@ -105,6 +107,7 @@ module _ (tells : Bool) (number : ℕ) (core seen : CoreState) (own : core ≡ s
           settings = ap (λ (x : CoreState). x.settings) at.rest;
           keepers = is;
           goes = posts.goes;
+          comes = none_come tells now.told core (record Mid { plans = later; sessions = learnt }) refl;
           grows = posts.grows;
           later = posts.later;
         };
@@ -130,7 +133,7 @@ module _ (tells : Bool) (number : ℕ) (core seen : CoreState) (own : core ≡ s
       (subst (λ xs. IsOfSession xs held_plan) (sym are)
       (author_held tells number (moment core before from) (moment Mid now to) does of core.sessions refl number held_plan at))
       (if_some_at (λ one. HasRoomFor one passes) (plan_at plans number) held_plan room at)
-      (subst (All (IsSessionOf tells core.settings now.told (pens_of fleet.masters))) (sym are) is_mid.sessions))
+      (subst (All (IsSessionOf tells core.settings now.told (pens_of fleet.stores))) (sym are) is_mid.sessions))
 
   pub end_leaves : (asked : PlanWord) (later : Plans) (learnt : List Session) (reply : Reply) → next_at plans number ≡ None
       → IfSome (plan_at plans number) (λ held_plan. EndsPlan number held_plan (held_seen plans sessions) reply (held_seen later learnt))

@@ -87,7 +87,7 @@ kept_holds : (next : Option Stage) (plan : HeldPlan) (name : NodeName) (number :
 kept_holds (Some stage) plan name number h = h
 kept_holds None plan name number h = absurd h
 
-kept_may : (next : Option Stage) (plan : HeldPlan) → OpensFirst plan → MayHold (kept next plan)
+pub kept_may : (next : Option Stage) (plan : HeldPlan) → OpensFirst plan → MayHold (kept next plan)
 kept_may (Some stage) plan first = first
 kept_may None plan first = tt
 

@@ -1,5 +1,5 @@
 -- What a session learns of an entry: each key has come to its floors still, and its notes have seen beginnings of the logs.
-use Rattle.std.proofs.Common.{◌≡◌, ℕ, zero, suc, ◌<◌, ◌≤◌, ◌+◌, Bool, true, false, cond, List, [], ◌∷◌, Some, length, max, take}
+use Rattle.std.proofs.Common.{◌≡◌, ℕ, zero, suc, ◌<◌, ◌≤◌, Bool, true, List, [], ◌∷◌, Some, length, max}
 use Rattle.std.proofs.Common.{refl, ap, sym, subst, ◌∙◌, inl, inr, arith}
 use Rattle.std.specs.Prelude.{◌==◌, ◌||◌, All, if◌then◌else◌, slice_get, slice_index_or, slice_set}
 use Rattle.std.specs.List.{AllByRecursion}
@@ -8,54 +8,24 @@ use Rattle.std.proofs.lemmas.List.Elements.{All-from_recursion, recursion_from_A
 use Rattle.core_model.proofs.Places.{at_index, get_set}
 use Rattle.core_model.specs.Pens.{AreFirstNotes, IsSeen, Pens, pens_of}
 use Rattle.core_model.proofs.KeptStores.{sound_logs}
-use Rattle.core_model.specs.Stores.{AreStoresOf, master_log}
+use Rattle.core_model.specs.Stores.{AreStoresOf, HaveMasterRegions, master_log}
 use Rattle.core_sessions.specs.Sessions.{LearnsWith, Session, SessionLearns, is_open, with_changed}
-use Rattle.graph_model.proofs.Exact.{version_take}
-use Rattle.graph_model.proofs.Later.{all_take}
-use Rattle.graph_model.proofs.Rising.{touches_tell}
 use Rattle.graph_model.specs.Log.{entry_at, version}
-use Rattle.graph_model.specs.Soundness.{IsSound}
 use Rattle.session_pass.specs.Floors.{floor_at, learnt_touches, version_told}
 use Rattle.session_pass.specs.Passes.{after_meeting}
 use Rattle.shard_log.proofs.GrowthLemmas.{entry_stays, seen-meets}
 use Rattle.shard_log.specs.View.{View, longer_view}
 use Rattle.shard_tables.specs.StoreView.{Store}
 use Rattle.shard_tables.specs.Written.{StandsIn}
-use Rattle.tao_base.proofs.SameKeys.{same_key-Decides}
-use Rattle.tao_base.specs.Keys.{key_shard, same_key}
+use Rattle.tao_base.specs.Keys.{key_shard}
 use Rattle.tao_base.specs.declared.entry.Entry.{Entry}
-use Rattle.tao_base.specs.declared.entry.Touch.{Touch}
 use Rattle.tao_base.specs.declared.id.Key.{Key}
 use Rattle.tao_keeper.specs.Table.{Tables}
 use Rattle.topology.specs.Config.{Settings}
 use Rattle.tao_core.specs.Core.{IsSessionOf}
 use Rattle.core_steps.proofs.ReadLemmas.{log_is}
 use Rattle.tao_core.proofs.Found.{session_is}
-
--- ---- what the touches of an entry tell is reached where it stands
-
-told_below : (log : List Entry) (n : ℕ) (key : Key) (ts : List Touch) → AllByRecursion (λ t. t.version ≡ version (take n log) t.key) ts
-    → version_told key ts ≤ version log key
-told_below log n key [] all = omega arith
-told_below log n key (t ∷ ts) all =
-    most (cond (same_key key t.key) t.version 0) (version_told key ts) (version log key) (by (same_key key t.key) refl) (told_below log n key ts all.1)
-  where
-    most : (a b m : ℕ) → a ≤ m → b ≤ m → max a b ≤ m
-    most a b m p q = omega (arith, p, q)
-
-    by : (b : Bool) → same_key key t.key ≡ b → cond b t.version 0 ≤ version log key
-    by true e =
-        let here : t.version ≡ version (take n log) key = all.0 ∙ ap (version (take n log)) (sym ((same_key-Decides key t.key).0 e)) in
-        let rises = version_take n log key in
-        omega (arith, here, rises)
-    by false e = omega arith
-
-told_reached : (log : List Entry) (position : ℕ) (e : Entry) (key : Key) → IsSound log → entry_at log position ≡ Some e
-    → version_told key (learnt_touches e) ≤ version log key
-told_reached log zero e key sound at = absurd (cc (at))
-told_reached log (suc n) e key sound at =
-    told_below log (n + 1) key (take 8 e.touches) (all_take (λ t. t.version ≡ version (take (n + 1) log) t.key) 8 e.touches
-    (recursion_from_All (λ t. t.version ≡ version (take (n + 1) log) t.key) e.touches (touches_tell log sound n e at).versions))
+use Rattle.session_pass.proofs.EntryLemmas.{told_reached}
 
 -- ---- sessions by their numbers
 
@@ -103,17 +73,18 @@ met_notes pens count shard note notes here seen are =
       ];
     }
 
-module _ (tells : Bool) (s : Settings) (tables : Tables) (masters : List Store) (number shard : ℕ) (entry : Entry) (note : View)
-    (stores : AreStoresOf tells s tables masters) (here : shard < s.shards) (seen : IsSeen (pens_of masters) shard note) (stands : StandsIn note entry) where
+module _ (tells : Bool) (s : Settings) (tables : Tables) (stores : List Store) (number shard : ℕ) (entry : Entry) (note : View)
+    (masters : HaveMasterRegions s) (are : AreStoresOf tells s tables stores) (here : shard < s.shards) (seen : IsSeen (pens_of stores) shard note)
+    (stands : StandsIn note entry) where
   abbrev IsOne : Session → Type 0
-  IsOne = IsSessionOf tells s tables (pens_of masters)
+  IsOne = IsSessionOf tells s tables (pens_of stores)
 
   told_now : (key : Key) → tells ≡ true → version_told key (learnt_touches entry) ≤ version (master_log s tables shard) key
   told_now key told =
-      let log = log_is tells s tables masters shard stores here in
+      let log = log_is tells s tables stores shard masters are here in
       let own : note.log.told ≡ true = ap (λ l. l.told) (sym seen.log_is) ∙ log.told_is ∙ told in
-      let at = entry_stays note (pens_of masters shard) entry.position entry seen (stands own) in
-      told_reached (master_log s tables shard) entry.position entry key (sound_logs s tables (stores.kept told) shard here).sound
+      let at = entry_stays note (pens_of stores shard) entry.position entry seen (stands own) in
+      told_reached (master_log s tables shard) entry.position entry key (sound_logs s tables (are.kept told) shard here).sound
       (subst (λ es. entry_at es entry.position ≡ Some entry) (log.entries_is told) at)
 
   floor_now : (old new : Session) (key : Key) → LearnsWith shard entry note old new → IsOne old → tells ≡ true
@@ -128,8 +99,8 @@ module _ (tells : Bool) (s : Settings) (tables : Tables) (masters : List Store) 
   pub session_learns : (old new : Session) → LearnsWith shard entry note old new → IsOne old → IsOne new
   session_learns old new learns is = record {
     region = subst (λ (x : Session). x.region < length s.regions) (sym learns.rest) is.region;
-    notes = subst (λ (x : Session). AreFirstNotes (pens_of masters) s.shards x.notes) (sym learns.rest)
-        (met_notes (pens_of masters) s.shards shard note old.notes here seen is.notes);
+    notes = subst (λ (x : Session). AreFirstNotes (pens_of stores) s.shards x.notes) (sym learns.rest)
+        (met_notes (pens_of stores) s.shards shard note old.notes here seen is.notes);
     floors = λ told key. floor_now old new key learns is told;
   }
 

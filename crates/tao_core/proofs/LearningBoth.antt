@@ -4,22 +4,19 @@ use Rattle.std.specs.Prelude.{◌==◌, ◌≤◌, All, IfSome, find, if◌then�
 use Rattle.std.proofs.lemmas.Bool.{cases_Bool, eq-eqb}
 use Rattle.core_model.proofs.Places.{at_index, one_some, some_and}
 use Rattle.core_model.specs.Pens.{AreFirstNotes, IsSeen, Pens, pens_of}
-use Rattle.core_model.specs.Stores.{AreStoresOf}
+use Rattle.core_model.specs.Stores.{AreStoresOf, HaveMasterRegions}
 use Rattle.core_model.specs.Writes.{IsSeenEntry}
 use Rattle.core_plans.specs.declared.held.ToldEntries.{ToldEntries}
 use Rattle.core_sessions.specs.Sessions.{HasRoom, HasRoomForBoth, Session, SessionLearns, is_open, session_at, sessions_of, with_changed}
 use Rattle.core_steps.specs.declared.jobs.ToldEntry.{ToldEntry}
-use Rattle.core_steps.specs.declared.writes.CarriedOut.{CarriedOut}
 use Rattle.graph_model.proofs.Members.{if_some, if_some_at}
 use Rattle.session_pass.specs.Passes.{IsNoteOf, SeenPass, after_meeting}
-use Rattle.shard_log.proofs.GrowthLemmas.{grows-self}
-use Rattle.shard_log.specs.View.{Grows, View, as_note}
+use Rattle.shard_log.specs.View.{View}
 use Rattle.shard_tables.specs.StoreView.{Store}
-use Rattle.shard_tables.specs.Written.{StandsIn}
 use Rattle.tao_base.specs.declared.entry.Entry.{Entry}
 use Rattle.tao_keeper.specs.Table.{Tables}
 use Rattle.topology.specs.Config.{Settings}
-use Rattle.tao_core.specs.Calls.{LearnsBoth, LearnsTold, told_both, told_by_note}
+use Rattle.tao_core.specs.Calls.{LearnsBoth, LearnsTold}
 use Rattle.tao_core.specs.Core.{IsSessionOf}
 use Rattle.tao_core.specs.HeldCalls.{MayLearnBoth, MayLearnNow, MayLearnOne, MayLearnTold}
 use Rattle.tao_core.proofs.Learning.{learnt_open, learnt_sessions, same_number}
@@ -115,26 +112,11 @@ now_ready number told passes found room may = record {
 
 -- the entry stands in what was seen of the log of a configured shard
 abbrev pub IsToldOf : Settings → List Store → ToldEntry → Type 0
-IsToldOf s masters t = (t.shard < s.shards) × IsSeenEntry (pens_of masters) t.shard t.note t.entry
+IsToldOf s stores t = (t.shard < s.shards) × IsSeenEntry (pens_of stores) t.shard t.note t.entry
 
-pub record AreToldOf (s : Settings) (masters : List Store) (told : ToldEntries) : Type 0 where
-  pub here : IfSome told.here (IsToldOf s masters)
-  pub other : IfSome told.other (IsToldOf s masters)
-
--- a note that saw the whole log has seen a beginning of it
-seen_whole : (v : View) → Grows (as_note v) v
-seen_whole v = record { log_is = refl; begins = (grows-self v).begins }
-
--- so is what a write that was carried out wrote
-pub told_carried : (s : Settings) (masters : List Store) (shard : ℕ) (done : CarriedOut) → shard < s.shards
-    → IfSome done.entry (StandsIn (pens_of masters shard)) → IfSome done.other (IsToldOf s masters)
-    → AreToldOf s masters (told_both shard (as_note (pens_of masters shard)) done)
-told_carried s masters shard done here stands other = record { here = by done.entry stands; other = other }
-  where
-    by : (entry : Option Entry) → IfSome entry (StandsIn (pens_of masters shard))
-        → IfSome (told_by_note shard (as_note (pens_of masters shard)) entry) (IsToldOf s masters)
-    by None stands = tt
-    by (Some e) stands = (here, record { seen = seen_whole (pens_of masters shard); stands = stands })
+pub record AreToldOf (s : Settings) (stores : List Store) (told : ToldEntries) : Type 0 where
+  pub here : IfSome told.here (IsToldOf s stores)
+  pub other : IfSome told.other (IsToldOf s stores)
 
 own_note : (pens : Pens) (count shard : ℕ) (note : View) (notes : List View) → shard < count → AreFirstNotes pens count notes → IsSeen pens shard note
     → IsNoteOf shard note notes
@@ -144,26 +126,26 @@ own_note pens count shard note notes here are seen =
     let at : slice_get notes shard ≡ Some own = at_index notes shard shard note refl (omega (arith, here, long)) in
     some_and (slice_get notes shard) own (λ o. o.log ≡ note.log) at (sym (are.seen shard own at).log_is ∙ seen.log_is)
 
-module _ (tells : Bool) (s : Settings) (tables : Tables) (masters : List Store) where
+module _ (tells : Bool) (s : Settings) (tables : Tables) (stores : List Store) where
   abbrev pub AreOurs : List Session → Type 0
-  AreOurs sessions = All (IsSessionOf tells s tables (pens_of masters)) sessions
+  AreOurs sessions = All (IsSessionOf tells s tables (pens_of stores)) sessions
 
   -- ---- the session may learn it
 
-  may_told : (sessions : List Session) (number : ℕ) (t : ToldEntry) → AreOurs sessions → IsToldOf s masters t → MayLearnTold t number sessions
+  may_told : (sessions : List Session) (number : ℕ) (t : ToldEntry) → AreOurs sessions → IsToldOf s stores t → MayLearnTold t number sessions
   may_told sessions number t all is = record {
     note = if_some (λ (o : Session). IsNoteOf t.shard t.note o.notes) (session_at sessions number) (λ session found.
-        own_note (pens_of masters) s.shards t.shard t.note session.notes is.0
-        (session_is (IsSessionOf tells s tables (pens_of masters)) sessions number session all found).notes is.1.seen);
+        own_note (pens_of stores) s.shards t.shard t.note session.notes is.0
+        (session_is (IsSessionOf tells s tables (pens_of stores)) sessions number session all found).notes is.1.seen);
     stands = is.1.stands;
   }
 
-  may_any : (sessions : List Session) (number : ℕ) (told : Option ToldEntry) → AreOurs sessions → IfSome told (IsToldOf s masters)
+  may_any : (sessions : List Session) (number : ℕ) (told : Option ToldEntry) → AreOurs sessions → IfSome told (IsToldOf s stores)
       → IfSome told (λ t. MayLearnTold t number sessions)
   may_any sessions number told all are = if_some (λ t. MayLearnTold t number sessions) told
-      (λ t is. may_told sessions number t all (if_some_at (IsToldOf s masters) told t are is))
+      (λ t is. may_told sessions number t all (if_some_at (IsToldOf s stores) told t are is))
 
-  pub may_both : (sessions : List Session) (number : ℕ) (told : ToldEntries) → AreOurs sessions → AreToldOf s masters told
+  pub may_both : (sessions : List Session) (number : ℕ) (told : ToldEntries) → AreOurs sessions → AreToldOf s stores told
       → MayLearnBoth told number sessions
   may_both sessions number told all are = record {
     here = may_any sessions number told.here all are.here;
@@ -172,14 +154,15 @@ module _ (tells : Bool) (s : Settings) (tables : Tables) (masters : List Store) 
 
   -- ---- it is one of the core then
 
-  told_ours : (number : ℕ) (told : Option ToldEntry) (old new : List Session) → AreStoresOf tells s tables masters → IfSome told (IsToldOf s masters)
+  told_ours : (number : ℕ) (told : Option ToldEntry) (old new : List Session) → HaveMasterRegions s
+      → AreStoresOf tells s tables stores → IfSome told (IsToldOf s stores)
       → LearnsTold number told old new → AreOurs old → AreOurs new
-  told_ours number None old new stores are learns all = subst AreOurs (sym learns) all
-  told_ours number (Some t) old new stores are learns all =
-      learnt_sessions tells s tables masters number t.shard t.entry t.note stores are.0 are.1.seen are.1.stands old new learns all
+  told_ours number None old new masters kept are learns all = subst AreOurs (sym learns) all
+  told_ours number (Some t) old new masters kept are learns all =
+      learnt_sessions tells s tables stores number t.shard t.entry t.note masters kept are.0 are.1.seen are.1.stands old new learns all
 
-  pub both_ours : (number : ℕ) (told : ToldEntries) (old new : List Session) → AreStoresOf tells s tables masters → AreToldOf s masters told
+  pub both_ours : (number : ℕ) (told : ToldEntries) (old new : List Session) → HaveMasterRegions s → AreStoresOf tells s tables stores → AreToldOf s stores told
       → LearnsBoth number told old new → AreOurs old → AreOurs new
-  both_ours number told old new stores are learns all =
-      told_ours number told.other learns.between new stores are.other learns.other
-      (told_ours number told.here old learns.between stores are.here learns.here all)
+  both_ours number told old new masters kept are learns all =
+      told_ours number told.other learns.between new masters kept are.other learns.other
+      (told_ours number told.here old learns.between masters kept are.here learns.here all)

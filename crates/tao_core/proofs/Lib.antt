@@ -1,3 +1,4 @@
+pub mod Arriving
 pub mod AskedLemmas
 pub mod CallLemmas
 pub mod Delivered
@@ -5,7 +6,6 @@ pub mod Delivering
 pub mod Found
 pub mod HeldLearning
 pub mod HeldStages
-pub mod Going
 pub mod HeldNone
 pub mod HeldOn
 pub mod HeldBegun
@@ -22,4 +22,7 @@ pub mod Learning
 pub mod LearningBoth
 pub mod Ways
 pub mod WriteStages
-pub mod Written
+pub mod AtOnce
+pub mod SettledReads
+pub mod NotBegun
+pub mod AnsweredAtOnce

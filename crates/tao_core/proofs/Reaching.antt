@@ -1,5 +1,5 @@
 -- What is kept has come as far as its follower's mark.
-use Rattle.std.proofs.Common.{◌≡◌, ℕ, zero, suc, ◌≤◌, ◌<◌, true, false, Bool, List, [], ◌∷◌, Option, Some, None, refl, ap, sym, ◌∙◌, subst, inl, inr, arith}
+use Rattle.std.proofs.Common.{◌≡◌, ℕ, zero, suc, ◌≤◌, ◌<◌, true, Bool, List, [], ◌∷◌, Option, Some, None, refl, ap, sym, ◌∙◌, subst, inl, inr, arith}
 use Rattle.std.specs.Option.{option_map_or}
 use Rattle.std.specs.Prelude.{IsSome, nat_le, slice_get, take, length}
 use Rattle.std.proofs.lemmas.Bool.Decides.{nat_tests}
@@ -13,23 +13,17 @@ use Rattle.core_model.proofs.NodesSeen.{nodes_stay_seen}
 use Rattle.core_model.specs.Consistent.{IsConsistent, IsNodeOf}
 use Rattle.core_model.specs.Fleet.{Fleet, IsFirstAt, named}
 use Rattle.core_model.specs.Pens.{Pens, pens_of}
-use Rattle.core_model.specs.Reads.{Wanted}
-use Rattle.core_model.specs.Stores.{master_log}
+use Rattle.core_model.specs.Stores.{HaveMasterRegions, master_log}
 use Rattle.core_plans.specs.Held.{IsUnderWay, StepsHeld}
 use Rattle.core_plans.specs.declared.held.HeldPlan.{HeldPlan}
 use Rattle.core_plans.specs.declared.held.HeldPlan.TheVariants as held
 use Rattle.core_plans.specs.LedBy.{led_by}
-use Rattle.core_steps.specs.CriticalReads.{ReadsCritical, follower_read}
-use Rattle.core_steps.specs.Reads.{ReadsAlong, sent_read}
 use Rattle.core_steps.specs.Posting.{Posting}
 use Rattle.core_steps.specs.Routes.{Scene}
-use Rattle.core_steps.specs.declared.routes.Route.{Route}
 use Rattle.follower_cache.specs.Seen.{FollowerState}
 use Rattle.graph_model.specs.Log.{version}
 use Rattle.node_name.specs.declared.NodeName.{NodeName}
 use Rattle.replies.specs.declared.calls.CallReply.TheVariants as called
-use Rattle.replies.specs.declared.reply.Reply.{Reply}
-use Rattle.replies.specs.declared.reply.Reply.TheVariants.{Called, Refused}
 use Rattle.sealed_item.specs.Decided.{content_answer, content_decides}
 use Rattle.served_shards.specs.Served.{ServedShard, low_at, served_at}
 use Rattle.tao_base.specs.EdgeTypes.{EdgeTypes}
@@ -42,7 +36,7 @@ use Rattle.tao_base.specs.declared.query.Query.{Query}
 use Rattle.tao_keeper.specs.Table.{Tables}
 use Rattle.tao_schema.specs.Schema.{types_of}
 use Rattle.topology.specs.Config.{Settings}
-use Rattle.tao_core.specs.Calls.{KeptReaches, ReachesMark, ReadsBy, called_read}
+use Rattle.tao_core.specs.Calls.{ReachesMark}
 use Rattle.tao_core.specs.HeldCalls.{HeldReaches}
 use Rattle.core_steps.proofs.ReadLemmas.{log_is}
 
@@ -88,54 +82,29 @@ hit_of types (Some item) query given at is = (
 
 -- a version that the follower answers again with has come as far as its mark
 reaches_mark : (tells : Bool) (s : Settings) (name : NodeName) (query : Query) (given : Answer) (reached : ℕ) (new : Scene) → tells ≡ true
-    → IsConsistent tells s new.keepers.told new.fleet → query_shard query < s.shards
+    → HaveMasterRegions s → IsConsistent tells s new.keepers.told new.fleet → query_shard query < s.shards
     → ((place : ℕ) (f : FollowerState) → IsFirstAt name new.fleet.followers place → slice_get new.fleet.followers place ≡ Some (named name f)
     → look_of (types_of s.schema) (item_at f.node.items (query_key query)) query 0 ≡ Hit given reached)
     → ReachesMark s name query reached new
-reaches_mark tells s name query given reached new told consistent here again = λ place f first at.
+reaches_mark tells s name query given reached new told masters consistent here again = λ place f first at.
     let key = query_key query in
     let held = hit_of (types_of s.schema) (item_at f.node.items key) query given reached (again place f first at) in
     let is = (consistent.fleet.followers place name f at).node in
-    let log = log_is tells s new.keepers.told new.fleet.masters (key_shard key) consistent.stores here in
-    let far = item_reaches s (pens_of new.fleet.masters) name f.node key held.0 (served_at (key_shard key) f.node.served) refl
+    let log = log_is tells s new.keepers.told new.fleet.stores (key_shard key) masters consistent.stores here in
+    let far = item_reaches s (pens_of new.fleet.stores) name f.node key held.0 (served_at (key_shard key) f.node.served) refl
     (is.truth.items_here key held.0 held.1) is (log.told_is ∙ told) held.1 in
     subst (λ v. version (take (low_at (key_shard key) f.node.served) (master_log s new.keepers.told (key_shard key))) key ≤ v) held.2
     (subst (λ (l : List Entry). version (take (low_at (key_shard key) f.node.served) l) key ≤ held.0.version) (log.entries_is told) far)
 
-pub kept_reaches : (tells : Bool) (s : Settings) (route : Route) (read : Wanted) (reply : Reply) (old new : Scene)
-    → ReadsAlong tells s (sent_read route read) reply old new → IsConsistent tells s new.keepers.told new.fleet → query_shard read.query < s.shards
-    → KeptReaches tells s route.follower read.query reply new
-kept_reaches tells s route read (Called (called.Read reply)) old new reads consistent here = λ told kept.
-    reaches_mark tells s route.follower read.query reply.answer reply.version new told consistent here
-    (λ place f first at. reads.again told kept place f 0 first at (omega arith))
-kept_reaches tells s route read (Refused refused) old new reads consistent here = tt
-kept_reaches tells s route read reply old new reads consistent here = absurd reads
-
-pub critical_reaches : (tells : Bool) (s : Settings) (follower : NodeName) (read : Wanted) (reply : Reply) (old new : Scene)
-    → ReadsCritical tells s (follower_read follower read) reply old new → IsConsistent tells s new.keepers.told new.fleet → query_shard read.query < s.shards
-    → KeptReaches tells s follower read.query reply new
-critical_reaches tells s follower read (Called (called.Read reply)) old new reads consistent here = λ told kept.
-    reaches_mark tells s follower read.query reply.answer reply.version new told consistent here
-    (λ place f first at. reads.again told kept place f 0 first at (omega arith))
-critical_reaches tells s follower read (Refused refused) old new reads consistent here = tt
-critical_reaches tells s follower read reply old new reads consistent here = absurd reads
-
-pub kept_reaches_by : (critical tells : Bool) (s : Settings) (route : Route) (read : Wanted) (reply : Reply) (old new : Scene)
-    → ReadsBy tells s (called_read critical (sent_read route read)) reply old new → IsConsistent tells s new.keepers.told new.fleet
-    → query_shard read.query < s.shards
-    → KeptReaches tells s route.follower read.query reply new
-kept_reaches_by false tells s route read reply old new reads consistent here = kept_reaches tells s route read reply old new reads consistent here
-kept_reaches_by true tells s route read reply old new reads consistent here =
-    critical_reaches tells s route.follower read reply old new reads consistent here
-
 -- ---- a read that was held
 
 pub held_reaches : (tells : Bool) (s : Settings) (leader : NodeName) (before after : HeldPlan) (old new : Posting) (tables : Tables) (f : Fleet)
-    → StepsHeld (led_by tells s leader) before old after new → IsConsistent tells s new.scene.keepers.told new.scene.fleet → IsUnderWay tells s tables f after
+    → StepsHeld (led_by tells s leader) before old after new → HaveMasterRegions s → IsConsistent tells s new.scene.keepers.told new.scene.fleet
+    → IsUnderWay tells s tables f after
     → HeldReaches tells s after new.scene
-held_reaches tells s leader (held.Read p) (held.Read q) old new tables f steps consistent under = λ reply ends told kept.
-    reaches_mark tells s q.follower q.query reply.answer reply.version new.scene told consistent under.follower.here
+held_reaches tells s leader (held.Read p) (held.Read q) old new tables f steps masters consistent under = λ reply ends told kept.
+    reaches_mark tells s q.follower q.query reply.answer reply.version new.scene told masters consistent under.follower.here
     (λ place node first at. (steps.steps.legal reply ends).1 told kept place node 0 first at (omega arith))
-held_reaches tells s leader (held.Write p) (held.Write q) old new tables f steps consistent under = tt
-held_reaches tells s leader (held.Read p) (held.Write q) old new tables f steps consistent under = tt
-held_reaches tells s leader (held.Write p) (held.Read q) old new tables f steps consistent under = absurd steps
+held_reaches tells s leader (held.Write p) (held.Write q) old new tables f steps masters consistent under = tt
+held_reaches tells s leader (held.Read p) (held.Write q) old new tables f steps masters consistent under = tt
+held_reaches tells s leader (held.Write p) (held.Read q) old new tables f steps masters consistent under = absurd steps

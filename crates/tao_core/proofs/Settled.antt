@@ -1,23 +1,29 @@
 -- A core after a repair or a settle.
 use Rattle.std.proofs.Common.{◌≡◌, ◌||◌, ◌∙◌, ℕ, Bool, true, List, [], ◌∷◌, Option, Some, None, Result, Ok, Err, ap, refl, subst, sym, inl, inr, arith}
+use Rattle.std.proofs.lemmas.Bool.{cases_Bool}
 use Rattle.std.specs.List.{list_any}
 use Rattle.std.specs.Prelude.{◌==◌, map}
 use Rattle.ask_table.specs.declared.ask.Ask.{Ask}
-use Rattle.core_mail.specs.Inboxes.{AreEmpty, AreInboxesOf, Inboxes}
+use Rattle.core_mail.proofs.Arrivals.{arrived_stay}
+use Rattle.core_mail.specs.Inboxes.{AreEmpty, AreInboxesOf, HaveArrived, Inboxes}
 use Rattle.core_model.specs.Consistent.{GoesOn, IsConsistent}
-use Rattle.core_model.specs.Fleet.{EachNode, Fleet}
-use Rattle.core_model.specs.Growing.{MastersGrow}
+use Rattle.core_model.specs.Emptied.{region_tables}
+use Rattle.core_model.specs.Fleet.{EachNode, Fleet, region_of}
+use Rattle.core_model.specs.Growing.{StoresGrow}
 use Rattle.core_model.specs.Pens.{pens_of}
 use Rattle.core_model.specs.Stores.{stores_in}
 use Rattle.core_model.specs.declared.named.Named.{Named}
 use Rattle.core_nodes.proofs.CatchLemmas.{so_before}
-use Rattle.core_nodes.proofs.GrowingLemmas.{masters_in_turn, stays_masters}
+use Rattle.core_nodes.proofs.CaughtUp.{nodes_catch_up}
+use Rattle.core_nodes.proofs.GrowingLemmas.{stores_in_turn, stays_stores}
 use Rattle.core_nodes.specs.Repairs.{outside}
-use Rattle.core_nodes.specs.Settling.{AllCatchUp, AllProcessOn, ByNode, IsLaterLink, OnlyReads, ProcessesOn, StopsCatchUp, StopsLengths, log_lengths}
+use Rattle.core_nodes.specs.Settling.{AllCatchUp, AllProcessOn, ByNode, IsLaterLink, OnlyReads, ProcessesOn, StopsCatchUp, StopsLengths}
+use Rattle.core_nodes.specs.Settling.{WhereUp, log_lengths}
 use Rattle.core_nodes.specs.declared.settling.SettleStop.{SettleStop}
 use Rattle.core_nodes.specs.declared.settling.SettleStop.TheVariants as stop
 use Rattle.core_plans.proofs.AsksHeld.{same_opens_none}
-use Rattle.core_plans.specs.Held.{OpensNone}
+use Rattle.core_plans.specs.Held.{OpensNone, is_open_ask}
+use Rattle.core_steps.proofs.TellLemmas.{arrived_grows}
 use Rattle.core_steps.specs.Posting.{Posting, posting}
 use Rattle.core_repairs.specs.Repairs.{IsNotRepaired, RepairsFirst, RunsAll, StopsRepair, StopsRun}
 use Rattle.core_steps.specs.Routes.{scene}
@@ -28,17 +34,20 @@ use Rattle.edge_repair.specs.declared.refusal.RepairRefusal.{RepairRefusal}
 use Rattle.edge_repair.specs.declared.refusal.RepairRefusal.TheVariants.{KeeperFault, LinkFault, LogFull, OutOfMemory}
 use Rattle.follower_cache.specs.Seen.{FollowerState}
 use Rattle.graph_model.specs.Told.{WhereTold}
+use Rattle.node_name.specs.declared.NodeName.{NodeName}
 use Rattle.replies.specs.declared.refusals.UnsettledWhy.TheVariants as why
 use Rattle.tao_base.specs.EdgeTypes.{InversesMatch}
+use Rattle.tao_keeper.proofs.Growing.{growing_laws}
 use Rattle.tao_keeper.proofs.Later.{keeps_trans, later_trans}
 use Rattle.tao_keeper.specs.KeeperState.{IsLater, KeeperState, KeepsTables}
 use Rattle.tao_keeper.specs.Table.{Tables}
 use Rattle.tao_link.specs.Shown.{LinkShown}
 use Rattle.tao_schema.specs.Schema.{types_of}
 use Rattle.topology.specs.Config.{Settings}
+use Rattle.topology.specs.States.{NodeStates, is_up}
 use Rattle.write_model.proofs.Paired.{no_jobs_are_paired}
 use Rattle.write_model.specs.Steps.{HaveNoJobs}
-use Rattle.tao_core.proofs.HeldOn.{held_on}
+use Rattle.tao_core.proofs.HeldOn.{held_on, none_come}
 use Rattle.tao_core.proofs.Keeping.{written_core}
 use Rattle.tao_core.specs.Core.{CoreState, IsConsistentCore, LeavesCore, Moment, StaysHeld, moment}
 use Rattle.tao_core.specs.Settling.{HasRunJobs, IsUnsettled, SettlesCore}
@@ -55,23 +64,34 @@ same_numbers : (number : ℕ) (old new : List Ask) → map (λ (a : Ask). a.numb
 same_numbers number old new same is =
     by_numbers number old ∙ ap (list_any (λ n. n == number)) (sym same) ∙ sym (by_numbers number new) ∙ is
 
--- a follower that goes on with its logs opens none
-pub catches_open_none : (tells : Bool) (s : Settings) (tables : Tables) (old new : List (Named FollowerState))
-    → EachNode (ByNode (ProcessesOn tells s tables)) old new → OpensNone old new
-catches_open_none tells s tables old new each = record {
+-- what a follower does that goes on with its region's logs
+abbrev GoesOnAt : Bool → Settings → Tables → NodeName → FollowerState → FollowerState → Type 0
+GoesOnAt tells s tables = ByNode (λ name. ProcessesOn s (region_tables tells tables (region_of name)))
+
+-- one that goes on, or is down, opens none
+was_open : (tells : Bool) (s : Settings) (states : NodeStates) (tables : Tables) (name : NodeName) (number : ℕ) (old new : FollowerState)
+    → WhereUp states (GoesOnAt tells s tables) name old new → is_open_ask number new.node.asks ≡ true → is_open_ask number old.node.asks ≡ true
+was_open tells s states tables name number old new goes is = elim (cases_Bool (is_up states name)) [
+  | inl up ↦ same_numbers number old.node.asks.asks new.node.asks.asks (goes.up up).0.asks is
+  | inr down ↦ subst (λ (f : FollowerState). is_open_ask number f.node.asks ≡ true) (goes.down down) is
+]
+
+pub catches_open_none : (tells : Bool) (s : Settings) (states : NodeStates) (tables : Tables) (old new : List (Named FollowerState))
+    → EachNode (WhereUp states (GoesOnAt tells s tables)) old new → OpensNone old new
+catches_open_none tells s states tables old new each = record {
   still = λ name number h.
       let was = each h.place name h.follower h.stands in
       record {
         place = h.place;
         follower = was.0;
         stands = was.1;
-        is_open = same_numbers number was.0.node.asks.asks h.follower.node.asks.asks was.2.0.asks h.is_open;
+        is_open = was_open tells s states tables name number was.0 h.follower was.2 h.is_open;
       };
 }
 
 -- nodes whose followers stay hold what they held
-pub masters_held : (old new : Fleet) → GoesOn old new → new.followers ≡ old.followers → StaysHeld old new
-masters_held old new goes same = record { goes = goes; opens = same_opens_none old.followers new.followers same }
+pub stores_held : (old new : Fleet) → GoesOn old new → new.followers ≡ old.followers → StaysHeld old new
+stores_held old new goes same = record { goes = goes; opens = same_opens_none old.followers new.followers same }
 
 -- ---- repairs
 
@@ -118,8 +138,8 @@ pub record SettleLeaves (tells : Bool) (Says : Moment → Moment → Type 0) (ol
 
 module _ (tells : Bool) (core seen : CoreState) (own : core ≡ seen) (before ran : KeeperState) (from to : LinkShown) (fleet : Fleet) (mail : Inboxes)
     (of_seen : IsConsistentCore tells before.told seen) (consistent : IsConsistent tells core.settings ran.told fleet)
-    (inboxes : AreInboxesOf core.settings (pens_of fleet.masters) mail) (goes : GoesOn core.fleet fleet)
-    (caches : fleet ≡ record core.fleet { masters = fleet.masters }) (grows : MastersGrow tells core.settings before.told ran.told)
+    (inboxes : AreInboxesOf core.settings (pens_of fleet.stores) mail) (arrived : WhereTold tells (HaveArrived ran.told mail)) (goes : GoesOn core.fleet fleet)
+    (caches : fleet ≡ record core.fleet { stores = fleet.stores }) (grows : StoresGrow tells core.settings before.told ran.told)
     (later : IsLater before ran) where
   abbrev start : Posting
   start = posting (scene core.fleet before from) core.mail core.states
@@ -141,8 +161,9 @@ module _ (tells : Bool) (core seen : CoreState) (own : core ≡ seen) (before ra
   -- once jobs were run
   ran_along : LeavesCore tells before ran core (left_core core fleet mail)
   ran_along = record {
-    is_consistent = written_core tells before.told core of ran.told fleet mail consistent inboxes goes grows.logs;
-    on = masters_held core.fleet fleet goes (ap (λ (f : Fleet). f.followers) caches);
+    is_consistent = written_core tells before.told core of ran.told fleet mail consistent inboxes arrived goes grows.logs;
+    on = stores_held core.fleet fleet goes (ap (λ (f : Fleet). f.followers) caches);
+    comes = none_come tells ran.told core (left_core core fleet mail) refl;
     grows = grows;
     later = later;
   }
@@ -157,15 +178,19 @@ module _ (tells : Bool) (core seen : CoreState) (own : core ≡ seen) (before ra
     has_run : HasRunJobs tells (moment core before from) (moment (left_core core fleet mail) ran to)
     has_run = record { runs = runs; keepers = later; link = link; caches = caches; rest = refl }
 
-    mid_grows : MastersGrow tells core.settings before.told mid.told
-    mid_grows = masters_in_turn tells core.settings before.told ran.told mid.told grows (stays_masters tells core.settings ran mid tables)
+    mid_grows : StoresGrow tells core.settings before.told mid.told
+    mid_grows = stores_in_turn tells core.settings before.told ran.told mid.told grows (stays_stores tells core.settings ran mid tables)
+
+    arrived_mid : WhereTold tells (HaveArrived mid.told mail)
+    arrived_mid = arrived_grows tells ran.told mid.told mail (growing_laws.stays tells ran.told mid.told tables) arrived
 
     read_along : LeavesCore tells before mid core (left_core core same mail)
     read_along = record {
       is_consistent = written_core tells before.told core of mid.told same mail read
-          (subst (λ (f : Fleet). AreInboxesOf core.settings (pens_of f.masters) mail) (sym fleet_is) inboxes)
+          (subst (λ (f : Fleet). AreInboxesOf core.settings (pens_of f.stores) mail) (sym fleet_is) inboxes) arrived_mid
           (subst (GoesOn core.fleet) (sym fleet_is) goes) mid_grows.logs;
       on = subst (StaysHeld core.fleet) (sym fleet_is) ran_along.on;
+      comes = none_come tells mid.told core (left_core core same mail) refl;
       grows = mid_grows;
       later = later_trans before ran mid later read_later;
     }
@@ -181,25 +206,26 @@ module _ (tells : Bool) (core seen : CoreState) (own : core ≡ seen) (before ra
     }))) read_along
 
     -- and the nodes went on
-    module _ (now : KeeperState) (last : LinkShown) (next : Fleet) (masters : next.masters ≡ same.masters)
+    module _ (now : KeeperState) (last : LinkShown) (next : Fleet) (stores : next.stores ≡ same.stores)
         (caught : IsConsistent tells core.settings now.told next) (catch_goes : GoesOn same next)
-        (on : AllProcessOn tells core.settings now.told same next) (reads : OnlyReads tells (outside mid to) (outside now last)) where
-      on_from : AllProcessOn tells core.settings now.told fleet next
-      on_from = subst (λ f. AllProcessOn tells core.settings now.told f next) fleet_is on
+        (on : AllProcessOn tells core.settings core.states now.told same next) (reads : OnlyReads tells (outside mid to) (outside now last)) where
+      on_from : AllProcessOn tells core.settings core.states now.told fleet next
+      on_from = subst (λ f. AllProcessOn tells core.settings core.states now.told f next) fleet_is on
 
-      caught_along : (left : Inboxes) → (AreInboxesOf core.settings (pens_of fleet.masters) mail → AreInboxesOf core.settings (pens_of fleet.masters) left)
-          → LeavesCore tells before now core (left_core core next left)
-      caught_along left stays =
+      caught_along : (left : Inboxes) → (AreInboxesOf core.settings (pens_of fleet.stores) mail → AreInboxesOf core.settings (pens_of fleet.stores) left)
+          → WhereTold tells (HaveArrived now.told left) → LeavesCore tells before now core (left_core core next left)
+      caught_along left stays arrives =
           let held = held_on core.fleet same next read_along.on (record {
             goes = catch_goes;
-            opens = catches_open_none tells core.settings now.told same.followers next.followers on.followers;
+            opens = catches_open_none tells core.settings core.states now.told same.followers next.followers on.followers;
           }) in
-          let ends = masters_in_turn tells core.settings before.told mid.told now.told mid_grows (stays_masters tells core.settings mid now reads.tables) in
+          let ends = stores_in_turn tells core.settings before.told mid.told now.told mid_grows (stays_stores tells core.settings mid now reads.tables) in
           record {
             is_consistent = written_core tells before.told core of now.told next left caught
-                (subst (λ ms. AreInboxesOf core.settings (pens_of ms) left) (sym (masters ∙ ap (λ (f : Fleet). f.masters) fleet_is)) (stays inboxes))
-                held.goes ends.logs;
+                (subst (λ ms. AreInboxesOf core.settings (pens_of ms) left) (sym (stores ∙ ap (λ (f : Fleet). f.stores) fleet_is)) (stays inboxes))
+                arrives held.goes ends.logs;
             on = held;
+            comes = none_come tells now.told core (left_core core next left) refl;
             grows = ends;
             later = later_trans before mid now (later_trans before ran mid later read_later) reads.keepers;
           }
@@ -213,16 +239,19 @@ module _ (tells : Bool) (core seen : CoreState) (own : core ≡ seen) (before ra
         stops = cause_before core.settings ran mid now to last given read_later stops;
         on = on_from;
         rest = refl;
-      }))) (caught_along mail (λ are. are))
+      }))) (caught_along mail (λ are. are) (arrived_grows tells mid.told now.told mail (growing_laws.stays tells mid.told now.told reads.tables) arrived_mid))
 
       -- what is so of the tables once jobs were run is so at the end
       at_the_end : (P : Tables → Type 0) → tells ≡ true → P ran.told → P now.told
       at_the_end P told is = so_before P now.told ran.told (λ at. sym (keeps_trans tells ran mid now tables reads.tables told at)) is
 
+      caught_from : AllCatchUp core.settings core.states now.told same next → AllCatchUp core.settings core.states now.told fleet next
+      caught_from all = subst (λ f. AllCatchUp core.settings core.states now.told f next) fleet_is all
+
       -- it came to its end
       pub settles_core : (logs : List ℕ) (left : Inboxes) → WhereTold tells (logs ≡ log_lengths core.settings mid.told) → AreEmpty left
-          → (AreInboxesOf core.settings (pens_of fleet.masters) mail → AreInboxesOf core.settings (pens_of fleet.masters) left)
-          → WhereTold tells (AllCatchUp core.settings now.told same next) → InversesMatch (types_of core.settings.schema)
+          → (AreInboxesOf core.settings (pens_of fleet.stores) mail → AreInboxesOf core.settings (pens_of fleet.stores) left)
+          → WhereTold tells (AllCatchUp core.settings core.states now.told same next) → InversesMatch (types_of core.settings.schema)
           → SettleLeaves tells (SettlesCore tells logs) (moment seen before from) (moment (left_core core next left) now last)
       settles_core logs left lengths empty stays all match = leaves_so (SettlesCore tells logs) now last next left (record {
         ran = moment (left_core core fleet mail) ran to;
@@ -233,7 +262,7 @@ module _ (tells : Bool) (core seen : CoreState) (own : core ≡ seen) (before ra
           link = reads.link;
         };
         on = on_from;
-        caught = λ told. subst (λ f. AllCatchUp core.settings now.told f next) fleet_is (all told);
+        caught = λ told. caught_from (all told);
         empty = empty;
         settled = λ told.
             let none = at_the_end (λ t. HaveNoJobs (stores_in core.settings t)) told (runs.none told) in
@@ -241,6 +270,7 @@ module _ (tells : Bool) (core seen : CoreState) (own : core ≡ seen) (before ra
               none = none;
               paired = no_jobs_are_paired.paired (types_of core.settings.schema) (stores_in core.settings now.told) match (caught.stores.kept told) none;
               lengths = so_before (λ t. logs ≡ log_lengths core.settings t) now.told mid.told (λ at. sym (reads.tables told at)) (lengths told);
+              ends = (nodes_catch_up core.settings now.told).caught core.states same next (all told);
             };
         rest = refl;
-      }) (caught_along left stays)
+      }) (caught_along left stays (λ told. (arrived_stay now.told).empty left empty))

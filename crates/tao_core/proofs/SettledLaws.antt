@@ -1,70 +1,101 @@
 -- What a settle leaves stays until a log grows.
-use Rattle.std.proofs.Common.{◌≡◌, Bool, true, false, refl, subst, sym}
-use Rattle.core_model.specs.Consistent.{IsConsistent}
-use Rattle.core_model.specs.Reads.{Wanted}
-use Rattle.core_nodes.proofs.GrowingLemmas.{stays_masters}
-use Rattle.core_nodes.proofs.StayingAtEnds.{ends_stay}
-use Rattle.core_nodes.specs.Beginning.{AreAtEnds}
+use Rattle.std.proofs.Common.{◌≡◌, ◌≤◌, true, length, refl, subst, sym, arith, inl, inr}
+use Rattle.core_model.proofs.Settled.{settled_stays}
+use Rattle.core_model.proofs.Turns.{choices_serve}
+use Rattle.core_model.specs.Consistent.{GoesOn, IsConsistent}
+use Rattle.core_model.specs.Growing.{StoresGrow}
+use Rattle.core_model.specs.Pens.{pens_of}
+use Rattle.core_model.specs.States.{AreSettled, HaveSameLogs, nodes_now}
+use Rattle.core_model.specs.Stores.{AreWhole}
+use Rattle.core_nodes.proofs.CaughtUp.{nodes_catch_up}
+use Rattle.core_nodes.proofs.GrowingLemmas.{stays_stores}
 use Rattle.core_plans.proofs.WholeStages.{stages_miss_nothing}
-use Rattle.core_plans.specs.Held.{StepsHeld}
-use Rattle.core_plans.specs.declared.held.HeldPlan.{HeldPlan}
-use Rattle.core_plans.specs.declared.held.HeldPlan.TheVariants as of
+use Rattle.core_plans.specs.Held.{IsUnderWay, StepsHeld}
 use Rattle.core_plans.specs.LedBy.{led_by}
-use Rattle.core_steps.proofs.WholeReads.{reads_are_whole}
-use Rattle.core_steps.specs.ReadSteps.{IsReached}
-use Rattle.core_steps.specs.Routes.{Scene}
-use Rattle.core_steps.specs.CriticalReads.{IsWhole}
-use Rattle.core_steps.specs.declared.routes.Route.{Route}
-use Rattle.core_steps.specs.Reads.{sent_read}
-use Rattle.node_name.specs.declared.NodeName.{NodeName}
+use Rattle.core_plans.specs.declared.held.HeldPlan.TheVariants as of
+use Rattle.core_plans.specs.declared.held.HeldPlan.{HeldPlan}
+use Rattle.core_plans.specs.HeldReads.{at_bound}
+use Rattle.read_plan.specs.Readings.{Reading, new_reading}
+use Rattle.request_check.specs.declared.checked.CheckedCall.TheVariants as checked_call
 use Rattle.replies.specs.declared.calls.CallReply.TheVariants as called
 use Rattle.replies.specs.declared.calls.ReadReply.{ReadReply}
 use Rattle.replies.specs.declared.reply.Reply.TheVariants.{Called}
 use Rattle.request_check.specs.declared.checked.CheckedRead.{CheckedRead}
-use Rattle.tao_base.specs.Queries.{query_key}
-use Rattle.session_pass.specs.Floors.{floor_at}
-use Rattle.topology.specs.Config.{Settings}
-use Rattle.tao_core.specs.Calls.{AnswersRead, ReadsBy, called_read, posting_of, scene_of, wanted_in}
-use Rattle.tao_core.specs.Core.{IsConsistentCore, Moment}
-use Rattle.tao_core.specs.HeldCalls.{plan_leader}
-use Rattle.tao_core.specs.Laws.{MissesNoMore, NodesAreAtEnds, SettledUntilACommit, last_version}
-use Rattle.tao_core.proofs.Going.{read_reached}
+use Rattle.tao_base.specs.Queries.{query_shard}
+use Rattle.tao_core.specs.Calls.{posting_of, scene_of}
+use Rattle.tao_core.specs.HeldCalls.{AnswersCall, DoesAtOnce, call_floor, plan_leader}
+use Rattle.tao_core.proofs.SettledReads.{read_last}
+use Rattle.tao_core.specs.Core.{ComeUp, IsConsistentCore, IsCoreOf, Moment}
+use Rattle.tao_core.specs.Laws.{AreAllUp, IsSettled, MissesNoMore, SettledUntilACommit, last_version}
+use Rattle.tao_core.proofs.Ways.{session_placed}
 
-read_whole : (critical : Bool) (s : Settings) (route : Route) (read : Wanted) (reply : ReadReply) (old new : Scene) → IsReached true s read old.keepers
-    → IsConsistent true s old.keepers.told old.fleet → AreAtEnds s old.keepers.told old.fleet
-    → ReadsBy true s (called_read critical (sent_read route read)) (Called (called.Read reply)) old new → IsWhole true s read reply old
-read_whole false s route read reply old new reached are ends reads = (reads_are_whole s route read reply old new).along reads reached are ends
-read_whole true s route read reply old new reached are ends reads = (reads_are_whole s route read reply old new).critical reads
+-- ---- reads
 
-reads_last : (old new : Moment) (call : CheckedRead) (reply : ReadReply) → IsConsistentCore true old.keepers.told old.core → NodesAreAtEnds old
-    → AnswersRead true old call (Called (called.Read reply)) new → reply.version ≡ last_version old call.query
-reads_last old new call reply are ends answers =
-    let goes = answers.replies in
-    let reached = read_reached true old.keepers old.core are call.session call.query goes.session
-    (floor_at goes.session.floors (query_key call.query)) goes.found refl in
-    read_whole call.critical old.core.settings goes.route (wanted_in goes.session call.query) reply (scene_of old) (scene_of new) reached
-    are.consistent ends goes.reads refl
+reads_last : (old new : Moment) (call : CheckedRead) (reply : ReadReply) → IsConsistentCore true old.keepers.told old.core → IsSettled old → AreAllUp old
+    → AnswersCall true (checked_call.Read call) old (Called (called.Read reply)) new → reply.version ≡ last_version old call.query
+reads_last old new call reply are settled up (inr refuses) = absurd refuses.refused
+reads_last old new call reply are settled up (inl goes) =
+    let core = old.core in
+    let session = goes.begun.session in
+    let shard = query_shard call.query in
+    let p : Reading = at_bound core.settings
+    (new_reading call.query session.region session.tier (call_floor session (checked_call.Read call)) call.critical goes.begun.follower) in
+    let does = subst (λ plan. DoesAtOnce true plan old (Called (called.Read reply)) new) goes.begun.plan_is goes.does in
+    let follower = (choices_serve core.settings core.states).follower_up session.region session.tier shard goes.begun.follower goes.begun.chosen in
+    let placed =
+    session_placed true core.settings old.keepers.told (pens_of core.fleet.stores) core.sessions call.session session are.sessions goes.begun.found in
+    read_last core.settings (plan_leader core (of.Read p)) p (posting_of old) are.masters follower (up.leaders session.region shard placed)
+    does.carries.stages does.after (posting_of new) reply refl are.consistent settled does.carries.passes does.over
+
+-- ---- stages
 
 -- a stage of a held read changes no table
-stage_whole : (before after : HeldPlan) (leader : NodeName) (old new : Moment) → IsConsistent true old.core.settings old.keepers.told old.core.fleet
-    → NodesAreAtEnds old → StepsHeld (led_by true old.core.settings leader) before (posting_of old) after (posting_of new)
+stage_whole : (before after : HeldPlan) (old new : Moment) → IsCoreOf true old.keepers.told old.core → IsSettled old → AreAllUp old
+    → IsUnderWay true old.core.settings old.keepers.told old.core.fleet before
+    → StepsHeld (led_by true old.core.settings (plan_leader old.core before)) before (posting_of old) after (posting_of new)
     → MissesNoMore before old after new
-stage_whole (of.Read p) (of.Read q) leader old new are ends steps =
-    let grows = stays_masters true old.core.settings old.keepers new.keepers steps.tables in
-    (stages_miss_nothing old.core.settings leader p q (scene_of old) (scene_of new)).whole steps.steps are ends grows.logs
-stage_whole (of.Read p) (of.Write q) leader old new are ends steps = tt
-stage_whole (of.Write p) (of.Read q) leader old new are ends steps = tt
-stage_whole (of.Write p) (of.Write q) leader old new are ends steps = tt
+stage_whole (of.Read p) (of.Read q) old new are settled up under steps =
+    let core = old.core in
+    let grows = stays_stores true core.settings old.keepers new.keepers steps.tables in
+    (stages_miss_nothing core.settings (plan_leader core (of.Read p)) p q (scene_of old) (scene_of new)).whole core.states steps.steps
+    are.is_consistent.consistent settled (up.followers p.follower under.follower.configured)
+    (up.leaders p.region (query_shard p.query) under.region) grows.logs
+stage_whole (of.Read p) (of.Write q) old new are settled up under steps = tt
+stage_whole (of.Write p) (of.Read q) old new are settled up under steps = tt
+stage_whole (of.Write p) (of.Write q) old new are settled up under steps = tt
+
+-- ---- settled
+
+-- in a configuration of one region each store is its shard's master
+whole_alone : (m : Moment) → IsConsistentCore true m.keepers.told m.core → length m.core.settings.regions ≤ 1 → AreWhole m.core.settings m.keepers.told
+whole_alone m are few =
+    let some = are.masters 0 in
+    (nodes_catch_up m.core.settings m.keepers.told).one_region are.masters (omega (arith, few, some))
+
+-- it stays so
+stays_settled : (old new : Moment) → IsConsistentCore true old.keepers.told old.core → IsConsistentCore true new.keepers.told new.core
+    → new.core.settings ≡ old.core.settings → GoesOn old.core.fleet new.core.fleet → ComeUp true new.keepers.told old.core new.core
+    → StoresGrow true old.core.settings old.keepers.told new.keepers.told → HaveSameLogs old.core.settings old.keepers.told new.keepers.told
+    → IsSettled old → IsSettled new
+stays_settled old new was are same goes comes grows logs settled =
+    let now = nodes_now new.core.fleet new.core.states in
+    subst (λ s. AreSettled s new.keepers.told now) (sym same)
+    ((settled_stays old.core.settings old.keepers.told new.keepers.told (nodes_now old.core.fleet old.core.states) now).stay was.masters was.consistent
+    (subst (λ s. IsConsistent true s new.keepers.told new.core.fleet) same are.consistent) goes (comes refl) grows logs settled)
 
 pub settled_until_a_commit : SettledUntilACommit
 settled_until_a_commit = record {
-  settles = λ logs old new settles.
-      (ends_stay new.core.settings).caught new.keepers.told settles.ran.core.fleet new.core.fleet (settles.caught refl);
-  stays = λ old new was are same goes logs ends.
-      subst (λ s. AreAtEnds s new.keepers.told new.core.fleet) (sym same)
-      ((ends_stay old.core.settings).stay old.keepers.told new.keepers.told old.core.fleet new.core.fleet was.consistent
-      (subst (λ s. IsConsistent true s new.keepers.told new.core.fleet) same are.consistent) goes logs ends);
+  settles = λ logs old new settles whole. record { whole = whole; ends = (settles.settled refl).ends };
+  whole = whole_alone;
+  begins = λ m ends whole. record {
+    whole = whole;
+    ends = record {
+      leaders = λ place name node at up. ends.leaders place name node at;
+      followers = λ place name follower at up. ends.followers place name follower at;
+    };
+  };
+  stays = stays_settled;
   reads = reads_last;
-  stages = λ old new asked number reply are ends steps.
-      stage_whole steps.before steps.after (plan_leader old.core steps.before) old new are ends steps.steps;
+  stages = λ old new asked number reply are settled up steps.
+      stage_whole steps.before steps.after old new are settled up (are.plans.under_way number steps.before steps.stands) steps.steps;
 }

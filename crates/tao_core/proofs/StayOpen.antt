@@ -1,23 +1,16 @@
 -- Sessions that are open stay so.
-use Rattle.std.proofs.Common.{◌≡◌, ◌∙◌, ℕ, Bool, true, false, List, [], ◌∷◌, Result, Ok, Err, ap, refl, subst, sym, inl, inr, arith}
+use Rattle.std.proofs.Common.{◌≡◌, ◌∙◌, ℕ, Bool, true, false, List, [], ◌∷◌, ap, refl, subst, sym, inl, inr, arith}
 use Rattle.std.specs.Prelude.{◌==◌, ◌||◌, filter, nat_lt}
-use Rattle.std.proofs.lemmas.Bool.{cases_Bool, eqb-true, false≢true}
+use Rattle.std.proofs.lemmas.Bool.{cases_Bool, eqb-true, false≢true, or_right}
 use Rattle.std.proofs.lemmas.Bool.Decides.{nat_tests}
 use Rattle.std.proofs.lemmas.List.Folds.{list_any-append}
 use Rattle.core_sessions.specs.Sessions.{Session, is_open, new_session, with_session}
 use Rattle.core_sessions.specs.declared.sessions.OpenSession.{OpenSession}
-use Rattle.core_steps.specs.declared.writes.CarriedOut.{CarriedOut}
-use Rattle.replies.specs.declared.refusals.NodeRefused.TheVariants.{NoServer}
-use Rattle.replies.specs.declared.refusals.Refusal.TheVariants.{Memory, Node}
+use Rattle.replies.specs.declared.refusals.Refusal.TheVariants.{Memory}
 use Rattle.replies.specs.declared.reply.Reply.{Reply}
 use Rattle.replies.specs.declared.reply.Reply.TheVariants.{Opened, Refused}
-use Rattle.request_check.specs.declared.checked.CheckedWrite.{CheckedWrite}
 use Rattle.shard_log.specs.View.{View}
-use Rattle.tao_base.specs.Writes.{write_shard}
-use Rattle.tao_core.specs.Calls.{LearnsOutcome, RepliesToWrite, told_both}
-use Rattle.tao_core.specs.Core.{Moment}
 use Rattle.tao_core.specs.Replies.{AnswersOpen}
-use Rattle.tao_core.proofs.LearningBoth.{both_open}
 
 -- each session that was open is open
 pub record StayOpen (old new : List Session) : Type 0 where
@@ -39,10 +32,6 @@ kept test n (x ∷ xs) passes there = elim (cases_Bool (x.session == n)) [
       ])
 ]
 
-or_right : (a : Bool) → (a || true) ≡ true
-or_right true = refl
-or_right false = refl
-
 module _ (place : OpenSession) (notes : List View) (old : List Session) (closed : is_open old place.session ≡ false) (n : ℕ)
     (there : is_open old n ≡ true) where
   abbrev lower : List Session
@@ -59,7 +48,7 @@ module _ (place : OpenSession) (notes : List View) (old : List Session) (closed 
 
   by_greater : nat_lt place.session n ≡ true → is_open (with_session (new_session place notes) old) n ≡ true
   by_greater more =
-      joined ∙ (rw (kept (λ k. nat_lt place.session k) n old more there) (rw (or_right (place.session == n)) (or_right (is_open lower n))))
+      joined ∙ (rw (kept (λ k. nat_lt place.session k) n old more there) (rw (or_right (place.session == n) true refl) (or_right (is_open lower n) true refl)))
 
   opened_still : is_open (with_session (new_session place notes) old) n ≡ true
   opened_still = elim (cases_Bool (nat_lt n place.session)) [
@@ -82,17 +71,3 @@ pub opens_stay : (place : OpenSession) (old : List Session) (reply : Reply) (new
 opens_stay place old (Opened session) new closed answers = subst (StayOpen old) (sym answers.1.1) (opened_open place answers.1.0 old closed)
 opens_stay place old (Refused (Memory position)) new closed answers = same_open old new answers.1
 opens_stay place old reply new closed answers = absurd answers
-
--- so does what is learnt
-learns_stay : (number shard : ℕ) (outcome : Result CarriedOut Reply) (old new : List Session) → LearnsOutcome number shard outcome old new → StayOpen old new
-learns_stay number shard (Ok done) old new learns =
-    record { stays = λ n there. both_open number (told_both shard learns.0 done) old new learns.1 n ∙ there }
-learns_stay number shard (Err reply) old new learns = same_open old new learns
-
--- and so a write
-pub writes_stay : (tells : Bool) (old : Moment) (call : CheckedWrite) (reply : Reply) (new : Moment) → RepliesToWrite tells old call reply new
-    → StayOpen old.core.sessions new.core.sessions
-writes_stay tells old call (Refused (Node (NoServer region))) new goes =
-    same_open old.core.sessions new.core.sessions (ap (λ (m : Moment). m.core.sessions) goes.same)
-writes_stay tells old call reply new goes =
-    learns_stay call.session (write_shard call.write) goes.outcome old.core.sessions new.core.sessions goes.learns

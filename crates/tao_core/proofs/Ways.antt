@@ -6,17 +6,19 @@ use Rattle.std.proofs.lemmas.List.Elements.{All-append, All-filter, All-from_rec
 use Rattle.core_model.proofs.Turns.{choices_serve}
 use Rattle.core_model.specs.Fleet.{regions_of}
 use Rattle.core_model.specs.Pens.{Pens, pens_of}
-use Rattle.core_model.specs.Serving.{IsFollowerFor, IsLeaderFor}
+use Rattle.core_model.specs.Serving.{IsFollowerFor, IsLeaderFor, IsLeaderIn}
+use Rattle.core_model.specs.Stores.{master_of}
 use Rattle.core_sessions.specs.Sessions.{Session, session_at, with_session}
+use Rattle.core_steps.proofs.TellLemmas.{merges_in}
 use Rattle.session_pass.specs.Floors.{floor_at}
 use Rattle.std.specs.Option.{option_map}
 use Rattle.tao_base.specs.declared.id.Key.{Key}
 use Rattle.node_name.specs.declared.NodeName.{NodeName}
 use Rattle.tao_keeper.specs.Table.{Tables}
-use Rattle.topology.specs.Choices.{chosen_follower, preferred_leader}
+use Rattle.topology.specs.Choices.{chosen_follower, master_region, preferred_leader}
 use Rattle.topology.specs.Counts.{counts_of}
 use Rattle.topology.specs.Config.{Settings}
-use Rattle.topology.specs.States.{NodeStates, is_cache}
+use Rattle.topology.specs.States.{is_cache}
 use Rattle.tao_core.specs.Core.{CoreState, IsConsistentCore, IsSessionOf}
 use Rattle.tao_core.proofs.Found.{session_is}
 
@@ -46,7 +48,7 @@ floor_of sessions number session key floor at is =
 
 module _ (tells : Bool) (tables : Tables) (core : CoreState) (of : IsConsistentCore tells tables core) where
   regions_are : core.states.regions ≡ regions_of core.settings
-  regions_are = ap (λ (n : NodeStates). n.regions) of.up
+  regions_are = of.states.regions
 
   pub follower_for : (region tier shard asked : ℕ) (name : NodeName) → shard ≡ asked → asked < core.settings.shards
       → Some name ≡ chosen_follower core.states region tier shard → IsFollowerFor core.settings asked name
@@ -67,6 +69,15 @@ module _ (tells : Bool) (tables : Tables) (core : CoreState) (of : IsConsistentC
       → IsLeaderFor core.settings shard (preferred_leader core.states region shard)
   leads_at region shard here known = (choices_serve core.settings core.states).leader region shard regions_are here known
 
+  -- the leader that the master's region prefers may lead a write
+  pub writer_for : (region shard asked : ℕ) (name : NodeName) → shard ≡ asked → region ≡ master_region core.states shard
+      → region < length core.states.regions → name ≡ preferred_leader core.states region shard
+      → (region < length core.states.regions → IsTrue (is_cache core.states.regions name))
+      → IsLeaderIn core.settings (master_of core.settings asked) name
+  writer_for region shard asked name is home within preferred known =
+      subst (λ n. IsLeaderIn core.settings (master_of core.settings n) name) is
+      (merges_in core.settings core.states region shard name of.states home preferred (known within))
+
   pub region_within : (region : ℕ) → region < length core.settings.regions → region < length core.states.regions
   region_within region within =
       subst (λ xs. region < length xs) (sym regions_are) (subst (λ n. region < n) (sym (length-map core.settings.regions counts_of)) within)
@@ -75,4 +86,4 @@ module _ (tells : Bool) (tables : Tables) (core : CoreState) (of : IsConsistentC
   pub region_there : (number : ℕ) (session : Session) → session_at core.sessions number ≡ Some session → session.region < length core.states.regions
   region_there number session found =
       region_within session.region
-      (session_placed tells core.settings tables (pens_of core.fleet.masters) core.sessions number session of.sessions found)
+      (session_placed tells core.settings tables (pens_of core.fleet.stores) core.sessions number session of.sessions found)

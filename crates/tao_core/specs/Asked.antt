@@ -52,7 +52,7 @@ is_built (request.Audit read) = true
 is_built request.Settle = true
 is_built other = false
 
--- that a word isn't built yet
+-- the refusal of a request whose word isn't built yet
 abbrev pub not_built : Request → Refusal
 not_built asked = Line (NotBuilt (request_word asked))
 

@@ -1,12 +1,13 @@
 -- What contracts see of a core.
 use Rattle.std.specs.Prelude.{ℕ, ◌≡◌, ◌<◌, ◌≤◌, ⊤, List, [], Bool, true, All, Some, length}
-use Rattle.core_mail.specs.Inboxes.{AreEmpty, AreInboxesOf, Inboxes}
+use Rattle.core_mail.specs.Inboxes.{AreEmpty, AreInboxesOf, HaveArrived, Inboxes}
 use Rattle.core_model.specs.Consistent.{GoesOn, IsConsistent}
 use Rattle.core_model.specs.Fleet.{Fleet}
-use Rattle.core_model.specs.Growing.{MastersGrow}
+use Rattle.core_model.specs.Growing.{StoresGrow}
 use Rattle.core_model.specs.Pens.{AreFirstNotes, Pens, pens_of}
-use Rattle.core_model.specs.Stores.{master_log}
-use Rattle.core_nodes.specs.Beginning.{IsEmptyFleet}
+use Rattle.core_model.specs.States.{AreStatesOf, ComeUpAtStores, nodes_now}
+use Rattle.core_model.specs.Stores.{HaveMasterRegions, master_log}
+use Rattle.core_nodes.specs.Beginning.{IsEmptyFleet, MayHold}
 use Rattle.core_plans.specs.Held.{ArePlansOf, OpensNone, Plans, plan_at}
 use Rattle.core_plans.specs.declared.held.HeldPlan.{HeldPlan}
 use Rattle.core_plans.specs.declared.held.HeldPlan.TheVariants.{Read, Write}
@@ -25,7 +26,7 @@ use Rattle.topology.specs.Config.{Settings}
 use Rattle.topology.specs.States.{NodeStates, all_up}
 use Rattle.tao_core.specs.declared.serving.Core.TheInside.{Inside}
 
--- its configuration, the sessions that are open, which nodes are up, the nodes, the messages that wait for them, and the calls that are held
+-- a core's configuration, the sessions that are open, which nodes are up, the nodes, the messages that wait for them, and the calls that are held
 pub record CoreState : Type 0 where
   pub settings : Settings
   pub sessions : List Session
@@ -34,6 +35,7 @@ pub record CoreState : Type 0 where
   pub mail : Inboxes
   pub plans : Plans
 
+-- a core as contracts see it
 abbrev pub core_state : Inside → CoreState
 core_state core = record {
   settings = core.config.now;
@@ -44,10 +46,12 @@ core_state core = record {
   plans = core.plans;
 }
 
--- no session is open, no node holds anything, no message waits, and no call is held
+-- no session is open, each node is up and holds nothing, up to as many items as are configured, no message waits, and no call is held
 pub record IsNewCore (core : CoreState) : Type 0 where
   pub sessions : core.sessions ≡ []
+  pub states : core.states ≡ all_up core.settings
   pub fleet : IsEmptyFleet core.fleet
+  pub most : MayHold core.settings.cache_items core.fleet
   pub mail : AreEmpty core.mail
   pub plans : core.plans ≡ []
 
@@ -57,13 +61,15 @@ pub record IsSessionOf (tells : Bool) (s : Settings) (tables : Tables) (pens : P
   pub notes : AreFirstNotes pens s.shards session.notes
   pub floors : WhereTold tells ((key : Key) → floor_at session.floors key ≤ version (master_log s tables (key_shard key)) key)
 
--- the nodes are consistent with keepers that tell these tables, each message names an entry of its shard's log, and each key has come to the floors
--- of the sessions. Each node is up
+-- the nodes are consistent with keepers that tell these tables, whichever of them are up; each message names an entry of its shard's log, to which the
+-- store of its node's region has come; and each key has come to the floors of the sessions
 pub record IsConsistentCore (tells : Bool) (tables : Tables) (core : CoreState) : Type 0 where
+  pub masters : HaveMasterRegions core.settings
   pub consistent : IsConsistent tells core.settings tables core.fleet
-  pub mail : AreInboxesOf core.settings (pens_of core.fleet.masters) core.mail
-  pub up : core.states ≡ all_up core.settings
-  pub sessions : All (IsSessionOf tells core.settings tables (pens_of core.fleet.masters)) core.sessions
+  pub states : AreStatesOf core.settings core.states
+  pub mail : AreInboxesOf core.settings (pens_of core.fleet.stores) core.mail
+  pub arrived : WhereTold tells (HaveArrived tables core.mail)
+  pub sessions : All (IsSessionOf tells core.settings tables (pens_of core.fleet.stores)) core.sessions
 
 -- the session of a client's write
 abbrev pub author : Origin → ℕ
@@ -87,19 +93,27 @@ pub record StaysHeld (old new : Fleet) : Type 0 where
   pub goes : GoesOn old new
   pub opens : OpensNone old.followers new.followers
 
--- what a call leaves of a core: it is consistent, each call that is held can go on, of tables only logs of masters grew, and no count of the keepers fell
+-- each node that came up is at its region's store, where the tables are told
+abbrev pub ComeUp : Bool → Tables → CoreState → CoreState → Type 0
+ComeUp tells tables old new = WhereTold tells (ComeUpAtStores tables (nodes_now old.fleet old.states) (nodes_now new.fleet new.states))
+
+-- what a call leaves of a core: it is consistent, each call that is held can go on, who came up is at its store, of tables only logs of the
+-- configuration's stores grew, and no count of the keepers fell
 pub record LeavesCore (tells : Bool) (before now : KeeperState) (old new : CoreState) : Type 0 where
   pub is_consistent : IsConsistentCore tells now.told new
   pub on : StaysHeld old.fleet new.fleet
-  pub grows : MastersGrow tells old.settings before.told now.told
+  pub comes : ComeUp tells now.told old new
+  pub grows : StoresGrow tells old.settings before.told now.told
   pub later : IsLater before now
 
--- what a request leaves: under its settings the core may be used as before, its nodes went on, and what a call leaves of the keepers
+-- what a request leaves: under its settings the core may be used as before, its nodes went on, who came up is at its store, and what a call leaves
+-- of the keepers
 pub record StaysUsable (tells : Bool) (before now : KeeperState) (old new : CoreState) : Type 0 where
   pub settings : new.settings ≡ old.settings
   pub keepers : IsCoreOf tells now.told new
   pub goes : GoesOn old.fleet new.fleet
-  pub grows : MastersGrow tells old.settings before.told now.told
+  pub comes : ComeUp tells now.told old new
+  pub grows : StoresGrow tells old.settings before.told now.told
   pub later : IsLater before now
 
 -- a core, and what its keepers and its link show, at a moment
@@ -108,5 +122,6 @@ pub record Moment : Type 0 where
   pub keepers : KeeperState
   pub link : LinkShown
 
+-- a core at a moment, with what the keepers and the link show then
 abbrev pub moment : CoreState → KeeperState → LinkShown → Moment
 moment core keepers link = record { core = core; keepers = keepers; link = link }

@@ -1,16 +1,16 @@
 -- What the replies to the words of messages, of refills and of held items say.
-use Rattle.std.specs.Prelude.{ℕ, ◌≡◌, ⊤, Bool, List, Option, Some, None}
+use Rattle.std.specs.Prelude.{ℕ, ◌≡◌, ◌⊎◌, ⊤, Bool, false, List, Option, Some, None}
 use Rattle.core_mail.specs.Inboxes.{ShowsInbox, TakesOut, WaitsAt, shown_message}
-use Rattle.core_model.specs.Fleet.{ChangesNode}
+use Rattle.core_model.specs.Fleet.{ChangesNode, region_of}
 use Rattle.core_model.specs.Messages.{DeliversAt, TakesRefill}
-use Rattle.core_model.specs.Reads.{wanted}
 use Rattle.core_model.specs.Stores.{master_log}
 use Rattle.core_model.specs.declared.named.Named.{Named}
 use Rattle.core_nodes.specs.Shown.{IsHeldAt, IsMarkAt}
-use Rattle.core_steps.specs.Reads.{ReadsAlong, sent_read}
+use Rattle.core_plans.specs.HeldReads.{at_bound}
+use Rattle.core_plans.specs.declared.held.HeldPlan.{HeldPlan}
+use Rattle.core_plans.specs.declared.held.HeldPlan.TheVariants as of
+use Rattle.read_plan.specs.Readings.{new_reading}
 use Rattle.core_steps.specs.Replies.{refilled_as}
-use Rattle.core_steps.specs.Routes.{scene}
-use Rattle.core_steps.specs.declared.routes.Route.{Route}
 use Rattle.cache_items.specs.declared.item.Item.{Item}
 use Rattle.follower_cache.specs.Seen.{FollowerState}
 use Rattle.follower_cache.specs.declared.queue.Refill.{Refill}
@@ -33,14 +33,13 @@ use Rattle.sealed_item.specs.Fills.{IsExactContent}
 use Rattle.sealed_item.specs.declared.content.Content.{Content}
 use Rattle.sealed_item.specs.declared.content.Content.TheVariants as content
 use Rattle.tao_base.specs.Keys.{key_shard}
-use Rattle.tao_base.specs.Queries.{query_shard}
 use Rattle.tao_base.specs.declared.id.Key.{Key}
 use Rattle.tao_keeper.specs.KeeperState.{KeeperState}
 use Rattle.tao_schema.specs.Schema.{types_of}
-use Rattle.topology.specs.Choices.{preferred_leader}
 use Rattle.words.specs.declared.DeliveryWord.{DeliveryWord}
 use Rattle.words.specs.declared.DeliveryWord.TheVariants as word
-use Rattle.tao_core.specs.Calls.{KeptReaches}
+use Rattle.tao_core.specs.HeldCalls.{DoesAtOnce}
+use Rattle.topology.specs.Config.{Settings}
 use Rattle.tao_core.specs.Core.{CoreState, Moment}
 
 -- ---- messages
@@ -67,7 +66,7 @@ AnswersDeliver node place old (Node reply) new = (message : SeenMaint) × Change
 AnswersDeliver node place old (Refused (OfNode (NoMessage told))) new = FindsNone node place told old new
 AnswersDeliver node place old reply new = ⊥
 
--- it was processed, and still waits where it was
+-- the message at a place of the node's inbox was processed, and still waits where it was
 abbrev pub AnswersSecond : NodeName → ℕ → CoreState → Reply → CoreState → Type 0
 AnswersSecond node place old (Node reply) new = (message : SeenMaint) × WaitsAt node place (Some message) old.mail × (new.mail ≡ old.mail)
     × IsProcessed word.Again node message old (Node reply) new
@@ -80,7 +79,7 @@ abbrev pub lost_as : ℕ → Option SeenMaint → Reply
 lost_as place None = Refused (OfNode (NoMessage place))
 lost_as place (Some message) = Node (Cache (Lost (shown_message message)))
 
--- it was taken out, and is lost
+-- the message at a place of the node's inbox was taken out, and is lost
 abbrev pub AnswersLoss : NodeName → ℕ → CoreState → Reply → CoreState → Type 0
 AnswersLoss node place old (Node (Cache (Lost told))) new = (new.fleet ≡ old.fleet)
     × (message : SeenMaint) × ChangesNode node (TakesOut place (Some message)) old.mail new.mail × (told ≡ shown_message message)
@@ -127,34 +126,33 @@ AnswersShow tells node key now reply = ⊥
 
 -- ---- refills
 
--- the region that a node is of
-abbrev pub home_region : NodeName → ℕ
-home_region (name.Store store) = store.region
-home_region (name.Leader region index) = region
-home_region (name.Follower region tier index) = region
+-- the tier that a follower is of; 0 of another node
+abbrev pub home_tier : NodeName → ℕ
+home_tier (name.Follower region tier index) = tier
+home_tier (name.Leader region index) = 0
+home_tier (name.Store store) = 0
 
--- a refill goes from its follower to the leader that the follower's region prefers
-abbrev pub refill_route : CoreState → NodeName → ℕ → Route
-refill_route core node shard = record { follower = node; leader = preferred_leader core.states (home_region node) shard }
+-- the plan of a refill: a read in the region and tier of its follower, at the refill's own floor
+abbrev pub refill_plan : Settings → NodeName → Refill → HeldPlan
+refill_plan s node refill =
+    of.Read (at_bound s (new_reading refill.query (region_of node) (home_tier node) refill.floor false node))
 
--- the follower's oldest refill was taken out, and read as a session's read without a floor of its own but the refill's
+-- the follower's oldest refill was taken out, and its plan did all of its stages
 pub record RefillGoes (tells : Bool) (node : NodeName) (old : Moment) (reply : Reply) (new : Moment) : Type 0 where
   pub refill : Refill
   pub left : List (Named FollowerState)
   pub takes : ChangesNode node (TakesRefill (Some refill)) old.core.fleet.followers left
   pub read : Reply
-  pub reads : ReadsAlong tells old.core.settings (sent_read (refill_route old.core node (query_shard refill.query)) (wanted refill.query refill.floor)) read
-      (scene (record old.core.fleet { followers = left }) old.keepers old.link) (scene new.core.fleet new.keepers new.link)
-  pub reaches : KeptReaches tells old.core.settings node refill.query read (scene new.core.fleet new.keepers new.link)
+  pub does : DoesAtOnce tells (refill_plan old.core.settings node refill)
+      (record old { core = record old.core { fleet = record old.core.fleet { followers = left } } }) read new
   pub reply_is : reply ≡ refilled_as read
 
 -- no refill waits, and nothing changed
-pub record HasNoRefill (node : NodeName) (told : NodeName) (old new : Moment) : Type 0 where
-  pub told_is : told ≡ node
+pub record HasNoRefill (node : NodeName) (old : Moment) (reply : Reply) (new : Moment) : Type 0 where
+  pub reply_is : reply ≡ Refused (OfNode (NoRefill node))
   pub none : ChangesNode node (TakesRefill None) old.core.fleet.followers new.core.fleet.followers
   pub same : new ≡ old
 
 -- what the reply to a refill says: how the follower's oldest one was read, or that none waits
 abbrev pub AnswersRefill : Bool → NodeName → Moment → Reply → Moment → Type 0
-AnswersRefill tells node old (Refused (OfNode (NoRefill told))) new = HasNoRefill node told old new
-AnswersRefill tells node old reply new = RefillGoes tells node old reply new
+AnswersRefill tells node old reply new = RefillGoes tells node old reply new ⊎ HasNoRefill node old reply new

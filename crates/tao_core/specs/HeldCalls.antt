@@ -1,4 +1,4 @@
--- What the replies to `hold` and `advance` say.
+-- What the replies to calls say, held or not, and to `advance`.
 use Rattle.std.specs.Prelude.{ℕ, ◌≡◌, ◌<◌, ◌⊎◌, ⊤, Bool, true, length, IfSome, List, Option, Some, None, option_and_then}
 use Rattle.session_pass.specs.Passes.{IsNoteOf, SeenPass}
 use Rattle.graph_model.specs.Log.{entry_at}
@@ -9,6 +9,7 @@ use Rattle.core_plans.specs.declared.held.HeldPlan.{HeldPlan}
 use Rattle.core_plans.specs.declared.held.HeldPlan.TheVariants as of
 use Rattle.core_plans.specs.declared.held.ToldEntries.{ToldEntries}
 use Rattle.core_plans.specs.LedBy.{led_by}
+use Rattle.core_plans.specs.WholeCalls.{CarriesOut}
 use Rattle.core_sessions.specs.Sessions.{HasRoom, HasRoomForBoth, Session, is_open, session_at, sessions_of}
 use Rattle.core_steps.specs.Routes.{Scene}
 use Rattle.core_steps.specs.declared.jobs.ToldEntry.{ToldEntry}
@@ -37,7 +38,7 @@ use Rattle.topology.specs.States.{NodeStates}
 use Rattle.words.specs.declared.PlanWord.{PlanWord}
 use Rattle.words.specs.declared.PlanWord.TheVariants as word
 use Rattle.write_plan.specs.Plans.{Writing, begun_write, reply_of}
-use Rattle.tao_core.specs.Calls.{FindsNoServer, KeptReaches, LearnsBoth, posting_of, scene_of}
+use Rattle.tao_core.specs.Calls.{KeptReaches, LearnsBoth, posting_of, scene_of}
 use Rattle.tao_core.specs.Core.{CoreState, Moment, author}
 
 -- ---- one stage
@@ -57,9 +58,11 @@ pub record Held : Type 0 where
   pub plans : Plans
   pub sessions : List Session
 
+-- plans that are held, with sessions
 abbrev pub held_seen : Plans → List Session → Held
 held_seen plans sessions = record { plans = plans; sessions = sessions }
 
+-- the plans and the sessions of a core
 abbrev pub held_in : CoreState → Held
 held_in core = held_seen core.plans core.sessions
 
@@ -73,18 +76,23 @@ abbrev pub LearnsOf : HeldPlan → ToldEntries → List Session → List Session
 LearnsOf (of.Write p) told old new = LearnsBoth (author p.origin) told old new
 LearnsOf (of.Read p) told old new = new ≡ old
 
--- there is room for what the session of a write is told with its reply, once it is over with an Ok reply
+-- the session of a write has room for what it is told with an Ok reply, once the write is over
 abbrev pub HasRoomFor : HeldPlan → List SeenPass → Type 0
 HasRoomFor (of.Write p) passes = next_stage (of.Write p) ≡ None → (reply : CallReply) → reply_of p ≡ Some (Called reply)
     → HasRoomForBoth (author p.origin) passes
 HasRoomFor (of.Read p) passes = ⊤
+
+-- the session of a write has room for all that it may be told
+abbrev pub HasRoomAlready : HeldPlan → List SeenPass → Type 0
+HasRoomAlready (of.Write p) passes = HasRoomForBoth (author p.origin) passes
+HasRoomAlready (of.Read p) passes = ⊤
 
 -- what is told of a shard's log stands in what was seen of that, and the session of that number may learn it
 pub record MayLearnTold (told : ToldEntry) (number : ℕ) (sessions : List Session) : Type 0 where
   pub note : IfSome (session_at sessions number) (λ s. IsNoteOf told.shard told.note s.notes)
   pub stands : WhereTold told.note.log.told (entry_at told.note.entries told.entry.position ≡ Some told.entry)
 
--- so each of what a write tells
+-- each of the entries that a write tells stands in what was seen, and the session of that number may learn it
 pub record MayLearnBoth (told : ToldEntries) (number : ℕ) (sessions : List Session) : Type 0 where
   pub here : IfSome told.here (λ t. MayLearnTold t number sessions)
   pub other : IfSome told.other (λ t. MayLearnTold t number sessions)
@@ -99,7 +107,7 @@ pub record MayLearnOne (number : ℕ) (told : ToldEntry) (passes : List SeenPass
   pub room : HasRoom number passes
   pub may : MayLearnTold told number (sessions_of passes)
 
--- or for both that a write tells, where it tells any
+-- the session of that number is open, and has room for both entries that a write tells, where it tells any
 pub record MayLearnNow (number : ℕ) (told : ToldEntries) (passes : List SeenPass) : Type 0 where
   pub ready : IfTold told ((is_open (sessions_of passes) number ≡ true) × HasRoomForBoth number passes)
   pub may : MayLearnBoth told number (sessions_of passes)
@@ -110,7 +118,7 @@ pub record MayLearnOf (p : Writing) (passes : List SeenPass) : Type 0 where
   pub room : HasRoomFor (of.Write p) passes
   pub told : MayLearnBoth (told_of_write p) (author p.origin) (sessions_of passes)
 
--- so it is of the session of a held plan; a read teaches nothing
+-- the session of a held plan may learn what the plan tells; a read teaches nothing
 abbrev pub MayLearn : HeldPlan → List SeenPass → Type 0
 MayLearn (of.Read p) passes = ⊤
 MayLearn (of.Write p) passes = MayLearnOf p passes
@@ -139,10 +147,11 @@ pub record NumberedPlan : Type 0 where
   pub number : ℕ
   pub plan : HeldPlan
 
+-- a plan under that number
 abbrev pub numbered_plan : ℕ → HeldPlan → NumberedPlan
 numbered_plan number plan = record { number = number; plan = plan }
 
--- it is held so, or over and gone
+-- the plan of a number is held before the stage that follows, or over and gone
 abbrev pub Leaves : PlanWord → NumberedPlan → Option Stage → Held → Reply → Held → Type 0
 Leaves asked by (Some stage) old reply new = GoesOnHeld (replied.Plan (Next asked by.number stage)) by.number by.plan old reply new
 Leaves asked by None old reply new = EndsPlan by.number by.plan old reply new
@@ -180,7 +189,7 @@ pub record StepsAt (tells : Bool) (asked : PlanWord) (number : ℕ) (old : Momen
 abbrev pub AnswersAdvance : Bool → ℕ → Moment → Reply → Moment → Type 0
 AnswersAdvance tells number old reply new = StepsAt tells word.Advance number old reply new
 
--- ---- hold
+-- ---- the plan of a call
 
 -- the session of a call
 abbrev pub call_session : CheckedCall → ℕ
@@ -204,24 +213,68 @@ begun_plan s session follower (call.Write write) =
 begun_plan s session follower (call.Read read) =
     of.Read (at_bound s (new_reading read.query session.region session.tier (call_floor session (call.Read read)) read.critical follower))
 
--- the session is open, and its call goes to its follower: a plan of it is held, and does its first stage
-pub record HoldGoes (tells : Bool) (number : ℕ) (asked : CheckedCall) (old : Moment) (reply : Reply) (new : Moment) : Type 0 where
+-- the session of a call has room for what it may be told: of a write, both entries
+abbrev pub HasRoomForCall : CheckedCall → List SeenPass → Type 0
+HasRoomForCall (call.Write write) passes = HasRoomForBoth write.session passes
+HasRoomForCall (call.Read read) passes = ⊤
+
+-- the call's session is open, and the plan begins at the follower that is chosen for it
+pub record IsBegun (s : Settings) (states : NodeStates) (sessions : List Session) (asked : CheckedCall) (plan : HeldPlan) : Type 0 where
   pub session : Session
   pub follower : NodeName
-  pub added : Plans
-  pub found : session_at old.core.sessions (call_session asked) ≡ Some session
-  pub chosen : chosen_follower old.core.states session.region session.tier (call_shard asked) ≡ Some follower
-  pub adds : AddsPlan number (begun_plan old.core.settings session follower asked) old.core.plans added
-  pub steps : StepsAt tells word.Hold number (record old { core = record old.core { plans = added } }) reply new
+  pub found : session_at sessions (call_session asked) ≡ Some session
+  pub chosen : chosen_follower states session.region session.tier (call_shard asked) ≡ Some follower
+  pub plan_is : plan ≡ begun_plan s session follower asked
 
--- memory was wanting for the plan
-pub record HoldsNone (position : ℕ) (old new : Moment) : Type 0 where
-  pub position_is : position ≡ 0
+-- the session of that number is open, and no follower of its region can be chosen for the shard
+pub record HasNoServer (states : NodeStates) (sessions : List Session) (number shard region : ℕ) : Type 0 where
+  pub session : Session
+  pub found : session_at sessions number ≡ Some session
+  pub region_is : region ≡ session.region
+  pub none : chosen_follower states session.region session.tier shard ≡ None
+
+-- why no plan of a call was begun: no follower can be chosen for it, or memory was wanting
+abbrev pub IsNotBegun : NodeStates → List Session → CheckedCall → Reply → Type 0
+IsNotBegun states sessions asked (Refused (Node (NoServer region))) = HasNoServer states sessions (call_session asked) (call_shard asked) region
+IsNotBegun states sessions asked (Refused (Memory position)) = position ≡ 0
+IsNotBegun states sessions asked reply = ⊥
+
+-- a call of which no plan was begun is refused, and nothing changes
+pub record RefusesCall (asked : CheckedCall) (old : Moment) (reply : Reply) (new : Moment) : Type 0 where
+  pub refused : IsNotBegun old.core.states old.core.sessions asked reply
   pub same : new ≡ old
 
--- what the reply to `hold` says: no follower could be chosen, memory was wanting for the plan, or it did its first stage
+-- ---- hold
+
+-- a plan of the call is held, and does its first stage
+pub record HoldGoes (tells : Bool) (number : ℕ) (asked : CheckedCall) (old : Moment) (reply : Reply) (new : Moment) : Type 0 where
+  pub plan : HeldPlan
+  pub added : Plans
+  pub begun : IsBegun old.core.settings old.core.states old.core.sessions asked plan
+  pub adds : AddsPlan number plan old.core.plans added
+  pub steps : StepsAt tells word.Hold number (record old { core = record old.core { plans = added } }) reply new
+
+-- what the reply to `hold` says: the plan did its first stage, or none was begun
 abbrev pub AnswersHold : Bool → ℕ → CheckedCall → Moment → Reply → Moment → Type 0
-AnswersHold tells number asked old (Refused (Node (NoServer region))) new = FindsNoServer old (call_session asked) (call_shard asked) region new
-AnswersHold tells number asked old (Refused (Memory position)) new =
-    HoldsNone position old new ⊎ HoldGoes tells number asked old (Refused (Memory position)) new
-AnswersHold tells number asked old reply new = HoldGoes tells number asked old reply new
+AnswersHold tells number asked old reply new = HoldGoes tells number asked old reply new ⊎ RefusesCall asked old reply new
+
+-- ---- calls that aren't held
+
+-- a plan does all of its stages at once, with the leader that is preferred for it. Its session learns what is told with its reply
+pub record DoesAtOnce (tells : Bool) (plan : HeldPlan) (old : Moment) (reply : Reply) (new : Moment) : Type 0 where
+  pub after : HeldPlan
+  pub carries : CarriesOut (led_by tells old.core.settings (plan_leader old.core plan)) plan (posting_of old) after (posting_of new)
+  pub over : IsOver after reply
+  pub reaches : HeldReaches tells old.core.settings after (scene_of new)
+  pub learns : LearnsOf after (told_with reply after) old.core.sessions new.core.sessions
+  pub rest : new.core ≡ record old.core { fleet = new.core.fleet; mail = new.core.mail; sessions = new.core.sessions }
+
+-- the plan of the call does all of its stages
+pub record CallGoes (tells : Bool) (asked : CheckedCall) (old : Moment) (reply : Reply) (new : Moment) : Type 0 where
+  pub plan : HeldPlan
+  pub begun : IsBegun old.core.settings old.core.states old.core.sessions asked plan
+  pub does : DoesAtOnce tells plan old reply new
+
+-- what the reply to a call says that isn't held: its plan did all of its stages, or none was begun
+abbrev pub AnswersCall : Bool → CheckedCall → Moment → Reply → Moment → Type 0
+AnswersCall tells asked old reply new = CallGoes tells asked old reply new ⊎ RefusesCall asked old reply new

@@ -40,9 +40,8 @@ use Rattle.words.specs.declared.LinkWord.{LinkWord}
 use Rattle.words.specs.declared.LinkWord.TheVariants as link
 use Rattle.tao_core.specs.Asked.{asked_of}
 use Rattle.tao_core.specs.Core.{Moment}
-use Rattle.tao_core.specs.Calls.{AnswersRead, AnswersWrite}
 use Rattle.tao_core.specs.Deliveries.{AnswersDeliver, AnswersInbox, AnswersLoss, AnswersRefill, AnswersSecond, AnswersShow}
-use Rattle.tao_core.specs.HeldCalls.{AnswersAdvance, AnswersHold}
+use Rattle.tao_core.specs.HeldCalls.{AnswersAdvance, AnswersCall, AnswersHold}
 use Rattle.tao_core.specs.Settling.{AnswersRepair, AnswersSettle}
 
 -- ---- refusals
@@ -121,15 +120,13 @@ abbrev pub AnswersAsked : Bool → Moment → Result Checked Refusal → Reply �
 AnswersAsked tells old (Err refused) reply new = (reply ≡ Refused refused) × (new ≡ old)
 AnswersAsked tells old (Ok (checked.Open session region tier)) reply new =
     AnswersOpen (record { session = session; region = region; tier = tier }) old.core.sessions reply new.core.sessions × KeepsRest old new
-AnswersAsked tells old (Ok (checked.Call (checked_call.Write call))) reply new = AnswersWrite tells old call reply new
-AnswersAsked tells old (Ok (checked.Call (checked_call.Read call))) reply new = AnswersRead tells old call reply new
+AnswersAsked tells old (Ok (checked.Call call)) reply new = AnswersCall tells call old reply new
 AnswersAsked tells old (Ok (checked.Hold plan call)) reply new = AnswersHold tells plan call old reply new
 AnswersAsked tells old (Ok (checked.Advance plan)) reply new = AnswersAdvance tells plan old reply new
 AnswersAsked tells old (Ok (checked.Deliver node message)) reply new = AnswersDeliver node message old.core reply new.core × OnlyNodesChange old new
 AnswersAsked tells old (Ok (checked.Again node message)) reply new = AnswersSecond node message old.core reply new.core × OnlyNodesChange old new
 AnswersAsked tells old (Ok (checked.Drop node message)) reply new = AnswersLoss node message old.core reply new.core × OnlyNodesChange old new
-AnswersAsked tells old (Ok (checked.Refill node)) reply new = AnswersRefill tells node old reply new × KeepsTables tells old.keepers new.keepers
-    × (new.core ≡ record old.core { fleet = new.core.fleet })
+AnswersAsked tells old (Ok (checked.Refill node)) reply new = AnswersRefill tells node old reply new
 AnswersAsked tells old (Ok (checked.Show node key)) reply new = AnswersShow tells node key old reply × (new ≡ old)
 AnswersAsked tells old (Ok (checked.Inbox node)) reply new = AnswersInbox node old.core reply × (new ≡ old)
 AnswersAsked tells old (Ok (checked.Evict node key)) reply new =

@@ -1,6 +1,7 @@
 -- What the replies to repairs and settles say.
 use Rattle.std.specs.Prelude.{ℕ, ◌≡◌, ◌⊎◌, Bool, false, List, Option, Some, None, Result, Ok, Err, is_some}
 use Rattle.core_mail.specs.Inboxes.{AreEmpty}
+use Rattle.core_model.specs.States.{AreUpAtStores, nodes_now}
 use Rattle.core_model.specs.Stores.{stores_in}
 use Rattle.core_nodes.specs.Repairs.{outside}
 use Rattle.core_nodes.specs.Settling.{AllCatchUp, AllProcessOn, IsLaterLink, OnlyReads, StopsCatchUp, StopsLengths, log_lengths}
@@ -54,32 +55,35 @@ pub record HasRunJobs (tells : Bool) (old ran : Moment) : Type 0 where
   pub runs : RunsAll tells old.core.settings (posting_of old) (posting_of ran)
   pub keepers : IsLater old.keepers ran.keepers
   pub link : IsLaterLink old.link ran.link
-  pub caches : ran.core.fleet ≡ record old.core.fleet { masters = ran.core.fleet.masters }
+  pub caches : ran.core.fleet ≡ record old.core.fleet { stores = ran.core.fleet.stores }
   pub rest : ran.core ≡ record old.core { fleet = ran.core.fleet; mail = ran.core.mail }
 
--- what is settled: no job is open, each edge whose type has an inverse has it, and these are the lengths of the logs
+-- what is settled: no job is open, each edge whose type has an inverse has it, these are the lengths of the logs, and each node that is up has processed
+-- all that its region's store has
 pub record LeavesSettled (logs : List ℕ) (new : Moment) : Type 0 where
   pub none : HaveNoJobs (stores_in new.core.settings new.keepers.told)
   pub paired : ArePaired (types_of new.core.settings.schema) (stores_in new.core.settings new.keepers.told).logs
   pub lengths : logs ≡ log_lengths new.core.settings new.keepers.told
+  pub ends : AreUpAtStores new.keepers.told (nodes_now new.core.fleet new.core.states)
 
--- all open jobs were run, then each node caught up with its logs, and then all messages were taken out; sessions and held calls stay
+-- all open jobs were run, then each node that is up caught up with its region's stores, and then all messages were taken out; sessions and held calls
+-- stay
 pub record SettlesCore (tells : Bool) (logs : List ℕ) (old new : Moment) : Type 0 where
   pub ran : Moment
   pub jobs : HasRunJobs tells old ran
   pub reads : OnlyReads tells (outside ran.keepers ran.link) (outside new.keepers new.link)
-  pub on : AllProcessOn tells new.core.settings new.keepers.told ran.core.fleet new.core.fleet
-  pub caught : WhereTold tells (AllCatchUp new.core.settings new.keepers.told ran.core.fleet new.core.fleet)
+  pub on : AllProcessOn tells new.core.settings new.core.states new.keepers.told ran.core.fleet new.core.fleet
+  pub caught : WhereTold tells (AllCatchUp new.core.settings new.core.states new.keepers.told ran.core.fleet new.core.fleet)
   pub empty : AreEmpty new.core.mail
   pub settled : WhereTold tells (LeavesSettled logs new)
   pub rest : new.core ≡ record old.core { fleet = new.core.fleet; mail = new.core.mail }
 
--- it stopped while the jobs were run
+-- a settle stopped while the jobs were run
 pub record StopsAtJobs (tells : Bool) (given : SettleStop) (old new : Moment) : Type 0 where
   pub stops : StopsRun tells old.core.settings given (posting_of old) (posting_of new)
   pub rest : new.core ≡ record old.core { fleet = new.core.fleet; mail = new.core.mail }
 
--- or once they had been, at the lengths of the logs
+-- a settle stopped at the lengths of the logs, once the jobs had been run
 pub record StopsAtLengths (tells : Bool) (given : SettleStop) (old new : Moment) : Type 0 where
   pub ran : Moment
   pub jobs : HasRunJobs tells old ran
@@ -87,13 +91,13 @@ pub record StopsAtLengths (tells : Bool) (given : SettleStop) (old new : Moment)
   pub tables : KeepsTables tells ran.keepers new.keepers
   pub same : new ≡ record ran { keepers = new.keepers }
 
--- or at a node that couldn't catch up: those before it have
+-- a settle stopped at a node that couldn't catch up: those before it have
 pub record StopsAtNode (tells : Bool) (given : SettleStop) (old new : Moment) : Type 0 where
   pub ran : Moment
   pub jobs : HasRunJobs tells old ran
   pub asked : KeepsTables tells ran.keepers new.keepers
   pub stops : StopsCatchUp old.core.settings (outside ran.keepers ran.link) (outside new.keepers new.link) given
-  pub on : AllProcessOn tells new.core.settings new.keepers.told ran.core.fleet new.core.fleet
+  pub on : AllProcessOn tells new.core.settings new.core.states new.keepers.told ran.core.fleet new.core.fleet
   pub rest : new.core ≡ record ran.core { fleet = new.core.fleet }
 
 -- why a settle came to no end, and what was done all the same

@@ -6,20 +6,19 @@ ghost use Rattle.core_model.specs.Evictions.{IsCacheOf};
 ghost use Rattle.core_model.specs.Fleet.{follower_names};
 ghost use Rattle.core_model.specs.Messages.{IsMessageFor, IsRefillFor};
 ghost use Rattle.core_model.specs.Pens.{pens_of};
-ghost use Rattle.core_model.specs.Reads.{wanted};
-ghost use Rattle.core_steps.specs.Reads.{ReadsAlong, sent_read};
-ghost use Rattle.core_steps.specs.Routes.{scene};
-ghost use Rattle.tao_base.specs.Queries.{query_shard};
-ghost use Rattle.tao_core.specs.Core.{IsConsistentCore, StaysHeld, moment};
+ghost use Rattle.tao_core.specs.Core.{IsConsistentCore, LeavesCore, StaysHeld, moment};
 ghost use Rattle.tao_core.specs.Deliveries.{AnswersDeliver, AnswersInbox, AnswersLoss, AnswersRefill, AnswersSecond, AnswersShow, IsProcessed};
-ghost use Rattle.tao_core.specs.Deliveries.{home_region, lost_as, refill_route, shown_content, shown_item};
-ghost use Rattle.tao_keeper.specs.KeeperState.{IsLater, KeeperState, KeepsTables};
+ghost use Rattle.tao_core.specs.Deliveries.{home_tier, lost_as, refill_plan, shown_content, shown_item};
+ghost use Rattle.tao_core.specs.HeldCalls.{DoesAtOnce};
+ghost use Rattle.tao_keeper.specs.KeeperState.{KeeperState};
 ghost use Rattle.tao_link.specs.Shown.{LinkShown};
 
 use crate::refusals::{no_message, no_refill};
 use crate::serving::Core;
 use cache_items::Item;
-use core_steps::{Route, out_of_memory, read_along, refilled_as};
+use core_model::region_of;
+use core_plans::{HeldPlan, begin_read, carry_out};
+use core_steps::{out_of_memory, refilled_as};
 use follower_cache::Refill;
 use maint_msg::Maint;
 use node_name::NodeName;
@@ -31,14 +30,13 @@ use tao_keeper::Keeper;
 use tao_link::Link;
 use words::DeliveryWord;
 
-/// The region that a node is of.
-fn home_region(node: NodeName) -> u16
-    ensures { result ≡ home_region node }
+/// The tier that a follower is of; 0 of another node.
+fn home_tier(node: NodeName) -> u16
+    ensures { result ≡ home_tier node }
 {
     match node {
-        NodeName::Store(store) => store.region,
-        NodeName::Leader { region, .. } => region,
-        NodeName::Follower { region, .. } => region,
+        NodeName::Follower { tier, .. } => tier,
+        NodeName::Leader { .. } | NodeName::Store(_) => 0,
     }
 }
 
@@ -102,7 +100,7 @@ impl<'c> Core<'c> {
     fn process(&mut self, word: DeliveryWord, node: NodeName, message: Maint) -> Reply
         requires fleet { IsFleetOf self.old.settings self.old.fleet }
         requires node { IsCacheOf self.old.settings node }
-        requires message { IsMessageFor self.old.settings (pens_of self.old.fleet.masters) node message }
+        requires message { IsMessageFor self.old.settings (pens_of self.old.fleet.stores) node message }
         ensures does { IsProcessed word node message self.old result self.new }
         ensures fleet { IsFleetOf self.old.settings self.new.fleet }
         ensures on { StaysHeld self.old.fleet self.new.fleet }
@@ -124,12 +122,12 @@ impl<'c> Core<'c> {
     /// Takes the message at a place out of a node's inbox, and the node processes it.
     pub(crate) fn deliver(&mut self, node: NodeName, place: u32) -> Reply
         requires fleet { IsFleetOf self.old.settings self.old.fleet }
-        requires inboxes { AreInboxesOf self.old.settings (pens_of self.old.fleet.masters) self.old.mail }
+        requires inboxes { AreInboxesOf self.old.settings (pens_of self.old.fleet.stores) self.old.mail }
         requires node { IsCacheOf self.old.settings node }
         ensures does { AnswersDeliver node place self.old result self.new }
         ensures fleet { IsFleetOf self.old.settings self.new.fleet }
-        ensures inboxes { AreInboxesOf self.old.settings (pens_of self.old.fleet.masters) self.new.mail }
-        ensures masters { self.new.fleet.masters ≡ self.old.fleet.masters }
+        ensures inboxes { AreInboxesOf self.old.settings (pens_of self.old.fleet.stores) self.new.mail }
+        ensures stores { self.new.fleet.stores ≡ self.old.fleet.stores }
         ensures on { StaysHeld self.old.fleet self.new.fleet }
         ensures rest { self.new ≡ record self.old { fleet = self.new.fleet; mail = self.new.mail } }
     {
@@ -142,11 +140,11 @@ impl<'c> Core<'c> {
     /// A node processes the message at a place of its inbox, which stays there.
     pub(crate) fn deliver_again(&mut self, node: NodeName, place: u32) -> Reply
         requires fleet { IsFleetOf self.old.settings self.old.fleet }
-        requires inboxes { AreInboxesOf self.old.settings (pens_of self.old.fleet.masters) self.old.mail }
+        requires inboxes { AreInboxesOf self.old.settings (pens_of self.old.fleet.stores) self.old.mail }
         requires node { IsCacheOf self.old.settings node }
         ensures does { AnswersSecond node place self.old result self.new }
         ensures fleet { IsFleetOf self.old.settings self.new.fleet }
-        ensures masters { self.new.fleet.masters ≡ self.old.fleet.masters }
+        ensures stores { self.new.fleet.stores ≡ self.old.fleet.stores }
         ensures on { StaysHeld self.old.fleet self.new.fleet }
         ensures rest { self.new ≡ record self.old { fleet = self.new.fleet } }
     {
@@ -161,10 +159,10 @@ impl<'c> Core<'c> {
 
     /// Takes the message at a place out of a node's inbox, and loses it.
     pub(crate) fn lose(&mut self, node: NodeName, place: u32) -> Reply
-        requires inboxes { AreInboxesOf self.old.settings (pens_of self.old.fleet.masters) self.old.mail }
+        requires inboxes { AreInboxesOf self.old.settings (pens_of self.old.fleet.stores) self.old.mail }
         requires node { IsCacheOf self.old.settings node }
         ensures does { AnswersLoss node place self.old result self.new }
-        ensures inboxes { AreInboxesOf self.old.settings (pens_of self.old.fleet.masters) self.new.mail }
+        ensures inboxes { AreInboxesOf self.old.settings (pens_of self.old.fleet.stores) self.new.mail }
         ensures rest { self.new ≡ record self.old { mail = self.new.mail } }
     {
         lost_as(self.mail.take(node, place as usize), place)
@@ -172,7 +170,7 @@ impl<'c> Core<'c> {
 
     /// The messages that wait for a node.
     pub(crate) fn show_inbox(&self, alloc: Global, node: NodeName) -> Reply
-        requires inboxes { AreInboxesOf self.now.settings (pens_of self.now.fleet.masters) self.now.mail }
+        requires inboxes { AreInboxesOf self.now.settings (pens_of self.now.fleet.stores) self.now.mail }
         requires node { IsCacheOf self.now.settings node }
         ensures { AnswersInbox node self.now result }
     {
@@ -198,7 +196,7 @@ impl<'c> Core<'c> {
         }
     }
 
-    /// Reads a refill of a follower along the follower's route.
+    /// Reads a refill of a follower: its plan does all of its stages.
     fn read_refill<K: Keeper, L: Link>(
         &mut self,
         alloc: Global,
@@ -209,34 +207,32 @@ impl<'c> Core<'c> {
     ) -> Reply
         requires keepers { IsConsistentCore K.TELLS (K.state keepers.old).told self.old }
         requires node { Contains (follower_names self.old.settings) node }
-        requires refill { IsRefillFor self.old.settings (pens_of self.old.fleet.masters) node refill }
-        ensures reads { ReadsAlong K.TELLS self.old.settings
-            (sent_read (refill_route self.old node (query_shard refill.query)) (wanted refill.query refill.floor)) result
-            (scene self.old.fleet (K.state keepers.old) (L.shown link.old)) (scene self.new.fleet (K.state keepers.new) (L.shown link.new)) }
-        ensures keepers { IsConsistentCore K.TELLS (K.state keepers.new).told self.new }
-        ensures on { StaysHeld self.old.fleet self.new.fleet }
-        ensures tables { KeepsTables K.TELLS (K.state keepers.old) (K.state keepers.new) }
-        ensures later { IsLater (K.state keepers.old) (K.state keepers.new) }
-        ensures rest { self.new ≡ record self.old { fleet = self.new.fleet } }
+        requires refill { IsRefillFor self.old.settings (pens_of self.old.fleet.stores) node refill }
+        ensures does { DoesAtOnce K.TELLS (refill_plan self.old.settings node refill)
+            (moment self.old (K.state keepers.old) (L.shown link.old)) result (moment self.new (K.state keepers.new) (L.shown link.new)) }
+        ensures leaves { LeavesCore K.TELLS (K.state keepers.old) (K.state keepers.new) self.old self.new }
+        ensures sessions { self.new.sessions ≡ self.old.sessions }
     {
-        let shard = refill.query.shard();
-        let route = Route {
-            follower: node,
-            leader: self.topology.preferred(home_region(node), shard),
-        };
-        read_along(
+        let Refill { query, floor } = refill;
+        let (region, tier) = (region_of(node), home_tier(node));
+        let read = begin_read(self.config, query, region, tier, floor, false, node);
+        let mut plan = HeldPlan::Read(read);
+        let leader = self.plan_leader(&plan);
+        carry_out(
             alloc,
             &mut self.fleet,
+            &mut self.mail,
             self.config,
+            &self.topology,
             keepers,
             link,
-            route,
-            &refill.query,
-            refill.floor,
-        )
+            leader,
+            &mut plan,
+        );
+        plan.finish().reply
     }
 
-    /// Takes the oldest refill of a follower out, and reads it along the follower's route.
+    /// Takes the oldest refill of a follower out, and reads it.
     pub(crate) fn refill<K: Keeper, L: Link>(
         &mut self,
         alloc: Global,
@@ -248,11 +244,8 @@ impl<'c> Core<'c> {
         requires node { Contains (follower_names self.old.settings) node }
         ensures does { AnswersRefill K.TELLS node (moment self.old (K.state keepers.old) (L.shown link.old)) result
             (moment self.new (K.state keepers.new) (L.shown link.new)) }
-        ensures keepers { IsConsistentCore K.TELLS (K.state keepers.new).told self.new }
-        ensures on { StaysHeld self.old.fleet self.new.fleet }
-        ensures tables { KeepsTables K.TELLS (K.state keepers.old) (K.state keepers.new) }
-        ensures later { IsLater (K.state keepers.old) (K.state keepers.new) }
-        ensures rest { self.new ≡ record self.old { fleet = self.new.fleet } }
+        ensures leaves { LeavesCore K.TELLS (K.state keepers.old) (K.state keepers.new) self.old self.new }
+        ensures same { self.new ≡ record self.old { fleet = self.new.fleet; mail = self.new.mail } }
     {
         match self.fleet.next_refill(self.config, node) {
             Some(refill) => refilled_as(self.read_refill(alloc, keepers, link, node, refill)),

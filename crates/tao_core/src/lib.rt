@@ -1,7 +1,37 @@
 //! The core: what each request does to the sessions, the nodes and the shards' logs, and its reply.
+//!
+//! What it promises. The stores of all regions are opened in order, or the first that is not says why, with empty
+//! nodes before them, all up and at the ends of their regions' stores; each request is answered by its first
+//! refusal in a fixed order, or by what its nodes did: a write, along the route of its session, is a step of the
+//! plain machine; a read is a hit of its follower or a miss, its
+//! answer legal at its session's floor, its hops the carries that it took, and what is kept answers again and has
+//! come as far as its follower's mark; a critical one misses nothing; a write that was carried out, held or not,
+//! teaches its session its entry and the one that it wrote at the other end, and nothing else a session; `cut`
+//! and `mend` change the one direction that they name; a repair is of the first open job of its shard, and tells
+//! that one and whether an entry was written; a settle runs all jobs, lets every node that is up catch up with its
+//! region's stores, empties the inboxes and tells the lengths of the logs: then no job is open, every edge has its
+//! inverse, and where every store has its shard's whole log, each such node holds exactly what it held of last
+//! versions; one that stops says why, where, and what it did; an audit's
+//! answer is the whole log's with its length; a message that is delivered, or delivered again, is the one at its
+//! place, and its node has processed it and then has the mark that is told; one that is dropped is lost alone; a
+//! refill is the oldest of its follower, read at its floor; `hold` and `advance` do one stage each, and tell the
+//! one that follows, or the reply of the call that has ended; each open ask is that of one held read; what is
+//! shown as held is exact in its log, with the node's mark; nothing else changes a table, a session, a node or an
+//! inbox. The nodes are consistent before and after each call (`StaysUsable`), whichever are up, the stores sound and
+//! covered; each message names an entry of its shard's log to which its node's store has come, and each key has come
+//! to the floors of the sessions. No request takes a node down yet. No low-water mark falls through a request, and who
+//! comes up is at its stores, so that after a settle each read that begins answers at the log's version until a log
+//! grows. What a node holds of a key, its mark for a shard, and a
+//! session's floor are told as they stand.
+//!
+//! The contracts that say so: `Core::open`, `Core::call`, `Core::settle`, `Core::item`, `Core::mark`,
+//! `Core::floor`; `AnswersRequest`, `AnswersCall`, `AnswersDeliver`, `AnswersSecond`,
+//! `AnswersLoss`, `AnswersRefill`, `AnswersShow`, `AnswersInbox`, `AnswersHold`, `AnswersAdvance`,
+//! `AnswersRepair`, `AnswersSettle`, `IsAudit`, `IsCoreOf`; the law `settled_until_a_commit`.
 #![tactic(auto)]
 
 mod audits;
+mod calls;
 mod deliveries;
 mod holding;
 pub mod laws;

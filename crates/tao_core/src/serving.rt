@@ -1,50 +1,40 @@
 //! The core.
-ghost use Rattle.std.specs.Prelude.{◌≡◌, ◌<◌, Bool, Ok, IfOk, IfErr, IfSome, OnOk, Some, false, length, option_copied, slice_get, true};
+ghost use Rattle.std.specs.Prelude.{◌≡◌, ◌<◌, Bool, Ok, IfOk, IfErr, false, length, option_copied, true};
 ghost use Rattle.core_nodes.specs.Shown.{IsHeldAt, IsMarkAt};
 ghost use Rattle.core_nodes.specs.Opening.{IsOpened, MayOpen, RefusesOpening};
 ghost use Rattle.graph_model.specs.Told.{WhereTold};
-ghost use Rattle.request_check.specs.Placed.{IsPlacedKey, IsPlacedWrite};
-ghost use Rattle.tao_base.specs.Queries.{query_key, query_shard};
-ghost use Rattle.tao_base.specs.declared.entry.Origin.TheVariants.{Client};
 ghost use Rattle.tao_core.specs.Asked.{CanBeDone, reply_as};
-ghost use Rattle.tao_core.specs.Core.{CoreState, IsConsistentCore, IsCoreOf, IsNewCore, LeavesCore, StaysHeld, StaysUsable, moment};
-ghost use Rattle.core_model.specs.Stores.{AreStores};
-ghost use Rattle.tao_core.specs.Calls.{AnswersRead, AnswersWrite, ReadsBy, called_read};
-ghost use Rattle.core_model.specs.Consistent.{IsConsistent, IsFleetOf};
-ghost use Rattle.core_model.specs.Reads.{wanted};
-ghost use Rattle.core_model.specs.Serving.{IsFollowerFor, IsLeaderFor};
-ghost use Rattle.core_steps.specs.ReadSteps.{IsReached};
-ghost use Rattle.core_steps.specs.Routes.{scene};
-ghost use Rattle.core_steps.specs.Reads.{sent_read};
+ghost use Rattle.tao_core.specs.Core.{CoreState, IsConsistentCore, IsCoreOf, IsNewCore, StaysHeld, StaysUsable, moment};
+ghost use Rattle.core_nodes.specs.Beginning.{AreAtStores};
+ghost use Rattle.core_model.specs.Stores.{AreStores, store_count};
+ghost use Rattle.core_model.specs.Consistent.{IsFleetOf};
 ghost use Rattle.core_model.specs.Evictions.{IsCacheOf};
 ghost use Rattle.tao_core.specs.Replies.{AnswersAsked, AnswersEvict, AnswersOpen, AnswersRequest, AnswersSwitch};
 ghost use Rattle.tao_keeper.specs.KeeperState.{KeeperState};
 ghost use Rattle.tao_link.specs.Shown.{LinkShown};
-ghost use Rattle.core_sessions.specs.Sessions.{HasRoomForBoth, is_open, session_at, sessions_of};
+ghost use Rattle.core_sessions.specs.Sessions.{is_open, session_at};
 ghost use Rattle.session_pass.specs.Floors.{floor_at};
 ghost use Rattle.std.specs.Option.{option_map};
 ghost use Rattle.tao_keeper.specs.Growing.{LogsGrow};
 ghost use Rattle.tao_keeper.specs.Table.{Tables};
-ghost use Rattle.tao_keeper.specs.KeeperState.{IsLater, KeepsTables};
+ghost use Rattle.tao_keeper.specs.KeeperState.{IsLater};
 
 use crate::audits::audit;
-use crate::refusals::no_server;
 use crate::resolving::{not_built, resolve};
-use crate::teaching::learn_written;
 use cache_items::Item;
 use core_mail::Mail;
+use core_model::masters_are_regions;
 use core_nodes::Fleet;
 use core_plans::HeldPlans;
 use core_sessions::{OpenSession, Sessions};
-use core_steps::{Route, out_of_memory, read_along, read_critical, write_along};
+use core_steps::out_of_memory;
 use node_name::NodeName;
 use replies::{CacheReply, NodeReply, OpenRefusal, Reply};
-use request_check::{CheckRefusal, Checked, CheckedCall, CheckedRead, CheckedWrite, LinkPlace};
+use request_check::{CheckRefusal, Checked, LinkPlace};
 use requests::Request;
-use shard_log::Note;
 use std::alloc::Global;
 use std::marker::Model;
-use tao_base::{Key, Origin, OutOfMemory};
+use tao_base::{Key, OutOfMemory};
 use tao_keeper::Keeper;
 use tao_link::Link;
 use topology::{Config, Topology};
@@ -72,9 +62,9 @@ impl<'c> Model for Core<'c> {
 }
 
 impl<'c> Core<'c> {
-    /// Opens the store of each shard with the configuration's line, the shards in order, and makes the nodes before them, which
-    /// hold nothing yet, and for which no message waits. No session is open then. Where every store takes the line, the logs are sound, and
-    /// what is missing at the other end of an edge is owed by an open job. Logs only grow.
+    /// Opens the stores of each region and shard with the configuration's line, in order, and makes the nodes before them. Each is up, holds
+    /// nothing yet, and has processed all that the stores of its region have; no message waits for it. No session is open then. Where every
+    /// store takes the line, the logs are sound, and what is missing at the other end of an edge is owed by an open job. Logs only grow.
     ///
     /// `OtherLine` comes exactly where a store was first opened with another line: the stores before it
     /// are open then. `KeeperFault` comes only where the keepers' count of faults rose, and
@@ -92,10 +82,12 @@ impl<'c> Core<'c> {
         ensures begun { IfOk result IsNewCore }
         ensures opened { IfOk result (λ core. WhereTold K.TELLS (IsOpened config.now line.now (K.state keepers.old).told (K.state keepers.new).told)) }
         ensures keepers { IfOk result (λ core. IsCoreOf K.TELLS (K.state keepers.new).told core) }
+        ensures ends { IfOk result (λ core. WhereTold K.TELLS (AreAtStores (K.state keepers.new).told core.fleet)) }
         ensures refused { IfErr result (RefusesOpening K.TELLS config.now line.now (K.state keepers.old) (K.state keepers.new)) }
         ensures grows { LogsGrow K.TELLS (K.state keepers.old).told (K.state keepers.new).told }
         ensures later { IsLater (K.state keepers.old) (K.state keepers.new) }
     {
+        masters_are_regions(config);
         let fleet = Fleet::open(alloc, config, line, keepers)?;
         let Ok(topology) = Topology::make(alloc, config) else {
             return Err(OpenRefusal::OutOfMemory);
@@ -134,7 +126,7 @@ impl<'c> Core<'c> {
         ensures usable { StaysUsable K.TELLS (K.state keepers.old) (K.state keepers.new) self.old self.new }
     {
         match resolve(alloc, self.config, &self.sessions, &self.plans, request) {
-            Ok(asked) => self.perform(alloc, keepers, link, request, &asked),
+            Ok(asked) => self.perform(alloc, keepers, link, request, asked),
             Err(refusal) => unasked(refusal),
         }
     }
@@ -146,11 +138,11 @@ impl<'c> Core<'c> {
         keepers: &mut K,
         link: &mut L,
         request: &Request,
-        asked: &Checked,
+        asked: Checked,
     ) -> Reply
         requires keepers { IsCoreOf K.TELLS (K.state keepers.old).told self.old }
-        requires can { CanBeDone self.old.settings self.old.sessions self.old.plans asked.now }
-        ensures does { AnswersAsked K.TELLS (moment self.old (K.state keepers.old) (L.shown link.old)) (Ok asked.now) result
+        requires can { CanBeDone self.old.settings self.old.sessions self.old.plans asked }
+        ensures does { AnswersAsked K.TELLS (moment self.old (K.state keepers.old) (L.shown link.old)) (Ok asked) result
             (moment self.new (K.state keepers.new) (L.shown link.new)) }
         ensures usable { StaysUsable K.TELLS (K.state keepers.old) (K.state keepers.new) self.old self.new }
     {
@@ -161,126 +153,30 @@ impl<'c> Core<'c> {
                 tier,
             } => {
                 let opened = OpenSession {
-                    session: *session,
-                    region: *region,
-                    tier: *tier,
+                    session,
+                    region,
+                    tier,
                 };
                 self.open_session(alloc, opened)
             }
-            Checked::Cut(place) => switch(link, LinkWord::Cut, *place, false),
-            Checked::Mend(place) => switch(link, LinkWord::Mend, *place, true),
-            Checked::Call(CheckedCall::Write(call)) => self.write(alloc, keepers, link, call),
-            Checked::Call(CheckedCall::Read(call)) => self.read(alloc, keepers, link, call),
-            Checked::Hold { plan, call } => self.hold(alloc, keepers, link, *plan, call),
+            Checked::Cut(place) => switch(link, LinkWord::Cut, place, false),
+            Checked::Mend(place) => switch(link, LinkWord::Mend, place, true),
+            Checked::Call(call) => self.answer(alloc, keepers, link, call),
+            Checked::Hold { plan, call } => self.hold(alloc, keepers, link, plan, call),
             Checked::Advance { plan } => {
-                self.step_plan(alloc, keepers, link, PlanWord::Advance, *plan)
+                self.step_plan(alloc, keepers, link, PlanWord::Advance, plan)
             }
-            Checked::Deliver { node, message } => self.deliver(*node, *message),
-            Checked::Again { node, message } => self.deliver_again(*node, *message),
-            Checked::Drop { node, message } => self.lose(*node, *message),
-            Checked::Refill { node } => self.refill(alloc, keepers, link, *node),
-            Checked::Evict { node, key } => self.evict(*node, *key),
-            Checked::Show { node, key } => self.show(alloc, *node, *key),
-            Checked::Inbox { node } => self.show_inbox(alloc, *node),
-            Checked::Repair { shard } => self.repair(alloc, keepers, link, *shard),
-            Checked::Audit(call) => audit(alloc, self.config, keepers, call),
+            Checked::Deliver { node, message } => self.deliver(node, message),
+            Checked::Again { node, message } => self.deliver_again(node, message),
+            Checked::Drop { node, message } => self.lose(node, message),
+            Checked::Refill { node } => self.refill(alloc, keepers, link, node),
+            Checked::Evict { node, key } => self.evict(node, key),
+            Checked::Show { node, key } => self.show(alloc, node, key),
+            Checked::Inbox { node } => self.show_inbox(alloc, node),
+            Checked::Repair { shard } => self.repair(alloc, keepers, link, shard),
+            Checked::Audit(call) => audit(alloc, self.config, keepers, &call),
             Checked::Settle => self.settle(alloc, keepers, link),
             _ => Reply::Refused(not_built(request)),
-        }
-    }
-
-    /// Answers a session's read, at the follower that is chosen for it and the leader that its region prefers for the shard.
-    fn read<K: Keeper, L: Link>(
-        &mut self,
-        alloc: Global,
-        keepers: &mut K,
-        link: &mut L,
-        call: &CheckedRead,
-    ) -> Reply
-        requires keepers { IsConsistentCore K.TELLS (K.state keepers.old).told self.old }
-        requires placed { IsPlacedKey self.old.settings (query_key call.now.query) }
-        requires open { is_open self.old.sessions call.now.session ≡ true }
-        ensures does { AnswersRead K.TELLS (moment self.old (K.state keepers.old) (L.shown link.old)) call.now result
-            (moment self.new (K.state keepers.new) (L.shown link.new)) }
-        ensures keepers { IsConsistentCore K.TELLS (K.state keepers.new).told self.new }
-        ensures on { StaysHeld self.old.fleet self.new.fleet }
-        ensures later { IsLater (K.state keepers.old) (K.state keepers.new) }
-    {
-        let session = self.sessions.at(call.session);
-        let shard = call.query.shard();
-        let Some(follower) = self.topology.follower(session.region, session.tier, shard) else {
-            return no_server(session.region);
-        };
-        let route = Route {
-            follower,
-            leader: self.topology.preferred(session.region, shard),
-        };
-        let Some(floor) = self.sessions.floor(call.session, call.query.key()) else {
-            unreachable!()
-        };
-        read_by(
-            alloc,
-            &mut self.fleet,
-            self.config,
-            keepers,
-            link,
-            route,
-            call,
-            floor,
-        )
-    }
-
-    /// Makes a session's write, at the leader that the shard's master region prefers, and then at the follower that is chosen for the
-    /// session, which learns what was written there and at the other end.
-    fn write<K: Keeper, L: Link>(
-        &mut self,
-        alloc: Global,
-        keepers: &mut K,
-        link: &mut L,
-        call: &CheckedWrite,
-    ) -> Reply
-        requires keepers { IsConsistentCore K.TELLS (K.state keepers.old).told self.old }
-        requires placed { IsPlacedWrite self.old.settings call.now.write }
-        requires open { is_open self.old.sessions call.now.session ≡ true }
-        ensures does { AnswersWrite K.TELLS (moment self.old (K.state keepers.old) (L.shown link.old)) call.now result
-            (moment self.new (K.state keepers.new) (L.shown link.new)) }
-        ensures leaves { LeavesCore K.TELLS (K.state keepers.old) (K.state keepers.new) self.old self.new }
-    {
-        let session = self.sessions.at(call.session);
-        let shard = call.write.shard();
-        let Some(follower) = self.topology.follower(session.region, session.tier, shard) else {
-            return no_server(session.region);
-        };
-        let Ok(note) = ready(&mut self.sessions, call.session, shard) else {
-            return out_of_memory();
-        };
-        let master = self.topology.master(shard);
-        let route = Route {
-            follower,
-            leader: self.topology.preferred(master, shard),
-        };
-        match write_along(
-            alloc,
-            &mut self.fleet,
-            &mut self.mail,
-            self.config,
-            &self.topology,
-            keepers,
-            link,
-            route,
-            client_of(call),
-            &call.write,
-        ) {
-            Ok(done) => learn_written(
-                &mut self.sessions,
-                &mut self.fleet,
-                self.config,
-                call.session,
-                shard,
-                done,
-                note,
-            ),
-            Err(reply) => reply,
         }
     }
 
@@ -310,7 +206,7 @@ impl<'c> Core<'c> {
 
     /// Opens a session, with a note of each shard's log.
     fn open_session(&mut self, alloc: Global, opened: OpenSession) -> Reply
-        requires stores { AreStores self.old.settings self.old.settings.shards self.old.fleet.masters }
+        requires stores { AreStores self.old.settings (store_count self.old.settings) self.old.fleet.stores }
         requires new { is_open self.old.sessions opened.session ≡ false }
         requires region { opened.region < length self.old.settings.regions }
         ensures does { AnswersOpen opened self.old.sessions result self.new.sessions }
@@ -341,36 +237,6 @@ impl<'c> Core<'c> {
     }
 }
 
-/// Answers a read at its floor along its route: a critical one by the master's store.
-fn read_by<K: Keeper, L: Link>(
-    alloc: Global,
-    fleet: &mut Fleet,
-    config: &Config,
-    keepers: &mut K,
-    link: &mut L,
-    route: Route,
-    call: &CheckedRead,
-    floor: u64,
-) -> Reply
-    requires consistent { IsConsistent K.TELLS config.now (K.state keepers.old).told fleet.old }
-    requires follower { IsFollowerFor config.now (query_shard call.now.query) route.follower }
-    requires leader { IsLeaderFor config.now (query_shard call.now.query) route.leader }
-    requires reached { IsReached K.TELLS config.now (wanted call.now.query floor) (K.state keepers.old) }
-    ensures reads { ReadsBy K.TELLS config.now (called_read call.now.critical (sent_read route (wanted call.now.query floor))) result
-        (scene fleet.old (K.state keepers.old) (L.shown link.old)) (scene fleet.new (K.state keepers.new) (L.shown link.new)) }
-    ensures on { StaysHeld fleet.old fleet.new }
-    ensures consistent { IsConsistent K.TELLS config.now (K.state keepers.new).told fleet.new }
-    ensures tables { KeepsTables K.TELLS (K.state keepers.old) (K.state keepers.new) }
-    ensures later { IsLater (K.state keepers.old) (K.state keepers.new) }
-{
-    let query = &call.query;
-    if call.critical {
-        read_critical(alloc, fleet, config, keepers, link, route, query, floor)
-    } else {
-        read_along(alloc, fleet, config, keepers, link, route, query, floor)
-    }
-}
-
 /// The reply where nothing is asked.
 fn unasked(refusal: CheckRefusal) -> Reply
     ensures { result ≡ reply_as refusal }
@@ -379,28 +245,6 @@ fn unasked(refusal: CheckRefusal) -> Reply
         CheckRefusal::Refused(reply) => reply,
         CheckRefusal::OutOfMemory => out_of_memory(),
     }
-}
-
-/// Whose write a call is: that of its session, under its number.
-pub(crate) fn client_of(call: &CheckedWrite) -> Origin
-    ensures { result ≡ Client call.now.session call.now.seq }
-{
-    Origin::Client {
-        session: call.session,
-        seq: call.seq,
-    }
-}
-
-/// Makes room for what a session is to learn, and takes a note of the shard's log for it. The one error is want of memory.
-fn ready(sessions: &mut Sessions, session: u32, shard: u16) -> Result<Note, OutOfMemory>
-    requires open { is_open (sessions_of sessions.old) session ≡ true }
-    requires shard { IfSome (session_at (sessions_of sessions.old) session) (λ s. shard < length s.notes) }
-    ensures same { sessions_of sessions.new ≡ sessions_of sessions.old }
-    ensures room { OnOk result (HasRoomForBoth session sessions.new) }
-    ensures note { IfOk result (λ note. IfSome (session_at (sessions_of sessions.old) session) (λ s. slice_get s.notes shard ≡ Some note)) }
-{
-    sessions.reserve(session)?;
-    sessions.note(session, shard)
 }
 
 /// Asks a link to cut one direction between two nodes, or to mend it.

@@ -1,21 +1,27 @@
 //! Repairs and settles.
 ghost use Rattle.std.specs.Prelude.{◌≡◌, ◌<◌, IfErr, IfOk};
 ghost use Rattle.core_mail.specs.Inboxes.{AreEmpty};
+ghost use Rattle.core_model.specs.Consistent.{IsConsistent};
+ghost use Rattle.core_nodes.specs.Beginning.{AreLengths};
+ghost use Rattle.core_nodes.specs.Settling.{StopsLengths, log_lengths};
+ghost use Rattle.graph_model.specs.Told.{WhereTold};
 ghost use Rattle.tao_core.specs.Core.{IsConsistentCore, IsCoreOf, LeavesCore, StaysUsable, moment};
 ghost use Rattle.tao_core.specs.Settling.{AnswersRepair, AnswersSettle, IsUnsettled, SettlesCore, repaired_as, unsettled_as};
+ghost use Rattle.tao_keeper.specs.KeeperState.{IsLater, KeepsTables};
 
 use crate::refusals::no_server;
 use crate::serving::Core;
-use core_nodes::SettleStop;
+use core_nodes::{Fleet, SettleStop, shard_lengths};
 use core_repairs::{Ran, RepairFailed, repair_first, run_jobs};
 use core_steps::{link_fault, out_of_memory};
 use edge_repair::RepairRefusal;
 use replies::{Lengths, NodeReply, Refusal, Repaired, Reply, StoreRefused, When};
 use shard_tables::inverses_match;
 use std::alloc::Global;
+use tao_base::OutOfMemory;
 use tao_keeper::Keeper;
 use tao_link::Link;
-use topology::Topology;
+use topology::{Config, Topology};
 
 /// How it is replied what came of a shard's first job, where its master's region is this, and the keepers and the link have counted so many faults.
 fn repaired_as(
@@ -63,6 +69,36 @@ fn unsettled_as(topology: &Topology, stop: SettleStop) -> Reply
     }
 }
 
+/// The lengths of the stores' logs, region by region and in each shard by shard, and of these the lengths of the shards' own logs.
+#[derive(Drop)]
+struct Measured {
+    stores: Vec<u64>,
+    shards: Vec<u64>,
+}
+
+/// The lengths of the logs. One call of the keeper for each store.
+fn measure<K: Keeper>(
+    alloc: Global,
+    fleet: &mut Fleet,
+    config: &Config,
+    keepers: &mut K,
+) -> Result<Measured, SettleStop>
+    requires consistent { IsConsistent K.TELLS config.now (K.state keepers.old).told fleet.old }
+    ensures stores { IfOk result (λ m. AreLengths K.TELLS config.now (K.state keepers.new).told m.stores.items) }
+    ensures shards { WhereTold K.TELLS (IfOk result (λ m. m.shards.items ≡ log_lengths config.now (K.state keepers.new).told)) }
+    ensures stop { IfErr result (StopsLengths config.now (K.state keepers.old) (K.state keepers.new)) }
+    ensures same { fleet.new ≡ fleet.old }
+    ensures consistent { IsConsistent K.TELLS config.now (K.state keepers.new).told fleet.new }
+    ensures tables { KeepsTables K.TELLS (K.state keepers.old) (K.state keepers.new) }
+    ensures later { IsLater (K.state keepers.old) (K.state keepers.new) }
+{
+    let stores = fleet.lengths(alloc, config, keepers)?;
+    match shard_lengths(alloc, config, stores.as_slice()) {
+        Ok(shards) => Ok(Measured { stores, shards }),
+        Err(OutOfMemory) => Err(SettleStop::OutOfMemory),
+    }
+}
+
 impl<'c> Core<'c> {
     /// Runs the first open job of a shard, where one is open: it is merged from store to store at the shard on which its records lie, and then ended.
     pub(crate) fn repair<K: Keeper, L: Link>(
@@ -92,14 +128,14 @@ impl<'c> Core<'c> {
         repaired_as(&outcome, region, keepers.faults(), link.faults())
     }
 
-    /// Runs all open jobs, shard by shard, each shard's in order of position; lets each leader and follower process the rest of the logs that it serves, where
-    /// it drops what is below a last version and nothing else; and empties all inboxes. Then no job is open, every edge has its inverse, and until the next
-    /// commit every read that begins answers as its shard's log.
+    /// Runs all open jobs, shard by shard, each shard's in order of position; lets each leader and follower that is up process the rest of its region's logs
+    /// that it serves, where it drops what is behind its region's stores and nothing else; and empties all inboxes. Then no job is open, every edge has its
+    /// inverse, and where every store has all of its shard's log, until the next commit every read that begins answers as that log.
     ///
     /// The first fault, and the first full log, ends it as `unsettled`, and want of memory as `memory`: what was done stays. `no_server` comes where what is
     /// owed lies on a shard that isn't configured.
     ///
-    /// Costs what the jobs do, two calls of the keeper for each shard, and one for each entry that a node has yet to process.
+    /// Costs what the jobs do, two calls of the keeper for each store, and one for each entry that a node has yet to process.
     pub fn settle<K: Keeper, L: Link>(
         &mut self,
         alloc: Global,
@@ -146,10 +182,11 @@ impl<'c> Core<'c> {
             keepers,
             link,
         )?;
-        let logs = self.fleet.lengths(alloc, config, keepers)?;
+        let measured = measure(alloc, &mut self.fleet, config, keepers)?;
+        let lengths = measured.stores.as_slice();
         self.fleet
-            .catch_up(alloc, config, keepers, link, logs.as_slice())?;
+            .catch_up(alloc, config, &self.topology, keepers, link, lengths)?;
         self.mail.clear();
-        Ok(logs)
+        Ok(measured.shards)
     }
 }

@@ -27,6 +27,7 @@ pub record Came : Type 0 where
   pub result : WriteResult
   pub hops : ℕ
 
+-- the result of a stage, with the carries that it took
 abbrev pub came : WriteResult → ℕ → Came
 came result hops = record { result = result; hops = hops }
 
@@ -35,14 +36,14 @@ abbrev pub TakesResults : Writing → List Came → Writing → Type 0
 TakesResults p [] q = q ≡ p
 TakesResults p (c ∷ rest) q = (result_stage c.result ≡ next_of p) × TakesResults (after_stage p c.result c.hops) rest q
 
--- the carries of all of them
+-- how many carries the stages took in all
 abbrev pub carries_of : List Came → ℕ
 carries_of [] = 0
 carries_of (c ∷ rest) = c.hops + carries_of rest
 
 -- ---- a write that is carried out
 
--- its job was merged and then removed: the inverse is written
+-- the job of the write was merged and then removed: the inverse is written
 pub record EndsInTime (cs : List Came) (other : Option Wrote) (told : InverseEnd) : Type 0 where
   pub wrote : Wrote
   pub merges : ℕ
@@ -51,7 +52,7 @@ pub record EndsInTime (cs : List Came) (other : Option Wrote) (told : InverseEnd
   pub other_is : other ≡ Some wrote
   pub told_is : told ≡ inverse.Written
 
--- its job was merged and not removed: it is scheduled, for that reason
+-- the job of the write was merged and not removed: the inverse is scheduled, for that reason
 pub record EndsLate (cs : List Came) (other : Option Wrote) (told : InverseEnd) : Type 0 where
   pub wrote : Wrote
   pub why : ScheduledWhy
@@ -62,7 +63,7 @@ pub record EndsLate (cs : List Came) (other : Option Wrote) (told : InverseEnd) 
   pub other_is : other ≡ Some wrote
   pub told_is : told ≡ inverse.Scheduled why
 
--- its job was not merged, or its answer lost: it is scheduled, for that reason, and what was written is kept
+-- the job of the write was not merged, or its answer lost: the inverse is scheduled, for that reason, and what was written is kept
 pub record MergesLate (cs : List Came) (other : Option Wrote) (told : InverseEnd) : Type 0 where
   pub why : ScheduledWhy
   pub merges : ℕ
@@ -135,7 +136,7 @@ RefusesBy (End (Err (Scheduled why wrote))) reply = ⊥
 RefusesBy (Relay (Ok answer)) reply = ⊥
 RefusesBy (Apply (Ok answer)) reply = ⊥
 
--- its last result refused it, and is its reply
+-- the last result of the plan refused the write, and is its reply
 pub record IsRefusedBy (cs : List Came) (p : Writing) : Type 0 where
   pub reply : Reply
   pub reply_is : reply_of p ≡ Some reply

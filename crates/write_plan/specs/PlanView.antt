@@ -2,6 +2,7 @@
 use Rattle.write_plan.specs.Plans.{Writing}
 use Rattle.write_plan.specs.declared.plan.WritePlan.TheInside.{Inside}
 
+-- the plan of a write, as contracts see it
 abbrev pub plan_seen : Inside → Writing
 plan_seen p = record {
   write = p.write;

@@ -84,6 +84,7 @@ stage_from (Some reply) committed job back = stage.Done
 stage_from None None job back = stage.Commit
 stage_from None (Some c) job back = stage_after c job back
 
+-- the stage that the plan takes next: first the commit, and Done after a refusal or where none is left
 abbrev pub next_of : Writing → WriteStage
 next_of p = stage_from p.refused p.committed p.job p.back
 
@@ -169,5 +170,6 @@ reply_by (Some reply) committed job hops = Some reply
 reply_by None None job hops = None
 reply_by None (Some c) job hops = Some (reply_after c job hops)
 
+-- the reply that the plan has so far: the one that refused it, or what was carried out; None before the commit
 abbrev pub reply_of : Writing → Option Reply
 reply_of p = reply_by p.refused p.committed p.job p.hops

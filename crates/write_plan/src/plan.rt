@@ -204,6 +204,8 @@ impl WritePlan {
         if came.stage() == self.next() {
             self.hops = self.hops.saturating_add(hops);
             self.keep(came);
+        } else {
+            drop(came);
         }
     }
 

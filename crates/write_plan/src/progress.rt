@@ -8,7 +8,7 @@ use replies::{CallReply, InverseEnd, Reply, ScheduledWhy, WriteReply, Written};
 use tao_base::Entry;
 
 /// How far the job of a write has come.
-#[derive(Clone, Copy, Debug, PartialEq, Eq)]
+#[derive(Clone, Copy, PartialEq, Eq)]
 pub enum OtherEnd {
     /// It is to be merged.
     Due,
@@ -21,7 +21,7 @@ pub enum OtherEnd {
 }
 
 /// How far a write has come on the way back to its follower.
-#[derive(Clone, Copy, Debug, PartialEq, Eq)]
+#[derive(Clone, Copy, PartialEq, Eq)]
 pub enum WayBack {
     Ahead,
     /// The leader of a slave region took the changes.

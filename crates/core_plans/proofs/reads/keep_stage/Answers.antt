@@ -1,6 +1,9 @@
 use Rattle.std.proofs.Common.{◌∙◌, sym}
+use Rattle.core_model.specs.Reads.{wanted}
+use Rattle.core_steps.proofs.ReachLemmas.{end_reaches, keep_reaches}
 use Rattle.core_plans.proofs.HeldReadStages.{hands_done, keeps_done, keeps_lost}
 use Rattle.core_plans.proofs.reads.keep_stage.Goals as goal
+use Rattle.tao_schema.specs.Schema.{types_of}
 
 pub returns-in-Ok : goal.returns-in-Ok
 returns-in-Ok g c =
@@ -9,7 +12,16 @@ returns-in-Ok g c =
     let found = c.in-Ok.found in
     keeps_done g.K.Keeper.TELLS c.args.config.now c.args.leader c.args.plan.now c.take.new.self (g.K.Keeper.state c.args.keepers.now)
     (g.L.Link.shown c.args.link.now) c.args.fleet.now c.keep.new.self
-    (record { consistent = c.requires.consistent; read = c.requires.read; rest = here.rest; fleet = here.fleet; goes = here.goes })
+    (record {
+      masters = c.masters_are_regions.ensures;
+      consistent = c.requires.consistent;
+      read = c.requires.read;
+      rest = here.rest;
+      fleet = here.fleet;
+      goes = here.goes;
+      reaches = keep_reaches (g.K.Keeper.state c.args.keepers.now).told c.follower-follower.result c.args.fleet.now c.keep.new.self here.rest
+          (types_of c.args.config.now.schema) (wanted c.query-query.result.now c.floor.result) c.ask.result c.in-Some.fill found.0 found.1 done.keeps;
+    })
     c.fill.new.self c.in-Some.fill found.0 found.1 c.follower-follower.result c.query-query.result.now c.floor.result c.ask.result
     (sym c.fill.ensures.fill ∙ c.in-Some.is) c.fills_are_sealed.ensures c.fill.ensures.handed
     (record { follower_is = c.follower-follower.ensures; query_is = c.query-query.ensures; floor_is = c.floor.ensures }) c.ask.ensures
@@ -20,12 +32,21 @@ returns-in-Err g c =
     let here = c.keep.ensures in
     keeps_lost g.K.Keeper.TELLS c.args.config.now c.args.leader c.args.plan.now c.take-in-Err.new.self (g.K.Keeper.state c.args.keepers.now)
     (g.L.Link.shown c.args.link.now) c.args.fleet.now c.keep.new.self
-    (record { consistent = c.requires.consistent; read = c.requires.read; rest = here.rest; fleet = here.fleet; goes = here.goes })
+    (record {
+      masters = c.masters_are_regions.ensures;
+      consistent = c.requires.consistent;
+      read = c.requires.read;
+      rest = here.rest;
+      fleet = here.fleet;
+      goes = here.goes;
+      reaches = end_reaches (g.K.Keeper.state c.args.keepers.now).told c.follower-follower.result c.args.fleet.now c.keep.new.self here.rest
+          c.ask.result c.in-Err.ensures.err;
+    })
     c.fill.new.self c.in-Some.fill c.out_of_memory.result c.follower-follower.result c.ask.result (sym c.fill.ensures.fill ∙ c.in-Some.is)
     c.fill.ensures.handed c.follower-follower.ensures c.ask.ensures c.in-Err.ensures.err c.out_of_memory.ensures c.take-in-Err.ensures
 
 pub returns-in-None : goal.returns-in-None
 returns-in-None g c =
     hands_done g.K.Keeper.TELLS c.args.config.now c.args.leader c.args.plan.now c.take-in-None.new.self (g.K.Keeper.state c.args.keepers.now)
-    (g.L.Link.shown c.args.link.now) c.args.fleet.now c.end_ask_of.new.fleet c.fill.new.self c.requires.consistent c.requires.read
+    (g.L.Link.shown c.args.link.now) c.args.fleet.now c.end_ask_of.new.fleet c.fill.new.self c.masters_are_regions.ensures c.requires.consistent c.requires.read
     (sym c.fill.ensures.fill ∙ c.in-None.is) c.requires.stage c.fill.ensures.handed c.end_ask_of.ensures c.take-in-None.ensures

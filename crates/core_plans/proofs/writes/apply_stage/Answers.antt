@@ -1,9 +1,9 @@
 use Rattle.std.proofs.Common.{◌≡◌, ◌∙◌, ap, subst, sym}
-use Rattle.core_model.specs.Consistent.{GoesOn}
+use Rattle.core_model.specs.Consistent.{GoesOn, HaveReached}
 use Rattle.core_model.specs.Fleet.{Fleet}
 use Rattle.core_nodes.proofs.FleetLemmas.{goes_self}
 use Rattle.core_plans.proofs.HeldWriteStages.{applied_still, taken_on}
-use Rattle.core_plans.proofs.WritesGoOn.{same_masters}
+use Rattle.core_plans.proofs.WritesGoOn.{same_stores}
 use Rattle.core_plans.proofs.writes.apply_stage.Goals as goal
 use Rattle.core_plans.proofs.writes.apply_stage.Goals.{in-Ok, in-Err}
 use Rattle.write_plan.specs.Plans.{Writing, after_stage, next_of}
@@ -15,6 +15,12 @@ returns-clause-goes g c = elim c.match-answer_note.branch [
   | in-Err w ↦ subst (GoesOn c.args.fleet.now) (sym w.fleet-is) (goes_self c.args.fleet.now)
 ]
 
+pub returns-clause-reached : goal.returns-clause-reached
+returns-clause-reached g c tables reached = elim c.match-answer_note.branch [
+  | in-Ok w ↦ subst (HaveReached tables) (sym w.fleet-is) (w.carry_back-outcome.ensures.reached tables reached)
+  | in-Err w ↦ subst (HaveReached tables) (sym w.fleet-is) reached
+]
+
 pub returns-clause-write : goal.returns-clause-write
 returns-clause-write g c tells tables is =
     let s = c.args.config.now in
@@ -23,11 +29,11 @@ returns-clause-write g c tells tables is =
     let outcome = c.match-answer_note.outcome in
     let hops = c.saturating_sub-hops.result in
     let same = c.answer_note.ensures.same in
-    let masters : after.masters ≡ before.masters = elim c.match-answer_note.branch [
-      | in-Ok w ↦ ap (λ (f : Fleet). f.masters) w.fleet-is ∙ ap (λ (f : Fleet). f.masters) w.carry_back-outcome.ensures.rest
-      | in-Err w ↦ ap (λ (f : Fleet). f.masters) w.fleet-is
+    let stores : after.stores ≡ before.stores = elim c.match-answer_note.branch [
+      | in-Ok w ↦ ap (λ (f : Fleet). f.stores) w.fleet-is ∙ ap (λ (f : Fleet). f.stores) w.carry_back-outcome.ensures.rest
+      | in-Err w ↦ ap (λ (f : Fleet). f.stores) w.fleet-is
     ] in
     let then = c.take.ensures.next (sym (ap next_of same ∙ c.requires.stage)) ∙ ap (λ (p : Writing). after_stage p (came.Apply outcome) hops) same in
     taken_on tells s tables after c.args.plan.now c.take.new.self (came.Apply outcome) hops then
-    (same_masters tells s tables before after (after_stage c.args.plan.now (came.Apply outcome) hops) masters
+    (same_stores tells s tables before after (after_stage c.args.plan.now (came.Apply outcome) hops) stores
     (applied_still tells s tables before c.args.plan.now is outcome hops))

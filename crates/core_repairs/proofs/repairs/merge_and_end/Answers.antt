@@ -3,8 +3,9 @@ use Rattle.std.proofs.lemmas.Result.{err_from_is_err_and}
 use Rattle.counts.proofs.Rises.{Rose-earlier}
 use Rattle.core_model.specs.Jobs.{job_on}
 use Rattle.core_nodes.specs.Repairs.{outside}
-use Rattle.core_nodes.proofs.GrowingLemmas.{masters_in_turn}
-use Rattle.core_repairs.proofs.RepairLemmas.{end_grows, refuses_end, refuses_merge}
+use Rattle.core_nodes.proofs.GrowingLemmas.{stores_in_turn}
+use Rattle.core_steps.proofs.MergeLemmas.{end_grows}
+use Rattle.core_repairs.proofs.RepairLemmas.{refuses_end, refuses_merge}
 use Rattle.core_repairs.proofs.repairs.merge_and_end.Goals as goal
 
 pub returns-in_err-repaired-clause-runs : goal.returns-in_err-repaired-clause-runs
@@ -19,10 +20,18 @@ returns-in_err-repaired-clause-runs g c =
 pub returns-in-Ok-clause-grows : goal.returns-in-Ok-clause-grows
 returns-in-Ok-clause-grows g c =
     let state = g.K.Keeper.state in
-    masters_in_turn g.K.Keeper.TELLS c.args.config.now (state c.args.keepers.now).told (state c.merge_there.new.keepers).told
+    stores_in_turn g.K.Keeper.TELLS c.args.config.now (state c.args.keepers.now).told (state c.merge_there.new.keepers).told
     (state c.end_job.new.keepers).told c.merge_there.ensures.grows
     (end_grows g.K.Keeper.TELLS c.args.config.now (state c.merge_there.new.keepers).told (state c.end_job.new.keepers).told c.args.shard
-    c.args.job.now.position c.end_job.result c.requires.here c.end_job.ensures.logs c.end_job.ensures.ends)
+    c.args.job.now.position c.end_job.result c.masters_are_regions.ensures c.requires.here c.end_job.ensures.logs c.end_job.ensures.ends)
+
+pub returns-in-Err-clause-grows : goal.returns-in-Err-clause-grows
+returns-in-Err-clause-grows g c =
+    let state = g.K.Keeper.state in
+    stores_in_turn g.K.Keeper.TELLS c.args.config.now (state c.args.keepers.now).told (state c.merge_there.new.keepers).told
+    (state c.end_job.new.keepers).told c.merge_there.ensures.grows
+    (end_grows g.K.Keeper.TELLS c.args.config.now (state c.merge_there.new.keepers).told (state c.end_job.new.keepers).told c.args.shard
+    c.args.job.now.position c.end_job.result c.masters_are_regions.ensures c.requires.here c.end_job.ensures.logs c.end_job.ensures.ends)
 
 pub returns-in-Err-clause-runs : goal.returns-in-Err-clause-runs
 returns-in-Err-clause-runs g c =

@@ -15,7 +15,7 @@ invariant-loop-shard g l =
     let now = posting (scene l.fleet (keepers l.keepers) (shown l.link)) l.mail l.topology in
     record {
       runs : RunsTo tells l.config l.shard start now;
-      rest : l.fleet ≡ record l.fn.fleet { masters = l.fleet.masters };
+      rest : l.fleet ≡ record l.fn.fleet { stores = l.fleet.stores };
       on : PostsOn tells l.config start now;
       link : IsLaterLink (shown l.fn.link) (shown l.link);
     }

@@ -17,7 +17,7 @@ invariant-loop-found g l =
     record {
       runs : RunsMore tells l.config l.shard start now;
       none : WhereTold tells (HasNoneUpTo l.config (keepers l.keepers).told l.shard l.last);
-      rest : l.fleet ≡ record l.fn.fleet { masters = l.fleet.masters };
+      rest : l.fleet ≡ record l.fn.fleet { stores = l.fleet.stores };
       on : PostsOn tells l.config start now;
       link : IsLaterLink (shown l.fn.link) (shown l.link);
     }

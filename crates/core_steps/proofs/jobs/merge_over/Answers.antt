@@ -1,19 +1,25 @@
 use Rattle.std.proofs.Common.{◌<◌, subst}
 use Rattle.topology.specs.Config.{Settings}
 use Rattle.core_model.specs.Jobs.{far_shard, job_on}
-use Rattle.core_model.specs.Serving.{IsLeaderFor}
+use Rattle.core_model.specs.Serving.{IsLeaderIn}
+use Rattle.core_model.specs.Stores.{master_of}
 use Rattle.core_steps.specs.OtherEnds.{job_way}
 use Rattle.core_steps.specs.Posting.{posting}
 use Rattle.core_steps.specs.Routes.{scene}
-use Rattle.core_steps.proofs.MergeLemmas.{master_prefers, merges_over, merging_leads}
+use Rattle.core_steps.proofs.MergeLemmas.{master_prefers, merges_over}
+use Rattle.core_steps.proofs.TellLemmas.{merges_in}
 use Rattle.core_steps.proofs.jobs.merge_over.Goals as goal
 
 pub merge_at-merged-requires-clause-leader : goal.merge_at-merged-requires-clause-leader
 merge_at-merged-requires-clause-leader g c =
-    subst (λ n. IsLeaderFor c.args.config.now n c.preferred-merging.result) c.far_shard-far.ensures
-    (merging_leads c.args.config.now c.args.topology.now c.master.result c.far_shard-far.result c.preferred-merging.result c.requires.ready.states
+    subst (λ n. IsLeaderIn c.args.config.now (master_of c.args.config.now n) c.preferred-merging.result) c.far_shard-far.ensures
+    (merges_in c.args.config.now c.args.topology.now c.master.result c.far_shard-far.result c.preferred-merging.result c.requires.ready.states
+    c.master.ensures.master c.preferred-merging.ensures.preferred (c.preferred-merging.ensures.configured c.master.ensures.configured))
+
+pub merge_at-merged-requires-clause-here : goal.merge_at-merged-requires-clause-here
+merge_at-merged-requires-clause-here g c =
+    subst (λ n. n < c.args.config.now.shards) c.far_shard-far.ensures
     (subst (λ (s : Settings). c.far_shard-far.result < s.shards) c.config.view_is c.if-far-config.false)
-    c.preferred-merging.ensures.preferred (c.preferred-merging.ensures.configured c.master.ensures.configured))
 
 pub merge_at-merged-requires-clause-preferred : goal.merge_at-merged-requires-clause-preferred
 merge_at-merged-requires-clause-preferred g c =

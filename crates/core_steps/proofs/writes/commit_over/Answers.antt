@@ -1,6 +1,6 @@
 use Rattle.std.proofs.Common.{◌<◌, Err, IfSome, refl, ap, sym, subst, ◌∙◌}
 use Rattle.shard_tables.specs.Jobs.{job_with}
-use Rattle.shard_tables.specs.Written.{LiesOn, added_entry}
+use Rattle.shard_tables.specs.Written.{LiesOn, StandsIn, added_entry}
 use Rattle.tao_base.specs.Writes.{write_shard}
 use Rattle.tao_schema.specs.Schema.{types_of}
 use Rattle.core_mail.proofs.InboxLemmas.{inboxes_stay}
@@ -12,28 +12,29 @@ use Rattle.core_steps.specs.Replies.{refused_as}
 use Rattle.core_steps.specs.Routes.{scene}
 use Rattle.core_steps.specs.Posting.{TellsOfNew, posting}
 use Rattle.core_steps.specs.Writes.{CanBeApplied, IsCommitted, RefusesCommit, client_call, new_entry, sent_write}
-use Rattle.core_nodes.proofs.GrowingLemmas.{gains_masters}
+use Rattle.core_nodes.proofs.GrowingLemmas.{gains_stores}
 use Rattle.core_steps.proofs.MergeLemmas.{can_merge}
 use Rattle.core_steps.proofs.StepLemmas.{commits}
-use Rattle.core_steps.proofs.WriteLemmas.{refused, stands_there}
+use Rattle.core_steps.proofs.TellLemmas.{arrived_grows, arrived_told, of_new}
+use Rattle.core_steps.proofs.WriteLemmas.{refused, seen_there, stands_in_log}
 use Rattle.core_steps.proofs.writes.commit_over.Goals as goal
 
 pub tell_of_new-requires-clause-here : goal.tell_of_new-requires-clause-here
-tell_of_new-requires-clause-here g c = subst (λ n. n < c.args.config.now.shards) (sym c.shard.ensures) c.requires.leader.here
+tell_of_new-requires-clause-here g c = subst (λ n. n < c.args.config.now.shards) (sym c.shard.ensures) c.requires.here
 
 pub tell_of_new-requires-clause-own : goal.tell_of_new-requires-clause-own
-tell_of_new-requires-clause-own g c = ap (λ states. states.regions) c.requires.ready.states
+tell_of_new-requires-clause-own g c = c.requires.ready.states.regions
 
 pub tell_of_new-requires-clause-names : goal.tell_of_new-requires-clause-names
 tell_of_new-requires-clause-names g c = c.requires.ready.inboxes.names
 
 pub tell_of_new-requires-clause-stands : goal.tell_of_new-requires-clause-stands
 tell_of_new-requires-clause-stands g c =
-    stands_there (pens_of c.commit.new.self.masters) (write_shard c.args.write.now) c.in-Ok.wrote.note c.in-Ok.wrote.entry c.in-Ok.ensures.stands
+    c.in-Ok.ensures.done.stands
 
 pub tell_of_new-requires-clause-lies : goal.tell_of_new-requires-clause-lies
 tell_of_new-requires-clause-lies g c =
-    subst (λ n. IfSome c.in-Ok.wrote.entry (LiesOn c.in-Ok.wrote.note n)) (sym c.shard.ensures) c.in-Ok.ensures.here
+    subst (λ n. IfSome c.in-Ok.wrote.entry (LiesOn c.in-Ok.wrote.note n)) (sym c.shard.ensures) c.in-Ok.ensures.done.here
 
 pub returns-in-Ok-clause-committed : goal.returns-in-Ok-clause-committed
 returns-in-Ok-clause-committed g c =
@@ -45,30 +46,31 @@ returns-in-Ok-clause-committed g c =
     let old = posting (scene c.args.fleet.now (state c.args.keepers.now) (g.L.Link.shown c.args.link.now)) c.args.mail.now c.args.topology.now in
     let new = posting (scene c.commit.new.self (state c.commit.new.keepers) (g.L.Link.shown c.carry.new.link)) c.tell_of_new.new.mail c.args.topology.now in
     let is : IsCommitted g.K.Keeper.TELLS s (sent_write c.args.route call) wrote old new = record {
-      commits = commits s (state c.args.keepers.now) (state c.commit.new.keepers) call c.requires.leader.here g.K.Keeper.TELLS wrote.retry wrote.entry
-          (λ told. sound_logs s (state c.args.keepers.now).told (c.requires.ready.consistent.stores.kept told) shard c.requires.leader.here)
-          (λ told. g.met.K.Keeper.of_entries c.args.keepers.now (master_store s shard) told) c.in-Ok.ensures.answer c.in-Ok.ensures.tables;
+      commits = commits s (state c.args.keepers.now) (state c.commit.new.keepers) call c.requires.here g.K.Keeper.TELLS wrote.retry wrote.entry
+          (λ told. sound_logs s (state c.args.keepers.now).told (c.requires.ready.consistent.stores.kept told) shard c.requires.here)
+          (λ told. g.met.K.Keeper.of_entries c.args.keepers.now (master_store s shard) told) c.in-Ok.ensures.done.answer c.in-Ok.ensures.done.tables;
       leader = record { note = wrote.note; takes = c.in-Ok.ensures.node };
       followers = c.in-Ok.ensures.followers;
-      told = subst (λ n. TellsOfNew c.args.topology.now n (new_entry wrote.retry wrote.entry) c.args.mail.now c.tell_of_new.new.mail) c.shard.ensures
-          c.tell_of_new.ensures.told;
+      told = subst (λ n. TellsOfNew c.args.topology.now c.args.route.leader n (new_entry wrote.retry wrote.entry) c.args.mail.now c.tell_of_new.new.mail)
+          c.shard.ensures c.tell_of_new.ensures.told;
       states = refl;
       link = c.in_default.ensures.ok;
-      opens = c.in-Ok.ensures.job;
-      finds = c.in-Ok.ensures.found;
+      opens = c.in-Ok.ensures.done.job;
+      finds = c.in-Ok.ensures.done.found;
     } in
     subst (λ w. IsCommitted g.K.Keeper.TELLS s (sent_write c.args.route call) w old new) (sym c.tell_of_new.ensures.same) is
 
 pub returns-in-Ok-clause-apply : goal.returns-in-Ok-clause-apply
 returns-in-Ok-clause-apply g c =
     let call = client_call c.args.origin c.args.write.now in
-    let can : CanBeApplied call c.in-Ok.wrote c.commit.new.self.masters = record {
-      fits = c.in-Ok.ensures.fits;
-      has = c.in-Ok.ensures.entry;
-      seen = c.in-Ok.ensures.stands;
-      here = c.in-Ok.ensures.here;
+    let can : CanBeApplied call c.in-Ok.wrote c.commit.new.self.stores = record {
+      fits = c.in-Ok.ensures.done.fits;
+      has = c.in-Ok.ensures.done.entry;
+      seen = seen_there (pens_of c.commit.new.self.stores) (write_shard c.args.write.now) c.in-Ok.wrote.note c.in-Ok.wrote.entry c.in-Ok.ensures.seen
+          c.in-Ok.ensures.done.stands;
+      here = c.in-Ok.ensures.done.here;
     } in
-    subst (λ w. CanBeApplied call w c.commit.new.self.masters) (sym c.tell_of_new.ensures.same) can
+    subst (λ w. CanBeApplied call w c.commit.new.self.stores) (sym c.tell_of_new.ensures.same) can
 
 pub returns-in-Ok-clause-job : goal.returns-in-Ok-clause-job
 returns-in-Ok-clause-job g c =
@@ -76,20 +78,33 @@ returns-in-Ok-clause-job g c =
     let shard = write_shard c.args.write.now in
     let s = c.args.config.now in
     subst (λ w. IfSome w.job (λ job. CanBeMerged g.K.Keeper.TELLS s tables (job_on shard job))) (sym c.tell_of_new.ensures.same)
-    (can_merge g.K.Keeper.TELLS s tables shard c.in-Ok.wrote.job c.in-Ok.ensures.given c.in-Ok.ensures.owes)
+    (can_merge g.K.Keeper.TELLS s tables shard c.in-Ok.wrote.job c.in-Ok.ensures.done.given c.in-Ok.ensures.owes)
 
 pub returns-in-Ok-clause-on : goal.returns-in-Ok-clause-on
 returns-in-Ok-clause-on g c =
-    let pens = pens_of c.commit.new.self.masters in
+    let tells = g.K.Keeper.TELLS in
+    let s = c.args.config.now in
+    let shard = write_shard c.args.write.now in
+    let tables = (g.K.Keeper.state c.commit.new.keepers).told in
+    let wrote = c.in-Ok.wrote in
+    let pens = pens_of c.commit.new.self.stores in
     let added = added_entry c.commit.result in
     record {
       consistent = c.commit.ensures.consistent;
       inboxes = c.tell_of_new.ensures.of pens (subst (λ n. IsSeen pens n c.in-Ok.wrote.note) (sym c.shard.ensures) c.in-Ok.ensures.seen)
-          ((inboxes_stay c.args.config.now (pens_of c.args.fleet.now.masters) c.args.mail.now).rises pens c.commit.ensures.goes.rise c.requires.ready.inboxes);
+          ((inboxes_stay c.args.config.now (pens_of c.args.fleet.now.stores) c.args.mail.now).rises pens c.commit.ensures.goes.rise c.requires.ready.inboxes);
+      arrived = arrived_told tells s tables c.commit.new.self.stores shard c.masters_are_regions.ensures c.commit.ensures.consistent.stores c.requires.here
+          c.args.topology.now c.args.route.leader (new_entry wrote.retry wrote.entry) c.args.mail.now c.tell_of_new.new.mail c.requires.ready.states
+          (of_new (StandsIn (pens shard)) wrote.retry wrote.entry (stands_in_log pens shard wrote.note wrote.entry
+          (seen_there pens shard wrote.note wrote.entry c.in-Ok.ensures.seen c.in-Ok.ensures.done.stands)))
+          (subst (λ n. TellsOfNew c.args.topology.now c.args.route.leader n (new_entry wrote.retry wrote.entry) c.args.mail.now c.tell_of_new.new.mail)
+          c.shard.ensures c.tell_of_new.ensures.told)
+          (arrived_grows tells (g.K.Keeper.state c.args.keepers.now).told tables c.args.mail.now c.commit.ensures.done.logs c.requires.ready.arrived);
       goes = c.commit.ensures.goes;
-      grows = gains_masters g.K.Keeper.TELLS c.args.config.now (g.K.Keeper.state c.args.keepers.now) (g.K.Keeper.state c.commit.new.keepers)
-          (write_shard c.args.write.now) added (job_with (types_of c.args.config.now.schema) added) c.requires.leader.here c.commit.ensures.tables;
-      later = record { calls = c.commit.ensures.calls.calls; faults = c.commit.ensures.calls.faults };
+      grows = gains_stores g.K.Keeper.TELLS c.args.config.now (g.K.Keeper.state c.args.keepers.now) (g.K.Keeper.state c.commit.new.keepers)
+          (master_store c.args.config.now (write_shard c.args.write.now)) added (job_with (types_of c.args.config.now.schema) added)
+          (record { region = c.masters_are_regions.ensures (write_shard c.args.write.now); shard = c.requires.here }) c.commit.ensures.done.tables;
+      later = record { calls = c.commit.ensures.done.calls.calls; faults = c.commit.ensures.done.calls.faults };
     }
 
 pub returns-in-Err-commit-clause-refused : goal.returns-in-Err-commit-clause-refused
@@ -102,19 +117,22 @@ returns-in-Err-commit-clause-refused g c =
     let told = ◌∙◌ {b = refused_as c.faults-in-Err-commit.result refusal} c.refused_as.ensures
     (ap (λ n. refused_as n refusal) c.faults-in-Err-commit.ensures) in
     subst (λ reply. RefusesCommit g.K.Keeper.TELLS c.args.config.now (sent_write c.args.route call) reply old new) (sym told)
-    (refused g.K.Keeper.TELLS c.args.config.now c.args.route call old new c.in-Err-commit.ensures.tables c.in-Err-commit.ensures.err refl
-    c.in-Err-commit.refusal c.in-Err-commit.ensures.answer (λ is. c.in-Err-commit.ensures.calls.failed (ap (λ r. Err r) is)))
+    (refused g.K.Keeper.TELLS c.args.config.now c.args.route call old new c.in-Err-commit.ensures.done.tables c.in-Err-commit.ensures.err refl
+    c.in-Err-commit.refusal c.in-Err-commit.ensures.done.answer (λ is. c.in-Err-commit.ensures.done.calls.failed (ap (λ r. Err r) is)))
 
 pub returns-in-Err-commit-clause-on : goal.returns-in-Err-commit-clause-on
 returns-in-Err-commit-clause-on g c =
-    let pens = pens_of c.args.fleet.now.masters in
+    let pens = pens_of c.args.fleet.now.stores in
     let added = added_entry c.commit.result in
     record {
       consistent = c.commit.ensures.consistent;
       inboxes =
-          (inboxes_stay c.args.config.now pens c.args.mail.now).rises (pens_of c.commit.new.self.masters) c.commit.ensures.goes.rise c.requires.ready.inboxes;
+          (inboxes_stay c.args.config.now pens c.args.mail.now).rises (pens_of c.commit.new.self.stores) c.commit.ensures.goes.rise c.requires.ready.inboxes;
+      arrived = arrived_grows g.K.Keeper.TELLS (g.K.Keeper.state c.args.keepers.now).told (g.K.Keeper.state c.commit.new.keepers).told c.args.mail.now
+          c.commit.ensures.done.logs c.requires.ready.arrived;
       goes = c.commit.ensures.goes;
-      grows = gains_masters g.K.Keeper.TELLS c.args.config.now (g.K.Keeper.state c.args.keepers.now) (g.K.Keeper.state c.commit.new.keepers)
-          (write_shard c.args.write.now) added (job_with (types_of c.args.config.now.schema) added) c.requires.leader.here c.commit.ensures.tables;
-      later = record { calls = c.commit.ensures.calls.calls; faults = c.commit.ensures.calls.faults };
+      grows = gains_stores g.K.Keeper.TELLS c.args.config.now (g.K.Keeper.state c.args.keepers.now) (g.K.Keeper.state c.commit.new.keepers)
+          (master_store c.args.config.now (write_shard c.args.write.now)) added (job_with (types_of c.args.config.now.schema) added)
+          (record { region = c.masters_are_regions.ensures (write_shard c.args.write.now); shard = c.requires.here }) c.commit.ensures.done.tables;
+      later = record { calls = c.commit.ensures.done.calls.calls; faults = c.commit.ensures.done.calls.faults };
     }

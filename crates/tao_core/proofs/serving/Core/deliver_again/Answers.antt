@@ -18,10 +18,10 @@ copy-requires c =
 pub process-requires-clause-message : goal.process-requires-clause-message
 process-requires-clause-message c =
     let s = c.self.inside.config.now in
-    let pens = pens_of c.self.inside.fleet.masters in
+    let pens = pens_of c.self.inside.fleet.stores in
     subst (λ found. IfSome found (IsMessageFor s pens c.args.node)) c.in-Some.is
     (c.in-Ok.ensures.message s pens
-    (subst (λ (x : CoreState). AreInboxesOf x.settings (pens_of x.fleet.masters) x.mail) (sym c.self.view_is) c.requires.inboxes))
+    (subst (λ (x : CoreState). AreInboxesOf x.settings (pens_of x.fleet.stores) x.mail) (sym c.self.view_is) c.requires.inboxes))
 
 pub returns-in-Some : goal.returns-in-Some
 returns-in-Some c =
@@ -29,7 +29,7 @@ returns-in-Some c =
     let done =
     repeated c.args.node c.args.place (core_state c.self.inside) c.args.self.now c.copy.new.self c.process.result c.self.view_is c.copy.ensures.same
     c.in-Some.message c.process.new.self waits c.process.ensures.does c.process.ensures.fleet c.process.ensures.on c.process.ensures.rest in
-    record { does = done.does; fleet = done.fleet; masters = done.masters; on = done.on; rest = done.rest }
+    record { does = done.does; fleet = done.fleet; stores = done.stores; on = done.on; rest = done.rest }
 
 pub returns-in-None : goal.returns-in-None
 returns-in-None c =
@@ -38,4 +38,4 @@ returns-in-None c =
     let done =
     none_repeated c.args.node c.args.place (core_state c.self.inside) c.args.self.now c.copy.new.self c.no_message.result c.self.view_is
     c.copy.ensures.same c.no_message.ensures none fleet in
-    record { does = done.does; fleet = done.fleet; masters = done.masters; on = done.on; rest = done.rest }
+    record { does = done.does; fleet = done.fleet; stores = done.stores; on = done.on; rest = done.rest }

@@ -19,5 +19,5 @@ returns-clause-does c =
 
 pub returns-clause-inboxes : goal.returns-clause-inboxes
 returns-clause-inboxes c =
-    c.take.ensures.of c.args.self.now.settings (pens_of c.args.self.now.fleet.masters)
-    (subst (λ (x : CoreState). AreInboxesOf c.args.self.now.settings (pens_of c.args.self.now.fleet.masters) x.mail) (sym c.self.view_is) c.requires.inboxes)
+    c.take.ensures.of c.args.self.now.settings (pens_of c.args.self.now.fleet.stores)
+    (subst (λ (x : CoreState). AreInboxesOf c.args.self.now.settings (pens_of c.args.self.now.fleet.stores) x.mail) (sym c.self.view_is) c.requires.inboxes)

@@ -3,8 +3,9 @@ use Rattle.tao_core.specs.Asked.{CanBeDone}
 use Rattle.tao_core.specs.Core.{CoreState, moment}
 use Rattle.tao_core.specs.Replies.{AnswersAsked, AnswersAudit}
 use Rattle.core_sessions.specs.declared.sessions.OpenSession.{OpenSession}
+use Rattle.tao_core.proofs.Arriving.{delivered_come, lost_come, repeated_come}
 use Rattle.tao_core.proofs.HeldOn.{core_goes_on, core_held, core_kept, core_opened, core_unchanged, fleet_stays, same_held}
-use Rattle.tao_core.proofs.StayOpen.{opens_stay, same_open, writes_stay}
+use Rattle.tao_core.proofs.StayOpen.{opens_stay, same_open}
 use Rattle.tao_core.proofs.Keeping.{core_stays, delivered_core, evicted_core, mail_only, nodes_only, only_mail, only_nodes}
 use Rattle.tao_core.proofs.serving.Core.perform.Goals as goal
 
@@ -77,7 +78,8 @@ returns-in-Deliver g c =
       does = subst (λ a. AnswersAsked g.K.Keeper.TELLS (moment core keepers link) (Ok a) c.deliver.result (moment new keepers link)) (sym c.in-Deliver.is)
           (ends.does, ap (λ x. moment x keepers link) ends.rest);
       usable = core_kept g.K.Keeper.TELLS keepers core new c.requires.keepers
-          (delivered_core g.K.Keeper.TELLS keepers.told core new c.requires.keepers.is_consistent ends.fleet ends.masters ends.inboxes ends.rest)
+          (delivered_core g.K.Keeper.TELLS keepers.told core new c.requires.keepers.is_consistent ends.fleet ends.stores ends.inboxes
+          (delivered_come keepers.told c.in-Deliver.node c.in-Deliver.message core c.deliver.result new ends.does) ends.rest)
           ends.on ends.rest;
     }
 
@@ -93,7 +95,8 @@ returns-in-Again g c =
       does = subst (λ a. AnswersAsked g.K.Keeper.TELLS (moment core keepers link) (Ok a) c.deliver_again.result (moment new keepers link)) (sym c.in-Again.is)
           (ends.does, ap (λ x. moment x keepers link) rest);
       usable = core_kept g.K.Keeper.TELLS keepers core new c.requires.keepers
-          (nodes_only g.K.Keeper.TELLS keepers.told core new c.requires.keepers.is_consistent ends.fleet ends.masters ends.rest) ends.on rest;
+          (nodes_only g.K.Keeper.TELLS keepers.told core new c.requires.keepers.is_consistent ends.fleet ends.stores
+          (repeated_come keepers.told c.in-Again.node c.in-Again.message core c.deliver_again.result new ends.does) ends.rest) ends.on rest;
     }
 
 pub returns-in-Drop : goal.returns-in-Drop
@@ -108,7 +111,8 @@ returns-in-Drop g c =
       does = subst (λ a. AnswersAsked g.K.Keeper.TELLS (moment core keepers link) (Ok a) c.lose.result (moment new keepers link)) (sym c.in-Drop.is)
           (ends.does, ap (λ x. moment x keepers link) rest);
       usable = core_kept g.K.Keeper.TELLS keepers core new c.requires.keepers
-          (mail_only g.K.Keeper.TELLS keepers.told core new c.requires.keepers.is_consistent ends.inboxes ends.rest)
+          (mail_only g.K.Keeper.TELLS keepers.told core new c.requires.keepers.is_consistent ends.inboxes
+          (lost_come keepers.told c.in-Drop.node c.in-Drop.message core c.lose.result new ends.does) ends.rest)
           (fleet_stays core.fleet new.fleet (ap (λ (x : CoreState). x.fleet) ends.rest)) rest;
     }
 
@@ -138,27 +142,10 @@ returns-in-Refill g c =
     let new = c.refill.new.self in
     record {
       does = subst (λ a. AnswersAsked g.K.Keeper.TELLS (moment core old (g.L.Link.shown c.args.link.now)) (Ok a) c.refill.result
-          (moment new now (g.L.Link.shown c.refill.new.link))) (sym c.in-Refill.is) (ends.does, ends.tables, ends.rest);
-      usable = core_held g.K.Keeper.TELLS old now core new c.requires.keepers ends.keepers ends.on ends.tables ends.later (only_nodes core new ends.rest);
+          (moment new now (g.L.Link.shown c.refill.new.link))) (sym c.in-Refill.is) ends.does;
+      usable = core_goes_on g.K.Keeper.TELLS old now core new c.requires.keepers ends.leaves (ap (λ (x : CoreState). x.settings) ends.same)
+          (ap (λ (x : CoreState). x.plans) ends.same) (same_open core.sessions new.sessions (ap (λ (x : CoreState). x.sessions) ends.same));
     }
-
-pub returns-in-Call-Write-clause-usable : goal.returns-in-Call-Write-clause-usable
-returns-in-Call-Write-clause-usable g c =
-    let old = g.K.Keeper.state c.args.keepers.now in
-    let now = g.K.Keeper.state c.write.new.keepers in
-    let core = c.args.self.now in
-    let ends = c.write.ensures in
-    core_goes_on g.K.Keeper.TELLS old now core c.write.new.self c.requires.keepers
-    ends.leaves
-    (ap (λ (x : CoreState). x.settings) ends.does.rest) (ap (λ (x : CoreState). x.plans) ends.does.rest)
-    (writes_stay g.K.Keeper.TELLS (moment core old (g.L.Link.shown c.args.link.now)) c.in-Call-Write.call c.write.result
-    (moment c.write.new.self now (g.L.Link.shown c.write.new.link)) ends.does.replies)
-
-pub returns-in-Call-Read-clause-usable : goal.returns-in-Call-Read-clause-usable
-returns-in-Call-Read-clause-usable g c =
-    let ends = c.read.ensures in
-    core_held g.K.Keeper.TELLS (g.K.Keeper.state c.args.keepers.now) (g.K.Keeper.state c.read.new.keepers) c.args.self.now c.read.new.self
-    c.requires.keepers ends.keepers ends.on ends.does.tables ends.later (only_nodes c.args.self.now c.read.new.self ends.does.rest)
 
 pub returns-in-Repair-clause-usable : goal.returns-in-Repair-clause-usable
 returns-in-Repair-clause-usable g c =

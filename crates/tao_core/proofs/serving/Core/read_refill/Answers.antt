@@ -1,48 +1,68 @@
-use Rattle.std.proofs.Common.{Contains, subst, sym}
+use Rattle.std.proofs.Common.{◌≡◌, ap, Contains, subst, sym}
 use Rattle.core_model.specs.Fleet.{follower_names}
 use Rattle.core_model.specs.Messages.{IsRefillFor}
 use Rattle.core_model.specs.Pens.{pens_of}
-use Rattle.tao_base.specs.Queries.{query_shard}
+use Rattle.core_plans.specs.Held.{IsUnderWay}
+use Rattle.core_plans.specs.declared.held.HeldPlan.TheVariants as of
 use Rattle.tao_core.specs.Core.{CoreState, IsConsistentCore, core_state}
-use Rattle.tao_core.proofs.Delivering.{refill_leader, refill_reached, refill_reads}
+use Rattle.tao_core.specs.HeldCalls.{IsOfRegion, plan_leader}
+use Rattle.tao_core.proofs.HeldKeeping.{leads_it}
+use Rattle.core_plans.specs.declared.held.HeldPlan.{HeldPlan}
+use Rattle.std.specs.Prelude.{IsTrue}
+use Rattle.topology.specs.States.{is_cache}
+use Rattle.tao_core.proofs.AnsweredAtOnce.{refill_is, refill_reads}
+use Rattle.tao_core.proofs.Delivering.{refill_under_way}
+use Rattle.tao_core.proofs.Keeping.{core_can_post}
 use Rattle.tao_core.proofs.serving.Core.read_refill.Goals as goal
 
-pub read_along-requires-clause-follower : goal.read_along-requires-clause-follower
-read_along-requires-clause-follower g c =
-    let there = subst (λ (x : CoreState). Contains (follower_names x.settings) c.args.node) (sym c.self.view_is) c.requires.node in
-    let is = subst (λ (x : CoreState). IsRefillFor x.settings (pens_of x.fleet.masters) c.args.node c.args.refill) (sym c.self.view_is) c.requires.refill in
-    record { here = is.here; configured = there; serves = is.serves }
-
-pub read_along-requires-clause-leader : goal.read_along-requires-clause-leader
-read_along-requires-clause-leader g c =
-    let tables = (g.K.Keeper.state c.args.keepers.now).told in
-    let of = subst (IsConsistentCore g.K.Keeper.TELLS tables) (sym c.self.view_is) c.requires.keepers in
-    let there = subst (λ (x : CoreState). Contains (follower_names x.settings) c.args.node) (sym c.self.view_is) c.requires.node in
-    let is = subst (λ (x : CoreState). IsRefillFor x.settings (pens_of x.fleet.masters) c.args.node c.args.refill) (sym c.self.view_is) c.requires.refill in
-    refill_leader g.K.Keeper.TELLS tables (core_state c.self.inside) c.args.node c.home_region.result c.shard-shard.result
-    (query_shard c.args.refill.query) c.preferred.result of there c.home_region.ensures c.shard-shard.ensures is.here
-    c.preferred.ensures.preferred c.preferred.ensures.configured
-
-pub read_along-requires-clause-reached : goal.read_along-requires-clause-reached
-read_along-requires-clause-reached g c =
+pub carry_out-requires-clause-ready : goal.carry_out-requires-clause-ready
+carry_out-requires-clause-ready g c =
     let keepers = g.K.Keeper.state c.args.keepers.now in
-    let of = subst (IsConsistentCore g.K.Keeper.TELLS keepers.told) (sym c.self.view_is) c.requires.keepers in
-    let is = subst (λ (x : CoreState). IsRefillFor x.settings (pens_of x.fleet.masters) c.args.node c.args.refill) (sym c.self.view_is) c.requires.refill in
-    refill_reached g.K.Keeper.TELLS c.self.inside.config.now keepers c.self.inside.fleet.masters c.args.node c.args.refill of.consistent.stores is
+    core_can_post g.K.Keeper.TELLS (core_state c.self.inside) keepers (g.L.Link.shown c.args.link.now)
+    (subst (IsConsistentCore g.K.Keeper.TELLS keepers.told) (sym c.self.view_is) c.requires.keepers)
+
+pub carry_out-requires-clause-under_way : goal.carry_out-requires-clause-under_way
+carry_out-requires-clause-under_way g c =
+    let keepers = g.K.Keeper.state c.args.keepers.now in
+    let core = core_state c.self.inside in
+    subst (IsUnderWay g.K.Keeper.TELLS core.settings keepers.told core.fleet)
+    (sym (refill_is core.settings c.args.node c.args.refill c.region_of-region.result c.home_tier-tier.result c.begin_read-read.result c.begin_read-read.ensures
+    c.region_of-region.ensures c.home_tier-tier.ensures))
+    (refill_under_way g.K.Keeper.TELLS keepers core c.args.node c.args.refill
+    (subst (IsConsistentCore g.K.Keeper.TELLS keepers.told) (sym c.self.view_is) c.requires.keepers)
+    (subst (λ (x : CoreState). Contains (follower_names x.settings) c.args.node) (sym c.self.view_is) c.requires.node)
+    (subst (λ (x : CoreState). IsRefillFor x.settings (pens_of x.fleet.stores) c.args.node c.args.refill) (sym c.self.view_is) c.requires.refill))
+
+pub carry_out-requires-clause-leader : goal.carry_out-requires-clause-leader
+carry_out-requires-clause-leader g c =
+    let keepers = g.K.Keeper.state c.args.keepers.now in
+    let core = core_state c.self.inside in
+    let plan : HeldPlan = of.Read c.begin_read-read.result in
+    let leader = c.plan_leader-leader.result in
+    let consistent = subst (IsConsistentCore g.K.Keeper.TELLS keepers.told) (sym c.self.view_is) c.requires.keepers in
+    leads_it g.K.Keeper.TELLS keepers.told core consistent plan leader
+    (subst (IsUnderWay g.K.Keeper.TELLS core.settings keepers.told core.fleet)
+    (sym (refill_is core.settings c.args.node c.args.refill c.region_of-region.result c.home_tier-tier.result c.begin_read-read.result
+    c.begin_read-read.ensures c.region_of-region.ensures c.home_tier-tier.ensures))
+    (refill_under_way g.K.Keeper.TELLS keepers core c.args.node c.args.refill consistent
+    (subst (λ (x : CoreState). Contains (follower_names x.settings) c.args.node) (sym c.self.view_is) c.requires.node)
+    (subst (λ (x : CoreState). IsRefillFor x.settings (pens_of x.fleet.stores) c.args.node c.args.refill) (sym c.self.view_is) c.requires.refill)))
+    (subst (λ (x : CoreState). leader ≡ plan_leader x plan) (sym c.self.view_is) c.plan_leader-leader.ensures.is)
+    (subst (λ (x : CoreState). IsOfRegion x.states plan → IsTrue (is_cache x.states.regions leader)) (sym c.self.view_is)
+    c.plan_leader-leader.ensures.configured)
 
 pub returns : goal.returns
 returns g c =
-    let went = c.read_along in
+    let state = g.K.Keeper.state in
+    let shown = g.L.Link.shown in
+    let core = core_state c.self.inside in
+    let went = c.carry_out in
     let done =
-    refill_reads g.K.Keeper.TELLS c.args.node c.args.refill (core_state c.self.inside) c.args.self.now c.self.view_is (g.K.Keeper.state c.args.keepers.now)
-    c.requires.keepers c.preferred.result c.home_region.result c.shard-shard.result (g.L.Link.shown c.args.link.now) (g.L.Link.shown went.new.link)
-    went.result went.new.fleet (g.K.Keeper.state went.new.keepers) c.home_region.ensures c.shard-shard.ensures c.preferred.ensures.preferred
-    went.ensures.reads went.ensures.consistent went.ensures.goes went.ensures.tables in
-    record {
-      reads = done.reads;
-      keepers = done.is_consistent;
-      on = done.on;
-      tables = went.ensures.tables;
-      later = went.ensures.later;
-      rest = done.rest;
-    }
+    refill_reads g.K.Keeper.TELLS c.args.node c.args.refill core c.args.self.now c.self.view_is (state c.args.keepers.now) (state went.new.keepers)
+    (shown c.args.link.now) (shown went.new.link) c.requires.keepers went.new.fleet went.new.mail c.begin_read-read.result went.new.plan
+    c.plan_leader-leader.result
+    (refill_is core.settings c.args.node c.args.refill c.region_of-region.result c.home_tier-tier.result c.begin_read-read.result c.begin_read-read.ensures
+    c.region_of-region.ensures c.home_tier-tier.ensures)
+    (subst (λ (x : CoreState). c.plan_leader-leader.result ≡ plan_leader x (of.Read c.begin_read-read.result)) (sym c.self.view_is)
+    c.plan_leader-leader.ensures.is) went.ensures.does went.ensures.under_way went.ensures.on c.finish.result.reply c.finish.ensures.over in
+    record { does = done.does; leaves = done.leaves; sessions = ap (λ (x : CoreState). x.sessions) c.self.view_is }

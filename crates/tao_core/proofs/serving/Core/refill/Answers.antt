@@ -1,10 +1,9 @@
-use Rattle.std.proofs.Common.{ap, refl, subst, sym}
+use Rattle.std.proofs.Common.{ap, subst, sym}
 use Rattle.core_model.specs.Fleet.{Fleet, HasNode}
 use Rattle.core_model.specs.Messages.{IsRefillFor}
 use Rattle.core_model.specs.Pens.{pens_of}
 use Rattle.tao_core.specs.Core.{CoreState, core_state}
 use Rattle.tao_core.proofs.Delivering.{follower_has, left_consistent, refill_found, refill_missed}
-use Rattle.tao_keeper.proofs.Later.{later_self}
 use Rattle.tao_core.proofs.serving.Core.refill.Goals as goal
 
 pub next_refill-requires-clause-follower : goal.next_refill-requires-clause-follower
@@ -21,7 +20,7 @@ read_refill-requires-clause-keepers g c =
 pub read_refill-requires-clause-refill : goal.read_refill-requires-clause-refill
 read_refill-requires-clause-refill g c =
     subst (λ ms. IsRefillFor c.self.inside.config.now (pens_of ms) c.args.node c.in-Some.refill)
-    (sym (ap (λ (f : Fleet). f.masters) c.next_refill.ensures.rest)) c.in-Some.ensures.refill
+    (sym (ap (λ (f : Fleet). f.stores) c.next_refill.ensures.rest)) c.in-Some.ensures.refill
 
 pub returns-in-Some : goal.returns-in-Some
 returns-in-Some g c =
@@ -31,8 +30,8 @@ returns-in-Some g c =
     refill_found g.K.Keeper.TELLS c.args.node (core_state c.self.inside) c.args.self.now c.self.view_is (g.K.Keeper.state c.args.keepers.now)
     (g.L.Link.shown c.args.link.now) next.new.self c.requires.keepers next.result next.ensures.takes next.ensures.rest next.ensures.fleet next.ensures.goes
     c.in-Some.refill read.result c.refilled_as.result read.new.self (g.K.Keeper.state read.new.keepers) (g.L.Link.shown read.new.link) c.in-Some.is
-    c.in-Some.ensures.refill read.ensures.reads read.ensures.keepers read.ensures.on read.ensures.rest c.refilled_as.ensures in
-    record { does = done.does; keepers = done.is_consistent; on = done.on; tables = read.ensures.tables; later = read.ensures.later; rest = done.rest }
+    read.ensures.does read.ensures.leaves read.ensures.sessions c.refilled_as.ensures in
+    record { does = done.does; leaves = done.leaves; same = done.same }
 
 pub returns-in-None : goal.returns-in-None
 returns-in-None g c =
@@ -42,4 +41,4 @@ returns-in-None g c =
     refill_missed g.K.Keeper.TELLS c.args.node (core_state c.self.inside) c.args.self.now c.self.view_is keepers (g.L.Link.shown c.args.link.now)
     next.new.self c.requires.keepers next.result next.ensures.takes next.ensures.rest next.ensures.fleet next.ensures.goes c.no_refill.result c.in-None.is
     c.no_refill.ensures in
-    record { does = done.does; keepers = done.is_consistent; on = done.on; tables = λ told at. refl; later = later_self keepers; rest = done.rest }
+    record { does = done.does; leaves = done.leaves; same = done.same }

@@ -1,9 +1,10 @@
-use Rattle.std.proofs.Common.{subst, sym}
+use Rattle.std.proofs.Common.{refl, subst, sym}
 use Rattle.core_steps.specs.Posting.{posting}
 use Rattle.core_steps.specs.Routes.{scene}
 use Rattle.tao_core.specs.Core.{CoreState, IsConsistentCore, LeavesCore, core_state}
+use Rattle.tao_core.proofs.HeldOn.{none_come}
 use Rattle.tao_core.proofs.Keeping.{core_can_post, written_core}
-use Rattle.tao_core.proofs.Settled.{left_core, masters_held, repaired_same}
+use Rattle.tao_core.proofs.Settled.{left_core, stores_held, repaired_same}
 use Rattle.tao_core.proofs.serving.Core.repair.Goals as goal
 
 pub repair_first-outcome-requires-clause-ready : goal.repair_first-outcome-requires-clause-ready
@@ -22,10 +23,12 @@ returns-clause-leaves g c =
     let on = done.ensures.on in
     let of = subst (IsConsistentCore tells before.told) (sym c.self.view_is) c.requires.keepers in
     subst (λ (x : CoreState). LeavesCore tells before now x (left_core core done.new.fleet done.new.mail)) c.self.view_is (record {
-      is_consistent = written_core tells before.told core of now.told done.new.fleet done.new.mail on.consistent on.inboxes on.goes on.grows.logs;
-      on = masters_held core.fleet done.new.fleet on.goes
+      is_consistent = written_core tells before.told core of now.told done.new.fleet done.new.mail on.consistent on.inboxes on.arrived on.goes
+          on.grows.logs;
+      on = stores_held core.fleet done.new.fleet on.goes
           (repaired_same tells core.settings c.args.shard (posting (scene core.fleet before (g.L.Link.shown c.args.link.now)) core.mail core.states)
           (posting (scene done.new.fleet now (g.L.Link.shown done.new.link)) done.new.mail core.states) done.result done.ensures.repairs);
+      comes = none_come tells now.told core (left_core core done.new.fleet done.new.mail) refl;
       grows = on.grows;
       later = on.later;
     })

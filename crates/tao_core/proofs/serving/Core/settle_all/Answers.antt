@@ -36,7 +36,7 @@ returns-in_err-run_jobs g c =
     (posting (scene ran.new.fleet (state ran.new.keepers) (shown ran.new.link)) ran.new.mail core.states)) (sym p.2) c.in_err-run_jobs.ensures.runs in
     let done =
     stops_at_jobs g.K.Keeper.TELLS core c.args.self.now c.self.view_is (state c.args.keepers.now) (state ran.new.keepers) (shown c.args.link.now)
-    (shown ran.new.link) ran.new.fleet ran.new.mail c.requires.keepers on.consistent on.inboxes on.goes ran.ensures.rest
+    (shown ran.new.link) ran.new.fleet ran.new.mail c.requires.keepers on.consistent on.inboxes on.arrived on.goes ran.ensures.rest
     on.grows on.later p.0 stops in
     record {
       settles = rw p.1 tt;
@@ -46,21 +46,21 @@ returns-in_err-run_jobs g c =
       rest = done.rest;
     }
 
-pub returns-in_err-logs : goal.returns-in_err-logs
-returns-in_err-logs g c =
+pub returns-in_err-measured : goal.returns-in_err-measured
+returns-in_err-measured g c =
     let state = g.K.Keeper.state in
     let shown = g.L.Link.shown in
     let core = core_state c.self.inside in
     let ran = c.run_jobs in
     let on = ran.ensures.on in
-    let read = c.lengths in
-    let p = err_from_is_err_and c.from_residual-in_err-logs.result c.from_residual-in_err-logs.ensures.1 in
+    let read = c.measure in
+    let p = err_from_is_err_and c.from_residual-in_err-measured.result c.from_residual-in_err-measured.ensures.1 in
     let done =
     stops_at_lengths g.K.Keeper.TELLS core c.args.self.now c.self.view_is (state c.args.keepers.now) (state ran.new.keepers) (shown c.args.link.now)
-    (shown ran.new.link) ran.new.fleet ran.new.mail c.requires.keepers on.consistent on.inboxes on.goes ran.ensures.rest
-    on.grows on.later c.in_ok-run_jobs.ensures.runs ran.ensures.link (state read.new.keepers) read.new.self read.ensures.same
+    (shown ran.new.link) ran.new.fleet ran.new.mail c.requires.keepers on.consistent on.inboxes on.arrived on.goes ran.ensures.rest
+    on.grows on.later c.in_ok-run_jobs.ensures.runs ran.ensures.link (state read.new.keepers) read.new.fleet read.ensures.same
     read.ensures.consistent read.ensures.tables read.ensures.later p.0
-    (subst (StopsLengths core.settings (state ran.new.keepers) (state read.new.keepers)) (sym p.2) c.in_err-logs.ensures.stop) in
+    (subst (StopsLengths core.settings (state ran.new.keepers) (state read.new.keepers)) (sym p.2) c.in_err-measured.ensures.stop) in
     record {
       settles = rw p.1 tt;
       empty = rw p.1 tt;
@@ -76,15 +76,15 @@ returns-in_err-catch_up g c =
     let core = core_state c.self.inside in
     let ran = c.run_jobs in
     let on = ran.ensures.on in
-    let read = c.lengths in
+    let read = c.measure in
     let caught = c.catch_up in
     let p = err_from_is_err_and c.from_residual-in_err-catch_up.result c.from_residual-in_err-catch_up.ensures.1 in
     let done =
     stops_at_node g.K.Keeper.TELLS core c.args.self.now c.self.view_is (state c.args.keepers.now) (state ran.new.keepers) (shown c.args.link.now)
-    (shown ran.new.link) ran.new.fleet ran.new.mail c.requires.keepers on.consistent on.inboxes on.goes ran.ensures.rest
-    on.grows on.later c.in_ok-run_jobs.ensures.runs ran.ensures.link (state read.new.keepers) read.new.self read.ensures.same
+    (shown ran.new.link) ran.new.fleet ran.new.mail c.requires.keepers on.consistent on.inboxes on.arrived on.goes ran.ensures.rest
+    on.grows on.later c.in_ok-run_jobs.ensures.runs ran.ensures.link (state read.new.keepers) read.new.fleet read.ensures.same
     read.ensures.consistent read.ensures.tables read.ensures.later (state caught.new.keepers) (shown caught.new.link) caught.new.self
-    caught.ensures.masters caught.ensures.consistent caught.ensures.goes caught.ensures.on caught.ensures.reads p.0
+    caught.ensures.stores caught.ensures.consistent caught.ensures.goes caught.ensures.on caught.ensures.reads p.0
     (subst (StopsCatchUp core.settings (outside (state read.new.keepers) (shown ran.new.link)) (outside (state caught.new.keepers) (shown caught.new.link)))
     (sym p.2) c.in_err-catch_up.ensures.stop) in
     record {
@@ -102,16 +102,17 @@ returns g c =
     let core = core_state c.self.inside in
     let ran = c.run_jobs in
     let on = ran.ensures.on in
-    let read = c.lengths in
+    let read = c.measure in
     let caught = c.catch_up in
     let match = subst (λ k. InversesMatch (types_of k)) (ap (λ (s : Settings). s.schema) c.config.view_is) c.inverses_match.ensures in
     let done =
     settles_core g.K.Keeper.TELLS core c.args.self.now c.self.view_is (state c.args.keepers.now) (state ran.new.keepers) (shown c.args.link.now)
-    (shown ran.new.link) ran.new.fleet ran.new.mail c.requires.keepers on.consistent on.inboxes on.goes ran.ensures.rest
-    on.grows on.later c.in_ok-run_jobs.ensures.runs ran.ensures.link (state read.new.keepers) read.new.self read.ensures.same
+    (shown ran.new.link) ran.new.fleet ran.new.mail c.requires.keepers on.consistent on.inboxes on.arrived on.goes ran.ensures.rest
+    on.grows on.later c.in_ok-run_jobs.ensures.runs ran.ensures.link (state read.new.keepers) read.new.fleet read.ensures.same
     read.ensures.consistent read.ensures.tables read.ensures.later (state caught.new.keepers) (shown caught.new.link) caught.new.self
-    caught.ensures.masters caught.ensures.consistent caught.ensures.goes caught.ensures.on caught.ensures.reads c.in_ok-logs.logs.items c.clear.new.self
-    c.in_ok-logs.ensures.lengths c.clear.ensures.empty (c.clear.ensures.of core.settings (pens_of ran.new.fleet.masters))
+    caught.ensures.stores caught.ensures.consistent caught.ensures.goes caught.ensures.on caught.ensures.reads c.in_ok-measured.measured.shards.items
+    c.clear.new.self
+    c.in_ok-measured.ensures.shards c.clear.ensures.empty (c.clear.ensures.of core.settings (pens_of ran.new.fleet.stores))
     c.in_ok-catch_up.ensures.caught match in
     record {
       settles = done.says;

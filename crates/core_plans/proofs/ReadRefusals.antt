@@ -1,0 +1,88 @@
+-- A read that is refused gives no answer.
+use Rattle.std.proofs.Common.{◌≡◌, Bool, true, false, Option, Some, None, ap, sym, ◌∙◌, subst, inl, inr}
+use Rattle.cache_items.specs.declared.look.Look.{Look}
+use Rattle.cache_items.specs.declared.look.Look.TheVariants.{Hit, Miss}
+use Rattle.core_plans.specs.HeldReads.{DoesKeep, DoesLook, DoesReadStage}
+use Rattle.core_plans.specs.LedBy.{LedBy}
+use Rattle.core_steps.specs.ReadSteps.{ReadOverFails}
+use Rattle.core_steps.specs.Routes.{Scene}
+use Rattle.node_name.specs.declared.NodeName.{NodeName}
+use Rattle.read_plan.specs.Readings.{Reading}
+use Rattle.read_plan.specs.Standings.{after_ask, after_keep, after_look, after_master}
+use Rattle.read_plan.specs.declared.end.ReadEnd.TheVariants as ended
+use Rattle.read_plan.specs.declared.standing.Given.{Given}
+use Rattle.read_plan.specs.declared.standing.Given.TheVariants.{Fill, HandedOut, Past}
+use Rattle.read_plan.specs.declared.standing.Standing.{Standing}
+use Rattle.read_plan.specs.declared.standing.Standing.TheVariants.{Looking, Asking, Mastering, Keeping, Ended}
+use Rattle.replies.specs.declared.calls.CallReply.{CallReply}
+use Rattle.replies.specs.declared.reply.Reply.{Reply}
+use Rattle.replies.specs.declared.reply.Reply.TheVariants.{Called}
+use Rattle.shard_tables.specs.declared.leader_answer.LeaderAnswer.{LeaderAnswer}
+use Rattle.shard_tables.specs.declared.leader_answer.LeaderAnswer.TheVariants as leads
+use Rattle.shard_tables.specs.declared.read_out.ReadOut.{ReadOut}
+use Rattle.shard_tables.specs.declared.read_out.ReadOut.TheVariants as store
+use Rattle.topology.specs.Config.{Settings}
+
+-- a read that ended with a refusal ended with no reply of a call
+abbrev pub NeverCalled : Standing → Type 0
+NeverCalled at = (reply : Reply) (answered : CallReply) → at ≡ Ended (ended.Refused reply) → reply ≡ Called answered → ⊥
+
+look_never : (critical : Bool) (look : Look) → NeverCalled (after_look critical look)
+look_never true look reply answered at is = absurd (cc)
+look_never false (Hit answer version) reply answered at is = absurd (cc)
+look_never false Miss reply answered at is = absurd (cc)
+
+ask_never : (given : LeaderAnswer) → NeverCalled (after_ask given)
+ask_never (leads.Filled fill) reply answered at is = absurd (cc)
+ask_never (leads.Past answer version total note) reply answered at is = absurd (cc)
+ask_never (leads.Behind version) reply answered at is = absurd (cc)
+
+master_never : (out : ReadOut) → NeverCalled (after_master out)
+master_never (store.Filled fill) reply answered at is = absurd (cc)
+master_never (store.Past answer version total note) reply answered at is = absurd (cc)
+
+abbrev refusal_in : Standing → Option Reply
+refusal_in (Ended (ended.Refused reply)) = Some reply
+refusal_in (Ended (ended.Answered answer version held)) = None
+refusal_in Looking = None
+refusal_in Asking = None
+refusal_in Mastering = None
+refusal_in (Keeping given) = None
+
+-- where its refusal is known
+refused_never : (own : Reply) → ((answered : CallReply) → own ≡ Called answered → ⊥) → NeverCalled (Ended (ended.Refused own))
+refused_never own never reply answered at is =
+    let same : Some own ≡ Some reply = ap refusal_in at in
+    let here : own ≡ reply = cc in
+    never answered (here ∙ is)
+
+over_never : (follower other : NodeName) (own : Reply) (old new : Scene) → ReadOverFails follower other own old new → NeverCalled (Ended (ended.Refused own))
+over_never follower other own old new fails =
+    refused_never own (λ answered is. subst (λ r. ReadOverFails follower other r old new) is fails)
+
+keep_never : (s : Settings) (p q : Reading) (given : Given) (old new : Scene) → p.at ≡ Keeping given → DoesKeep s p given old q new → NeverCalled q.at
+keep_never s p q (Fill fill) old new at (inl from) =
+    subst (λ (r : Reading). NeverCalled r.at) (sym from.then)
+    (subst (λ a. NeverCalled (after_keep p.bound a (Some (from.answer, from.kept)))) (sym at) (λ reply answered stands is. absurd (cc)))
+keep_never s p q (Fill fill) old new at (inr vain) =
+    subst (λ (r : Reading). NeverCalled r.at) (sym vain.then) (refused_never _ (λ answered is. absurd (cc)))
+keep_never s p q (Past answer version total seen) old new at on =
+    subst (λ (r : Reading). NeverCalled r.at) (sym on.then)
+    (subst (λ a. NeverCalled (after_keep p.bound a None)) (sym at) (λ reply answered stands is. absurd (cc)))
+keep_never s p q (HandedOut version) old new at on = absurd on
+
+pub stage_never : (led : LedBy) (at : Standing) (p q : Reading) (old new : Scene) → p.at ≡ at → DoesReadStage led at p old q new → NeverCalled q.at
+stage_never led Looking p q old new is does = by p.critical does
+  where
+    by : (critical : Bool) → DoesLook led.settings critical p old q new → NeverCalled q.at
+    by false (inl looks) = subst (λ (r : Reading). NeverCalled r.at) (sym looks.then) (look_never p.critical looks.look)
+    by false (inr vain) = subst (λ (r : Reading). NeverCalled r.at) (sym vain.then) (refused_never _ (λ answered is. absurd (cc)))
+    by true looks = subst (λ (r : Reading). NeverCalled r.at) (sym looks.then) (look_never p.critical Miss)
+stage_never led Asking p q old new is (inl asks) = subst (λ (r : Reading). NeverCalled r.at) (sym asks.then) (ask_never asks.given)
+stage_never led Asking p q old new is (inr vain) =
+    subst (λ (r : Reading). NeverCalled r.at) (sym vain.then) (over_never p.follower led.leader vain.reply old new vain.fails)
+stage_never led Mastering p q old new is (inl asks) = subst (λ (r : Reading). NeverCalled r.at) (sym asks.then) (master_never asks.out)
+stage_never led Mastering p q old new is (inr vain) =
+    subst (λ (r : Reading). NeverCalled r.at) (sym vain.then) (over_never p.follower _ vain.reply old new vain.fails)
+stage_never led (Keeping given) p q old new is does = keep_never led.settings p q given old new is does
+stage_never led (Ended end) p q old new is does = absurd does

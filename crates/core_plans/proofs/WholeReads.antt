@@ -1,0 +1,203 @@
+-- What a read took that did all of its stages, and that it changed no table and no message.
+use Rattle.std.proofs.Common.{◌≡◌, ℕ, ◌<◌, Bool, true, false, ◌||◌, refl, ap, sym, ◌∙◌, subst, inl, inr, arith}
+use Rattle.std.specs.Prelude.{◌⊎◌}
+use Rattle.core_plans.specs.Held.{IsOver}
+use Rattle.core_plans.specs.HeldReads.{ChangesFollowers, DoesKeep, DoesLook, DoesReadStage}
+use Rattle.core_plans.specs.LedBy.{LedBy}
+use Rattle.core_plans.specs.WholeCalls.{CarriesOut, PassesStage, read_stages_left}
+use Rattle.core_plans.specs.WholeLaws.{IsBegunRead, TellsCost, WholeRead}
+use Rattle.core_plans.specs.declared.held.HeldPlan.{HeldPlan}
+use Rattle.core_plans.specs.declared.held.HeldPlan.TheVariants.{Read, Write}
+use Rattle.core_plans.proofs.ReadRefusals.{NeverCalled, stage_never}
+use Rattle.core_plans.proofs.StagesLeft.{stage_closer}
+use Rattle.core_plans.proofs.Taking.{CarriesFew, HasCalled, HasTaken, both_carried, calls_more, none_between, none_called, none_carried, takes_more}
+use Rattle.core_plans.proofs.WholeRuns.{OfRead, read_keeps}
+use Rattle.core_steps.specs.Posting.{Posting}
+use Rattle.core_steps.specs.Routes.{Scene, hops_between, was_called}
+use Rattle.hop_count.specs.Hops.{hops_after}
+use Rattle.read_plan.specs.Ends.{EndsAt}
+use Rattle.read_plan.specs.Readings.{Reading}
+use Rattle.read_plan.specs.Standings.{stage_of}
+use Rattle.read_plan.specs.declared.end.ReadEnd.TheVariants as ended
+use Rattle.read_plan.specs.declared.standing.Given.{Given}
+use Rattle.read_plan.specs.declared.standing.Given.TheVariants.{Fill, HandedOut, Past}
+use Rattle.read_plan.specs.declared.standing.Standing.{Standing}
+use Rattle.read_plan.specs.declared.standing.Standing.TheVariants.{Looking, Asking, Mastering, Keeping, Ended}
+use Rattle.replies.specs.declared.calls.CallReply.TheVariants as called
+use Rattle.replies.specs.declared.calls.ReadReply.{ReadReply}
+use Rattle.replies.specs.declared.reply.Reply.{Reply}
+use Rattle.replies.specs.declared.refusals.Refusal.TheVariants.{Memory}
+use Rattle.replies.specs.declared.reply.Reply.TheVariants.{Called, Refused}
+use Rattle.tao_keeper.proofs.Later.{keeps_trans}
+use Rattle.tao_keeper.specs.KeeperState.{IsLater, KeepsTables}
+use Rattle.topology.specs.Config.{Settings}
+
+-- ---- what its stages took
+
+abbrev left_of : Reading → ℕ
+left_of p = read_stages_left (stage_of p.at)
+
+-- a read's hops are the carries since the first scene, and its `store` says whether a keeper was called since
+record HasCost (first : Scene) (p : Reading) (now : Scene) : Type 0 where
+  taken : HasTaken first.link now.link p.hops (left_of p)
+  called : HasCalled first.keepers now.keepers p.store
+
+-- it was refused
+record IsRefused (p : Reading) : Type 0 where
+  reply : Reply
+  at : p.at ≡ Ended (ended.Refused reply)
+
+-- it has its cost, or it was refused
+abbrev Costs : Scene → Reading → Scene → Type 0
+Costs first p now = HasCost first p now ⊎ IsRefused p
+
+module _ (first : Scene) (p q : Reading) (old new : Scene) (cost : HasCost first p old) (later : IsLater old.keepers new.keepers)
+    (closer : left_of q < left_of p) where
+  -- a stage over the link
+  adds : CarriesFew old.link new.link → q.hops ≡ hops_after p.hops (hops_between old.link new.link) → q.store ≡ (p.store || was_called old.keepers new.keepers)
+      → HasCost first q new
+  adds few hops store = record {
+    taken = subst (λ n. HasTaken first.link new.link n (left_of q)) (sym hops)
+        (takes_more first.link old.link new.link p.hops (left_of p) (left_of q) cost.taken few closer);
+    called = subst (HasCalled first.keepers new.keepers) (sym store) (calls_more first.keepers old.keepers new.keepers p.store cost.called later.calls);
+  }
+
+  -- a stage at its follower
+  stays : ChangesFollowers old new → q.hops ≡ hops_after p.hops 0 → q.store ≡ (p.store || false) → HasCost first q new
+  stays rest hops store =
+      let link : new.link ≡ old.link = ap (λ (x : Scene). x.link) rest in
+      let keepers : new.keepers ≡ old.keepers = ap (λ (x : Scene). x.keepers) rest in
+      adds (none_carried old.link new.link link) (hops ∙ ap (hops_after p.hops) (none_between old.link new.link link))
+      (store ∙ ap (λ b. p.store || b) (none_called old.keepers new.keepers keepers))
+
+  -- a stage that failed
+  fails : (reply : Reply) → q.at ≡ Ended (ended.Refused reply) → Costs first q new
+  fails reply at = inr (record { reply = reply; at = at })
+
+  look_costs : (s : Settings) (critical : Bool) → DoesLook s critical p old q new → Costs first q new
+  look_costs s false (inl looks) = inl (stays looks.rest (ap (λ (r : Reading). r.hops) looks.then) (ap (λ (r : Reading). r.store) looks.then))
+  look_costs s false (inr vain) = fails (Refused (Memory 0)) (ap (λ (r : Reading). r.at) vain.then)
+  look_costs s true looks = inl (stays looks.rest (ap (λ (r : Reading). r.hops) looks.then) (ap (λ (r : Reading). r.store) looks.then))
+
+  keep_costs : (s : Settings) (given : Given) → DoesKeep s p given old q new → Costs first q new
+  keep_costs s (Fill fill) (inl from) = inl (stays from.rest (ap (λ (r : Reading). r.hops) from.then) (ap (λ (r : Reading). r.store) from.then))
+  keep_costs s (Fill fill) (inr vain) = fails (Refused (Memory 0)) (ap (λ (r : Reading). r.at) vain.then)
+  keep_costs s (Past answer version total seen) on =
+      inl (stays on.rest (ap (λ (r : Reading). r.hops) on.then) (ap (λ (r : Reading). r.store) on.then))
+  keep_costs s (HandedOut version) on = absurd on
+
+  stage_costs : (led : LedBy) (at : Standing) → DoesReadStage led at p old q new → Costs first q new
+  stage_costs led Looking does = look_costs led.settings p.critical does
+  stage_costs led Asking (inl asks) =
+      inl (adds (both_carried old.link new.link asks.over.gives.link) (ap (λ (r : Reading). r.hops) asks.then) (ap (λ (r : Reading). r.store) asks.then))
+  stage_costs led Asking (inr vain) = fails vain.reply (ap (λ (r : Reading). r.at) vain.then)
+  stage_costs led Mastering (inl asks) =
+      inl (adds (both_carried old.link new.link asks.over.link) (ap (λ (r : Reading). r.hops) asks.then) (ap (λ (r : Reading). r.store) asks.then))
+  stage_costs led Mastering (inr vain) = fails vain.reply (ap (λ (r : Reading). r.at) vain.then)
+  stage_costs led (Keeping given) does = keep_costs led.settings given does
+  stage_costs led (Ended end) does = absurd does
+
+-- a read that was refused does no stage
+refused_rests : (led : LedBy) (p q : Reading) (old new : Scene) → IsRefused p → DoesReadStage led p.at p old q new → ⊥
+refused_rests led p q old new is does = subst (λ at. DoesReadStage led at p old q new) is.at does
+
+-- what is so after each stage
+record CostsSoFar (first : Scene) (p : Reading) (now : Posting) : Type 0 where
+  costs : Costs first p now.scene
+  never : NeverCalled p.at
+
+costs_on : (led : LedBy) (first : Scene) (p q : Reading) (old new : Posting) → CostsSoFar first p old → PassesStage led (Read p) old (Read q) new
+    → CostsSoFar first q new
+costs_on led first p q old new so stage =
+    let does = stage.steps.steps.does in
+    record {
+      costs = elim so.costs [
+        | inl cost ↦ stage_costs first p q old.scene new.scene cost stage.on.later (stage_closer led (Read p) (Read q) old new stage.steps) led p.at does
+        | inr refused ↦ absurd (refused_rests led p q old.scene new.scene refused does)
+      ];
+      never = stage_never led p.at p q old.scene new.scene refl does;
+    }
+
+-- ---- what its reply tells
+
+abbrev hops_in : Reply → ℕ
+hops_in (Called (called.Read reply)) = reply.hops
+hops_in reply = 0
+
+abbrev store_in : Reply → Bool
+store_in (Called (called.Read reply)) = reply.store
+store_in reply = false
+
+-- its own hops, and its own `store`
+record TellsOwn (q : Reading) (reply : ReadReply) : Type 0 where
+  hops : reply.hops ≡ q.hops
+  store : reply.store ≡ q.store
+
+tells_own : (at : Standing) (q : Reading) (reply : ReadReply) → NeverCalled at → EndsAt at q (Called (called.Read reply)) → TellsOwn q reply
+tells_own (Ended (ended.Answered answer version held)) q reply never ends = record { hops = ap hops_in ends; store = ap store_in ends }
+tells_own (Ended (ended.Refused own)) q reply never ends = absurd (never own (called.Read reply) refl (sym ends))
+tells_own Looking q reply never ends = absurd ends
+tells_own Asking q reply never ends = absurd ends
+tells_own Mastering q reply never ends = absurd ends
+tells_own (Keeping given) q reply never ends = absurd ends
+
+-- one that was refused tells none
+refused_tells : (q : Reading) (reply : ReadReply) → NeverCalled q.at → IsRefused q → EndsAt q.at q (Called (called.Read reply)) → ⊥
+refused_tells q reply never is ends =
+    let own : Called (called.Read reply) ≡ is.reply = subst (λ at. EndsAt at q (Called (called.Read reply))) is.at ends in
+    never is.reply (called.Read reply) is.at (sym own)
+
+tells_cost : (first : Scene) (q : HeldPlan) (now : Posting) (reply : ReadReply) → OfRead (CostsSoFar first) q now → IsOver q (Called (called.Read reply))
+    → TellsCost reply first now.scene
+tells_cost first (Read q) now reply so over =
+    let own = tells_own q.at q reply so.never over in
+    elim so.costs [
+      | inl cost ↦ record { hops = own.hops ∙ cost.taken.hops_is; store = own.store ∙ cost.called.store_is }
+      | inr refused ↦ absurd (refused_tells q reply so.never refused over)
+    ]
+tells_cost first (Write q) now reply so over = absurd so
+
+begun_costs : (p : Reading) (now : Posting) → IsBegunRead p → CostsSoFar now.scene p now
+begun_costs p now is =
+    let link = now.scene.link in
+    let hops = is.hops in
+    let left : left_of p ≡ 4 = ap (λ at. read_stages_left (stage_of at)) is.at in
+    record {
+      costs = inl (record {
+        taken = record { rise = omega arith; hops_is = hops ∙ none_between link link refl; few = omega (arith, hops, left) };
+        called = record { rise = omega arith; store_is = is.store ∙ none_called now.scene.keepers now.scene.keepers refl };
+      });
+      never = subst NeverCalled (sym is.at) (λ reply answered at said. absurd (cc));
+    }
+
+-- ---- what it leaves as it was
+
+record LeavesAll (tells : Bool) (first now : Posting) : Type 0 where
+  tables : KeepsTables tells first.scene.keepers now.scene.keepers
+  inboxes : now.inboxes ≡ first.inboxes
+
+leaves_on : (led : LedBy) (first : Posting) (p q : Reading) (old new : Posting) → LeavesAll led.tells first old
+    → PassesStage led (Read p) old (Read q) new → LeavesAll led.tells first new
+leaves_on led first p q old new so stage = record {
+  tables = keeps_trans led.tells first.scene.keepers old.scene.keepers new.scene.keepers so.tables stage.steps.tables;
+  inboxes = stage.steps.inboxes ∙ so.inboxes;
+}
+
+left_all : (tells : Bool) (first : Posting) (q : HeldPlan) (now : Posting) → OfRead (λ r x. LeavesAll tells first x) q now → LeavesAll tells first now
+left_all tells first (Read q) now so = so
+left_all tells first (Write q) now so = absurd so
+
+-- ---- all of its stages
+
+module _ (led : LedBy) (p : Reading) (old : Posting) (q : HeldPlan) (new : Posting) where
+  leaves : CarriesOut led (Read p) old q new → LeavesAll led.tells old new
+  leaves out = left_all led.tells old q new (read_keeps led (λ r x. LeavesAll led.tells old x) (leaves_on led old) out.stages p q old new
+      (record { tables = λ told at. refl; inboxes = refl }) out.passes)
+
+  pub whole_reads : WholeRead led p old q new
+  whole_reads = record {
+    cost = λ begun out reply over. tells_cost old.scene q new reply
+        (read_keeps led (CostsSoFar old.scene) (costs_on led old.scene) out.stages p q old new (begun_costs p old begun) out.passes) over;
+    tables = λ out. (leaves out).tables;
+    inboxes = λ out. (leaves out).inboxes;
+  }

@@ -6,10 +6,7 @@ use Rattle.clap.specs.Words.{IsAmong, Kinds}
 use Rattle.clap.specs.declared.error.kind.ErrorKind.{ErrorKind}
 use Rattle.clap.specs.declared.error.kind.ErrorKind.TheVariants.{OutOfMemory}
 use Rattle.command_words.specs.Read.{asks, asks_alone, is_asked}
-
-or_true : (b : Bool) → (b || true) ≡ true
-or_true true = refl
-or_true false = refl
+use Rattle.std.proofs.lemmas.Bool.{or_right}
 
 and_false : (b : Bool) → (b && false) ≡ false
 and_false true = refl
@@ -18,7 +15,7 @@ and_false false = refl
 pub among_asks : (kind : ErrorKind) (kinds : Kinds) → IsAmong kind kinds → is_asked kind ≡ true → asks kinds ≡ true
 among_asks kind [] among asked = absurd among
 among_asks kind (k ∷ ks) (inl same) asked = ap (λ b. b || asks ks) (ap is_asked (sym same) ∙ asked)
-among_asks kind (k ∷ ks) (inr among) asked = ap (λ b. is_asked k || b) (among_asks kind ks among asked) ∙ or_true (is_asked k)
+among_asks kind (k ∷ ks) (inr among) asked = ap (λ b. is_asked k || b) (among_asks kind ks among asked) ∙ or_right (is_asked k) true refl
 
 not_all : (kind : ErrorKind) (kinds : Kinds) → IsAmong kind kinds → is_asked kind ≡ false → list_all is_asked kinds ≡ false
 not_all kind [] among asked = absurd among

@@ -2,9 +2,9 @@
 use Rattle.std.specs.Prelude.{true, List, [], Option, Some, codes}
 use Rattle.clap.specs.Words.{App, Kinds, Row, Rule, Shape, Text, fault_of, new_app, new_rule, subcommand_of, with_rule, with_subcommand}
 
--- the option that names the file of the tables
+-- the option that names the file of the tables, with one name for its value
 abbrev pub sql_rule : Rule
-sql_rule = record (new_rule (codes "sql")) { long = Some (codes "sql") }
+sql_rule = record (new_rule (codes "sql")) { long = Some (codes "sql"); value_names = 1 }
 
 -- `run [--sql FILE]`
 abbrev pub run_shape : Shape
@@ -22,6 +22,7 @@ bare_app = record {
   subs = [];
 }
 
+-- the program with its one subcommand, `run`
 abbrev pub tao_app : App
 tao_app = with_subcommand bare_app run_shape
 

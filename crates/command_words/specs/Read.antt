@@ -14,7 +14,7 @@ use Rattle.command_words.specs.declared.read.WordsRefusal.TheVariants.{Usage, Ou
 abbrev pub file_in : Option (Text × List Row) → Option Text
 file_in named = option_and_then (λ sub. first_of (codes "sql") sub.1) named
 
--- these words, unless there is a fault of any kind
+-- what the words ask for, unless they have a fault of any kind
 abbrev pub unless_fault : Kinds → Words → Result Words WordsRefusal
 unless_fault [] words = Ok words
 unless_fault (kind ∷ kinds) words = Err Usage
@@ -39,11 +39,11 @@ is_asked kind.DisplayHelp = true
 is_asked kind.DisplayVersion = true
 is_asked _ = false
 
--- they have such a fault
+-- a fault among these asks for a text, of help or of the version
 abbrev pub asks : Kinds → Bool
 asks kinds = list_any is_asked kinds
 
--- they have no other fault
+-- each fault asks for a text, of help or of the version, and at least one is there
 abbrev pub asks_alone : Kinds → Bool
 asks_alone [] = false
 asks_alone (kind ∷ kinds) = is_asked kind && list_all is_asked kinds

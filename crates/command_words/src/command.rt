@@ -7,14 +7,33 @@ ghost use Rattle.clap.specs.declared.builder.command.Command.TheViews.{out-Comma
 use clap::{Arg, ArgMatches, Command, Error};
 use std::alloc::{AllocError, Global};
 
+/// What stands below each help.
+const EXAMPLE: &str = "Example: tao run < examples/tour.jsonl";
+
 /// The subcommand that serves standard input.
 fn run_command<'a>(alloc: Global) -> Result<Command<'a>, AllocError>
     ensures shape { IfOk result (λ c. shape_of c ≡ run_shape) }
     ensures local { IfOk result (λ c. (fields_of c).has_globals ≡ false) }
 {
     let sql = Arg::new(alloc, "sql").long("sql");
-    let run = Command::new(alloc, "run");
-    run.arg(sql)
+    let run = Command::new(alloc, "run")
+        .about(
+            "Reads a configuration line and then one JSON request a line, and writes one JSON reply a line",
+        )
+        .after_help(EXAMPLE);
+    run.arg(
+        sql.value_name("FILE").help(
+            "Keeps the tables in FILE, which is made if missing; without it they are in memory",
+        ),
+    )
+}
+
+/// The command with the texts of its help, which change nothing of how words are read.
+fn described<'a>(tao: Command<'a>) -> Command<'a>
+    ensures { app_of result ≡ app_of tao.entry }
+{
+    tao.about("TAO: a store for a social graph, with its caches, as one program")
+        .after_help(EXAMPLE)
 }
 
 /// The command with its subcommands.
@@ -27,7 +46,7 @@ fn tao_command<'a>(alloc: Global) -> Result<Command<'a>, AllocError>
         .no_binary_name(true)
         .disable_help_subcommand(true)
         .subcommand_required(true);
-    tao.subcommand(run)
+    described(tao).subcommand(run)
 }
 
 /// What the words are for the command.

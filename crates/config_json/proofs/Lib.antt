@@ -1,1 +1,1 @@
-mod KeptRules
+pub mod KeptRules

@@ -2,6 +2,12 @@
 //! breaks a rule.
 //!
 //! Contracts see a line as its bytes and a configuration as its settings.
+//!
+//! What it promises. A configuration line is taken exactly where it keeps the rules, defaults filled in; else the
+//! first broken field in the table's order, or the least strange one, is named; a second region is refused until
+//! it is built.
+//!
+//! The contracts that say so: `read_config`.
 #![tactic(auto)]
 
 pub mod config;

@@ -56,7 +56,7 @@ text_of (Some d) = option_map Some (as_str d)
 abbrev pub maybe_text_at : List ℕ → Data → Option (Option (List ℕ))
 maybe_text_at name d = text_of (get name d)
 
--- it is a text, and this one
+-- the second text is given and is the first one
 abbrev pub is_text : List ℕ → Option (List ℕ) → Bool
 is_text text None = false
 is_text text (Some other) = bytes_eq text other
@@ -81,7 +81,7 @@ texts_at name d = do
   ms ← option_and_then as_object (get name d)
   then_some (are_texts ms) ms
 
--- there is no member
+-- the object of these members is empty
 abbrev pub has_none : Members → Bool
 has_none no_members = true
 has_none (member key d ms) = false
@@ -101,7 +101,7 @@ abbrev pub first_strange : List (List ℕ) → Members → Option (List ℕ)
 first_strange names no_members = None
 first_strange names (member key d ms) = if list_any (λ name. bytes_eq name key) names then first_strange names ms else Some key
 
--- the same, of an object
+-- the first member of an object, in order of bytes, that has another name than these; None where each has one, or the value is no object
 abbrev pub strange_at : List (List ℕ) → Data → Option (List ℕ)
 strange_at names d = option_and_then (first_strange names) (as_object d)
 

@@ -16,7 +16,7 @@ abbrev pub given_before : List ℕ → Option Data → List (List ℕ × Data) �
 given_before name None ms = ms
 given_before name (Some d) ms = (name, d) ∷ ms
 
--- those members that are there
+-- the members whose value is there, in their order
 abbrev pub given : List (List ℕ × Option Data) → List (List ℕ × Data)
 given [] = []
 given (m ∷ ms) = given_before m.0 m.1 (given ms)

@@ -24,6 +24,7 @@ use Rattle.topology.specs.Config.{Settings}
 
 -- ---- whether a fill was kept, and else why not
 
+-- whether the cache kept the fill
 abbrev pub is_kept : KeptOrNot → Bool
 is_kept Kept = true
 is_kept (Not n) = false
@@ -33,12 +34,12 @@ abbrev pub had : KeptOrNot → Option Data
 had Kept = None
 had (Not n) = Some (whole n.have)
 
--- what it needed
+-- what a fill that was not kept would have needed
 abbrev pub needs : KeptOrNot → Option Data
 needs Kept = None
 needs (Not n) = Some (whole n.need)
 
--- why it was not kept
+-- why a fill was not kept; None where it was
 abbrev pub not_kept_why : KeptOrNot → Option Data
 not_kept_why Kept = None
 not_kept_why (Not n) = Some (text (not_kept_text n.why))

@@ -45,6 +45,6 @@ data_of s (Settled logs) = fields ((codes "logs", lengths_data logs) ∷ (codes 
 data_of s (Audited answer position) = audit_data s answer position
 data_of s (Refused refusal) = refusal_data s refusal
 
--- its text, with no space
+-- the text of a reply: JSON without spaces
 abbrev pub reply_text : Settings → Reply → List ℕ
 reply_text s reply = compact_text (data_of s reply)

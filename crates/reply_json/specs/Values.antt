@@ -51,11 +51,13 @@ count_told (Count n) = Some (whole n)
 count_told (EdgesAre edges) = None
 count_told (ObjectIs o) = None
 
+-- what stands under `edges`: None where the answer is a count or an object
 abbrev pub edges_told : Answer → Option Data
 edges_told (Count n) = None
 edges_told (EdgesAre edges) = Some (edges_data edges)
 edges_told (ObjectIs o) = None
 
+-- what stands under `object`, `null` of one that isn't there; None where the answer is a count or edges
 abbrev pub object_told : Settings → Answer → Option Data
 object_told s (Count n) = None
 object_told s (EdgesAre edges) = None

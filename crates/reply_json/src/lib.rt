@@ -2,6 +2,10 @@
 //!
 //! A reply holds nodes, regions and object types as their places; its text has the configuration's
 //! names for them.
+//!
+//! What it promises. The text of each reply and refusal, by the configuration's names.
+//!
+//! The contracts that say so: `reply_text`.
 #![tactic(auto)]
 
 mod calls;

@@ -42,32 +42,38 @@ edge_type s edge = do
 
 -- ---- writes
 
+-- `obj_add` with its object type looked up by name: an unknown type is refused first, then a shard that the configuration lacks
 abbrev pub checked_obj_add : Settings → ℕ → List ℕ → List Pair → Result Write NameRefused
 checked_obj_add s shard name payload = do
   otype ← otype_named s name
   there ← configured_shard s shard
   Ok (to_write.ObjAdd shard otype payload)
 
+-- `obj_update` with the id's shard checked; whether the object is there isn't looked at
 abbrev pub checked_obj_update : Settings → ℕ → List Pair → Result Write NameRefused
 checked_obj_update s id payload = do
   there ← configured_id s id
   Ok (to_write.ObjUpdate id payload)
 
+-- `obj_delete` with the id's shard checked; whether the object is there isn't looked at
 abbrev pub checked_obj_delete : Settings → ℕ → Result Write NameRefused
 checked_obj_delete s id = do
   there ← configured_id s id
   Ok (to_write.ObjDelete id)
 
+-- `assoc_add` with its type looked up by name: an unknown type is refused first, then the shard of id1, then that of id2
 abbrev pub checked_assoc_add : Settings → EdgeName → ℕ → List Pair → Result Write NameRefused
 checked_assoc_add s edge time payload = do
   atype ← edge_type s edge
   Ok (to_write.AssocAdd edge.list.id1 atype edge.id2 time payload)
 
+-- `assoc_delete` with its type looked up by name: an unknown type is refused first, then the shard of id1, then that of id2
 abbrev pub checked_assoc_delete : Settings → EdgeName → Result Write NameRefused
 checked_assoc_delete s edge = do
   atype ← edge_type s edge
   Ok (to_write.AssocDelete edge.list.id1 atype edge.id2)
 
+-- whether the second type, which may be missing, is the first one
 abbrev pub is_type : AType → Option AType → Bool
 is_type atype None = false
 is_type atype (Some other) = other.0 == atype.0
@@ -76,6 +82,7 @@ is_type atype (Some other) = other.0 == atype.0
 abbrev pub has_type : EdgeTypes → EdgeName → AType → AType → Bool
 has_type types edge atype newtype = atype.0 == newtype.0 || (edge.list.id1 == edge.id2 && is_type newtype (types.inverse atype))
 
+-- `assoc_change_type` with both types looked up by name, the old one first; a new type that the edge has already is refused last
 abbrev pub checked_assoc_change_type : Settings → EdgeName → List ℕ → Result Write NameRefused
 checked_assoc_change_type s edge name = do
   atype ← atype_named s edge.list.atype
@@ -84,6 +91,7 @@ checked_assoc_change_type s edge name = do
   changes ← refused_unless (SameType name) (not (has_type (types_of s.schema) edge atype newtype))
   Ok (to_write.AssocChangeType edge.list.id1 atype edge.id2 newtype)
 
+-- a client's write with its types looked up by name, or the first thing in it that is refused
 abbrev pub checked_write : Settings → WriteText → Result Write NameRefused
 checked_write s (ObjAdd shard otype payload) = checked_obj_add s shard otype payload
 checked_write s (ObjUpdate id payload) = checked_obj_update s id payload
@@ -98,32 +106,38 @@ checked_write s (AssocChangeType edge newtype) = checked_assoc_change_type s edg
 abbrev pub bounded_ids : Settings → AType → List ℕ → Result ⊤ NameRefused
 bounded_ids s atype ids = refused_unless (Limit ((types_of s.schema).bound atype) (length ids)) (nat_le (length ids) ((types_of s.schema).bound atype))
 
+-- `obj_get` with the id's shard checked; whether the object is there isn't looked at
 abbrev pub checked_obj_get : Settings → ℕ → Result Query NameRefused
 checked_obj_get s id = do
   there ← configured_id s id
   Ok (to_read.ObjGet id)
 
+-- `assoc_get` with its type looked up by name; more ids than the type's bound are refused last; a missing high or low is no limit of the times
 abbrev pub checked_assoc_get : Settings → ListName → List ℕ → Option ℕ → Option ℕ → Result Query NameRefused
 checked_assoc_get s list ids high low = do
   atype ← list_type s list
   fits ← bounded_ids s atype ids
   Ok (to_read.AssocGet list.id1 atype ids high low)
 
+-- `assoc_count` with its type looked up by name: an unknown type is refused first, then the shard of id1
 abbrev pub checked_assoc_count : Settings → ListName → Result Query NameRefused
 checked_assoc_count s list = do
   atype ← list_type s list
   Ok (to_read.AssocCount list.id1 atype)
 
+-- `assoc_range` with its type looked up by name: at most limit edges from the place pos on, where 0 is the newest edge
 abbrev pub checked_assoc_range : Settings → ListName → ℕ → ℕ → Result Query NameRefused
 checked_assoc_range s list pos limit = do
   atype ← list_type s list
   Ok (to_read.AssocRange list.id1 atype pos limit)
 
+-- `assoc_time_range` with its type looked up by name: at most limit edges of the times from low to high, both included
 abbrev pub checked_assoc_time_range : Settings → ListName → ℕ → ℕ → ℕ → Result Query NameRefused
 checked_assoc_time_range s list high low limit = do
   atype ← list_type s list
   Ok (to_read.AssocTimeRange list.id1 atype high low limit)
 
+-- a client's query with its types looked up by name, or the first thing in it that is refused
 abbrev pub checked_query : Settings → QueryText → Result Query NameRefused
 checked_query s (ObjGet id) = checked_obj_get s id
 checked_query s (AssocGet list ids high low) = checked_assoc_get s list ids high low

@@ -5,6 +5,7 @@ use Rattle.node_name.specs.declared.NodeName.TheVariants.{Store, Leader, Followe
 use Rattle.request_check.specs.declared.kind.NodeKind.{NodeKind}
 use Rattle.request_check.specs.declared.kind.NodeKind.TheVariants as of_kind
 
+-- whether the node is of the kind that a request takes: a cache is a leader or a follower, and stores are taken by Any alone
 abbrev pub takes : NodeKind → NodeName → Bool
 takes of_kind.Any node = true
 takes of_kind.Cache (Store store) = false

@@ -28,6 +28,7 @@ pub record IsPlacedWrite (s : Settings) (write : Write) : Type 0 where
 abbrev pub IsPlacedKey : Settings → Key → Type 0
 IsPlacedKey s key = key_shard key < s.shards
 
+-- the call's shard is one of the configuration's, and a change of an edge's type really changes it
 abbrev pub IsPlacedCall : Settings → CheckedCall → Type 0
 IsPlacedCall s (Writes call) = IsPlacedWrite s call.write
 IsPlacedCall s (Read call) = IsPlacedKey s (query_key call.query)

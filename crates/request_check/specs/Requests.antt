@@ -30,21 +30,25 @@ use Rattle.outcomes.specs.Results.{◌>>=◌}
 
 -- ---- sessions and plans
 
+-- an `open` with its region and tier looked up by name; of a tier that is missing the refusal names the region too
 abbrev pub checked_open : Settings → OpenCall → Result Checked NameRefused
 checked_open s opening = do
   found ← tier_named s opening.region opening.tier
   Ok (checked.Open opening.session found.region found.tier)
 
+-- a session's write with its types looked up by name; whether the session is open isn't looked at
 abbrev pub checked_write_call : Settings → WriteCall → Result CheckedWrite NameRefused
 checked_write_call s call = do
   write ← checked_write s call.write
   Ok (record { session = call.session; seq = call.seq; write = write })
 
+-- a session's read with its types looked up by name; whether the session is open isn't looked at
 abbrev pub checked_read_call : Settings → ReadCall → Result CheckedRead NameRefused
 checked_read_call s call = do
   query ← checked_query s call.query
   Ok (record { session = call.session; query = query; critical = call.critical })
 
+-- a session's write or read with its types looked up by name, or the first thing in it that is refused
 abbrev pub checked_call : Settings → Call → Result CheckedCall NameRefused
 checked_call s (Write call) = do
   write ← checked_write_call s call
@@ -53,6 +57,7 @@ checked_call s (Read call) = do
   read ← checked_read_call s call
   Ok (of_call.Read read)
 
+-- a `hold` with its call's types looked up by name; whether the plan's number is free isn't looked at
 abbrev pub checked_hold : Settings → ℕ → Call → Result Checked NameRefused
 checked_hold s plan call = do
   held ← checked_call s call
@@ -69,30 +74,35 @@ key_named s (Assocs list) = do
   atype ← list_type s list
   Ok (of_key.List list.id1 atype)
 
+-- the key that a request names, if any: None where it names none
 abbrev pub maybe_key_named : Settings → Option KeyName → Result (Option Key) NameRefused
 maybe_key_named s None = Ok None
 maybe_key_named s (Some name) = do
   key ← key_named s name
   Ok (Some key)
 
+-- an `evict` with its cache node and key looked up by name; without a key it is about the item that was used least recently
 abbrev pub checked_evict : Settings → List ℕ → Option KeyName → Result Checked NameRefused
 checked_evict s name given = do
   node ← node_named s Cache name
   key ← maybe_key_named s given
   Ok (checked.Evict node key)
 
+-- a `show` with its cache node and key looked up by name, the node first
 abbrev pub checked_show : Settings → List ℕ → KeyName → Result Checked NameRefused
 checked_show s name given = do
   node ← node_named s Cache name
   key ← key_named s given
   Ok (checked.Show node key)
 
+-- a leader, and the tier that suspects or trusts it, looked up by name: the tier's region first, then the tier, then the leader
 abbrev pub leader_place : Settings → LeaderName → Result LeaderPlace NameRefused
 leader_place s leader = do
   found ← tier_named s leader.region leader.tier
   node ← node_named s Leader leader.node
   Ok (record { region = found.region; tier = found.tier; node = node })
 
+-- the link from one node to another, stores too, looked up by name: the node that it leads from first
 abbrev pub link_place : Settings → LinkName → Result LinkPlace NameRefused
 link_place s link = do
   from ← node_named s Any link.from
@@ -101,12 +111,14 @@ link_place s link = do
 
 -- ---- stores
 
+-- a `stream` with its region looked up by name, then its shard checked; without a position it is about the entry that the store takes next
 abbrev pub checked_stream : Settings → List ℕ → ℕ → Option ℕ → Result Checked NameRefused
 checked_stream s name shard position = do
   region ← region_named s name
   there ← configured_shard s shard
   Ok (checked.Stream region shard position)
 
+-- a `repair` with its shard checked; whether a job is open there isn't looked at
 abbrev pub checked_repair : Settings → ℕ → Result Checked NameRefused
 checked_repair s shard = do
   there ← configured_shard s shard

@@ -3,7 +3,7 @@ use node_name::NodeName;
 use tao_base::{Key, Query, Write};
 
 /// A session's write, by its number.
-#[derive(Debug, Drop)]
+#[derive(Drop)]
 pub struct CheckedWrite {
     pub session: u32,
     pub seq: u64,
@@ -11,7 +11,7 @@ pub struct CheckedWrite {
 }
 
 /// A session's read. A critical one is answered by the master's leader.
-#[derive(Debug, Drop)]
+#[derive(Drop)]
 pub struct CheckedRead {
     pub session: u32,
     pub query: Query,
@@ -19,14 +19,14 @@ pub struct CheckedRead {
 }
 
 /// One of the eleven calls on objects and associations.
-#[derive(Debug, Drop)]
+#[derive(Drop)]
 pub enum CheckedCall {
     Write(CheckedWrite),
     Read(CheckedRead),
 }
 
 /// A leader, as the nodes of a tier see it.
-#[derive(Clone, Copy, Debug, PartialEq, Eq)]
+#[derive(Clone, Copy, PartialEq, Eq)]
 pub struct LeaderPlace {
     pub region: u16,
     pub tier: u16,
@@ -34,7 +34,7 @@ pub struct LeaderPlace {
 }
 
 /// The link from a node to another.
-#[derive(Clone, Copy, Debug, PartialEq, Eq)]
+#[derive(Clone, Copy, PartialEq, Eq)]
 pub struct LinkPlace {
     pub from: NodeName,
     pub to: NodeName,
@@ -42,7 +42,7 @@ pub struct LinkPlace {
 
 /// What a line asks, with places in place of names: each is of the configuration. Nodes are of the kind
 /// that the request takes.
-#[derive(Debug, Drop)]
+#[derive(Drop)]
 pub enum Checked {
     Open {
         session: u32,

@@ -5,7 +5,7 @@ ghost use Rattle.request_check.specs.Kind.{takes};
 use node_name::NodeName;
 
 /// Which nodes a request takes.
-#[derive(Clone, Copy, Debug, PartialEq, Eq)]
+#[derive(Clone, Copy, PartialEq, Eq)]
 pub(crate) enum NodeKind {
     Any,
     /// A leader or a follower.

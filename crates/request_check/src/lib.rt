@@ -2,6 +2,13 @@
 //!
 //! A request that is checked holds the places of what it names, and one that isn't is refused for the
 //! first name that isn't there.
+//!
+//! What it promises. A request's names are given their places in the configuration, or the first refusal of a
+//! name in a fixed order: tier, node, type, shard, the same type (also a loop turned to its type's inverse), too
+//! many ids; each region, tier, cache node, shard and key that is then named is the configuration's, and a change
+//! of type is one.
+//!
+//! The contracts that say so: `check` (`checked`, `placed`).
 #![tactic(auto)]
 
 mod calls;

@@ -5,7 +5,7 @@ use std::error::Error;
 use std::fmt;
 
 /// Why a request is refused before anything is done for it.
-#[derive(Debug, Drop)]
+#[derive(Drop)]
 pub enum CheckRefusal {
     /// The first name that is refused, as it is replied: `Reply::Refused(Refusal::Name(..))`.
     Refused(Reply),
@@ -22,10 +22,17 @@ impl fmt::Display for CheckRefusal {
     }
 }
 
+// By hand, so that no reply needs one: what it says is what Display says.
+impl fmt::Debug for CheckRefusal {
+    fn fmt<W: fmt::Write>(&self, f: &mut fmt::Formatter<W>) -> fmt::Result {
+        fmt::Display::fmt(self, f)
+    }
+}
+
 impl Error for CheckRefusal {}
 
 /// Why a name has no place.
-#[derive(Debug, Drop)]
+#[derive(Drop)]
 pub enum NameError {
     Refused(NameRefused),
     OutOfMemory,

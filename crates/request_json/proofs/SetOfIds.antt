@@ -4,6 +4,7 @@ use Rattle.std.proofs.lemmas.Bool.{cases_Bool}
 use Rattle.std.proofs.lemmas.Bool.Decides.{nat_tests}
 use Rattle.tao_base.specs.Ids.{IsRising}
 use Rattle.request_json.specs.IdSets.{put_id, id_set}
+use Rattle.tao_base.proofs.RisingNumbers.{rising_tail}
 
 -- the id is one of these
 abbrev IsIn : ℕ → List ℕ → Type 0
@@ -21,10 +22,6 @@ contains_from_in (next ∷ ids) id (inl e) = (0, omega arith, e)
 contains_from_in (next ∷ ids) id (inr h) = let c = contains_from_in ids id h in (suc c.0, omega (arith, c.1), c.2)
 
 -- ---- one rising list
-
-rest_rises : (id : ℕ) (ids : List ℕ) → IsRising (id ∷ ids) → IsRising ids
-rest_rises id [] up = tt
-rest_rises id (next ∷ ids) up = up.1
 
 first_is_below : (first : ℕ) (ids : List ℕ) (id : ℕ) → IsRising (first ∷ ids) → IsIn id ids → first < id
 first_is_below first [] id up h = absurd h
@@ -47,7 +44,7 @@ rising_only (x ∷ xs) (y ∷ ys) up vp to from =
     let below : y ≤ x = first_is_least y ys x vp (to x (inl refl)) in
     let above : x ≤ y = first_is_least x xs y up (from y (inl refl)) in
     let same : x ≡ y = omega arith in
-    let rest : xs ≡ ys = rising_only xs ys (rest_rises x xs up) (rest_rises y ys vp)
+    let rest : xs ≡ ys = rising_only xs ys (rising_tail x xs up) (rising_tail y ys vp)
     (λ id h. in_rest x y xs ys id same up h (to id (inr h)))
     (λ id h. in_rest y x ys xs id (sym same) vp h (from id (inr h))) in
     ap (λ z. z ∷ xs) same ∙ ap (λ zs. y ∷ zs) rest

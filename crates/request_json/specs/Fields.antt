@@ -24,7 +24,7 @@ said fields = view fields.value.now
 abbrev pub number_field : List ℕ → ℕ → ℕ → Data → Result ℕ LineRefusal
 number_field name least most d = needed (BadLine name) (number_at name least most d)
 
--- the same, which may be missing
+-- a whole number from the least to the most; None where the field is missing
 abbrev pub maybe_number_field : List ℕ → ℕ → ℕ → Data → Result (Option ℕ) LineRefusal
 maybe_number_field name least most d = needed (BadLine name) (maybe_number_at name least most d)
 
@@ -32,7 +32,7 @@ maybe_number_field name least most d = needed (BadLine name) (maybe_number_at na
 abbrev pub id_field : List ℕ → Data → Result ℕ LineRefusal
 id_field name d = needed (BadLine name) (id_at name d)
 
--- the same, which may be missing
+-- an id, whose serial isn't 0; None where the field is missing
 abbrev pub maybe_id_field : List ℕ → Data → Result (Option ℕ) LineRefusal
 maybe_id_field name d = needed (BadLine name) (maybe_id_at name d)
 
@@ -44,7 +44,7 @@ ids_field name d = needed (BadLine name) (option_map id_set (each_at id_of name 
 abbrev pub text_field : List ℕ → Data → Result (List ℕ) LineRefusal
 text_field name d = needed (BadLine name) (text_at name d)
 
--- the same, which may be missing
+-- a text; None where the field is missing
 abbrev pub maybe_text_field : List ℕ → Data → Result (Option (List ℕ)) LineRefusal
 maybe_text_field name d = needed (BadLine name) (maybe_text_at name d)
 
@@ -52,11 +52,12 @@ maybe_text_field name d = needed (BadLine name) (maybe_text_at name d)
 abbrev pub flag_field : List ℕ → Data → Result Bool LineRefusal
 flag_field name d = needed (BadLine name) (option_map (λ flag. unwrap_or flag false) (flag_at name d))
 
--- no field has another name than these, or else the least that has
+-- the name of a strange field, where there is one, is what the line is refused for
 abbrev pub none_strange : Option (List ℕ) → Result ⊤ LineRefusal
 none_strange None = Ok tt
 none_strange (Some name) = Err (BadLine name)
 
+-- no field of the object has another name than these; of those that have, the least in order of bytes is refused
 abbrev pub only_fields : List (List ℕ) → Data → Result ⊤ LineRefusal
 only_fields names d = none_strange (strange_at names d)
 

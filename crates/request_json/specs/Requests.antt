@@ -29,6 +29,7 @@ use Rattle.request_json.specs.Word.{word_of}
 
 -- ---- sessions and plans
 
+-- the fields of `open`: a session's number, and the names of the region and tier that it opens in
 abbrev pub open_of : Data → Result Request LineRefusal
 open_of d = do
   session ← session_field d
@@ -59,12 +60,15 @@ abbrev pub read_by : Option Word → Data → Result ReadCall LineRefusal
 read_by (Some (word.Read word)) d = read_of word d
 read_by other d = Err (BadLine (codes "do"))
 
+-- the request within a request: the object in the field `request`
 abbrev pub inner_field : Data → Result Data LineRefusal
 inner_field d = needed (BadLine (codes "request")) (object_at (codes "request") d)
 
+-- the number of a held plan, from 0 to 2^32 - 1
 abbrev pub plan_field : Data → Result ℕ LineRefusal
 plan_field d = number_field (codes "plan") 0 (2 ^ 32 - 1) d
 
+-- the fields of `hold`: a plan's number, and the call that is held under it
 abbrev pub hold_of : Data → Result Request LineRefusal
 hold_of d = do
   plan ← plan_field d
@@ -72,18 +76,21 @@ hold_of d = do
   call ← asked_within (codes "do" ∷ codes "plan" ∷ codes "request" ∷ []) d (call_by (word_of inner) inner)
   Ok (request.Hold plan call)
 
+-- the fields of `advance`: the number of the plan that goes one stage on
 abbrev pub advance_of : Data → Result Request LineRefusal
 advance_of d = do
   plan ← plan_field d
   known ← only_fields (codes "do" ∷ codes "plan" ∷ []) d
   Ok (request.Advance plan)
 
+-- the fields of `audit`: the read that is answered from the log alone
 abbrev pub audit_of : Data → Result Request LineRefusal
 audit_of d = do
   inner ← inner_field d
   read ← asked_within (codes "do" ∷ codes "request" ∷ []) d (read_by (word_of inner) inner)
   Ok (request.Audit read)
 
+-- a `settle` has no field but its word
 abbrev pub settle_of : Data → Result Request LineRefusal
 settle_of d = do
   known ← only_fields (codes "do" ∷ []) d
@@ -91,12 +98,14 @@ settle_of d = do
 
 -- ---- nodes
 
+-- the node's name, of a request that has no other field
 abbrev pub node_of : Data → Result (List ℕ) LineRefusal
 node_of d = do
   node ← text_field (codes "node") d
   known ← only_fields (codes "do" ∷ codes "node" ∷ []) d
   Ok node
 
+-- a node's name, and the place of a message in its inbox, from 0
 abbrev pub message_of : Data → Result MessageName LineRefusal
 message_of d = do
   node ← text_field (codes "node") d
@@ -104,6 +113,7 @@ message_of d = do
   known ← only_fields (codes "do" ∷ codes "node" ∷ codes "message" ∷ []) d
   Ok (record { node = node; message = message })
 
+-- the names of a leader and of the tier that suspects or trusts it
 abbrev pub leader_of : Data → Result LeaderName LineRefusal
 leader_of d = do
   region ← text_field (codes "region") d
@@ -112,6 +122,7 @@ leader_of d = do
   known ← only_fields (codes "do" ∷ codes "region" ∷ codes "tier" ∷ codes "node" ∷ []) d
   Ok (record { region = region; tier = tier; node = node })
 
+-- the names of two nodes: the one that the link leads from, and the one that it leads to
 abbrev pub link_of : Data → Result LinkName LineRefusal
 link_of d = do
   from ← text_field (codes "from") d
@@ -126,6 +137,7 @@ key_given (Some id) None None = Ok (Some (key.Object id))
 key_given None (Some id1) (Some atype) = Ok (Some (key.List (record { id1 = id1; atype = atype })))
 key_given id id1 atype = Err (BadLine (codes "id"))
 
+-- the key that the fields `id`, or `id1` and `atype`, name; None where all three are missing
 abbrev pub key_fields : Data → Result (Option KeyName) LineRefusal
 key_fields d = do
   id ← maybe_id_field (codes "id") d
@@ -133,6 +145,7 @@ key_fields d = do
   atype ← maybe_text_field (codes "atype") d
   key_given id id1 atype
 
+-- the fields of `evict`: a node's name and a key, which may be missing
 abbrev pub evict_of : Data → Result Request LineRefusal
 evict_of d = do
   node ← text_field (codes "node") d
@@ -140,6 +153,7 @@ evict_of d = do
   known ← only_fields (codes "do" ∷ codes "node" ∷ codes "id" ∷ codes "id1" ∷ codes "atype" ∷ []) d
   Ok (request.Evict node key)
 
+-- the fields of `show`: a node's name and a key, without which the field `id` is refused
 abbrev pub show_of : Data → Result Request LineRefusal
 show_of d = do
   node ← text_field (codes "node") d
@@ -150,9 +164,11 @@ show_of d = do
 
 -- ---- stores
 
+-- the number of a shard, from 0 to 2^16 - 1
 abbrev pub shard_field : Data → Result ℕ LineRefusal
 shard_field d = number_field (codes "shard") 0 (2 ^ 16 - 1) d
 
+-- the fields of `stream`: a region's name, a shard, and an entry's position; None is the entry that the store takes next
 abbrev pub stream_of : Data → Result Request LineRefusal
 stream_of d = do
   region ← text_field (codes "region") d
@@ -161,6 +177,7 @@ stream_of d = do
   known ← only_fields (codes "do" ∷ codes "region" ∷ codes "shard" ∷ codes "position" ∷ []) d
   Ok (request.Stream region shard position)
 
+-- the fields of `repair`: the shard whose first job is run
 abbrev pub repair_of : Data → Result Request LineRefusal
 repair_of d = do
   shard ← shard_field d

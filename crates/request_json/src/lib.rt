@@ -1,4 +1,9 @@
 //! The lines of requests: the JSON that says one, field by field.
+//!
+//! What it promises. A line is a request exactly where it is one of the 31 words with its fields; else the first
+//! broken rule is named; then the size of its data.
+//!
+//! The contracts that say so: `read_request`.
 #![tactic(auto)]
 
 mod calls;

@@ -1,5 +1,10 @@
 //! Scripts of whole runs: what a text tells of them, and whether a run ended as it has to. `docs/SCRIPTS.md`
 //! has the format.
+//!
+//! What it promises. A run is right exactly where it wrote the expected replies, byte for byte, and ended with
+//! the expected status.
+//!
+//! The contracts that say so: `fault_of`.
 #![tactic(auto)]
 
 mod compare;

@@ -21,7 +21,7 @@ line_limit = 1048576
 abbrev pub IsTooLong : List ℕ → Type 0
 IsTooLong line = line_limit < length line
 
--- these lines came out of the known bytes, and the lines of those left are the rest
+-- the lines came out of the known bytes, and the lines of those left are the rest; of unknown bytes nothing is said
 abbrev pub GivesLines : Option (List ℕ) → Option (List ℕ) → List (List ℕ) → Type 0
 GivesLines None left lines = ⊤
 GivesLines (Some bytes) None lines = ⊥

@@ -1,4 +1,4 @@
-// The lines of a source, one at a time and each in bounded memory.
+//! The lines of a source, one at a time and each in bounded memory.
 ghost use Rattle.std.specs.Prelude.{◌≡◌, ◌+◌, ◌<◌, ◌≤◌, ◌++◌, [], Ok, true, false, IfOk, OnOk, IsErrOf, length, take, vec_len};
 ghost use Rattle.std.specs.Io.KnownBytes.{ReadConsumes, Keeps, IsAtEnd};
 ghost use Rattle.counts.specs.Count.{Rose, HasCause};

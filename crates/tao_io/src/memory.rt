@@ -1,4 +1,4 @@
-// A source and a sink over memory, which fail at the calls that they are told to fail at.
+//! A source and a sink over memory, which fail at the calls that they are told to fail at.
 ghost use Rattle.std.specs.Prelude.{◌≡◌, ◌↔◌, [], length, take, min, IsErr, IfOk};
 ghost use Rattle.std.specs.Io.{ReadsAtMost, WritesAtMost};
 ghost use Rattle.std.specs.Io.KnownBytes.{ReadConsumes, WriteAppends};

@@ -1,3 +1,4 @@
+//! The faults of a source or sink in memory: at which calls it fails, and how many it counted.
 ghost use Rattle.std.specs.Prelude.{◌≡◌, ◌≤◌, ◌↔◌, IsTrue};
 ghost use Rattle.counts.specs.Planned.{FailsNext, after_next};
 ghost use Rattle.tao_io.specs.Plan.{new_plan, CountsFault};

@@ -1,3 +1,4 @@
+//! The readers and writers of std as sources and sinks.
 // Thin over std: no proof tells what a real stream holds.
 ghost use Rattle.std.specs.Prelude.{◌≡◌};
 

@@ -1,3 +1,4 @@
+//! The exit status of a program.
 ghost use Rattle.std.specs.Prelude.{◌≡◌};
 
 use std::process::ExitCode;

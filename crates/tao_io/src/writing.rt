@@ -1,3 +1,4 @@
+//! Writing all of some bytes to a sink.
 ghost use Rattle.std.specs.Prelude.{OnOk, OnErr};
 ghost use Rattle.std.specs.Io.KnownBytes.{Appends};
 ghost use Rattle.counts.specs.Count.{HasCause};

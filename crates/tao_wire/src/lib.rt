@@ -1,5 +1,7 @@
 //! The lines of the store: the configuration's, which comes first, the requests, and their replies.
 //! Each stands in a crate of its own, and its types apart from how a line spells them.
+//!
+//! What it promises. The readings and the spelling, in one place.
 #![tactic(auto)]
 
 pub use config_json::{ConfigRefusal, read_config};

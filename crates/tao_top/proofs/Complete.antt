@@ -1,6 +1,8 @@
 -- A good run where nothing fails ends well, or for want of memory.
 use Rattle.std.proofs.Common.{◌≡◌, ◌⊎◌, ◌≤◌, ◌^◌, ℕ, Bool, List, [], ◌∷◌, ◌++◌, length, Option, IfSome, inl, inr, refl, sym, subst, ◌∙◌, lit<, arith}
 use Rattle.tao_io.specs.Lines.{lines_of}
+use Rattle.core_model.specs.Stores.{store_count}
+use Rattle.core_nodes.proofs.OpenLemmas.{all_first}
 use Rattle.core_nodes.specs.Opening.{AreReady}
 use Rattle.core_nodes.specs.Repairs.{Outside}
 use Rattle.tao_top.specs.Served.{AreLines, LinesBegin, RefusesConfiguration, IsConfigurationRefused}
@@ -28,7 +30,8 @@ module _ (tells : Bool) (words : List (List ℕ)) (old now : Outside) (left befo
       let accepted = good.accepted in
       let same : is.settings ≡ good.settings = cc (one, accepted) in
       let other = is.other good.told in
-      other.other (subst (λ s. AreReady s good.first s.shards old.keepers.told) (sym same) good.ready other.shard other.configured)
+      other.other (subst (λ s. AreReady s good.first (store_count s) old.keepers.told) (sym same) good.ready other.store
+      (all_first is.settings other.store other.configured))
 
   not_refused : (field : List ℕ) → IsConfigurationRefused tells old now left field → ⊥
   not_refused field (inl missing) =

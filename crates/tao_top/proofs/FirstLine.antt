@@ -9,6 +9,7 @@ use Rattle.config_json.specs.declared.refusal.ConfigRefusal.TheVariants.{BadConf
 use Rattle.graph_model.specs.Told.{WhereTold}
 use Rattle.replies.specs.declared.reply.Reply.TheVariants.{BadConfiguration, Configured}
 use Rattle.tao_core.specs.Core.{CoreState, IsCoreOf, IsNewCore}
+use Rattle.core_nodes.specs.Beginning.{AreAtStores}
 use Rattle.core_nodes.specs.Opening.{IsOpened, IsOpenedInPart, IsOtherLine}
 use Rattle.tao_link.specs.Shown.{LinkShown}
 use Rattle.tao_io.specs.Lines.{GivesLines, IsTooLong, NextLineIs}
@@ -95,13 +96,15 @@ module _ (left rest before after : Option (List ℕ)) where
 module _ (tells : Bool) (old now : Outside) (line : List ℕ) (s : Settings) (configured : config_in line ≡ Ok s) (later : IsLater old.keepers now.keepers)
     (stays : now.link ≡ old.link) where
   pub takes : (core : CoreState) → core.settings ≡ s → IsNewCore core → IsCoreOf tells now.keepers.told core
+      → WhereTold tells (AreAtStores now.keepers.told core.fleet)
       → WhereTold tells (IsOpened s line old.keepers.told now.keepers.told) → Step tells (start old) line Configured (serves core now)
-  takes core is begun of_core opened = record {
+  takes core is begun of_core ends opened = record {
     does = record {
       configured = subst (λ t. config_in line ≡ Ok t) (sym is) configured;
       begun = begun;
       opened = λ told. subst (λ t. IsOpened t line old.keepers.told now.keepers.told) (sym is) (opened told);
       of_core = of_core;
+      ends = ends;
       link = stays;
     };
     later = later;
@@ -113,15 +116,17 @@ module _ (tells : Bool) (old now : Outside) (line : List ℕ) (s : Settings) (co
 
   module _ (before after : Option (List ℕ)) where
     pub begins : (core : CoreState) → core.settings ≡ s → IsNewCore core → IsCoreOf tells now.keepers.told core
+        → WhereTold tells (AreAtStores now.keepers.told core.fleet)
         → WhereTold tells (IsOpened s line old.keepers.told now.keepers.told) → Appends before after (reply_line (serving core) Configured)
         → Replies tells (start old) line (serves core now) (Appends before after)
-    begins core is begun of_core opened written = (Configured, takes core is begun of_core opened, written)
+    begins core is begun of_core ends opened written = (Configured, takes core is begun of_core ends opened, written)
 
     pub begun_silent : (core : CoreState) → core.settings ≡ s → IsNewCore core → IsCoreOf tells now.keepers.told core
+        → WhereTold tells (AreAtStores now.keepers.told core.fleet)
         → WhereTold tells (IsOpened s line old.keepers.told now.keepers.told) → AppendsPart before after (reply_line (serving core) Configured)
         → (code : ℕ) → BegunInPart code tells (traces old before) (traces now after) line
-    begun_silent core is begun of_core opened written code =
-        inr (serves core now, (Configured, takes core is begun of_core opened, written), still_refl tells now (serves core now) refl)
+    begun_silent core is begun of_core ends opened written code =
+        inr (serves core now, (Configured, takes core is begun of_core ends opened, written), still_refl tells now (serves core now) refl)
 
     pub begun_other : WhereTold tells (IsOtherLine s line old.keepers.told now.keepers.told) → AppendsPart before after (refusal_line (codes "file"))
         → (code : ℕ) → BegunInPart code tells (traces old before) (traces now after) line
@@ -142,11 +147,12 @@ module _ (tells : Bool) (old now : Outside) (line : List ℕ) (s : Settings) (co
 -- so its reply was begun, whatever a link shows
 pub begun_whatever : (tells : Bool) (old now : KeeperState) (line : List ℕ) (s : Settings) (configured : config_in line ≡ Ok s) (later : IsLater old now)
     (before after : Option (List ℕ)) (core : CoreState)
-    → core.settings ≡ s → IsNewCore core → IsCoreOf tells now.told core → WhereTold tells (IsOpened s line old.told now.told)
+    → core.settings ≡ s → IsNewCore core → IsCoreOf tells now.told core → WhereTold tells (AreAtStores now.told core.fleet)
+    → WhereTold tells (IsOpened s line old.told now.told)
     → AppendsPart before after (reply_line (serving core) Configured)
     → (code : ℕ) (link : LinkShown) → BegunInPart code tells (traces (outside old link) before) (traces (outside now link) after) line
-begun_whatever tells old now line s configured later before after core is begun of_core opened written code link =
-    begun_silent tells (outside old link) (outside now link) line s configured later refl before after core is begun of_core opened written code
+begun_whatever tells old now line s configured later before after core is begun of_core ends opened written code link =
+    begun_silent tells (outside old link) (outside now link) line s configured later refl before after core is begun of_core ends opened written code
 
 -- ---- both
 

@@ -10,6 +10,7 @@ use Rattle.tao_io.specs.Lines.{lines_of, GivesLines}
 use Rattle.core_nodes.specs.Repairs.{Outside}
 use Rattle.tao_top.specs.Served.{AreLines, LinesBegin, AppendsPart, IsStill, Served, ServedAll, ServedInPart, joined, streams}
 use Rattle.tao_top.specs.Step.{State, Replies, RunsLines, reply_line}
+use Rattle.tao_io.proofs.LineLaws.{lines_of-nil}
 
 -- ---- the parts of a run
 
@@ -45,10 +46,6 @@ pub LinesBegin-after : (a b : Option (List ℕ)) (ls ms : List (List ℕ)) → G
 LinesBegin-after None b ls ms p q = tt
 LinesBegin-after (Some x) None ls ms p q = absurd p
 LinesBegin-after (Some x) (Some y) ls ms p q = (q.0, p ∙ ap (λ l. ls ++ l) q.1 ∙ sym (append_assoc ls ms q.0))
-
-lines_of-nil : lines_of [] ≡ []
-unfolding lines_of
-lines_of-nil = refl
 
 pub GivesLines-all : (a b : Option (List ℕ)) (ls : List (List ℕ)) → GivesLines a b ls → IsAtEnd b → AreLines a ls
 GivesLines-all None b ls p end = tt

@@ -1,6 +1,6 @@
 -- What the keepers' tables allow, they still allow once stores were opened.
-use Rattle.std.proofs.Common.{◌≡◌, ◌≢◌, ℕ, zero, suc, ◌+◌, ◌<◌, nat_lt, ◌⊎◌, Bool, true, false, List, [], Option, Some, None, Ok, unwrap_or, refl}
-use Rattle.std.proofs.Common.{sym, ap, subst, ◌∙◌, inl, inr}
+use Rattle.std.proofs.Common.{◌≡◌, ℕ, zero, suc, ◌+◌, nat_lt, ◌⊎◌, Bool, true, false, List, [], Option, Some, None, Ok, unwrap_or, refl}
+use Rattle.std.proofs.Common.{sym, ap, subst, ◌∙◌, inl, inr, arith}
 use Rattle.tao_keeper.specs.KeeperState.{KeeperState}
 use Rattle.std.specs.Prelude.{if◌then◌else◌}
 use Rattle.config_json.specs.Config.{config_in}
@@ -10,11 +10,11 @@ use Rattle.master_tables.specs.Masters.{each_shard}
 use Rattle.tao_base.specs.declared.entry.Entry.{Entry}
 use Rattle.tao_base.specs.declared.id.StoreName.{StoreName}
 use Rattle.tao_core.specs.Core.{CoreState, IsCoreOf}
-use Rattle.core_nodes.specs.Opening.{AreOpened, IsOpened, RefusesOpening}
+use Rattle.core_nodes.specs.Opening.{AreOpened, IsFirst, IsOpened, RefusesOpening}
 use Rattle.core_nodes.proofs.OpenedLogs.{opened_keep}
-use Rattle.core_nodes.proofs.StoreLemmas.{first_or_other}
+use Rattle.core_nodes.proofs.OpenLemmas.{all_first, first_or_other}
 use Rattle.core_model.proofs.KeptStores.{kept_same}
-use Rattle.core_model.specs.Stores.{master_log, master_store, stores_in}
+use Rattle.core_model.specs.Stores.{master_log, master_store, store_count, store_place, stores_in}
 use Rattle.tao_keeper.proofs.Growing.{grow_in_turn, stays_grow}
 use Rattle.tao_keeper.specs.Table.{Table, Tables, OpensAs, after_open, empty_table}
 use Rattle.tao_keeper.specs.declared.keeper.Opened.TheVariants.{Ready}
@@ -54,18 +54,18 @@ empty_kept tables empty line s configured ready =
     (λ shard. no_logs (master_log s tables) 0 s.shards shard (λ i. ap (λ t. t.log) (empty (master_store s i))))
     (λ shard position. no_job (nat_lt shard s.shards) ((tables (master_store s shard)).jobs position)
     (ap (λ t. t.jobs position) (empty (master_store s shard))))
+    (λ shard. omega arith)
 
 -- with stores that were opened a run may begin as before
 pub still_opened : (s : Settings) (line : List ℕ) (count : ℕ) (old new : Tables) → AreOpened s line count old new → StillBegin old new
 still_opened s line count old new opened other may t configured ready =
     kept_same t old new (opened_keep s line count old new opened)
-    (may t configured (λ shard within. ready_at (master_store t shard) (first_or_other s count (master_store t shard)) (ready shard within)))
+    (may t configured (λ at first. ready_at at (first_or_other s count at) (ready at first)))
   where
-    ready_at : (at : StoreName) → ((at.shard < count) × (at ≡ master_store s at.shard)) ⊎ ((n : ℕ) → n < count → at ≢ master_store s n)
+    ready_at : (at : StoreName) → IsFirst s count at ⊎ (IsFirst s count at → ⊥)
         → OpensAs Ready (new at) other → OpensAs Ready (old at) other
     ready_at at (inl first) ready =
-        let becomes : new at ≡ after_open (old at) line = subst (λ a. new a ≡ after_open (old a) line) (sym first.1) (opened.stores at.shard first.0) in
-        ready_before (old at) line other (subst (λ x. OpensAs Ready x other) becomes ready)
+        ready_before (old at) line other (subst (λ x. OpensAs Ready x other) (opened.stores at first) ready)
     ready_at at (inr none) ready = subst (λ x. OpensAs Ready x other) (opened.others at none) ready
 
 -- nothing changes
@@ -83,15 +83,20 @@ leaves_then tells old mid new first second = record {
 pub still_refused : (tells : Bool) (s : Settings) (line : List ℕ) (old new : KeeperState) (refused : OpenRefusal) → RefusesOpening tells s line old new refused
     → WhereTold tells (StillBegin old.told new.told)
 still_refused tells s line old new refusal.KeeperFault h = λ told. let part = h.1 told in still_opened s line part.count old.told new.told part.opened
-still_refused tells s line old new refusal.OtherLine h = λ told. let other = h told in still_opened s line (other.shard + 1) old.told new.told other.opened
+still_refused tells s line old new refusal.OtherLine h = λ told.
+    let other = h told in
+    still_opened s line (store_place s other.store + 1) old.told new.told other.opened
+still_refused tells s line old new (refusal.Disagree at position) h = λ told.
+    let opened = (h.1 told).opened in
+    still_opened s line (store_count s) old.told new.told opened.opened
 still_refused tells s line old new refusal.OutOfMemory h = λ told. let part = h told in still_opened s line part.count old.told new.told part.opened
 
 -- ---- a core that serves
 
 opened_with : (s : Settings) (line : List ℕ) (old new : Tables) → config_in line ≡ Ok s → IsOpened s line old new → AreOpenedWith s new
-opened_with s line old new configured opened = λ shard within. record {
+opened_with s line old new configured opened = λ at here. record {
   line = line;
-  first = ap (λ t. t.line) (opened.opened.stores shard within) ∙ ap (λ l. Some l) (opened.ready shard within);
+  first = ap (λ t. t.line) (opened.opened.stores at (all_first s at here)) ∙ ap (λ l. Some l) (opened.ready at (all_first s at here));
   configured = configured;
 }
 

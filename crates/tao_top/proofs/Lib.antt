@@ -1,4 +1,5 @@
 pub mod Complete
+pub mod Configured
 pub mod FirstLine
 pub mod GoingOn
 pub mod Growing

@@ -25,7 +25,7 @@ RefusesInPart line before after = Appends before after [] ⊎ RefusesFor line (A
 abbrev pub EndsAtFirst : Option (List ℕ) → Option (List ℕ) → Option (List ℕ) → Type 0
 EndsAtFirst left before after = (tells : Bool) (around : Outside) → DoneInPart tells around around left before after
 
--- and there is no configuration
+-- whatever keepers and a link show, they are left alone, and the first line is refused, since it is no configuration
 abbrev pub RefusesFirst : Option (List ℕ) → Option (List ℕ) → Option (List ℕ) → Type 0
 RefusesFirst left before after = (tells : Bool) (around : Outside) → RefusesConfiguration tells around around left before after
 

@@ -1,10 +1,11 @@
 -- What a run asks of the keepers' tables, what it keeps while it serves, and what it leaves.
-use Rattle.std.specs.Prelude.{ℕ, ◌≡◌, ◌<◌, Bool, List, [], ◌∷◌, Option, Some, Ok}
+use Rattle.std.specs.Prelude.{ℕ, ◌≡◌, Bool, List, [], ◌∷◌, Option, Some, Ok}
 use Rattle.config_json.specs.Config.{config_in}
 use Rattle.graph_model.specs.Told.{WhereTold}
 use Rattle.tao_core.specs.Core.{CoreState, IsCoreOf}
 use Rattle.core_nodes.specs.Opening.{MayOpen}
-use Rattle.core_model.specs.Stores.{master_store}
+use Rattle.core_model.specs.Stores.{IsConfiguredStore}
+use Rattle.tao_base.specs.declared.id.StoreName.{StoreName}
 use Rattle.tao_keeper.specs.Growing.{LogsGrow}
 use Rattle.tao_keeper.specs.KeeperState.{KeeperState}
 use Rattle.tao_keeper.specs.Table.{Table, Tables}
@@ -15,7 +16,7 @@ use Rattle.topology.specs.Config.{Settings}
 abbrev pub MayBegin : List ℕ → Tables → Type 0
 MayBegin line tables = (s : Settings) → config_in line ≡ Ok s → MayOpen s line tables
 
--- so it may with the first of the known lines, and with any line where they aren't known
+-- a run may begin with the first of the known lines, and with any line where they aren't known
 abbrev pub MayRun : Option (List ℕ) → Tables → Type 0
 MayRun left tables = (line : List ℕ) → LinesBegin left (line ∷ []) → MayBegin line tables
 
@@ -38,9 +39,9 @@ pub record IsOpenedWith (s : Settings) (table : Table) : Type 0 where
   pub first : table.line ≡ Some line
   pub configured : config_in line ≡ Ok s
 
--- so was the store of each shard
+-- each store of the configuration was first opened with it
 abbrev pub AreOpenedWith : Settings → Tables → Type 0
-AreOpenedWith s tables = (shard : ℕ) → shard < s.shards → IsOpenedWith s (tables (master_store s shard))
+AreOpenedWith s tables = (at : StoreName) → IsConfiguredStore s at → IsOpenedWith s (tables at)
 
 -- a core serves from these tables: its stores were opened with its configuration
 pub record MayServe (tells : Bool) (core : CoreState) (tables : Tables) : Type 0 where

@@ -10,7 +10,7 @@ MayServeAt tells waiting around = ⊤
 MayServeAt tells (serving core) around = IsCoreOf tells around.keepers.told core
 MayServeAt tells ended around = ⊤
 
--- so at a state
+-- a run may go on from a state
 abbrev pub MayGoOn : Bool → State → Type 0
 MayGoOn tells state = MayServeAt tells state.stage state.outside
 

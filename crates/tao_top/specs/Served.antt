@@ -51,6 +51,7 @@ pub record Streams : Type 0 where
   pub left : Option (List ℕ)
   pub written : Option (List ℕ)
 
+-- a source that has this left, and a sink that took this
 abbrev pub streams : Option (List ℕ) → Option (List ℕ) → Streams
 streams left written = record { left = left; written = written }
 
@@ -112,7 +113,7 @@ DoneInPart tells old now left before after = LacksConfiguration old now left bef
 abbrev pub StopsOpening : Bool → Outside → Outside → Option (List ℕ) → Option (List ℕ) → Option (List ℕ) → Type 0
 StopsOpening tells old now left before after = (line : List ℕ) × LinesBegin left (line ∷ []) × OpensInPart tells old now line before after
 
--- so it stopped because the keepers failed there
+-- the run stopped at the opening of its stores, since the keepers failed there
 pub record FailsOpening (tells : Bool) (old now : Outside) (left before after : Option (List ℕ)) : Type 0 where
   pub opening : StopsOpening tells old now left before after
   pub rose : Rose old.keepers.faults now.keepers.faults
@@ -126,6 +127,7 @@ pub record Traces : Type 0 where
   pub outside : Outside
   pub written : Option (List ℕ)
 
+-- what keepers and a link show, with what the sink took
 abbrev pub traces : Outside → Option (List ℕ) → Traces
 traces around written = record { outside = around; written = written }
 

@@ -4,6 +4,7 @@ use Rattle.tao_keeper.specs.KeeperState.{KeeperState}
 use Rattle.command_words.specs.Read.{words_in}
 use Rattle.counts.specs.Count.{Rose}
 use Rattle.config_json.specs.Config.{config_in}
+use Rattle.core_model.specs.Stores.{store_count}
 use Rattle.core_nodes.specs.Opening.{AreReady}
 use Rattle.tao_io.specs.Lines.{lines_of}
 use Rattle.tao_top.specs.Stop.{Faults}
@@ -25,7 +26,7 @@ pub record IsGood (tells : Bool) (words : List (List ℕ)) (keepers : KeeperStat
   pub lines : lines_of bytes ≡ first ∷ others
   pub accepted : config_in first ≡ Ok settings
   pub told : tells ≡ true
-  pub ready : AreReady settings first settings.shards keepers.told
+  pub ready : AreReady settings first (store_count settings) keepers.told
 
 -- nothing failed
 pub record NoFault (old new : Faults) (keepers_before keepers_now : ℕ) : Type 0 where

@@ -3,6 +3,8 @@ use Rattle.std.specs.Prelude.{◌≡◌, ◌⊎◌, ℕ, Bool, List, [], ◌∷�
 use Rattle.tao_keeper.specs.KeeperState.{IsLater}
 use Rattle.config_json.specs.Config.{config_in}
 use Rattle.core_model.specs.Consistent.{GoesOn}
+use Rattle.core_model.specs.Growing.{StoresGrow}
+use Rattle.core_nodes.specs.Beginning.{AreAtStores}
 use Rattle.config_json.specs.declared.refusal.ConfigRefusal.TheVariants.{BadConfig}
 use Rattle.graph_model.specs.Told.{WhereTold}
 use Rattle.reply_json.specs.Reply.{reply_text}
@@ -14,7 +16,7 @@ use Rattle.request_json.specs.Requests.{request_in}
 use Rattle.request_json.specs.declared.refusal.LineRefusal.{LineRefusal}
 use Rattle.request_json.specs.declared.refusal.LineRefusal.TheVariants.{BadLine, TooLarge, OutOfMemory}
 use Rattle.requests.specs.declared.request.Request.{Request}
-use Rattle.tao_core.specs.Core.{CoreState, IsCoreOf, IsNewCore, Moment}
+use Rattle.tao_core.specs.Core.{ComeUp, CoreState, IsCoreOf, IsNewCore, Moment}
 use Rattle.core_nodes.specs.Opening.{IsOpened, IsOtherLine}
 use Rattle.tao_core.specs.Replies.{AnswersRequest}
 use Rattle.core_nodes.specs.Repairs.{Outside}
@@ -52,12 +54,14 @@ reply_line stage reply = reply_text (spelled_by stage) reply ++ 10 ∷ []
 
 -- ---- the first line
 
--- the line is a configuration, each store takes it, the core is new and may be used with the keepers' tables, and the link stays
+-- the line is a configuration, each store takes it, the core is new and may be used with the keepers' tables, each node has processed just what its
+-- region's store has, and the link stays
 pub record TakesLine (tells : Bool) (old : Outside) (line : List ℕ) (core : CoreState) (new : Outside) : Type 0 where
   pub configured : config_in line ≡ Ok core.settings
   pub begun : IsNewCore core
   pub opened : WhereTold tells (IsOpened core.settings line old.keepers.told new.keepers.told)
   pub of_core : IsCoreOf tells new.keepers.told core
+  pub ends : WhereTold tells (AreAtStores new.keepers.told core.fleet)
   pub link : new.link ≡ old.link
 
 -- the line is no configuration: this field breaks a rule
@@ -87,10 +91,13 @@ AnswersNoRequest (BadLine field) reply = reply ≡ Refused (Line (line.BadLine f
 AnswersNoRequest (TooLarge bytes pairs) reply = reply ≡ Refused (Line (line.TooLarge bytes pairs))
 AnswersNoRequest OutOfMemory reply = ⊥
 
--- what each request keeps: the configuration stays, the nodes go on, and the core may be used with the keepers' tables as they are then
+-- what each request keeps: the configuration stays, the nodes go on, who comes up is at its store, of tables only logs of the configuration's stores
+-- grow, and the core may be used with the keepers' tables as they are then
 pub record KeepsServing (tells : Bool) (old new : Moment) : Type 0 where
   pub settings : new.core.settings ≡ old.core.settings
   pub goes : GoesOn old.core.fleet new.core.fleet
+  pub comes : ComeUp tells new.keepers.told old.core new.core
+  pub grows : StoresGrow tells old.core.settings old.keepers.told new.keepers.told
   pub of_core : IsCoreOf tells new.keepers.told new.core
 
 -- what the reply to what a line asks says

@@ -32,6 +32,7 @@ pub record Faults : Type 0 where
   pub source : ℕ
   pub sink : ℕ
 
+-- a source that failed so often, and a sink that did
 abbrev pub faults : ℕ → ℕ → Faults
 faults source sink = record { source = source; sink = sink }
 
@@ -54,7 +55,7 @@ InterruptsWriting before now interrupt.Memory = Unit {0}
 InterruptsWriting before now interrupt.Source = ⊥
 InterruptsWriting before now interrupt.InputTooLong = ⊥
 
--- the same of a run that stops; at its opening, the keepers' count rose
+-- a run stops at the source or the sink only where that count rose, and at the opening of its stores only where the keepers' did
 abbrev pub StopHasCause : Faults → Faults → ℕ → ℕ → Stop → Type 0
 StopHasCause old new before now stop.Configuration = Unit {0}
 StopHasCause old new before now stop.Keepers = Rose before now

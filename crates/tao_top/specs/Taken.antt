@@ -4,13 +4,13 @@ use Rattle.std.specs.Io.KnownBytes.{Consumes, prepend_known}
 use Rattle.tao_io.specs.LineReader.{most_ahead}
 use Rattle.tao_io.specs.Lines.{GivesLines}
 
--- it took the first of the known bytes, at most 2^40 of them
+-- a run took the first of the known bytes, at most 2^40 of them
 pub record Takes (before after : Option (List ℕ)) : Type 0 where
   pub bytes : List ℕ
   pub consumed : Consumes before after bytes
   pub few : length bytes ≤ 2 ^ 40
 
--- it took the first line, where there is one, and past it at most the rest of the 65,536 bytes in which its end came
+-- a run took the first line, where there is one, and past it at most the rest of the 65,536 bytes in which its end came
 pub record TakesFirst (before after : Option (List ℕ)) : Type 0 where
   pub lines : List (List ℕ)
   pub past : List ℕ

@@ -108,11 +108,21 @@ pub(crate) fn begin<'c, S: Sink, K: Keeper>(
 {
     match Serving::open(alloc, &first.config, &first.line, keepers) {
         Ok(serving) => {
-            serving.say(alloc, output, &Reply::Configured)?;
-            Ok(serving)
+            let reply = Reply::Configured;
+            let said = serving.say(alloc, output, &reply);
+            drop(reply);
+            match said {
+                Ok(()) => Ok(serving),
+                Err(interrupt) => {
+                    drop(serving);
+                    Err(Stop::Interrupted(interrupt))
+                }
+            }
         }
         Err(OpenRefusal::OtherLine) => Err(refuse(alloc, output, "file")),
         Err(OpenRefusal::KeeperFault) => Err(Stop::Keepers),
         Err(OpenRefusal::OutOfMemory) => Err(Stop::Interrupted(Interrupt::Memory)),
+        // There is one region, and so no slave's store that could disagree.
+        Err(OpenRefusal::Disagree { .. }) => unreachable!(),
     }
 }

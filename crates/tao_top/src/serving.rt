@@ -6,6 +6,7 @@ ghost use Rattle.config_json.specs.Config.{config_in};
 ghost use Rattle.graph_model.specs.Told.{WhereTold};
 ghost use Rattle.request_json.specs.Requests.{request_in};
 ghost use Rattle.tao_core.specs.Core.{IsNewCore, moment};
+ghost use Rattle.core_nodes.specs.Beginning.{AreAtStores};
 ghost use Rattle.core_nodes.specs.Opening.{IsOpened, MayOpen, RefusesOpening};
 ghost use Rattle.tao_top.specs.Begun.{RepliesInPart};
 ghost use Rattle.tao_top.specs.Kept.{LeavesTables, MayServe};
@@ -66,6 +67,7 @@ impl<'c> Serving<'c> {
         ensures begun { IfOk result IsNewCore }
         ensures opened { IfOk result (λ serving. WhereTold K.TELLS (IsOpened config.now line.now (K.state keepers.old).told (K.state keepers.new).told)) }
         ensures serving { IfOk result (λ serving. MayServe K.TELLS serving (K.state keepers.new).told) }
+        ensures ends { IfOk result (λ serving. WhereTold K.TELLS (AreAtStores (K.state keepers.new).told serving.fleet)) }
         ensures refused { IfErr result (RefusesOpening K.TELLS config.now line.now
             (K.state keepers.old) (K.state keepers.new)) }
         ensures tables { LeavesTables K.TELLS (K.state keepers.old) (K.state keepers.new) }
@@ -126,7 +128,11 @@ impl<'c> Serving<'c> {
         ensures later { IsLater (K.state keepers.old) (K.state keepers.new) }
     {
         match read_request(alloc, line) {
-            Ok(request) => Ok(self.call(alloc, keepers, link, &request)),
+            Ok(request) => {
+                let reply = self.call(alloc, keepers, link, &request);
+                drop(request);
+                Ok(reply)
+            }
             Err(LineRefusal::BadLine { field }) => {
                 Ok(Reply::Refused(Refusal::Line(LineRefused::BadLine { field })))
             }
@@ -157,7 +163,9 @@ impl<'c> Serving<'c> {
         ensures later { S.faults output.old ≤ S.faults output.new }
     {
         let reply = self.answer(alloc, keepers, link, line)?;
-        self.say(alloc, output, &reply)
+        let said = self.say(alloc, output, &reply);
+        drop(reply);
+        said
     }
 
     /// Refuses a line that is too long.
@@ -174,6 +182,8 @@ impl<'c> Serving<'c> {
         ensures later { S.faults output.old ≤ S.faults output.new }
     {
         let reply = too_long(alloc)?;
-        self.say(alloc, output, &reply)
+        let said = self.say(alloc, output, &reply);
+        drop(reply);
+        said
     }
 }

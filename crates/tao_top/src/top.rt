@@ -59,7 +59,7 @@ fn go<R: Source, S: Sink, K: Keeper, L: Link>(
     let mut reader = LineReader::new(alloc)?;
     let first = read_first(alloc, &mut reader, input, output)?;
     let mut serving = begin(alloc, &first, output, keepers)?;
-    serve(
+    let served = serve(
         alloc,
         &mut serving,
         &mut reader,
@@ -67,7 +67,9 @@ fn go<R: Source, S: Sink, K: Keeper, L: Link>(
         output,
         keepers,
         link,
-    )?;
+    );
+    drop(serving);
+    served?;
     Ok(())
 }
 

@@ -1,32 +1,33 @@
 use Rattle.std.proofs.Common.{◌≡◌, refl, subst, sym}
 use Rattle.graph_model.specs.Told.{WhereTold}
 use Rattle.core_nodes.specs.Opening.{IsOpened, IsOtherLine, MayOpen, RefusesOpening}
+use Rattle.tao_top.proofs.Configured.{no_slave}
 use Rattle.tao_top.proofs.FirstLine.{begins, begun_other, begun_whatever, refuses_other}
-use Rattle.tao_top.proofs.OneLine.{IfErr-any}
 use Rattle.core_nodes.specs.Repairs.{outside}
-use Rattle.tao_top.specs.Stop.{stop_code}
+use Rattle.tao_top.specs.Stop.{interrupt_code, stop_code}
 use Rattle.tao_top.specs.declared.stop.Stop.TheVariants.{Configuration}
 use Rattle.tao_top.proofs.begin.begin.Goals as goal
 
-pub returns-in_err-say-in-Ok-clause-err : goal.returns-in_err-say-in-Ok-clause-err
-returns-in_err-say-in-Ok-clause-err g c =
+pub returns-in-Err-clause-err : goal.returns-in-Err-clause-err
+returns-in-Err-clause-err g c =
     let keepers = g.K.Keeper.state in
     let opened = subst (λ l. WhereTold g.K.Keeper.TELLS
     (IsOpened c.args.first.now.config l (g.K.Keeper.state c.args.keepers.now).told (g.K.Keeper.state c.open.new.keepers).told)) c.deref.ensures.value
     c.in-Ok.ensures.opened in
-    IfErr-any _ _ (λ stop. begun_whatever g.K.Keeper.TELLS (keepers c.args.keepers.now)
+    begun_whatever g.K.Keeper.TELLS (keepers c.args.keepers.now)
     (keepers c.open.new.keepers) c.args.first.now.line.items c.args.first.now.config c.requires.configured c.in-Ok.ensures.later _ _
-    c.in-Ok.serving c.in-Ok.ensures.settings c.in-Ok.ensures.begun c.in-Ok.ensures.serving.of_core opened c.in_err-say-in-Ok.ensures.err (stop_code stop))
+    c.in-Ok.serving c.in-Ok.ensures.settings c.in-Ok.ensures.begun c.in-Ok.ensures.serving.of_core c.in-Ok.ensures.ends opened
+    c.in-Err.ensures.err (interrupt_code c.in-Err.interrupt)
 
-pub returns-in_ok-say-in-Ok-clause-ok : goal.returns-in_ok-say-in-Ok-clause-ok
-returns-in_ok-say-in-Ok-clause-ok g c =
+pub returns-in-Ok-said-clause-ok : goal.returns-in-Ok-said-clause-ok
+returns-in-Ok-said-clause-ok g c =
     let keepers = g.K.Keeper.state in
     let opened = subst (λ l. WhereTold g.K.Keeper.TELLS
     (IsOpened c.args.first.now.config l (g.K.Keeper.state c.args.keepers.now).told (g.K.Keeper.state c.open.new.keepers).told)) c.deref.ensures.value
     c.in-Ok.ensures.opened in
     λ link. begins g.K.Keeper.TELLS (outside (keepers c.args.keepers.now) link)
     (outside (keepers c.open.new.keepers) link) c.args.first.now.line.items c.args.first.now.config c.requires.configured c.in-Ok.ensures.later refl _ _
-    c.in-Ok.serving c.in-Ok.ensures.settings c.in-Ok.ensures.begun c.in-Ok.ensures.serving.of_core opened c.in_ok-say-in-Ok.ensures.ok
+    c.in-Ok.serving c.in-Ok.ensures.settings c.in-Ok.ensures.begun c.in-Ok.ensures.serving.of_core c.in-Ok.ensures.ends opened c.in-Ok-said.ensures.ok
 
 pub returns-in-Err-OtherLine-clause-err : goal.returns-in-Err-OtherLine-clause-err
 returns-in-Err-OtherLine-clause-err g c =
@@ -56,3 +57,11 @@ returns-in-Err-OtherLine-clause-refused g c = λ e.
 pub open-requires-clause-kept : goal.open-requires-clause-kept
 open-requires-clause-kept g c = subst (λ l. WhereTold g.K.Keeper.TELLS (MayOpen c.args.first.now.config l (g.K.Keeper.state c.args.keepers.now).told))
     (sym c.deref.ensures.value) c.requires.kept
+
+-- there is one region, and so no slave's store that could disagree
+pub unreachable-requires : goal.unreachable-requires
+unreachable-requires g c =
+    let keepers = g.K.Keeper.state in
+    let refused = subst (λ r. RefusesOpening g.K.Keeper.TELLS c.args.first.now.config c.deref.result.now (keepers c.args.keepers.now)
+    (keepers c.open.new.keepers) r) c.in-Err-Disagree.field-0-is c.in-Err-Disagree.ensures.refused in
+    no_slave c.args.first.now.line.items c.args.first.now.config c.in-Err-Disagree.field-0-0 c.requires.configured refused.0

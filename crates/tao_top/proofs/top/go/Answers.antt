@@ -55,55 +55,55 @@ returns-in_err-serving-clause-refused g c = λ e.
     (fresh c.in_ok-reader.reader _ c.in_ok-reader.ensures.ahead) (ap g.S.Sink.taken c.in_ok-first.ensures.silent) c.in_ok-first.ensures.line
     (c.in_err-serving.ensures.refused (ap (λ s. Err s) same) (g.L.Link.shown c.args.link.now))
 
-pub returns-in_err-serve-clause-err : goal.returns-in_err-serve-clause-err
-returns-in_err-serve-clause-err g c =
+pub returns-in_err-served-clause-err : goal.returns-in_err-served-clause-err
+returns-in_err-served-clause-err g c =
     let before = outside (g.K.Keeper.state c.args.keepers.now) (g.L.Link.shown c.args.link.now) in
     let begun = outside (g.K.Keeper.state c.begin.new.keepers) (g.L.Link.shown c.args.link.now) in
-    let served = outside (g.K.Keeper.state c.serve.new.keepers) (g.L.Link.shown c.serve.new.link) in
+    let served = outside (g.K.Keeper.state c.serve-served.new.keepers) (g.L.Link.shown c.serve-served.new.link) in
     IfErr-any _ _ (λ stop. inr (done_part g.K.Keeper.TELLS before begun served c.in_ok-serving.serving _ _ _ _ _
     (begun_well g.K.Keeper.TELLS before begun _ _ _ _ _ _ c.in_ok-first.first.line.items
     (fresh c.in_ok-reader.reader _ c.in_ok-reader.ensures.ahead)
     (ap g.S.Sink.taken c.in_ok-first.ensures.silent) c.in_ok-first.ensures.line c.in_ok-serving.serving
     (c.in_ok-serving.ensures.ok (g.L.Link.shown c.args.link.now)))
-    c.in_err-serve.ensures.err))
+    c.in_err-served.ensures.err))
 
-pub returns-in_err-serve-clause-long : goal.returns-in_err-serve-clause-long
-returns-in_err-serve-clause-long g c = λ e.
-    let p = err_from_is_err_and c.from_residual-in_err-serve.result c.from_residual-in_err-serve.ensures.1 in
-    let same : c.in_err-serve.field-0.0 ≡ InputTooLong = cc (e, p.1, p.2) in
-    long_input _ _ _ _ c.in_ok-reader.ensures.taken (CountsTaken-trans _ _ _ _ _ _ c.read_first.ensures.counted c.serve.ensures.counted)
-    (c.in_err-serve.ensures.long (ap (λ i. Err i) same))
+pub returns-in_err-served-clause-long : goal.returns-in_err-served-clause-long
+returns-in_err-served-clause-long g c = λ e.
+    let p = err_from_is_err_and c.from_residual-in_err-served.result c.from_residual-in_err-served.ensures.1 in
+    let same : c.in_err-served.field-0.0 ≡ InputTooLong = cc (e, p.1, p.2) in
+    long_input _ _ _ _ c.in_ok-reader.ensures.taken (CountsTaken-trans _ _ _ _ _ _ c.read_first.ensures.counted c.serve-served.ensures.counted)
+    (c.in_err-served.ensures.long (ap (λ i. Err i) same))
 
-pub returns-in_err-serve-clause-cause : goal.returns-in_err-serve-clause-cause
-returns-in_err-serve-clause-cause g c =
+pub returns-in_err-served-clause-cause : goal.returns-in_err-served-clause-cause
+returns-in_err-served-clause-cause g c =
     let source = g.R.Source.faults in
     let sink = g.S.Sink.faults in
-    let p = err_from_is_err_and c.from_residual-in_err-serve.result c.from_residual-in_err-serve.ensures.1 in
+    let p = err_from_is_err_and c.from_residual-in_err-served.result c.from_residual-in_err-served.ensures.1 in
     let before = faults (source c.args.input.now) (sink c.args.output.now) in
     let begun = faults (source c.read_first.new.input) (sink c.begin.new.output) in
-    let after = faults (source c.serve.new.input) (sink c.serve.new.output) in
+    let after = faults (source c.serve-served.new.input) (sink c.serve-served.new.output) in
     let first = c.read_first.ensures.later in
     let grew : FaultsGrow before begun = record { source = first.source; sink = omega (arith, first.sink, c.begin.ensures.later) } in
-    let cause : InterruptHasCause before after c.in_err-serve.field-0.0 =
-    interrupt_later before begun after c.in_err-serve.field-0.0 grew c.in_err-serve.ensures.cause in
-    rw p.1 (subst (StopHasCause before after (g.K.Keeper.state c.args.keepers.now).faults (g.K.Keeper.state c.serve.new.keepers).faults) (sym p.2) cause)
+    let cause : InterruptHasCause before after c.in_err-served.field-0.0 =
+    interrupt_later before begun after c.in_err-served.field-0.0 grew c.in_err-served.ensures.cause in
+    rw p.1 (subst (StopHasCause before after (g.K.Keeper.state c.args.keepers.now).faults (g.K.Keeper.state c.serve-served.new.keepers).faults) (sym p.2) cause)
 
 pub returns-clause-ok : goal.returns-clause-ok
 returns-clause-ok g c =
     let before = outside (g.K.Keeper.state c.args.keepers.now) (g.L.Link.shown c.args.link.now) in
     let begun = outside (g.K.Keeper.state c.begin.new.keepers) (g.L.Link.shown c.args.link.now) in
-    let served = outside (g.K.Keeper.state c.serve.new.keepers) (g.L.Link.shown c.serve.new.link) in
+    let served = outside (g.K.Keeper.state c.serve-served.new.keepers) (g.L.Link.shown c.serve-served.new.link) in
     done g.K.Keeper.TELLS before begun served c.in_ok-serving.serving _ _ _ _ _
     (begun_well g.K.Keeper.TELLS before begun _ _ _ _ _ _ c.in_ok-first.first.line.items
     (fresh c.in_ok-reader.reader _ c.in_ok-reader.ensures.ahead)
     (ap g.S.Sink.taken c.in_ok-first.ensures.silent) c.in_ok-first.ensures.line c.in_ok-serving.serving
     (c.in_ok-serving.ensures.ok (g.L.Link.shown c.args.link.now)))
-    c.serve.new.serving c.in_ok-serve.ensures.ok
+    c.serve-served.new.serving c.in_ok-served.ensures.ok
 
 pub returns-clause-short : goal.returns-clause-short
 returns-clause-short g c =
-    short_input (g.R.Source.left c.args.input.now) (g.R.Source.left c.serve.new.input) c.serve.new.reader.ahead _ _ c.in_ok-reader.ensures.taken
-    (CountsTaken-trans _ _ _ _ _ _ c.read_first.ensures.counted c.serve.ensures.counted) c.in_ok-serve.ensures.end c.in_ok-serve.ensures.short
+    short_input (g.R.Source.left c.args.input.now) (g.R.Source.left c.serve-served.new.input) c.serve-served.new.reader.ahead _ _ c.in_ok-reader.ensures.taken
+    (CountsTaken-trans _ _ _ _ _ _ c.read_first.ensures.counted c.serve-served.ensures.counted) c.in_ok-served.ensures.end c.in_ok-served.ensures.short
 
 pub begin-requires-clause-kept : goal.begin-requires-clause-kept
 begin-requires-clause-kept g c =
@@ -144,21 +144,21 @@ returns-in_err-serving-clause-at_first g c = λ _.
     takes_first _ _ _ _ (fresh c.in_ok-reader.reader _ c.in_ok-reader.ensures.ahead) c.read_first.ensures.near
     (gives_one _ _ c.in_ok-first.first.line.items c.in_ok-first.ensures.line)
 
-pub returns-in_err-serve-clause-taken : goal.returns-in_err-serve-clause-taken
-returns-in_err-serve-clause-taken g c =
+pub returns-in_err-served-clause-taken : goal.returns-in_err-served-clause-taken
+returns-in_err-served-clause-taken g c =
     takes_counted _ _ _ _ c.in_ok-reader.ensures.taken
-    (CountsTaken-trans _ _ _ _ _ _ c.read_first.ensures.counted c.serve.ensures.counted) c.serve.ensures.limited
+    (CountsTaken-trans _ _ _ _ _ _ c.read_first.ensures.counted c.serve-served.ensures.counted) c.serve-served.ensures.limited
 
-pub returns-in_err-serve-clause-tables : goal.returns-in_err-serve-clause-tables
-returns-in_err-serve-clause-tables g c = leaves_then _ _ _ _ c.begin.ensures.tables c.serve.ensures.tables
+pub returns-in_err-served-clause-tables : goal.returns-in_err-served-clause-tables
+returns-in_err-served-clause-tables g c = leaves_then _ _ _ _ c.begin.ensures.tables c.serve-served.ensures.tables
 
 pub returns-clause-taken : goal.returns-clause-taken
 returns-clause-taken g c =
     takes_counted _ _ _ _ c.in_ok-reader.ensures.taken
-    (CountsTaken-trans _ _ _ _ _ _ c.read_first.ensures.counted c.serve.ensures.counted) c.serve.ensures.limited
+    (CountsTaken-trans _ _ _ _ _ _ c.read_first.ensures.counted c.serve-served.ensures.counted) c.serve-served.ensures.limited
 
 pub returns-clause-at_end : goal.returns-clause-at_end
-returns-clause-at_end g c = end_of_source c.serve.new.reader.ahead _ c.in_ok-serve.ensures.end
+returns-clause-at_end g c = end_of_source c.serve-served.new.reader.ahead _ c.in_ok-served.ensures.end
 
 pub returns-clause-tables : goal.returns-clause-tables
-returns-clause-tables g c = leaves_then _ _ _ _ c.begin.ensures.tables c.serve.ensures.tables
+returns-clause-tables g c = leaves_then _ _ _ _ c.begin.ensures.tables c.serve-served.ensures.tables

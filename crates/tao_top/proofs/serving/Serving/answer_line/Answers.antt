@@ -7,14 +7,14 @@ pub returns-clause-ok : goal.returns-clause-ok
 returns-clause-ok g c =
     let state = g.K.Keeper.state in
     let shown = g.L.Link.shown in
-    replies_ok c.say.result g.K.Keeper.TELLS (serves c.args.self.now (outside (state c.args.keepers.now) (shown c.args.link.now)))
+    replies_ok c.say-said.result g.K.Keeper.TELLS (serves c.args.self.now (outside (state c.args.keepers.now) (shown c.args.link.now)))
     (serves c.answer.new.self (outside (state c.answer.new.keepers) (shown c.answer.new.link))) c.args.line.now c.in_ok-reply.reply _ _
-    (record { does = c.in_ok-reply.ensures.does; later = c.in_ok-reply.ensures.later }) c.say.ensures.ok
+    (record { does = c.in_ok-reply.ensures.does; later = c.in_ok-reply.ensures.later }) c.say-said.ensures.ok
 
 pub returns-clause-err : goal.returns-clause-err
 returns-clause-err g c =
     let state = g.K.Keeper.state in
     let shown = g.L.Link.shown in
-    replies_err c.say.result g.K.Keeper.TELLS (serves c.args.self.now (outside (state c.args.keepers.now) (shown c.args.link.now)))
+    replies_err c.say-said.result g.K.Keeper.TELLS (serves c.args.self.now (outside (state c.args.keepers.now) (shown c.args.link.now)))
     (serves c.answer.new.self (outside (state c.answer.new.keepers) (shown c.answer.new.link))) c.args.line.now c.in_ok-reply.reply _ _
-    (record { does = c.in_ok-reply.ensures.does; later = c.in_ok-reply.ensures.later }) c.say.ensures.err
+    (record { does = c.in_ok-reply.ensures.does; later = c.in_ok-reply.ensures.later }) c.say-said.ensures.err

@@ -1,9 +1,12 @@
 #!/usr/bin/env python3
 """Measures the program. Times on a shared machine mean little: compare ratios and growth.
 
-usage: bench.py TAO [YARDSTICK]
+usage: bench.py TAO [YARDSTICK] [--save FILE]
+       bench.py --plot FILE > docs/performance.svg
 
-TAO is the built program (crates/tao/out/tao once ./tao was run), YARDSTICK that of bench/yardstick.
+TAO is the built program (crates/tao/out/tao once ./tao was run), YARDSTICK that of bench/yardstick. --save
+keeps what was measured in a file; --plot draws such a file, and measures nothing.
+
 Prints the lines that a second takes of 20,000 mixed calls, what a call costs as the log of its shard
 grows, beside what the same tables take in sqlite3 in memory, what an edge costs that a range goes past,
 what adds and ranges take over a file beside sqlite3's own, and, with a yardstick, what reads take that
@@ -13,6 +16,7 @@ is faster), and where it goes.
 Those ratios are of processor time, which other work on the machine changes least: the least of some runs,
 ours and the yardstick's in turn.
 """
+import argparse
 import json
 import os
 import resource
@@ -258,42 +262,80 @@ def over_file(tao, length, asked):
 
 
 def over_yardstick(tao, yardstick, lines):
-    """Prints what held reads take beside the yardstick, and the steps of a range."""
+    """What held reads take beside the yardstick, in ratios and microseconds, which are printed; then the steps of a range."""
+    held = []
     for name, call in HELD.items():
         (own, system), (their_own, their_system) = in_turn([tao, yardstick], repeated(call, lines))
+        ratio, whole = own / their_own, (own + system) / (their_own + their_system)
+        held.append({"name": name, "of_yardstick": ratio, "microseconds": own / lines * 1e6})
         print(
-            f"{lines:,} {name} that the follower holds: {own / their_own:.2f} of the yardstick's own time,"
-            f" {(own + system) / (their_own + their_system):.2f} with the system's; {own / lines * 1e6:.2f} microseconds"
+            f"{lines:,} {name} that the follower holds: {ratio:.2f} of the yardstick's own time,"
+            f" {whole:.2f} with the system's; {own / lines * 1e6:.2f} microseconds"
         )
     before = 0
     for name, call in STEPS.items():
         ((own, _),) = in_turn([tao], repeated(call, lines))
         print(f"of a range, {name}: {(own - before) / lines * 1e6:.2f} microseconds")
         before = own
+    return held
 
 
-def main():
-    tao = [sys.argv[1], "run"]
+def at_length(tao, length, asks):
+    """What an add and a range take as the log of their shard grows to a length, in microseconds and beside sqlite's, which is printed."""
+    grown = best(tao, script(front(1), adds(length)))
+    asked = best(tao, script(front(1), adds(length), ranges(asks)))
+    evicted = best(tao, script(front(1), adds(length), evicts(asks)))
+    missed = best(tao, script(front(1), adds(length), missed_ranges(asks)))
+    add, found, read = grown / length, (asked - grown) / asks, (missed - evicted) / asks
+    row_added, row_found = in_sqlite(length, asks)
+    print(
+        f"a log of {length:,} entries: an add {add * 1e6:,.1f} microseconds on the way there, {add / row_added:.2f} of"
+        f" sqlite's; a range of ten edges {read * 1e6:,.1f} at its end, {read / row_found:.2f} of sqlite's,"
+        f" and {found * 1e6:,.1f} where its follower holds it"
+    )
+    return {
+        "entries": length,
+        "add": add * 1e6,
+        "add_of_sqlite": add / row_added,
+        "range": read * 1e6,
+        "range_of_sqlite": read / row_found,
+        "held": found * 1e6,
+    }
+
+
+def measure(program, yardstick):
+    """Measures and prints everything. What is drawn is answered."""
+    tao = [program, "run"]
     calls = 20_000
     took = best(tao, script(mixed(calls)))
     print(f"{calls:,} mixed calls on {SHARDS} shards: {calls / took:,.0f} lines a second")
-    asks = 60_000
-    for length in (1_000, 8_000, 65_536):
-        grown = best(tao, script(front(1), adds(length)))
-        asked = best(tao, script(front(1), adds(length), ranges(asks)))
-        evicted = best(tao, script(front(1), adds(length), evicts(asks)))
-        missed = best(tao, script(front(1), adds(length), missed_ranges(asks)))
-        add, found, read = grown / length, (asked - grown) / asks, (missed - evicted) / asks
-        row_added, row_found = in_sqlite(length, asks)
-        print(
-            f"a log of {length:,} entries: an add {add * 1e6:,.1f} microseconds on the way there, {add / row_added:.2f} of"
-            f" sqlite's; a range of ten edges {read * 1e6:,.1f} at its end, {read / row_found:.2f} of sqlite's,"
-            f" and {found * 1e6:,.1f} where its follower holds it"
-        )
+    growth = [at_length(tao, length, 60_000) for length in (1_000, 8_000, 65_536)]
     far_down(tao, 65_536, 500)
     over_file(tao, 4_000, 20_000)
-    if len(sys.argv) > 2:
-        over_yardstick(tao, [sys.argv[2]], 200_000)
+    held = over_yardstick(tao, [yardstick], 200_000) if yardstick else []
+    return {"growth": growth, "held": held}
+
+
+def main():
+    words = argparse.ArgumentParser(description="Measures the program, or draws what was measured.")
+    words.add_argument("tao", nargs="?", help="the built program")
+    words.add_argument("yardstick", nargs="?", help="that of bench/yardstick")
+    words.add_argument("--save", metavar="FILE", help="keeps what was measured")
+    words.add_argument("--plot", metavar="FILE", help="draws what was kept, as SVG on standard output")
+    given = words.parse_args()
+    if given.plot:
+        from plots import draw_results
+
+        with open(given.plot, encoding="utf-8") as file:
+            sys.stdout.write(draw_results(json.load(file)))
+        return
+    if not given.tao:
+        words.error("the built program is missing")
+    results = measure(given.tao, given.yardstick)
+    if given.save:
+        with open(given.save, "w", encoding="utf-8") as file:
+            json.dump(results, file, indent=1)
+            file.write("\n")
 
 
 if __name__ == "__main__":

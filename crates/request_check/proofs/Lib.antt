@@ -1,2 +1,6 @@
 pub mod PlacedNodes
 pub mod Placing
+pub mod PlacingCaches
+pub mod PlacingHealth
+pub mod PlacingRequests
+pub mod PlacingStores

@@ -1,4 +1,4 @@
--- Each region, tier, node, shard and key that a checked request names is configured.
+-- Each region, tier and shard that a checked call or request names is configured.
 use Rattle.std.proofs.Common.{◌≡◌, ◌≢◌, ℕ, ◌<◌, length, Bool, true, false, not, List, Option, None, Some, Result, Ok, Err, IfOk, IfSome, refl, ap, inl, inr}
 use Rattle.std.specs.Prelude.{◌==◌, nat_lt}
 use Rattle.std.proofs.lemmas.Bool.{cases_Bool, eq-eqb, ltb-true}
@@ -14,36 +14,26 @@ use Rattle.topology.specs.Regions.{region_at}
 use Rattle.topology.proofs.Found.{region_configured, tier_configured}
 use Rattle.replies.specs.declared.refusals.NameRefused.{NameRefused}
 use Rattle.replies.specs.declared.refusals.NameRefused.TheVariants.{NoShard, NoTier, SameType}
-use Rattle.requests.specs.declared.request.Call.{Call}
-use Rattle.requests.specs.declared.request.Call.TheVariants as call
-use Rattle.requests.specs.declared.request.EdgeName.{EdgeName}
-use Rattle.requests.specs.declared.request.KeyName.{KeyName}
-use Rattle.requests.specs.declared.request.KeyName.TheVariants.{Object, List as Assocs}
-use Rattle.requests.specs.declared.request.ListName.{ListName}
-use Rattle.requests.specs.declared.request.QueryText.{QueryText}
-use Rattle.requests.specs.declared.request.QueryText.TheVariants.{ObjGet, AssocGet, AssocCount, AssocRange, AssocTimeRange}
-use Rattle.requests.specs.declared.request.ReadCall.{ReadCall}
-use Rattle.requests.specs.declared.request.Request.{Request}
-use Rattle.requests.specs.declared.request.Request.TheVariants as request
-use Rattle.requests.specs.declared.request.WriteCall.{WriteCall}
-use Rattle.requests.specs.declared.request.WriteText.{WriteText}
-use Rattle.requests.specs.declared.request.WriteText.TheVariants.{ObjAdd, ObjUpdate, ObjDelete, AssocAdd, AssocDelete, AssocChangeType}
-use Rattle.request_check.specs.Calls.{checked_query, checked_write, configured_ends, edge_type, has_type, is_type, bounded_ids, list_type}
-use Rattle.request_check.specs.Names.{atype_named, configured_id, configured_shard, node_named, otype_named, region_named, tier_named, tier_text}
-use Rattle.request_check.specs.Kind.{takes}
-use Rattle.request_check.specs.Placed.{IsPlaced, IsPlacedCall, IsPlacedKey, IsPlacedLeader, IsPlacedNode, IsPlacedTier, IsPlacedWrite}
-use Rattle.request_check.specs.Requests.{checked_call, checked_of, checked_read_call, checked_write_call, key_named, leader_place, link_place, maybe_key_named}
-use Rattle.request_check.specs.declared.checked.Checked.{Checked}
-use Rattle.request_check.specs.declared.kind.NodeKind.TheVariants.{Cache, Leader, Follower}
-use Rattle.request_check.proofs.PlacedNodes.{needed_holds, node_placed}
-use Rattle.node_name.specs.declared.NodeName.{NodeName}
-use Rattle.node_name.specs.declared.NodeName.TheVariants as name
-use Rattle.requests.specs.declared.request.LeaderName.{LeaderName}
+use Rattle.requests.specs.declared.calls.Call.{Call}
+use Rattle.requests.specs.declared.calls.Call.TheVariants as call
+use Rattle.requests.specs.declared.calls.EdgeName.{EdgeName}
+use Rattle.requests.specs.declared.calls.ListName.{ListName}
+use Rattle.requests.specs.declared.calls.QueryText.{QueryText}
+use Rattle.requests.specs.declared.calls.QueryText.TheVariants.{ObjGet, AssocGet, AssocCount, AssocRange, AssocTimeRange}
+use Rattle.requests.specs.declared.calls.ReadCall.{ReadCall}
+use Rattle.requests.specs.declared.calls.WriteCall.{WriteCall}
+use Rattle.requests.specs.declared.calls.WriteText.{WriteText}
+use Rattle.requests.specs.declared.calls.WriteText.TheVariants.{ObjAdd, ObjUpdate, ObjDelete, AssocAdd, AssocDelete, AssocChangeType}
+use Rattle.request_check.specs.Calls.{checked_call, checked_query, checked_read_call, checked_write, checked_write_call}
+use Rattle.request_check.specs.Calls.{configured_ends, edge_type, has_type, is_type, bounded_ids, list_type}
+use Rattle.request_check.specs.Names.{atype_named, configured_id, configured_shard, otype_named, region_named, tier_named, tier_text}
+use Rattle.request_check.specs.Placed.{IsPlacedCall, IsPlacedKey, IsPlacedTier, IsPlacedWrite}
+use Rattle.request_check.proofs.PlacedNodes.{needed_holds}
 
 -- ---- one step after another
 
 -- what holds of what is found, where the next step keeps it
-andthen : {A B : Type 0} (P : A → Type 0) (Q : B → Type 0) (found : Result A NameRefused) (next : A → Result B NameRefused)
+pub andthen : {A B : Type 0} (P : A → Type 0) (Q : B → Type 0) (found : Result A NameRefused) (next : A → Result B NameRefused)
     → IfOk found P → ((a : A) → P a → IfOk (next a) Q) → IfOk (found >>= next) Q
 andthen P Q (Ok a) next here there = there a here
 andthen P Q (Err refused) next here there = tt
@@ -80,10 +70,10 @@ changes types edge atype newtype h = elim (cases_Bool (atype.0 == newtype.0)) [
 module _ (s : Settings) where
   -- ---- shards
 
-  shard_placed : (shard : ℕ) → IfOk (configured_shard s shard) (λ u. shard < s.shards)
+  pub shard_placed : (shard : ℕ) → IfOk (configured_shard s shard) (λ u. shard < s.shards)
   shard_placed shard = passes (NoShard shard) (nat_lt shard s.shards) (ltb-true shard s.shards)
 
-  id_placed : (id : ℕ) → IfOk (configured_id s id) (λ u. shard_of id < s.shards)
+  pub id_placed : (id : ℕ) → IfOk (configured_id s id) (λ u. shard_of id < s.shards)
   id_placed id = shard_placed (shard_of id)
 
   ends_placed : (edge : EdgeName) → IfOk (configured_ends s edge) (λ u. shard_of edge.list.id1 < s.shards)
@@ -92,7 +82,7 @@ module _ (s : Settings) where
   edge_placed : (edge : EdgeName) → IfOk (edge_type s edge) (λ t. shard_of edge.list.id1 < s.shards)
   edge_placed edge = whatever _ (atype_named s edge.list.atype) _ (λ t. andthen _ _ (configured_ends s edge) _ (ends_placed edge) (λ u here. here))
 
-  list_placed : (list : ListName) → IfOk (list_type s list) (λ t. shard_of list.id1 < s.shards)
+  pub list_placed : (list : ListName) → IfOk (list_type s list) (λ t. shard_of list.id1 < s.shards)
   list_placed list = whatever _ (atype_named s list.atype) _ (λ t. andthen _ _ (configured_id s list.id1) _ (id_placed list.id1) (λ u here. here))
 
   -- ---- calls
@@ -122,74 +112,20 @@ module _ (s : Settings) where
   write_call_placed : (text : WriteCall) → IfOk (checked_write_call s text) (λ w. IsPlacedWrite s w.write)
   write_call_placed text = andthen _ _ (checked_write s text.write) _ (write_placed text.write) (λ w here. here)
 
-  read_call_placed : (text : ReadCall) → IfOk (checked_read_call s text) (λ r. IsPlacedKey s (query_key r.query))
+  pub read_call_placed : (text : ReadCall) → IfOk (checked_read_call s text) (λ r. IsPlacedKey s (query_key r.query))
   read_call_placed text = andthen _ _ (checked_query s text.query) _ (query_placed text.query) (λ q here. here)
 
-  call_placed : (text : Call) → IfOk (checked_call s text) (IsPlacedCall s)
+  pub call_placed : (text : Call) → IfOk (checked_call s text) (IsPlacedCall s)
   call_placed (call.Write text) = andthen _ _ (checked_write_call s text) _ (write_call_placed text) (λ w here. here)
   call_placed (call.Read text) = andthen _ _ (checked_read_call s text) _ (read_call_placed text) (λ r here. here)
 
-  -- ---- requests
-
-  key_placed : (name : KeyName) → IfOk (key_named s name) (IsPlacedKey s)
-  key_placed (Object id) = andthen _ _ (configured_id s id) _ (id_placed id) (λ u here. here)
-  key_placed (Assocs list) = andthen _ _ (list_type s list) _ (list_placed list) (λ t here. here)
-
-  maybe_key_placed : (name : Option KeyName) → IfOk (maybe_key_named s name) (λ key. IfSome key (IsPlacedKey s))
-  maybe_key_placed None = tt
-  maybe_key_placed (Some name) = andthen _ _ (key_named s name) _ (key_placed name) (λ key here. here)
-
   -- ---- places
 
-  region_placed : (name : List ℕ) → IfOk (region_named s name) (λ region. region < length s.regions)
+  pub region_placed : (name : List ℕ) → IfOk (region_named s name) (λ region. region < length s.regions)
   region_placed name = needed_holds _ (NoTier name) (region_at s.regions name) (region_configured s.regions name)
 
-  tier_placed : (region tier : List ℕ) → IfOk (tier_named s region tier) (λ place. IsPlacedTier s place.region place.tier)
+  pub tier_placed : (region tier : List ℕ) → IfOk (tier_named s region tier) (λ place. IsPlacedTier s place.region place.tier)
   tier_placed region tier = andthen _ _ (region_named s region) _ (region_placed region) (λ place here.
       andthen _ _ (needed (NoTier (tier_text region tier)) (tier_in s.regions place tier)) _
       (needed_holds _ (NoTier (tier_text region tier)) (tier_in s.regions place tier) (tier_configured s.regions place tier))
       (λ found there. record { configured = here; within = there }))
-
-  leads_cache : (node : NodeName) → takes Leader node ≡ true → takes Cache node ≡ true
-  leads_cache (name.Store store) is = is
-  leads_cache (name.Leader region index) is = refl
-  leads_cache (name.Follower region tier index) is = refl
-
-  follows_cache : (node : NodeName) → takes Follower node ≡ true → takes Cache node ≡ true
-  follows_cache (name.Store store) is = is
-  follows_cache (name.Leader region index) is = refl
-  follows_cache (name.Follower region tier index) is = refl
-
-  cache_placed : (Q : Checked → Type 0) (name : List ℕ) (next : NodeName → Result Checked NameRefused)
-      → ((node : NodeName) → IsPlacedNode s node → IfOk (next node) Q) → IfOk (node_named s Cache name >>= next) Q
-  cache_placed Q name next holds = andthen _ _ (node_named s Cache name) next (node_placed s Cache (λ node is. is) name) (λ node here. holds node here.0)
-
-  leader_placed : (leader : LeaderName) → IfOk (leader_place s leader) (IsPlacedLeader s)
-  leader_placed leader = andthen _ _ (tier_named s leader.region leader.tier) _ (tier_placed leader.region leader.tier) (λ found seen.
-      andthen _ _ (node_named s Leader leader.node) _ (node_placed s Leader leads_cache leader.node) (λ node here.
-      record { seer = seen; configured = here.0; leads = here.1 }))
-
-  pub placed : (asked : Request) → IfOk (checked_of s asked) (IsPlaced s)
-  placed (request.Open opening) = andthen _ _ (tier_named s opening.region opening.tier) _ (tier_placed opening.region opening.tier) (λ found here. here)
-  placed (request.Call text) = andthen _ _ (checked_call s text) _ (call_placed text) (λ c here. here)
-  placed (request.Hold plan text) = andthen _ _ (checked_call s text) _ (call_placed text) (λ c here. here)
-  placed (request.Advance plan) = tt
-  placed (request.Deliver name) = cache_placed _ name.node _ (λ node here. here)
-  placed (request.Again name) = cache_placed _ name.node _ (λ node here. here)
-  placed (request.Drop name) = cache_placed _ name.node _ (λ node here. here)
-  placed (request.Refill name) = andthen _ _ (node_named s Follower name) _ (node_placed s Follower follows_cache name)
-      (λ node here. record { configured = here.0; follows = here.1 })
-  placed (request.Stream region shard position) = andthen _ _ (region_named s region) _ (region_placed region)
-      (λ r here. andthen _ _ (configured_shard s shard) _ (shard_placed shard) (λ u there. (here, there)))
-  placed (request.Repair shard) = andthen _ _ (configured_shard s shard) _ (shard_placed shard) (λ u here. here)
-  placed (request.Evict name key) = cache_placed _ name _ (λ node here. andthen _ _ (maybe_key_named s key) _ (maybe_key_placed key) (λ k there. (here, there)))
-  placed (request.Show name key) = cache_placed _ name _ (λ node here. andthen _ _ (key_named s key) _ (key_placed key) (λ k there. (here, there)))
-  placed (request.Inbox name) = cache_placed _ name _ (λ node here. here)
-  placed (request.Down name) = cache_placed _ name _ (λ node here. here)
-  placed (request.Up name) = cache_placed _ name _ (λ node here. here)
-  placed (request.Suspect leader) = andthen _ _ (leader_place s leader) _ (leader_placed leader) (λ place here. here)
-  placed (request.Trust leader) = andthen _ _ (leader_place s leader) _ (leader_placed leader) (λ place here. here)
-  placed (request.Cut link) = whatever _ (link_place s link) _ (λ place. tt)
-  placed (request.Mend link) = whatever _ (link_place s link) _ (λ place. tt)
-  placed request.Settle = tt
-  placed (request.Audit text) = andthen _ _ (checked_read_call s text) _ (read_call_placed text) (λ r here. here)

@@ -11,12 +11,20 @@ use Rattle.tao_schema.specs.Schema.{types_of}
 use Rattle.topology.specs.Config.{Settings}
 use Rattle.replies.specs.declared.refusals.NameRefused.{NameRefused}
 use Rattle.replies.specs.declared.refusals.NameRefused.TheVariants.{SameType, Limit}
-use Rattle.requests.specs.declared.request.EdgeName.{EdgeName}
-use Rattle.requests.specs.declared.request.ListName.{ListName}
-use Rattle.requests.specs.declared.request.QueryText.{QueryText}
-use Rattle.requests.specs.declared.request.QueryText.TheVariants.{ObjGet, AssocGet, AssocCount, AssocRange, AssocTimeRange}
-use Rattle.requests.specs.declared.request.WriteText.{WriteText}
-use Rattle.requests.specs.declared.request.WriteText.TheVariants.{ObjAdd, ObjUpdate, ObjDelete, AssocAdd, AssocDelete, AssocChangeType}
+use Rattle.requests.specs.declared.calls.Call.{Call}
+use Rattle.requests.specs.declared.calls.Call.TheVariants.{Write as Writes, Read as Reads}
+use Rattle.requests.specs.declared.calls.EdgeName.{EdgeName}
+use Rattle.requests.specs.declared.calls.ListName.{ListName}
+use Rattle.requests.specs.declared.calls.QueryText.{QueryText}
+use Rattle.requests.specs.declared.calls.QueryText.TheVariants.{ObjGet, AssocGet, AssocCount, AssocRange, AssocTimeRange}
+use Rattle.requests.specs.declared.calls.WriteText.{WriteText}
+use Rattle.requests.specs.declared.calls.WriteText.TheVariants.{ObjAdd, ObjUpdate, ObjDelete, AssocAdd, AssocDelete, AssocChangeType}
+use Rattle.requests.specs.declared.calls.ReadCall.{ReadCall}
+use Rattle.requests.specs.declared.calls.WriteCall.{WriteCall}
+use Rattle.request_check.specs.declared.checked.CheckedCall.{CheckedCall}
+use Rattle.request_check.specs.declared.checked.CheckedCall.TheVariants as of_call
+use Rattle.request_check.specs.declared.checked.CheckedRead.{CheckedRead}
+use Rattle.request_check.specs.declared.checked.CheckedWrite.{CheckedWrite}
 use Rattle.request_check.specs.Names.{atype_named, otype_named, configured_shard, configured_id}
 use Rattle.outcomes.specs.Results.{◌>>=◌, refused_unless}
 
@@ -144,3 +152,26 @@ checked_query s (AssocGet list ids high low) = checked_assoc_get s list ids high
 checked_query s (AssocCount list) = checked_assoc_count s list
 checked_query s (AssocRange list pos limit) = checked_assoc_range s list pos limit
 checked_query s (AssocTimeRange list high low limit) = checked_assoc_time_range s list high low limit
+
+-- ---- calls
+
+-- a session's write with its types looked up by name; whether the session is open isn't looked at
+abbrev pub checked_write_call : Settings → WriteCall → Result CheckedWrite NameRefused
+checked_write_call s call = do
+  write ← checked_write s call.write
+  Ok (record { session = call.session; seq = call.seq; write = write })
+
+-- a session's read with its types looked up by name; whether the session is open isn't looked at
+abbrev pub checked_read_call : Settings → ReadCall → Result CheckedRead NameRefused
+checked_read_call s call = do
+  query ← checked_query s call.query
+  Ok (record { session = call.session; query = query; critical = call.critical })
+
+-- a session's write or read with its types looked up by name, or the first thing in it that is refused
+abbrev pub checked_call : Settings → Call → Result CheckedCall NameRefused
+checked_call s (Writes call) = do
+  write ← checked_write_call s call
+  Ok (of_call.Write write)
+checked_call s (Reads call) = do
+  read ← checked_read_call s call
+  Ok (of_call.Read read)

@@ -2,5 +2,10 @@ pub mod Refusal
 pub mod Kind
 pub mod Names
 pub mod Calls
-pub mod Requests
 pub mod Placed
+pub mod Plans
+pub mod Caches
+pub mod Stores
+pub mod Health
+pub mod Links
+pub mod Requests

@@ -61,3 +61,9 @@ of_kind kind (Some node) = if takes kind node then Some node else None
 -- the node of a text, where it is of the kind
 abbrev pub node_named : Settings → NodeKind → List ℕ → Result NodeName NameRefused
 node_named s kind name = needed (NoNode name) (of_kind kind (node_at s name))
+
+-- what was found, as the request that it makes
+abbrev pub placed_as : {A B : Type 0} → (A → B) → Result A NameRefused → Result B NameRefused
+placed_as f found = do
+  place ← found
+  Ok (f place)

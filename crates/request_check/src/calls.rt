@@ -8,12 +8,13 @@ ghost use Rattle.tao_schema.specs.Schema.{types_of};
 ghost use Rattle.request_check.specs.Calls.{configured_ends, list_type, edge_type, checked_obj_add, checked_obj_update, checked_obj_delete};
 ghost use Rattle.request_check.specs.Calls.{checked_assoc_add, checked_assoc_delete, has_type, is_type, checked_assoc_change_type, checked_write};
 ghost use Rattle.request_check.specs.Calls.{bounded_ids, checked_obj_get, checked_assoc_get, checked_assoc_count, checked_assoc_range};
-ghost use Rattle.request_check.specs.Calls.{checked_assoc_time_range, checked_query};
+ghost use Rattle.request_check.specs.Calls.{checked_assoc_time_range, checked_call, checked_query, checked_read_call, checked_write_call};
 
+use crate::checked::{CheckedCall, CheckedRead, CheckedWrite};
 use crate::names::Names;
 use crate::refusal::NameError;
 use replies::NameRefused;
-use requests::{EdgeName, ListName, QueryText, WriteText};
+use requests::{Call, EdgeName, ListName, QueryText, ReadCall, WriteCall, WriteText};
 use tao_base::{AType, Data, Id, IdSet, Query, Text, Time, Write};
 use tao_schema::Schema;
 
@@ -43,7 +44,7 @@ fn edge_type(names: &Names<'_>, edge: &EdgeName) -> Result<AType, NameError>
 
 // ---- writes
 
-pub(crate) fn checked_write(names: &Names<'_>, write: &WriteText) -> Result<Write, NameError>
+fn checked_write(names: &Names<'_>, write: &WriteText) -> Result<Write, NameError>
     ensures { Gives name_unless_memory result (checked_write (settings names.now) write.now) }
 {
     match write {
@@ -171,7 +172,7 @@ fn checked_assoc_change_type(
 
 // ---- reads
 
-pub(crate) fn checked_query(names: &Names<'_>, query: &QueryText) -> Result<Query, NameError>
+fn checked_query(names: &Names<'_>, query: &QueryText) -> Result<Query, NameError>
     ensures { Gives name_unless_memory result (checked_query (settings names.now) query.now) }
 {
     match query {
@@ -280,4 +281,38 @@ fn checked_assoc_time_range(
         low,
         limit,
     })
+}
+
+// ---- calls
+
+fn checked_write_call(names: &Names<'_>, call: &WriteCall) -> Result<CheckedWrite, NameError>
+    ensures { Gives name_unless_memory result (checked_write_call (settings names.now) call.now) }
+{
+    Ok(CheckedWrite {
+        session: call.session,
+        seq: call.seq,
+        write: checked_write(names, &call.write)?,
+    })
+}
+
+pub(crate) fn checked_read_call(
+    names: &Names<'_>,
+    call: &ReadCall,
+) -> Result<CheckedRead, NameError>
+    ensures { Gives name_unless_memory result (checked_read_call (settings names.now) call.now) }
+{
+    Ok(CheckedRead {
+        session: call.session,
+        query: checked_query(names, &call.query)?,
+        critical: call.critical,
+    })
+}
+
+pub(crate) fn checked_call(names: &Names<'_>, call: &Call) -> Result<CheckedCall, NameError>
+    ensures { Gives name_unless_memory result (checked_call (settings names.now) call.now) }
+{
+    match call {
+        Call::Write(call) => Ok(CheckedCall::Write(checked_write_call(names, call)?)),
+        Call::Read(call) => Ok(CheckedCall::Read(checked_read_call(names, call)?)),
+    }
 }

@@ -1,6 +1,10 @@
 //! Requests, with the places of what they name.
-use node_name::NodeName;
-use tao_base::{Key, Query, Write};
+use crate::caches::CheckedCache;
+use crate::health::CheckedHealth;
+use crate::links::CheckedLink;
+use crate::plans::CheckedPlan;
+use crate::stores::CheckedStore;
+use tao_base::{Query, Write};
 
 /// A session's write, by its number.
 #[derive(Drop)]
@@ -25,21 +29,6 @@ pub enum CheckedCall {
     Read(CheckedRead),
 }
 
-/// A leader, as the nodes of a tier see it.
-#[derive(Clone, Copy, PartialEq, Eq)]
-pub struct LeaderPlace {
-    pub region: u16,
-    pub tier: u16,
-    pub node: NodeName,
-}
-
-/// The link from a node to another.
-#[derive(Clone, Copy, PartialEq, Eq)]
-pub struct LinkPlace {
-    pub from: NodeName,
-    pub to: NodeName,
-}
-
 /// What a line asks, with places in place of names: each is of the configuration. Nodes are of the kind
 /// that the request takes.
 #[derive(Drop)]
@@ -50,60 +39,9 @@ pub enum Checked {
         tier: u16,
     },
     Call(CheckedCall),
-    /// The call, stage by stage, in a plan of that number.
-    Hold {
-        plan: u32,
-        call: CheckedCall,
-    },
-    Advance {
-        plan: u32,
-    },
-    Deliver {
-        node: NodeName,
-        message: u32,
-    },
-    Again {
-        node: NodeName,
-        message: u32,
-    },
-    Drop {
-        node: NodeName,
-        message: u32,
-    },
-    Refill {
-        node: NodeName,
-    },
-    /// Without a position the entry that the region's store takes next.
-    Stream {
-        region: u16,
-        shard: u16,
-        position: Option<u64>,
-    },
-    Repair {
-        shard: u16,
-    },
-    /// Without a key the item that was used least recently.
-    Evict {
-        node: NodeName,
-        key: Option<Key>,
-    },
-    Show {
-        node: NodeName,
-        key: Key,
-    },
-    Inbox {
-        node: NodeName,
-    },
-    Down {
-        node: NodeName,
-    },
-    Up {
-        node: NodeName,
-    },
-    Suspect(LeaderPlace),
-    Trust(LeaderPlace),
-    Cut(LinkPlace),
-    Mend(LinkPlace),
-    Settle,
-    Audit(CheckedRead),
+    Plan(CheckedPlan),
+    Cache(CheckedCache),
+    Store(CheckedStore),
+    Health(CheckedHealth),
+    Link(CheckedLink),
 }

@@ -11,14 +11,23 @@
 //! The contracts that say so: `check` (`checked`, `placed`).
 #![tactic(auto)]
 
+mod caches;
 mod calls;
 mod checked;
+mod health;
 mod kind;
+mod links;
 mod names;
-mod nodes;
+mod plans;
 mod refusal;
 mod request;
+mod stores;
 
-pub use checked::{Checked, CheckedCall, CheckedRead, CheckedWrite, LeaderPlace, LinkPlace};
+pub use caches::CheckedCache;
+pub use checked::{Checked, CheckedCall, CheckedRead, CheckedWrite};
+pub use health::{CheckedHealth, LeaderPlace};
+pub use links::{CheckedLink, LinkPlace};
+pub use plans::CheckedPlan;
 pub use refusal::CheckRefusal;
 pub use request::check;
+pub use stores::CheckedStore;

@@ -1,23 +1,21 @@
 //! The check of a request.
 ghost use Rattle.std.specs.Prelude.{IfOk};
 ghost use Rattle.request_check.specs.Names.{settings};
-ghost use Rattle.request_check.specs.Placed.{IsPlaced};
 ghost use Rattle.outcomes.specs.Results.{Gives};
 ghost use Rattle.request_check.specs.Refusal.{for_name, replied, reply_unless_memory, name_unless_memory};
-ghost use Rattle.request_check.specs.Requests.{checked_open, checked_write_call, checked_read_call, checked_call, checked_hold, checked_stream};
-ghost use Rattle.request_check.specs.Requests.{checked_repair, checked_of};
+ghost use Rattle.request_check.specs.Requests.{IsPlaced, checked_of, checked_open};
 
-use crate::calls::{checked_query, checked_write};
-use crate::checked::{Checked, CheckedCall, CheckedRead, CheckedWrite};
+use crate::caches::checked_cache;
+use crate::calls::checked_call;
+use crate::checked::Checked;
+use crate::health::checked_health;
+use crate::links::checked_link;
 use crate::names::Names;
-use crate::nodes::{
-    checked_again, checked_deliver, checked_down, checked_drop, checked_evict, checked_inbox,
-    checked_refill, checked_show, checked_up, leader_place, link_place,
-};
+use crate::plans::checked_plan;
 use crate::refusal::{CheckRefusal, NameError};
-use requests::{Call, OpenCall, ReadCall, Request, WriteCall};
+use crate::stores::checked_store;
+use requests::{OpenCall, Request};
 use std::alloc::Global;
-use tao_base::Text;
 use topology::Config;
 
 /// The request with the places of what it names, or the first refusal of a name: an unknown region or
@@ -40,33 +38,13 @@ fn checked_of(names: &Names<'_>, request: &Request) -> Result<Checked, NameError
     match request {
         Request::Open(opening) => checked_open(names, opening),
         Request::Call(call) => checked_call(names, call).map(Checked::Call),
-        Request::Hold { plan, call } => checked_hold(names, *plan, call),
-        Request::Advance { plan } => Ok(Checked::Advance { plan: *plan }),
-        Request::Deliver(name) => checked_deliver(names, name),
-        Request::Again(name) => checked_again(names, name),
-        Request::Drop(name) => checked_drop(names, name),
-        Request::Refill { node } => checked_refill(names, node),
-        Request::Stream {
-            region,
-            shard,
-            position,
-        } => checked_stream(names, region, *shard, *position),
-        Request::Repair { shard } => checked_repair(names, *shard),
-        Request::Evict { node, key } => checked_evict(names, node, key),
-        Request::Show { node, key } => checked_show(names, node, key),
-        Request::Inbox { node } => checked_inbox(names, node),
-        Request::Down { node } => checked_down(names, node),
-        Request::Up { node } => checked_up(names, node),
-        Request::Suspect(leader) => leader_place(names, leader).map(Checked::Suspect),
-        Request::Trust(leader) => leader_place(names, leader).map(Checked::Trust),
-        Request::Cut(link) => link_place(names, link).map(Checked::Cut),
-        Request::Mend(link) => link_place(names, link).map(Checked::Mend),
-        Request::Settle => Ok(Checked::Settle),
-        Request::Audit(call) => checked_read_call(names, call).map(Checked::Audit),
+        Request::Plan(asked) => checked_plan(names, asked).map(Checked::Plan),
+        Request::Cache(asked) => checked_cache(names, asked).map(Checked::Cache),
+        Request::Store(asked) => checked_store(names, asked).map(Checked::Store),
+        Request::Health(asked) => checked_health(names, asked).map(Checked::Health),
+        Request::Link(asked) => checked_link(names, asked).map(Checked::Link),
     }
 }
-
-// ---- sessions and plans
 
 fn checked_open(names: &Names<'_>, opening: &OpenCall) -> Result<Checked, NameError>
     ensures { Gives name_unless_memory result (checked_open (settings names.now) opening.now) }
@@ -77,66 +55,4 @@ fn checked_open(names: &Names<'_>, opening: &OpenCall) -> Result<Checked, NameEr
         region: place.region,
         tier: place.tier,
     })
-}
-
-fn checked_write_call(names: &Names<'_>, call: &WriteCall) -> Result<CheckedWrite, NameError>
-    ensures { Gives name_unless_memory result (checked_write_call (settings names.now) call.now) }
-{
-    Ok(CheckedWrite {
-        session: call.session,
-        seq: call.seq,
-        write: checked_write(names, &call.write)?,
-    })
-}
-
-fn checked_read_call(names: &Names<'_>, call: &ReadCall) -> Result<CheckedRead, NameError>
-    ensures { Gives name_unless_memory result (checked_read_call (settings names.now) call.now) }
-{
-    Ok(CheckedRead {
-        session: call.session,
-        query: checked_query(names, &call.query)?,
-        critical: call.critical,
-    })
-}
-
-fn checked_call(names: &Names<'_>, call: &Call) -> Result<CheckedCall, NameError>
-    ensures { Gives name_unless_memory result (checked_call (settings names.now) call.now) }
-{
-    match call {
-        Call::Write(call) => Ok(CheckedCall::Write(checked_write_call(names, call)?)),
-        Call::Read(call) => Ok(CheckedCall::Read(checked_read_call(names, call)?)),
-    }
-}
-
-fn checked_hold(names: &Names<'_>, plan: u32, call: &Call) -> Result<Checked, NameError>
-    ensures { Gives name_unless_memory result (checked_hold (settings names.now) plan call.now) }
-{
-    let call = checked_call(names, call)?;
-    Ok(Checked::Hold { plan, call })
-}
-
-// ---- stores
-
-fn checked_stream(
-    names: &Names<'_>,
-    region: &Text,
-    shard: u16,
-    position: Option<u64>,
-) -> Result<Checked, NameError>
-    ensures { Gives name_unless_memory result (checked_stream (settings names.now) region.now shard position) }
-{
-    let region = names.region(region.as_str())?;
-    names.shard(shard)?;
-    Ok(Checked::Stream {
-        region,
-        shard,
-        position,
-    })
-}
-
-fn checked_repair(names: &Names<'_>, shard: u16) -> Result<Checked, NameError>
-    ensures { Gives name_unless_memory result (checked_repair (settings names.now) shard) }
-{
-    names.shard(shard)?;
-    Ok(Checked::Repair { shard })
 }

@@ -2,10 +2,10 @@
 use Rattle.std.specs.Prelude.{ℕ, ◌^◌, ◌-◌, [], ◌∷◌, codes, Result, Ok}
 use Rattle.serde_json.specs.Data.{Data}
 use Rattle.request_json.specs.declared.refusal.LineRefusal.{LineRefusal}
-use Rattle.requests.specs.declared.request.WriteText.TheVariants as write
-use Rattle.requests.specs.declared.request.QueryText.TheVariants as query
-use Rattle.requests.specs.declared.request.WriteCall.{WriteCall}
-use Rattle.requests.specs.declared.request.ReadCall.{ReadCall}
+use Rattle.requests.specs.declared.calls.WriteText.TheVariants as write
+use Rattle.requests.specs.declared.calls.QueryText.TheVariants as query
+use Rattle.requests.specs.declared.calls.WriteCall.{WriteCall}
+use Rattle.requests.specs.declared.calls.ReadCall.{ReadCall}
 use Rattle.words.specs.declared.WriteWord.{WriteWord}
 use Rattle.words.specs.declared.WriteWord.TheVariants.{ObjAdd, ObjUpdate, ObjDelete, AssocAdd, AssocDelete, AssocChangeType}
 use Rattle.words.specs.declared.ReadWord.{ReadWord}

@@ -1,5 +1,5 @@
 -- The fields of a request, each by its name and its kind. One that isn't there as it has to be is what the line is refused for.
-use Rattle.std.specs.Prelude.{ℕ, Bool, false, List, Option, None, Some, option_map, option_and_then, unwrap_or, codes, Result, Ok, Err, ⊤}
+use Rattle.std.specs.Prelude.{ℕ, Bool, false, List, [], ◌∷◌, Option, None, Some, option_map, option_and_then, unwrap_or, codes, Result, Ok, Err, ⊤}
 use Rattle.serde_json.specs.Data.{Data}
 use Rattle.serde_json.specs.Find.{as_object}
 use Rattle.serde_json.specs.View.{view}
@@ -10,8 +10,8 @@ use Rattle.json_fields.specs.Items.{each_at}
 use Rattle.request_json.specs.declared.fields.Fields.{Fields}
 use Rattle.request_json.specs.declared.refusal.LineRefusal.{LineRefusal}
 use Rattle.request_json.specs.declared.refusal.LineRefusal.TheVariants.{BadLine}
-use Rattle.requests.specs.declared.request.ListName.{ListName}
-use Rattle.requests.specs.declared.request.EdgeName.{EdgeName}
+use Rattle.requests.specs.declared.calls.ListName.{ListName}
+use Rattle.requests.specs.declared.calls.EdgeName.{EdgeName}
 use Rattle.request_json.specs.IdSets.{id_set}
 use Rattle.request_json.specs.Data.{pairs_of, fitting}
 use Rattle.outcomes.specs.Results.{◌>>=◌, needed}
@@ -81,3 +81,16 @@ edge_fields d = do
   list ← list_fields d
   id2 ← id_field (codes "id2") d
   Ok (record { list = list; id2 = id2 })
+
+-- what was read, as the request that it makes
+abbrev pub read_as : {A B : Type 0} → (A → B) → Result A LineRefusal → Result B LineRefusal
+read_as f read = do
+  said ← read
+  Ok (f said)
+
+-- the node's name, of a request that has no other field
+abbrev pub node_of : Data → Result (List ℕ) LineRefusal
+node_of d = do
+  node ← text_field (codes "node") d
+  known ← only_fields (codes "do" ∷ codes "node" ∷ []) d
+  Ok node

@@ -4,4 +4,11 @@ pub mod Refusal
 pub mod Data
 pub mod Fields
 pub mod Calls
+pub mod Sessions
+pub mod Inner
+pub mod Plans
+pub mod Caches
+pub mod Stores
+pub mod Health
+pub mod Links
 pub mod Requests

@@ -7,6 +7,7 @@ ghost use Rattle.request_json.specs.Data.{pairs_of, fitting};
 ghost use Rattle.request_json.specs.declared.refusal.LineRefusal.TheVariants.{BadLine};
 ghost use Rattle.outcomes.specs.Results.{Gives, needed};
 ghost use Rattle.request_json.specs.Refusal.{unless_memory};
+ghost use Rattle.request_json.specs.Fields.{node_of, said};
 
 use crate::refusal::LineRefusal;
 use json_fields::fields::{
@@ -234,4 +235,13 @@ pub(crate) fn bad_line(alloc: Global, field: &str) -> LineRefusal
         Ok(field) => LineRefusal::BadLine { field },
         Err(_) => LineRefusal::OutOfMemory,
     }
+}
+
+/// The node that is named by a request with no other field.
+pub(crate) fn node_of(fields: &Fields<'_>) -> Result<Text, LineRefusal>
+    ensures { Gives unless_memory result (node_of (said fields.now)) }
+{
+    let node = fields.text("node")?;
+    fields.only(&["do", "node"])?;
+    Ok(node)
 }

@@ -6,12 +6,17 @@
 //! The contracts that say so: `read_request`.
 #![tactic(auto)]
 
+mod caches;
 mod calls;
 mod fields;
-mod nodes;
+mod health;
+mod inner;
+mod links;
 mod plans;
 mod read;
 mod refusal;
+mod sessions;
+mod stores;
 mod word;
 
 pub use read::read_request;

@@ -5,19 +5,21 @@ ghost use Rattle.request_json.specs.Refusal.{unless_memory};
 ghost use Rattle.request_json.specs.Fields.{said};
 ghost use Rattle.request_json.specs.Requests.{request_in, request_by, request_of};
 
+use crate::caches::{delivery_of, drop_of, evict_of, inbox_of, refilling_of, show_of};
 use crate::calls::{read_of, write_of};
 use crate::fields::{Fields, bad_line};
-use crate::nodes::{
-    evict_of, leader_of, link_of, message_of, node_of, repair_of, show_of, stream_of,
-};
-use crate::plans::{advance_of, audit_of, hold_of, open_of, settle_of};
+use crate::health::health_of;
+use crate::links::link_of;
+use crate::plans::planning_of;
 use crate::refusal::LineRefusal;
+use crate::sessions::open_of;
+use crate::stores::{audit_of, repair_of, settle_of, stream_of};
 use crate::word::word_of;
 use json_fields::json::parse;
 use requests::{Call, Request};
 use serde_json::Value;
 use std::alloc::Global;
-use words::{DeliveryWord, HealthWord, LinkWord, PlanWord, Word};
+use words::Word;
 
 /// What a line asks: exactly the requests are taken, and a line that is none is refused for the first
 /// rule that it breaks. Reads the line once, and each of its fields a few times.
@@ -46,27 +48,21 @@ fn request_of(word: Word, fields: &Fields<'_>) -> Result<Request, LineRefusal>
     ensures { Gives unless_memory result (request_of word (said fields.now)) }
 {
     match word {
-        Word::Open => open_of(fields),
+        Word::Open => open_of(fields).map(Request::Open),
         Word::Write(word) => write_of(word, fields).map(|call| Request::Call(Call::Write(call))),
         Word::Read(word) => read_of(word, fields).map(|call| Request::Call(Call::Read(call))),
-        Word::Plan(PlanWord::Hold) => hold_of(fields),
-        Word::Plan(PlanWord::Advance) => advance_of(fields),
-        Word::Delivery(DeliveryWord::Deliver) => message_of(fields).map(Request::Deliver),
-        Word::Delivery(DeliveryWord::Again) => message_of(fields).map(Request::Again),
-        Word::Drop => message_of(fields).map(Request::Drop),
-        Word::Refill => node_of(fields).map(|node| Request::Refill { node }),
-        Word::Stream => stream_of(fields),
-        Word::Repair => repair_of(fields),
-        Word::Evict => evict_of(fields),
-        Word::Show => show_of(fields),
-        Word::Inbox => node_of(fields).map(|node| Request::Inbox { node }),
-        Word::Health(HealthWord::Down) => node_of(fields).map(|node| Request::Down { node }),
-        Word::Health(HealthWord::Up) => node_of(fields).map(|node| Request::Up { node }),
-        Word::Health(HealthWord::Suspect) => leader_of(fields).map(Request::Suspect),
-        Word::Health(HealthWord::Trust) => leader_of(fields).map(Request::Trust),
-        Word::Link(LinkWord::Cut) => link_of(fields).map(Request::Cut),
-        Word::Link(LinkWord::Mend) => link_of(fields).map(Request::Mend),
-        Word::Settle => settle_of(fields),
-        Word::Audit => audit_of(fields),
+        Word::Plan(word) => planning_of(word, fields).map(Request::Plan),
+        Word::Delivery(word) => delivery_of(word, fields).map(Request::Cache),
+        Word::Drop => drop_of(fields).map(Request::Cache),
+        Word::Inbox => inbox_of(fields).map(Request::Cache),
+        Word::Refill => refilling_of(fields).map(Request::Cache),
+        Word::Evict => evict_of(fields).map(Request::Cache),
+        Word::Show => show_of(fields).map(Request::Cache),
+        Word::Stream => stream_of(fields).map(Request::Store),
+        Word::Repair => repair_of(fields).map(Request::Store),
+        Word::Settle => settle_of(fields).map(Request::Store),
+        Word::Audit => audit_of(fields).map(Request::Store),
+        Word::Health(word) => health_of(word, fields).map(Request::Health),
+        Word::Link(word) => link_of(word, fields).map(Request::Link),
     }
 }

@@ -1,6 +1,6 @@
 use Rattle.std.proofs.Common.{IfOk, subst}
-use Rattle.request_check.specs.Placed.{IsPlaced}
-use Rattle.request_check.proofs.Placing.{placed}
+use Rattle.request_check.specs.Requests.{IsPlaced}
+use Rattle.request_check.proofs.PlacingRequests.{placed}
 use Rattle.request_check.proofs.request.check.Goals as goal
 
 pub returns-clause-placed : goal.returns-clause-placed

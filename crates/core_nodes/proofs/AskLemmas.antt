@@ -43,8 +43,9 @@ use Rattle.core_model.specs.Reads.{IsGivenAnswer, LeaderAnswers, StoreCalls, Wan
 use Rattle.core_model.specs.Serving.{IsLeaderFor, IsLeaderIn}
 use Rattle.core_model.specs.Stores.{AreStores, AreStoresOf, FollowMasters, region_store, store_count, store_place}
 use Rattle.core_model.specs.declared.named.Named.{Named}
-use Rattle.core_nodes.specs.Stages.{LeaderDoes, NodeIs}
-use Rattle.core_nodes.proofs.FleetLemmas.{goes_self, leader_step, leaders_reach, reach_stays}
+use Rattle.node_stages.specs.Stages.{LeaderDoes}
+use Rattle.core_nodes.specs.Stages.{NodeIs}
+use Rattle.core_nodes.proofs.FleetLemmas.{goes_self, kind_reaches, leader_step, reach_stays, the_leaders}
 use Rattle.core_nodes.proofs.ReadLemmas.{log_of_shard}
 use Rattle.core_nodes.proofs.StoreLemmas.{seen_stay}
 
@@ -219,7 +220,7 @@ ask_step tells s asked read before after old ls (Ok given) is change legal err s
         stores = stores_here tells s before.told after.told old.stores is.stores stays;
         fleet = step.fleet;
         reached = reach_stays tells before.told after.told (record old { leaders = ls }) stays
-            (λ told. leaders_reach before.told old ls name (LeaderDoes Does) change
+            (λ told. kind_reaches the_leaders before.told old ls name (LeaderDoes Does) change
             (λ from to by. (nodes_reach before.told (region_of name)).answers types read given calls from to by.does) (is.reached told));
       };
       goes = step.goes;

@@ -12,7 +12,7 @@ use Rattle.tao_base.specs.Queries.{query_shard}
 use Rattle.core_model.specs.Fleet.{ChangesNode, IsFirstAt}
 use Rattle.core_model.specs.Reads.{LeaderAnswers, StoreCalls, Wanted, asked_store}
 use Rattle.core_model.specs.declared.named.Named.{Named}
-use Rattle.core_nodes.specs.Stages.{LeaderDoes}
+use Rattle.node_stages.specs.Stages.{LeaderDoes}
 use Rattle.core_model.proofs.NamedNodes.{changes_at}
 
 pub answers_at : (types : EdgeTypes) (read : Wanted) (calls : StoreCalls) (leaders : List (Named Node)) (name : NodeName) (place : ℕ) (d : Named Node)

@@ -32,8 +32,8 @@ use Rattle.core_model.specs.Stores.{AreStores, FollowMasters, HaveMasterRegions,
 use Rattle.core_model.specs.Stores.{store_place}
 use Rattle.core_nodes.specs.Beginning.{AreFirstLengths, AreLengths, AreMeasured, HaveSeenLengths, IsTurn, length_at, length_in, note_at}
 use Rattle.core_nodes.specs.Beginning.{begun_node, note_in, note_or_none}
-use Rattle.core_nodes.specs.declared.beginning.Turn.{Turn}
-use Rattle.core_nodes.proofs.NotesSeen.{role_entries, role_grows, seen_long}
+use Rattle.node_stages.specs.declared.standing.Stand.{Stand}
+use Rattle.node_stages.proofs.NotesSeen.{role_entries, role_grows, seen_long}
 use Rattle.leader_tier.proofs.LegalReads.{role_log}
 use Rattle.core_nodes.proofs.OpenLemmas.{place_within}
 
@@ -159,7 +159,7 @@ module _ (s : Settings) (stores : List Store) (lengths : List ℕ) (region : ℕ
     alike_all shards within.1,
   )
 
-  pub turn_is : (shards : List ℕ) (turn : Turn) → AllByRecursion (λ shard. shard < s.shards) shards
+  pub turn_is : (shards : List ℕ) (turn : Stand) → AllByRecursion (λ shard. shard < s.shards) shards
       → turn.lows.items ≡ map (length_in s lengths region) shards → turn.notes.items ≡ map (note_in s stores region) shards
       → IsTurn s stores lengths region shards turn
   turn_is shards turn within lows notes = record {
@@ -182,7 +182,7 @@ begun_is s stores lengths name node most shards lows notes is most_is shards_are
     ∙ ap (λ ns. empty_node s.cache_items (begun_at (served_by s name) (map (length_in s lengths (region_of name)) (served_by s name)) ns)) notes_are
 
 -- what it begins with, by its name
-pub turn_named : (s : Settings) (stores : List Store) (lengths : List ℕ) (region other : ℕ) (shards others : List ℕ) (turn : Turn) → region ≡ other
+pub turn_named : (s : Settings) (stores : List Store) (lengths : List ℕ) (region other : ℕ) (shards others : List ℕ) (turn : Stand) → region ≡ other
     → shards ≡ others → IsTurn s stores lengths region shards turn → IsTurn s stores lengths other others turn
 turn_named s stores lengths region other shards others turn same are is =
     subst (λ k. IsTurn s stores lengths k others turn) same (subst (λ ks. IsTurn s stores lengths region ks turn) are is)

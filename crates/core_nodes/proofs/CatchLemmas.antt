@@ -2,7 +2,7 @@
 use Rattle.std.proofs.Common.{◌≡◌, ℕ, suc, ◌+◌, ◌<◌, ◌≤◌, Bool, true, false, List, [], ◌∷◌, drop, length, take, Option, Some, None, refl, ap, sym}
 use Rattle.std.proofs.Common.{◌∙◌, subst, inl, inr, arith}
 use Rattle.std.proofs.lemmas.Bool.{and_from, and_parts, cases_Bool, eq-eqb, eqb-false, eqb-true, le-leb, le-ltb, leb-true, ltb-false}
-use Rattle.std.proofs.lemmas.List.Elements.{recursion_from_All}
+use Rattle.std.proofs.lemmas.List.Elements.{All-weaker, recursion_from_All}
 use Rattle.std.proofs.lemmas.Option.{get_or_from_slice_get, slice_get_within}
 use Rattle.std.specs.List.{AllByRecursion, IsDistinct}
 use Rattle.std.specs.Map.{keys_of as keys_held}
@@ -50,11 +50,13 @@ use Rattle.core_model.specs.Pens.{Pens, pens_of}
 use Rattle.core_model.specs.Stores.{AreStoresOf, AreWhole, IsConfiguredStore, master_log, region_store, store_length}
 use Rattle.core_nodes.specs.Settling.{CatchesUp, IsAtFirstStores, IsRestOf, MayCatchUp, NodeGoesOn, ReachesStore, SeenLogs}
 use Rattle.core_nodes.specs.Settling.{is_last, keeps_pace, lies_behind, open_numbers, seen_logs}
-use Rattle.core_nodes.specs.Stages.{LeaderDoes}
+use Rattle.node_stages.specs.Catching.{TouchShard}
+use Rattle.node_stages.specs.Stages.{NodeDoes}
 use Rattle.core_nodes.proofs.CaughtMarks.{at_end, first_after, processes_elsewhere, reaches_end}
 use Rattle.core_nodes.proofs.KeptItems.{all_held, caught_filter, filter_all, filter_both, filter_same, is_fresh, keeps_by, keeps_through}
-use Rattle.core_nodes.proofs.KnownStores.{IsKnownStore, known_store, rest_here, rest_next, rest_within}
+use Rattle.core_nodes.proofs.KnownStores.{IsKnownStore, known_store, rest_within}
 use Rattle.core_nodes.proofs.ReadLemmas.{log_of_shard}
+use Rattle.core_nodes.proofs.StoreLemmas.{IsReadStore}
 use Rattle.ask_table.proofs.Tables.{numbers-raised}
 use Rattle.cache_node.proofs.ServedAt.{some_is}
 
@@ -243,7 +245,7 @@ module _ (tells : Bool) (s : Settings) (tables : Tables) (stores : List Store) (
 
   -- it processes the rest of a log
   pub goes_processed : (shard : ℕ) (es : List Entry) (note : View) (old new : Node) → MayCatchUp Own name old → shard < s.shards
-      → IsRestOf Own (OwnStore shard) (low_at shard old.served) es note → LeaderDoes (Processes shard es note) old new → NodeGoesOn Own name old new
+      → IsRestOf Own (OwnStore shard) (low_at shard old.served) es note → NodeDoes (Processes shard es note old new) old new → NodeGoesOn Own name old new
   goes_processed shard es note old new may here rest does =
       let mid : Node = met shard note old in
       let log : List Entry = (tables (OwnStore shard)).log in
@@ -426,26 +428,6 @@ module _ (tells : Bool) (s : Settings) (tables : Tables) (stores : List Store) (
     ends = λ shard t at. ends.ends shard t (has_of new shard t goes.may.node told at).here at;
   }
 
-  -- ---- what it may process
-
-  pub record CanProcess (shard : ℕ) (es : List Entry) (note : View) (node : Node) : Type 0 where
-    pub log : log_at shard node.served ≡ Some note.log
-    pub next : WhereTold note.log.told (es ≡ take (length es) (drop (low_at shard node.served) note.entries))
-    pub here : WhereTold note.log.told (All (λ e. All (λ t. key_shard t.key ≡ shard) e.touches) es)
-
-  pub can_process : (shard : ℕ) (es : List Entry) (note : View) (node : Node) → IsNodeOf s (pens_of stores) name node → shard < s.shards
-      → serves_in_turn (regions_of s) name shard ≡ true → IsRestOf Own (OwnStore shard) (low_at shard node.served) es note → CanProcess shard es note node
-  can_process shard es note node is here serves rest =
-      let log : List Entry = (tables (OwnStore shard)).log in
-      let low : ℕ = low_at shard node.served in
-      let told_of : note.log.told ≡ true → tells ≡ true = λ told. sym rest.told_is ∙ told in
-      record {
-        log = log_of_shard (pens_of stores) shard s name node is ((serves_its_turn s (pens_of stores) name node shard).serves is here serves)
-            ∙ ap Some rest.seen.log_is;
-        next = λ told. rest_next low log note.entries es (rest.begins (told_of told)) (rest.entries_are (told_of told));
-        here = λ told. rest_here s log es shard low (known shard (told_of told) here).sound (rest.entries_are (told_of told));
-      }
-
 -- ---- at its region's store of a shard
 
 -- it has gone on, and come to the end of the store
@@ -454,7 +436,7 @@ pub record CaughtAt (logs : SeenLogs) (name : NodeName) (at : StoreName) (old ne
   pub reaches : WhereTold logs.tells (ReachesStore logs.tables at old new)
 
 -- a node that lies behind serves the shard
-serves_there : (s : Settings) (name : NodeName) (shard low until : ℕ) (lies : Bool) → lies ≡ lies_behind s name shard low until → lies ≡ true
+pub serves_there : (s : Settings) (name : NodeName) (shard low until : ℕ) (lies : Bool) → lies ≡ lies_behind s name shard low until → lies ≡ true
     → serves_in_turn (regions_of s) name shard ≡ true
 serves_there s name shard low until lies is behind = (and_parts (serves_in_turn (regions_of s) name shard) (nat_lt low until) (sym is ∙ behind)).0
 
@@ -481,27 +463,35 @@ module _ (tells : Bool) (s : Settings) (tables : Tables) (stores : List Store) (
         (all told ∙ ap (λ n. length (tables n).log) (sym named_at)) (subst (λ n. lies_behind s name at.shard n until ≡ false) is (sym is_lies ∙ ahead)));
   }
 
-  module _ (low until : ℕ) (is : low ≡ low_at at.shard old.served) (lies : Bool) (is_lies : lies ≡ lies_behind s name at.shard low until)
-      (behind : lies ≡ true) (es xs : List Entry) (note : View) (read : IsRestOf There at low xs note) (same : es ≡ xs) where
-    rest : IsRestOf There at low es note
-    rest = subst (λ ys. IsRestOf There at low ys note) (sym same) read
+  -- what a store is asked with of a shard that it serves
+  module _ (store : Store) (is : IsReadStore tells s tables stores at store) (serves : serves_in_turn (regions_of s) name at.shard ≡ true) where
+    pub log_there : log_at store.name.shard old.served ≡ Some store.view.log
+    log_there =
+        let turn = (serves_its_turn s (pens_of stores) name old at.shard).serves may.node here.shard serves in
+        let own = log_of_shard (pens_of stores) at.shard s name old may.node turn ∙ ap Some is.follow.log_is in
+        subst (λ (n : StoreName). log_at n.shard old.served ≡ Some store.view.log) (sym is.found.name_is) own
 
+    pub touches_there : WhereTold tells (TouchShard store.name.shard (tables store.name).log)
+    touches_there told =
+        let sound = (known_store s tables stores (subst (λ b. AreStoresOf b s tables stores) told are) at here).sound in
+        let lie : TouchShard at.shard (tables at).log =
+        All-weaker (KeepsEnds (types_of s.schema) at.shard) (λ e. All (λ t. key_shard t.key ≡ at.shard) e.touches) (λ e kept. kept.here) (tables at).log
+        sound.ends in
+        subst (λ (n : StoreName). TouchShard n.shard (tables n).log) (sym is.found.name_is) lie
+
+  module _ (serves : serves_in_turn (regions_of s) name at.shard ≡ true) (es : List Entry) (note : View)
+      (rest : IsRestOf There at (low_at at.shard old.served) es note) where
     rest_there : IsRestOf There (region_store (region_of name) at.shard) (low_at at.shard old.served) es note
-    rest_there = subst (λ n. IsRestOf There n (low_at at.shard old.served) es note) (sym named_at) (subst (λ n. IsRestOf There at n es note) is rest)
+    rest_there = subst (λ n. IsRestOf There n (low_at at.shard old.served) es note) (sym named_at) rest
 
-    pub may_process : CanProcess tells s tables stores name are of_regions at.shard es note old
-    may_process =
-        can_process tells s tables stores name are of_regions at.shard es note old may.node here.shard
-        (serves_there s name at.shard low until lies is_lies behind) rest_there
-
-    pub caught_processed : (new : Node) → IfSome (served_at at.shard old.served) (λ t. IsLowWater t.marks) → LeaderDoes (Processes at.shard es note) old new
-        → CaughtAt There name at old new
+    pub caught_processed : (new : Node) → IfSome (served_at at.shard old.served) (λ t. IsLowWater t.marks)
+        → NodeDoes (Processes at.shard es note old new) old new → CaughtAt There name at old new
     caught_processed new marked does =
         let goes = goes_processed tells s tables stores name are of_regions at.shard es note old new may here.shard rest_there does in
         record {
           goes = goes;
           reaches = λ told.
               subst (λ n. ReachesStore tables n old new) named_at
-              (reaches_processed tells s tables stores name are of_regions at.shard es note old new told may goes.may here.shard
-              (serves_there s name at.shard low until lies is_lies behind) marked (rest_there.entries_are told) does.does);
+              (reaches_processed tells s tables stores name are of_regions at.shard es note old new told may goes.may here.shard serves marked
+              (rest_there.entries_are told) does.does);
         }

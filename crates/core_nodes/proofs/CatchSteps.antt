@@ -1,21 +1,32 @@
 -- Nodes that catch up, step after step.
-use Rattle.std.proofs.Common.{◌≡◌, ℕ, ◌+◌, Bool, List, length, refl, ap, sym, ◌∙◌, subst}
+use Rattle.std.proofs.Common.{◌≡◌, ℕ, ◌+◌, Bool, true, List, IfSome, OnErr, OnOk, Result, Ok, Err, length, refl, ap, sym, ◌∙◌, subst}
 use Rattle.cache_items.specs.Node.{Node}
 use Rattle.follower_cache.specs.declared.queue.Refill.{Refill}
 use Rattle.graph_model.specs.Told.{WhereTold}
 use Rattle.node_name.specs.declared.NodeName.{NodeName}
+use Rattle.node_stages.specs.Caches.{ChangesAlone}
+use Rattle.node_stages.specs.Catching.{ProcessesRest}
+use Rattle.node_stages.specs.Stages.{CacheDoes, NodeDoes}
+use Rattle.served_shards.specs.Served.{IsLowWater, low_at, served_at}
+use Rattle.shard_log.specs.View.{View}
 use Rattle.shard_tables.specs.StoreView.{Store}
+use Rattle.shard_tables.specs.Stores.{note_of}
+use Rattle.tao_base.specs.declared.entry.Entry.{Entry}
 use Rattle.tao_base.specs.declared.id.StoreName.{StoreName}
 use Rattle.tao_keeper.specs.Table.{Stays, Table, Tables}
 use Rattle.topology.specs.Config.{Settings}
+use Rattle.core_model.specs.Fleet.{region_of, regions_of, serves_in_turn}
+use Rattle.core_model.specs.Messages.{Processes}
 use Rattle.core_model.specs.Pens.{Pens, pens_of}
-use Rattle.core_model.specs.Stores.{AreStoresOf, region_store}
+use Rattle.core_model.specs.Stores.{AreStoresOf, IsConfiguredStore, region_store}
 use Rattle.core_model.specs.declared.named.Named.{Named}
 use Rattle.core_nodes.specs.Beginning.{AreLengths}
-use Rattle.core_nodes.specs.Settling.{AreCaches, CacheGoesOn, CachesGoOn, CatchesUp, GoesInTurn, HaveCaughtUp, IsAtFirstStores, MayCatchUp}
+use Rattle.core_nodes.specs.Settling.{AreCaches, CacheGoesOn, CachesGoOn, CatchesUp, GoesInTurn, HaveCaughtUp, IsAtFirstStores, IsRestOf, MayCatchUp}
 use Rattle.core_nodes.specs.Settling.{NodeGoesOn, ReachesStore, SeenLogs, seen_logs}
 use Rattle.core_nodes.proofs.AskLemmas.{stores_here}
-use Rattle.core_nodes.proofs.CatchLemmas.{goes_before, goes_on, goes_same, may_before, so_before}
+use Rattle.core_nodes.proofs.CatchLemmas.{caught_processed, goes_before, goes_on, goes_same, may_before, so_before}
+use Rattle.core_nodes.proofs.KnownStores.{rest_of}
+use Rattle.core_nodes.proofs.StoreLemmas.{IsReadStore}
 
 -- ---- step after step
 
@@ -46,6 +57,38 @@ pub cache_same : {N : Type 0} (node : N → Node) (refills : N → List Refill) 
     → MayCatchUp (seen_logs tells s tables pens) cache.name (node cache.node) → CacheGoesOn node refills (seen_logs tells s tables pens) cache cache
 cache_same node refills tells s tables pens cache may =
     record { name_is = refl; goes = goes_same tells s tables pens cache.name (node cache.node) may; rest = refl }
+
+-- it processes the rest of the log of its region's store of a shard that it serves, or stays as it is
+module _ {N : Type 0} (node : N → Node) (refills : N → List Refill) (tells : Bool) (s : Settings) (tables : Tables) (stores : List Store)
+    (are : AreStoresOf tells s tables stores) (at : StoreName) (here : IsConfiguredStore s at) (cache : Named N)
+    (of_region : region_of cache.name ≡ at.region) (may : MayCatchUp (seen_logs tells s tables (pens_of stores)) cache.name (node cache.node))
+    (store : Store) (is : IsReadStore tells s tables stores at store) (serves : serves_in_turn (regions_of s) cache.name at.shard ≡ true) where
+  abbrev There : SeenLogs
+  There = seen_logs tells s tables (pens_of stores)
+
+  pub record CaughtWith {T E : Type 0} (r : Result T E) (new : N) : Type 0 where
+    pub goes : CacheGoesOn node refills There cache (record cache { node = new })
+    pub reaches : WhereTold tells (OnOk r (ReachesStore tables at (node cache.node) (node new)))
+
+  pub caught_with : {T E : Type 0} (r : Result T E) (new : N) → OnOk r (ProcessesRest node refills tells (tables store.name).log store cache.node new)
+      → OnErr r (new ≡ cache.node) → CaughtWith r new
+  caught_with (Ok done) new does err =
+      let old : Node = node cache.node in
+      let es : List Entry = does.entries in
+      let note : View = note_of store in
+      let P : ℕ → Type 0 = λ n. IsRestOf There at (low_at n old.served) es note × IfSome (served_at n old.served) (λ t. IsLowWater t.marks)
+      × CacheDoes node (ChangesAlone node refills (Processes n es note)) cache.node new in
+      let read = rest_of tells s tables stores at store (low_at store.name.shard old.served) es note is does.entries_are refl in
+      let there : P at.shard = subst P (ap (λ (n : StoreName). n.shard) is.found.name_is) (read, does.marked, does.does) in
+      let processed : NodeDoes (Processes at.shard es note old (node new)) old (node new) =
+      record { does = there.2.does.by; apart = there.2.apart; asks = there.2.asks; truth = there.2.truth } in
+      let caught = caught_processed tells s tables stores cache.name are at here of_region old may serves es note there.0 (node new) there.1 processed in
+      record { goes = record { name_is = refl; goes = caught.goes; rest = there.2.does.rest }; reaches = caught.reaches }
+  caught_with (Err stop) new does err = record {
+    goes = subst (λ x. CacheGoesOn node refills There cache (record cache { node = x })) (sym err)
+        (cache_same node refills tells s tables (pens_of stores) cache may);
+    reaches = λ told. tt;
+  }
 
 -- with one more shard it is at the end of one more store
 pub ends_next : (tells : Bool) (before now : Tables) (region shard : ℕ) (at : StoreName) (from to : Node) → WhereTold tells (Stays before now)

@@ -36,8 +36,9 @@ use Rattle.std.proofs.lemmas.Option.{slice_get_within}
 use Rattle.tao_keeper.specs.Growing.{LogsGrow}
 use Rattle.core_model.specs.Writes.{AppliesTo, IsSeenEntry}
 use Rattle.core_model.specs.declared.named.Named.{Named}
+use Rattle.node_stages.specs.Stages.{FollowerDoes, LeaderDoes}
 use Rattle.core_nodes.specs.FleetView.{fleet_seen}
-use Rattle.core_nodes.specs.Stages.{FollowerDoes, LeaderDoes, taken_by}
+use Rattle.core_nodes.specs.Stages.{taken_by}
 use Rattle.core_nodes.specs.declared.fleet.Fleet.TheInside.{Inside}
 use Rattle.core_nodes.proofs.FleetLemmas.{FleetStep, fleet_risen, follower_step, leader_step}
 use Rattle.core_model.proofs.NamedNodes.{all_set, changes_so}

@@ -1,8 +1,7 @@
 -- What is left where a node processes a message, and where a refill is taken out.
-use Rattle.std.proofs.Common.{◌≡◌, ℕ, List, [], ◌++◌, Option, Some, None, IfSome, refl, ap, sym, ◌∙◌, subst}
-use Rattle.std.specs.Prelude.{IsNone, option_to_list}
+use Rattle.std.proofs.Common.{◌≡◌, ℕ, List, Option, Some, None, IfSome, refl, ap, sym, ◌∙◌, subst}
 use Rattle.cache_items.specs.Node.{Node}
-use Rattle.follower_cache.specs.Seen.{FollowerState}
+use Rattle.follower_cache.specs.Seen.{FollowerState, follower_state}
 use Rattle.follower_cache.specs.declared.queue.Refill.{Refill}
 use Rattle.maint_msg.specs.Maints.{SeenMaint}
 use Rattle.node_name.specs.declared.NodeName.{NodeName}
@@ -14,21 +13,22 @@ use Rattle.topology.specs.Config.{Settings}
 use Rattle.core_model.proofs.AskingOn.{nodes_ask_on}
 use Rattle.core_model.proofs.MarkingOn.{nodes_mark_on, served_stays}
 use Rattle.core_model.proofs.Refilling.{followers_stay}
-use Rattle.core_model.proofs.Staying.{nodes_stay}
 use Rattle.core_model.proofs.Turns.{serves_its_turn}
 use Rattle.core_model.specs.Asks.{AsksGoOn}
-use Rattle.core_model.specs.Consistent.{IsFleetOf, IsNodeOf, MarksGoOn}
+use Rattle.core_model.specs.Consistent.{IsFleetOf, IsFollowerOf, IsNodeOf, MarksGoOn}
 use Rattle.core_model.specs.Fleet.{ChangesNode, Fleet}
 use Rattle.core_model.specs.Messages.{Delivers, DeliversAt, DeliversThere, IsMessageFor, IsRefillFor, TakesRefill}
 use Rattle.core_model.specs.Pens.{Pens, pens_of}
 use Rattle.core_model.specs.declared.named.Named.{Named}
-use Rattle.core_nodes.specs.Stages.{FollowerDoes, LeaderDoes, NodeIs}
+use Rattle.node_stages.specs.Caches.{DeliversAs, follower_node, follower_refills, leader_node, leader_refills}
+use Rattle.node_stages.specs.Stages.{CacheDoes, FollowerDoes}
+use Rattle.core_nodes.specs.Stages.{NodeIs}
 use Rattle.core_nodes.specs.declared.fleet.Fleet.TheInside.{Inside}
 use Rattle.core_nodes.proofs.EvictLemmas.{asks_same}
-use Rattle.core_nodes.proofs.FleetLemmas.{FleetStep, leader_step, refills_step}
+use Rattle.core_nodes.proofs.FleetLemmas.{FleetStep, IsOfCore, Kind, Leaves, leaves, refills_step, the_followers, the_leaders}
 use Rattle.core_model.proofs.NamedNodes.{changes_so}
 use Rattle.core_nodes.proofs.ReadLemmas.{log_of_shard}
-use Rattle.core_nodes.proofs.ViewLemmas.{LendsFollowers, LendsLeaders, after_followers, after_leaders, followers_after, leaders_after}
+use Rattle.core_nodes.proofs.ViewLemmas.{Lends, LendsFollowers, after_followers, followers_after}
 
 -- ---- the node that a message is for
 
@@ -37,79 +37,64 @@ log_for : (s : Settings) (pens : Pens) (name : NodeName) (node : Node) (m : Seen
 log_for s pens name node m is for =
     log_of_shard pens m.shard s name node is ((serves_its_turn s pens name node m.shard).serves is for.here for.serves) ∙ ap Some for.seen.log_is
 
--- its log is that of the message's shard
-pub leader_for : (s : Settings) (f : Fleet) (name : NodeName) (m : SeenMaint) → IsFleetOf s f → IsMessageFor s (pens_of f.stores) name m
-    → NodeIs name (λ (node : Node). log_at m.shard node.served ≡ Some m.note.log) f.leaders
-leader_for s f name m fleet for place node first at = log_for s (pens_of f.stores) name node m (fleet.leaders place name node at) for
+module _ {N : Type 0} {node : N → Node} {refills : N → List Refill} {AsksOn : N → N → Type 0} {of : Fleet → List (Named N)}
+    {put : Fleet → List (Named N) → Fleet} (kind : Kind node refills AsksOn of put) where
+  -- its log is that of the message's shard
+  pub kind_for : (s : Settings) (f : Fleet) (name : NodeName) (m : SeenMaint) (lent : List (Named N)) → lent ≡ of f → IsFleetOf s f
+      → IsMessageFor s (pens_of f.stores) name m → NodeIs name (λ (x : N). log_at m.shard (node x).served ≡ Some m.note.log) lent
+  kind_for s f name m lent own fleet for =
+      subst (NodeIs name (λ (x : N). log_at m.shard (node x).served ≡ Some m.note.log)) (sym own)
+      (λ place x first at. log_for s (pens_of f.stores) name (node x) m (kind.each s f fleet place name x at).node_is for)
 
-pub follower_for : (s : Settings) (f : Fleet) (name : NodeName) (m : SeenMaint) → IsFleetOf s f → IsMessageFor s (pens_of f.stores) name m
-    → NodeIs name (λ (g : FollowerState). log_at m.shard g.node.served ≡ Some m.note.log) f.followers
-follower_for s f name m fleet for place node first at = log_for s (pens_of f.stores) name node.node m (fleet.followers place name node at).node for
+  -- ---- it processes the message
 
--- ---- it processes the message
+  delivered_stays : (s : Settings) (pens : Pens) (name : NodeName) (m : SeenMaint) (dropped : ℕ) (from to : N) → IsMessageFor s pens name m
+      → CacheDoes node (DeliversAs node refills (types_of s.schema) m dropped) from to → IsOfCore node refills s pens name from
+      → IsOfCore node refills s pens name to
+  delivered_stays s pens name m dropped from to for by is =
+      let was : IsFollowerOf s pens name (follower_state (node from) (refills from)) = record { node = is.node_is; refills = is.refills_are } in
+      let there : DeliversThere (types_of s.schema) m dropped (follower_state (node from) (refills from)) (follower_state (node to) (refills to)) =
+      record { node = by.does.by; refills = by.does.queues } in
+      let after = (followers_stay s pens name).delivers m dropped (follower_state (node from) (refills from)) (follower_state (node to) (refills to)) there for
+      by.apart by.truth was in
+      record { node_is = after.node; refills_are = after.refills }
 
-pub record DeliverStep (s : Settings) (m : SeenMaint) (dropped : ℕ) (name : NodeName) (old new : Fleet) : Type 0 where
-  pub step : FleetStep s old new
-  pub delivers : DeliversAt (types_of s.schema) m dropped name old new
+  pub delivered : (s : Settings) (m : SeenMaint) (dropped : ℕ) (old new : Fleet) (name : NodeName) (schema : Schema) (lent left : List (Named N))
+      → Lends of put old new lent left → schema ≡ s.schema → IsFleetOf s old → IsMessageFor s (pens_of old.stores) name m
+      → ChangesNode name (CacheDoes node (DeliversAs node refills (types_of schema) m dropped)) lent left
+      → Leaves kind s (DeliversAs node refills (types_of s.schema) m dropped) name old new
+  delivered s m dropped old new name schema lent left lends of_s fleet for change =
+      leaves kind (CacheDoes node (DeliversAs node refills (types_of s.schema) m dropped)) (DeliversAs node refills (types_of s.schema) m dropped) s old new
+      name lent left lends fleet
+      (subst (λ k. ChangesNode name (CacheDoes node (DeliversAs node refills (types_of k) m dropped)) lent left) of_s change)
+      (λ from to by. by.does)
+      (λ from to by is. delivered_stays s (pens_of old.stores) name m dropped from to for by is)
+      (λ from to by. kind.asks from to (nodes_ask_on.delivers m dropped (node from) (node to) by.does.by))
+      (λ from to by. nodes_mark_on.delivers m dropped (node from) (node to) by.does.by)
 
-module _ (s : Settings) (m : SeenMaint) (dropped : ℕ) (inside : Inside) (old : Fleet) (fleet : IsFleetOf s old) where
-  leader_delivers : (region index : ℕ) (ls : List (Named Node)) → IsMessageFor s (pens_of old.stores) (Leader region index) m
-      → ChangesNode (Leader region index) (LeaderDoes (Delivers m dropped)) old.leaders ls
-      → DeliverStep s m dropped (Leader region index) old (record old { leaders = ls })
-  leader_delivers region index ls for change =
-      let name = Leader region index in
-      record {
-        step = leader_step (LeaderDoes (Delivers m dropped)) s old name ls fleet change
-            (λ from to by is. (nodes_stay s (pens_of old.stores) name).delivers m dropped from to by.does for by.apart by.truth is)
-            (λ from to by. nodes_mark_on.delivers m dropped from to by.does);
-        delivers = (changes_so (LeaderDoes (Delivers m dropped)) (Delivers m dropped) name old.leaders ls (λ from to by. by.does) change, refl);
-      }
+-- of the leader of that name, and of the follower
+pub leader_delivers : (s : Settings) (m : SeenMaint) (dropped : ℕ) (old new : Fleet) (name : NodeName) (region index : ℕ) → name ≡ Leader region index
+    → Leaves the_leaders s (DeliversAs leader_node leader_refills (types_of s.schema) m dropped) name old new
+    → DeliversAt (types_of s.schema) m dropped name old new
+leader_delivers s m dropped old new name region index is =
+    let So = DeliversAs leader_node leader_refills (types_of s.schema) m dropped in
+    subst (λ n. Leaves the_leaders s So n old new → DeliversAt (types_of s.schema) m dropped n old new) (sym is)
+    (λ left. (changes_so So (Delivers m dropped) (Leader region index) old.leaders new.leaders (λ from to by. by.by) left.change, left.rest))
 
-  follower_delivers : (region tier index : ℕ) (fs : List (Named FollowerState)) → IsMessageFor s (pens_of old.stores) (Follower region tier index) m
-      → ChangesNode (Follower region tier index) (FollowerDoes (DeliversThere (types_of s.schema) m dropped)) old.followers fs
-      → DeliverStep s m dropped (Follower region tier index) old (record old { followers = fs })
-  follower_delivers region tier index fs for change =
-      let name = Follower region tier index in
-      let Does = DeliversThere (types_of s.schema) m dropped in
-      record {
-        step = refills_step (FollowerDoes Does) s old name fs fleet change
-            (λ from to by is. (followers_stay s (pens_of old.stores) name).delivers m dropped from to by.does for by.apart by.truth is)
-            (λ from to by. nodes_ask_on.delivers m dropped from.node to.node by.does.node)
-            (λ from to by. nodes_mark_on.delivers m dropped from.node to.node by.does.node);
-        delivers = (changes_so (FollowerDoes Does) Does name old.followers fs (λ from to by. by.does) change, refl);
-      }
-
-  -- the leaders were lent as a slice
-  pub deliver_leader_lent : (name : NodeName) (region index : ℕ) (lent left : List (Named Node)) → name ≡ Leader region index
-      → LendsLeaders inside old lent left → IsMessageFor s (pens_of old.stores) name m → ChangesNode name (LeaderDoes (Delivers m dropped)) lent left
-      → DeliverStep s m dropped name old (after_leaders inside left)
-  deliver_leader_lent name region index lent left is lends for change =
-      let P : NodeName → Type 0 = λ n. IsMessageFor s (pens_of old.stores) n m → ChangesNode n (LeaderDoes (Delivers m dropped)) old.leaders left
-      → DeliverStep s m dropped n old (record old { leaders = left }) in
-      let own = subst (λ xs. ChangesNode name (LeaderDoes (Delivers m dropped)) xs left) lends.own change in
-      subst (DeliverStep s m dropped name old) (sym (leaders_after inside old lent left lends))
-      (subst P (sym is) (leader_delivers region index left) for own)
-
-  -- the followers were
-  pub deliver_follower_lent : (schema : Schema) (name : NodeName) (region tier index : ℕ) (lent left : List (Named FollowerState))
-      → name ≡ Follower region tier index → LendsFollowers inside old lent left → schema ≡ s.schema → IsMessageFor s (pens_of old.stores) name m
-      → ChangesNode name (FollowerDoes (DeliversThere (types_of schema) m dropped)) lent left
-      → DeliverStep s m dropped name old (after_followers inside left)
-  deliver_follower_lent schema name region tier index lent left is lends of for change =
-      let Changes : Schema → NodeName → List (Named FollowerState) → Type 0 =
-      λ k n xs. ChangesNode n (FollowerDoes (DeliversThere (types_of k) m dropped)) xs left in
-      let P : NodeName → Type 0 = λ n. IsMessageFor s (pens_of old.stores) n m → Changes s.schema n old.followers
-      → DeliverStep s m dropped n old (record old { followers = left }) in
-      let own = subst (λ k. Changes k name old.followers) of (subst (Changes schema name) lends.own change) in
-      subst (DeliverStep s m dropped name old) (sym (followers_after inside old lent left lends))
-      (subst P (sym is) (follower_delivers region tier index left) for own)
+pub follower_delivers : (s : Settings) (m : SeenMaint) (dropped : ℕ) (old new : Fleet) (name : NodeName) (region tier index : ℕ)
+    → name ≡ Follower region tier index
+    → Leaves the_followers s (DeliversAs follower_node follower_refills (types_of s.schema) m dropped) name old new
+    → DeliversAt (types_of s.schema) m dropped name old new
+follower_delivers s m dropped old new name region tier index is =
+    let So = DeliversAs follower_node follower_refills (types_of s.schema) m dropped in
+    subst (λ n. Leaves the_followers s So n old new → DeliversAt (types_of s.schema) m dropped n old new) (sym is)
+    (λ left. (
+      changes_so So (DeliversThere (types_of s.schema) m dropped) (Follower region tier index) old.followers new.followers
+          (λ from to by. record { node = by.by; refills = by.queues }) left.change,
+      left.rest,
+    ))
 
 -- ---- a refill is taken out
-
-pub takes_oldest : (refill : Option Refill) (old new : FollowerState) → old.refills ≡ option_to_list refill ++ new.refills
-    → new ≡ record old { refills = new.refills } → (IsNone refill → old.refills ≡ []) → TakesRefill refill old new
-takes_oldest None old new oldest rest none = (none refl, rest ∙ ap (λ rs. record old { refills = rs }) (sym oldest))
-takes_oldest (Some refill) old new oldest rest none = (oldest, rest)
 
 refill_asks : (refill : Option Refill) (from to : FollowerState) → TakesRefill refill from to → AsksGoOn from.node.asks to.node.asks
 refill_asks None from to takes = asks_same from.node.asks to.node.asks (ap (λ (f : FollowerState). f.node.asks) takes.1)

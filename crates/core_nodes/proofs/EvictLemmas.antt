@@ -1,11 +1,12 @@
 -- What is left where an item is dropped.
-use Rattle.std.proofs.Common.{◌≡◌, ℕ, Bool, List, Option, Some, None, refl, ap, sym, subst}
+use Rattle.std.proofs.Common.{◌≡◌, ℕ, Bool, List, Option, Some, None, ap, sym, subst}
 use Rattle.std.specs.List.{IsDistinct}
 use Rattle.std.specs.Map.{keys_of as keys_held}
 use Rattle.ask_table.specs.Asks.{Asks}
 use Rattle.cache_items.specs.Node.{Node}
 use Rattle.cache_node.specs.True.{IsTrueNode}
 use Rattle.follower_cache.specs.Seen.{FollowerState}
+use Rattle.follower_cache.specs.declared.queue.Refill.{Refill}
 use Rattle.node_name.specs.declared.NodeName.{NodeName}
 use Rattle.node_name.specs.declared.NodeName.TheVariants.{Follower, Leader}
 use Rattle.tao_base.specs.Keys.{same_key}
@@ -17,10 +18,13 @@ use Rattle.core_model.specs.Asks.{AsksGoOn, IsAskOn}
 use Rattle.core_model.specs.Consistent.{IsFleetOf, IsNodeOf}
 use Rattle.core_model.specs.Evictions.{ChangesCache, Evicts}
 use Rattle.core_model.specs.Fleet.{ChangesNode, Fleet}
+use Rattle.core_model.specs.Messages.{AreRefillsFor}
 use Rattle.core_model.specs.Pens.{Pens, pens_of}
 use Rattle.core_model.specs.declared.named.Named.{Named}
-use Rattle.core_nodes.specs.Stages.{EvictsThere, FollowerDoes, LeaderDoes}
-use Rattle.core_nodes.proofs.FleetLemmas.{FleetStep, follower_step, leader_step}
+use Rattle.node_stages.specs.Caches.{EvictsAs, follower_node, follower_refills, leader_node, leader_refills}
+use Rattle.node_stages.specs.Stages.{CacheDoes}
+use Rattle.core_nodes.proofs.FleetLemmas.{Kind, Leaves, leaves, the_followers, the_leaders}
+use Rattle.core_nodes.proofs.ViewLemmas.{Lends}
 use Rattle.core_model.proofs.NamedNodes.{changes_so}
 
 pub evicted_stays : (s : Settings) (pens : Pens) (name : NodeName) (key : Option Key) (held : Bool) (old new : Node) → Evicts key held old new
@@ -37,50 +41,38 @@ evicted_asks : (key : Option Key) (held : Bool) (old new : Node) → Evicts key 
 evicted_asks (Some key) held old new does = asks_same old.asks new.asks (ap (λ (n : Node). n.asks) does.1)
 evicted_asks None held old new does = asks_same old.asks new.asks (ap (λ (n : Node). n.asks) does.1)
 
--- what is left where a leader drops an item: that alone has changed
-pub record LeaderDrops (s : Settings) (name : NodeName) (key : Option Key) (held : Bool) (old new : Fleet) : Type 0 where
-  pub step : FleetStep s old new
-  pub evicts : ChangesNode name (Evicts key held) old.leaders new.leaders
-  pub rest : new ≡ record old { leaders = new.leaders }
+-- what is left where it drops an item: that alone has changed
+module _ {N : Type 0} {node : N → Node} {refills : N → List Refill} {AsksOn : N → N → Type 0} {of : Fleet → List (Named N)}
+    {put : Fleet → List (Named N) → Fleet} (kind : Kind node refills AsksOn of put) where
+  pub evicted : (s : Settings) (key : Option Key) (held : Bool) (old new : Fleet) (name : NodeName) (lent left : List (Named N))
+      → Lends of put old new lent left → IsFleetOf s old → ChangesNode name (CacheDoes node (EvictsAs node refills key held)) lent left
+      → Leaves kind s (EvictsAs node refills key held) name old new
+  evicted s key held old new name lent left lends fleet change =
+      leaves kind (CacheDoes node (EvictsAs node refills key held)) (EvictsAs node refills key held) s old new name lent left lends fleet change
+      (λ from to by. by.does)
+      (λ from to by is. record {
+        node_is = evicted_stays s (pens_of old.stores) name key held (node from) (node to) by.does.by by.apart by.truth is.node_is;
+        refills_are = subst (AreRefillsFor s (pens_of old.stores) name) (sym by.does.rest) is.refills_are;
+      })
+      (λ from to by. kind.asks from to (evicted_asks key held (node from) (node to) by.does.by))
+      (λ from to by. nodes_mark_on.evicts key held (node from) (node to) by.does.by)
 
-pub leader_evicts : (s : Settings) (name : NodeName) (key : Option Key) (held : Bool) (old : Fleet) (ls : List (Named Node)) → IsFleetOf s old
-    → ChangesNode name (LeaderDoes (Evicts key held)) old.leaders ls → LeaderDrops s name key held old (record old { leaders = ls })
-leader_evicts s name key held old ls fleet change = record {
-  step = leader_step (LeaderDoes (Evicts key held)) s old name ls fleet change
-      (λ from to by is. evicted_stays s (pens_of old.stores) name key held from to by.does by.apart by.truth is)
-      (λ from to by. nodes_mark_on.evicts key held from to by.does);
-  evicts = changes_so (LeaderDoes (Evicts key held)) (Evicts key held) name old.leaders ls (λ from to by. by.does) change;
-  rest = refl;
-}
+-- of the leader of that name, and of the follower
+pub leader_evicts : (s : Settings) (key : Option Key) (held : Bool) (old new : Fleet) (name : NodeName) (region index : ℕ) → name ≡ Leader region index
+    → Leaves the_leaders s (EvictsAs leader_node leader_refills key held) name old new → ChangesCache name (Evicts key held) old new
+leader_evicts s key held old new name region index is =
+    let So = EvictsAs leader_node leader_refills key held in
+    subst (λ n. Leaves the_leaders s So n old new → ChangesCache n (Evicts key held) old new) (sym is)
+    (λ left. (changes_so So (Evicts key held) (Leader region index) old.leaders new.leaders (λ from to by. by.by) left.change, left.rest))
 
-pub changes_leader : (s : Settings) (name : NodeName) (region index : ℕ) (key : Option Key) (held : Bool) (old new : Fleet)
-    → name ≡ Leader region index
-    → LeaderDrops s name key held old new → ChangesCache name (Evicts key held) old new
-changes_leader s name region index key held old new is drop =
-    let P : NodeName → Type 0 = λ n. LeaderDrops s n key held old new → ChangesCache n (Evicts key held) old new in
-    subst P (sym is) (λ step. (step.evicts, step.rest)) drop
-
--- what is left where a follower drops an item: that alone has changed
-pub record FollowerDrops (s : Settings) (name : NodeName) (key : Option Key) (held : Bool) (old new : Fleet) : Type 0 where
-  pub step : FleetStep s old new
-  pub evicts : ChangesNode name (EvictsThere key held) old.followers new.followers
-  pub rest : new ≡ record old { followers = new.followers }
-
-pub follower_evicts : (s : Settings) (name : NodeName) (key : Option Key) (held : Bool) (old : Fleet) (fs : List (Named FollowerState)) → IsFleetOf s old
-    → ChangesNode name (FollowerDoes (EvictsThere key held)) old.followers fs → FollowerDrops s name key held old (record old { followers = fs })
-follower_evicts s name key held old fs fleet change = record {
-  step = follower_step (FollowerDoes (EvictsThere key held)) s old name fs fleet change
-      (λ from to by is. evicted_stays s (pens_of old.stores) name key held from.node to.node by.does.0 by.apart by.truth is)
-      (λ from to by. by.does.1)
-      (λ from to by. evicted_asks key held from.node to.node by.does.0)
-      (λ from to by. nodes_mark_on.evicts key held from.node to.node by.does.0);
-  evicts = changes_so (FollowerDoes (EvictsThere key held)) (EvictsThere key held) name old.followers fs (λ from to by. by.does) change;
-  rest = refl;
-}
-
-pub changes_follower : (s : Settings) (name : NodeName) (region tier index : ℕ) (key : Option Key) (held : Bool) (old new : Fleet)
-    → name ≡ Follower region tier index
-    → FollowerDrops s name key held old new → ChangesCache name (Evicts key held) old new
-changes_follower s name region tier index key held old new is drop =
-    let P : NodeName → Type 0 = λ n. FollowerDrops s n key held old new → ChangesCache n (Evicts key held) old new in
-    subst P (sym is) (λ step. (step.evicts, step.rest)) drop
+pub follower_evicts : (s : Settings) (key : Option Key) (held : Bool) (old new : Fleet) (name : NodeName) (region tier index : ℕ)
+    → name ≡ Follower region tier index → Leaves the_followers s (EvictsAs follower_node follower_refills key held) name old new
+    → ChangesCache name (Evicts key held) old new
+follower_evicts s key held old new name region tier index is =
+    let So = EvictsAs follower_node follower_refills key held in
+    let There : FollowerState → FollowerState → Type 0 = λ from to. Evicts key held from.node to.node × (to.refills ≡ from.refills) in
+    subst (λ n. Leaves the_followers s So n old new → ChangesCache n (Evicts key held) old new) (sym is)
+    (λ left. (
+      changes_so So There (Follower region tier index) old.followers new.followers (λ from to by. (by.by, by.rest)) left.change,
+      left.rest,
+    ))

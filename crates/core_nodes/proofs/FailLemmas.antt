@@ -8,6 +8,7 @@ use Rattle.cache_items.specs.Node.{Node}
 use Rattle.cache_node.proofs.Marked.{low_is_marked}
 use Rattle.cache_node.specs.True.{IsTrueNode}
 use Rattle.follower_cache.specs.Seen.{FollowerState}
+use Rattle.follower_cache.specs.declared.queue.Refill.{Refill}
 use Rattle.graph_model.specs.Told.{WhereTold}
 use Rattle.node_name.specs.declared.NodeName.{NodeName}
 use Rattle.node_name.specs.declared.NodeName.TheVariants.{Store as StoreName_, Follower, Leader}
@@ -21,9 +22,11 @@ use Rattle.core_model.specs.Emptied.{Anew, BeginEach, at_marks}
 use Rattle.core_model.specs.Fleet.{Fleet, regions_of, served_by, serves_in_turn}
 use Rattle.core_model.specs.Pens.{IsSeen, Pens, pens_of}
 use Rattle.core_model.specs.declared.named.Named.{Named}
-use Rattle.core_nodes.specs.Emptying.{CacheIs, EmptiesThere, MayEmpty, ServesTruly, StandWith, StandsSo}
+use Rattle.node_stages.specs.Standing.{StandWith, StandsSo}
+use Rattle.core_nodes.specs.Emptying.{CacheIs, EmptiesThere, MayEmpty, ServesTruly}
 use Rattle.core_nodes.specs.Stages.{NodeIs}
-use Rattle.core_nodes.specs.declared.emptying.Restart.{Restart}
+use Rattle.node_stages.specs.declared.standing.Stand.{Stand}
+use Rattle.core_nodes.proofs.FleetLemmas.{Kind}
 use Rattle.core_nodes.proofs.ServedRising.{Rises, each_served, range_rises}
 
 -- ---- each shard that is served has its own
@@ -100,22 +103,22 @@ stands_whole whole (t ∷ ts) (l ∷ ls) (n ∷ ns) own lows_are notes_are =
       );
     }
 
-pub stands_wholly : (s : Settings) (name : NodeName) (node : Node) (restart : Restart) → ServesTruly s name node → StandsSo node.served restart
+pub stands_wholly : (s : Settings) (name : NodeName) (node : Node) (restart : Stand) → ServesTruly s name node → StandsSo node.served restart
     → StandsWhole node.served restart.lows.items restart.notes.items
 stands_wholly s name node restart is stands =
     stands_whole node.served node.served restart.lows.items restart.notes.items (own_all s name node is) stands.lows stands.notes
 
 -- where it was read of the shards of its turn
-stands_of : (s : Settings) (name : NodeName) (node : Node) (shards : List ℕ) (restart : Restart) → ServesTruly s name node → shards ≡ served_by s name
+stands_of : (s : Settings) (name : NodeName) (node : Node) (shards : List ℕ) (restart : Stand) → ServesTruly s name node → shards ≡ served_by s name
     → StandWith node.served shards restart → StandsSo node.served restart
 stands_of s name node shards restart is same stands =
     subst (λ ks. StandWith node.served ks restart) (same ∙ sym is.shards) stands
 
-pub stands_if : (s : Settings) (name : NodeName) (node : Node) (shards : List ℕ) (r : Result Restart OutOfMemory) → ServesTruly s name node
+pub stands_if : (s : Settings) (name : NodeName) (node : Node) (shards : List ℕ) (r : Result Stand OutOfMemory) → ServesTruly s name node
     → shards ≡ served_by s name → IfOk r (StandWith node.served shards) → IfOk r (StandsSo node.served)
 stands_if s name node shards r is same = IfOk-weaker r _ _ (λ restart stands. stands_of s name node shards restart is same stands)
 
-pub reached_if : (s : Settings) (name : NodeName) (node : Node) (shards : List ℕ) (r : Result Restart OutOfMemory) → ServesTruly s name node
+pub reached_if : (s : Settings) (name : NodeName) (node : Node) (shards : List ℕ) (r : Result Stand OutOfMemory) → ServesTruly s name node
     → shards ≡ served_by s name → IfOk r (StandWith node.served shards) → IfOk r (λ restart. AreReached restart.lows.items restart.notes.items)
 reached_if s name node shards r is same =
     IfOk-weaker r _ _ (λ restart stands. (stands_wholly s name node restart is (stands_of s name node shards restart is same stands)).reached)
@@ -125,7 +128,7 @@ reached_if s name node shards r is same =
 serves_truly : (s : Settings) (pens : Pens) (name : NodeName) (node : Node) → IsNodeOf s pens name node → ServesTruly s name node
 serves_truly s pens name node is = record { shards = is.shards; truth = is.truth }
 
-module _ (s : Settings) (f : Fleet) (fleet : IsFleetOf s f) (restart : Restart) where
+module _ (s : Settings) (f : Fleet) (fleet : IsFleetOf s f) (restart : Stand) where
   node_stands : (name : NodeName) (node : Node) → IsNodeOf s (pens_of f.stores) name node → StandsSo node.served restart
       → StandsWhole node.served restart.lows.items restart.notes.items
   node_stands name node is stands = stands_wholly s name node restart (serves_truly s (pens_of f.stores) name node is) stands
@@ -147,20 +150,15 @@ module _ (s : Settings) (f : Fleet) (fleet : IsFleetOf s f) (restart : Restart) 
       let is = (fleet.followers place (Follower region tier index) x at).node in
       record { each = (node_stands (Follower region tier index) x.node is (stands place x first at)).each (pens_of f.stores) is.seen; may = tt }
 
-pub leaders_truly : (s : Settings) (f : Fleet) (name : NodeName) (lent : List (Named Node)) → lent ≡ f.leaders → IsFleetOf s f
-    → NodeIs name (ServesTruly s name) lent
-leaders_truly s f name lent own fleet =
-    subst (NodeIs name (ServesTruly s name)) (sym own)
-    (λ place node first at. serves_truly s (pens_of f.stores) name node (fleet.leaders place name node at))
-
-pub followers_truly : (s : Settings) (f : Fleet) (name : NodeName) (lent : List (Named FollowerState)) → lent ≡ f.followers → IsFleetOf s f
-    → NodeIs name (λ (x : FollowerState). ServesTruly s name x.node) lent
-followers_truly s f name lent own fleet =
-    subst (NodeIs name (λ (x : FollowerState). ServesTruly s name x.node)) (sym own)
-    (λ place x first at. serves_truly s (pens_of f.stores) name x.node (fleet.followers place name x at).node)
+pub kind_truly : {N : Type 0} {node : N → Node} {refills : N → List Refill} {AsksOn : N → N → Type 0} {of : Fleet → List (Named N)}
+    {put : Fleet → List (Named N) → Fleet} (kind : Kind node refills AsksOn of put) (s : Settings) (f : Fleet) (name : NodeName) (lent : List (Named N))
+    → lent ≡ of f → IsFleetOf s f → NodeIs name (λ (x : N). ServesTruly s name (node x)) lent
+kind_truly {N} {node} kind s f name lent own fleet =
+    subst (NodeIs name (λ (x : N). ServesTruly s name (node x))) (sym own)
+    (λ place x first at. serves_truly s (pens_of f.stores) name (node x) (kind.each s f fleet place name x at).node_is)
 
 -- of the leader or follower, once the nodes of its kind were lent
-pub leader_stands : (f : Fleet) (name : NodeName) (region index : ℕ) (lent : List (Named Node)) (r : Result Restart OutOfMemory) → name ≡ Leader region index
+pub leader_stands : (f : Fleet) (name : NodeName) (region index : ℕ) (lent : List (Named Node)) (r : Result Stand OutOfMemory) → name ≡ Leader region index
     → lent ≡ f.leaders → IfOk r (λ restart. NodeIs name (λ (n : Node). StandsSo n.served restart) lent)
     → IfOk r (λ restart. CacheIs name (λ n. StandsSo n.served restart) f)
 leader_stands f name region index lent r is own =
@@ -168,7 +166,7 @@ leader_stands f name region index lent r is own =
     subst (λ n. NodeIs n (λ (x : Node). StandsSo x.served restart) f.leaders → CacheIs n (λ x. StandsSo x.served restart) f)
     (sym is) (λ h. h) (subst (NodeIs name (λ (x : Node). StandsSo x.served restart)) own stands))
 
-pub follower_stands : (f : Fleet) (name : NodeName) (region tier index : ℕ) (lent : List (Named FollowerState)) (r : Result Restart OutOfMemory)
+pub follower_stands : (f : Fleet) (name : NodeName) (region tier index : ℕ) (lent : List (Named FollowerState)) (r : Result Stand OutOfMemory)
     → name ≡ Follower region tier index → lent ≡ f.followers → IfOk r (λ restart. NodeIs name (λ (x : FollowerState). StandsSo x.node.served restart) lent)
     → IfOk r (λ restart. CacheIs name (λ n. StandsSo n.served restart) f)
 follower_stands f name region tier index lent r is own =
@@ -177,7 +175,7 @@ follower_stands f name region tier index lent r is own =
     (sym is) (λ h. h) (subst (NodeIs name (λ (x : FollowerState). StandsSo x.node.served restart)) own stands))
 
 -- what is left where it goes down
-pub down_done : (s : Settings) (old mid new : Fleet) (name : NodeName) (restart : Restart) (given : List ℕ) → mid ≡ old → given ≡ restart.lows.items
+pub down_done : (s : Settings) (old mid new : Fleet) (name : NodeName) (restart : Stand) (given : List ℕ) → mid ≡ old → given ≡ restart.lows.items
     → IsFleetOf s old → CacheIs name (λ n. StandsSo n.served restart) old
     → ((at : Anew) → CacheIs name (MayEmpty (pens_of mid.stores) at given restart.notes.items) mid → EmptiesThere s name at mid new)
     → EmptiesThere s name at_marks old new

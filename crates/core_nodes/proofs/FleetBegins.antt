@@ -9,12 +9,13 @@ use Rattle.std.proofs.lemmas.List.Elements.{All-weaker}
 use Rattle.std.proofs.lemmas.Option.{get_or_from_slice_get, slice_get_within}
 use Rattle.cache_items.specs.Node.{Node}
 use Rattle.cache_node.specs.True.{IsTrueNode}
-use Rattle.follower_cache.specs.Seen.{FollowerState}
+use Rattle.follower_cache.specs.declared.queue.Refill.{Refill}
 use Rattle.graph_model.proofs.Later.{all_append, all_map}
 use Rattle.graph_model.specs.Told.{WhereTold}
 use Rattle.low_water.specs.Marks.{is_marked, marks}
 use Rattle.node_name.specs.declared.NodeName.{NodeName}
 use Rattle.node_name.specs.declared.NodeName.TheVariants.{Follower, Leader}
+use Rattle.node_stages.specs.Caches.{BeginsAs, follower_node, follower_refills, leader_node, leader_refills}
 use Rattle.served_shards.specs.Served.{ServedShard, served_at}
 use Rattle.shard_tables.specs.StoreView.{Store}
 use Rattle.tao_keeper.specs.Table.{Stays, Tables}
@@ -28,7 +29,7 @@ use Rattle.core_model.specs.Messages.{AreRefillsFor}
 use Rattle.core_model.specs.Pens.{IsSeen, pens_of}
 use Rattle.core_model.specs.Stores.{AreStoresOf, region_store, store_length}
 use Rattle.core_model.specs.declared.named.Named.{Named}
-use Rattle.core_nodes.specs.Beginning.{AreAtStores, AreLengths, HaveBegun, IsBegunFollower, IsBegunLeader, IsEmptyFleet, IsEmptyFollower, IsEmptyNode}
+use Rattle.core_nodes.specs.Beginning.{AreAtStores, AreLengths, HaveBegun, IsBegun, IsEmptyFleet, IsEmptyFollower, IsEmptyNode}
 use Rattle.core_nodes.specs.Beginning.{MayHold, begun_node, length_in, note_in}
 use Rattle.core_nodes.proofs.BeginLemmas.{marks_begun, note_seen, seen_begun, shards_begun}
 use Rattle.core_nodes.proofs.ServedWithin.{served_within}
@@ -121,46 +122,48 @@ module _ (tells : Bool) (s : Settings) (tables : Tables) (f : Fleet) (are : AreS
   abbrev lengths : List ℕ
   lengths = h.nodes.lengths
 
-  leader_at : (place : ℕ) (name : NodeName) (node : Node) → slice_get f.leaders place ≡ Some (named name node)
-      → (region_of name < length s.regions) × IsBegunLeader s f.stores lengths (named name node)
-  leader_at place name node at = (
-    region_named (length s.regions) f.leaders place name node (subst (AllByRecursion (λ n. region_of n < length s.regions)) (sym h.nodes.begun.leader_names)
-        (leader_regions s)) at,
-    all_at (IsBegunLeader s f.stores lengths) f.leaders place (named name node) h.nodes.begun.each_leader at,
-  )
+  -- a leader or a follower of these names
+  module _ {N : Type 0} (node : N → Node) (refills : N → List Refill) (nodes : List (Named N)) (names : List NodeName) (named_so : node_names nodes ≡ names)
+      (within : AllByRecursion (λ n. region_of n < length s.regions) names) (begun : All (IsBegun node refills s f.stores lengths) nodes)
+      (place : ℕ) (name : NodeName) (x : N) (at : slice_get nodes place ≡ Some (named name x)) where
+    begins : BeginsAs node refills (begun_node s f.stores lengths name) x
+    begins = all_at (IsBegun node refills s f.stores lengths) nodes place (named name x) begun at
 
-  follower_at : (place : ℕ) (name : NodeName) (node : FollowerState) → slice_get f.followers place ≡ Some (named name node)
-      → (region_of name < length s.regions) × IsBegunFollower s f.stores lengths (named name node)
-  follower_at place name node at = (
-    region_named (length s.regions) f.followers place name node
-        (subst (AllByRecursion (λ n. region_of n < length s.regions)) (sym h.nodes.begun.follower_names) (follower_regions s)) at,
-    all_at (IsBegunFollower s f.stores lengths) f.followers place (named name node) h.nodes.begun.each_follower at,
-  )
+    of_region : region_of name < length s.regions
+    of_region = region_named (length s.regions) nodes place name x
+        (subst (AllByRecursion (λ n. region_of n < length s.regions)) (sym named_so) within) at
+
+    node_begun : IsNodeOf s (pens_of f.stores) name (node x)
+    node_begun = node_of tells s tables f.stores lengths are h.nodes.are name (node x) of_region begins.node_is begins.truth
+
+    refills_begun : AreRefillsFor s (pens_of f.stores) name (refills x)
+    refills_begun = subst (AreRefillsFor s (pens_of f.stores) name) (sym begins.refills_are) tt
+
+    begun_at : tells ≡ true → IsAtStore tables (region_of name) (node x)
+    begun_at told = node_at tells s tables f.stores lengths are h.nodes.are told name (node x) of_region begins.node_is
 
   begun_fleet : IsFleetOf s f
   begun_fleet = record {
     leader_names = h.nodes.begun.leader_names;
     follower_names = h.nodes.begun.follower_names;
-    leaders = λ place name node at.
-        let leader = leader_at place name node at in
-        node_of tells s tables f.stores lengths are h.nodes.are name node leader.0 leader.1.node_is leader.1.truth;
-    followers = λ place name node at.
-        let follower = follower_at place name node at in
-        record {
-          node = node_of tells s tables f.stores lengths are h.nodes.are name node.node follower.0 (ap (λ n. n.node) follower.1.node_is) follower.1.truth;
-          refills = subst (AreRefillsFor s (pens_of f.stores) name) (sym (ap (λ n. n.refills) follower.1.node_is)) tt;
-        };
+    leaders = node_begun leader_node leader_refills f.leaders (leader_names s) h.nodes.begun.leader_names (leader_regions s) h.nodes.begun.each_leader;
+    followers = λ place name x at. record {
+      node = node_begun follower_node follower_refills f.followers (follower_names s) h.nodes.begun.follower_names (follower_regions s)
+          h.nodes.begun.each_follower place name x at;
+      refills = refills_begun follower_node follower_refills f.followers (follower_names s) h.nodes.begun.follower_names (follower_regions s)
+          h.nodes.begun.each_follower place name x at;
+    };
   }
 
   -- each has processed what its region's stores have
   fleet_at : WhereTold tells (AreAtStores tables f)
   fleet_at told = record {
-    leaders = λ place name node at.
-        let leader = leader_at place name node at in
-        node_at tells s tables f.stores lengths are h.nodes.are told name node leader.0 leader.1.node_is;
-    followers = λ place name node at.
-        let follower = follower_at place name node at in
-        node_at tells s tables f.stores lengths are h.nodes.are told name node.node follower.0 (ap (λ n. n.node) follower.1.node_is);
+    leaders = λ place name x at.
+        begun_at leader_node leader_refills f.leaders (leader_names s) h.nodes.begun.leader_names (leader_regions s) h.nodes.begun.each_leader
+        place name x at told;
+    followers = λ place name x at.
+        begun_at follower_node follower_refills f.followers (follower_names s) h.nodes.begun.follower_names (follower_regions s)
+        h.nodes.begun.each_follower place name x at told;
   }
 
   -- so they are consistent
@@ -192,24 +195,27 @@ module _ (tells : Bool) (s : Settings) (tables : Tables) (stores : List Store) (
   abbrev begun_lengths : List ℕ
   begun_lengths = h.nodes.lengths
 
+  -- a node that has begun holds nothing, up to the items that are configured
+  empty_begun : (name : NodeName) (node : Node) → node ≡ begun_node s stores begun_lengths name → IsEmptyNode node
+  empty_begun name node is = record { items = ap (λ (n : Node). n.items) is; asks = ap (λ (n : Node). n.asks.asks) is }
+
   -- every node holds nothing
   pub fleet_empty : IsEmptyFleet f
   fleet_empty = record {
-    leaders = All-weaker (IsBegunLeader s stores begun_lengths) (λ leader. IsEmptyNode leader.node)
-        (λ leader is. record { items = ap (λ n. n.items) is.node_is; asks = ap (λ n. n.asks.asks) is.node_is }) f.leaders h.nodes.begun.each_leader;
-    followers = All-weaker (IsBegunFollower s stores begun_lengths) (λ follower. IsEmptyFollower follower.node)
-        (λ follower is. record {
-          node = record { items = ap (λ n. n.node.items) is.node_is; asks = ap (λ n. n.node.asks.asks) is.node_is };
-          refills = ap (λ n. n.refills) is.node_is;
-        }) f.followers h.nodes.begun.each_follower;
+    leaders = All-weaker (IsBegun leader_node leader_refills s stores begun_lengths) (λ leader. IsEmptyNode leader.node)
+        (λ leader is. empty_begun leader.name leader.node is.node_is) f.leaders h.nodes.begun.each_leader;
+    followers = All-weaker (IsBegun follower_node follower_refills s stores begun_lengths) (λ follower. IsEmptyFollower follower.node)
+        (λ follower is. record { node = empty_begun follower.name follower.node.node is.node_is; refills = is.refills_are }) f.followers
+        h.nodes.begun.each_follower;
   }
 
   -- up to the items that are configured
   pub fleet_bounds : MayHold s.cache_items f
   fleet_bounds = record {
     leaders = λ place name node at.
-        ap (λ (n : Node). n.most) (all_at (IsBegunLeader s stores begun_lengths) f.leaders place (named name node) h.nodes.begun.each_leader at).node_is;
+        ap (λ (n : Node). n.most)
+        (all_at (IsBegun leader_node leader_refills s stores begun_lengths) f.leaders place (named name node) h.nodes.begun.each_leader at).node_is;
     followers = λ place name node at.
-        ap (λ (n : FollowerState). n.node.most)
-        (all_at (IsBegunFollower s stores begun_lengths) f.followers place (named name node) h.nodes.begun.each_follower at).node_is;
+        ap (λ (n : Node). n.most)
+        (all_at (IsBegun follower_node follower_refills s stores begun_lengths) f.followers place (named name node) h.nodes.begun.each_follower at).node_is;
   }

@@ -25,9 +25,10 @@ use Rattle.core_model.specs.Emptied.{region_tables}
 use Rattle.core_model.specs.Fleet.{EachNode, Fleet, follower_names, leader_names, named, node_names, region_of}
 use Rattle.core_model.specs.Pens.{pens_of}
 use Rattle.core_model.specs.declared.named.Named.{Named}
+use Rattle.node_stages.specs.Caches.{follower_node, follower_refills, leader_node, leader_refills}
 use Rattle.core_nodes.specs.FleetView.{fleet_seen}
 use Rattle.core_nodes.specs.Settling.{AllCatchUp, AllProcessOn, AreCaches, ByNode, CachesGoOn, CatchesUp, GoesInTurn, HaveCaughtUp, ProcessesOn, SeenLogs}
-use Rattle.core_nodes.specs.Settling.{WhereUp, follower_node, follower_refills, is_last, keeps_pace, leader_node, leader_refills, seen_logs}
+use Rattle.core_nodes.specs.Settling.{WhereUp, is_last, keeps_pace, seen_logs}
 use Rattle.core_nodes.specs.declared.fleet.Fleet.TheInside.{Inside}
 use Rattle.core_nodes.proofs.AskLemmas.{stores_here}
 use Rattle.core_nodes.proofs.CatchLemmas.{so_before}

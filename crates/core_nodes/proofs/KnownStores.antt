@@ -1,11 +1,10 @@
 -- What is known of a region's store before nodes of the region, and of what is read of it.
-use Rattle.std.proofs.Common.{◌≡◌, ℕ, zero, suc, ◌≤◌, Bool, true, List, [], ◌∷◌, Option, Some, None, drop, length, take, refl, ap, sym, ◌∙◌, subst}
-use Rattle.std.proofs.Common.{Err, IfOk, Ok, Result, arith}
-use Rattle.std.proofs.lemmas.List.Elements.{All-drop, All-take, All-weaker}
+use Rattle.std.proofs.Common.{◌≡◌, ℕ, suc, ◌≤◌, Bool, true, List, [], ◌∷◌, Option, Some, None, drop, length, take, refl, ap, sym, ◌∙◌, subst}
+use Rattle.std.proofs.Common.{arith}
+use Rattle.std.proofs.lemmas.List.Elements.{All-take}
 use Rattle.std.proofs.lemmas.List.{length-take}
 use Rattle.std.proofs.lemmas.Option.{slice_get_within}
 use Rattle.std.specs.List.{AllByRecursion}
-use Rattle.std.specs.Prelude.{All}
 use Rattle.graph_model.proofs.Sound.{sound_take}
 use Rattle.graph_model.specs.Soundness.{IsSound, IsSoundOf, KeepsEnds}
 use Rattle.graph_model.specs.Told.{WhereTold}
@@ -14,7 +13,6 @@ use Rattle.shard_log.proofs.GrowthLemmas.{grows-trans}
 use Rattle.shard_log.specs.View.{Begins, Grows, View}
 use Rattle.shard_tables.specs.StoreView.{Store}
 use Rattle.shard_tables.specs.Stores.{HasSeen, note_of}
-use Rattle.tao_base.specs.Keys.{key_shard}
 use Rattle.tao_base.specs.declared.entry.Entry.{Entry}
 use Rattle.tao_base.specs.declared.id.StoreName.{StoreName}
 use Rattle.tao_keeper.specs.Table.{Tables}
@@ -25,10 +23,8 @@ use Rattle.core_model.proofs.KeptStores.{sound_logs}
 use Rattle.core_model.specs.Pens.{Pens, master_in, pens_of, view_or_none}
 use Rattle.core_model.specs.Stores.{AreStoresOf, IsConfiguredStore, master_log, master_store, store_place}
 use Rattle.core_nodes.specs.Settling.{IsRestOf, seen_logs}
-use Rattle.core_nodes.specs.declared.catching.Rest.{Rest}
-use Rattle.core_nodes.specs.declared.settling.SettleStop.{SettleStop}
 use Rattle.core_nodes.proofs.CaughtMarks.{first_after}
-use Rattle.core_nodes.proofs.NotesSeen.{role_entries, role_grows, role_told, seen_begins}
+use Rattle.node_stages.proofs.NotesSeen.{role_entries, role_grows, role_told, seen_begins}
 use Rattle.core_nodes.proofs.StoreLemmas.{IsReadStore}
 
 -- the log of the store is sound, and begins its shard's log, which is told
@@ -85,24 +81,6 @@ rest_within log low (e ∷ es) sound is =
     let cut = length-take low log in
     ((let at = (sound low e first.0).position_is in omega arith), rest_within log (suc low) es sound first.1)
 
--- what follows a place in a beginning of a log follows it in the log
-rest_begins : (low : ℕ) (log seen : List Entry) → Begins log seen → drop low log ≡ take (length (drop low log)) (drop low seen)
-rest_begins zero log seen begins = begins
-rest_begins (suc low) [] seen begins = refl
-rest_begins (suc low) (x ∷ log) [] begins = absurd (cc)
-rest_begins (suc low) (x ∷ log) (y ∷ seen) begins = rest_begins low log seen (cc)
-
-pub rest_next : (low : ℕ) (log seen es : List Entry) → Begins log seen → es ≡ drop low log → es ≡ take (length es) (drop low seen)
-rest_next low log seen es begins is = subst (λ xs. xs ≡ take (length xs) (drop low seen)) (sym is) (rest_begins low log seen begins)
-
--- all their touches are of the shard
-pub rest_here : (s : Settings) (log es : List Entry) (shard low : ℕ) → IsSoundOf (types_of s.schema) shard log → es ≡ drop low log
-    → All (λ e. All (λ t. key_shard t.key ≡ shard) e.touches) es
-rest_here s log es shard low sound is =
-    subst (All (λ e. All (λ t. key_shard t.key ≡ shard) e.touches)) (sym is)
-    (All-drop (λ e. All (λ t. key_shard t.key ≡ shard) e.touches) low log
-    (All-weaker (KeepsEnds (types_of s.schema) shard) (λ e. All (λ t. key_shard t.key ≡ shard) e.touches) (λ e kept. kept.here) log sound.ends))
-
 -- ---- what is read of a store
 
 pub rest_of : (tells : Bool) (s : Settings) (tables : Tables) (stores : List Store) (at : StoreName) (store : Store) (low : ℕ) (es : List Entry)
@@ -119,12 +97,3 @@ rest_of tells s tables stores at store low es note is entries noted =
           (seen_begins store.role (tables store.name).log store.view.entries (is.keeper.seen told)));
     } in
     subst (IsRestOf (seen_logs tells s tables (pens_of stores)) at low es) (sym noted) here
-
--- so where the code read it
-pub rest_of_read : (tells : Bool) (s : Settings) (tables : Tables) (stores : List Store) (at : StoreName) (store : Store) (low : ℕ)
-    (r : Result Rest SettleStop) → IsReadStore tells s tables stores at store
-    → WhereTold tells (IfOk r (λ rest. rest.entries.items ≡ drop low (tables store.name).log)) → IfOk r (λ rest. rest.note ≡ note_of store)
-    → IfOk r (λ rest. IsRestOf (seen_logs tells s tables (pens_of stores)) at low rest.entries.items rest.note)
-rest_of_read tells s tables stores at store low (Ok rest) is entries noted =
-    rest_of tells s tables stores at store low rest.entries.items rest.note is entries noted
-rest_of_read tells s tables stores at store low (Err stop) is entries noted = tt

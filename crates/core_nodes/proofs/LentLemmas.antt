@@ -11,7 +11,6 @@ use Rattle.shard_tables.specs.StoreView.{Store}
 use Rattle.shard_tables.specs.declared.leader_answer.LeaderAnswer.{LeaderAnswer}
 use Rattle.shard_tables.specs.declared.refusal.StoreRefusal.{StoreRefusal}
 use Rattle.tao_base.specs.Queries.{query_key, query_shard}
-use Rattle.tao_base.specs.declared.id.Key.{Key}
 use Rattle.tao_base.specs.declared.memory.OutOfMemory.{OutOfMemory}
 use Rattle.tao_base.specs.declared.query.Answer.{Answer}
 use Rattle.tao_base.specs.declared.query.Query.{Query}
@@ -20,20 +19,17 @@ use Rattle.tao_schema.specs.Schema.{types_of}
 use Rattle.tao_schema.specs.declared.schema.Schema.{Schema}
 use Rattle.topology.specs.Config.{Settings}
 use Rattle.core_model.specs.Consistent.{IsConsistent, IsFleetOf}
-use Rattle.core_model.specs.Evictions.{Evicts}
 use Rattle.core_model.specs.Fleet.{ChangesNode, Fleet}
 use Rattle.core_model.specs.Pens.{pens_of}
 use Rattle.core_model.specs.Reads.{AsksAtOnce, EndsAsk, IsGivenFill, KeepsFill, LeaderAnswers, Wanted, store_calls, taken_fill}
 use Rattle.core_model.specs.Serving.{IsFollowerFor}
 use Rattle.core_model.specs.declared.named.Named.{Named}
-use Rattle.core_nodes.specs.Stages.{EvictsThere, FollowerDoes, LeaderDoes, LooksTrue}
+use Rattle.node_stages.specs.Stages.{FollowerDoes, LeaderDoes, LooksTrue}
 use Rattle.core_nodes.specs.declared.fleet.Fleet.TheInside.{Inside}
-use Rattle.core_nodes.specs.declared.reads.FirstLook.{FirstLook}
+use Rattle.node_stages.specs.declared.reads.FirstLook.{FirstLook}
 use Rattle.core_nodes.proofs.AskLemmas.{AskStep, AskedLeader, ask_step, nodes_call}
-use Rattle.core_nodes.proofs.EvictLemmas.{FollowerDrops, LeaderDrops, follower_evicts, leader_evicts}
 use Rattle.core_nodes.proofs.ReadLemmas.{AtOnceStep, EndStep, KeepStep, LookStep, at_once_step, brought_fill, end_step, keep_step, look_step}
-use Rattle.core_nodes.proofs.ViewLemmas.{LendsBoth, LendsFollowers, LendsLeaders, after_both, after_followers, after_leaders, both_after}
-use Rattle.core_nodes.proofs.ViewLemmas.{followers_after, leaders_after}
+use Rattle.core_nodes.proofs.ViewLemmas.{LendsBoth, LendsFollowers, after_both, after_followers, both_after, followers_after}
 
 pub look_lent : (s : Settings) (schema : Schema) (name : NodeName) (read : Wanted) (inside : Inside) (old : Fleet) (lent left : List (Named FollowerState))
     (r : Result FirstLook OutOfMemory) → LendsFollowers inside old lent left → schema ≡ s.schema → IsFleetOf s old
@@ -95,18 +91,3 @@ pub at_once_lent : (s : Settings) (name : NodeName) (query : Query) (ask : Optio
 at_once_lent s name query ask inside old lent left lends fleet change =
     subst (AtOnceStep s name query ask old) (sym (followers_after inside old lent left lends))
     (at_once_step s name query ask old left fleet (subst (λ xs. ChangesNode name (FollowerDoes (AsksAtOnce (query_key query) ask)) xs left) lends.own change))
-
-pub evict_leader_lent : (s : Settings) (name : NodeName) (key : Option Key) (held : Bool) (inside : Inside) (old : Fleet) (lent left : List (Named Node))
-    → LendsLeaders inside old lent left
-    → IsFleetOf s old → ChangesNode name (LeaderDoes (Evicts key held)) lent left → LeaderDrops s name key held old (after_leaders inside left)
-evict_leader_lent s name key held inside old lent left lends fleet change =
-    subst (LeaderDrops s name key held old) (sym (leaders_after inside old lent left lends))
-    (leader_evicts s name key held old left fleet (subst (λ xs. ChangesNode name (LeaderDoes (Evicts key held)) xs left) lends.own change))
-
-pub evict_follower_lent : (s : Settings) (name : NodeName) (key : Option Key) (held : Bool) (inside : Inside) (old : Fleet)
-    (lent left : List (Named FollowerState))
-    → LendsFollowers inside old lent left → IsFleetOf s old → ChangesNode name (FollowerDoes (EvictsThere key held)) lent left
-    → FollowerDrops s name key held old (after_followers inside left)
-evict_follower_lent s name key held inside old lent left lends fleet change =
-    subst (FollowerDrops s name key held old) (sym (followers_after inside old lent left lends))
-    (follower_evicts s name key held old left fleet (subst (λ xs. ChangesNode name (FollowerDoes (EvictsThere key held)) xs left) lends.own change))

@@ -30,13 +30,11 @@ pub mod MasterStores
 pub mod MergeLemmas
 pub mod NameLemmas
 pub mod NodesOfNames
-pub mod NotesSeen
 pub mod OpenLemmas
 pub mod OpenedLogs
 pub mod OrderedStores
 pub mod ReadLemmas
 pub mod RegionNames
-pub mod RestLemmas
 pub mod RestartLemmas
 pub mod ServedRising
 pub mod ServedWithin

@@ -1,13 +1,24 @@
 -- The node of a name is such, and is so after it changed.
-use Rattle.std.proofs.Common.{◌≡◌, ◌≢◌, ℕ, List, Some, refl, ap, subst, sym, ◌∙◌, inl, inr}
+use Rattle.std.proofs.Common.{◌≡◌, ◌≢◌, ◌<◌, ℕ, List, Option, None, Some, length, refl, ap, subst, sym, ◌∙◌, inl, inr}
 use Rattle.std.proofs.lemmas.Bool.{cases_order}
-use Rattle.std.specs.Prelude.{slice_get, slice_index_or, slice_set}
+use Rattle.std.proofs.lemmas.Option.{slice_get_within}
+use Rattle.std.specs.Prelude.{IsSomeAnd, slice_get, slice_index_or, slice_set}
 use Rattle.node_name.specs.declared.NodeName.{NodeName}
 use Rattle.core_model.specs.Fleet.{ChangesNode, IsFirstAt, named}
 use Rattle.core_model.specs.declared.named.Named.{Named}
 use Rattle.core_model.proofs.NamedNodes.{named_stands}
 use Rattle.core_model.proofs.Places.{get_set, one_some, set_get, some_and}
 use Rattle.core_nodes.specs.Stages.{NodeIs}
+
+some_there : {X : Type 0} (P : X → Type 0) (o : Option X) → IsSomeAnd o P → (x : X) × (o ≡ Some x)
+some_there P None h = absurd h
+some_there P (Some x) h = (x, refl)
+
+-- the first place of a name is within the list
+pub first_within : {N : Type 0} (nodes : List (Named N)) (name : NodeName) (place : ℕ) → IsFirstAt name nodes place → place < length nodes
+first_within nodes name place first =
+    let there = some_there (λ n. n.name ≡ name) (slice_get nodes place) first.here in
+    slice_get_within nodes place there.0 there.1
 
 -- the node of the name is what it is said to be
 pub holds_at : {N : Type 0} (Such : N → Type 0) (nodes : List (Named N)) (name : NodeName) (place : ℕ) (d : Named N) → IsFirstAt name nodes place

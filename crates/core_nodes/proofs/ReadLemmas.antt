@@ -45,8 +45,9 @@ use Rattle.core_model.specs.Pens.{IsSeen, Pens, pens_of}
 use Rattle.core_model.specs.Reads.{AfterLook, AsksAtOnce, EndsAsk, IsGivenFill, IsLegalLook, KeepsFill, LooksFirst, Wanted, taken_fill, wanted}
 use Rattle.core_model.specs.Serving.{IsFollowerFor}
 use Rattle.core_model.specs.declared.named.Named.{Named}
-use Rattle.core_nodes.specs.Stages.{FollowerDoes, LooksTrue, NodeIs}
-use Rattle.core_nodes.specs.declared.reads.FirstLook.{FirstLook}
+use Rattle.node_stages.specs.Stages.{FollowerDoes, LooksTrue}
+use Rattle.core_nodes.specs.Stages.{NodeIs}
+use Rattle.node_stages.specs.declared.reads.FirstLook.{FirstLook}
 use Rattle.core_nodes.proofs.FleetLemmas.{FleetStep, fleet_rests, follower_step}
 use Rattle.core_model.proofs.NamedNodes.{changes_so}
 use Rattle.core_nodes.proofs.NodesOfNames.{is_after}

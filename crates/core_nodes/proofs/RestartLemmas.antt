@@ -24,9 +24,9 @@ use Rattle.core_model.specs.Fleet.{Fleet, region_of, served_by}
 use Rattle.core_model.specs.Pens.{Pens, pens_of}
 use Rattle.core_model.specs.Stores.{AreStoresOf, region_store}
 use Rattle.core_nodes.specs.Emptying.{BeginFor, BeginsFor, CacheIs, MayEmpty}
-use Rattle.core_nodes.specs.declared.emptying.Measure.{Measure}
-use Rattle.core_nodes.specs.declared.emptying.Restart.{Restart}
-use Rattle.core_nodes.proofs.NotesSeen.{role_grows, role_reaches, role_told}
+use Rattle.node_stages.specs.declared.standing.Measure.{Measure}
+use Rattle.node_stages.specs.declared.standing.Stand.{Stand}
+use Rattle.node_stages.proofs.NotesSeen.{role_grows, role_reaches, role_told}
 use Rattle.core_nodes.proofs.StoreLemmas.{IsReadStore}
 
 -- ---- one shard
@@ -90,7 +90,7 @@ restart_next tells before after xs ys region shards i d lows more notes others a
     subst (λ ks. P ks more others) (sym (take_more shards i d lt))
     (subst (λ ls. P (take i shards ++ k ∷ []) ls others) (sym longer) (subst (P (take i shards ++ k ∷ []) (lows ++ low ∷ [])) (sym and) next))
 
-pub restart_named : (tells : Bool) (tables : Tables) (xs : List Store) (region other : ℕ) (shards others : List ℕ) (r : Result Restart StoreRefusal)
+pub restart_named : (tells : Bool) (tables : Tables) (xs : List Store) (region other : ℕ) (shards others : List ℕ) (r : Result Stand StoreRefusal)
     → region ≡ other → shards ≡ others
     → IfOk r (λ restart. BeginFor (pens_of xs) (region_tables tells tables region) shards restart.lows.items restart.notes.items)
     → IfOk r (λ restart. BeginFor (pens_of xs) (region_tables tells tables other) others restart.lows.items restart.notes.items)

@@ -74,3 +74,13 @@ carry_stops s at from name keepers old new stop cache of_region here same stops 
     let reach : FailedToReach s at.shard new =
     record { name = name; cache = cache; failed = stops.2 ∙ ap (λ n. Some (between (StoreName_ n) name)) named } in
     subst (StopsCatchUp s (outside keepers old) (outside keepers new)) (sym stops.0) (here, stops.1, reach)
+
+-- the store of that name gives nothing of its log
+pub read_stops : (s : Settings) (at from : StoreName) (old new : KeeperState) (link after : LinkShown) (stop : SettleStop) → at.shard < s.shards → from ≡ at
+    → StopsReads from.shard old new stop → StopsCatchUp s (outside old link) (outside new after) stop
+read_stops s at from old new link after (Unsettled shard KeeperFault) here same stops =
+    (subst (λ n. n < s.shards) (sym (stops.0 ∙ ap (λ (n : StoreName). n.shard) same)) here, stops.1)
+read_stops s at from old new link after (Unsettled shard LinkFault) here same stops = absurd stops
+read_stops s at from old new link after (Unsettled shard LogFull) here same stops = absurd stops
+read_stops s at from old new link after (NoServer shard) here same stops = absurd stops
+read_stops s at from old new link after OutOfMemory here same stops = tt

@@ -10,6 +10,27 @@ use Rattle.core_model.specs.declared.named.Named.{Named}
 use Rattle.core_nodes.specs.FleetView.{fleet_seen}
 use Rattle.core_nodes.specs.declared.fleet.Fleet.TheInside.{Inside}
 
+-- the leaders of a core
+abbrev pub of_leaders : Fleet → List (Named Node)
+of_leaders f = f.leaders
+
+-- a core with these leaders in place of its own
+abbrev pub put_leaders : Fleet → List (Named Node) → Fleet
+put_leaders f leaders = record f { leaders = leaders }
+
+-- the followers of a core
+abbrev pub of_followers : Fleet → List (Named FollowerState)
+of_followers f = f.followers
+
+-- a core with these followers in place of its own
+abbrev pub put_followers : Fleet → List (Named FollowerState) → Fleet
+put_followers f followers = record f { followers = followers }
+
+-- the leaders or the followers were lent, and some were left in their place
+pub record Lends {N : Type 0} (of : Fleet → List (Named N)) (put : Fleet → List (Named N) → Fleet) (old new : Fleet) (lent left : List (Named N)) : Type 0 where
+  pub own : lent ≡ of old
+  pub is : new ≡ put old left
+
 -- the followers were lent, and some were left in their place
 pub record LendsFollowers (inside : Inside) (old : Fleet) (lent left : List (Named FollowerState)) : Type 0 where
   pub view : fleet_seen inside ≡ old
@@ -70,6 +91,14 @@ pub leaders_after : (inside : Inside) (old : Fleet) (lent left : List (Named Nod
 leaders_after inside old lent left lends =
     ap (λ items. record (fleet_seen inside) { leaders = items }) (with_items_is inside.leaders left lends.long)
     ∙ ap (λ (g : Fleet). record g { leaders = left }) lends.view
+
+pub lent_leaders : (inside : Inside) (old : Fleet) (lent left : List (Named Node)) → LendsLeaders inside old lent left
+    → Lends of_leaders put_leaders old (after_leaders inside left) lent left
+lent_leaders inside old lent left lends = record { own = lends.own; is = leaders_after inside old lent left lends }
+
+pub lent_followers : (inside : Inside) (old : Fleet) (lent left : List (Named FollowerState)) → LendsFollowers inside old lent left
+    → Lends of_followers put_followers old (after_followers inside left) lent left
+lent_followers inside old lent left lends = record { own = lends.own; is = followers_after inside old lent left lends }
 
 pub both_after : (inside : Inside) (old : Fleet) (lent left : List (Named Node)) (stores same : List Store) → LendsBoth inside old lent left stores same
     → after_both inside left same ≡ record old { leaders = left }

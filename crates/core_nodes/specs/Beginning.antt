@@ -1,10 +1,11 @@
 -- The nodes that a core begins with.
 use Rattle.std.specs.Prelude.{ℕ, ◌≡◌, ◌≤◌, ◌<◌, Bool, All, List, [], Option, Some, None, length, map, slice_get, unwrap_or}
 use Rattle.cache_items.specs.Node.{Node, empty_node}
-use Rattle.cache_node.specs.True.{IsTrueNode}
-use Rattle.follower_cache.specs.Seen.{FollowerState, follower_state}
+use Rattle.follower_cache.specs.Seen.{FollowerState}
+use Rattle.follower_cache.specs.declared.queue.Refill.{Refill}
 use Rattle.graph_model.specs.Told.{WhereTold}
 use Rattle.node_name.specs.declared.NodeName.{NodeName}
+use Rattle.node_stages.specs.Caches.{BeginsAs, follower_node, follower_refills, leader_node, leader_refills}
 use Rattle.served_shards.specs.Begun.{AreReached, AreToldAlike, begun_at}
 use Rattle.shard_log.specs.View.{View}
 use Rattle.shard_tables.specs.StoreView.{Store}
@@ -17,7 +18,7 @@ use Rattle.core_model.specs.Fleet.{EachIs, Fleet, follower_names, leader_names, 
 use Rattle.core_model.specs.Pens.{no_view}
 use Rattle.core_model.specs.Stores.{AreStores, IsConfiguredStore, region_store, store_count, store_place}
 use Rattle.core_model.specs.declared.named.Named.{Named}
-use Rattle.core_nodes.specs.declared.beginning.Turn.{Turn}
+use Rattle.node_stages.specs.declared.standing.Stand.{Stand}
 
 -- ---- the lengths of the logs
 
@@ -72,7 +73,7 @@ abbrev pub note_in : Settings → List Store → ℕ → ℕ → View
 note_in s stores region shard = note_at stores (store_place s (region_store region shard))
 
 -- what a node of the region begins with that serves the shards: the lengths of its region's stores, and notes of these
-pub record IsTurn (s : Settings) (stores : List Store) (lengths : List ℕ) (region : ℕ) (shards : List ℕ) (turn : Turn) : Type 0 where
+pub record IsTurn (s : Settings) (stores : List Store) (lengths : List ℕ) (region : ℕ) (shards : List ℕ) (turn : Stand) : Type 0 where
   pub lows : turn.lows.items ≡ map (length_in s lengths region) shards
   pub notes : turn.notes.items ≡ map (note_in s stores region) shards
   pub reached : AreReached turn.lows.items turn.notes.items
@@ -86,23 +87,17 @@ abbrev pub begun_node : Settings → List Store → List ℕ → NodeName → No
 begun_node s stores lengths name = empty_node s.cache_items (begun_at (served_by s name)
     (map (length_in s lengths (region_of name)) (served_by s name)) (map (note_in s stores (region_of name)) (served_by s name)))
 
--- the leader holds nothing, and is true of the logs
-pub record IsBegunLeader (s : Settings) (stores : List Store) (lengths : List ℕ) (leader : Named Node) : Type 0 where
-  pub node_is : leader.node ≡ begun_node s stores lengths leader.name
-  pub truth : IsTrueNode leader.node
-
--- the follower holds nothing, not even a refill, and is true of the logs
-pub record IsBegunFollower (s : Settings) (stores : List Store) (lengths : List ℕ) (follower : Named FollowerState) : Type 0 where
-  pub node_is : follower.node ≡ follower_state (begun_node s stores lengths follower.name) []
-  pub truth : IsTrueNode follower.node.node
+-- the leader or follower holds nothing, not even a refill, and is true of the logs
+abbrev pub IsBegun : {N : Type 0} → (N → Node) → (N → List Refill) → Settings → List Store → List ℕ → Named N → Type 0
+IsBegun node refills s stores lengths cache = BeginsAs node refills (begun_node s stores lengths cache.name) cache.node
 
 -- the leaders and followers are those of the configuration, and each holds nothing
 pub record AreBegun (s : Settings) (stores : List Store) (lengths : List ℕ) (leaders : List (Named Node)) (followers : List (Named FollowerState))
     : Type 0 where
   pub leader_names : node_names leaders ≡ leader_names s
   pub follower_names : node_names followers ≡ follower_names s
-  pub each_leader : All (IsBegunLeader s stores lengths) leaders
-  pub each_follower : All (IsBegunFollower s stores lengths) followers
+  pub each_leader : All (IsBegun leader_node leader_refills s stores lengths) leaders
+  pub each_follower : All (IsBegun follower_node follower_refills s stores lengths) followers
 
 -- the leaders and followers hold nothing, and begin at the lengths of the logs of their regions' stores
 pub record MayStand (tells : Bool) (s : Settings) (tables : Tables) (stores : List Store) (leaders : List (Named Node)) (followers : List (Named FollowerState))

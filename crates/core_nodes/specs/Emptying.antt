@@ -1,12 +1,10 @@
 -- The leader or follower of a name that loses all that it holds.
-use Rattle.std.specs.Prelude.{ℕ, ◌≡◌, ⊤, ◌≤◌, List, [], ◌∷◌, Some, length, map, true}
-use Rattle.cache_items.specs.Node.{Node, emptied}
+use Rattle.std.specs.Prelude.{ℕ, ◌≡◌, ⊤, ◌≤◌, List, [], ◌∷◌, length, map, true}
+use Rattle.cache_items.specs.Node.{Node}
 use Rattle.cache_node.specs.True.{IsTrueNode}
-use Rattle.follower_cache.specs.Seen.{FollowerState, follower_state}
 use Rattle.graph_model.specs.Told.{WhereTold}
 use Rattle.node_name.specs.declared.NodeName.{NodeName}
 use Rattle.node_name.specs.declared.NodeName.TheVariants.{Store, Leader, Follower}
-use Rattle.served_shards.specs.Served.{ServedShard, low_at, view_at}
 use Rattle.shard_log.specs.View.{View}
 use Rattle.tao_keeper.specs.Table.{Tables}
 use Rattle.topology.specs.Config.{Settings}
@@ -16,15 +14,6 @@ use Rattle.core_model.specs.Fleet.{Fleet, region_of, served_by}
 use Rattle.core_model.specs.Pens.{IsSeen, Pens, pens_of}
 use Rattle.core_model.specs.Stores.{store_length}
 use Rattle.core_nodes.specs.Stages.{NodeIs}
-use Rattle.core_nodes.specs.declared.emptying.Restart.{Restart}
-
--- the node is emptied, and begins at these marks, with these notes
-abbrev pub IsEmptied : List ℕ → List View → Node → Node → Type 0
-IsEmptied lows notes old new = new ≡ emptied lows notes old
-
--- the follower is emptied, its refills are lost too, and it begins at these marks, with these notes
-abbrev pub IsEmptiedThere : List ℕ → List View → FollowerState → FollowerState → Type 0
-IsEmptiedThere lows notes old new = new ≡ follower_state (emptied lows notes old.node) []
 
 -- the node may be emptied, and begin at these marks with these notes
 pub record MayEmpty (pens : Pens) (at : Anew) (lows : List ℕ) (notes : List View) (node : Node) : Type 0 where
@@ -70,12 +59,3 @@ BeginFor pens at shards lows notes = ⊥
 pub record ServesTruly (s : Settings) (name : NodeName) (node : Node) : Type 0 where
   pub shards : map (λ t. t.shard) node.served ≡ served_by s name
   pub truth : IsTrueNode node
-
--- the marks are the low-water marks of these shards, in order, and the notes have seen what the node has of their logs
-pub record StandWith (served : List ServedShard) (shards : List ℕ) (restart : Restart) : Type 0 where
-  pub lows : restart.lows.items ≡ map (λ shard. low_at shard served) shards
-  pub notes : map (λ note. Some note) restart.notes.items ≡ map (λ shard. view_at shard served) shards
-
--- the marks and notes of the restart are those that a node has of the shards that it serves, in order
-abbrev pub StandsSo : List ServedShard → Restart → Type 0
-StandsSo served restart = StandWith served (map (λ t. t.shard) served) restart

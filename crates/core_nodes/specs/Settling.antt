@@ -225,22 +225,6 @@ pub record IsAtFirstStores (tables : Tables) (region count : ℕ) (node : Node) 
 pub record ReachesStore (tables : Tables) (at : StoreName) (old new : Node) : Type 0 where
   pub next : IsAtFirstStores tables at.region at.shard old → IsAtFirstStores tables at.region (at.shard + 1) new
 
--- how a leader is seen as a node with refills, of which it has none, and a follower
-abbrev pub leader_node : Node → Node
-leader_node leader = leader
-
--- the refills of a leader, which has none
-abbrev pub leader_refills : Node → List Refill
-leader_refills leader = []
-
--- the node of a follower, without its refills
-abbrev pub follower_node : FollowerState → Node
-follower_node follower = follower.node
-
--- the refills that wait at a follower, the oldest first
-abbrev pub follower_refills : FollowerState → List Refill
-follower_refills follower = follower.refills
-
 -- ---- several nodes on the way
 
 -- each may catch up

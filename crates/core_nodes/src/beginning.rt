@@ -1,12 +1,13 @@
 //! The nodes that a core begins with, before its stores.
 ghost use Rattle.std.specs.Prelude.{◌≡◌, ◌<◌, All, IfErr, IfOk, length};
-ghost use Rattle.core_model.specs.Fleet.{named, node_names, region_of};
+ghost use Rattle.core_model.specs.Fleet.{node_names, region_of};
 ghost use Rattle.core_model.specs.Stores.{AreStores, HaveSeen, store_count};
-ghost use Rattle.core_nodes.specs.Beginning.{AreBegun, AreLengths, AreMeasured, IsBegunFollower, IsBegunLeader, IsTurn, MayStand, length_at};
-ghost use Rattle.core_nodes.specs.Beginning.{note_at};
+ghost use Rattle.core_nodes.specs.Beginning.{AreBegun, AreLengths, AreMeasured, IsBegun, IsTurn, MayStand, length_at};
+ghost use Rattle.core_nodes.specs.Beginning.{begun_node, note_at};
 ghost use Rattle.core_nodes.specs.Opening.{IsUnmade};
 ghost use Rattle.core_nodes.specs.Settling.{StopsLengths, StopsReads, unmade_for};
 ghost use Rattle.graph_model.specs.Told.{WhereTold};
+ghost use Rattle.node_stages.specs.Caches.{BeginsAs};
 ghost use Rattle.shard_tables.specs.Stores.{IsStoreOf};
 ghost use Rattle.tao_keeper.specs.KeeperState.{IsLater, KeepsTables};
 
@@ -14,23 +15,16 @@ use crate::notes::note_at;
 use crate::settling::{SettleStop, stop_at};
 use crate::stores::region_store;
 use core_model::{Named, follower_names, leader_names, region_of, served_by, store_place};
-use follower_cache::{Follower, followers_are_true};
-use leader_tier::{Leader, leaders_are_true};
+use follower_cache::Follower;
+use leader_tier::Leader;
 use node_name::NodeName;
+use node_stages::{Cache, Stand};
 use replies::OpenRefusal;
-use shard_log::Note;
 use shard_tables::StoreNode;
 use std::alloc::Global;
 use tao_base::OutOfMemory;
 use tao_keeper::Keeper;
 use topology::Config;
-
-/// What a node begins with: the lengths of its region's stores of the shards that it serves, in order, and notes of these.
-#[derive(Drop)]
-pub(crate) struct Turn {
-    lows: Vec<u64>,
-    notes: Vec<Note>,
-}
 
 /// The leaders and followers of a core.
 #[derive(Drop)]
@@ -110,7 +104,7 @@ fn turn_at(
     lengths: &[u64],
     region: u16,
     shards: &[u16],
-) -> Result<Turn, OutOfMemory>
+) -> Result<Stand, OutOfMemory>
     requires measured { AreMeasured config.now stores.old lengths.now }
     requires region { region < length config.now.regions }
     requires within { All (λ shard. shard < config.now.shards) shards.now }
@@ -125,91 +119,47 @@ fn turn_at(
         lows.push(length_at(lengths, place))?;
         notes.push(note)?;
     }
-    Ok(Turn { lows, notes })
+    Ok(Stand { lows, notes })
 }
 
-/// The leader of that name, which holds nothing yet.
-fn make_leader(
+/// The node of that name, which holds nothing yet.
+fn make_cache<C: Cache>(
     alloc: Global,
     config: &Config,
     stores: &mut [StoreNode],
     lengths: &[u64],
     name: NodeName,
-) -> Result<Leader, OutOfMemory>
+) -> Result<C, OutOfMemory>
     requires measured { AreMeasured config.now stores.old lengths.now }
     requires region { region_of name < length config.now.regions }
-    ensures begun { IfOk result (λ leader. IsBegunLeader config.now stores.old lengths.now (named name leader)) }
+    ensures begun { IfOk result (BeginsAs C.node C.refills (begun_node config.now stores.old lengths.now name)) }
     ensures same { stores.new ≡ stores.old }
 {
     let shards = served_by(alloc, config, name)?;
-    let Turn { lows, notes } = turn_at(alloc, config, stores, lengths, region_of(name), &shards)?;
-    let leader = Leader::make(alloc, config.cache_items, &shards, &lows, notes)?;
-    leaders_are_true(&leader);
-    Ok(leader)
+    let Stand { lows, notes } = turn_at(alloc, config, stores, lengths, region_of(name), &shards)?;
+    C::make(alloc, config.cache_items, &shards, &lows, notes)
 }
 
-/// The follower of that name, which holds nothing yet.
-fn make_follower(
-    alloc: Global,
-    config: &Config,
-    stores: &mut [StoreNode],
-    lengths: &[u64],
-    name: NodeName,
-) -> Result<Follower, OutOfMemory>
-    requires measured { AreMeasured config.now stores.old lengths.now }
-    requires region { region_of name < length config.now.regions }
-    ensures begun { IfOk result (λ follower. IsBegunFollower config.now stores.old lengths.now (named name follower)) }
-    ensures same { stores.new ≡ stores.old }
-{
-    let shards = served_by(alloc, config, name)?;
-    let Turn { lows, notes } = turn_at(alloc, config, stores, lengths, region_of(name), &shards)?;
-    let follower = Follower::make(alloc, config.cache_items, &shards, &lows, notes)?;
-    followers_are_true(&follower);
-    Ok(follower)
-}
-
-/// The leaders of these names.
-fn make_leaders(
+/// The nodes of these names.
+fn make_nodes<C: Cache + Drop>(
     alloc: Global,
     config: &Config,
     stores: &mut [StoreNode],
     lengths: &[u64],
     names: &[NodeName],
-) -> Result<Vec<Named<Leader>>, OutOfMemory>
+) -> Result<Vec<Named<C>>, OutOfMemory>
     requires measured { AreMeasured config.now stores.old lengths.now }
     requires regions { All (λ name. region_of name < length config.now.regions) names.now }
-    ensures names { IfOk result (λ leaders. node_names leaders.items ≡ names.now) }
-    ensures begun { IfOk result (λ leaders. All (IsBegunLeader config.now stores.old lengths.now) leaders.items) }
+    ensures names { IfOk result (λ nodes. node_names nodes.items ≡ names.now) }
+    ensures begun { IfOk result (λ nodes. All (IsBegun C.node C.refills config.now stores.old lengths.now) nodes.items) }
     ensures same { stores.new ≡ stores.old }
 {
-    let mut leaders = Vec::new(alloc);
+    let mut nodes = Vec::new(alloc);
     for name in names {
-        let node = make_leader(alloc, config, stores, lengths, *name)?;
-        leaders.push(Named { name: *name, node })?;
+        let node = make_cache(alloc, config, stores, lengths, *name)?;
+        nodes.push(Named { name: *name, node })?;
     }
-    Ok(leaders)
-}
-
-/// The followers of these names.
-fn make_followers(
-    alloc: Global,
-    config: &Config,
-    stores: &mut [StoreNode],
-    lengths: &[u64],
-    names: &[NodeName],
-) -> Result<Vec<Named<Follower>>, OutOfMemory>
-    requires measured { AreMeasured config.now stores.old lengths.now }
-    requires regions { All (λ name. region_of name < length config.now.regions) names.now }
-    ensures names { IfOk result (λ followers. node_names followers.items ≡ names.now) }
-    ensures begun { IfOk result (λ followers. All (IsBegunFollower config.now stores.old lengths.now) followers.items) }
-    ensures same { stores.new ≡ stores.old }
-{
-    let mut followers = Vec::new(alloc);
-    for name in names {
-        let node = make_follower(alloc, config, stores, lengths, *name)?;
-        followers.push(Named { name: *name, node })?;
-    }
-    Ok(followers)
+    Ok(nodes)
 }
 
 /// The leaders and followers of a configuration, which hold nothing yet.
@@ -224,9 +174,9 @@ fn make_caches(
     ensures same { stores.new ≡ stores.old }
 {
     let leaders = leader_names(alloc, config)?;
-    let leaders = make_leaders(alloc, config, stores, lengths, &leaders)?;
+    let leaders = make_nodes(alloc, config, stores, lengths, &leaders)?;
     let followers = follower_names(alloc, config)?;
-    let followers = make_followers(alloc, config, stores, lengths, &followers)?;
+    let followers = make_nodes(alloc, config, stores, lengths, &followers)?;
     Ok(Caches { leaders, followers })
 }
 

@@ -1,24 +1,19 @@
 //! A leader or a follower processes the rest of the logs that it serves.
-ghost use Rattle.std.specs.Prelude.{◌≡◌, ◌<◌, ◌++◌, ◌∷◌, [], All, IfErr, IfOk, IfSome, IsSome, OnOk, Some, drop, length, take};
-ghost use Rattle.std.specs.List.{IsDistinct};
-ghost use Rattle.std.specs.Map.{keys_of as keys_held};
-ghost use Rattle.core_model.specs.Fleet.{region_of};
-ghost use Rattle.core_model.specs.Messages.{Processes};
+ghost use Rattle.std.specs.Prelude.{◌≡◌, ◌<◌, IfErr, OnErr, OnOk, Some, length, true};
+ghost use Rattle.core_model.specs.Fleet.{region_of, regions_of, serves_in_turn};
 ghost use Rattle.core_model.specs.Pens.{pens_of};
 ghost use Rattle.core_model.specs.Stores.{AreStoresOf, IsConfiguredStore};
 ghost use Rattle.core_nodes.specs.Beginning.{AreLengths};
 ghost use Rattle.core_nodes.specs.Repairs.{outside};
 ghost use Rattle.core_nodes.specs.Settling.{AreCaches, CacheGoesOn, CachesGoOn, CatchesInTurn, CatchesUp, GoesInTurn, HaveCaughtUp};
-ghost use Rattle.core_nodes.specs.Settling.{IsConfiguredCache, IsLaterLink, IsRestOf, MayCatchUp, OnlyReads, ReachesStore, StopsCarry, StopsCatchUp};
+ghost use Rattle.core_nodes.specs.Settling.{IsLaterLink, MayCatchUp, OnlyReads, ReachesStore, StopsCarry, StopsCatchUp};
 ghost use Rattle.core_nodes.specs.Settling.{StopsReads, carried, is_turn, lies_behind, seen_logs};
-ghost use Rattle.core_nodes.specs.Settling.{follower_node, follower_refills, leader_node, leader_refills};
-ghost use Rattle.core_nodes.specs.Stages.{LeaderDoes};
 ghost use Rattle.graph_model.specs.Told.{WhereTold};
-ghost use Rattle.served_shards.specs.Served.{IsLowWater, log_at, low_at, served_at, view_at};
-ghost use Rattle.shard_tables.specs.Refusals.{IsOfReads};
-ghost use Rattle.shard_tables.specs.Stores.{IsStoreOf, note_of};
-ghost use Rattle.tao_base.specs.Keys.{key_shard, same_key};
-ghost use Rattle.tao_keeper.specs.KeeperState.{CallsKeeper, IsLater, KeepsTables};
+ghost use Rattle.node_stages.specs.Caches.{follower_node, follower_refills, leader_node, leader_refills};
+ghost use Rattle.node_stages.specs.Catching.{ProcessesRest, TouchShard};
+ghost use Rattle.served_shards.specs.Served.{log_at, low_at};
+ghost use Rattle.shard_tables.specs.Stores.{IsStoreOf};
+ghost use Rattle.tao_keeper.specs.KeeperState.{IsLater, KeepsTables};
 ghost use Rattle.tao_link.specs.Shown.{after_carry};
 ghost use Rattle.topology.specs.States.{is_up};
 
@@ -26,176 +21,17 @@ use crate::beginning::length_at;
 use crate::settling::{SettleStop, stop_at};
 use crate::stores::region_store;
 use core_model::{Named, region_of, serves_in_turn, store_place};
-use follower_cache::{Follower, followers_are_true};
-use leader_tier::{Leader, leaders_are_true};
+use follower_cache::Follower;
+use leader_tier::Leader;
 use node_name::NodeName;
+use node_stages::{Cache, catch_up_with};
 use replies::UnsettledWhy;
-use shard_log::Note;
-use shard_tables::{StoreNode, StoreRefusal};
-use std::alloc::{AllocError, Global};
-use tao_base::{Entry, OutOfMemory, StoreName};
+use shard_tables::StoreNode;
+use std::alloc::Global;
+use tao_base::StoreName;
 use tao_keeper::Keeper;
 use tao_link::{Link, LinkFailed};
 use topology::{Config, Topology};
-
-/// A leader or a follower, as one that processes entries.
-pub(crate) trait Cache {
-    ghost use Rattle.cache_items.specs.Node.{Node};
-    ghost use Rattle.follower_cache.specs.declared.queue.Refill.{Refill};
-    ghost use Rattle.std.specs.Prelude.{List};
-
-    /// Its node.
-    ghost node: { Self → Node };
-
-    /// Its refills; a leader has none.
-    ghost refills: { Self → List Refill };
-
-    /// The low-water mark of a shard; 0 where it isn't served.
-    fn mark(&self, shard: u16) -> u64
-        ensures value { result ≡ low_at shard (node self.now).served }
-        ensures marks { IfSome (served_at shard (node self.now).served) (λ s. IsLowWater s.marks) };
-
-    /// A note of what it has seen of a shard's log.
-    fn note(&mut self, shard: u16) -> Result<Note, OutOfMemory>
-        requires served { IsSome (served_at shard (node self.old).served) }
-        ensures view { IfOk result (λ note. view_at shard (node self.old).served ≡ Some note) }
-        ensures same { self.new ≡ self.old };
-
-    /// It holds no key twice.
-    fn keys_differ(&self)
-        ensures { IsDistinct same_key (keys_held (node self.now).items) };
-
-    /// Processes the entries of a log that follow the low-water mark. Takes no memory.
-    fn process(&mut self, shard: u16, entries: &[Entry], note: Note)
-        requires log { log_at shard (node self.old).served ≡ Some note.log }
-        requires next { WhereTold note.log.told (entries.now ≡ take (length entries.now) (drop (low_at shard (node self.old).served) note.entries)) }
-        requires here { WhereTold note.log.told (All (λ e. All (λ t. key_shard t.key ≡ shard) e.touches) entries.now) }
-        ensures does { LeaderDoes (Processes shard entries.now note) (node self.old) (node self.new) }
-        ensures rest { refills self.new ≡ refills self.old };
-}
-
-impl Cache for Leader {
-    ghost use Rattle.core_nodes.specs.Settling.{leader_node, leader_refills};
-
-    ghost node = { leader_node };
-
-    ghost refills = { leader_refills };
-
-    fn mark(&self, shard: u16) -> u64 {
-        self.low(shard)
-    }
-
-    fn note(&mut self, shard: u16) -> Result<Note, OutOfMemory> {
-        Leader::note(self, shard)
-    }
-
-    fn keys_differ(&self) {
-        leaders_are_true(self);
-    }
-
-    fn process(&mut self, shard: u16, entries: &[Entry], note: Note) {
-        leaders_are_true(self);
-        self.catch_up(shard, entries, note);
-        leaders_are_true(self);
-    }
-}
-
-impl Cache for Follower {
-    ghost use Rattle.core_nodes.specs.Settling.{follower_node, follower_refills};
-
-    ghost node = { follower_node };
-
-    ghost refills = { follower_refills };
-
-    fn mark(&self, shard: u16) -> u64 {
-        self.low(shard)
-    }
-
-    fn note(&mut self, shard: u16) -> Result<Note, OutOfMemory> {
-        Follower::note(self, shard)
-    }
-
-    fn keys_differ(&self) {
-        followers_are_true(self);
-    }
-
-    fn process(&mut self, shard: u16, entries: &[Entry], note: Note) {
-        followers_are_true(self);
-        self.catch_up(shard, entries, note);
-        followers_are_true(self);
-    }
-}
-
-/// What a node has yet to process of a log: the entries after its low-water mark, and a note that has seen them all.
-#[derive(Drop)]
-struct Rest {
-    entries: Vec<Entry>,
-    note: Note,
-}
-
-/// Puts an entry behind the others.
-fn put(entries: &mut Vec<Entry>, entry: Entry) -> Result<(), AllocError>
-    ensures { OnOk result (entries.new.items ≡ entries.old.items ++ entry ∷ []) }
-{
-    entries.push(entry)?;
-    Ok(())
-}
-
-/// The entries of the keeper's log after a position, up to its length. A keeper that gives no entry at one of these positions tells
-/// nothing: then the entries before it are all that there are.
-fn entries_after<K: Keeper>(
-    alloc: Global,
-    store: &mut StoreNode,
-    keepers: &mut K,
-    low: u64,
-    until: u64,
-) -> Result<Vec<Entry>, StoreRefusal>
-    requires keeper { IsStoreOf K.TELLS (K.state keepers.old).told store.old }
-    requires all { WhereTold K.TELLS (until ≡ length ((K.state keepers.old).told store.old.name).log) }
-    ensures entries { WhereTold K.TELLS (IfOk result (λ entries. entries.items ≡ drop low ((K.state keepers.old).told store.old.name).log)) }
-    ensures refused { IfErr result IsOfReads }
-    ensures same { store.new ≡ store.old }
-    ensures tables { KeepsTables K.TELLS (K.state keepers.old) (K.state keepers.new) }
-    ensures calls { CallsKeeper StoreRefusal.KeeperFault (K.state keepers.old) (K.state keepers.new) result }
-{
-    let mut entries = Vec::new(alloc);
-    for place in low..until {
-        let found = store.entry(keepers, place + 1)?;
-        match found {
-            Some(entry) => put(&mut entries, entry)?,
-            None => return Ok(entries),
-        }
-    }
-    Ok(entries)
-}
-
-/// What a node with that low-water mark has yet to process of the log of a shard's store. Costs a call of the keeper for each entry.
-fn read_rest<K: Keeper>(
-    alloc: Global,
-    store: &mut StoreNode,
-    keepers: &mut K,
-    shard: u16,
-    low: u64,
-    until: u64,
-) -> Result<Rest, SettleStop>
-    requires keeper { IsStoreOf K.TELLS (K.state keepers.old).told store.old }
-    requires all { WhereTold K.TELLS (until ≡ length ((K.state keepers.old).told store.old.name).log) }
-    ensures entries { WhereTold K.TELLS (IfOk result (λ rest. rest.entries.items ≡ drop low ((K.state keepers.old).told store.old.name).log)) }
-    ensures note { IfOk result (λ rest. rest.note ≡ note_of store.old) }
-    ensures same { store.new ≡ store.old }
-    ensures stop { IfErr result (StopsReads shard (K.state keepers.old) (K.state keepers.new)) }
-    ensures tables { KeepsTables K.TELLS (K.state keepers.old) (K.state keepers.new) }
-    ensures later { IsLater (K.state keepers.old) (K.state keepers.new) }
-{
-    let entries = match entries_after(alloc, store, keepers, low, until) {
-        Ok(entries) => entries,
-        Err(refusal) => return Err(stop_at(shard, refusal)),
-    };
-    match store.note() {
-        Ok(note) => Ok(Rest { entries, note }),
-        Err(_) => Err(SettleStop::OutOfMemory),
-    }
-}
 
 /// Carries from a shard's store to a node.
 fn carry_to<L: Link>(
@@ -217,35 +53,64 @@ fn carry_to<L: Link>(
     }
 }
 
-/// The rest of the log of a store, for a node of its region with that low-water mark: one carry from the store to the node.
-fn fetch_rest<K: Keeper, L: Link>(
+/// A node processes the rest of the log of a store of a shard that it serves, up to this length.
+fn process_rest<C: Cache, K: Keeper>(
     alloc: Global,
+    cache: &mut C,
+    store: &mut StoreNode,
+    keepers: &mut K,
+    until: u64,
+) -> Result<(), SettleStop>
+    requires log { log_at store.old.name.shard (C.node cache.old).served ≡ Some store.old.view.log }
+    requires keeper { IsStoreOf K.TELLS (K.state keepers.old).told store.old }
+    requires all { WhereTold K.TELLS (until ≡ length ((K.state keepers.old).told store.old.name).log) }
+    requires here { WhereTold K.TELLS (TouchShard store.old.name.shard ((K.state keepers.old).told store.old.name).log) }
+    ensures does { OnOk result (ProcessesRest C.node C.refills K.TELLS ((K.state keepers.old).told store.old.name).log store.old cache.old cache.new) }
+    ensures err { OnErr result (cache.new ≡ cache.old) }
+    ensures same { store.new ≡ store.old }
+    ensures stop { IfErr result (StopsReads store.old.name.shard (K.state keepers.old) (K.state keepers.new)) }
+    ensures tables { KeepsTables K.TELLS (K.state keepers.old) (K.state keepers.new) }
+    ensures later { IsLater (K.state keepers.old) (K.state keepers.new) }
+{
+    let shard = store.name().shard;
+    match catch_up_with(alloc, cache, store, keepers, until) {
+        Ok(()) => Ok(()),
+        Err(refusal) => Err(stop_at(shard, refusal)),
+    }
+}
+
+/// A node processes the rest of the log of its region's store of a shard that it serves, whose length this is: one carry from the store to the
+/// node.
+fn catch_up_behind<C: Cache, K: Keeper, L: Link>(
+    alloc: Global,
+    cache: &mut Named<C>,
     stores: &mut [StoreNode],
     keepers: &mut K,
     link: &mut L,
     config: &Config,
-    name: NodeName,
     at: StoreName,
-    low: u64,
     until: u64,
-) -> Result<Rest, SettleStop>
+) -> Result<(), SettleStop>
     requires stores { AreStoresOf K.TELLS config.now (K.state keepers.old).told stores.old }
-    requires cache { IsConfiguredCache config.now name }
+    requires may { MayCatchUp (seen_logs K.TELLS config.now (K.state keepers.old).told (pens_of stores.old)) cache.old.name (C.node cache.old.node) }
     requires here { IsConfiguredStore config.now at }
-    requires region { region_of name ≡ at.region }
+    requires region { region_of cache.old.name ≡ at.region }
+    requires serves { serves_in_turn (regions_of config.now) cache.old.name at.shard ≡ true }
     requires all { WhereTold K.TELLS (until ≡ length ((K.state keepers.old).told at).log) }
-    ensures rest { IfOk result (λ rest.
-        IsRestOf (seen_logs K.TELLS config.now (K.state keepers.old).told (pens_of stores.old)) at low rest.entries.items rest.note) }
+    ensures goes { CacheGoesOn C.node C.refills (seen_logs K.TELLS config.now (K.state keepers.old).told (pens_of stores.old)) cache.old cache.new }
+    ensures reaches { WhereTold K.TELLS (OnOk result
+        (ReachesStore (K.state keepers.old).told at (C.node cache.old.node) (C.node cache.new.node))) }
     ensures link { OnOk result (L.shown link.new ≡ after_carry (L.shown link.old)) }
     ensures same { stores.new ≡ stores.old }
     ensures stop { IfErr result (StopsCatchUp config.now
         (outside (K.state keepers.old) (L.shown link.old)) (outside (K.state keepers.new) (L.shown link.new))) }
     ensures reads { OnlyReads K.TELLS (outside (K.state keepers.old) (L.shown link.old)) (outside (K.state keepers.new) (L.shown link.new)) }
 {
+    let name = cache.name;
     let place = store_place(config, at);
     let store = &mut stores[place];
     carry_to(store, link, name, at.shard)?;
-    read_rest(alloc, store, keepers, at.shard, low, until)
+    process_rest(alloc, &mut cache.node, store, keepers, until)
 }
 
 /// Whether the node serves the shard, and has not processed its log up to this length.
@@ -281,16 +146,11 @@ fn catch_up_at<C: Cache, K: Keeper, L: Link>(
         (outside (K.state keepers.old) (L.shown link.old)) (outside (K.state keepers.new) (L.shown link.new))) }
     ensures reads { OnlyReads K.TELLS (outside (K.state keepers.old) (L.shown link.old)) (outside (K.state keepers.new) (L.shown link.new)) }
 {
-    let name = cache.name;
     let low = cache.node.mark(at.shard);
-    if !lies_behind(config, name, at.shard, low, until) {
+    if !lies_behind(config, cache.name, at.shard, low, until) {
         return Ok(());
     }
-    let Rest { entries, note } = fetch_rest(
-        alloc, stores, keepers, link, config, name, at, low, until,
-    )?;
-    cache.node.process(at.shard, &entries, note);
-    Ok(())
+    catch_up_behind(alloc, cache, stores, keepers, link, config, at, until)
 }
 
 /// A node of a region processes the rest of the logs that it serves, shard by shard, up to the lengths of the region's stores.
@@ -322,7 +182,7 @@ fn catch_up_node<C: Cache, K: Keeper, L: Link>(
         let until = length_at(lengths, store_place(config, at));
         catch_up_at(alloc, cache, stores, keepers, link, config, at, until)?;
     }
-    cache.node.keys_differ();
+    cache.node.is_true();
     Ok(())
 }
 

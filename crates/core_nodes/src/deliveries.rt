@@ -3,73 +3,40 @@ ghost use Rattle.std.specs.Prelude.{◌≡◌, IfSome, Some};
 ghost use Rattle.core_model.specs.Consistent.{GoesOn, IsFleetOf};
 ghost use Rattle.core_model.specs.Evictions.{IsCacheOf};
 ghost use Rattle.core_model.specs.Fleet.{ChangesNode, HasNode};
-ghost use Rattle.core_model.specs.Messages.{Delivers, DeliversAt, DeliversThere, IsMessageFor, IsRefillFor, TakesRefill};
+ghost use Rattle.core_model.specs.Messages.{DeliversAt, IsMessageFor, IsRefillFor, TakesRefill};
 ghost use Rattle.core_model.specs.Pens.{pens_of};
-ghost use Rattle.core_nodes.specs.Stages.{FollowerDoes, LeaderDoes, NodeIs};
+ghost use Rattle.core_nodes.specs.Stages.{NodeIs};
+ghost use Rattle.node_stages.specs.Caches.{DeliversAs};
+ghost use Rattle.node_stages.specs.Stages.{CacheDoes, FollowerDoes};
 ghost use Rattle.served_shards.specs.Served.{log_at};
 ghost use Rattle.tao_schema.specs.Schema.{types_of};
 
 use crate::fleet::Fleet;
+use crate::places::place_of;
 use core_model::{Named, named_place};
-use follower_cache::{Follower, Refill, followers_are_true};
-use leader_tier::{Leader, leaders_are_true};
+use follower_cache::{Follower, Refill};
 use maint_msg::Maint;
 use node_name::NodeName;
+use node_stages::{Cache, deliver_to, take_refill};
 use tao_schema::Schema;
 use topology::Config;
 
-fn deliver_to_leader(leader: &mut Leader, message: Maint) -> u64
-    requires { log_at message.shard leader.old.served ≡ Some message.note.log }
-    ensures { LeaderDoes (Delivers message result) leader.old leader.new }
-{
-    leaders_are_true(leader);
-    let delivered = leader.deliver(message);
-    leaders_are_true(leader);
-    delivered.dropped
-}
-
-fn deliver_at_leader(leaders: &mut [Named<Leader>], name: NodeName, message: Maint) -> u64
-    requires there { HasNode name leaders.old }
-    requires log { NodeIs name (λ node. log_at message.shard node.served ≡ Some message.note.log) leaders.old }
-    ensures { ChangesNode name (LeaderDoes (Delivers message result)) leaders.old leaders.new }
-{
-    let place = named_place(leaders, name);
-    deliver_to_leader(&mut leaders[place].node, message)
-}
-
-fn deliver_to_follower(follower: &mut Follower, schema: &Schema, message: Maint) -> u64
-    requires { log_at message.shard follower.old.node.served ≡ Some message.note.log }
-    ensures { FollowerDoes (DeliversThere (types_of schema.now) message result) follower.old follower.new }
-{
-    followers_are_true(follower);
-    let dropped = follower.deliver(schema, message);
-    followers_are_true(follower);
-    dropped
-}
-
-fn deliver_at_follower(
-    followers: &mut [Named<Follower>],
+/// The node of that name processes a message.
+fn deliver_at<C: Cache>(
+    caches: &mut [Named<C>],
     schema: &Schema,
     name: NodeName,
     message: Maint,
 ) -> u64
-    requires there { HasNode name followers.old }
-    requires log { NodeIs name (λ f. log_at message.shard f.node.served ≡ Some message.note.log) followers.old }
-    ensures { ChangesNode name (FollowerDoes (DeliversThere (types_of schema.now) message result)) followers.old followers.new }
+    requires there { HasNode name caches.old }
+    requires log { NodeIs name (λ cache. log_at message.shard (C.node cache).served ≡ Some message.note.log) caches.old }
+    ensures { ChangesNode name (CacheDoes C.node (DeliversAs C.node C.refills (types_of schema.now) message result)) caches.old caches.new }
 {
-    let place = named_place(followers, name);
-    deliver_to_follower(&mut followers[place].node, schema, message)
+    let place = place_of(caches, name);
+    deliver_to(&mut caches[place].node, schema, message)
 }
 
-fn take_refill(follower: &mut Follower) -> Option<Refill>
-    ensures { FollowerDoes (TakesRefill result) follower.old follower.new }
-{
-    followers_are_true(follower);
-    let refill = follower.next_refill();
-    followers_are_true(follower);
-    refill
-}
-
+/// Takes the oldest refill of the follower of that name out.
 fn refill_at(followers: &mut [Named<Follower>], name: NodeName) -> Option<Refill>
     requires { HasNode name followers.old }
     ensures { ChangesNode name (FollowerDoes (TakesRefill result)) followers.old followers.new }
@@ -91,9 +58,11 @@ impl Fleet {
         ensures goes { GoesOn self.old self.new }
     {
         match node {
-            NodeName::Leader { .. } => deliver_at_leader(&mut self.leaders, node, message),
+            NodeName::Leader { .. } => {
+                deliver_at(&mut self.leaders, &config.schema, node, message)
+            }
             NodeName::Follower { .. } => {
-                deliver_at_follower(&mut self.followers, &config.schema, node, message)
+                deliver_at(&mut self.followers, &config.schema, node, message)
             }
             NodeName::Store(_) => unreachable!(),
         }

@@ -6,54 +6,26 @@ ghost use Rattle.core_model.specs.Evictions.{IsCacheOf};
 ghost use Rattle.core_model.specs.Fleet.{ChangesNode, HasNode, region_of, served_by};
 ghost use Rattle.core_model.specs.Pens.{pens_of};
 ghost use Rattle.core_model.specs.Stores.{AreStoresOf, IsConfiguredStore};
-ghost use Rattle.graph_model.specs.Told.{WhereTold};
-ghost use Rattle.core_nodes.specs.Emptying.{BeginFor, BeginsFor, CacheIs, EmptiesThere, IsEmptied, IsEmptiedThere, MayEmpty};
-ghost use Rattle.core_nodes.specs.Stages.{FollowerDoes, LeaderDoes, NodeIs};
+ghost use Rattle.core_nodes.specs.Emptying.{BeginFor, BeginsFor, CacheIs, EmptiesThere, MayEmpty};
+ghost use Rattle.core_nodes.specs.Stages.{NodeIs};
+ghost use Rattle.node_stages.specs.Caches.{IsEmptiedAs};
+ghost use Rattle.node_stages.specs.Stages.{CacheDoes};
 ghost use Rattle.served_shards.specs.Begun.{AreNotesOf, AreReached};
 ghost use Rattle.shard_tables.specs.Refusals.{IsOfReads};
-ghost use Rattle.shard_tables.specs.Stores.{IsStoreOf, note_of};
 ghost use Rattle.tao_keeper.specs.KeeperState.{CallsKeeper, KeepsTables};
 
 use crate::fleet::Fleet;
+use crate::places::place_of;
 use crate::stores::region_store;
-use core_model::{Named, named_place, region_of, served_by, store_place};
-use follower_cache::{Follower, followers_are_true};
-use leader_tier::{Leader, leaders_are_true};
+use core_model::{Named, region_of, served_by, store_place};
 use node_name::NodeName;
+use node_stages::{Cache, Measure, Stand, empty_out, measure_store};
 use shard_log::Note;
 use shard_tables::{StoreNode, StoreRefusal};
 use std::alloc::Global;
 use tao_base::StoreName;
 use tao_keeper::Keeper;
 use topology::Config;
-
-/// How far a region's store or a node has come with a shard, and a note of what it has seen of the log.
-#[derive(Drop)]
-pub(crate) struct Measure {
-    pub(crate) low: u64,
-    pub(crate) note: Note,
-}
-
-/// What a node begins anew with: a mark for each shard that it serves, in order, and a note of its log.
-#[derive(Drop)]
-pub(crate) struct Restart {
-    pub(crate) lows: Vec<u64>,
-    pub(crate) notes: Vec<Note>,
-}
-
-fn measure_store<K: Keeper>(store: &mut StoreNode, keepers: &mut K) -> Result<Measure, StoreRefusal>
-    requires keeper { IsStoreOf K.TELLS (K.state keepers.old).told store.old }
-    ensures low { IfOk result (λ m. WhereTold K.TELLS (m.low ≡ length ((K.state keepers.old).told store.old.name).log)) }
-    ensures note { IfOk result (λ m. m.note ≡ note_of store.old) }
-    ensures same { store.new ≡ store.old }
-    ensures refused { IfErr result IsOfReads }
-    ensures tables { KeepsTables K.TELLS (K.state keepers.old) (K.state keepers.new) }
-    ensures calls { CallsKeeper StoreRefusal.KeeperFault (K.state keepers.old) (K.state keepers.new) result }
-{
-    let low = store.length(keepers)?;
-    let note = store.note()?;
-    Ok(Measure { low, note })
-}
 
 /// One call of the keeper.
 fn measure_at<K: Keeper>(
@@ -82,7 +54,7 @@ fn restart_of<K: Keeper>(
     keepers: &mut K,
     region: u16,
     shards: &[u16],
-) -> Result<Restart, StoreRefusal>
+) -> Result<Stand, StoreRefusal>
     requires stores { AreStoresOf K.TELLS config.now (K.state keepers.old).told stores.old }
     requires region { region < length config.now.regions }
     requires within { All (λ shard. shard < config.now.shards) shards.now }
@@ -109,7 +81,7 @@ fn restart_of<K: Keeper>(
             return Err(StoreRefusal::OutOfMemory);
         }
     }
-    Ok(Restart { lows, notes })
+    Ok(Stand { lows, notes })
 }
 
 /// What the node of that name begins with.
@@ -119,7 +91,7 @@ fn restart_for<K: Keeper>(
     stores: &mut [StoreNode],
     keepers: &mut K,
     name: NodeName,
-) -> Result<Restart, StoreRefusal>
+) -> Result<Stand, StoreRefusal>
     requires stores { AreStoresOf K.TELLS config.now (K.state keepers.old).told stores.old }
     requires region { region_of name < length config.now.regions }
     ensures restart { IfOk result (λ restart. BeginFor (pens_of stores.old) (region_tables K.TELLS (K.state keepers.old).told (region_of name))
@@ -134,49 +106,15 @@ fn restart_for<K: Keeper>(
     restart_of(alloc, config, stores, keepers, region, &shards)
 }
 
-fn empty_leader(leader: &mut Leader, lows: &[u64], notes: Vec<Note>)
-    requires logs { AreNotesOf leader.old.served notes.items }
+/// The node of that name loses all that it holds, and begins anew at these marks, with these notes of its logs.
+fn empty_at<C: Cache>(caches: &mut [Named<C>], name: NodeName, lows: &[u64], notes: Vec<Note>)
+    requires there { HasNode name caches.old }
+    requires logs { NodeIs name (λ cache. AreNotesOf (C.node cache).served notes.items) caches.old }
     requires reached { AreReached lows.now notes.items }
-    ensures { LeaderDoes (IsEmptied lows.now notes.items) leader.old leader.new }
+    ensures { ChangesNode name (CacheDoes C.node (IsEmptiedAs C.node C.refills lows.now notes.items)) caches.old caches.new }
 {
-    leaders_are_true(leader);
-    leader.reset(lows, notes);
-    leaders_are_true(leader);
-}
-
-fn empty_leader_at(leaders: &mut [Named<Leader>], name: NodeName, lows: &[u64], notes: Vec<Note>)
-    requires there { HasNode name leaders.old }
-    requires logs { NodeIs name (λ n. AreNotesOf n.served notes.items) leaders.old }
-    requires reached { AreReached lows.now notes.items }
-    ensures { ChangesNode name (LeaderDoes (IsEmptied lows.now notes.items)) leaders.old leaders.new }
-{
-    let place = named_place(leaders, name);
-    empty_leader(&mut leaders[place].node, lows, notes);
-}
-
-fn empty_follower(follower: &mut Follower, lows: &[u64], notes: Vec<Note>)
-    requires logs { AreNotesOf follower.old.node.served notes.items }
-    requires reached { AreReached lows.now notes.items }
-    ensures { FollowerDoes (IsEmptiedThere lows.now notes.items) follower.old follower.new }
-{
-    followers_are_true(follower);
-    follower.reset(lows, notes);
-    followers_are_true(follower);
-}
-
-fn empty_follower_at(
-    followers: &mut [Named<Follower>],
-    name: NodeName,
-    lows: &[u64],
-    notes: Vec<Note>,
-)
-    requires there { HasNode name followers.old }
-    requires logs { NodeIs name (λ f. AreNotesOf f.node.served notes.items) followers.old }
-    requires reached { AreReached lows.now notes.items }
-    ensures { ChangesNode name (FollowerDoes (IsEmptiedThere lows.now notes.items)) followers.old followers.new }
-{
-    let place = named_place(followers, name);
-    empty_follower(&mut followers[place].node, lows, notes);
+    let place = place_of(caches, name);
+    empty_out(&mut caches[place].node, lows, notes);
 }
 
 impl Fleet {
@@ -190,8 +128,8 @@ impl Fleet {
             → EmptiesThere config.now node at self.old self.new }
     {
         match node {
-            NodeName::Leader { .. } => empty_leader_at(&mut self.leaders, node, lows, notes),
-            NodeName::Follower { .. } => empty_follower_at(&mut self.followers, node, lows, notes),
+            NodeName::Leader { .. } => empty_at(&mut self.leaders, node, lows, notes),
+            NodeName::Follower { .. } => empty_at(&mut self.followers, node, lows, notes),
             NodeName::Store(_) => unreachable!(),
         }
     }
@@ -220,7 +158,7 @@ impl Fleet {
         ensures tables { KeepsTables K.TELLS (K.state keepers.old) (K.state keepers.new) }
         ensures calls { CallsKeeper StoreRefusal.KeeperFault (K.state keepers.old) (K.state keepers.new) result }
     {
-        let Restart { lows, notes } = restart_for(alloc, config, &mut self.stores, keepers, node)?;
+        let Stand { lows, notes } = restart_for(alloc, config, &mut self.stores, keepers, node)?;
         self.empty(config, node, &lows, notes);
         Ok(())
     }

@@ -1,67 +1,25 @@
-//! What cache nodes hold, and items that are dropped from them.
+//! Items that are dropped from cache nodes.
 ghost use Rattle.core_model.specs.Consistent.{GoesOn, IsFleetOf};
 ghost use Rattle.core_model.specs.Evictions.{ChangesCache, Evicts, IsCacheOf};
 ghost use Rattle.core_model.specs.Fleet.{ChangesNode, HasNode};
-ghost use Rattle.core_nodes.specs.Stages.{EvictsThere, FollowerDoes, LeaderDoes};
+ghost use Rattle.node_stages.specs.Caches.{EvictsAs};
+ghost use Rattle.node_stages.specs.Stages.{CacheDoes};
 
 use crate::fleet::Fleet;
-use core_model::{Named, named_place};
-use follower_cache::{Follower, followers_are_true};
-use leader_tier::{Leader, leaders_are_true};
+use crate::places::place_of;
+use core_model::Named;
 use node_name::NodeName;
+use node_stages::{Cache, evict_from};
 use tao_base::Key;
 use topology::Config;
 
-fn leader_drops(leader: &mut Leader, key: Option<Key>) -> bool
-    ensures { Evicts key result leader.old leader.new }
+/// The node of that name drops the item at the key, or without a key the one that was used least recently.
+fn evict_at<C: Cache>(caches: &mut [Named<C>], name: NodeName, key: Option<Key>) -> bool
+    requires { HasNode name caches.old }
+    ensures { ChangesNode name (CacheDoes C.node (EvictsAs C.node C.refills key result)) caches.old caches.new }
 {
-    match key {
-        Some(key) => leader.evict(key),
-        None => leader.evict_last(),
-    }
-}
-
-fn evict_from_leader(leader: &mut Leader, key: Option<Key>) -> bool
-    ensures { LeaderDoes (Evicts key result) leader.old leader.new }
-{
-    leaders_are_true(leader);
-    let held = leader_drops(leader, key);
-    leaders_are_true(leader);
-    held
-}
-
-fn evict_at_leader(leaders: &mut [Named<Leader>], name: NodeName, key: Option<Key>) -> bool
-    requires { HasNode name leaders.old }
-    ensures { ChangesNode name (LeaderDoes (Evicts key result)) leaders.old leaders.new }
-{
-    let place = named_place(leaders, name);
-    evict_from_leader(&mut leaders[place].node, key)
-}
-
-fn follower_drops(follower: &mut Follower, key: Option<Key>) -> bool
-    ensures { EvictsThere key result follower.old follower.new }
-{
-    match key {
-        Some(key) => follower.evict(key),
-        None => follower.evict_last(),
-    }
-}
-
-fn evict_from_follower(follower: &mut Follower, key: Option<Key>) -> bool
-    ensures { FollowerDoes (EvictsThere key result) follower.old follower.new }
-{
-    followers_are_true(follower);
-    let held = follower_drops(follower, key);
-    followers_are_true(follower);
-    held
-}
-
-fn evict_at_follower(followers: &mut [Named<Follower>], name: NodeName, key: Option<Key>) -> bool
-    requires { HasNode name followers.old }
-    ensures { ChangesNode name (FollowerDoes (EvictsThere key result)) followers.old followers.new }
-{
-    let place = named_place(followers, name);
-    evict_from_follower(&mut followers[place].node, key)
+    let place = place_of(caches, name);
+    evict_from(&mut caches[place].node, key)
 }
 
 impl Fleet {
@@ -75,8 +33,8 @@ impl Fleet {
         ensures goes { GoesOn self.old self.new }
     {
         match node {
-            NodeName::Leader { .. } => evict_at_leader(&mut self.leaders, node, key),
-            NodeName::Follower { .. } => evict_at_follower(&mut self.followers, node, key),
+            NodeName::Leader { .. } => evict_at(&mut self.leaders, node, key),
+            NodeName::Follower { .. } => evict_at(&mut self.followers, node, key),
             NodeName::Store(_) => unreachable!(),
         }
     }

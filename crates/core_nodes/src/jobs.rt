@@ -10,24 +10,22 @@ ghost use Rattle.core_model.specs.Serving.{IsLeaderIn};
 ghost use Rattle.core_model.specs.Stores.{AreStoresOf, master_of, master_store};
 ghost use Rattle.core_nodes.specs.MasterWrites.{job_of_master};
 ghost use Rattle.core_nodes.specs.Repairs.{MergesThere, outside};
-ghost use Rattle.core_nodes.specs.Stages.{LeaderDoes, NodeIs, taken_by};
+ghost use Rattle.core_nodes.specs.Stages.{NodeIs, taken_by};
 ghost use Rattle.edge_repair.specs.declared.refusal.RepairRefusal.TheVariants as repair;
 ghost use Rattle.graph_model.specs.Told.{WhereTold};
 ghost use Rattle.leader_tier.specs.TakenWrites.{TakesWritten, taken_entry};
+ghost use Rattle.node_stages.specs.Stages.{LeaderDoes};
 ghost use Rattle.served_shards.specs.Served.{log_at};
 ghost use Rattle.shard_log.specs.View.{as_note};
 ghost use Rattle.shard_tables.specs.Refusals.{IsOfReads};
 ghost use Rattle.shard_tables.specs.StoreView.{Store as StoreSeen};
-ghost use Rattle.shard_tables.specs.Stores.{IsStoreOf};
-ghost use Rattle.shard_tables.specs.WriteDone.{MergeDone, StoreGains, asked_merge_at};
+ghost use Rattle.shard_tables.specs.WriteDone.{MergeDone};
 ghost use Rattle.shard_tables.specs.Written.{LiesOn, StandsIn};
-ghost use Rattle.shard_tables.specs.declared.store.StoreRole.TheVariants.{Master};
 ghost use Rattle.tao_keeper.specs.Given.{IsGivenJob};
 ghost use Rattle.tao_keeper.specs.Growing.{LogsGrow};
 ghost use Rattle.tao_keeper.specs.KeeperState.{CallsKeeper, KeepsTables};
 ghost use Rattle.tao_keeper.specs.Table.{Changes, IsLeastJob, after_end};
 ghost use Rattle.tao_schema.specs.Schema.{types_of};
-ghost use Rattle.write_model.specs.MergeLaws.{MayBeMerged};
 
 use crate::fleet::Fleet;
 use crate::stores::{master_store, region_store};
@@ -35,43 +33,15 @@ use core_model::{
     Named, far_shard, master_of, masters_are_regions, named_place, serves_in_turn, store_place,
 };
 use edge_repair::{RepairOutcome, RepairRefusal, merge_there};
-use leader_tier::{Leader, leaders_are_true};
+use leader_tier::Leader;
 use node_name::NodeName;
+use node_stages::merge_of;
 use shard_tables::{StoreNode, StoreRefusal, Wrote, inverses_match};
 use std::alloc::Global;
 use tao_keeper::{Job, Keeper};
 use tao_link::Link;
 use tao_schema::Schema;
 use topology::Config;
-
-/// Merges the job at the leader and its store. A leader that stands in for the preferred one stays as it is.
-fn merge_of<K: Keeper>(
-    alloc: Global,
-    leader: &mut Leader,
-    preferred: bool,
-    store: &mut StoreNode,
-    keepers: &mut K,
-    schema: &Schema,
-    from: u16,
-    job: &Job,
-) -> Result<Wrote, StoreRefusal>
-    requires log { OnTrue preferred (log_at store.old.name.shard leader.old.served ≡ Some store.old.view.log) }
-    requires master { store.old.role ≡ Master }
-    requires keeper { IsStoreOf K.TELLS (K.state keepers.old).told store.old }
-    requires given { IsGivenJob job.now }
-    requires may { WhereTold K.TELLS
-        (MayBeMerged store.old.name.shard ((K.state keepers.old).told store.old.name).log from job.now.position job.now.edges) }
-    ensures node { LeaderDoes (TakesWritten (types_of schema.now) store.old.name.shard (taken_entry preferred result) (as_note store.new.view))
-        leader.old leader.new }
-    ensures done { MergeDone K.TELLS store.old.name (asked_merge_at (K.state keepers.old).told store.old from job.now)
-        (K.state keepers.old) (K.state keepers.new) result }
-    ensures store { StoreGains K.TELLS (K.state keepers.new).told store.old store.new result }
-{
-    leaders_are_true(leader);
-    let wrote = leader.merge(alloc, preferred, store, keepers, schema, from, job);
-    leaders_are_true(leader);
-    wrote
-}
 
 /// Merges the job at the leader of that name and the store of the shard where it is owed.
 fn merge_at<K: Keeper>(

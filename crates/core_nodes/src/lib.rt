@@ -4,6 +4,8 @@
 //! Each call does to the node that acts just what `core_model` says of its stage, and leaves every other as it was; what was
 //! consistent stays so, whatever the call answers.
 //!
+//! The stages themselves stand in `node_stages`, at nodes and stores that are lent: here each is lent the one of its name out of the lists.
+//!
 //! What it promises. The nodes of a core, one stage a call: opened, they are those of the configuration, empty,
 //! with marks at the ends of their logs; `look`, `ask`, `keep`, `end_ask`, `commit`, `apply`, `evict`, `deliver`,
 //! `next_refill` and `ask_at_once` do to the node of that name just what their relation says, leave every other,
@@ -32,6 +34,7 @@ mod jobs;
 pub mod laws;
 mod notes;
 mod opening;
+mod places;
 mod reads;
 mod settling;
 mod shown;
@@ -39,6 +42,6 @@ mod stores;
 mod writes;
 
 pub use fleet::Fleet;
-pub use reads::FirstLook;
+pub use node_stages::FirstLook;
 pub use settling::{SettleStop, shard_lengths};
 pub use stores::{master_store, region_store};

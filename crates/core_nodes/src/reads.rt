@@ -9,15 +9,14 @@ ghost use Rattle.core_model.specs.Reads.{AsksAtOnce, EndsAsk, IsGivenAnswer, IsG
 ghost use Rattle.core_model.specs.Reads.{store_calls, taken_fill, wanted};
 ghost use Rattle.core_model.specs.Serving.{IsFollowerFor, IsLeaderFor};
 ghost use Rattle.core_model.specs.Stores.{AreStoresOf, IsConfiguredStore, region_store};
-ghost use Rattle.core_nodes.specs.Stages.{FollowerDoes, NodeIs, LeaderDoes, LooksTrue, OpensAsk};
-ghost use Rattle.leader_tier.specs.LeaderReads.{GivesAnswer, IsLegalAt, asked_read};
+ghost use Rattle.core_nodes.specs.Stages.{NodeIs};
+ghost use Rattle.leader_tier.specs.LeaderReads.{IsLegalAt};
+ghost use Rattle.node_stages.specs.Stages.{FollowerDoes, LeaderDoes, LooksTrue};
 ghost use Rattle.sealed_item.specs.Decided.{content_decides};
 ghost use Rattle.served_shards.specs.Served.{log_at, served_at};
 ghost use Rattle.shard_log.specs.GrowthLaws.{IsLegalIn};
 ghost use Rattle.shard_tables.specs.Refusals.{IsOfReads};
-ghost use Rattle.shard_tables.specs.Stores.{IsStoreOf};
 ghost use Rattle.shard_tables.specs.StoreView.{Store};
-ghost use Rattle.tao_base.specs.Keys.{key_shard};
 ghost use Rattle.tao_base.specs.Queries.{query_key, query_shard};
 ghost use Rattle.tao_keeper.specs.KeeperState.{CallsKeeper, KeepsTables};
 ghost use Rattle.tao_keeper.specs.Growing.{LogsGrow};
@@ -27,71 +26,17 @@ use crate::fleet::Fleet;
 use crate::stores::region_store;
 use ask_table::AskNo;
 use core_model::{Named, named_place, store_place};
-use follower_cache::{Follower, Kept, Look, followers_are_true};
-use leader_tier::{Leader, leaders_are_true};
+use follower_cache::{Follower, Kept};
+use leader_tier::Leader;
 use node_name::NodeName;
+use node_stages::{FirstLook, ask_leader, end_open_ask, keep_fill, look_first, open_true};
 use sealed_item::Fill;
 use shard_tables::{LeaderAnswer, StoreNode, StoreRefusal};
 use std::alloc::Global;
-use tao_base::{Answer, Key, OutOfMemory, Query};
+use tao_base::{Answer, OutOfMemory, Query};
 use tao_keeper::Keeper;
 use tao_schema::Schema;
 use topology::Config;
-
-/// What a follower found among its items, and the ask that it opened where it found nothing that answers.
-#[derive(Drop)]
-pub struct FirstLook {
-    pub look: Look,
-    /// None after a hit, and where as many asks are open on the follower as may be.
-    pub ask: Option<AskNo>,
-}
-
-// Each stage is done at the node itself, beside what every node keeps, and then at the node of a name among its like.
-
-/// Opens an ask on the key after a miss.
-fn open_ask(follower: &mut Follower, look: &Look, key: Key) -> Option<AskNo>
-    requires { IsSome (served_at (key_shard key) follower.old.node.served) }
-    ensures node { OpensAsk key look.now result follower.old.node follower.new.node }
-    ensures rest { follower.new ≡ record follower.old { node = follower.new.node } }
-{
-    match look {
-        Look::Hit { .. } => None,
-        Look::Miss => follower.begin_ask(key),
-    }
-}
-
-/// The answer of an item that is held, or an ask on its key.
-fn look_and_open(
-    follower: &mut Follower,
-    schema: &Schema,
-    query: &Query,
-    floor: u64,
-) -> Result<FirstLook, OutOfMemory>
-    requires { IsSome (served_at (query_shard query.now) follower.old.node.served) }
-    ensures looks { IfOk result (λ first. LooksTrue (types_of schema.now) (wanted query.now floor) first.look first.ask follower.old follower.new) }
-    ensures err { OnErr result (follower.new ≡ follower.old) }
-{
-    let look = follower.look(schema, query, floor)?;
-    let ask = open_ask(follower, &look, query.key());
-    Ok(FirstLook { look, ask })
-}
-
-fn look_first(
-    follower: &mut Follower,
-    schema: &Schema,
-    query: &Query,
-    floor: u64,
-) -> Result<FirstLook, OutOfMemory>
-    requires { IsSome (served_at (query_shard query.now) follower.old.node.served) }
-    ensures looks { IfOk result (λ first.
-        FollowerDoes (LooksTrue (types_of schema.now) (wanted query.now floor) first.look first.ask) follower.old follower.new) }
-    ensures err { OnErr result (follower.new ≡ follower.old) }
-{
-    followers_are_true(follower);
-    let first = look_and_open(follower, schema, query, floor);
-    followers_are_true(follower);
-    first
-}
 
 fn look_at(
     followers: &mut [Named<Follower>],
@@ -110,24 +55,6 @@ fn look_at(
     look_first(&mut followers[place].node, schema, query, floor)
 }
 
-/// Opens an ask on the key without a look.
-fn open_at_once(follower: &mut Follower, key: Key) -> Option<AskNo>
-    requires { IsSome (served_at (key_shard key) follower.old.node.served) }
-    ensures { AsksAtOnce key result follower.old follower.new }
-{
-    follower.begin_ask(key)
-}
-
-fn open_true(follower: &mut Follower, key: Key) -> Option<AskNo>
-    requires { IsSome (served_at (key_shard key) follower.old.node.served) }
-    ensures { FollowerDoes (AsksAtOnce key result) follower.old follower.new }
-{
-    followers_are_true(follower);
-    let ask = open_at_once(follower, key);
-    followers_are_true(follower);
-    ask
-}
-
 fn open_at(followers: &mut [Named<Follower>], name: NodeName, query: &Query) -> Option<AskNo>
     requires there { HasNode name followers.old }
     requires serves { NodeIs name (λ f. IsSome (served_at (query_shard query.now) f.node.served)) followers.old }
@@ -135,33 +62,6 @@ fn open_at(followers: &mut [Named<Follower>], name: NodeName, query: &Query) -> 
 {
     let place = named_place(followers, name);
     open_true(&mut followers[place].node, query.key())
-}
-
-fn ask_leader<K: Keeper>(
-    alloc: Global,
-    leader: &mut Leader,
-    store: &mut StoreNode,
-    keepers: &mut K,
-    schema: &Schema,
-    query: &Query,
-    floor: u64,
-) -> Result<LeaderAnswer, StoreRefusal>
-    requires log { log_at (query_shard query.now) leader.old.served ≡ Some store.old.view.log }
-    requires keeper { IsStoreOf K.TELLS (K.state keepers.old).told store.old }
-    ensures given { IfOk result (λ given. LeaderDoes (λ from to. GivesAnswer (asked_read (types_of schema.now) from query.now floor) store.old given to
-        (K.state keepers.old) (K.state keepers.new)) leader.old leader.new) }
-    ensures legal { IfOk result (IsLegalAt (types_of schema.now) query.now floor) }
-    ensures err { OnErr result (leader.new ≡ leader.old) }
-    ensures refused { IfErr result IsOfReads }
-    ensures same { store.new ≡ store.old }
-    ensures tables { KeepsTables K.TELLS (K.state keepers.old) (K.state keepers.new) }
-    ensures logs { LogsGrow K.TELLS (K.state keepers.old).told (K.state keepers.new).told }
-    ensures calls { CallsKeeper StoreRefusal.KeeperFault (K.state keepers.old) (K.state keepers.new) result }
-{
-    leaders_are_true(leader);
-    let given = leader.answer(alloc, store, keepers, schema, query, floor);
-    leaders_are_true(leader);
-    given
 }
 
 fn ask_at<K: Keeper>(
@@ -199,27 +99,6 @@ fn ask_at<K: Keeper>(
     ask_leader(alloc, leader, store, keepers, &config.schema, query, floor)
 }
 
-fn keep_fill(
-    follower: &mut Follower,
-    schema: &Schema,
-    query: &Query,
-    ask: Option<AskNo>,
-    fill: Fill,
-) -> Result<(Answer, Kept), OutOfMemory>
-    requires key { fill.key ≡ query_key query.now }
-    requires decides { content_decides (types_of schema.now) fill.content query.now ≡ true }
-    requires log { log_at (query_shard query.now) follower.old.node.served ≡ Some fill.note.log }
-    requires ask { IfSome ask (λ number. IfSome (open_ask_at number follower.old.node.asks) (λ a. a.key ≡ query_key query.now)) }
-    ensures keeps { IfOk result (λ r. FollowerDoes (KeepsFill (types_of schema.now) query.now (taken_fill ask fill r.0 r.1)) follower.old follower.new) }
-    ensures err { OnErr result (FollowerDoes (EndsAsk ask) follower.old follower.new) }
-    ensures legal { IfOk result (λ r. ViewAnswers (types_of schema.now) fill.note query.now r.0 fill.version) }
-{
-    followers_are_true(follower);
-    let kept = follower.take_fill(schema, ask, query, fill);
-    followers_are_true(follower);
-    kept
-}
-
 fn keep_at(
     followers: &mut [Named<Follower>],
     schema: &Schema,
@@ -240,23 +119,6 @@ fn keep_at(
 {
     let place = named_place(followers, name);
     keep_fill(&mut followers[place].node, schema, query, ask, fill)
-}
-
-/// Ends the ask, where there is one.
-fn end_given(follower: &mut Follower, ask: Option<AskNo>)
-    ensures { EndsAsk ask follower.old follower.new }
-{
-    if let Some(ask) = ask {
-        follower.end_ask(ask);
-    }
-}
-
-fn end_open_ask(follower: &mut Follower, ask: Option<AskNo>)
-    ensures { FollowerDoes (EndsAsk ask) follower.old follower.new }
-{
-    followers_are_true(follower);
-    end_given(follower, ask);
-    followers_are_true(follower);
 }
 
 fn end_at(followers: &mut [Named<Follower>], name: NodeName, ask: Option<AskNo>)

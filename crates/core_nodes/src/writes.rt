@@ -9,26 +9,26 @@ ghost use Rattle.core_model.specs.Serving.{IsFollowerFor, IsLeaderIn};
 ghost use Rattle.core_model.specs.Stores.{AreStoresOf, master_of, master_store};
 ghost use Rattle.core_model.specs.Writes.{AppliesTo, IsSeenEntry};
 ghost use Rattle.core_nodes.specs.MasterWrites.{asked_of_master};
-ghost use Rattle.core_nodes.specs.Stages.{FollowerDoes, LeaderDoes, NodeIs, taken_by};
-ghost use Rattle.graph_model.specs.Soundness.{IsSoundOf, is_client};
+ghost use Rattle.core_nodes.specs.Stages.{NodeIs, taken_by};
+ghost use Rattle.graph_model.specs.Soundness.{is_client};
 ghost use Rattle.graph_model.specs.Told.{WhereTold};
 ghost use Rattle.leader_tier.specs.TakenWrites.{TakesWritten, taken_entry};
+ghost use Rattle.node_stages.specs.Stages.{FollowerDoes, LeaderDoes};
 ghost use Rattle.served_shards.specs.Served.{log_at};
 ghost use Rattle.shard_log.specs.View.{as_note};
 ghost use Rattle.shard_tables.specs.StoreView.{Store as StoreSeen};
-ghost use Rattle.shard_tables.specs.Stores.{IsStoreOf};
-ghost use Rattle.shard_tables.specs.WriteDone.{StoreGains, WriteDone, asked_at};
+ghost use Rattle.shard_tables.specs.WriteDone.{WriteDone};
 ghost use Rattle.shard_tables.specs.Written.{LiesOn, StandsIn};
-ghost use Rattle.shard_tables.specs.declared.store.StoreRole.TheVariants.{Master};
 ghost use Rattle.tao_base.specs.Writes.{ChangesType, write_shard};
 ghost use Rattle.tao_schema.specs.Schema.{types_of};
 
 use crate::fleet::Fleet;
 use crate::stores::region_store;
 use core_model::{Named, master_of, masters_are_regions, named_place, serves_in_turn, store_place};
-use follower_cache::{Follower, followers_are_true};
-use leader_tier::{Leader, leaders_are_true};
+use follower_cache::Follower;
+use leader_tier::Leader;
 use node_name::NodeName;
+use node_stages::{apply_of, commit_of};
 use shard_log::Note;
 use shard_tables::{StoreNode, StoreRefusal, Wrote, inverses_match};
 use std::alloc::Global;
@@ -36,36 +36,6 @@ use tao_base::{Entry, Origin, Write};
 use tao_keeper::Keeper;
 use tao_schema::Schema;
 use topology::Config;
-
-/// Makes the write at the leader and its store. A leader that stands in for the preferred one stays as it is.
-fn commit_of<K: Keeper>(
-    alloc: Global,
-    leader: &mut Leader,
-    preferred: bool,
-    store: &mut StoreNode,
-    keepers: &mut K,
-    schema: &Schema,
-    origin: Origin,
-    write: &Write,
-) -> Result<Wrote, StoreRefusal>
-    requires log { OnTrue preferred (log_at store.old.name.shard leader.old.served ≡ Some store.old.view.log) }
-    requires master { store.old.role ≡ Master }
-    requires keeper { IsStoreOf K.TELLS (K.state keepers.old).told store.old }
-    requires client { IsTrue (is_client origin) }
-    requires here { write_shard write.now ≡ store.old.name.shard }
-    requires changes { ChangesType (types_of schema.now) write.now }
-    requires sound { WhereTold K.TELLS (IsSoundOf (types_of schema.now) store.old.name.shard ((K.state keepers.old).told store.old.name).log) }
-    ensures node { LeaderDoes (TakesWritten (types_of schema.now) store.old.name.shard (taken_entry preferred result) (as_note store.new.view))
-        leader.old leader.new }
-    ensures done { WriteDone K.TELLS store.old.name (asked_at (types_of schema.now) (K.state keepers.old).told store.old origin write.now)
-        (K.state keepers.old) (K.state keepers.new) result }
-    ensures store { StoreGains K.TELLS (K.state keepers.new).told store.old store.new result }
-{
-    leaders_are_true(leader);
-    let wrote = leader.write(alloc, preferred, store, keepers, schema, origin, write);
-    leaders_are_true(leader);
-    wrote
-}
 
 /// Makes the write at the leader of that name and the shard's store.
 fn commit_at<K: Keeper>(
@@ -116,18 +86,6 @@ fn commit_at<K: Keeper>(
         origin,
         write,
     )
-}
-
-/// Applies the entry at the follower.
-fn apply_of(follower: &mut Follower, schema: &Schema, shard: u16, entry: &Entry, note: Note)
-    requires log { log_at shard follower.old.node.served ≡ Some note.log }
-    requires stands { StandsIn note entry.now }
-    requires here { LiesOn note shard entry.now }
-    ensures { FollowerDoes (AppliesTo (types_of schema.now) shard entry.now note) follower.old follower.new }
-{
-    followers_are_true(follower);
-    follower.apply_entry(schema, shard, entry, note);
-    followers_are_true(follower);
 }
 
 /// Applies the entry at the follower of that name.

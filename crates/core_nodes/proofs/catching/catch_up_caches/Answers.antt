@@ -1,8 +1,9 @@
 use Rattle.std.proofs.Common.{◌+◌, ◌<◌, ◌≤◌, length, refl, subst, sym, ◌∙◌, arith}
 use Rattle.std.proofs.lemmas.Result.{err_from_is_err_and}
 use Rattle.core_model.specs.Pens.{pens_of}
+use Rattle.node_stages.specs.Caches.{follower_node, follower_refills, leader_node, leader_refills}
 use Rattle.core_nodes.specs.Repairs.{outside}
-use Rattle.core_nodes.specs.Settling.{StopsCatchUp, follower_node, follower_refills, is_turn, leader_node, leader_refills}
+use Rattle.core_nodes.specs.Settling.{StopsCatchUp, is_turn}
 use Rattle.core_nodes.proofs.CachesLemmas.{all_up_caught, had_turn, no_region, none_goes, region_caught, region_on, some_on, still_caches}
 use Rattle.core_nodes.proofs.CatchSteps.{caches_now, caught_then, lengths_now, on_then, stores_now}
 use Rattle.core_nodes.proofs.SettleLemmas.{reads_none, reads_on, stops_later}

@@ -1,8 +1,9 @@
 use Rattle.std.proofs.Common.{◌≡◌}
 use Rattle.graph_model.specs.Told.{WhereTold}
 use Rattle.core_model.specs.Pens.{pens_of}
+use Rattle.node_stages.specs.Caches.{follower_node, follower_refills, leader_node, leader_refills}
 use Rattle.core_nodes.specs.Repairs.{outside}
-use Rattle.core_nodes.specs.Settling.{CachesGoOn, HaveCaughtUp, OnlyReads, follower_node, follower_refills, leader_node, leader_refills, seen_logs}
+use Rattle.core_nodes.specs.Settling.{CachesGoOn, HaveCaughtUp, OnlyReads, seen_logs}
 use Rattle.core_nodes.proofs.CachesLemmas.{had_turn}
 use Rattle.core_nodes.proofs.catching.catch_up_caches.Given as goal
 

@@ -120,4 +120,4 @@ returns-clause-caught g c told =
     (subst (λ n. IsAtFirstStores before c.args.region n now) all (was.ends told)) in
     subst (λ r. CatchesUp s before r (g.C.Cache.node c.args.cache.now.node) now) c.requires.region
     (catches_up g.K.Keeper.TELLS s before c.args.stores.now name c.requires.stores there (g.C.Cache.node c.args.cache.now.node) now told
-    c.keys_differ.ensures was.goes.goes ends)
+    c.is_true.ensures.apart was.goes.goes ends)

@@ -1,5 +1,6 @@
 use Rattle.core_model.specs.Pens.{pens_of}
-use Rattle.core_nodes.specs.Settling.{follower_node, follower_refills, is_turn}
+use Rattle.node_stages.specs.Caches.{follower_node, follower_refills}
+use Rattle.core_nodes.specs.Settling.{is_turn}
 use Rattle.core_nodes.proofs.CachesLemmas.{none_goes}
 use Rattle.core_nodes.proofs.CatchSteps.{caches_now, lengths_now, stores_now}
 use Rattle.core_nodes.proofs.catching.catch_up_region.Goals as goal

@@ -1,5 +1,5 @@
 use Rattle.core_model.specs.Messages.{TakesRefill}
-use Rattle.core_nodes.specs.Stages.{FollowerDoes}
+use Rattle.node_stages.specs.Stages.{FollowerDoes}
 use Rattle.core_model.proofs.NamedNodes.{changes_at}
 use Rattle.core_nodes.proofs.deliveries.refill_at.Goals as goal
 

@@ -14,7 +14,7 @@ use Rattle.write_model.specs.MergeLaws.{MayBeMerged}
 use Rattle.core_model.proofs.NamedNodes.{changes_at}
 use Rattle.core_model.specs.Jobs.{far_shard, job_on}
 use Rattle.core_model.specs.Stores.{master_store}
-use Rattle.core_nodes.specs.Stages.{LeaderDoes}
+use Rattle.node_stages.specs.Stages.{LeaderDoes}
 use Rattle.core_nodes.proofs.CommitLemmas.{Written, of_master}
 use Rattle.core_nodes.proofs.JobLemmas.{may_be_merged}
 use Rattle.core_nodes.proofs.MasterStores.{IsMasterRead, master_read, pen_is, pens_rise, rest_again, stores_left}

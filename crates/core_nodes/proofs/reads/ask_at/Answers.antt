@@ -10,7 +10,7 @@ use Rattle.topology.specs.Config.{Settings}
 use Rattle.core_model.specs.Pens.{store_in}
 use Rattle.core_model.specs.Reads.{store_calls, wanted}
 use Rattle.core_model.specs.Stores.{region_store}
-use Rattle.core_nodes.specs.Stages.{LeaderDoes}
+use Rattle.node_stages.specs.Stages.{LeaderDoes}
 use Rattle.core_nodes.proofs.AskedAt.{answers_at}
 use Rattle.core_model.proofs.NamedNodes.{rests_err}
 use Rattle.core_nodes.proofs.NodesOfNames.{holds_at}

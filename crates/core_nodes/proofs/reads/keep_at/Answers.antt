@@ -7,7 +7,7 @@ use Rattle.tao_base.specs.Queries.{query_key, query_shard}
 use Rattle.tao_base.specs.declared.query.Answer.{Answer}
 use Rattle.tao_schema.specs.Schema.{types_of}
 use Rattle.core_model.specs.Reads.{EndsAsk, KeepsFill, taken_fill}
-use Rattle.core_nodes.specs.Stages.{FollowerDoes}
+use Rattle.node_stages.specs.Stages.{FollowerDoes}
 use Rattle.core_model.proofs.NamedNodes.{changes_err, changes_ok}
 use Rattle.core_nodes.proofs.NodesOfNames.{holds_at}
 use Rattle.core_nodes.proofs.reads.keep_at.Goals as goal

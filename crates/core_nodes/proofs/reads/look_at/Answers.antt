@@ -4,8 +4,8 @@ use Rattle.served_shards.specs.Served.{served_at}
 use Rattle.tao_base.specs.Queries.{query_shard}
 use Rattle.tao_schema.specs.Schema.{types_of}
 use Rattle.core_model.specs.Reads.{wanted}
-use Rattle.core_nodes.specs.Stages.{FollowerDoes, LooksTrue}
-use Rattle.core_nodes.specs.declared.reads.FirstLook.{FirstLook}
+use Rattle.node_stages.specs.Stages.{FollowerDoes, LooksTrue}
+use Rattle.node_stages.specs.declared.reads.FirstLook.{FirstLook}
 use Rattle.core_model.proofs.NamedNodes.{changes_ok, rests_err}
 use Rattle.core_nodes.proofs.NodesOfNames.{holds_at}
 use Rattle.core_nodes.proofs.reads.look_at.Goals as goal

@@ -4,7 +4,7 @@ use Rattle.served_shards.specs.Served.{served_at}
 use Rattle.tao_base.specs.Keys.{key_shard}
 use Rattle.tao_base.specs.Queries.{query_key, query_shard}
 use Rattle.core_model.specs.Reads.{AsksAtOnce}
-use Rattle.core_nodes.specs.Stages.{FollowerDoes}
+use Rattle.node_stages.specs.Stages.{FollowerDoes}
 use Rattle.core_model.proofs.NamedNodes.{changes_at}
 use Rattle.core_nodes.proofs.NodesOfNames.{holds_at}
 use Rattle.core_nodes.proofs.reads.open_at.Goals as goal

@@ -3,7 +3,7 @@ use Rattle.follower_cache.specs.Seen.{FollowerState}
 use Rattle.served_shards.specs.Served.{log_at}
 use Rattle.tao_schema.specs.Schema.{types_of}
 use Rattle.core_model.specs.Writes.{AppliesTo}
-use Rattle.core_nodes.specs.Stages.{FollowerDoes}
+use Rattle.node_stages.specs.Stages.{FollowerDoes}
 use Rattle.core_model.proofs.NamedNodes.{changes_at}
 use Rattle.core_nodes.proofs.NodesOfNames.{holds_at}
 use Rattle.core_nodes.proofs.writes.apply_at.Goals as goal

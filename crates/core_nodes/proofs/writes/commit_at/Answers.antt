@@ -13,7 +13,7 @@ use Rattle.tao_schema.specs.Schema.{types_of}
 use Rattle.topology.specs.Config.{Settings}
 use Rattle.core_model.proofs.NamedNodes.{changes_at}
 use Rattle.core_model.specs.Stores.{master_store}
-use Rattle.core_nodes.specs.Stages.{LeaderDoes}
+use Rattle.node_stages.specs.Stages.{LeaderDoes}
 use Rattle.core_nodes.proofs.CommitLemmas.{Written, of_master}
 use Rattle.core_nodes.proofs.KeptCommits.{commit_keeps}
 use Rattle.core_nodes.proofs.MasterStores.{IsMasterRead, master_read, pen_is, pens_rise, rest_again, stores_left}

@@ -4,7 +4,8 @@ use Rattle.served_shards.specs.Served.{log_at}
 use Rattle.tao_schema.specs.Schema.{types_of}
 use Rattle.core_model.specs.Fleet.{ChangesNode, Fleet, HasNode}
 use Rattle.core_model.specs.Writes.{AppliesTo}
-use Rattle.core_nodes.specs.Stages.{FollowerDoes, NodeIs}
+use Rattle.node_stages.specs.Stages.{FollowerDoes}
+use Rattle.core_nodes.specs.Stages.{NodeIs}
 use Rattle.core_nodes.proofs.CommitLemmas.{apply_lent}
 use Rattle.core_nodes.proofs.FleetLemmas.{follower_here}
 use Rattle.core_nodes.proofs.ReadLemmas.{follower_log}

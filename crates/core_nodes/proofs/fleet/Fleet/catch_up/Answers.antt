@@ -8,7 +8,8 @@ use Rattle.core_model.specs.Fleet.{Fleet}
 use Rattle.core_model.specs.Pens.{pens_of}
 use Rattle.core_model.specs.Stores.{AreStoresOf}
 use Rattle.core_model.specs.declared.named.Named.{Named}
-use Rattle.core_nodes.specs.Settling.{AllCatchUp, AreCaches, CachesGoOn, HaveCaughtUp, follower_node, follower_refills, leader_node, leader_refills, seen_logs}
+use Rattle.node_stages.specs.Caches.{follower_node, follower_refills, leader_node, leader_refills}
+use Rattle.core_nodes.specs.Settling.{AllCatchUp, AreCaches, CachesGoOn, HaveCaughtUp, seen_logs}
 use Rattle.core_nodes.proofs.FleetSettles.{LendsAll, SettleStep, after_both_ok, all_after, followers_are, leaders_are, settle_catches, settle_step}
 use Rattle.core_nodes.proofs.fleet.Fleet.catch_up.Goals as goal
 

@@ -1,0 +1,3 @@
+pub mod NotesSeen
+pub mod Queueing
+pub mod RestLemmas

@@ -1,0 +1,4 @@
+pub mod Caches
+pub mod Catching
+pub mod Stages
+pub mod Standing

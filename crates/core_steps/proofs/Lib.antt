@@ -1,5 +1,6 @@
 pub mod LastVersions
 pub mod LeaderNames
+pub mod LinkLemmas
 pub mod MergeLemmas
 pub mod PostsLemmas
 pub mod ReadLemmas

@@ -25,7 +25,8 @@ use Rattle.core_nodes.proofs.GrowingLemmas.{becomes_stores}
 use Rattle.core_steps.specs.MergeAnswers.{RefusesMerge, merge_answer, why_late}
 use Rattle.core_steps.specs.OtherEnds.{Crosses, FailsToCross, GoesBetween, JobWay, LeavesJob}
 use Rattle.core_steps.specs.OtherEnds.{MayComeBack, MergesOver, TakesMerge, master_leader, merging_leader}
-use Rattle.core_steps.specs.Posting.{ChangesNoNode, Posting}
+use Rattle.core_steps.specs.Posting.{ChangesNoNode}
+use Rattle.core_steps.specs.World.{World}
 use Rattle.core_steps.specs.Routes.{FailsCarry}
 
 -- ---- carries between two nodes that may be one
@@ -58,19 +59,19 @@ can_merge tells s tables shard (Some job) given owed = record { given = given; o
 
 -- ---- a merge over the link
 
-module _ (tells : Bool) (s : Settings) (way : JobWay) (old new : Posting) (mid : LinkShown) (to : NodeName) (to_is : to ≡ merging_leader old.states way)
-    (there : Crosses way.leader to old.scene.link mid) where
+module _ (tells : Bool) (s : Settings) (way : JobWay) (old new : World) (mid : LinkShown) (to : NodeName) (to_is : to ≡ merging_leader old.states way)
+    (there : Crosses way.leader to old.link mid) where
   -- how the carry back went, after a merge that was refused
-  may_come_back : (back : Result ⊤ LinkFailed) → OnOk back (Crosses to way.leader mid new.scene.link)
-      → OnErr back (FailsToCross to way.leader mid new.scene.link)
-      → MayComeBack way.leader (merging_leader old.states way) old.scene.link new.scene.link
-  may_come_back (Ok done) crosses fails = subst (λ n. MayComeBack way.leader n old.scene.link new.scene.link) to_is
-      (inl (goes_between way.leader to old.scene.link mid new.scene.link there crosses))
-  may_come_back (Err lost) crosses fails = subst (λ n. MayComeBack way.leader n old.scene.link new.scene.link) to_is
-      (inr (fails_back way.leader to old.scene.link mid new.scene.link there fails))
+  may_come_back : (back : Result ⊤ LinkFailed) → OnOk back (Crosses to way.leader mid new.link)
+      → OnErr back (FailsToCross to way.leader mid new.link)
+      → MayComeBack way.leader (merging_leader old.states way) old.link new.link
+  may_come_back (Ok done) crosses fails = subst (λ n. MayComeBack way.leader n old.link new.link) to_is
+      (inl (goes_between way.leader to old.link mid new.link there crosses))
+  may_come_back (Err lost) crosses fails = subst (λ n. MayComeBack way.leader n old.link new.link) to_is
+      (inr (fails_back way.leader to old.link mid new.link there fails))
 
-  late_merge : (r : StoreRefusal) → RefusesMerge tells s way.job r old.scene.keepers new.scene.keepers → ChangesNoNode tells old new
-      → MayComeBack way.leader (merging_leader old.states way) old.scene.link new.scene.link → LeavesJob tells s way (Scheduled (why_late r) None) old new
+  late_merge : (r : StoreRefusal) → RefusesMerge tells s way.job r old.keepers new.keepers → ChangesNoNode tells old new
+      → MayComeBack way.leader (merging_leader old.states way) old.link new.link → LeavesJob tells s way (Scheduled (why_late r) None) old new
   late_merge KeeperFault cause same back = (cause, same, back)
   late_merge (LogFull count) cause same back = ((λ told. (count, cause told)), same, back)
   late_merge OutOfMemory cause same back = (same, back)
@@ -79,32 +80,30 @@ module _ (tells : Bool) (s : Settings) (way : JobWay) (old new : Posting) (mid :
   late_merge (StampFull number) cause same back = absurd cause
 
   answered : (merged : Result Wrote StoreRefusal) (back : Result ⊤ LinkFailed) → IfOk merged (λ wrote. TakesMerge tells s way wrote old new)
-      → IfErr merged (λ r. RefusesMerge tells s way.job r old.scene.keepers new.scene.keepers) → OnErr merged (new.scene.fleet ≡ old.scene.fleet)
-      → OnErr merged (new.inboxes ≡ old.inboxes) → OnErr merged (KeepsTables tells old.scene.keepers new.scene.keepers)
-      → OnOk back (Crosses to way.leader mid new.scene.link) → OnErr back (FailsToCross to way.leader mid new.scene.link)
+      → IfErr merged (λ r. RefusesMerge tells s way.job r old.keepers new.keepers) → OnErr merged (ChangesNoNode tells old new)
+      → OnOk back (Crosses to way.leader mid new.link) → OnErr back (FailsToCross to way.leader mid new.link)
       → MergesOver tells s way (merge_answer merged back) old new
-  answered (Ok wrote) (Ok done) takes refuses fleet inboxes tables crosses fails = (
+  answered (Ok wrote) (Ok done) takes refuses same crosses fails = (
     takes,
-    subst (λ n. GoesBetween way.leader n old.scene.link new.scene.link) to_is
-        (goes_between way.leader to old.scene.link mid new.scene.link there crosses),
+    subst (λ n. GoesBetween way.leader n old.link new.link) to_is
+        (goes_between way.leader to old.link mid new.link there crosses),
   )
-  answered (Ok wrote) (Err lost) takes refuses fleet inboxes tables crosses fails =
+  answered (Ok wrote) (Err lost) takes refuses same crosses fails =
       let back : (way.leader ≢ merging_leader old.states way)
-      × FailsCarry (merging_leader old.states way) way.leader (after_carry old.scene.link) new.scene.link =
-      subst (λ n. (way.leader ≢ n) × FailsCarry n way.leader (after_carry old.scene.link) new.scene.link) to_is
-      (fails_back way.leader to old.scene.link mid new.scene.link there fails) in
+      × FailsCarry (merging_leader old.states way) way.leader (after_carry old.link) new.link =
+      subst (λ n. (way.leader ≢ n) × FailsCarry n way.leader (after_carry old.link) new.link) to_is
+      (fails_back way.leader to old.link mid new.link there fails) in
       (back.0, back.1, takes)
-  answered (Err r) back takes refuses fleet inboxes tables crosses fails =
-      late_merge r refuses (record { fleet = fleet; inboxes = inboxes; tables = tables }) (may_come_back back crosses fails)
+  answered (Err r) back takes refuses same crosses fails =
+      late_merge r refuses same (may_come_back back crosses fails)
 
   pub merges_over : (result : Result Wrote Late) (merged : Result Wrote StoreRefusal) (back : Result ⊤ LinkFailed) → result ≡ merge_answer merged back
       → IfOk merged (λ wrote. TakesMerge tells s way wrote old new)
-      → IfErr merged (λ r. RefusesMerge tells s way.job r old.scene.keepers new.scene.keepers) → OnErr merged (new.scene.fleet ≡ old.scene.fleet)
-      → OnErr merged (new.inboxes ≡ old.inboxes) → OnErr merged (KeepsTables tells old.scene.keepers new.scene.keepers)
-      → OnOk back (Crosses to way.leader mid new.scene.link) → OnErr back (FailsToCross to way.leader mid new.scene.link)
+      → IfErr merged (λ r. RefusesMerge tells s way.job r old.keepers new.keepers) → OnErr merged (ChangesNoNode tells old new)
+      → OnOk back (Crosses to way.leader mid new.link) → OnErr back (FailsToCross to way.leader mid new.link)
       → MergesOver tells s way result old new
-  merges_over result merged back is takes refuses fleet inboxes tables crosses fails =
-      subst (λ r. MergesOver tells s way r old new) (sym is) (answered merged back takes refuses fleet inboxes tables crosses fails)
+  merges_over result merged back is takes refuses same crosses fails =
+      subst (λ r. MergesOver tells s way r old new) (sym is) (answered merged back takes refuses same crosses fails)
 
 -- ---- the end
 

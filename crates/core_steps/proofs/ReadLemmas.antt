@@ -10,6 +10,7 @@ use Rattle.core_model.specs.Fleet.{Fleet}
 use Rattle.core_model.specs.Pens.{pens_of, view_or_none}
 use Rattle.core_model.specs.Stores.{AreStoresOf, HaveMasterRegions, IsConfiguredStore, master_log, master_store, store_place}
 use Rattle.core_nodes.proofs.FleetLemmas.{goes_self}
+use Rattle.core_nodes.specs.Settling.{IsLaterLink}
 use Rattle.follower_cache.specs.Seen.{FollowerState}
 use Rattle.graph_model.specs.Legal.{IsLegal}
 use Rattle.graph_model.specs.Told.{WhereTold}
@@ -25,10 +26,9 @@ use Rattle.tao_base.specs.declared.query.Answer.{Answer}
 use Rattle.tao_base.specs.declared.query.Query.{Query}
 use Rattle.tao_keeper.specs.KeeperState.{IsLater, KeeperState, KeepsTables}
 use Rattle.tao_keeper.specs.Table.{Tables}
-use Rattle.tao_link.specs.Shown.{LinkShown}
 use Rattle.topology.specs.Config.{Settings}
 use Rattle.core_steps.specs.ReadSteps.{ReadsOn}
-use Rattle.core_steps.specs.Routes.{Scene, scene}
+use Rattle.core_steps.specs.World.{World}
 use Rattle.core_steps.proofs.ReachLemmas.{consistent_on}
 
 -- ---- one step after another
@@ -48,25 +48,31 @@ goes_trans a b c p q = record {
 }
 
 -- a step that leaves the nodes goes on
-pub on_same : (tells : Bool) (s : Settings) (old : Scene) (fleet : Fleet) (keepers : KeeperState) (link : LinkShown) → fleet ≡ old.fleet
-    → IsConsistent tells s keepers.told fleet → KeepsTables tells old.keepers keepers → IsLater old.keepers keepers
-    → ReadsOn tells s old (scene fleet keepers link)
-on_same tells s old fleet keepers link same consistent tables later = record {
+pub on_same : (tells : Bool) (s : Settings) (old new : World) → new.fleet ≡ old.fleet → new.inboxes ≡ old.inboxes → new.states ≡ old.states
+    → IsConsistent tells s new.keepers.told new.fleet → KeepsTables tells old.keepers new.keepers → IsLater old.keepers new.keepers
+    → IsLaterLink old.link new.link → ReadsOn tells s old new
+on_same tells s old new same inboxes states consistent tables later link = record {
   consistent = consistent;
   goes = subst (GoesOn old.fleet) (sym same) (goes_self old.fleet);
+  inboxes = inboxes;
+  states = states;
   tables = tables;
   later = later;
+  link = link;
 }
 
 -- and the step goes on to there, where only a follower changes after it
-pub on_after : (tells : Bool) (s : Settings) (old mid : Scene) (end : Fleet) → ReadsOn tells s old mid → end ≡ record mid.fleet { followers = end.followers }
+pub on_after : (tells : Bool) (s : Settings) (old mid : World) (end : Fleet) → ReadsOn tells s old mid → end ≡ record mid.fleet { followers = end.followers }
     → IsFleetOf s end → GoesOn mid.fleet end → (HaveReached mid.keepers.told mid.fleet → HaveReached mid.keepers.told end)
-    → ReadsOn tells s old (scene end mid.keepers mid.link)
+    → ReadsOn tells s old (record mid { fleet = end })
 on_after tells s old mid end on rest fleet goes reaches = record {
   consistent = consistent_on tells s mid.keepers.told mid.fleet end rest fleet reaches on.consistent;
   goes = goes_trans old.fleet mid.fleet end on.goes goes;
+  inboxes = on.inboxes;
+  states = on.states;
   tables = on.tables;
   later = on.later;
+  link = on.link;
 }
 
 -- ---- the log of a shard is what its pen has seen

@@ -8,7 +8,6 @@ use Rattle.shard_tables.specs.Written.{StandsIn, WriteAnswers}
 use Rattle.shard_tables.specs.declared.refusal.StoreRefusal.{StoreRefusal}
 use Rattle.shard_tables.specs.declared.refusal.StoreRefusal.TheVariants as store
 use Rattle.tao_base.specs.declared.entry.Entry.{Entry}
-use Rattle.tao_keeper.specs.KeeperState.{KeepsTables}
 use Rattle.topology.specs.Config.{Settings}
 use Rattle.topology.specs.States.{NodeStates}
 use Rattle.core_mail.specs.Inboxes.{Inboxes, Sends, entry_message}
@@ -16,9 +15,10 @@ use Rattle.core_model.specs.Messages.{told_by}
 use Rattle.core_model.specs.Pens.{IsSeen, Pens}
 use Rattle.core_model.specs.Writes.{IsSeenEntry}
 use Rattle.node_name.specs.declared.NodeName.{NodeName}
-use Rattle.core_steps.specs.Posting.{ChangesNoNode, Posting, TellsOfNew}
+use Rattle.core_steps.specs.Posting.{TellsOfNew}
+use Rattle.core_steps.specs.World.{World}
 use Rattle.core_steps.specs.Replies.{refused_as}
-use Rattle.core_steps.specs.Writes.{AuthoredWrite, RefusesCommit, asked_of_log, sent_write}
+use Rattle.core_steps.specs.Writes.{AuthoredWrite, RefusesCommit, RefusesThere, asked_of_log, sent_write}
 use Rattle.core_steps.specs.declared.routes.Route.{Route}
 
 -- ---- committed
@@ -45,16 +45,11 @@ told_new states leader shard entry e note old new is sends =
 
 -- ---- refused
 
--- what the store refused, with nothing changed
-module _ (tells : Bool) (s : Settings) (route : Route) (call : AuthoredWrite) (old new : Posting)
-    (stays : KeepsTables tells old.scene.keepers new.scene.keepers)
-    (fleet : new.scene.fleet ≡ old.scene.fleet) (inboxes : new.inboxes ≡ old.inboxes) where
-  same : ChangesNoNode tells old new
-  same = record { fleet = fleet; inboxes = inboxes; tables = stays }
-
-  pub refused : (r : StoreRefusal) → WhereTold tells (WriteAnswers (asked_of_log s old.scene.keepers call) (Err r))
-      → (r ≡ store.KeeperFault → Rose old.scene.keepers.faults new.scene.keepers.faults)
-      → RefusesCommit tells s (sent_write route call) (refused_as new.scene.keepers.faults r) old new
+-- what the store refused after the way there, with nothing changed
+module _ (tells : Bool) (s : Settings) (route : Route) (call : AuthoredWrite) (old new : World) (same : RefusesThere tells old new) where
+  pub refused : (r : StoreRefusal) → WhereTold tells (WriteAnswers (asked_of_log s old.keepers call) (Err r))
+      → (r ≡ store.KeeperFault → Rose old.keepers.faults new.keepers.faults)
+      → RefusesCommit tells s (sent_write route call) (refused_as new.keepers.faults r) old new
   refused store.KeeperFault answer cause = ((refl, cause refl), same)
   refused store.OutOfMemory answer cause = (refl, same)
   refused (store.SeqReused position) answer cause = (answer, same)

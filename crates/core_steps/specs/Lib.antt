@@ -6,3 +6,4 @@ pub mod Reads
 pub mod Replies
 pub mod Routes
 pub mod Writes
+pub mod World

@@ -19,8 +19,9 @@ use Rattle.topology.specs.Config.{Settings}
 use Rattle.topology.specs.States.{NodeStates}
 use Rattle.write_plan.specs.declared.results.Late.{Late}
 use Rattle.write_plan.specs.declared.results.Late.TheVariants.{Scheduled, Refused}
-use Rattle.core_steps.specs.Posting.{ChangesNoNode, LeaderTakes, Posting, TellsOfNew}
+use Rattle.core_steps.specs.Posting.{ChangesNoNode, LeaderTakes, TellsOfNew}
 use Rattle.core_steps.specs.Routes.{FailsCarry, there_and_back}
+use Rattle.core_steps.specs.World.{World}
 use Rattle.core_steps.specs.declared.jobs.ToldEntry.{ToldEntry}
 
 -- the leader that the master's region of a shard prefers for it
@@ -59,26 +60,26 @@ MayComeBack from to old new = GoesBetween from to old new ⊎ ((from ≢ to) × 
 -- ---- the merge
 
 -- the job was merged, a step of the plain machine: the leader that merged it and the inboxes took what was written
-pub record TakesMerge (tells : Bool) (s : Settings) (way : JobWay) (wrote : Wrote) (old new : Posting) : Type 0 where
-  pub writes : WhereTold tells (WritesDueEntry s way.job wrote.entry old.scene.keepers new.scene.keepers)
-  pub leader : LeaderTakes s (merging_leader old.states way) (far_shard way.job.job) wrote.entry old.scene.fleet new.scene.fleet
-  pub followers : new.scene.fleet.followers ≡ old.scene.fleet.followers
+pub record TakesMerge (tells : Bool) (s : Settings) (way : JobWay) (wrote : Wrote) (old new : World) : Type 0 where
+  pub writes : WhereTold tells (WritesDueEntry s way.job wrote.entry old.keepers new.keepers)
+  pub leader : LeaderTakes s (merging_leader old.states way) (far_shard way.job.job) wrote.entry old.fleet new.fleet
+  pub followers : new.fleet.followers ≡ old.fleet.followers
   pub told : TellsOfNew old.states (merging_leader old.states way) (far_shard way.job.job) wrote.entry old.inboxes new.inboxes
   pub states : new.states ≡ old.states
 
 -- why a job was not merged, or its answer was lost, and what was written all the same
-abbrev pub LeavesJob : Bool → Settings → JobWay → Late → Posting → Posting → Type 0
+abbrev pub LeavesJob : Bool → Settings → JobWay → Late → World → World → Type 0
 LeavesJob tells s way (Scheduled NoServer None) old new = (s.shards ≤ far_shard way.job.job) × (new ≡ old)
 LeavesJob tells s way (Scheduled LinkFault None) old new = (way.leader ≢ merging_leader old.states way)
-    × FailsCarry way.leader (merging_leader old.states way) old.scene.link new.scene.link × ChangesNoNode tells old new
+    × FailsCarry way.leader (merging_leader old.states way) old.link new.link × ChangesNoNode tells old new
 LeavesJob tells s way (Scheduled LinkFault (Some wrote)) old new = (way.leader ≢ merging_leader old.states way)
-    × FailsCarry (merging_leader old.states way) way.leader (after_carry old.scene.link) new.scene.link × TakesMerge tells s way wrote old new
-LeavesJob tells s way (Scheduled KeeperFault None) old new = Rose old.scene.keepers.faults new.scene.keepers.faults × ChangesNoNode tells old new
-    × MayComeBack way.leader (merging_leader old.states way) old.scene.link new.scene.link
-LeavesJob tells s way (Scheduled LogFull None) old new = WhereTold tells ((count : ℕ) × FindsNoRoom s way.job count old.scene.keepers)
-    × ChangesNoNode tells old new × MayComeBack way.leader (merging_leader old.states way) old.scene.link new.scene.link
+    × FailsCarry (merging_leader old.states way) way.leader (after_carry old.link) new.link × TakesMerge tells s way wrote old new
+LeavesJob tells s way (Scheduled KeeperFault None) old new = Rose old.keepers.faults new.keepers.faults × ChangesNoNode tells old new
+    × MayComeBack way.leader (merging_leader old.states way) old.link new.link
+LeavesJob tells s way (Scheduled LogFull None) old new = WhereTold tells ((count : ℕ) × FindsNoRoom s way.job count old.keepers)
+    × ChangesNoNode tells old new × MayComeBack way.leader (merging_leader old.states way) old.link new.link
 LeavesJob tells s way (Scheduled Memory None) old new = ChangesNoNode tells old new
-    × MayComeBack way.leader (merging_leader old.states way) old.scene.link new.scene.link
+    × MayComeBack way.leader (merging_leader old.states way) old.link new.link
 LeavesJob tells s way (Scheduled NoServer (Some wrote)) old new = ⊥
 LeavesJob tells s way (Scheduled KeeperFault (Some wrote)) old new = ⊥
 LeavesJob tells s way (Scheduled LogFull (Some wrote)) old new = ⊥
@@ -86,9 +87,9 @@ LeavesJob tells s way (Scheduled Memory (Some wrote)) old new = ⊥
 LeavesJob tells s way (Refused reply) old new = ⊥
 
 -- what came of the stage `inverse`: the job was carried to the leader of the other shard, which merged it, and its answer back
-abbrev pub MergesOver : Bool → Settings → JobWay → Result Wrote Late → Posting → Posting → Type 0
+abbrev pub MergesOver : Bool → Settings → JobWay → Result Wrote Late → World → World → Type 0
 MergesOver tells s way (Ok wrote) old new =
-    TakesMerge tells s way wrote old new × GoesBetween way.leader (merging_leader old.states way) old.scene.link new.scene.link
+    TakesMerge tells s way wrote old new × GoesBetween way.leader (merging_leader old.states way) old.link new.link
 MergesOver tells s way (Err late) old new = LeavesJob tells s way late old new
 
 -- what was written at the other end, as far as that is known
@@ -105,15 +106,15 @@ StandsThere s job wrote stores =
 -- ---- the end
 
 -- nothing but what the keepers show has changed
-abbrev pub ChangesKeepers : Posting → Posting → Type 0
-ChangesKeepers old new = new ≡ record old { scene = record old.scene { keepers = new.scene.keepers } }
+abbrev pub ChangesKeepers : World → World → Type 0
+ChangesKeepers old new = new ≡ record old { keepers = new.keepers }
 
 -- what came of the stage `end`: a job that was merged was ended, a step of the plain machine, or the keeper failed, or memory was wanting
-abbrev pub EndsOver : Bool → Settings → ShardJob → Result ⊤ Late → Posting → Posting → Type 0
-EndsOver tells s j (Ok done) old new = WhereTold tells (EndsOwed s old.scene.keepers.told new.scene.keepers.told j) × ChangesKeepers old new
-EndsOver tells s j (Err (Scheduled KeeperFault None)) old new = Rose old.scene.keepers.faults new.scene.keepers.faults
-    × KeepsTables tells old.scene.keepers new.scene.keepers × ChangesKeepers old new
-EndsOver tells s j (Err (Scheduled Memory None)) old new = KeepsTables tells old.scene.keepers new.scene.keepers × ChangesKeepers old new
+abbrev pub EndsOver : Bool → Settings → ShardJob → Result ⊤ Late → World → World → Type 0
+EndsOver tells s j (Ok done) old new = WhereTold tells (EndsOwed s old.keepers.told new.keepers.told j) × ChangesKeepers old new
+EndsOver tells s j (Err (Scheduled KeeperFault None)) old new = Rose old.keepers.faults new.keepers.faults
+    × KeepsTables tells old.keepers new.keepers × ChangesKeepers old new
+EndsOver tells s j (Err (Scheduled Memory None)) old new = KeepsTables tells old.keepers new.keepers × ChangesKeepers old new
 EndsOver tells s j (Err late) old new = ⊥
 
 -- ---- what is told of both ends

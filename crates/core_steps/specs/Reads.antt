@@ -1,5 +1,5 @@
 -- What a read asks of a leader and of the master's store, and what its answer says of the log.
-use Rattle.std.specs.Prelude.{ℕ, ◌≡◌, ◌⊎◌, ◌≤◌, Bool, List, Some, slice_get}
+use Rattle.std.specs.Prelude.{ℕ, ◌≡◌, ◌≤◌, Bool, List, Some, slice_get}
 use Rattle.cache_items.specs.Look.{look_of}
 use Rattle.cache_items.specs.Node.{item_at}
 use Rattle.cache_items.specs.declared.look.Look.TheVariants.{Hit}
@@ -20,7 +20,8 @@ use Rattle.tao_base.specs.declared.query.Query.{Query}
 use Rattle.tao_keeper.specs.KeeperState.{KeeperState}
 use Rattle.tao_schema.specs.Schema.{types_of}
 use Rattle.topology.specs.Config.{Settings}
-use Rattle.core_steps.specs.Routes.{Scene, there_and_back}
+use Rattle.core_steps.specs.Routes.{there_and_back}
+use Rattle.core_steps.specs.World.{World}
 use Rattle.core_steps.specs.declared.routes.Route.{Route}
 
 -- the calls that a leader makes of its region's store of a shard
@@ -31,10 +32,14 @@ leader_calls leader stores before after = store_calls (region_of leader) stores 
 abbrev pub master_calls : Settings → Query → List StoreSeen → KeeperState → KeeperState → StoreCalls
 master_calls s query stores before after = store_calls (master_of s (query_shard query)) stores before after
 
--- the leader gave it, of an item of its own or of its region's store, by one carry there and one back
-pub record LeaderGives (types : EdgeTypes) (route : Route) (read : Wanted) (given : LeaderAnswer) (old new : Scene) : Type 0 where
-  pub asks : ChangesNode route.leader (LeaderAnswers types read given (leader_calls route.leader old.fleet.stores old.keepers new.keepers))
-      old.fleet.leaders new.fleet.leaders
+-- the leader answered of an item of its own or of its region's store
+abbrev pub AnswersAtLeader : EdgeTypes → NodeName → Wanted → LeaderAnswer → World → World → Type 0
+AnswersAtLeader types leader read given old new =
+    ChangesNode leader (LeaderAnswers types read given (leader_calls leader old.fleet.stores old.keepers new.keepers)) old.fleet.leaders new.fleet.leaders
+
+-- the leader gave it, by one carry there and one back
+pub record LeaderGives (types : EdgeTypes) (route : Route) (read : Wanted) (given : LeaderAnswer) (old new : World) : Type 0 where
+  pub asks : AnswersAtLeader types route.leader read given old new
   pub link : new.link ≡ there_and_back old.link
 
 -- the first follower of that name holds an item that answers the query so, with each floor that its version has
@@ -47,10 +52,3 @@ AnswersAgain types name query reply followers = (place : ℕ) (f : FollowerState
 abbrev pub IsLegalNow : Bool → Settings → Wanted → ReadReply → KeeperState → Type 0
 IsLegalNow tells s read reply keepers = WhereTold tells
     (IsLegal (types_of s.schema) (master_log s keepers.told (query_shard read.query)) read.query read.floor reply.answer reply.version)
-
--- the leaders rest, or one answered
-abbrev pub MayAnswer : EdgeTypes → Route → Wanted → Scene → Scene → Type 0
-MayAnswer types route read old new = (new.fleet.leaders ≡ old.fleet.leaders)
-    ⊎ ((given : LeaderAnswer) × (after : KeeperState)
-    × ChangesNode route.leader (LeaderAnswers types read given (leader_calls route.leader old.fleet.stores old.keepers after)) old.fleet.leaders
-    new.fleet.leaders)

@@ -7,13 +7,12 @@ use Rattle.core_model.specs.Stores.{master_store, stores_in}
 use Rattle.core_model.specs.Writes.{AppliesTo, IsSeenEntry}
 use Rattle.core_nodes.specs.MasterWrites.{asked_of_master}
 use Rattle.graph_model.specs.Told.{WhereTold}
+use Rattle.replies.specs.declared.refusals.Refusal.{Refusal}
 use Rattle.replies.specs.declared.refusals.Refusal.TheVariants.{Store, Memory}
 use Rattle.replies.specs.declared.refusals.StoreRefused.{StoreRefused}
 use Rattle.replies.specs.declared.refusals.StoreRefused.TheVariants.{SeqReused, ShardFull, StampFull, LogFull, KeeperFault, LinkFault, Unsettled}
 use Rattle.replies.specs.declared.refusals.When.{When}
 use Rattle.replies.specs.declared.refusals.When.TheVariants.{Before}
-use Rattle.replies.specs.declared.reply.Reply.{Reply}
-use Rattle.replies.specs.declared.reply.Reply.TheVariants.{Refused}
 use Rattle.shard_log.specs.View.{View}
 use Rattle.shard_tables.specs.Jobs.{FindsJob, OpensJob, job_with}
 use Rattle.shard_tables.specs.StoreView.{Store as StoreSeen}
@@ -33,8 +32,9 @@ use Rattle.write_model.specs.Machine.{ChangesNothing, Repeats}
 use Rattle.write_model.specs.Merges.{Stores}
 use Rattle.write_model.specs.Steps.{CommitsWithJob, JobsStay}
 use Rattle.write_model.specs.Writes.{FitsWrite}
-use Rattle.core_steps.specs.Posting.{ChangesNoNode, LeaderTakes, Posting, TellsOfNew}
+use Rattle.core_steps.specs.Posting.{ChangesNoNode, LeaderTakes, TellsOfNew}
 use Rattle.core_steps.specs.Routes.{FailsCarry}
+use Rattle.core_steps.specs.World.{World}
 use Rattle.core_steps.specs.declared.routes.Route.{Route}
 
 -- the write of a client, under its origin
@@ -104,16 +104,16 @@ FollowerTakes types route shard (Some e) old new = (note : View) × ChangesNode 
 -- ---- a write that was committed
 
 -- the write was carried to the leader, which committed it; that leader and the inboxes took what was written
-pub record IsCommitted (tells : Bool) (s : Settings) (sent : SentWrite) (wrote : Wrote) (old new : Posting) : Type 0 where
-  pub commits : CommitsCall tells s sent.call (given_by_log wrote.retry wrote.entry) old.scene.keepers new.scene.keepers
-  pub leader : LeaderTakes s sent.route.leader (write_shard sent.call.write) wrote.entry old.scene.fleet new.scene.fleet
-  pub followers : new.scene.fleet.followers ≡ old.scene.fleet.followers
+pub record IsCommitted (tells : Bool) (s : Settings) (sent : SentWrite) (wrote : Wrote) (old new : World) : Type 0 where
+  pub commits : CommitsCall tells s sent.call (given_by_log wrote.retry wrote.entry) old.keepers new.keepers
+  pub leader : LeaderTakes s sent.route.leader (write_shard sent.call.write) wrote.entry old.fleet new.fleet
+  pub followers : new.fleet.followers ≡ old.fleet.followers
   pub told : TellsOfNew old.states sent.route.leader (write_shard sent.call.write) (new_entry wrote.retry wrote.entry) old.inboxes new.inboxes
   pub states : new.states ≡ old.states
-  pub link : new.scene.link ≡ after_carry old.scene.link
+  pub link : new.link ≡ after_carry old.link
   -- the job in its answer is that of its new entry, or the one that is still open
   pub opens : OpensJob (types_of s.schema) wrote.retry wrote.entry wrote.job
-  pub finds : WhereTold tells (FindsJob (old.scene.keepers.told (master_store s (write_shard sent.call.write))) wrote.retry wrote.entry wrote.job)
+  pub finds : WhereTold tells (FindsJob (old.keepers.told (master_store s (write_shard sent.call.write))) wrote.retry wrote.entry wrote.job)
 
 -- what its follower may take: the entry is the write's, and stands in what was seen of the shard's log
 pub record CanBeApplied (call : AuthoredWrite) (wrote : Wrote) (stores : List StoreSeen) : Type 0 where
@@ -135,19 +135,24 @@ StoreRefuses tells asked (LinkFault count when) old new = ⊥
 StoreRefuses tells asked (Unsettled shard why) old new = ⊥
 
 -- the way there failed, and nothing changed
-pub record FailsThere (tells : Bool) (route : Route) (when : When) (old new : Posting) : Type 0 where
+pub record FailsThere (tells : Bool) (route : Route) (when : When) (old new : World) : Type 0 where
   pub before : when ≡ Before
-  pub carry : FailsCarry route.follower route.leader old.scene.link new.scene.link
+  pub carry : FailsCarry route.follower route.leader old.link new.link
+  pub same : ChangesNoNode tells old new
+
+-- the store refused it after the way there, and nothing changed
+pub record RefusesThere (tells : Bool) (old new : World) : Type 0 where
+  pub link : new.link ≡ after_carry old.link
   pub same : ChangesNoNode tells old new
 
 -- why a write was not committed: its way there failed, or the store refused it. Nothing changed
-abbrev pub NotCommitted : Bool → Settings → SentWrite → StoreRefused → Posting → Posting → Type 0
-NotCommitted tells s sent (LinkFault count when) old new = (count ≡ new.scene.link.faults) × FailsThere tells sent.route when old new
+abbrev pub NotCommitted : Bool → Settings → SentWrite → StoreRefused → World → World → Type 0
+NotCommitted tells s sent (LinkFault count when) old new = (count ≡ new.link.faults) × FailsThere tells sent.route when old new
 NotCommitted tells s sent refused old new =
-    StoreRefuses tells (asked_of_log s old.scene.keepers sent.call) refused old.scene.keepers new.scene.keepers × ChangesNoNode tells old new
+    StoreRefuses tells (asked_of_log s old.keepers sent.call) refused old.keepers new.keepers × RefusesThere tells old new
 
--- how a write that was not committed is replied; memory may have been wanting too, with nothing changed
-abbrev pub RefusesCommit : Bool → Settings → SentWrite → Reply → Posting → Posting → Type 0
-RefusesCommit tells s sent (Refused (Store refused)) old new = NotCommitted tells s sent refused old new
-RefusesCommit tells s sent (Refused (Memory position)) old new = (position ≡ 0) × ChangesNoNode tells old new
-RefusesCommit tells s sent reply old new = ⊥
+-- how a write that was not committed is refused; memory may have been wanting too, with nothing changed
+abbrev pub RefusesCommit : Bool → Settings → SentWrite → Refusal → World → World → Type 0
+RefusesCommit tells s sent (Store refused) old new = NotCommitted tells s sent refused old new
+RefusesCommit tells s sent (Memory position) old new = (position ≡ 0) × RefusesThere tells old new
+RefusesCommit tells s sent refusal old new = ⊥

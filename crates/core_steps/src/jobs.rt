@@ -1,6 +1,6 @@
 //! The stages of a write's other end: its job is merged at the other shard, and then ended.
 ghost use Rattle.std.specs.Prelude.{◌≡◌, ◌<◌, IfErr, IfOk, OnErr, OnOk, Some};
-ghost use Rattle.core_mail.specs.Inboxes.{AreInboxesOf, HaveArrived, Inboxes};
+ghost use Rattle.core_mail.specs.Inboxes.{AreInboxesOf, HaveArrived};
 ghost use Rattle.core_model.specs.Consistent.{IsConsistent};
 ghost use Rattle.core_model.specs.Growing.{StoresGrow};
 ghost use Rattle.core_model.specs.Jobs.{CanBeMerged, IsMergedJob, far_shard, job_on};
@@ -11,29 +11,26 @@ ghost use Rattle.core_model.specs.Stores.{master_of};
 ghost use Rattle.core_steps.specs.MergeAnswers.{RefusesMerge, late_as, merge_answer, why_late};
 ghost use Rattle.core_steps.specs.OtherEnds.{Crosses, EndsOver, FailsToCross, MergesOver, StandsThere, TakesMerge, job_way};
 ghost use Rattle.core_steps.specs.OtherEnds.{known_of, master_leader, told_entry, told_there};
-ghost use Rattle.core_steps.specs.Posting.{CanPost, PostsOn, posting};
-ghost use Rattle.core_steps.specs.Routes.{scene};
+ghost use Rattle.core_steps.specs.Posting.{CanPost, ChangesNoNode, PostsOn};
+ghost use Rattle.core_steps.specs.World.{world};
+ghost use Rattle.core_nodes.specs.Settling.{IsLaterLink};
 ghost use Rattle.graph_model.specs.Told.{WhereTold};
 ghost use Rattle.node_name.specs.declared.NodeName.{NodeName as AnyNode};
 ghost use Rattle.shard_tables.specs.Jobs.{IsOfMerges};
-ghost use Rattle.tao_keeper.specs.KeeperState.{IsLater, KeepsTables};
+ghost use Rattle.tao_keeper.specs.KeeperState.{IsLater};
 ghost use Rattle.tao_link.specs.Shown.{LinkShown};
-ghost use Rattle.topology.specs.States.{NodeStates};
 
+use crate::nodes::Nodes;
 use crate::routes::carry;
-use crate::telling::tell_of;
-use core_mail::Mail;
 use core_model::{far_shard, masters_are_regions};
-use core_nodes::Fleet;
 use node_name::NodeName;
 use replies::ScheduledWhy;
 use shard_log::Note;
 use shard_tables::{StoreRefusal, Wrote};
-use std::alloc::Global;
 use tao_base::Entry;
 use tao_keeper::{Job, Keeper};
 use tao_link::{Link, LinkFailed};
-use topology::{Config, Topology};
+use topology::Config;
 use write_plan::Late;
 
 /// An entry of a shard's log, and a note that has seen it there.
@@ -118,128 +115,111 @@ fn merge_answer(
     }
 }
 
-/// Merges the job at a leader of the shard on which its records lie. Of a new entry those who see the shard's log are told.
-fn merge_at<K: Keeper>(
-    alloc: Global,
-    fleet: &mut Fleet,
-    mail: &mut Mail,
-    config: &Config,
-    topology: &Topology,
-    keepers: &mut K,
-    leader: NodeName,
-    shard: u16,
-    job: &Job,
-) -> Result<Wrote, StoreRefusal>
-    requires consistent { IsConsistent K.TELLS config.now (K.state keepers.old).told fleet.old }
-    requires inboxes { AreInboxesOf config.now (pens_of fleet.old.stores) mail.old }
-    requires arrived { WhereTold K.TELLS (HaveArrived (K.state keepers.old).told mail.old) }
-    requires states { AreStatesOf config.now topology.now }
-    requires here { far_shard job.now < config.now.shards }
-    requires leader { IsLeaderIn config.now (master_of config.now (far_shard job.now)) leader }
-    requires preferred { leader ≡ master_leader topology.now (far_shard job.now) }
-    requires job { CanBeMerged K.TELLS config.now (K.state keepers.old).told (job_on shard job.now) }
-    ensures takes { (by : AnyNode) (before after : LinkShown) → IfOk result (λ wrote.
-        TakesMerge K.TELLS config.now (job_way by (job_on shard job.now)) wrote
-        (posting (scene fleet.old (K.state keepers.old) before) mail.old topology.now)
-        (posting (scene fleet.new (K.state keepers.new) after) mail.new topology.now)) }
-    ensures refused { IfErr result (λ refusal.
-        RefusesMerge K.TELLS config.now (job_on shard job.now) refusal (K.state keepers.old) (K.state keepers.new)) }
-    ensures same { OnErr result (fleet.new ≡ fleet.old) }
-    ensures untold { OnErr result (mail.new ≡ mail.old) }
-    ensures tables { OnErr result (KeepsTables K.TELLS (K.state keepers.old) (K.state keepers.new)) }
-    ensures merged { WhereTold K.TELLS (OnOk result (IsMergedJob config.now (K.state keepers.new).told (job_on shard job.now))) }
-    ensures stands { IfOk result (λ wrote. StandsThere config.now job.now (Some wrote) fleet.new.stores) }
-    ensures on { (before after : LinkShown) → PostsOn K.TELLS config.now
-        (posting (scene fleet.old (K.state keepers.old) before) mail.old topology.now)
-        (posting (scene fleet.new (K.state keepers.new) after) mail.new topology.now) }
-{
-    masters_are_regions(config);
-    let mut wrote = fleet.merge(alloc, config, keepers, leader, shard, job)?;
-    tell_of(
-        alloc,
-        mail,
-        config,
-        topology,
-        leader,
-        far_shard(job),
-        &mut wrote,
-    );
-    Ok(wrote)
-}
-
-/// The stage `inverse`: a job of a shard is carried from the leader that committed it to the one that the master's region prefers for the shard on
-/// which its records lie, which merges it and takes what was written, and the answer is carried back, also that of a merge that was refused.
-/// Where both are one node nothing is carried. Of a new entry those who see the log are told as after a write.
-///
-/// The job stays open. Whatever fails leaves it so: `LinkFault` only where the link's count of faults rose, `KeeperFault` only where the keepers'
-/// did, `LogFull` where the other shard's log has no room for the entry, `NoServer` where that shard isn't configured, `Memory` where there was none.
-/// What was written although its answer was lost is told. Costs what `Leader::merge` does, and a message for each tier of the region.
-pub fn merge_over<K: Keeper, L: Link>(
-    alloc: Global,
-    fleet: &mut Fleet,
-    mail: &mut Mail,
-    config: &Config,
-    topology: &Topology,
-    keepers: &mut K,
-    link: &mut L,
-    leader: NodeName,
-    shard: u16,
-    job: &Job,
-) -> Result<Wrote, Late>
-    requires ready { CanPost K.TELLS config.now (posting (scene fleet.old (K.state keepers.old) (L.shown link.old)) mail.old topology.now) }
-    requires job { CanBeMerged K.TELLS config.now (K.state keepers.old).told (job_on shard job.now) }
-    ensures merges { MergesOver K.TELLS config.now (job_way leader (job_on shard job.now)) result
-        (posting (scene fleet.old (K.state keepers.old) (L.shown link.old)) mail.old topology.now)
-        (posting (scene fleet.new (K.state keepers.new) (L.shown link.new)) mail.new topology.now) }
-    ensures merged { WhereTold K.TELLS (OnOk result (IsMergedJob config.now (K.state keepers.new).told (job_on shard job.now))) }
-    ensures stands { StandsThere config.now job.now (known_of result) fleet.new.stores }
-    ensures on { PostsOn K.TELLS config.now
-        (posting (scene fleet.old (K.state keepers.old) (L.shown link.old)) mail.old topology.now)
-        (posting (scene fleet.new (K.state keepers.new) (L.shown link.new)) mail.new topology.now) }
-{
-    let far = far_shard(job);
-    if far >= config.shards {
-        return Err(Late::Scheduled {
-            why: ScheduledWhy::NoServer,
-            wrote: None,
-        });
+impl Nodes {
+    /// Merges the job at a leader of the shard on which its records lie. Of a new entry those who see the shard's log are told.
+    fn merge_at<K: Keeper>(
+        &mut self,
+        config: &Config,
+        keepers: &mut K,
+        leader: NodeName,
+        shard: u16,
+        job: &Job,
+    ) -> Result<Wrote, StoreRefusal>
+        requires consistent { IsConsistent K.TELLS config.now (K.state keepers.old).told self.old.fleet }
+        requires inboxes { AreInboxesOf config.now (pens_of self.old.fleet.stores) self.old.mail }
+        requires arrived { WhereTold K.TELLS (HaveArrived (K.state keepers.old).told self.old.mail) }
+        requires states { AreStatesOf config.now self.old.topology }
+        requires here { far_shard job.now < config.now.shards }
+        requires leader { IsLeaderIn config.now (master_of config.now (far_shard job.now)) leader }
+        requires preferred { leader ≡ master_leader self.old.topology (far_shard job.now) }
+        requires job { CanBeMerged K.TELLS config.now (K.state keepers.old).told (job_on shard job.now) }
+        ensures takes { (by : AnyNode) (before after : LinkShown) → IfOk result (λ wrote.
+            TakesMerge K.TELLS config.now (job_way by (job_on shard job.now)) wrote
+            (world self.old (K.state keepers.old) before) (world self.new (K.state keepers.new) after)) }
+        ensures refused { IfErr result (λ refusal.
+            RefusesMerge K.TELLS config.now (job_on shard job.now) refusal (K.state keepers.old) (K.state keepers.new)) }
+        ensures rests { (before after : LinkShown) → OnErr result (ChangesNoNode K.TELLS
+            (world self.old (K.state keepers.old) before) (world self.new (K.state keepers.new) after)) }
+        ensures merged { WhereTold K.TELLS (OnOk result (IsMergedJob config.now (K.state keepers.new).told (job_on shard job.now))) }
+        ensures stands { IfOk result (λ wrote. StandsThere config.now job.now (Some wrote) self.new.fleet.stores) }
+        ensures on { (before after : LinkShown) → IsLaterLink before after → PostsOn K.TELLS config.now
+            (world self.old (K.state keepers.old) before) (world self.new (K.state keepers.new) after) }
+    {
+        masters_are_regions(config);
+        let mut wrote = self
+            .fleet
+            .merge(self.alloc, config, keepers, leader, shard, job)?;
+        self.tell_of(config, leader, far_shard(job), &mut wrote);
+        Ok(wrote)
     }
-    let merging = topology.preferred(topology.master(far), far);
-    if let Err(LinkFailed) = carry_between(link, leader, merging) {
-        return Err(Late::Scheduled {
-            why: ScheduledWhy::LinkFault,
-            wrote: None,
-        });
-    }
-    let merged = merge_at(
-        alloc, fleet, mail, config, topology, keepers, merging, shard, job,
-    );
-    let back = carry_between(link, merging, leader);
-    merge_answer(merged, back)
-}
 
-/// The stage `end`: a job that was merged is ended at its own shard. Whatever fails leaves it open: `KeeperFault` only where the keepers' count of
-/// faults rose, and `Memory` where there was none. One call of the keeper.
-pub fn end_over<K: Keeper>(
-    fleet: &mut Fleet,
-    config: &Config,
-    keepers: &mut K,
-    shard: u16,
-    job: &Job,
-) -> Result<(), Late>
-    requires consistent { IsConsistent K.TELLS config.now (K.state keepers.old).told fleet.old }
-    requires here { shard < config.now.shards }
-    requires merged { WhereTold K.TELLS (IsMergedJob config.now (K.state keepers.old).told (job_on shard job.now)) }
-    ensures ends { (link : LinkShown) (inboxes : Inboxes) (states : NodeStates) → EndsOver K.TELLS config.now (job_on shard job.now) result
-        (posting (scene fleet.old (K.state keepers.old) link) inboxes states) (posting (scene fleet.new (K.state keepers.new) link) inboxes states) }
-    ensures same { fleet.new ≡ fleet.old }
-    ensures consistent { IsConsistent K.TELLS config.now (K.state keepers.new).told fleet.new }
-    ensures grows { StoresGrow K.TELLS config.now (K.state keepers.old).told (K.state keepers.new).told }
-    ensures later { IsLater (K.state keepers.old) (K.state keepers.new) }
-{
-    masters_are_regions(config);
-    match fleet.end_job(config, keepers, shard, job) {
-        Ok(()) => Ok(()),
-        Err(refusal) => Err(late_as(refusal)),
+    /// The stage `inverse`: a job of a shard is carried from the leader that committed it to the one that the master's region prefers for the shard on
+    /// which its records lie, which merges it and takes what was written, and the answer is carried back, also that of a merge that was refused.
+    /// Where both are one node nothing is carried. Of a new entry those who see the log are told as after a write.
+    ///
+    /// The job stays open. Whatever fails leaves it so: `LinkFault` only where the link's count of faults rose, `KeeperFault` only where the keepers'
+    /// did, `LogFull` where the other shard's log has no room for the entry, `NoServer` where that shard isn't configured, `Memory` where there was none.
+    /// What was written although its answer was lost is told. Costs what `Leader::merge` does, and a message for each tier of the region.
+    pub fn merge_over<K: Keeper, L: Link>(
+        &mut self,
+        config: &Config,
+        keepers: &mut K,
+        link: &mut L,
+        leader: NodeName,
+        shard: u16,
+        job: &Job,
+    ) -> Result<Wrote, Late>
+        requires ready { CanPost K.TELLS config.now (world self.old (K.state keepers.old) (L.shown link.old)) }
+        requires job { CanBeMerged K.TELLS config.now (K.state keepers.old).told (job_on shard job.now) }
+        ensures merges { MergesOver K.TELLS config.now (job_way leader (job_on shard job.now)) result
+            (world self.old (K.state keepers.old) (L.shown link.old)) (world self.new (K.state keepers.new) (L.shown link.new)) }
+        ensures merged { WhereTold K.TELLS (OnOk result (IsMergedJob config.now (K.state keepers.new).told (job_on shard job.now))) }
+        ensures stands { StandsThere config.now job.now (known_of result) self.new.fleet.stores }
+        ensures on { PostsOn K.TELLS config.now
+            (world self.old (K.state keepers.old) (L.shown link.old)) (world self.new (K.state keepers.new) (L.shown link.new)) }
+    {
+        let far = far_shard(job);
+        if far >= config.shards {
+            return Err(Late::Scheduled {
+                why: ScheduledWhy::NoServer,
+                wrote: None,
+            });
+        }
+        let merging = self.topology.preferred(self.topology.master(far), far);
+        if let Err(LinkFailed) = carry_between(link, leader, merging) {
+            return Err(Late::Scheduled {
+                why: ScheduledWhy::LinkFault,
+                wrote: None,
+            });
+        }
+        let merged = self.merge_at(config, keepers, merging, shard, job);
+        let back = carry_between(link, merging, leader);
+        merge_answer(merged, back)
+    }
+
+    /// The stage `end`: a job that was merged is ended at its own shard. Whatever fails leaves it open: `KeeperFault` only where the keepers' count of
+    /// faults rose, and `Memory` where there was none. One call of the keeper.
+    pub fn end_over<K: Keeper>(
+        &mut self,
+        config: &Config,
+        keepers: &mut K,
+        shard: u16,
+        job: &Job,
+    ) -> Result<(), Late>
+        requires consistent { IsConsistent K.TELLS config.now (K.state keepers.old).told self.old.fleet }
+        requires here { shard < config.now.shards }
+        requires merged { WhereTold K.TELLS (IsMergedJob config.now (K.state keepers.old).told (job_on shard job.now)) }
+        ensures ends { (link : LinkShown) → EndsOver K.TELLS config.now (job_on shard job.now) result
+            (world self.old (K.state keepers.old) link) (world self.new (K.state keepers.new) link) }
+        ensures same { self.new ≡ self.old }
+        ensures consistent { IsConsistent K.TELLS config.now (K.state keepers.new).told self.new.fleet }
+        ensures grows { StoresGrow K.TELLS config.now (K.state keepers.old).told (K.state keepers.new).told }
+        ensures later { IsLater (K.state keepers.old) (K.state keepers.new) }
+    {
+        masters_are_regions(config);
+        match self.fleet.end_job(config, keepers, shard, job) {
+            Ok(()) => Ok(()),
+            Err(refusal) => Err(late_as(refusal)),
+        }
     }
 }

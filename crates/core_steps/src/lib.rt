@@ -10,24 +10,27 @@
 //! node, and of what it wrote that shard's followers are told; it is ended only once it is merged; what fails leaves
 //! it open, with its cause, and a merge that was refused is carried back all the same. What was committed is carried
 //! back to the follower, which takes the changes. A fault of the link comes only where its count rose at a carry
-//! between the two nodes of the stage. After each of these stages all is consistent, the logs only grew, and no
-//! count fell (`ReadsOn`, `PostsOn`).
+//! between the two nodes of the stage. A read that is refused has done what was done before: nothing where its question
+//! was lost, and what the leader did where the answer was. After each of these stages all is consistent, the logs only
+//! grew, no count fell, and what is cut is what was cut (`ReadsOn`, `PostsOn`).
 //!
-//! The contracts that say so: `ask_over`, `read_over`, `commit_over`, `merge_over`, `end_over`, `apply_over`,
-//! `tell_besides`; `IsGivenOver`, `IsReadOver`, `ReadOverFails`, `IsCommitted`, `RefusesCommit`, `TellsOfNew`,
-//! `MergesOver`, `EndsOver`.
+//! What a stage works on is one value, `Nodes`: the nodes, the messages that wait for them, and which of them are up.
+//! Contracts see it with what the keepers and the link show as one state, `World`.
+//!
+//! The contracts that say so: `Nodes::ask_over`, `read_over`, `commit_over`, `merge_over`, `end_over`, `apply_over`,
+//! `tell_followers`, `tell_besides`; `IsGivenOver`, `IsNotGiven`, `IsReadOver`, `IsNotRead`, `IsCommitted`, `RefusesCommit`,
+//! `TellsOfNew`, `MergesOver`, `EndsOver`.
 #![tactic(auto)]
 
 mod asking;
 mod jobs;
+mod nodes;
 mod refusals;
 mod routes;
 mod telling;
 mod writes;
 
-pub use asking::{ask_over, read_over};
-pub use jobs::{ToldEntry, end_over, merge_over, told_entry, told_there};
+pub use jobs::{ToldEntry, told_entry, told_there};
+pub use nodes::Nodes;
 pub use refusals::{link_fault, out_of_memory, refilled_as, refused_as};
 pub use routes::Route;
-pub use telling::tell_besides;
-pub use writes::{apply_over, commit_over};

@@ -1,4 +1,4 @@
-//! The replies where a step gives no answer, and to the read of a refill.
+//! How a step that gives no answer is refused, and what is replied to the read of a refill.
 ghost use Rattle.std.specs.Prelude.{◌≡◌};
 ghost use Rattle.core_steps.specs.Replies.{refilled_as, refused_as};
 
@@ -12,8 +12,8 @@ pub fn out_of_memory() -> Reply
     Reply::Refused(Refusal::Memory { position: 0 })
 }
 
-/// A store's refusal, where the keepers have counted so many faults.
-pub fn refused_as(refusal: StoreRefusal, faults: u64) -> Reply
+/// How a store's refusal is told, where the keepers have counted so many faults.
+pub fn refused_as(refusal: StoreRefusal, faults: u64) -> Refusal
     ensures { result ≡ refused_as faults refusal }
 {
     let refused = match refusal {
@@ -22,19 +22,19 @@ pub fn refused_as(refusal: StoreRefusal, faults: u64) -> Reply
         StoreRefusal::StampFull { number } => StoreRefused::StampFull { number },
         StoreRefusal::LogFull { length } => StoreRefused::LogFull { length },
         StoreRefusal::KeeperFault => StoreRefused::KeeperFault { count: faults },
-        StoreRefusal::OutOfMemory => return out_of_memory(),
+        StoreRefusal::OutOfMemory => return Refusal::Memory { position: 0 },
     };
-    Reply::Refused(Refusal::Store(refused))
+    Refusal::Store(refused)
 }
 
 /// A carry failed, where the link has counted so many faults.
-pub fn link_fault(faults: u64, when: When) -> Reply
-    ensures { result ≡ Reply.Refused (Refusal.Store (StoreRefused.LinkFault faults when)) }
+pub fn link_fault(faults: u64, when: When) -> Refusal
+    ensures { result ≡ Refusal.Store (StoreRefused.LinkFault faults when) }
 {
-    Reply::Refused(Refusal::Store(StoreRefused::LinkFault {
+    Refusal::Store(StoreRefused::LinkFault {
         count: faults,
         when,
-    }))
+    })
 }
 
 /// The reply to a refill, of the reply to its read.

@@ -9,15 +9,17 @@ use Rattle.core_model.specs.Jobs.{CanBeMerged, job_on}
 use Rattle.core_model.specs.Pens.{IsSeen, pens_of}
 use Rattle.core_model.specs.Stores.{master_store}
 use Rattle.core_steps.specs.Replies.{refused_as}
-use Rattle.core_steps.specs.Routes.{scene}
-use Rattle.core_steps.specs.Posting.{TellsOfNew, posting}
+use Rattle.core_steps.specs.Posting.{PostsOn, TellsOfNew}
+use Rattle.core_steps.specs.World.{world, world_with}
+use Rattle.core_steps.specs.declared.nodes.Nodes.{Nodes}
 use Rattle.core_steps.specs.Writes.{CanBeApplied, IsCommitted, RefusesCommit, client_call, new_entry, sent_write}
 use Rattle.core_nodes.proofs.GrowingLemmas.{gains_stores}
+use Rattle.core_steps.proofs.LinkLemmas.{carried_on}
 use Rattle.core_steps.proofs.MergeLemmas.{can_merge}
 use Rattle.core_steps.proofs.StepLemmas.{commits}
 use Rattle.core_steps.proofs.TellLemmas.{arrived_grows, arrived_told, of_new}
 use Rattle.core_steps.proofs.WriteLemmas.{refused, seen_there, stands_in_log}
-use Rattle.core_steps.proofs.writes.commit_over.Goals as goal
+use Rattle.core_steps.proofs.nodes.Nodes.commit_over.Goals as goal
 
 pub tell_of_new-requires-clause-here : goal.tell_of_new-requires-clause-here
 tell_of_new-requires-clause-here g c = subst (λ n. n < c.args.config.now.shards) (sym c.shard.ensures) c.requires.here
@@ -29,8 +31,7 @@ pub tell_of_new-requires-clause-names : goal.tell_of_new-requires-clause-names
 tell_of_new-requires-clause-names g c = c.requires.ready.inboxes.names
 
 pub tell_of_new-requires-clause-stands : goal.tell_of_new-requires-clause-stands
-tell_of_new-requires-clause-stands g c =
-    c.in-Ok.ensures.done.stands
+tell_of_new-requires-clause-stands g c = c.in-Ok.ensures.done.stands
 
 pub tell_of_new-requires-clause-lies : goal.tell_of_new-requires-clause-lies
 tell_of_new-requires-clause-lies g c =
@@ -43,34 +44,42 @@ returns-in-Ok-clause-committed g c =
     let shard = write_shard c.args.write.now in
     let call = client_call c.args.origin c.args.write.now in
     let wrote = c.in-Ok.wrote in
-    let old = posting (scene c.args.fleet.now (state c.args.keepers.now) (g.L.Link.shown c.args.link.now)) c.args.mail.now c.args.topology.now in
-    let new = posting (scene c.commit.new.self (state c.commit.new.keepers) (g.L.Link.shown c.carry.new.link)) c.tell_of_new.new.mail c.args.topology.now in
-    let is : IsCommitted g.K.Keeper.TELLS s (sent_write c.args.route call) wrote old new = record {
+    let was = c.args.self.now in
+    let link = g.L.Link.shown c.carry.new.link in
+    let old = world was (state c.args.keepers.now) (g.L.Link.shown c.args.link.now) in
+    let told = c.tell_of_new.new.self in
+    let mid = record was { fleet = c.commit.new.self; mail = told.mail } in
+    let is : IsCommitted g.K.Keeper.TELLS s (sent_write c.args.route call) wrote old (world mid (state c.commit.new.keepers) link) = record {
       commits = commits s (state c.args.keepers.now) (state c.commit.new.keepers) call c.requires.here g.K.Keeper.TELLS wrote.retry wrote.entry
           (λ told. sound_logs s (state c.args.keepers.now).told (c.requires.ready.consistent.stores.kept told) shard c.requires.here)
           (λ told. g.met.K.Keeper.of_entries c.args.keepers.now (master_store s shard) told) c.in-Ok.ensures.done.answer c.in-Ok.ensures.done.tables;
       leader = record { note = wrote.note; takes = c.in-Ok.ensures.node };
       followers = c.in-Ok.ensures.followers;
-      told = subst (λ n. TellsOfNew c.args.topology.now c.args.route.leader n (new_entry wrote.retry wrote.entry) c.args.mail.now c.tell_of_new.new.mail)
+      told = subst (λ n. TellsOfNew was.topology c.args.route.leader n (new_entry wrote.retry wrote.entry) was.mail told.mail)
           c.shard.ensures c.tell_of_new.ensures.told;
       states = refl;
       link = c.in_default.ensures.ok;
       opens = c.in-Ok.ensures.done.job;
       finds = c.in-Ok.ensures.done.found;
     } in
-    subst (λ w. IsCommitted g.K.Keeper.TELLS s (sent_write c.args.route call) w old new) (sym c.tell_of_new.ensures.same) is
+    subst (λ w. IsCommitted g.K.Keeper.TELLS s (sent_write c.args.route call) w old (world told (state c.commit.new.keepers) link))
+    (sym c.tell_of_new.ensures.same)
+    (subst (λ n. IsCommitted g.K.Keeper.TELLS s (sent_write c.args.route call) wrote old (world n (state c.commit.new.keepers) link))
+    (sym c.tell_of_new.ensures.rest) is)
 
 pub returns-in-Ok-clause-apply : goal.returns-in-Ok-clause-apply
 returns-in-Ok-clause-apply g c =
     let call = client_call c.args.origin c.args.write.now in
-    let can : CanBeApplied call c.in-Ok.wrote c.commit.new.self.stores = record {
+    let stores = c.commit.new.self.stores in
+    let can : CanBeApplied call c.in-Ok.wrote stores = record {
       fits = c.in-Ok.ensures.done.fits;
       has = c.in-Ok.ensures.done.entry;
-      seen = seen_there (pens_of c.commit.new.self.stores) (write_shard c.args.write.now) c.in-Ok.wrote.note c.in-Ok.wrote.entry c.in-Ok.ensures.seen
+      seen = seen_there (pens_of stores) (write_shard c.args.write.now) c.in-Ok.wrote.note c.in-Ok.wrote.entry c.in-Ok.ensures.seen
           c.in-Ok.ensures.done.stands;
       here = c.in-Ok.ensures.done.here;
     } in
-    subst (λ w. CanBeApplied call w c.commit.new.self.stores) (sym c.tell_of_new.ensures.same) can
+    subst (λ (n : Nodes). CanBeApplied call c.tell_of_new.new.wrote n.fleet.stores) (sym c.tell_of_new.ensures.rest)
+    (subst (λ w. CanBeApplied call w stores) (sym c.tell_of_new.ensures.same) can)
 
 pub returns-in-Ok-clause-job : goal.returns-in-Ok-clause-job
 returns-in-Ok-clause-job g c =
@@ -83,56 +92,75 @@ returns-in-Ok-clause-job g c =
 pub returns-in-Ok-clause-on : goal.returns-in-Ok-clause-on
 returns-in-Ok-clause-on g c =
     let tells = g.K.Keeper.TELLS in
+    let state = g.K.Keeper.state in
     let s = c.args.config.now in
     let shard = write_shard c.args.write.now in
-    let tables = (g.K.Keeper.state c.commit.new.keepers).told in
+    let tables = (state c.commit.new.keepers).told in
     let wrote = c.in-Ok.wrote in
-    let pens = pens_of c.commit.new.self.stores in
+    let was = c.args.self.now in
+    let told = c.tell_of_new.new.self in
+    let stores = c.commit.new.self.stores in
+    let pens = pens_of stores in
     let added = added_entry c.commit.result in
-    record {
+    let link = g.L.Link.shown c.carry.new.link in
+    let old = world was (state c.args.keepers.now) (g.L.Link.shown c.args.link.now) in
+    let is : PostsOn tells s old (world_with c.commit.new.self told.mail was.topology (state c.commit.new.keepers) link) = record {
       consistent = c.commit.ensures.consistent;
-      inboxes = c.tell_of_new.ensures.of pens (subst (λ n. IsSeen pens n c.in-Ok.wrote.note) (sym c.shard.ensures) c.in-Ok.ensures.seen)
-          ((inboxes_stay c.args.config.now (pens_of c.args.fleet.now.stores) c.args.mail.now).rises pens c.commit.ensures.goes.rise c.requires.ready.inboxes);
-      arrived = arrived_told tells s tables c.commit.new.self.stores shard c.masters_are_regions.ensures c.commit.ensures.consistent.stores c.requires.here
-          c.args.topology.now c.args.route.leader (new_entry wrote.retry wrote.entry) c.args.mail.now c.tell_of_new.new.mail c.requires.ready.states
+      inboxes = c.tell_of_new.ensures.of pens (subst (λ n. IsSeen pens n wrote.note) (sym c.shard.ensures) c.in-Ok.ensures.seen)
+          ((inboxes_stay s (pens_of was.fleet.stores) was.mail).rises pens c.commit.ensures.goes.rise c.requires.ready.inboxes);
+      arrived = arrived_told tells s tables stores shard c.masters_are_regions.ensures c.commit.ensures.consistent.stores c.requires.here
+          was.topology c.args.route.leader (new_entry wrote.retry wrote.entry) was.mail told.mail c.requires.ready.states
           (of_new (StandsIn (pens shard)) wrote.retry wrote.entry (stands_in_log pens shard wrote.note wrote.entry
           (seen_there pens shard wrote.note wrote.entry c.in-Ok.ensures.seen c.in-Ok.ensures.done.stands)))
-          (subst (λ n. TellsOfNew c.args.topology.now c.args.route.leader n (new_entry wrote.retry wrote.entry) c.args.mail.now c.tell_of_new.new.mail)
+          (subst (λ n. TellsOfNew was.topology c.args.route.leader n (new_entry wrote.retry wrote.entry) was.mail told.mail)
           c.shard.ensures c.tell_of_new.ensures.told)
-          (arrived_grows tells (g.K.Keeper.state c.args.keepers.now).told tables c.args.mail.now c.commit.ensures.done.logs c.requires.ready.arrived);
+          (arrived_grows tells (state c.args.keepers.now).told tables was.mail c.commit.ensures.done.logs c.requires.ready.arrived);
+      states = refl;
       goes = c.commit.ensures.goes;
-      grows = gains_stores g.K.Keeper.TELLS c.args.config.now (g.K.Keeper.state c.args.keepers.now) (g.K.Keeper.state c.commit.new.keepers)
-          (master_store c.args.config.now (write_shard c.args.write.now)) added (job_with (types_of c.args.config.now.schema) added)
+      grows = gains_stores tells s (state c.args.keepers.now) (state c.commit.new.keepers)
+          (master_store s (write_shard c.args.write.now)) added (job_with (types_of s.schema) added)
           (record { region = c.masters_are_regions.ensures (write_shard c.args.write.now); shard = c.requires.here }) c.commit.ensures.done.tables;
       later = record { calls = c.commit.ensures.done.calls.calls; faults = c.commit.ensures.done.calls.faults };
-    }
+      link = carried_on (g.L.Link.shown c.args.link.now) link c.in_default.ensures.ok;
+    } in
+    subst (λ n. PostsOn tells s old (world n (state c.commit.new.keepers) link)) (sym c.tell_of_new.ensures.rest) is
 
 pub returns-in-Err-commit-clause-refused : goal.returns-in-Err-commit-clause-refused
 returns-in-Err-commit-clause-refused g c =
     let state = g.K.Keeper.state in
     let call = client_call c.args.origin c.args.write.now in
-    let old = posting (scene c.args.fleet.now (state c.args.keepers.now) (g.L.Link.shown c.args.link.now)) c.args.mail.now c.args.topology.now in
-    let new = posting (scene c.commit.new.self (state c.commit.new.keepers) (g.L.Link.shown c.carry.new.link)) c.args.mail.now c.args.topology.now in
+    let was = c.args.self.now in
+    let old = world was (state c.args.keepers.now) (g.L.Link.shown c.args.link.now) in
+    let new =
+    world_with c.commit.new.self was.mail was.topology (state c.commit.new.keepers) (g.L.Link.shown c.carry.new.link) in
     let refusal = c.in-Err-commit.refusal in
     let told = ◌∙◌ {b = refused_as c.faults-in-Err-commit.result refusal} c.refused_as.ensures
     (ap (λ n. refused_as n refusal) c.faults-in-Err-commit.ensures) in
-    subst (λ reply. RefusesCommit g.K.Keeper.TELLS c.args.config.now (sent_write c.args.route call) reply old new) (sym told)
-    (refused g.K.Keeper.TELLS c.args.config.now c.args.route call old new c.in-Err-commit.ensures.done.tables c.in-Err-commit.ensures.err refl
+    subst (λ refusal. RefusesCommit g.K.Keeper.TELLS c.args.config.now (sent_write c.args.route call) refusal old new) (sym told)
+    (refused g.K.Keeper.TELLS c.args.config.now c.args.route call old new (record {
+      link = c.in_default.ensures.ok;
+      same = record { fleet = c.in-Err-commit.ensures.err; inboxes = refl; states = refl; tables = c.in-Err-commit.ensures.done.tables };
+    })
     c.in-Err-commit.refusal c.in-Err-commit.ensures.done.answer (λ is. c.in-Err-commit.ensures.done.calls.failed (ap (λ r. Err r) is)))
 
 pub returns-in-Err-commit-clause-on : goal.returns-in-Err-commit-clause-on
 returns-in-Err-commit-clause-on g c =
-    let pens = pens_of c.args.fleet.now.stores in
+    let tells = g.K.Keeper.TELLS in
+    let state = g.K.Keeper.state in
+    let s = c.args.config.now in
+    let was = c.args.self.now in
     let added = added_entry c.commit.result in
     record {
       consistent = c.commit.ensures.consistent;
-      inboxes =
-          (inboxes_stay c.args.config.now pens c.args.mail.now).rises (pens_of c.commit.new.self.stores) c.commit.ensures.goes.rise c.requires.ready.inboxes;
-      arrived = arrived_grows g.K.Keeper.TELLS (g.K.Keeper.state c.args.keepers.now).told (g.K.Keeper.state c.commit.new.keepers).told c.args.mail.now
-          c.commit.ensures.done.logs c.requires.ready.arrived;
+      inboxes = (inboxes_stay s (pens_of was.fleet.stores) was.mail).rises (pens_of c.commit.new.self.stores) c.commit.ensures.goes.rise
+          c.requires.ready.inboxes;
+      arrived = arrived_grows tells (state c.args.keepers.now).told (state c.commit.new.keepers).told was.mail c.commit.ensures.done.logs
+          c.requires.ready.arrived;
+      states = refl;
       goes = c.commit.ensures.goes;
-      grows = gains_stores g.K.Keeper.TELLS c.args.config.now (g.K.Keeper.state c.args.keepers.now) (g.K.Keeper.state c.commit.new.keepers)
-          (master_store c.args.config.now (write_shard c.args.write.now)) added (job_with (types_of c.args.config.now.schema) added)
+      grows = gains_stores tells s (state c.args.keepers.now) (state c.commit.new.keepers)
+          (master_store s (write_shard c.args.write.now)) added (job_with (types_of s.schema) added)
           (record { region = c.masters_are_regions.ensures (write_shard c.args.write.now); shard = c.requires.here }) c.commit.ensures.done.tables;
       later = record { calls = c.commit.ensures.done.calls.calls; faults = c.commit.ensures.done.calls.faults };
+      link = carried_on (g.L.Link.shown c.args.link.now) (g.L.Link.shown c.carry.new.link) c.in_default.ensures.ok;
     }

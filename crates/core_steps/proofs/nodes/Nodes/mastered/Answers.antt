@@ -6,7 +6,7 @@ use Rattle.tao_schema.specs.Schema.{types_of}
 use Rattle.core_model.specs.Pens.{pens_of}
 use Rattle.core_model.specs.Reads.{IsGivenAnswer, StoreReads, given_of, store_calls, wanted}
 use Rattle.core_model.specs.Stores.{master_of, region_store}
-use Rattle.core_steps.proofs.asking.mastered.Goals as goal
+use Rattle.core_steps.proofs.nodes.Nodes.mastered.Goals as goal
 
 pub read_store-requires-clause-here : goal.read_store-requires-clause-here
 read_store-requires-clause-here g c =
@@ -22,7 +22,7 @@ returns-in-Ok-clause-reads g c =
     let s = c.args.config.now in
     let region = c.master_of-region.ensures ∙ ap (master_of s) c.shard.ensures in
     subst (λ r. StoreReads (types_of s.schema) c.args.query.now c.in-Ok.out
-    (store_calls r c.args.fleet.now.stores (g.K.Keeper.state c.args.keepers.now) (g.K.Keeper.state c.read_store.new.keepers))) region c.in-Ok.ensures.reads
+    (store_calls r c.args.self.now.fleet.stores (g.K.Keeper.state c.args.keepers.now) (g.K.Keeper.state c.read_store.new.keepers))) region c.in-Ok.ensures.reads
 
 pub returns-in-Ok-clause-given : goal.returns-in-Ok-clause-given
 returns-in-Ok-clause-given g c =

@@ -1,5 +1,5 @@
 use Rattle.core_steps.proofs.MergeLemmas.{end_grows}
-use Rattle.core_steps.proofs.jobs.end_over.Goals as goal
+use Rattle.core_steps.proofs.nodes.Nodes.end_over.Goals as goal
 
 pub returns-in-Ok-clause-grows : goal.returns-in-Ok-clause-grows
 returns-in-Ok-clause-grows g c =

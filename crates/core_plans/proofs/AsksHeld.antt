@@ -28,7 +28,8 @@ use Rattle.core_plans.specs.Held.{AsksAreHeld, OpensNone, Plans, is_open_ask}
 use Rattle.core_plans.specs.HeldWrites.{DoesWriteStage, call_of_plan, job_by, way_by}
 use Rattle.core_plans.specs.LedBy.{led_by}
 use Rattle.core_steps.specs.OtherEnds.{ChangesKeepers, EndsOver, JobWay, LeavesJob, MergesOver, job_way}
-use Rattle.core_steps.specs.Posting.{ChangesNoNode, Posting}
+use Rattle.core_steps.specs.Posting.{ChangesNoNode}
+use Rattle.core_steps.specs.World.{World}
 use Rattle.core_steps.specs.Writes.{FollowerTakes, NotCommitted, RefusesCommit, sent_write}
 use Rattle.core_steps.specs.declared.routes.Route.{Route}
 use Rattle.follower_cache.specs.Seen.{FollowerState}
@@ -40,11 +41,10 @@ use Rattle.node_name.specs.declared.NodeName.{NodeName}
 use Rattle.replies.specs.declared.calls.ScheduledWhy.{ScheduledWhy}
 use Rattle.replies.specs.declared.calls.ScheduledWhy.TheVariants.{NoServer}
 use Rattle.replies.specs.declared.calls.ScheduledWhy.TheVariants as why
+use Rattle.replies.specs.declared.refusals.Refusal.{Refusal}
 use Rattle.replies.specs.declared.refusals.Refusal.TheVariants.{Store, Memory}
 use Rattle.replies.specs.declared.refusals.StoreRefused.{StoreRefused}
 use Rattle.replies.specs.declared.refusals.StoreRefused.TheVariants.{SeqReused, ShardFull, StampFull, LogFull, KeeperFault, LinkFault, Unsettled}
-use Rattle.replies.specs.declared.reply.Reply.{Reply}
-use Rattle.replies.specs.declared.reply.Reply.TheVariants.{Refused}
 use Rattle.sealed_item.specs.Fills.{SealedItem}
 use Rattle.shard_log.specs.View.{View}
 use Rattle.shard_tables.specs.declared.writes.Wrote.{Wrote}
@@ -259,10 +259,10 @@ follower_takes_none types route shard (Some e) old new takes =
 
 -- ---- the other end of a write
 
-abbrev pub followers_in : Posting → List (Named FollowerState)
-followers_in x = x.scene.fleet.followers
+abbrev pub followers_in : World → List (Named FollowerState)
+followers_in x = x.fleet.followers
 
-module _ (tells : Bool) (s : Settings) (way : JobWay) (old new : Posting) where
+module _ (tells : Bool) (s : Settings) (way : JobWay) (old new : World) where
   untouched : ChangesNoNode tells old new → followers_in new ≡ followers_in old
   untouched rests = ap (λ (f : Fleet). f.followers) rests.fleet
 
@@ -284,10 +284,10 @@ module _ (tells : Bool) (s : Settings) (way : JobWay) (old new : Posting) where
   merge_same (Err (Scheduled why wrote)) is = left_same why wrote is
   merge_same (Err (late.Refused reply)) is = absurd is
 
-changed_keepers : (old new : Posting) → ChangesKeepers old new → followers_in new ≡ followers_in old
+changed_keepers : (old new : World) → ChangesKeepers old new → followers_in new ≡ followers_in old
 changed_keepers old new is = ap followers_in is
 
-late_same : (tells : Bool) (s : Settings) (j : ShardJob) (why : ScheduledWhy) (wrote : Option Wrote) (old new : Posting)
+late_same : (tells : Bool) (s : Settings) (j : ShardJob) (why : ScheduledWhy) (wrote : Option Wrote) (old new : World)
     → EndsOver tells s j (Err (Scheduled why wrote)) old new → followers_in new ≡ followers_in old
 late_same tells s j why.KeeperFault None old new is = changed_keepers old new is.2
 late_same tells s j why.Memory None old new is = changed_keepers old new is.1
@@ -298,7 +298,7 @@ late_same tells s j why.LogFull wrote old new is = absurd is
 late_same tells s j NoServer wrote old new is = absurd is
 
 -- nor does the end of a job
-pub end_same : (tells : Bool) (s : Settings) (j : ShardJob) (result : Result ⊤ Late) (old new : Posting) → EndsOver tells s j result old new
+pub end_same : (tells : Bool) (s : Settings) (j : ShardJob) (result : Result ⊤ Late) (old new : World) → EndsOver tells s j result old new
     → followers_in new ≡ followers_in old
 end_same tells s j (Ok done) old new is = changed_keepers old new is.1
 end_same tells s j (Err (Scheduled why wrote)) old new is = late_same tells s j why wrote old new is
@@ -307,31 +307,32 @@ end_same tells s j (Err (late.Refused reply)) old new is = absurd is
 -- ---- the stages of a write
 
 -- no stage of a write opens one
-module _ (tells : Bool) (s : Settings) (leader : NodeName) (p q : Writing) (old new : Posting) where
+module _ (tells : Bool) (s : Settings) (leader : NodeName) (p q : Writing) (old new : World) where
   refusal_none : (refused : StoreRefused) → NotCommitted tells s (sent_write (way_by leader p) (call_of_plan p)) refused old new → ChangesNoNode tells old new
   refusal_none (LinkFault count when) is = is.1.same
-  refusal_none (SeqReused position) is = is.1
-  refusal_none (ShardFull serial) is = is.1
-  refusal_none (StampFull number) is = is.1
-  refusal_none (LogFull count) is = is.1
-  refusal_none (KeeperFault count) is = is.1
-  refusal_none (Unsettled at why) is = is.1
+  refusal_none (SeqReused position) is = is.1.same
+  refusal_none (ShardFull serial) is = is.1.same
+  refusal_none (StampFull number) is = is.1.same
+  refusal_none (LogFull count) is = is.1.same
+  refusal_none (KeeperFault count) is = is.1.same
+  refusal_none (Unsettled at why) is = is.1.same
 
-  uncommitted_none : (reply : Reply) → RefusesCommit tells s (sent_write (way_by leader p) (call_of_plan p)) reply old new → ChangesNoNode tells old new
-  uncommitted_none (Refused (Store refused)) is = refusal_none refused is
-  uncommitted_none (Refused (Memory position)) is = is.1
-  uncommitted_none reply is = absurd is
+  uncommitted_none : (refusal : Refusal) → RefusesCommit tells s (sent_write (way_by leader p) (call_of_plan p)) refusal old new
+      → ChangesNoNode tells old new
+  uncommitted_none (Store refused) is = refusal_none refused is
+  uncommitted_none (Memory position) is = is.1.same
+  uncommitted_none refusal is = absurd is
 
   alone : followers_in new ≡ followers_in old → OpensNone (followers_in old) (followers_in new)
   alone = same_opens_none (followers_in old) (followers_in new)
 
   pub stage_opens_none : (at : WriteStage) → DoesWriteStage (led_by tells s leader) at p old q new → OpensNone (followers_in old) (followers_in new)
   stage_opens_none Commit (inl commits) = alone commits.commits.followers
-  stage_opens_none Commit (inr refuses) = alone (ap (λ (f : Fleet). f.followers) (uncommitted_none refuses.reply refuses.refuses).fleet)
+  stage_opens_none Commit (inr refuses) = alone (ap (λ (f : Fleet). f.followers) (uncommitted_none refuses.refusal refuses.refuses).fleet)
   stage_opens_none Inverse merges = alone (merge_same tells s (job_way leader (job_by p merges.job)) old new merges.result merges.merges)
   stage_opens_none End ends = alone (end_same tells s (job_by p ends.job) ends.result old new ends.ends)
   stage_opens_none Apply (inl applies) =
-      follower_takes_none (types_of s.schema) (way_by leader p) (write_shard p.write) applies.committed.wrote.entry old.scene.fleet new.scene.fleet
+      follower_takes_none (types_of s.schema) (way_by leader p) (write_shard p.write) applies.committed.wrote.entry old.fleet new.fleet
       applies.takes
   stage_opens_none Apply (inr (inl loses)) = alone (ap (λ (f : Fleet). f.followers) loses.fleet)
   stage_opens_none Apply (inr (inr vain)) = alone (ap followers_in vain.same)

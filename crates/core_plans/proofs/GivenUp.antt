@@ -8,7 +8,7 @@ use Rattle.core_plans.specs.declared.held.HeldPlan.{HeldPlan}
 use Rattle.core_plans.specs.declared.held.HeldPlan.TheVariants.{Read, Write}
 use Rattle.core_plans.proofs.HeldWriteStages.{applied_still}
 use Rattle.core_plans.specs.LedBy.{led_by}
-use Rattle.core_steps.specs.Posting.{Posting}
+use Rattle.core_steps.specs.World.{World}
 use Rattle.node_name.specs.declared.NodeName.{NodeName}
 use Rattle.read_plan.specs.Readings.{Reading}
 use Rattle.replies.specs.declared.refusals.Refusal.TheVariants.{Memory}
@@ -37,7 +37,7 @@ no_learner (Some session) none some = absurd (cc)
 pub no_reader : (p : Reading) → IsSome (learner (Read p)) → ⊥
 no_reader p some = absurd (cc)
 
-pub gives_up : (tells : Bool) (s : Settings) (leader : NodeName) (plan : HeldPlan) (now : Posting) → IsSome (learner plan)
+pub gives_up : (tells : Bool) (s : Settings) (leader : NodeName) (plan : HeldPlan) (now : World) → IsSome (learner plan)
     → StepsHeld (led_by tells s leader) plan now (given_up plan) now
 gives_up tells s leader (Write p) now is =
     subst (λ next. DoesWriteStage (led_by tells s leader) next p now (way_given_up p) now) (sym (learns_last (next_of p) p.origin is))

@@ -10,7 +10,7 @@ use Rattle.core_model.specs.Reads.{IsGivenAnswer, Wanted, given_of}
 use Rattle.core_model.specs.Stores.{master_store}
 use Rattle.core_model.specs.declared.named.Named.{Named}
 use Rattle.core_steps.specs.Reads.{AnswersAgain, IsLegalNow}
-use Rattle.core_steps.specs.Routes.{Scene}
+use Rattle.core_steps.specs.World.{World}
 use Rattle.graph_model.specs.Log.{version}
 use Rattle.graph_model.specs.Told.{WhereTold}
 use Rattle.node_name.specs.declared.NodeName.{NodeName}
@@ -210,11 +210,11 @@ answered q answer version kept =
     record { word = query_word q.query; answer = answer; version = version; hops = q.hops; store = q.store; kept = kept }
 
 -- the reply is legal, and what is kept answers again
-abbrev pub AnswersLegally : Bool → Settings → Reading → Scene → ReadReply → Type 0
+abbrev pub AnswersLegally : Bool → Settings → Reading → World → ReadReply → Type 0
 AnswersLegally tells s q new reply = IsLegalNow tells s (wanted_by q) reply new.keepers
     × WhereTold tells (reply.kept ≡ Kept → AnswersAgain (types_of s.schema) q.follower q.query reply new.fleet.followers)
 
-abbrev pub MayEnd : Bool → Settings → Reading → Scene → Standing → Type 0
+abbrev pub MayEnd : Bool → Settings → Reading → World → Standing → Type 0
 MayEnd tells s q new (Ended (ended.Answered answer version kept)) = AnswersLegally tells s q new (answered q answer version kept)
 MayEnd tells s q new (Ended (ended.Refused refused)) = (reply : ReadReply) → refused ≡ Called (called.Read reply) → ⊥
 MayEnd tells s q new Looking = ⊤
@@ -222,7 +222,7 @@ MayEnd tells s q new Asking = ⊤
 MayEnd tells s q new Mastering = ⊤
 MayEnd tells s q new (Keeping given) = ⊤
 
-legal_at : (tells : Bool) (s : Settings) (q : Reading) (new : Scene) (at : Standing) → MayEnd tells s q new at → (reply : ReadReply)
+legal_at : (tells : Bool) (s : Settings) (q : Reading) (new : World) (at : Standing) → MayEnd tells s q new at → (reply : ReadReply)
     → EndsAt at q (Called (called.Read reply)) → AnswersLegally tells s q new reply
 legal_at tells s q new (Ended (ended.Answered answer version kept)) may reply is =
     (let same : reply ≡ answered q answer version kept = cc in subst (AnswersLegally tells s q new) (sym same) may)
@@ -232,5 +232,5 @@ legal_at tells s q new Asking may reply is = absurd is
 legal_at tells s q new Mastering may reply is = absurd is
 legal_at tells s q new (Keeping given) may reply is = absurd is
 
-pub legally : (tells : Bool) (s : Settings) (q : Reading) (new : Scene) (at : Standing) → q.at ≡ at → MayEnd tells s q new at → EndsLegally tells s q new
+pub legally : (tells : Bool) (s : Settings) (q : Reading) (new : World) (at : Standing) → q.at ≡ at → MayEnd tells s q new at → EndsLegally tells s q new
 legally tells s q new at is may reply ends = legal_at tells s q new at may reply (subst (λ a. EndsAt a q (Called (called.Read reply))) is ends)

@@ -9,9 +9,11 @@ use Rattle.core_model.specs.Fleet.{ChangesNode, Fleet, HasAsk}
 use Rattle.core_model.specs.Pens.{pens_of}
 use Rattle.core_model.specs.Reads.{AsksAtOnce, EndsAsk, IsGivenFill, IsLegalLook, KeepsFill, LeaderAnswers, LooksFirst, taken_fill, wanted}
 use Rattle.core_model.specs.Stores.{AreStoresOf, HaveMasterRegions}
-use Rattle.core_steps.specs.Reads.{MayAnswer, leader_calls}
-use Rattle.core_steps.specs.ReadSteps.{IsGivenOver, IsNotGiven, IsNotRead, IsReadOver, ReadOverFails, ReadsOn}
-use Rattle.core_steps.specs.Routes.{Scene, hops_between, master_node, scene, was_called}
+use Rattle.core_steps.specs.ReadSteps.{IsGivenOver, IsNotGiven, IsNotRead, IsReadOver, ReadsOn}
+use Rattle.core_steps.specs.Routes.{hops_between, was_called}
+use Rattle.core_steps.specs.World.{World, world}
+use Rattle.core_steps.specs.declared.nodes.Nodes.{Nodes}
+use Rattle.core_steps.proofs.LinkLemmas.{link_self}
 use Rattle.core_model.proofs.NamedNodes.{changes_so}
 use Rattle.core_nodes.specs.Stages.{NodeIs}
 use Rattle.core_nodes.proofs.NodesOfNames.{is_after}
@@ -56,7 +58,7 @@ use Rattle.tao_link.specs.Shown.{LinkShown}
 use Rattle.tao_schema.specs.Schema.{types_of}
 use Rattle.topology.specs.Config.{Settings}
 use Rattle.core_plans.specs.declared.reads.Tally.{Tally}
-use Rattle.core_plans.specs.HeldReads.{DoesLook, DoesReadStage, EndsAskAlone, EndsLegally, HasComeTo, IsReadUnderWay, MissesNone, PassesReadStage, StandsSo}
+use Rattle.core_plans.specs.HeldReads.{ChangesFollowers, DoesLook, DoesReadStage, EndsAskAlone, EndsLegally, HasComeTo, IsReadUnderWay, MissesNone, PassesReadStage, StandsSo}
 use Rattle.core_plans.specs.HeldReads.{route_by, version_now, wanted_by}
 use Rattle.core_plans.proofs.HeldReadLemmas.{IsPast, MayEnd, asked_stands, asking, asks_plain, filled, goes_so, legally, looked_stands, looking}
 use Rattle.core_plans.proofs.HeldReadLemmas.{mastered_stands, mastering, never_so, not_both, past}
@@ -84,7 +86,7 @@ of_handed_out p handed follower query floor out_is of = record {
 }
 
 -- what it took since
-pub taken_since : (p q : Reading) (outcome : ReadResult) (since : Tally) (old new : Scene)
+pub taken_since : (p q : Reading) (outcome : ReadResult) (since : Tally) (old new : World)
     → since ≡ record { calls = old.keepers.calls; carries = old.link.carries }
     → q ≡ taken outcome (new.link.carries - since.carries) (nat_lt since.calls new.keepers.calls) p
     → q ≡ taken outcome (hops_between old.link new.link) (was_called old.keepers new.keepers) p
@@ -93,7 +95,7 @@ taken_since p q outcome since old new is took =
 
 -- ---- any stage
 
-module _ (tells : Bool) (s : Settings) (leader : NodeName) (p : Reading) (old new : Scene) (is : IsReadUnderWay tells s old.keepers.told old.fleet p)
+module _ (tells : Bool) (s : Settings) (leader : NodeName) (p : Reading) (old new : World) (is : IsReadUnderWay tells s old.keepers.told old.fleet p)
     (on : ReadsOn tells s old new) where
   passes : (q r : Reading) (at : Standing) → p.at ≡ at → q ≡ r → DoesReadStage (led_by tells s leader) at p old r new → EndsLegally tells s r new
       → ((least : ℕ) → MissesNone tells s least p old.keepers → MissesNone tells s least r new.keepers)
@@ -125,6 +127,10 @@ no_refusal refusal read is = absurd (cc)
 
 -- ---- a stage at its follower
 
+-- the fleet among these nodes, with what the keepers and the link show
+abbrev placed : Nodes → Fleet → KeeperState → LinkShown → World
+placed around fleet keepers link = world (record around { fleet = fleet }) keepers link
+
 -- no other node takes part in it
 pub record AtFollower (tells : Bool) (s : Settings) (p : Reading) (keepers : KeeperState) (old new : Fleet) : Type 0 where
   pub masters : HaveMasterRegions s
@@ -135,22 +141,22 @@ pub record AtFollower (tells : Bool) (s : Settings) (p : Reading) (keepers : Kee
   pub goes : GoesOn old new
   pub reaches : HaveReached keepers.told old → HaveReached keepers.told new
 
-follower_on : (tells : Bool) (s : Settings) (p : Reading) (keepers : KeeperState) (old new : Fleet) (link : LinkShown)
-    → AtFollower tells s p keepers old new → ReadsOn tells s (scene old keepers link) (scene new keepers link)
-follower_on tells s p keepers old new link there =
-    let from : Scene = scene old keepers link in
-    on_after tells s from from new (on_same tells s from old keepers link refl there.consistent (λ told store. refl)
-    (later_self keepers)) there.rest there.fleet there.goes there.reaches
+follower_on : (tells : Bool) (s : Settings) (p : Reading) (around : Nodes) (keepers : KeeperState) (old new : Fleet) (link : LinkShown)
+    → AtFollower tells s p keepers old new → ReadsOn tells s (placed around old keepers link) (placed around new keepers link)
+follower_on tells s p around keepers old new link there =
+    let from : World = placed around old keepers link in
+    on_after tells s from from new (on_same tells s from from refl refl refl there.consistent (λ told store. refl)
+    (later_self keepers) (link_self link)) there.rest there.fleet there.goes there.reaches
 
 -- ---- look
 
-look_legal : (tells : Bool) (s : Settings) (p : Reading) (old new : Fleet) (keepers : KeeperState) (link : LinkShown) (look : Look) (ask : Option ℕ)
+look_legal : (tells : Bool) (s : Settings) (p : Reading) (around : Nodes) (old new : Fleet) (keepers : KeeperState) (link : LinkShown) (look : Look) (ask : Option ℕ)
     → p.critical ≡ false → HaveMasterRegions s → AreStoresOf tells s keepers.told old.stores → query_shard p.query < s.shards
     → ChangesNode p.follower (LooksFirst (types_of s.schema) (wanted_by p) look ask) old.followers new.followers
     → new ≡ record old { followers = new.followers }
     → IsLegalLook (types_of s.schema) (pens_of new.stores) (wanted_by p) look
-    → EndsLegally tells s (taken (came.Look (Ok look)) 0 false (record p { ask = ask })) (scene new keepers link)
-look_legal tells s p old new keepers link (Hit answer version) ask plain masters are here change rest legal =
+    → EndsLegally tells s (taken (came.Look (Ok look)) 0 false (record p { ask = ask })) (placed around new keepers link)
+look_legal tells s p around old new keepers link (Hit answer version) ask plain masters are here change rest legal =
     let types = types_of s.schema in
     let shard = query_shard p.query in
     let q : Reading = taken (came.Look (Ok (Hit answer version))) 0 false (record p { ask = ask }) in
@@ -159,32 +165,32 @@ look_legal tells s p old new keepers link (Hit answer version) ask plain masters
     let was = subst (λ (f : Fleet). IsLegalIn types (pens_of f.stores shard) p.query p.floor answer version) rest legal in
     let repeats = is_after (RepeatsHit types p.query answer version) (LooksFirst types (wanted_by p) (Hit answer version) None) p.follower
     old.followers new.followers alone (hit_repeats types (wanted_by p) answer version alone.from alone.to alone.by) in
-    legally tells s q (scene new keepers link) (Ended (ended.Answered answer version Kept)) (ap (λ c. after_look c (Hit answer version)) plain) (
+    legally tells s q (placed around new keepers link) (Ended (ended.Answered answer version Kept)) (ap (λ c. after_look c (Hit answer version)) plain) (
       legal_in_log tells s keepers.told old.stores shard types p.query p.floor answer version masters are here was,
       (λ told kept place f floor first at le. repeats place f first at floor le),
     )
-look_legal tells s p old new keepers link Miss ask plain masters are here change rest legal =
-    legally tells s (taken (came.Look (Ok Miss)) 0 false (record p { ask = ask })) (scene new keepers link) Asking (ap (λ c. after_look c Miss) plain) tt
+look_legal tells s p around old new keepers link Miss ask plain masters are here change rest legal =
+    legally tells s (taken (came.Look (Ok Miss)) 0 false (record p { ask = ask })) (placed around new keepers link) Asking (ap (λ c. after_look c Miss) plain) tt
 
-module _ (tells : Bool) (s : Settings) (leader : NodeName) (p q : Reading) (keepers : KeeperState) (link : LinkShown) (old new : Fleet)
-    (there : AtFollower tells s p keepers old new) where
-  abbrev from : Scene
-  from = scene old keepers link
+module _ (tells : Bool) (s : Settings) (leader : NodeName) (p q : Reading) (around : Nodes) (keepers : KeeperState) (link : LinkShown)
+    (old new : Fleet) (there : AtFollower tells s p keepers old new) where
+  abbrev from : World
+  from = placed around old keepers link
 
-  abbrev to : Scene
-  to = scene new keepers link
+  abbrev to : World
+  to = placed around new keepers link
 
   passes_there : (r : Reading) (at : Standing) → p.at ≡ at → q ≡ r → DoesReadStage (led_by tells s leader) at p from r to → EndsLegally tells s r to
       → ((least : ℕ) → MissesNone tells s least p keepers → MissesNone tells s least r keepers)
       → IsReadUnderWay tells s keepers.told new r → PassesReadStage (led_by tells s leader) p from q to
-  passes_there = passes tells s leader p from to there.read (follower_on tells s p keepers old new link there) q
+  passes_there = passes tells s leader p from to there.read (follower_on tells s p around keepers old new link there) q
 
   refused_there : (outcome : ReadResult) (at : Standing) → p.at ≡ at
       → standing_after p.critical p.bound p.at outcome ≡ Ended (ended.Refused (Refused (Memory 0)))
       → q ≡ taken outcome 0 false p → DoesReadStage (led_by tells s leader) at p from (taken outcome 0 false p) to
       → PassesReadStage (led_by tells s leader) p from q to
   refused_there outcome at at_is over =
-      refused tells s leader p from to there.read (follower_on tells s p keepers old new link there) q outcome 0 false (Refused (Memory 0)) at at_is over
+      refused tells s leader p from to there.read (follower_on tells s p around keepers old new link there) q outcome 0 false (Refused (Memory 0)) at at_is over
       (no_refusal (Memory 0))
 
   -- with the ask that it opened
@@ -218,10 +224,10 @@ module _ (tells : Bool) (s : Settings) (leader : NodeName) (p q : Reading) (keep
         look = look;
         ask = ask;
         looks = looks;
-        rest = ap (λ f. scene f keepers link) there.rest;
+        rest = ap (λ f. placed around f keepers link) there.rest;
         then = refl;
       })))
-      (look_legal tells s p old new keepers link look ask plain there.masters there.consistent.stores there.read.follower.here looks there.rest right)
+      (look_legal tells s p around old new keepers link look ask plain there.masters there.consistent.stores there.read.follower.here looks there.rest right)
       (λ least was told critical. absurd (not_both p.critical plain critical))
       (read_there look ask (of_plan (λ f q n. IfSome ask (λ number. HasAsk f number (query_key q) new.followers)) p follower query floor of has))
 
@@ -240,7 +246,7 @@ module _ (tells : Bool) (s : Settings) (leader : NodeName) (p q : Reading) (keep
       (subst (λ c. DoesLook s c p from r to) (sym critical) (record {
         ask = ask;
         asks = of_plan (λ f q n. ChangesNode f (AsksAtOnce (query_key q) ask) old.followers new.followers) p follower query floor of change;
-        rest = ap (λ f. scene f keepers link) there.rest;
+        rest = ap (λ f. placed around f keepers link) there.rest;
         then = refl;
       }))
       (legally tells s r to Mastering masters tt)
@@ -253,7 +259,7 @@ module _ (tells : Bool) (s : Settings) (leader : NodeName) (p q : Reading) (keep
   looks_lost reply at plain same said took =
       let outcome = came.Look (Err (Refused (Memory 0))) in
       refused_there outcome Looking (looking p.at at) refl (took ∙ ap (λ r. taken (came.Look (Err r)) 0 false p) said)
-      (subst (λ c. DoesLook s c p from (taken outcome 0 false p) to) (sym plain) (inr (record { same = ap (λ f. scene f keepers link) same; then = refl })))
+      (subst (λ c. DoesLook s c p from (taken outcome 0 false p) to) (sym plain) (inr (record { same = ap (λ f. placed around f keepers link) same; then = refl })))
 
   -- ---- keep
 
@@ -287,14 +293,14 @@ module _ (tells : Bool) (s : Settings) (leader : NodeName) (p q : Reading) (keep
       (filled_repeats s old new.followers p.follower (wanted_by p) p.ask fill answer kept there.consistent.fleet keeps given sealed told held)) in
       let now = version_now s p keepers in
       passes_there r (Keeping (Fill fill)) at (took ∙ ap (taken outcome 0 false) out_is ∙ (answers_are_given p outcome 0 false).fill_out next)
-      (inl (record { answer = answer; kept = kept; keeps = keeps; rest = ap (λ f. scene f keepers link) there.rest; then = refl }))
+      (inl (record { answer = answer; kept = kept; keeps = keeps; rest = ap (λ f. placed around f keepers link) there.rest; then = refl }))
       (legally tells s r to (Ended (ended.Answered answer fill.version (kept_or_not kept))) (ap (λ a. after_keep p.bound a (Some (answer, kept))) at) (
         legal_in_log tells s keepers.told old.stores shard types p.query p.floor answer fill.version there.masters are here was,
         (λ told held place f floor first there le. again told held place f first there floor le),
       ))
       (λ least was told critical. subst (λ a. HasComeTo least now (after_keep p.bound a (Some (answer, kept)))) (sym at)
       (subst (HasComeTo least now) at (was told critical)))
-      (read_on tells s leader p from to there.read (follower_on tells s p keepers old new link there) outcome 0 false
+      (read_on tells s leader p from to there.read (follower_on tells s p around keepers old new link there) outcome 0 false
       (subst (λ a. StandsSo types (pens_of new.stores) (wanted_by p) (after_keep p.bound a (Some (answer, kept)))) (sym at) tt))
 
   -- memory was wanting for the answer
@@ -306,17 +312,17 @@ module _ (tells : Bool) (s : Settings) (leader : NodeName) (p q : Reading) (keep
       (subst (λ f. ChangesNode f (EndsAsk ask) old.followers new.followers) (same ∙ ap (λ (r : Reading). r.follower) out_is) change) in
       refused_there (came.Keep (Err (Refused (Memory 0)))) (Keeping (Fill fill)) (filled p.at fill found) refl
       (took ∙ ap (taken (came.Keep (Err reply)) 0 false) out_is ∙ ap (λ r. taken (came.Keep (Err r)) 0 false p) said)
-      (inr (record { ends = ends; rest = ap (λ f. scene f keepers link) there.rest; then = refl }))
+      (inr (record { ends = ends; rest = ap (λ f. placed around f keepers link) there.rest; then = refl }))
 
-pub hands_done : (tells : Bool) (s : Settings) (leader : NodeName) (p q : Reading) (keepers : KeeperState) (link : LinkShown) (old new : Fleet)
-    (handed : Reading) → HaveMasterRegions s → IsConsistent tells s keepers.told old → IsReadUnderWay tells s keepers.told old p → fill_of p.at ≡ None
+pub hands_done : (tells : Bool) (s : Settings) (leader : NodeName) (p q : Reading) (around : Nodes) (keepers : KeeperState) (link : LinkShown)
+    (old new : Fleet) (handed : Reading) → HaveMasterRegions s → IsConsistent tells s keepers.told old → IsReadUnderWay tells s keepers.told old p → fill_of p.at ≡ None
     → stage_of p.at ≡ stage.Keep → handed ≡ fill_handed p → EndsAskAlone s handed old new → q ≡ taken (came.Keep (Ok None)) 0 false handed
-    → PassesReadStage (led_by tells s leader) p (scene old keepers link) q (scene new keepers link)
-hands_done tells s leader p q keepers link old new handed masters consistent is none stage_is out_is ended_ask took =
+    → PassesReadStage (led_by tells s leader) p (placed around old keepers link) q (placed around new keepers link)
+hands_done tells s leader p q around keepers link old new handed masters consistent is none stage_is out_is ended_ask took =
     let types = types_of s.schema in
     let shard = query_shard p.query in
-    let from : Scene = scene old keepers link in
-    let to : Scene = scene new keepers link in
+    let from : World = placed around old keepers link in
+    let to : World = placed around new keepers link in
     let outcome = came.Keep (Ok None) in
     let r : Reading = taken outcome 0 false p in
     let there : AtFollower tells s p keepers old new =
@@ -335,30 +341,30 @@ hands_done tells s leader p q keepers link old new handed masters consistent is 
     let ends = subst (λ (r : Reading). ChangesNode r.follower (EndsAsk r.ask) old.followers new.followers) out_is ended_ask.ends in
     let right = legal-grows b.note (pens_of old.stores shard) types p.query p.floor b.answer b.version given.1 given.0 in
     let now = version_now s p keepers in
-    passes_there tells s leader p q keepers link old new there r (Keeping (Past b.answer b.version b.total (Some b.note))) b.is
+    passes_there tells s leader p q around keepers link old new there r (Keeping (Past b.answer b.version b.total (Some b.note))) b.is
     (took ∙ ap (taken outcome 0 false) out_is ∙ (answers_are_given p outcome 0 false).fill_out next)
-    (record { ends = ends; rest = ap (λ f. scene f keepers link) ended_ask.rest; then = refl })
+    (record { ends = ends; rest = ap (λ f. placed around f keepers link) ended_ask.rest; then = refl })
     (legally tells s r to (Ended (ended.Answered b.answer b.version (past_bound p.bound b.total))) (ap (λ a. after_keep p.bound a None) b.is) (
       legal_in_log tells s keepers.told old.stores shard types p.query p.floor b.answer b.version masters consistent.stores is.follower.here right,
       (λ told kept. not_past p.bound b.total _ kept),
     ))
     (λ least was told critical. subst (λ a. HasComeTo least now (after_keep p.bound a None)) (sym b.is) (subst (HasComeTo least now) b.is (was told critical)))
-    (read_on tells s leader p from to is (follower_on tells s p keepers old new link there) outcome 0 false
+    (read_on tells s leader p from to is (follower_on tells s p around keepers old new link there) outcome 0 false
     (subst (λ a. StandsSo types (pens_of new.stores) (wanted_by p) (after_keep p.bound a None)) (sym b.is) tt))
 
 -- ---- a stage over the link
 
 -- what was given goes to the follower, or the read goes on
-asked_on : (tells : Bool) (s : Settings) (q : Reading) (new : Scene) (given : LeaderAnswer) → MayEnd tells s q new (after_ask given)
+asked_on : (tells : Bool) (s : Settings) (q : Reading) (new : World) (given : LeaderAnswer) → MayEnd tells s q new (after_ask given)
 asked_on tells s q new (leads.Filled fill) = tt
 asked_on tells s q new (leads.Past answer version total note) = tt
 asked_on tells s q new (leads.Behind version) = tt
 
-mastered_on : (tells : Bool) (s : Settings) (q : Reading) (new : Scene) (read : ReadOut) → MayEnd tells s q new (after_master read)
+mastered_on : (tells : Bool) (s : Settings) (q : Reading) (new : World) (read : ReadOut) → MayEnd tells s q new (after_master read)
 mastered_on tells s q new (out.Filled fill) = tt
 mastered_on tells s q new (out.Past answer version total note) = tt
 
-module _ (tells : Bool) (s : Settings) (leader : NodeName) (p q : Reading) (old new : Scene) (is : IsReadUnderWay tells s old.keepers.told old.fleet p)
+module _ (tells : Bool) (s : Settings) (leader : NodeName) (p q : Reading) (old new : World) (is : IsReadUnderWay tells s old.keepers.told old.fleet p)
     (on : ReadsOn tells s old new) where
   abbrev over : ReadResult → Reading
   over outcome = taken outcome (hops_between old.link new.link) (was_called old.keepers new.keepers) p
@@ -394,71 +400,39 @@ module _ (tells : Bool) (s : Settings) (leader : NodeName) (p q : Reading) (old 
       (subst (HasComeTo least (version_now s p old.keepers)) (mastering p.at at) (was told critical)))
       (mastered_stands (types_of s.schema) (pens_of new.fleet.stores) (wanted_by p) read (gave.given p.floor is.reached))
 
--- why nothing was carried back does not depend on the nodes
-over_there : (follower store : NodeName) (reply : Reply) (old mid : Scene) (end : Fleet) → ReadOverFails follower store reply old mid
-    → ReadOverFails follower store reply old (scene end mid.keepers mid.link)
-over_there follower store (Refused (Store (LinkFault count Before))) old mid end h = h
-over_there follower store (Refused (Store (KeeperFault count))) old mid end h = h
-over_there follower store (Refused (Memory position)) old mid end h = h
-over_there follower store reply old mid end h = absurd h
-
-no_out : (follower store : NodeName) (reply : Reply) (old new : Scene) → ReadOverFails follower store reply old new → (read : ReadReply)
-    → reply ≡ Called (called.Read read) → ⊥
-no_out follower store reply old new fails read is = subst (λ r. ReadOverFails follower store r old new) is fails
-
 -- nothing was carried back, and its ask ended
-module _ (tells : Bool) (s : Settings) (leader : NodeName) (p q : Reading) (old mid : Scene) (end : Fleet)
-    (is : IsReadUnderWay tells s old.keepers.told old.fleet p) (on : ReadsOn tells s old mid) (ends : EndsAskAlone s p mid.fleet end) (reply : Reply) where
-  abbrev new : Scene
-  new = scene end mid.keepers mid.link
+module _ (tells : Bool) (s : Settings) (leader : NodeName) (p q : Reading) (old mid : World) (end : Fleet)
+    (is : IsReadUnderWay tells s old.keepers.told old.fleet p) (on : ReadsOn tells s old mid) (ends : EndsAskAlone s p mid.fleet end)
+    (refusal : Refusal) where
+  abbrev new : World
+  new = record mid { fleet = end }
 
   abbrev lost : ReadResult → Reading
   lost outcome = taken outcome (hops_between old.link mid.link) (was_called old.keepers mid.keepers) p
 
-  lost_over : (outcome : ReadResult) (other : NodeName) (at : Standing) → p.at ≡ at
-      → standing_after p.critical p.bound p.at outcome ≡ Ended (ended.Refused reply) → ReadOverFails p.follower other reply old new
+  -- no node but the read's follower changed since
+  alone : ChangesFollowers mid new
+  alone = ap (λ f. record mid { fleet = f }) ends.rest
+
+  lost_over : (outcome : ReadResult) (at : Standing) → p.at ≡ at
+      → standing_after p.critical p.bound p.at outcome ≡ Ended (ended.Refused (Refused refusal))
       → q ≡ lost outcome → DoesReadStage (led_by tells s leader) at p old (lost outcome) new → PassesReadStage (led_by tells s leader) p old q new
-  lost_over outcome other at at_is over fails =
+  lost_over outcome at at_is over =
       refused tells s leader p old new is (on_after tells s old mid end on ends.rest ends.fleet ends.goes
       (end_reaches mid.keepers.told p.follower mid.fleet end ends.rest p.ask ends.ends)) q outcome (hops_between old.link mid.link)
-      (was_called old.keepers mid.keepers) reply at at_is over (no_out p.follower other reply old new fails)
+      (was_called old.keepers mid.keepers) (Refused refusal) at at_is over (no_refusal refusal)
 
   pub asks_lost : (follower : NodeName) (query : Query) (floor : ℕ) → stage_of p.at ≡ stage.Ask → IsOfPlan p follower query floor
-      → IsNotGiven s (record { follower = follower; leader = leader }) (wanted query floor) reply old mid → q ≡ lost (came.Ask (Err reply))
-      → PassesReadStage (led_by tells s leader) p old q new
+      → IsNotGiven s (record { follower = follower; leader = leader }) (wanted query floor) refusal old mid
+      → q ≡ lost (came.Ask (Err (Refused refusal))) → PassesReadStage (led_by tells s leader) p old q new
   asks_lost follower query floor at of vain took =
-      let types = types_of s.schema in
-      let not = of_plan (λ f q n. IsNotGiven s (record { follower = f; leader = leader }) (wanted q n) reply old mid) p follower query floor of vain in
-      let leaders : end.leaders ≡ mid.fleet.leaders = ap (λ (f : Fleet). f.leaders) ends.rest in
-      let fails = over_there p.follower leader reply old mid end not.fails in
-      let may : MayAnswer types (route_by leader p) (wanted_by p) old new = elim not.leaders [
-        | inl same ↦ inl (leaders ∙ same)
-        | inr one ↦ inr (
-          one.0,
-          one.1,
-          subst (λ ls. ChangesNode leader (LeaderAnswers types (wanted_by p) one.0 (leader_calls leader old.fleet.stores old.keepers one.1))
-              old.fleet.leaders ls) (sym leaders) one.2,
-        )
-      ] in
-      lost_over (came.Ask (Err reply)) leader Asking (asking p.at at) refl fails took (inr (record {
-        reply = reply;
-        fails = fails;
-        leaders = may;
-        ends = subst (λ fs. ChangesNode p.follower (EndsAsk p.ask) fs end.followers) (ap (λ (f : Fleet). f.followers) not.rest) ends.ends;
-        stores = ap (λ (f : Fleet). f.stores) ends.rest ∙ ap (λ (f : Fleet). f.stores) not.rest;
-        then = refl;
-      }))
+      let not = of_plan (λ f q n. IsNotGiven s (record { follower = f; leader = leader }) (wanted q n) refusal old mid) p follower query floor of vain in
+      lost_over (came.Ask (Err (Refused refusal))) Asking (asking p.at at) refl took
+      (inr (record { refusal = refusal; mid = mid; fails = not; ends = ends.ends; rest = alone; then = refl }))
 
   pub masters_lost : (follower : NodeName) (query : Query) (floor : ℕ) → stage_of p.at ≡ stage.Master → IsOfPlan p follower query floor
-      → IsNotRead s follower query reply old mid → q ≡ lost (came.Master (Err reply)) → PassesReadStage (led_by tells s leader) p old q new
+      → IsNotRead s follower query refusal old mid → q ≡ lost (came.Master (Err (Refused refusal))) → PassesReadStage (led_by tells s leader) p old q new
   masters_lost follower query floor at of vain took =
-      let master = master_node s (query_shard p.query) in
-      let not = of_plan (λ f q n. IsNotRead s f q reply old mid) p follower query floor of vain in
-      let fails = over_there p.follower master reply old mid end not.fails in
-      lost_over (came.Master (Err reply)) master Mastering (mastering p.at at) refl fails took (inr (record {
-        reply = reply;
-        fails = fails;
-        ends = subst (λ fs. ChangesNode p.follower (EndsAsk p.ask) fs end.followers) (ap (λ (f : Fleet). f.followers) not.same) ends.ends;
-        rest = ends.rest ∙ ap (λ (f : Fleet). record f { followers = end.followers }) not.same;
-        then = refl;
-      }))
+      let not = of_plan (λ f q n. IsNotRead s f q refusal old mid) p follower query floor of vain in
+      lost_over (came.Master (Err (Refused refusal))) Mastering (mastering p.at at) refl took
+      (inr (record { refusal = refusal; mid = mid; fails = not; ends = ends.ends; rest = alone; then = refl }))

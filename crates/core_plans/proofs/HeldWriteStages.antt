@@ -5,7 +5,8 @@ use Rattle.std.specs.Prelude.{⊤, Err, IfErr, IfOk, IfSome, IsSome, Ok, OnOk, R
 use Rattle.core_model.specs.Fleet.{Fleet}
 use Rattle.core_model.specs.Jobs.{CanBeMerged, IsMergedJob, ShardJob, job_on}
 use Rattle.core_steps.specs.OtherEnds.{EndsOver, MergesOver, StandsThere, job_way, known_of}
-use Rattle.core_steps.specs.Posting.{Posting, PostsOn}
+use Rattle.core_steps.specs.Posting.{PostsOn}
+use Rattle.core_steps.specs.World.{World}
 use Rattle.core_steps.specs.Routes.{hops_between}
 use Rattle.core_steps.specs.Writes.{AuthoredWrite, CanBeApplied, IsCommitted, RefusesCommit, SentWrite, client_call, sent_write}
 use Rattle.core_steps.specs.declared.routes.Route.{Route}
@@ -13,6 +14,7 @@ use Rattle.graph_model.specs.Told.{WhereTold}
 use Rattle.node_name.specs.declared.NodeName.{NodeName}
 use Rattle.replies.specs.declared.calls.ScheduledWhy.{ScheduledWhy}
 use Rattle.replies.specs.declared.calls.ScheduledWhy.TheVariants.{LinkFault, KeeperFault, LogFull, NoServer, Memory}
+use Rattle.replies.specs.declared.refusals.Refusal.{Refusal}
 use Rattle.replies.specs.declared.reply.Reply.{Reply}
 use Rattle.shard_tables.specs.StoreView.{Store}
 use Rattle.shard_tables.specs.declared.writes.Wrote.{Wrote}
@@ -143,7 +145,7 @@ late_wrote (Ok done) = None
 late_wrote (Err (Scheduled why wrote)) = wrote
 late_wrote (Err (Refused reply)) = None
 
-no_late_wrote : (tells : Bool) (s : Settings) (j : ShardJob) (why : ScheduledWhy) (w : Wrote) (old new : Posting)
+no_late_wrote : (tells : Bool) (s : Settings) (j : ShardJob) (why : ScheduledWhy) (w : Wrote) (old new : World)
     → EndsOver tells s j (Err (Scheduled why (Some w))) old new → ⊥
 no_late_wrote tells s j LinkFault w old new is = absurd is
 no_late_wrote tells s j KeeperFault w old new is = absurd is
@@ -152,7 +154,7 @@ no_late_wrote tells s j NoServer w old new is = absurd is
 no_late_wrote tells s j Memory w old new is = absurd is
 
 -- is nothing
-end_writes_none : (tells : Bool) (s : Settings) (j : ShardJob) (result : Result ⊤ Late) (old new : Posting) → EndsOver tells s j result old new
+end_writes_none : (tells : Bool) (s : Settings) (j : ShardJob) (result : Result ⊤ Late) (old new : World) → EndsOver tells s j result old new
     → late_wrote result ≡ None
 end_writes_none tells s j (Ok done) old new is = refl
 end_writes_none tells s j (Err (Scheduled why None)) old new is = refl
@@ -264,14 +266,14 @@ of_write leader p follower origin write P of h =
     (subst (λ w. P (record { follower = follower; leader = leader }) (client_call origin w)) of.write_is h))
 
 -- what a commit came to: its follower may take it, its job may be merged, or it was refused
-pub record ComesOfCommit (tells : Bool) (s : Settings) (sent : SentWrite) (wrote : Result Wrote Reply) (old new : Posting) : Type 0 where
+pub record ComesOfCommit (tells : Bool) (s : Settings) (sent : SentWrite) (wrote : Result Wrote Refusal) (old new : World) : Type 0 where
   pub committed : IfOk wrote (λ w. IsCommitted tells s sent w old new)
-  pub apply : IfOk wrote (λ w. CanBeApplied sent.call w new.scene.fleet.stores)
-  pub job : IfOk wrote (λ w. IfSome w.job (λ j. CanBeMerged tells s new.scene.keepers.told (job_on (write_shard sent.call.write) j)))
-  pub refused : IfErr wrote (λ reply. RefusesCommit tells s sent reply old new)
+  pub apply : IfOk wrote (λ w. CanBeApplied sent.call w new.fleet.stores)
+  pub job : IfOk wrote (λ w. IfSome w.job (λ j. CanBeMerged tells s new.keepers.told (job_on (write_shard sent.call.write) j)))
+  pub refused : IfErr wrote (λ refusal. RefusesCommit tells s sent refusal old new)
 
 -- what the leader answered, its follower may take
-answer_of : (s : Settings) (stores : List Store) (p : Writing) (wrote : Result Wrote Reply) (outcome : Result Committed Reply)
+answer_of : (s : Settings) (stores : List Store) (p : Writing) (wrote : Result Wrote Refusal) (outcome : Result Committed Reply)
     → IsTakenAs s p.write wrote outcome → IfOk wrote (λ w. CanBeApplied (call_of_plan p) w stores) → IfOk outcome (IsAnswerTo s stores p)
 answer_of s stores p (Ok w) (Ok c) taken apply = record {
   apply = subst (λ x. CanBeApplied (call_of_plan p) x stores) (sym taken.0) apply;
@@ -284,26 +286,26 @@ answer_of s stores p (Err refusal) (Ok c) taken apply = absurd taken
 answer_of s stores p (Err refusal) (Err reply) taken apply = tt
 
 -- and its job may be merged
-job_of_answer : (s : Settings) (write : Write) (P : Job → Type 0) (wrote : Result Wrote Reply) (outcome : Result Committed Reply)
+job_of_answer : (s : Settings) (write : Write) (P : Job → Type 0) (wrote : Result Wrote Refusal) (outcome : Result Committed Reply)
     → IsTakenAs s write wrote outcome → IfOk wrote (λ w. IfSome w.job P) → IfOk outcome (λ c. IfSome c.wrote.job P)
 job_of_answer s write P (Ok w) (Ok c) taken job = subst (λ (x : Wrote). IfSome x.job P) (sym taken.0) job
 job_of_answer s write P (Ok w) (Err reply) taken job = tt
 job_of_answer s write P (Err refusal) (Ok c) taken job = absurd taken
 job_of_answer s write P (Err refusal) (Err reply) taken job = tt
 
-commits_done : (tells : Bool) (s : Settings) (leader : NodeName) (p q : Writing) (old new : Posting) (wrote : Result Wrote Reply)
+commits_done : (tells : Bool) (s : Settings) (leader : NodeName) (p q : Writing) (old new : World) (wrote : Result Wrote Refusal)
     (outcome : Result Committed Reply) → IsTakenAs s p.write wrote outcome → ComesOfCommit tells s (sent_write (way_by leader p) (call_of_plan p)) wrote old new
-    → q ≡ after_stage p (came.Commit outcome) (hops_between old.scene.link new.scene.link) → DoesWriteStage (led_by tells s leader) Commit p old q new
+    → q ≡ after_stage p (came.Commit outcome) (hops_between old.link new.link) → DoesWriteStage (led_by tells s leader) Commit p old q new
 commits_done tells s leader p q old new (Ok w) (Ok c) taken comes then = inl (record {
   committed = c;
   commits = subst (λ x. IsCommitted tells s (sent_write (way_by leader p) (call_of_plan p)) x old new) (sym taken.0) comes.committed;
-  answer = answer_of s new.scene.fleet.stores p (Ok w) (Ok c) taken comes.apply;
+  answer = answer_of s new.fleet.stores p (Ok w) (Ok c) taken comes.apply;
   then = then;
 })
 commits_done tells s leader p q old new (Err refusal) (Err reply) taken comes then = inr (record {
-  reply = reply;
-  refuses = subst (λ r. RefusesCommit tells s (sent_write (way_by leader p) (call_of_plan p)) r old new) (sym taken) comes.refused;
-  then = then;
+  refusal = refusal;
+  refuses = comes.refused;
+  then = then ∙ ap (λ r. after_stage p (came.Commit (Err r)) (hops_between old.link new.link)) taken;
 })
 commits_done tells s leader p q old new (Ok w) (Err reply) taken comes then = absurd taken
 commits_done tells s leader p q old new (Err refusal) (Ok c) taken comes then = absurd taken
@@ -326,7 +328,7 @@ module _ (P : ShardJob → Type 0) (p : Writing) (job : Job) (shard : ℕ) (shar
 abbrev pub no_carries : LinkShown
 no_carries = record { cuts = None; carries = 0; faults = 0; failed = None }
 
-pub ended_on : (tells : Bool) (s : Settings) (tables : Tables) (f : Fleet) (p : Writing) (job : Job) (result : Result ⊤ Late) (old new : Posting)
+pub ended_on : (tells : Bool) (s : Settings) (tables : Tables) (f : Fleet) (p : Writing) (job : Job) (result : Result ⊤ Late) (old new : World)
     → IsWriteUnderWay tells s tables f p → answered_job p ≡ Some job → EndsOver tells s (job_by p job) result old new
     → IsWriteUnderWay tells s tables f (after_stage p (came.End result) 0)
 ended_on tells s tables f p job result old new is at ends =
@@ -334,41 +336,41 @@ ended_on tells s tables f p job result old new is at ends =
 
 -- ---- a stage was done
 
-module _ (tells : Bool) (s : Settings) (leader : NodeName) (p q : Writing) (old new : Posting)
-    (is : IsWriteUnderWay tells s old.scene.keepers.told old.scene.fleet p) (on : PostsOn tells s old new) where
+module _ (tells : Bool) (s : Settings) (leader : NodeName) (p q : Writing) (old new : World)
+    (is : IsWriteUnderWay tells s old.keepers.told old.fleet p) (on : PostsOn tells s old new) where
   abbrev hops : ℕ
-  hops = hops_between old.scene.link new.scene.link
+  hops = hops_between old.link new.link
 
-  later : IsWriteUnderWay tells s new.scene.keepers.told new.scene.fleet p
-  later = write_later tells s old.scene.keepers.told new.scene.keepers.told old.scene.fleet new.scene.fleet p on.consistent on.goes on.grows is
+  later : IsWriteUnderWay tells s new.keepers.told new.fleet p
+  later = write_later tells s old.keepers.told new.keepers.told old.fleet new.fleet p on.consistent on.goes on.grows is
 
   passes : (at : WriteStage) (result : WriteResult) → q ≡ after_stage p result hops → DoesWriteStage (led_by tells s leader) at p old q new
-      → IsWriteUnderWay tells s new.scene.keepers.told new.scene.fleet (after_stage p result hops)
+      → IsWriteUnderWay tells s new.keepers.told new.fleet (after_stage p result hops)
       → PassesWriteStage (led_by tells s leader) at p old q new
   passes at result then does still =
-      record { does = does; write = taken_on tells s new.scene.keepers.told new.scene.fleet p q result hops then still; on = on }
+      record { does = does; write = taken_on tells s new.keepers.told new.fleet p q result hops then still; on = on }
 
-  pub commits_pass : (follower : NodeName) (origin : Origin) (write : Write) (wrote : Result Wrote Reply) (outcome : Result Committed Reply) (took : ℕ)
+  pub commits_pass : (follower : NodeName) (origin : Origin) (write : Write) (wrote : Result Wrote Refusal) (outcome : Result Committed Reply) (took : ℕ)
       → next_of p ≡ Commit → IsOfWriting p follower origin write
       → ComesOfCommit tells s (sent_write (record { follower = follower; leader = leader }) (client_call origin write)) wrote old new
       → IsTakenAs s p.write wrote outcome → took ≡ hops → q ≡ after_stage p (came.Commit outcome) took
       → PassesWriteStage (led_by tells s leader) Commit p old q new
   commits_pass follower origin write wrote outcome took at of comes_so taken took_is took_so =
-      let tables = new.scene.keepers.told in
+      let tables = new.keepers.told in
       let then = took_so ∙ ap (after_stage p (came.Commit outcome)) took_is in
       let comes = of_write leader p follower origin write (λ way call. ComesOfCommit tells s (sent_write way call) wrote old new) of comes_so in
       passes Commit (came.Commit outcome) then (commits_done tells s leader p q old new wrote outcome taken comes then)
-      (committed_still tells s tables new.scene.fleet p later outcome hops (before_commit p at)
-      (answer_of s new.scene.fleet.stores p wrote outcome taken comes.apply)
+      (committed_still tells s tables new.fleet p later outcome hops (before_commit p at)
+      (answer_of s new.fleet.stores p wrote outcome taken comes.apply)
       (job_of_answer s p.write (λ j. CanBeMerged tells s tables (job_by p j)) wrote outcome taken comes.job))
 
   pub merges_pass : (job : Job) (shard : ℕ) (result : Result Wrote Late) (took : ℕ) → answered_job p ≡ Some job → shard ≡ write_shard p.write
       → MergesOver tells s (job_way leader (job_on shard job)) result old new
-      → WhereTold tells (OnOk result (IsMergedJob s new.scene.keepers.told (job_on shard job)))
-      → StandsThere s job (known_of result) new.scene.fleet.stores
+      → WhereTold tells (OnOk result (IsMergedJob s new.keepers.told (job_on shard job)))
+      → StandsThere s job (known_of result) new.fleet.stores
       → took ≡ hops → q ≡ after_stage p (came.Inverse result) took → PassesWriteStage (led_by tells s leader) Inverse p old q new
   merges_pass job shard result took answered shard_is merges merged stands took_is took_so =
-      let tables = new.scene.keepers.told in
+      let tables = new.keepers.told in
       let then = took_so ∙ ap (after_stage p (came.Inverse result)) took_is in
       passes Inverse (came.Inverse result) then
       (record {
@@ -378,5 +380,5 @@ module _ (tells : Bool) (s : Settings) (leader : NodeName) (p q : Writing) (old 
         merges = to_job (λ j. MergesOver tells s (job_way leader j) result old new) p job shard shard_is merges;
         then = then;
       })
-      (merged_still tells s tables new.scene.fleet p later job answered result hops
+      (merged_still tells s tables new.fleet p later job answered result hops
       (to_job (λ j. WhereTold tells (OnOk result (IsMergedJob s tables j))) p job shard shard_is merged) stands)

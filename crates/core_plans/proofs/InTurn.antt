@@ -11,8 +11,9 @@ use Rattle.core_plans.specs.HeldWrites.{DoesWriteStage}
 use Rattle.core_plans.specs.LedBy.{LedBy}
 use Rattle.core_plans.specs.declared.held.HeldPlan.{HeldPlan}
 use Rattle.core_plans.specs.declared.held.HeldPlan.TheVariants.{Read, Write}
-use Rattle.core_steps.specs.Posting.{CanPost, Posting, PostsOn}
-use Rattle.core_steps.specs.Routes.{Scene, hops_between}
+use Rattle.core_steps.specs.Posting.{CanPost, PostsOn}
+use Rattle.core_steps.specs.World.{World}
+use Rattle.core_steps.specs.Routes.{hops_between}
 use Rattle.node_name.specs.declared.NodeName.{NodeName}
 use Rattle.read_plan.specs.Readings.{Reading}
 use Rattle.read_plan.specs.Standings.{stage_named, stage_of}
@@ -22,6 +23,7 @@ use Rattle.read_plan.specs.declared.standing.Standing.{Standing}
 use Rattle.read_plan.specs.declared.standing.Standing.TheVariants.{Looking, Asking, Mastering, Keeping, Ended}
 use Rattle.tao_base.specs.Queries.{query_shard}
 use Rattle.tao_base.specs.Writes.{write_shard}
+use Rattle.replies.specs.declared.reply.Reply.TheVariants.{Refused as Refused_}
 use Rattle.topology.specs.Config.{Settings}
 use Rattle.write_plan.specs.Plans.{Writing, after_stage, next_of}
 use Rattle.write_plan.specs.Stages.{told_stage}
@@ -41,7 +43,7 @@ pub record IsSameRead (p q : Reading) : Type 0 where
   pub critical : q.critical ≡ p.critical
   pub follower : q.follower ≡ p.follower
 
-module _ (p q : Reading) (old new : Scene) where
+module _ (p q : Reading) (old new : World) where
   look_same : (s : Settings) (critical : Bool) → DoesLook s critical p old q new → IsSameRead p q
   look_same s false (inl looks) = subst (IsSameRead p) (sym looks.then) (record { query = refl; region = refl; floor = refl; critical = refl; follower = refl })
   look_same s false (inr vain) = subst (IsSameRead p) (sym vain.then) (record { query = refl; region = refl; floor = refl; critical = refl; follower = refl })
@@ -63,7 +65,7 @@ module _ (p q : Reading) (old new : Scene) where
   read_same led (Ended end) does = absurd does
 
 -- a read that did a stage had one before it
-read_goes : (led : LedBy) (at : Standing) (p q : Reading) (old new : Scene) → p.at ≡ at → DoesReadStage led at p old q new
+read_goes : (led : LedBy) (at : Standing) (p q : Reading) (old new : World) → p.at ≡ at → DoesReadStage led at p old q new
     → IsSome (stage_named (stage_of p.at))
 read_goes led Looking p q old new is does = subst (λ a. IsSome (stage_named (stage_of a))) (sym is) refl
 read_goes led Asking p q old new is does = subst (λ a. IsSome (stage_named (stage_of a))) (sym is) refl
@@ -94,13 +96,13 @@ after_same p (came.Relay (Err reply)) hops = record { write = refl; origin = ref
 after_same p (came.Apply (Ok done)) hops = record { write = refl; origin = refl; region = refl; follower = refl }
 after_same p (came.Apply (Err reply)) hops = record { write = refl; origin = refl; region = refl; follower = refl }
 
-module _ (p q : Writing) (old new : Posting) where
+module _ (p q : Writing) (old new : World) where
   abbrev hops : ℕ
-  hops = hops_between old.scene.link new.scene.link
+  hops = hops_between old.link new.link
 
   pub write_same : (led : LedBy) (at : WriteStage) → DoesWriteStage led at p old q new → IsSameWrite p q
   write_same led Commit (inl commits) = subst (IsSameWrite p) (sym commits.then) (after_same p (came.Commit (Ok commits.committed)) hops)
-  write_same led Commit (inr refuses) = subst (IsSameWrite p) (sym refuses.then) (after_same p (came.Commit (Err refuses.reply)) hops)
+  write_same led Commit (inr refuses) = subst (IsSameWrite p) (sym refuses.then) (after_same p (came.Commit (Err (Refused_ refuses.refusal))) hops)
   write_same led Inverse merges = subst (IsSameWrite p) (sym merges.then) (after_same p (came.Inverse merges.result) hops)
   write_same led End ends = subst (IsSameWrite p) (sym ends.then) (after_same p (came.End ends.result) 0)
   write_same led Apply (inl applies) = subst (IsSameWrite p) (sym applies.then) (after_same p (came.Apply (Ok tt)) hops)
@@ -112,7 +114,7 @@ module _ (p q : Writing) (old new : Posting) where
   write_same led Done does = absurd does
 
 -- a write that did a stage had one before it
-write_goes : (led : LedBy) (at : WriteStage) (p q : Writing) (old new : Posting) → next_of p ≡ at → DoesWriteStage led at p old q new
+write_goes : (led : LedBy) (at : WriteStage) (p q : Writing) (old new : World) → next_of p ≡ at → DoesWriteStage led at p old q new
     → IsSome (told_stage (next_of p))
 write_goes led Commit p q old new is does = subst (λ a. IsSome (told_stage a)) (sym is) refl
 write_goes led Inverse p q old new is does = subst (λ a. IsSome (told_stage a)) (sym is) refl
@@ -124,17 +126,17 @@ write_goes led Done p q old new is does = absurd does
 -- ---- plans
 
 -- only a plan that isn't over does a stage
-pub goes_on : (led : LedBy) (p q : HeldPlan) (old new : Posting) → StepsHeld led p old q new → IsSome (next_stage p)
-goes_on led (Read p) (Read q) old new steps = read_goes led p.at p q old.scene new.scene refl steps.steps.does
+pub goes_on : (led : LedBy) (p q : HeldPlan) (old new : World) → StepsHeld led p old q new → IsSome (next_stage p)
+goes_on led (Read p) (Read q) old new steps = read_goes led p.at p q old new refl steps.steps.does
 goes_on led (Write p) (Write q) old new steps = write_goes led (next_of p) p q old new refl steps
 goes_on led (Read p) (Write q) old new steps = absurd steps
 goes_on led (Write p) (Read q) old new steps = absurd steps
 
 -- who may lead a plan's stage may lead the next
-pub leads_on : (led : LedBy) (s : Settings) (leader : NodeName) (p q : HeldPlan) (old new : Posting) → StepsHeld led p old q new → IsLeaderOf s leader p
+pub leads_on : (led : LedBy) (s : Settings) (leader : NodeName) (p q : HeldPlan) (old new : World) → StepsHeld led p old q new → IsLeaderOf s leader p
     → IsLeaderOf s leader q
 leads_on led s leader (Read p) (Read q) old new steps leads =
-    subst (λ query. IsLeaderFor s (query_shard query) leader) (sym (read_same p q old.scene new.scene led p.at steps.steps.does).query) leads
+    subst (λ query. IsLeaderFor s (query_shard query) leader) (sym (read_same p q old new led p.at steps.steps.does).query) leads
 leads_on led s leader (Write p) (Write q) old new steps leads =
     subst (λ write. IsLeaderIn s (master_of s (write_shard write)) leader) (sym (write_same p q old new led (next_of p) steps).write) leads
 leads_on led s leader (Read p) (Write q) old new steps leads = absurd steps
@@ -143,16 +145,16 @@ leads_on led s leader (Write p) (Read q) old new steps leads = absurd steps
 -- ---- all stages
 
 -- so many stages were done from where the plan began, and it can go on
-pub record CarriesOn (led : LedBy) (p : HeldPlan) (old : Posting) (q : HeldPlan) (new : Posting) : Type 0 where
+pub record CarriesOn (led : LedBy) (p : HeldPlan) (old : World) (q : HeldPlan) (new : World) : Type 0 where
   pub stages : ℕ
   pub passes : PassesStages led stages p old q new
-  pub under_way : IsUnderWay led.tells led.settings new.scene.keepers.told new.scene.fleet q
+  pub under_way : IsUnderWay led.tells led.settings new.keepers.told new.fleet q
   pub leader : IsLeaderOf led.settings led.leader q
   pub on : PostsOn led.tells led.settings old new
 
 -- none was done yet
-pub none_carried : (led : LedBy) (p : HeldPlan) (old : Posting) → CanPost led.tells led.settings old
-    → IsUnderWay led.tells led.settings old.scene.keepers.told old.scene.fleet p → IsLeaderOf led.settings led.leader p → CarriesOn led p old p old
+pub none_carried : (led : LedBy) (p : HeldPlan) (old : World) → CanPost led.tells led.settings old
+    → IsUnderWay led.tells led.settings old.keepers.told old.fleet p → IsLeaderOf led.settings led.leader p → CarriesOn led p old p old
 none_carried led p old ready under leader = record {
   stages = 0;
   passes = (refl, refl);
@@ -162,8 +164,8 @@ none_carried led p old ready under leader = record {
 }
 
 -- one more was
-pub one_carried : (led : LedBy) (p m q : HeldPlan) (old mid new : Posting) → CarriesOn led p old m mid → StepsHeld led m mid q new
-    → IsUnderWay led.tells led.settings new.scene.keepers.told new.scene.fleet q → PostsOn led.tells led.settings mid new → CarriesOn led p old q new
+pub one_carried : (led : LedBy) (p m q : HeldPlan) (old mid new : World) → CarriesOn led p old m mid → StepsHeld led m mid q new
+    → IsUnderWay led.tells led.settings new.keepers.told new.fleet q → PostsOn led.tells led.settings mid new → CarriesOn led p old q new
 one_carried led p m q old mid new so_far steps under on = record {
   stages = suc so_far.stages;
   passes = (m, mid, so_far.passes, record { steps = steps; under_way = under; on = on });

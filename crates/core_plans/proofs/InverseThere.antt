@@ -59,7 +59,7 @@ use Rattle.core_plans.proofs.WriteRefusals.{IsAnswered, IsRefusedSo, answered_wr
 use Rattle.core_steps.proofs.ReadLemmas.{log_is}
 use Rattle.core_steps.proofs.WriteLemmas.{stands_in_log}
 use Rattle.core_steps.specs.OtherEnds.{EndsOver, MergesOver, job_way, told_entry}
-use Rattle.core_steps.specs.Posting.{Posting}
+use Rattle.core_steps.specs.World.{World}
 use Rattle.core_steps.specs.Writes.{StepsAs, asked_of_log}
 use Rattle.core_steps.specs.declared.jobs.ToldEntry.{ToldEntry}
 use Rattle.node_name.specs.declared.NodeName.{NodeName}
@@ -188,21 +188,21 @@ module _ (s : Settings) (shard : ℕ) where
 -- ---- the stages of a write
 
 -- what is so of it after each
-record StandsSoFar (s : Settings) (p : Writing) (now : Posting) : Type 0 where
-  under_way : IsWriteUnderWay true s now.scene.keepers.told now.scene.fleet p
-  are : IsConsistent true s now.scene.keepers.told now.scene.fleet
-  jobs : JobsStand s (write_shard p.write) p.committed p.job now.scene.keepers.told
+record StandsSoFar (s : Settings) (p : Writing) (now : World) : Type 0 where
+  under_way : IsWriteUnderWay true s now.keepers.told now.fleet p
+  are : IsConsistent true s now.keepers.told now.fleet
+  jobs : JobsStand s (write_shard p.write) p.committed p.job now.keepers.told
   never : IsRefusedSo p.refused
 
-module _ (s : Settings) (leader : NodeName) (p q : Writing) (old new : Posting) (so : StandsSoFar s p old) where
+module _ (s : Settings) (leader : NodeName) (p q : Writing) (old new : World) (so : StandsSoFar s p old) where
   abbrev shard : ℕ
   shard = write_shard p.write
 
   abbrev before : Tables
-  before = old.scene.keepers.told
+  before = old.keepers.told
 
   abbrev after : Tables
-  after = new.scene.keepers.told
+  after = new.keepers.told
 
   module _ (is : CommitsHeld (led_by true s leader) p old q new) where
     abbrev answer : Wrote
@@ -212,7 +212,7 @@ module _ (s : Settings) (leader : NodeName) (p q : Writing) (old new : Posting) 
     entry_stands None entry_is = tt
     entry_stands (Some e) entry_is =
         let here = so.under_way.follower.here in
-        let asked = asked_of_log s old.scene.keepers (call_of_plan p) in
+        let asked = asked_of_log s old.keepers (call_of_plan p) in
         new_stands s shard after e answer.job
         (job_then s before after shard e here (sound_logs s before (so.are.stores.kept refl) shard here) asked refl answer.retry answer.job
         (subst (λ o. OpensJob (types_of s.schema) answer.retry o answer.job) entry_is is.commits.opens)
@@ -257,16 +257,16 @@ module _ (s : Settings) (leader : NodeName) (p q : Writing) (old new : Posting) 
       rests (ap (λ (r : Writing). r.committed) loses.then) (ap (λ (r : Writing). r.job) loses.then) (ap (λ k. k.told) loses.rest.keepers)
   stage_stands Apply at (inr (inr vain)) =
       rests (ap (λ (r : Writing). r.committed) vain.then) (ap (λ (r : Writing). r.job) vain.then)
-      (ap (λ (x : Posting). x.scene.keepers.told) vain.same)
+      (ap (λ (x : World). x.keepers.told) vain.same)
   stage_stands Relay at does = absurd does
   stage_stands Done at does = absurd does
 
-stands_on : (s : Settings) (leader : NodeName) (p q : Writing) (old new : Posting) → StandsSoFar s p old
+stands_on : (s : Settings) (leader : NodeName) (p q : Writing) (old new : World) → StandsSoFar s p old
     → PassesStage (led_by true s leader) (Write p) old (Write q) new → StandsSoFar s q new
 stands_on s leader p q old new so stage = record {
   under_way = stage.under_way;
   are = stage.on.consistent;
-  jobs = subst (λ w. JobsStand s (write_shard w) q.committed q.job new.scene.keepers.told)
+  jobs = subst (λ w. JobsStand s (write_shard w) q.committed q.job new.keepers.told)
       (sym (write_same p q old new (led_by true s leader) (next_of p) stage.steps).write)
       (stage_stands s leader p q old new so (next_of p) refl stage.steps);
   never = refused_so (led_by true s leader) p q old new so.never (next_of p) stage.steps;
@@ -297,13 +297,13 @@ told_so : (shard : ℕ) (note : View) (entry : Option Entry) (P : Entry → Type
 told_so shard note None P is = tt
 told_so shard note (Some e) P is = is
 
-module _ (s : Settings) (q : Writing) (now : Posting) (reply : WriteReply) (regions : HaveMasterRegions s) (so : StandsSoFar s q now)
+module _ (s : Settings) (q : Writing) (now : World) (reply : WriteReply) (regions : HaveMasterRegions s) (so : StandsSoFar s q now)
     (by : IsAnswered q (called.Write reply)) (over : told_stage (next_of q) ≡ None) (told : reply.written.inverse ≡ Written) where
   abbrev its_shard : ℕ
   its_shard = write_shard q.write
 
   abbrev tables : Tables
-  tables = now.scene.keepers.told
+  tables = now.keepers.told
 
   abbrev Logs : Stores
   Logs = stores_in s tables
@@ -312,21 +312,21 @@ module _ (s : Settings) (q : Writing) (now : Posting) (reply : WriteReply) (regi
   committed = by.committed
 
   -- its entry stands
-  stands_then : (e : Entry) → StandsIn (pens_of now.scene.fleet.stores its_shard) e → entry_at (log_of Logs.logs its_shard) e.position ≡ Some e
+  stands_then : (e : Entry) → StandsIn (pens_of now.fleet.stores its_shard) e → entry_at (log_of Logs.logs its_shard) e.position ≡ Some e
   stands_then e stands =
       let here = so.under_way.follower.here in
-      let log = log_is true s tables now.scene.fleet.stores its_shard regions so.are.stores here in
+      let log = log_is true s tables now.fleet.stores its_shard regions so.are.stores here in
       subst (λ l. entry_at l e.position ≡ Some e) (sym ((tables_are_stores (masters_of s) tables).log_is its_shard here))
       (subst (λ l. entry_at l e.position ≡ Some e) (log.entries_is refl) (stands log.told_is))
 
-  its_answer : IsAnswerTo s now.scene.fleet.stores q committed
-  its_answer = subst (λ o. IfSome o (IsAnswerTo s now.scene.fleet.stores q)) by.answered so.under_way.committed
+  its_answer : IsAnswerTo s now.fleet.stores q committed
+  its_answer = subst (λ o. IfSome o (IsAnswerTo s now.fleet.stores q)) by.answered so.under_way.committed
 
   entry_there : (entry : Option Entry) → committed.wrote.entry ≡ entry → IfSome entry (HasOtherEnds s tables)
   entry_there None entry_is = tt
   entry_there (Some e) entry_is =
       let wrote = committed.wrote in
-      let pens = pens_of now.scene.fleet.stores in
+      let pens = pens_of now.fleet.stores in
       let stands = subst (λ o. IfSome o (StandsIn (pens its_shard))) entry_is
       (stands_in_log pens its_shard wrote.note wrote.entry its_answer.apply.seen) in
       let jobs = subst (λ o. IfSome o (λ e. JobStands s its_shard e wrote.job q.job tables)) entry_is
@@ -345,23 +345,23 @@ module _ (s : Settings) (q : Writing) (now : Posting) (reply : WriteReply) (regi
 
 -- ---- all of its stages
 
-ended_there : (s : Settings) (q : HeldPlan) (now : Posting) (reply : WriteReply) → HaveMasterRegions s → OfWrite (StandsSoFar s) q now
+ended_there : (s : Settings) (q : HeldPlan) (now : World) (reply : WriteReply) → HaveMasterRegions s → OfWrite (StandsSoFar s) q now
     → IsOver q (Called (called.Write reply)) → next_stage q ≡ None → reply.written.inverse ≡ Written
-    → IfSome (told_with (Called (called.Write reply)) q).here (λ t. HasOtherEnds s now.scene.keepers.told t.entry)
+    → IfSome (told_with (Called (called.Write reply)) q).here (λ t. HasOtherEnds s now.keepers.told t.entry)
 ended_there s (Write q) now reply regions so over none told =
     told_there s q now reply regions so (answered_write q (called.Write reply) so.never over) none told
 ended_there s (Read q) now reply regions so over none told = absurd so
 
-begun_stands : (s : Settings) (p : Writing) (now : Posting) → IsBegunWrite p → IsWriteUnderWay true s now.scene.keepers.told now.scene.fleet p
-    → IsConsistent true s now.scene.keepers.told now.scene.fleet → StandsSoFar s p now
+begun_stands : (s : Settings) (p : Writing) (now : World) → IsBegunWrite p → IsWriteUnderWay true s now.keepers.told now.fleet p
+    → IsConsistent true s now.keepers.told now.fleet → StandsSoFar s p now
 begun_stands s p now begun under_way are = record {
   under_way = under_way;
   are = are;
-  jobs = subst (λ c. JobsStand s (write_shard p.write) c p.job now.scene.keepers.told) (sym begun.uncommitted) tt;
+  jobs = subst (λ c. JobsStand s (write_shard p.write) c p.job now.keepers.told) (sym begun.uncommitted) tt;
   never = subst IsRefusedSo (sym begun.unrefused) tt;
 }
 
-pub written_is_there : (s : Settings) (leader : NodeName) (p : Writing) (old : Posting) (q : HeldPlan) (new : Posting) → WrittenIsThere s leader p old q new
+pub written_is_there : (s : Settings) (leader : NodeName) (p : Writing) (old : World) (q : HeldPlan) (new : World) → WrittenIsThere s leader p old q new
 written_is_there s leader p old q new = record {
   there = λ regions begun under_way are out reply over told. ended_there s q new reply regions
       (write_keeps (led_by true s leader) (StandsSoFar s) (stands_on s leader) out.stages p q old new (begun_stands s p old begun under_way are) out.passes)

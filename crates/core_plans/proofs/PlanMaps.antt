@@ -7,7 +7,7 @@ use Rattle.core_model.specs.Fleet.{Fleet}
 use Rattle.core_plans.specs.Held.{ChangesPlan, IsUnderWay, Plans, StepsHeld, StepsPlan, plan_at}
 use Rattle.core_plans.specs.declared.held.HeldPlan.{HeldPlan}
 use Rattle.core_plans.specs.LedBy.{led_by}
-use Rattle.core_steps.specs.Posting.{Posting}
+use Rattle.core_steps.specs.World.{World}
 use Rattle.node_name.specs.declared.NodeName.{NodeName}
 use Rattle.tao_keeper.specs.Table.{Tables}
 use Rattle.topology.specs.Config.{Settings}
@@ -22,7 +22,7 @@ changes_plan number after old new there writes = record {
 
 -- the plan that was found did a stage, and was written back
 pub steps_plan : (tells : Bool) (s : Settings) (leader : NodeName) (number : ℕ) (plans : Plans) (map later : BTreeMap ℕ HeldPlan) (before after : HeldPlan)
-    (old new : Posting) → map.entries ≡ plans → Some before ≡ get nat_cmp map number → StepsHeld (led_by tells s leader) before old after new
+    (old new : World) → map.entries ≡ plans → Some before ≡ get nat_cmp map number → StepsHeld (led_by tells s leader) before old after new
     → WritesThrough nat_cmp (nat_cmp number) map after later → StepsPlan (led_by tells s leader) number plans old later.entries new
 steps_plan tells s leader number plans map later before after old new is found steps writes =
     subst (λ seen. StepsPlan (led_by tells s leader) number seen old later.entries new) is (record {

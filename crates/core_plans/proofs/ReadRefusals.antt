@@ -4,9 +4,7 @@ use Rattle.cache_items.specs.declared.look.Look.{Look}
 use Rattle.cache_items.specs.declared.look.Look.TheVariants.{Hit, Miss}
 use Rattle.core_plans.specs.HeldReads.{DoesKeep, DoesLook, DoesReadStage}
 use Rattle.core_plans.specs.LedBy.{LedBy}
-use Rattle.core_steps.specs.ReadSteps.{ReadOverFails}
-use Rattle.core_steps.specs.Routes.{Scene}
-use Rattle.node_name.specs.declared.NodeName.{NodeName}
+use Rattle.core_steps.specs.World.{World}
 use Rattle.read_plan.specs.Readings.{Reading}
 use Rattle.read_plan.specs.Standings.{after_ask, after_keep, after_look, after_master}
 use Rattle.read_plan.specs.declared.end.ReadEnd.TheVariants as ended
@@ -56,11 +54,7 @@ refused_never own never reply answered at is =
     let here : own ≡ reply = cc in
     never answered (here ∙ is)
 
-over_never : (follower other : NodeName) (own : Reply) (old new : Scene) → ReadOverFails follower other own old new → NeverCalled (Ended (ended.Refused own))
-over_never follower other own old new fails =
-    refused_never own (λ answered is. subst (λ r. ReadOverFails follower other r old new) is fails)
-
-keep_never : (s : Settings) (p q : Reading) (given : Given) (old new : Scene) → p.at ≡ Keeping given → DoesKeep s p given old q new → NeverCalled q.at
+keep_never : (s : Settings) (p q : Reading) (given : Given) (old new : World) → p.at ≡ Keeping given → DoesKeep s p given old q new → NeverCalled q.at
 keep_never s p q (Fill fill) old new at (inl from) =
     subst (λ (r : Reading). NeverCalled r.at) (sym from.then)
     (subst (λ a. NeverCalled (after_keep p.bound a (Some (from.answer, from.kept)))) (sym at) (λ reply answered stands is. absurd (cc)))
@@ -71,7 +65,7 @@ keep_never s p q (Past answer version total seen) old new at on =
     (subst (λ a. NeverCalled (after_keep p.bound a None)) (sym at) (λ reply answered stands is. absurd (cc)))
 keep_never s p q (HandedOut version) old new at on = absurd on
 
-pub stage_never : (led : LedBy) (at : Standing) (p q : Reading) (old new : Scene) → p.at ≡ at → DoesReadStage led at p old q new → NeverCalled q.at
+pub stage_never : (led : LedBy) (at : Standing) (p q : Reading) (old new : World) → p.at ≡ at → DoesReadStage led at p old q new → NeverCalled q.at
 stage_never led Looking p q old new is does = by p.critical does
   where
     by : (critical : Bool) → DoesLook led.settings critical p old q new → NeverCalled q.at
@@ -80,9 +74,9 @@ stage_never led Looking p q old new is does = by p.critical does
     by true looks = subst (λ (r : Reading). NeverCalled r.at) (sym looks.then) (look_never p.critical Miss)
 stage_never led Asking p q old new is (inl asks) = subst (λ (r : Reading). NeverCalled r.at) (sym asks.then) (ask_never asks.given)
 stage_never led Asking p q old new is (inr vain) =
-    subst (λ (r : Reading). NeverCalled r.at) (sym vain.then) (over_never p.follower led.leader vain.reply old new vain.fails)
+    subst (λ (r : Reading). NeverCalled r.at) (sym vain.then) (refused_never _ (λ answered is. absurd (cc)))
 stage_never led Mastering p q old new is (inl asks) = subst (λ (r : Reading). NeverCalled r.at) (sym asks.then) (master_never asks.out)
 stage_never led Mastering p q old new is (inr vain) =
-    subst (λ (r : Reading). NeverCalled r.at) (sym vain.then) (over_never p.follower _ vain.reply old new vain.fails)
+    subst (λ (r : Reading). NeverCalled r.at) (sym vain.then) (refused_never _ (λ answered is. absurd (cc)))
 stage_never led (Keeping given) p q old new is does = keep_never led.settings p q given old new is does
 stage_never led (Ended end) p q old new is does = absurd does

@@ -9,8 +9,7 @@ use Rattle.core_plans.specs.LedBy.{LedBy}
 use Rattle.core_plans.specs.WholeCalls.{read_stages_left, stages_left, write_stages_left}
 use Rattle.core_plans.specs.declared.held.HeldPlan.{HeldPlan}
 use Rattle.core_plans.specs.declared.held.HeldPlan.TheVariants.{Read, Write}
-use Rattle.core_steps.specs.Posting.{Posting}
-use Rattle.core_steps.specs.Routes.{Scene}
+use Rattle.core_steps.specs.World.{World}
 use Rattle.node_name.specs.declared.NodeName.{NodeName}
 use Rattle.read_plan.specs.Readings.{Reading}
 use Rattle.read_plan.specs.Standings.{after_ask, after_keep, after_look, after_master, stage_of}
@@ -19,6 +18,7 @@ use Rattle.read_plan.specs.declared.standing.Given.TheVariants.{Fill, HandedOut,
 use Rattle.read_plan.specs.declared.standing.Standing.{Standing}
 use Rattle.read_plan.specs.declared.standing.Standing.TheVariants.{Looking, Asking, Mastering, Keeping, Ended}
 use Rattle.replies.specs.declared.reply.Reply.{Reply}
+use Rattle.replies.specs.declared.reply.Reply.TheVariants.{Refused as Refused_}
 use Rattle.shard_tables.specs.declared.leader_answer.LeaderAnswer.{LeaderAnswer}
 use Rattle.shard_tables.specs.declared.leader_answer.LeaderAnswer.TheVariants as leader
 use Rattle.shard_tables.specs.declared.read_out.ReadOut.{ReadOut}
@@ -59,12 +59,12 @@ master_left (store.Past answer version total note) = omega arith
 abbrev Below : ℕ → Reading → Type 0
 Below n r = read_stages_left (stage_of r.at) < n
 
-look_closer : (s : Settings) (critical : Bool) (p q : Reading) (old new : Scene) → DoesLook s critical p old q new → Below 4 q
+look_closer : (s : Settings) (critical : Bool) (p q : Reading) (old new : World) → DoesLook s critical p old q new → Below 4 q
 look_closer s false p q old new (inl looks) = subst (Below 4) (sym looks.then) (look_left p.critical looks.look)
 look_closer s false p q old new (inr vain) = subst (Below 4) (sym vain.then) (omega arith)
 look_closer s true p q old new looks = subst (Below 4) (sym looks.then) (look_left p.critical Miss)
 
-keep_closer : (s : Settings) (p q : Reading) (given : Given) (old new : Scene) → p.at ≡ Keeping given → DoesKeep s p given old q new → Below 1 q
+keep_closer : (s : Settings) (p q : Reading) (given : Given) (old new : World) → p.at ≡ Keeping given → DoesKeep s p given old q new → Below 1 q
 keep_closer s p q (Fill fill) old new at (inl from) =
     subst (Below 1) (sym from.then)
     (subst (λ a. read_stages_left (stage_of (after_keep p.bound a (Some (from.answer, from.kept)))) < 1) (sym at) (omega arith))
@@ -73,7 +73,7 @@ keep_closer s p q (Past answer version total seen) old new at on =
     subst (Below 1) (sym on.then) (subst (λ a. read_stages_left (stage_of (after_keep p.bound a None)) < 1) (sym at) (omega arith))
 keep_closer s p q (HandedOut version) old new at on = absurd on
 
-read_closer : (led : LedBy) (at : Standing) (p q : Reading) (old new : Scene) → p.at ≡ at → DoesReadStage led at p old q new
+read_closer : (led : LedBy) (at : Standing) (p q : Reading) (old new : World) → p.at ≡ at → DoesReadStage led at p old q new
     → Below (read_stages_left (stage_of at)) q
 read_closer led Looking p q old new at does = look_closer led.settings p.critical p q old new does
 read_closer led Asking p q old new at (inl asks) = subst (Below 3) (sym asks.then) (ask_left asks.given)
@@ -191,11 +191,11 @@ module _ (p q : Writing) (hops : ℕ) where
       by None next = following_left c.wrote.job p.job c.passed p.back
       by (Some reply) next = absurd (cc)
 
-write_closer : (led : LedBy) (at : WriteStage) (p q : Writing) (old new : Posting) → next_of p ≡ at → DoesWriteStage led at p old q new
+write_closer : (led : LedBy) (at : WriteStage) (p q : Writing) (old new : World) → next_of p ≡ at → DoesWriteStage led at p old q new
     → left_of q < write_stages_left at
 write_closer led Commit p q old new is (inl commits) = commit_left p q _ commits.committed is commits.then
 write_closer led Commit p q old new is (inr refuses) =
-    refused_left p q 0 refuses.reply 5 (ap (λ (x : Writing). x.refused) refuses.then) (omega arith)
+    refused_left p q 0 (Refused_ refuses.refusal) 5 (ap (λ (x : Writing). x.refused) refuses.then) (omega arith)
 write_closer led Inverse p q old new is merges =
     inverse_left p q _ merges.result (going p Inverse (λ h. absurd (cc)) (λ h. absurd (cc)) is) merges.then
 write_closer led End p q old new is ends = end_left p q 0 ends.result (going p End (λ h. absurd (cc)) (λ h. absurd (cc)) is) ends.then
@@ -208,8 +208,8 @@ write_closer led Done p q old new is does = absurd does
 
 -- ---- plans
 
-pub stage_closer : (led : LedBy) (p q : HeldPlan) (old new : Posting) → StepsHeld led p old q new → stages_left q < stages_left p
-stage_closer led (Read p) (Read q) old new steps = read_closer led p.at p q old.scene new.scene refl steps.steps.does
+pub stage_closer : (led : LedBy) (p q : HeldPlan) (old new : World) → StepsHeld led p old q new → stages_left q < stages_left p
+stage_closer led (Read p) (Read q) old new steps = read_closer led p.at p q old new refl steps.steps.does
 stage_closer led (Write p) (Write q) old new steps = write_closer led (next_of p) p q old new refl steps
 stage_closer led (Read p) (Write q) old new steps = absurd steps
 stage_closer led (Write p) (Read q) old new steps = absurd steps

@@ -34,12 +34,12 @@ module _ (old new : LinkShown) where
   -- a carry that failed was counted
   pub lost_there : (from to : NodeName) → FailsCarry from to old new → CarriesFew old new
   lost_there from to is =
-      let one = is.carries in
+      let one = is.counted in
       record { rise = omega (arith, one); few = omega (arith, one) }
 
   pub lost_back : (from to : NodeName) → FailsCarry from to (after_carry old) new → CarriesFew old new
   lost_back from to is =
-      let two = is.carries in
+      let two = is.counted in
       record { rise = omega (arith, two); few = omega (arith, two) }
 
 -- what no stage carried

@@ -12,8 +12,8 @@ use Rattle.core_plans.proofs.ReadRefusals.{NeverCalled, stage_never}
 use Rattle.core_plans.proofs.StagesLeft.{stage_closer}
 use Rattle.core_plans.proofs.Taking.{CarriesFew, HasCalled, HasTaken, both_carried, calls_more, none_between, none_called, none_carried, takes_more}
 use Rattle.core_plans.proofs.WholeRuns.{OfRead, read_keeps}
-use Rattle.core_steps.specs.Posting.{Posting}
-use Rattle.core_steps.specs.Routes.{Scene, hops_between, was_called}
+use Rattle.core_steps.specs.World.{World}
+use Rattle.core_steps.specs.Routes.{hops_between, was_called}
 use Rattle.hop_count.specs.Hops.{hops_after}
 use Rattle.read_plan.specs.Ends.{EndsAt}
 use Rattle.read_plan.specs.Readings.{Reading}
@@ -38,7 +38,7 @@ abbrev left_of : Reading → ℕ
 left_of p = read_stages_left (stage_of p.at)
 
 -- a read's hops are the carries since the first scene, and its `store` says whether a keeper was called since
-record HasCost (first : Scene) (p : Reading) (now : Scene) : Type 0 where
+record HasCost (first : World) (p : Reading) (now : World) : Type 0 where
   taken : HasTaken first.link now.link p.hops (left_of p)
   called : HasCalled first.keepers now.keepers p.store
 
@@ -48,10 +48,10 @@ record IsRefused (p : Reading) : Type 0 where
   at : p.at ≡ Ended (ended.Refused reply)
 
 -- it has its cost, or it was refused
-abbrev Costs : Scene → Reading → Scene → Type 0
+abbrev Costs : World → Reading → World → Type 0
 Costs first p now = HasCost first p now ⊎ IsRefused p
 
-module _ (first : Scene) (p q : Reading) (old new : Scene) (cost : HasCost first p old) (later : IsLater old.keepers new.keepers)
+module _ (first : World) (p q : Reading) (old new : World) (cost : HasCost first p old) (later : IsLater old.keepers new.keepers)
     (closer : left_of q < left_of p) where
   -- a stage over the link
   adds : CarriesFew old.link new.link → q.hops ≡ hops_after p.hops (hops_between old.link new.link) → q.store ≡ (p.store || was_called old.keepers new.keepers)
@@ -65,8 +65,8 @@ module _ (first : Scene) (p q : Reading) (old new : Scene) (cost : HasCost first
   -- a stage at its follower
   stays : ChangesFollowers old new → q.hops ≡ hops_after p.hops 0 → q.store ≡ (p.store || false) → HasCost first q new
   stays rest hops store =
-      let link : new.link ≡ old.link = ap (λ (x : Scene). x.link) rest in
-      let keepers : new.keepers ≡ old.keepers = ap (λ (x : Scene). x.keepers) rest in
+      let link : new.link ≡ old.link = ap (λ (x : World). x.link) rest in
+      let keepers : new.keepers ≡ old.keepers = ap (λ (x : World). x.keepers) rest in
       adds (none_carried old.link new.link link) (hops ∙ ap (hops_after p.hops) (none_between old.link new.link link))
       (store ∙ ap (λ b. p.store || b) (none_called old.keepers new.keepers keepers))
 
@@ -90,32 +90,32 @@ module _ (first : Scene) (p q : Reading) (old new : Scene) (cost : HasCost first
   stage_costs led Looking does = look_costs led.settings p.critical does
   stage_costs led Asking (inl asks) =
       inl (adds (both_carried old.link new.link asks.over.gives.link) (ap (λ (r : Reading). r.hops) asks.then) (ap (λ (r : Reading). r.store) asks.then))
-  stage_costs led Asking (inr vain) = fails vain.reply (ap (λ (r : Reading). r.at) vain.then)
+  stage_costs led Asking (inr vain) = fails (Refused vain.refusal) (ap (λ (r : Reading). r.at) vain.then)
   stage_costs led Mastering (inl asks) =
       inl (adds (both_carried old.link new.link asks.over.link) (ap (λ (r : Reading). r.hops) asks.then) (ap (λ (r : Reading). r.store) asks.then))
-  stage_costs led Mastering (inr vain) = fails vain.reply (ap (λ (r : Reading). r.at) vain.then)
+  stage_costs led Mastering (inr vain) = fails (Refused vain.refusal) (ap (λ (r : Reading). r.at) vain.then)
   stage_costs led (Keeping given) does = keep_costs led.settings given does
   stage_costs led (Ended end) does = absurd does
 
 -- a read that was refused does no stage
-refused_rests : (led : LedBy) (p q : Reading) (old new : Scene) → IsRefused p → DoesReadStage led p.at p old q new → ⊥
+refused_rests : (led : LedBy) (p q : Reading) (old new : World) → IsRefused p → DoesReadStage led p.at p old q new → ⊥
 refused_rests led p q old new is does = subst (λ at. DoesReadStage led at p old q new) is.at does
 
 -- what is so after each stage
-record CostsSoFar (first : Scene) (p : Reading) (now : Posting) : Type 0 where
-  costs : Costs first p now.scene
+record CostsSoFar (first : World) (p : Reading) (now : World) : Type 0 where
+  costs : Costs first p now
   never : NeverCalled p.at
 
-costs_on : (led : LedBy) (first : Scene) (p q : Reading) (old new : Posting) → CostsSoFar first p old → PassesStage led (Read p) old (Read q) new
+costs_on : (led : LedBy) (first : World) (p q : Reading) (old new : World) → CostsSoFar first p old → PassesStage led (Read p) old (Read q) new
     → CostsSoFar first q new
 costs_on led first p q old new so stage =
     let does = stage.steps.steps.does in
     record {
       costs = elim so.costs [
-        | inl cost ↦ stage_costs first p q old.scene new.scene cost stage.on.later (stage_closer led (Read p) (Read q) old new stage.steps) led p.at does
-        | inr refused ↦ absurd (refused_rests led p q old.scene new.scene refused does)
+        | inl cost ↦ stage_costs first p q old new cost stage.on.later (stage_closer led (Read p) (Read q) old new stage.steps) led p.at does
+        | inr refused ↦ absurd (refused_rests led p q old new refused does)
       ];
-      never = stage_never led p.at p q old.scene new.scene refl does;
+      never = stage_never led p.at p q old new refl does;
     }
 
 -- ---- what its reply tells
@@ -147,8 +147,8 @@ refused_tells q reply never is ends =
     let own : Called (called.Read reply) ≡ is.reply = subst (λ at. EndsAt at q (Called (called.Read reply))) is.at ends in
     never is.reply (called.Read reply) is.at (sym own)
 
-tells_cost : (first : Scene) (q : HeldPlan) (now : Posting) (reply : ReadReply) → OfRead (CostsSoFar first) q now → IsOver q (Called (called.Read reply))
-    → TellsCost reply first now.scene
+tells_cost : (first : World) (q : HeldPlan) (now : World) (reply : ReadReply) → OfRead (CostsSoFar first) q now → IsOver q (Called (called.Read reply))
+    → TellsCost reply first now
 tells_cost first (Read q) now reply so over =
     let own = tells_own q.at q reply so.never over in
     elim so.costs [
@@ -157,47 +157,47 @@ tells_cost first (Read q) now reply so over =
     ]
 tells_cost first (Write q) now reply so over = absurd so
 
-begun_costs : (p : Reading) (now : Posting) → IsBegunRead p → CostsSoFar now.scene p now
+begun_costs : (p : Reading) (now : World) → IsBegunRead p → CostsSoFar now p now
 begun_costs p now is =
-    let link = now.scene.link in
+    let link = now.link in
     let hops = is.hops in
     let left : left_of p ≡ 4 = ap (λ at. read_stages_left (stage_of at)) is.at in
     record {
       costs = inl (record {
         taken = record { rise = omega arith; hops_is = hops ∙ none_between link link refl; few = omega (arith, hops, left) };
-        called = record { rise = omega arith; store_is = is.store ∙ none_called now.scene.keepers now.scene.keepers refl };
+        called = record { rise = omega arith; store_is = is.store ∙ none_called now.keepers now.keepers refl };
       });
       never = subst NeverCalled (sym is.at) (λ reply answered at said. absurd (cc));
     }
 
 -- ---- what it leaves as it was
 
-record LeavesAll (tells : Bool) (first now : Posting) : Type 0 where
-  tables : KeepsTables tells first.scene.keepers now.scene.keepers
+record LeavesAll (tells : Bool) (first now : World) : Type 0 where
+  tables : KeepsTables tells first.keepers now.keepers
   inboxes : now.inboxes ≡ first.inboxes
 
-leaves_on : (led : LedBy) (first : Posting) (p q : Reading) (old new : Posting) → LeavesAll led.tells first old
+leaves_on : (led : LedBy) (first : World) (p q : Reading) (old new : World) → LeavesAll led.tells first old
     → PassesStage led (Read p) old (Read q) new → LeavesAll led.tells first new
 leaves_on led first p q old new so stage = record {
-  tables = keeps_trans led.tells first.scene.keepers old.scene.keepers new.scene.keepers so.tables stage.steps.tables;
+  tables = keeps_trans led.tells first.keepers old.keepers new.keepers so.tables stage.steps.tables;
   inboxes = stage.steps.inboxes ∙ so.inboxes;
 }
 
-left_all : (tells : Bool) (first : Posting) (q : HeldPlan) (now : Posting) → OfRead (λ r x. LeavesAll tells first x) q now → LeavesAll tells first now
+left_all : (tells : Bool) (first : World) (q : HeldPlan) (now : World) → OfRead (λ r x. LeavesAll tells first x) q now → LeavesAll tells first now
 left_all tells first (Read q) now so = so
 left_all tells first (Write q) now so = absurd so
 
 -- ---- all of its stages
 
-module _ (led : LedBy) (p : Reading) (old : Posting) (q : HeldPlan) (new : Posting) where
+module _ (led : LedBy) (p : Reading) (old : World) (q : HeldPlan) (new : World) where
   leaves : CarriesOut led (Read p) old q new → LeavesAll led.tells old new
   leaves out = left_all led.tells old q new (read_keeps led (λ r x. LeavesAll led.tells old x) (leaves_on led old) out.stages p q old new
       (record { tables = λ told at. refl; inboxes = refl }) out.passes)
 
   pub whole_reads : WholeRead led p old q new
   whole_reads = record {
-    cost = λ begun out reply over. tells_cost old.scene q new reply
-        (read_keeps led (CostsSoFar old.scene) (costs_on led old.scene) out.stages p q old new (begun_costs p old begun) out.passes) over;
+    cost = λ begun out reply over. tells_cost old q new reply
+        (read_keeps led (CostsSoFar old) (costs_on led old) out.stages p q old new (begun_costs p old begun) out.passes) over;
     tables = λ out. (leaves out).tables;
     inboxes = λ out. (leaves out).inboxes;
   }

@@ -6,7 +6,7 @@ use Rattle.core_model.specs.Consistent.{IsConsistent}
 use Rattle.core_model.specs.Fleet.{ChangesNode}
 use Rattle.core_model.specs.Reads.{LooksFirst}
 use Rattle.core_model.specs.States.{AreSettled, nodes_now}
-use Rattle.core_steps.specs.Routes.{Scene}
+use Rattle.core_steps.specs.World.{World}
 use Rattle.core_steps.proofs.LastVersions.{GivesLast, given_last, hit_last}
 use Rattle.node_name.specs.declared.NodeName.{NodeName}
 use Rattle.read_plan.specs.Readings.{Reading}
@@ -33,7 +33,7 @@ given_comes floor last least now (leads.Filled fill) gives le on = omega (arith,
 given_comes floor last least now (leads.Past answer version total note) gives le on = omega (arith, gives, le)
 given_comes floor last least now (leads.Behind version) gives le on = omega (arith, le, on)
 
-module _ (s : Settings) (leader : NodeName) (p q : Reading) (old new : Scene) (states : NodeStates)
+module _ (s : Settings) (leader : NodeName) (p q : Reading) (old new : World) (states : NodeStates)
     (are : IsConsistent true s old.keepers.told old.fleet) (settled : AreSettled s old.keepers.told (nodes_now old.fleet states))
     (follower_up : is_up states p.follower ≡ true) (leader_up : is_up states leader ≡ true)
     (grows : LogsGrow true old.keepers.told new.keepers.told) (least : ℕ) where
@@ -102,7 +102,7 @@ module _ (s : Settings) (leader : NodeName) (p q : Reading) (old new : Scene) (s
   stage_comes (Keeping given) at does come = keeps_come given at does come
   stage_comes (Ended end) at does come = absurd does
 
-pub stages_miss_nothing : (s : Settings) (leader : NodeName) (p q : Reading) (old new : Scene) → StagesMissNothing s leader p old q new
+pub stages_miss_nothing : (s : Settings) (leader : NodeName) (p q : Reading) (old new : World) → StagesMissNothing s leader p old q new
 stages_miss_nothing s leader p q old new = record {
   whole = λ states steps are settled follower_up leader_up grows least come.
       stage_comes s leader p q old new states are settled follower_up leader_up grows least p.at refl steps.does come;

@@ -14,7 +14,7 @@ use Rattle.core_plans.proofs.WholeRuns.{OfWrite, write_keeps}
 use Rattle.core_plans.proofs.WriteRefusals.{IsRefusedSo, answered_write, refused_so}
 use Rattle.core_model.specs.Jobs.{ShardJob}
 use Rattle.core_steps.specs.OtherEnds.{ChangesKeepers, EndsOver, GoesBetween, JobWay, LeavesJob, MayComeBack, MergesOver, job_way}
-use Rattle.core_steps.specs.Posting.{Posting}
+use Rattle.core_steps.specs.World.{World}
 use Rattle.core_steps.specs.Routes.{hops_between}
 use Rattle.hop_count.specs.Hops.{hops_after}
 use Rattle.node_name.specs.declared.NodeName.{NodeName}
@@ -23,7 +23,7 @@ use Rattle.replies.specs.declared.calls.ScheduledWhy.{ScheduledWhy}
 use Rattle.replies.specs.declared.calls.ScheduledWhy.TheVariants.{LinkFault, KeeperFault, LogFull, NoServer, Memory}
 use Rattle.replies.specs.declared.calls.WriteReply.{WriteReply}
 use Rattle.replies.specs.declared.reply.Reply.{Reply}
-use Rattle.replies.specs.declared.reply.Reply.TheVariants.{Called}
+use Rattle.replies.specs.declared.reply.Reply.TheVariants.{Called, Refused as Refused_}
 use Rattle.shard_tables.specs.declared.writes.Wrote.{Wrote}
 use Rattle.tao_link.specs.Shown.{LinkShown}
 use Rattle.write_plan.specs.Plans.{Writing, after_stage, next_of}
@@ -44,32 +44,32 @@ module _ (from to : NodeName) (old new : LinkShown) where
   back_few (inl went) = between_few went
   back_few (inr lost) = lost_back old new to from lost.1
 
-module _ (led : LedBy) (old new : Posting) where
+module _ (led : LedBy) (old new : World) where
   abbrev FewHere : Type 0
-  FewHere = CarriesFew old.scene.link new.scene.link
+  FewHere = CarriesFew old.link new.link
 
   left_few : (way : JobWay) (why : ScheduledWhy) (wrote : Option Wrote) → LeavesJob led.tells led.settings way (Scheduled why wrote) old new → FewHere
-  left_few way NoServer None is = none_carried old.scene.link new.scene.link (ap (λ (x : Posting). x.scene.link) is.1)
-  left_few way LinkFault None is = lost_there old.scene.link new.scene.link _ _ is.1
-  left_few way LinkFault (Some w) is = lost_back old.scene.link new.scene.link _ _ is.1
-  left_few way KeeperFault None is = back_few _ _ old.scene.link new.scene.link is.2
-  left_few way LogFull None is = back_few _ _ old.scene.link new.scene.link is.2
-  left_few way Memory None is = back_few _ _ old.scene.link new.scene.link is.1
+  left_few way NoServer None is = none_carried old.link new.link (ap (λ (x : World). x.link) is.1)
+  left_few way LinkFault None is = lost_there old.link new.link _ _ is.1
+  left_few way LinkFault (Some w) is = lost_back old.link new.link _ _ is.1
+  left_few way KeeperFault None is = back_few _ _ old.link new.link is.2
+  left_few way LogFull None is = back_few _ _ old.link new.link is.2
+  left_few way Memory None is = back_few _ _ old.link new.link is.1
   left_few way NoServer (Some w) is = absurd is
   left_few way KeeperFault (Some w) is = absurd is
   left_few way LogFull (Some w) is = absurd is
   left_few way Memory (Some w) is = absurd is
 
   merge_few : (way : JobWay) (result : Result Wrote Late) → MergesOver led.tells led.settings way result old new → FewHere
-  merge_few way (Ok wrote) is = between_few _ _ old.scene.link new.scene.link is.1
+  merge_few way (Ok wrote) is = between_few _ _ old.link new.link is.1
   merge_few way (Err (Scheduled why wrote)) is = left_few way why wrote is
   merge_few way (Err (Refused reply)) is = absurd is
 
   abbrev SameLink : Type 0
-  SameLink = new.scene.link ≡ old.scene.link
+  SameLink = new.link ≡ old.link
 
   keepers_same : ChangesKeepers old new → SameLink
-  keepers_same is = ap (λ (x : Posting). x.scene.link) is
+  keepers_same is = ap (λ (x : World). x.link) is
 
   late_same : (j : ShardJob) (why : ScheduledWhy) (wrote : Option Wrote) → EndsOver led.tells led.settings j (Err (Scheduled why wrote)) old new → SameLink
   late_same j KeeperFault None is = keepers_same is.2
@@ -95,29 +95,29 @@ abbrev HasHops : LinkShown → Writing → LinkShown → Type 0
 HasHops first p now = HasTaken first now p.hops (left_of p)
 
 -- so they are unless it was refused
-record TakesSoFar (first : LinkShown) (p : Writing) (now : Posting) : Type 0 where
-  taken : p.refused ≡ None → HasHops first p now.scene.link
+record TakesSoFar (first : LinkShown) (p : Writing) (now : World) : Type 0 where
+  taken : p.refused ≡ None → HasHops first p now.link
   never : IsRefusedSo p.refused
 
-module _ (led : LedBy) (first : LinkShown) (p q : Writing) (old new : Posting) (so : TakesSoFar first p old) (closer : left_of q < left_of p) where
+module _ (led : LedBy) (first : LinkShown) (p q : Writing) (old new : World) (so : TakesSoFar first p old) (closer : left_of q < left_of p) where
   -- a stage that refused nothing added its carries
-  adds : CarriesFew old.scene.link new.scene.link → q.hops ≡ hops_after p.hops (hops_between old.scene.link new.scene.link) → q.refused ≡ p.refused
-      → q.refused ≡ None → HasHops first q new.scene.link
+  adds : CarriesFew old.link new.link → q.hops ≡ hops_after p.hops (hops_between old.link new.link) → q.refused ≡ p.refused
+      → q.refused ≡ None → HasHops first q new.link
   adds few hops same none =
-      subst (λ n. HasTaken first new.scene.link n (left_of q)) (sym hops)
-      (takes_more first old.scene.link new.scene.link p.hops (left_of p) (left_of q) (so.taken (sym same ∙ none)) few closer)
+      subst (λ n. HasTaken first new.link n (left_of q)) (sym hops)
+      (takes_more first old.link new.link p.hops (left_of p) (left_of q) (so.taken (sym same ∙ none)) few closer)
 
   -- one that carried nothing
-  rests : new.scene.link ≡ old.scene.link → q.hops ≡ hops_after p.hops 0 → q.refused ≡ p.refused → q.refused ≡ None → HasHops first q new.scene.link
+  rests : new.link ≡ old.link → q.hops ≡ hops_after p.hops 0 → q.refused ≡ p.refused → q.refused ≡ None → HasHops first q new.link
   rests link hops =
-      adds (none_carried old.scene.link new.scene.link link) (hops ∙ ap (hops_after p.hops) (none_between old.scene.link new.scene.link link))
+      adds (none_carried old.link new.link link) (hops ∙ ap (hops_after p.hops) (none_between old.link new.link link))
 
   -- one that refused it
-  ends : (reply : Reply) → q.refused ≡ Some reply → q.refused ≡ None → HasHops first q new.scene.link
+  ends : (reply : Reply) → q.refused ≡ Some reply → q.refused ≡ None → HasHops first q new.link
   ends reply some none = (let no : Some reply ≡ None = sym some ∙ none in absurd (cc))
 
   merges_on : (way : JobWay) (result : Result Wrote Late) → MergesOver led.tells led.settings way result old new
-      → q ≡ after_stage p (came.Inverse result) (hops_between old.scene.link new.scene.link) → q.refused ≡ None → HasHops first q new.scene.link
+      → q ≡ after_stage p (came.Inverse result) (hops_between old.link new.link) → q.refused ≡ None → HasHops first q new.link
   merges_on way (Ok wrote) is then =
       adds (merge_few led old new way (Ok wrote) is) (ap (λ (r : Writing). r.hops) then) (ap (λ (r : Writing). r.refused) then)
   merges_on way (Err (Scheduled why wrote)) is then =
@@ -125,29 +125,29 @@ module _ (led : LedBy) (first : LinkShown) (p q : Writing) (old new : Posting) (
   merges_on way (Err (Refused reply)) is then = absurd is
 
   ends_on : (j : ShardJob) (result : Result ⊤ Late) → EndsOver led.tells led.settings j result old new → q ≡ after_stage p (came.End result) 0
-      → q.refused ≡ None → HasHops first q new.scene.link
+      → q.refused ≡ None → HasHops first q new.link
   ends_on j (Ok done) is then =
       rests (end_same led old new j (Ok done) is) (ap (λ (r : Writing). r.hops) then) (ap (λ (r : Writing). r.refused) then)
   ends_on j (Err (Scheduled why wrote)) is then =
       rests (end_same led old new j (Err (Scheduled why wrote)) is) (ap (λ (r : Writing). r.hops) then) (ap (λ (r : Writing). r.refused) then)
   ends_on j (Err (Refused reply)) is then = absurd is
 
-  takes : (at : WriteStage) → DoesWriteStage led at p old q new → q.refused ≡ None → HasHops first q new.scene.link
+  takes : (at : WriteStage) → DoesWriteStage led at p old q new → q.refused ≡ None → HasHops first q new.link
   takes Commit (inl commits) =
-      adds (once_carried old.scene.link new.scene.link commits.commits.link) (ap (λ (r : Writing). r.hops) commits.then)
+      adds (once_carried old.link new.link commits.commits.link) (ap (λ (r : Writing). r.hops) commits.then)
       (ap (λ (r : Writing). r.refused) commits.then)
-  takes Commit (inr refuses) = ends refuses.reply (ap (λ (r : Writing). r.refused) refuses.then)
+  takes Commit (inr refuses) = ends (Refused_ refuses.refusal) (ap (λ (r : Writing). r.refused) refuses.then)
   takes Inverse merges = merges_on (job_way led.leader (job_by p merges.job)) merges.result merges.merges merges.then
   takes End ended = ends_on (job_by p ended.job) ended.result ended.ends ended.then
   takes Apply (inl applies) =
-      adds (once_carried old.scene.link new.scene.link applies.link) (ap (λ (r : Writing). r.hops) applies.then)
+      adds (once_carried old.link new.link applies.link) (ap (λ (r : Writing). r.hops) applies.then)
       (ap (λ (r : Writing). r.refused) applies.then)
   takes Apply (inr (inl loses)) = ends _ (ap (λ (r : Writing). r.refused) loses.then)
   takes Apply (inr (inr vain)) = ends _ (ap (λ (r : Writing). r.refused) vain.then)
   takes Relay does = absurd does
   takes Done does = absurd does
 
-takes_on : (led : LedBy) (first : LinkShown) (p q : Writing) (old new : Posting) → TakesSoFar first p old → PassesStage led (Write p) old (Write q) new
+takes_on : (led : LedBy) (first : LinkShown) (p q : Writing) (old new : World) → TakesSoFar first p old → PassesStage led (Write p) old (Write q) new
     → TakesSoFar first q new
 takes_on led first p q old new so stage = record {
   taken = takes led first p q old new so (stage_closer led (Write p) (Write q) old new stage.steps) (next_of p) stage.steps;
@@ -160,16 +160,16 @@ abbrev hops_in : Reply → ℕ
 hops_in (Called (called.Write reply)) = reply.hops
 hops_in reply = 0
 
-tells_hops : (first : LinkShown) (q : HeldPlan) (now : Posting) (reply : WriteReply) → OfWrite (TakesSoFar first) q now
-    → IsOver q (Called (called.Write reply)) → reply.hops ≡ hops_between first now.scene.link
+tells_hops : (first : LinkShown) (q : HeldPlan) (now : World) (reply : WriteReply) → OfWrite (TakesSoFar first) q now
+    → IsOver q (Called (called.Write reply)) → reply.hops ≡ hops_between first now.link
 tells_hops first (Write q) now reply so over =
     let by = answered_write q (called.Write reply) so.never over in
     ap hops_in by.reply_is ∙ (so.taken by.unrefused).hops_is
 tells_hops first (Read q) now reply so over = absurd so
 
-begun_takes : (p : Writing) (now : Posting) → IsBegunWrite p → TakesSoFar now.scene.link p now
+begun_takes : (p : Writing) (now : World) → IsBegunWrite p → TakesSoFar now.link p now
 begun_takes p now is =
-    let link = now.scene.link in
+    let link = now.link in
     let hops = is.hops in
     record {
       taken = λ none. record {
@@ -188,8 +188,8 @@ begun_takes p now is =
     most_left Apply = omega arith
     most_left Done = omega arith
 
-pub whole_writes : (led : LedBy) (p : Writing) (old : Posting) (q : HeldPlan) (new : Posting) → WholeWrite led p old q new
+pub whole_writes : (led : LedBy) (p : Writing) (old : World) (q : HeldPlan) (new : World) → WholeWrite led p old q new
 whole_writes led p old q new = record {
-  cost = λ begun out reply over. tells_hops old.scene.link q new reply
-      (write_keeps led (TakesSoFar old.scene.link) (takes_on led old.scene.link) out.stages p q old new (begun_takes p old begun) out.passes) over;
+  cost = λ begun out reply over. tells_hops old.link q new reply
+      (write_keeps led (TakesSoFar old.link) (takes_on led old.link) out.stages p q old new (begun_takes p old begun) out.passes) over;
 }

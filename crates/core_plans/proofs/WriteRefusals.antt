@@ -5,8 +5,7 @@ use Rattle.core_plans.specs.HeldWrites.{DoesWriteStage, call_of_plan, job_by, wa
 use Rattle.core_plans.specs.LedBy.{LedBy}
 use Rattle.core_model.specs.Jobs.{ShardJob}
 use Rattle.core_steps.specs.OtherEnds.{EndsOver, JobWay, MergesOver, job_way}
-use Rattle.core_steps.specs.Posting.{Posting}
-use Rattle.core_steps.specs.Writes.{RefusesCommit, SentWrite, sent_write}
+use Rattle.core_steps.specs.World.{World}
 use Rattle.replies.specs.declared.calls.CallReply.{CallReply}
 use Rattle.replies.specs.declared.reply.Reply.{Reply}
 use Rattle.replies.specs.declared.reply.Reply.TheVariants.{Called}
@@ -24,12 +23,7 @@ use Rattle.write_plan.specs.declared.stage.WriteStage.TheVariants.{Apply, Commit
 abbrev pub IsRefusedSo : Option Reply → Type 0
 IsRefusedSo refused = IfSome refused (λ reply. (answered : CallReply) → reply ≡ Called answered → ⊥)
 
--- what refused a commit isn't
-no_commit : (led : LedBy) (sent : SentWrite) (reply : Reply) (old new : Posting) → RefusesCommit led.tells led.settings sent reply old new
-    → (answered : CallReply) → reply ≡ Called answered → ⊥
-no_commit led sent reply old new refuses answered is = subst (λ r. RefusesCommit led.tells led.settings sent r old new) is refuses
-
-module _ (led : LedBy) (p q : Writing) (old new : Posting) (was : IsRefusedSo p.refused) where
+module _ (led : LedBy) (p q : Writing) (old new : World) (was : IsRefusedSo p.refused) where
   merge_so : (way : JobWay) (result : Result Wrote Late) (hops : ℕ) → MergesOver led.tells led.settings way result old new
       → q ≡ after_stage p (came.Inverse result) hops → IsRefusedSo q.refused
   merge_so way (Ok wrote) hops merges then = subst (λ (x : Writing). IsRefusedSo x.refused) (sym then) was
@@ -44,9 +38,7 @@ module _ (led : LedBy) (p q : Writing) (old new : Posting) (was : IsRefusedSo p.
 
   pub refused_so : (at : WriteStage) → DoesWriteStage led at p old q new → IsRefusedSo q.refused
   refused_so Commit (inl commits) = subst (λ (x : Writing). IsRefusedSo x.refused) (sym commits.then) was
-  refused_so Commit (inr refuses) =
-      subst (λ (x : Writing). IsRefusedSo x.refused) (sym refuses.then)
-      (no_commit led (sent_write (way_by led.leader p) (call_of_plan p)) refuses.reply old new refuses.refuses)
+  refused_so Commit (inr refuses) = subst (λ (x : Writing). IsRefusedSo x.refused) (sym refuses.then) (λ answered is. absurd (cc))
   refused_so Inverse merges = merge_so (job_way led.leader (job_by p merges.job)) merges.result _ merges.merges merges.then
   refused_so End ends = end_so (job_by p ends.job) ends.result 0 ends.ends ends.then
   refused_so Apply (inl applies) = subst (λ (x : Writing). IsRefusedSo x.refused) (sym applies.then) was

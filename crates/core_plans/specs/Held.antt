@@ -10,7 +10,7 @@ use Rattle.core_model.specs.Serving.{IsLeaderFor, IsLeaderIn}
 use Rattle.core_model.specs.Stores.{master_of}
 use Rattle.core_model.specs.declared.named.Named.{Named}
 use Rattle.core_steps.specs.OtherEnds.{told_entry, told_there}
-use Rattle.core_steps.specs.Posting.{Posting}
+use Rattle.core_steps.specs.World.{World}
 use Rattle.core_steps.specs.declared.jobs.ToldEntry.{ToldEntry}
 use Rattle.follower_cache.specs.Seen.{FollowerState}
 use Rattle.node_name.specs.declared.NodeName.{NodeName}
@@ -152,20 +152,20 @@ CanStep tells s tables f leader None = ⊥
 CanStep tells s tables f leader (Some plan) = IsThere tells s tables f leader plan
 
 -- a read's stage changes no table and no message
-pub record StepsReadAlone (led : LedBy) (p : Reading) (old : Posting) (q : Reading) (new : Posting) : Type 0 where
-  pub steps : StepsRead led p old.scene q new.scene
-  pub tables : KeepsTables led.tells old.scene.keepers new.scene.keepers
+pub record StepsReadAlone (led : LedBy) (p : Reading) (old : World) (q : Reading) (new : World) : Type 0 where
+  pub steps : StepsRead led p old q new
+  pub tables : KeepsTables led.tells old.keepers new.keepers
   pub inboxes : new.inboxes ≡ old.inboxes
 
 -- one stage of a plan, the one that follows
-abbrev pub StepsHeld : LedBy → HeldPlan → Posting → HeldPlan → Posting → Type 0
+abbrev pub StepsHeld : LedBy → HeldPlan → World → HeldPlan → World → Type 0
 StepsHeld led (Read p) old (Read q) new = StepsReadAlone led p old q new
 StepsHeld led (Write p) old (Write q) new = DoesWriteStage led (next_of p) p old q new
 StepsHeld led (Read p) old (Write q) new = ⊥
 StepsHeld led (Write p) old (Read q) new = ⊥
 
 -- the plan of that number does one stage, and no other
-pub record StepsPlan (led : LedBy) (number : ℕ) (plans : Plans) (old : Posting) (later : Plans) (new : Posting) : Type 0 where
+pub record StepsPlan (led : LedBy) (number : ℕ) (plans : Plans) (old : World) (later : Plans) (new : World) : Type 0 where
   pub before : HeldPlan
   pub after : HeldPlan
   pub stands : plan_at plans number ≡ Some before

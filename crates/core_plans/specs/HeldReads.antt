@@ -9,9 +9,10 @@ use Rattle.core_model.specs.Pens.{Pens, pens_of}
 use Rattle.core_model.specs.Reads.{AsksAtOnce, EndsAsk, IsGivenAnswer, IsGivenFill, KeepsFill, LooksFirst, Wanted, taken_fill, wanted}
 use Rattle.core_model.specs.Serving.{IsFollowerFor}
 use Rattle.core_model.specs.Stores.{master_log}
-use Rattle.core_steps.specs.Reads.{AnswersAgain, IsLegalNow, MayAnswer}
-use Rattle.core_steps.specs.ReadSteps.{IsGivenOver, IsReadOver, ReadOverFails, ReadsOn}
-use Rattle.core_steps.specs.Routes.{Scene, hops_between, master_node, was_called}
+use Rattle.core_steps.specs.Reads.{AnswersAgain, IsLegalNow}
+use Rattle.core_steps.specs.ReadSteps.{IsGivenOver, IsNotGiven, IsNotRead, IsReadOver, ReadsOn}
+use Rattle.core_steps.specs.Routes.{hops_between, was_called}
+use Rattle.core_steps.specs.World.{World}
 use Rattle.core_steps.specs.declared.routes.Route.{Route}
 use Rattle.graph_model.specs.Log.{version}
 use Rattle.graph_model.specs.Told.{WhereTold}
@@ -28,8 +29,8 @@ use Rattle.read_plan.specs.declared.standing.Standing.TheVariants.{Looking, Aski
 use Rattle.replies.specs.declared.calls.CallReply.TheVariants as called
 use Rattle.replies.specs.declared.calls.ReadReply.{ReadReply}
 use Rattle.replies.specs.declared.nodes.KeptOrNot.TheVariants.{Kept}
+use Rattle.replies.specs.declared.refusals.Refusal.{Refusal}
 use Rattle.replies.specs.declared.refusals.Refusal.TheVariants.{Memory}
-use Rattle.replies.specs.declared.reply.Reply.{Reply}
 use Rattle.replies.specs.declared.reply.Reply.TheVariants.{Called, Refused}
 use Rattle.sealed_item.specs.Fills.{SealedItem}
 use Rattle.shard_tables.specs.declared.leader_answer.LeaderAnswer.{LeaderAnswer}
@@ -87,11 +88,11 @@ pub record IsReadUnderWay (tells : Bool) (s : Settings) (tables : Tables) (f : F
 -- ---- what its stages do
 
 -- no node but followers changed, and nothing else
-abbrev pub ChangesFollowers : Scene → Scene → Type 0
+abbrev pub ChangesFollowers : World → World → Type 0
 ChangesFollowers old new = new ≡ record old { fleet = record old.fleet { followers = new.fleet.followers } }
 
 -- the ask of the read ended at its follower
-abbrev pub EndsItsAsk : Reading → Scene → Scene → Type 0
+abbrev pub EndsItsAsk : Reading → World → World → Type 0
 EndsItsAsk p old new = ChangesNode p.follower (EndsAsk p.ask) old.fleet.followers new.fleet.followers
 
 -- the ask of the read ended at its follower, and no other node changed
@@ -102,7 +103,7 @@ pub record EndsAskAlone (s : Settings) (p : Reading) (old new : Fleet) : Type 0 
   pub goes : GoesOn old new
 
 -- `look`: the follower answers, or opens an ask
-pub record LooksThere (s : Settings) (p : Reading) (old : Scene) (q : Reading) (new : Scene) : Type 0 where
+pub record LooksThere (s : Settings) (p : Reading) (old : World) (q : Reading) (new : World) : Type 0 where
   pub look : Look
   pub ask : Option ℕ
   pub looks : ChangesNode p.follower (LooksFirst (types_of s.schema) (wanted_by p) look ask) old.fleet.followers new.fleet.followers
@@ -110,53 +111,54 @@ pub record LooksThere (s : Settings) (p : Reading) (old : Scene) (q : Reading) (
   pub then : q ≡ taken (came.Look (Ok look)) 0 false (record p { ask = ask })
 
 -- `look` of a critical read: the follower opens an ask at once
-pub record LooksPast (p : Reading) (old : Scene) (q : Reading) (new : Scene) : Type 0 where
+pub record LooksPast (p : Reading) (old : World) (q : Reading) (new : World) : Type 0 where
   pub ask : Option ℕ
   pub asks : ChangesNode p.follower (AsksAtOnce (query_key p.query) ask) old.fleet.followers new.fleet.followers
   pub rest : ChangesFollowers old new
   pub then : q ≡ taken (came.Look (Ok Miss)) 0 false (record p { ask = ask })
 
 -- `look` fails: memory was wanting for the follower's answer
-pub record LooksInVain (p : Reading) (old : Scene) (q : Reading) (new : Scene) : Type 0 where
+pub record LooksInVain (p : Reading) (old : World) (q : Reading) (new : World) : Type 0 where
   pub same : new ≡ old
   pub then : q ≡ taken (came.Look (Err (Refused (Memory 0)))) 0 false p
 
 -- what `look` does, which is critical or not
-abbrev pub DoesLook : Settings → Bool → Reading → Scene → Reading → Scene → Type 0
+abbrev pub DoesLook : Settings → Bool → Reading → World → Reading → World → Type 0
 DoesLook s false p old q new = LooksThere s p old q new ⊎ LooksInVain p old q new
 DoesLook s true p old q new = LooksPast p old q new
 
 -- `ask`: the leader answers, over the link there and back
-pub record AsksLeader (s : Settings) (leader : NodeName) (p : Reading) (old : Scene) (q : Reading) (new : Scene) : Type 0 where
+pub record AsksLeader (s : Settings) (leader : NodeName) (p : Reading) (old : World) (q : Reading) (new : World) : Type 0 where
   pub given : LeaderAnswer
   pub over : IsGivenOver s (route_by leader p) (wanted_by p) given old new
   pub then : q ≡ taken (came.Ask (Ok given)) (hops_between old.link new.link) (was_called old.keepers new.keepers) p
 
--- `ask` fails: nothing was carried back from the leader, and the read's ask ends
-pub record AsksInVain (s : Settings) (leader : NodeName) (p : Reading) (old : Scene) (q : Reading) (new : Scene) : Type 0 where
-  pub reply : Reply
-  pub fails : ReadOverFails p.follower leader reply old new
-  pub leaders : MayAnswer (types_of s.schema) (route_by leader p) (wanted_by p) old new
-  pub ends : EndsItsAsk p old new
-  pub stores : new.fleet.stores ≡ old.fleet.stores
-  pub then : q ≡ taken (came.Ask (Err reply)) (hops_between old.link new.link) (was_called old.keepers new.keepers) p
+-- `ask` fails: nothing was carried back from the leader, and then the read's ask ends
+pub record AsksInVain (s : Settings) (leader : NodeName) (p : Reading) (old : World) (q : Reading) (new : World) : Type 0 where
+  pub refusal : Refusal
+  pub mid : World
+  pub fails : IsNotGiven s (route_by leader p) (wanted_by p) refusal old mid
+  pub ends : EndsItsAsk p mid new
+  pub rest : ChangesFollowers mid new
+  pub then : q ≡ taken (came.Ask (Err (Refused refusal))) (hops_between old.link new.link) (was_called old.keepers new.keepers) p
 
 -- `master`: the master's store answers, over the link there and back
-pub record AsksMaster (tells : Bool) (s : Settings) (p : Reading) (old : Scene) (q : Reading) (new : Scene) : Type 0 where
+pub record AsksMaster (tells : Bool) (s : Settings) (p : Reading) (old : World) (q : Reading) (new : World) : Type 0 where
   pub out : ReadOut
   pub over : IsReadOver tells s p.query out old new
   pub then : q ≡ taken (came.Master (Ok out)) (hops_between old.link new.link) (was_called old.keepers new.keepers) p
 
--- `master` fails: nothing was carried back from the master's store, and the read's ask ends
-pub record MastersInVain (s : Settings) (p : Reading) (old : Scene) (q : Reading) (new : Scene) : Type 0 where
-  pub reply : Reply
-  pub fails : ReadOverFails p.follower (master_node s (query_shard p.query)) reply old new
-  pub ends : EndsItsAsk p old new
-  pub rest : new.fleet ≡ record old.fleet { followers = new.fleet.followers }
-  pub then : q ≡ taken (came.Master (Err reply)) (hops_between old.link new.link) (was_called old.keepers new.keepers) p
+-- `master` fails: nothing was carried back from the master's store, and then the read's ask ends
+pub record MastersInVain (s : Settings) (p : Reading) (old : World) (q : Reading) (new : World) : Type 0 where
+  pub refusal : Refusal
+  pub mid : World
+  pub fails : IsNotRead s p.follower p.query refusal old mid
+  pub ends : EndsItsAsk p mid new
+  pub rest : ChangesFollowers mid new
+  pub then : q ≡ taken (came.Master (Err (Refused refusal))) (hops_between old.link new.link) (was_called old.keepers new.keepers) p
 
 -- `keep`: the follower answers from the fill, and keeps it or not
-pub record AnswersFrom (s : Settings) (p : Reading) (fill : SealedItem) (old : Scene) (q : Reading) (new : Scene) : Type 0 where
+pub record AnswersFrom (s : Settings) (p : Reading) (fill : SealedItem) (old : World) (q : Reading) (new : World) : Type 0 where
   pub answer : Answer
   pub kept : KeptWhy
   pub keeps : ChangesNode p.follower (KeepsFill (types_of s.schema) p.query (taken_fill p.ask fill answer kept)) old.fleet.followers new.fleet.followers
@@ -164,25 +166,25 @@ pub record AnswersFrom (s : Settings) (p : Reading) (fill : SealedItem) (old : S
   pub then : q ≡ taken (came.Keep (Ok (Some (answer, kept)))) 0 false p
 
 -- `keep` fails: memory was wanting for the follower's answer, and the read's ask ends
-pub record KeepsInVain (p : Reading) (old : Scene) (q : Reading) (new : Scene) : Type 0 where
+pub record KeepsInVain (p : Reading) (old : World) (q : Reading) (new : World) : Type 0 where
   pub ends : EndsItsAsk p old new
   pub rest : ChangesFollowers old new
   pub then : q ≡ taken (came.Keep (Err (Refused (Memory 0)))) 0 false p
 
 -- an answer past the bound is handed on, and its ask ends
-pub record HandsPast (p : Reading) (old : Scene) (q : Reading) (new : Scene) : Type 0 where
+pub record HandsPast (p : Reading) (old : World) (q : Reading) (new : World) : Type 0 where
   pub ends : EndsItsAsk p old new
   pub rest : ChangesFollowers old new
   pub then : q ≡ taken (came.Keep (Ok None)) 0 false p
 
 -- what `keep` does with what was given; it is never handed out before
-abbrev pub DoesKeep : Settings → Reading → Given → Scene → Reading → Scene → Type 0
+abbrev pub DoesKeep : Settings → Reading → Given → World → Reading → World → Type 0
 DoesKeep s p (Fill fill) old q new = AnswersFrom s p fill old q new ⊎ KeepsInVain p old q new
 DoesKeep s p (Past answer version total seen) old q new = HandsPast p old q new
 DoesKeep s p (HandedOut version) old q new = ⊥
 
 -- what the stage does that follows
-abbrev pub DoesReadStage : LedBy → Standing → Reading → Scene → Reading → Scene → Type 0
+abbrev pub DoesReadStage : LedBy → Standing → Reading → World → Reading → World → Type 0
 DoesReadStage led Looking p old q new = DoesLook led.settings p.critical p old q new
 DoesReadStage led Asking p old q new = AsksLeader led.settings led.leader p old q new ⊎ AsksInVain led.settings led.leader p old q new
 DoesReadStage led Mastering p old q new = AsksMaster led.tells led.settings p old q new ⊎ MastersInVain led.settings p old q new
@@ -213,18 +215,18 @@ abbrev pub MissesNone : Bool → Settings → ℕ → Reading → KeeperState �
 MissesNone tells s least p keepers = WhereTold tells (p.critical ≡ true → HasComeTo least (version_now s p keepers) p.at)
 
 -- the answer of a read that ends with one is legal in the log as it is then, and what is kept is held and answers again
-abbrev pub EndsLegally : Bool → Settings → Reading → Scene → Type 0
+abbrev pub EndsLegally : Bool → Settings → Reading → World → Type 0
 EndsLegally tells s q new = (reply : ReadReply) → EndsWith q (Called (called.Read reply)) → IsLegalNow tells s (wanted_by q) reply new.keepers
     × WhereTold tells (reply.kept ≡ Kept → AnswersAgain (types_of s.schema) q.follower q.query reply new.fleet.followers)
 
 -- one stage of a held read, the one that follows. A critical one misses nothing that it didn't before, so nothing that stood when it began
-pub record StepsRead (led : LedBy) (p : Reading) (old : Scene) (q : Reading) (new : Scene) : Type 0 where
+pub record StepsRead (led : LedBy) (p : Reading) (old : World) (q : Reading) (new : World) : Type 0 where
   pub does : DoesReadStage led p.at p old q new
   pub legal : EndsLegally led.tells led.settings q new
   pub whole : (least : ℕ) → MissesNone led.tells led.settings least p old.keepers → MissesNone led.tells led.settings least q new.keepers
 
 -- a stage of a held read was done: the read can go on, and so can all else
-pub record PassesReadStage (led : LedBy) (p : Reading) (old : Scene) (q : Reading) (new : Scene) : Type 0 where
+pub record PassesReadStage (led : LedBy) (p : Reading) (old : World) (q : Reading) (new : World) : Type 0 where
   pub steps : StepsRead led p old q new
   pub read : IsReadUnderWay led.tells led.settings new.keepers.told new.fleet q
   pub on : ReadsOn led.tells led.settings old new

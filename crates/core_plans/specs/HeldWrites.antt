@@ -4,13 +4,15 @@ use Rattle.core_model.specs.Fleet.{Fleet}
 use Rattle.core_model.specs.Jobs.{CanBeMerged, IsMergedJob, ShardJob, job_on}
 use Rattle.core_model.specs.Serving.{IsFollowerFor}
 use Rattle.core_steps.specs.Routes.{FailsCarry, hops_between}
+use Rattle.core_steps.specs.World.{World}
 use Rattle.core_steps.specs.OtherEnds.{EndsOver, MergesOver, StandsThere, job_way}
-use Rattle.core_steps.specs.Posting.{AppliesAlone, Posting, PostsOn}
+use Rattle.core_steps.specs.Posting.{AppliesAlone, PostsOn}
 use Rattle.core_steps.specs.Writes.{AuthoredWrite, CanBeApplied, FollowerTakes, IsCommitted, RefusesCommit, client_call, sent_write}
 use Rattle.core_steps.specs.declared.routes.Route.{Route}
 use Rattle.graph_model.specs.Soundness.{is_client}
 use Rattle.graph_model.specs.Told.{WhereTold}
 use Rattle.node_name.specs.declared.NodeName.{NodeName}
+use Rattle.replies.specs.declared.refusals.Refusal.{Refusal}
 use Rattle.replies.specs.declared.refusals.Refusal.TheVariants.{Store, Memory}
 use Rattle.replies.specs.declared.refusals.StoreRefused.TheVariants.{LinkFault}
 use Rattle.replies.specs.declared.reply.Reply.{Reply}
@@ -56,10 +58,10 @@ pub record IsAnswerTo (s : Settings) (stores : List StoreSeen) (p : Writing) (c 
   pub paired : c.paired ≡ has_inverse (types_of s.schema) p.write
 
 -- what the leader answered to a write, as its plan takes it: so it does where it passed no other leader
-abbrev pub IsTakenAs : Settings → Write → Result Wrote Reply → Result Committed Reply → Type 0
+abbrev pub IsTakenAs : Settings → Write → Result Wrote Refusal → Result Committed Reply → Type 0
 IsTakenAs s write (Ok wrote) (Ok c) = (c.wrote ≡ wrote) × (told_kind write wrote.entry ≡ Some c.kind) × (c.passed ≡ None)
     × (c.paired ≡ has_inverse (types_of s.schema) write)
-IsTakenAs s write (Err refusal) (Err reply) = reply ≡ refusal
+IsTakenAs s write (Err refusal) (Err reply) = reply ≡ Refused refusal
 IsTakenAs s write (Ok wrote) (Err reply) = ⊥
 IsTakenAs s write (Err refusal) (Ok c) = ⊥
 
@@ -83,28 +85,28 @@ pub record IsWriteUnderWay (tells : Bool) (s : Settings) (tables : Tables) (f : 
 -- ---- what its stages do
 
 -- `commit`: the leader writes, and the followers are told
-pub record CommitsHeld (led : LedBy) (p : Writing) (old : Posting) (q : Writing) (new : Posting) : Type 0 where
+pub record CommitsHeld (led : LedBy) (p : Writing) (old : World) (q : Writing) (new : World) : Type 0 where
   pub committed : Committed
   pub commits : IsCommitted led.tells led.settings (sent_write (way_by led.leader p) (call_of_plan p)) committed.wrote old new
-  pub answer : IsAnswerTo led.settings new.scene.fleet.stores p committed
-  pub then : q ≡ after_stage p (came.Commit (Ok committed)) (hops_between old.scene.link new.scene.link)
+  pub answer : IsAnswerTo led.settings new.fleet.stores p committed
+  pub then : q ≡ after_stage p (came.Commit (Ok committed)) (hops_between old.link new.link)
 
 -- `commit` fails: the write was refused, and no node, inbox or table changed
-pub record RefusesHeld (led : LedBy) (p : Writing) (old : Posting) (q : Writing) (new : Posting) : Type 0 where
-  pub reply : Reply
-  pub refuses : RefusesCommit led.tells led.settings (sent_write (way_by led.leader p) (call_of_plan p)) reply old new
-  pub then : q ≡ after_stage p (came.Commit (Err reply)) (hops_between old.scene.link new.scene.link)
+pub record RefusesHeld (led : LedBy) (p : Writing) (old : World) (q : Writing) (new : World) : Type 0 where
+  pub refusal : Refusal
+  pub refuses : RefusesCommit led.tells led.settings (sent_write (way_by led.leader p) (call_of_plan p)) refusal old new
+  pub then : q ≡ after_stage p (came.Commit (Err (Refused refusal))) (hops_between old.link new.link)
 
 -- `inverse`: the job is carried to the leader of the other shard, which merges it, and the answer back
-pub record MergesHeld (led : LedBy) (p : Writing) (old : Posting) (q : Writing) (new : Posting) : Type 0 where
+pub record MergesHeld (led : LedBy) (p : Writing) (old : World) (q : Writing) (new : World) : Type 0 where
   pub job : Job
   pub answered : answered_job p ≡ Some job
   pub result : Result Wrote Late
   pub merges : MergesOver led.tells led.settings (job_way led.leader (job_by p job)) result old new
-  pub then : q ≡ after_stage p (came.Inverse result) (hops_between old.scene.link new.scene.link)
+  pub then : q ≡ after_stage p (came.Inverse result) (hops_between old.link new.link)
 
 -- `end`: the job is ended
-pub record EndsHeld (tells : Bool) (s : Settings) (p : Writing) (old : Posting) (q : Writing) (new : Posting) : Type 0 where
+pub record EndsHeld (tells : Bool) (s : Settings) (p : Writing) (old : World) (q : Writing) (new : World) : Type 0 where
   pub job : Job
   pub answered : answered_job p ≡ Some job
   pub result : Result ⊤ Late
@@ -112,35 +114,35 @@ pub record EndsHeld (tells : Bool) (s : Settings) (p : Writing) (old : Posting) 
   pub then : q ≡ after_stage p (came.End result) 0
 
 -- `apply`: the answer is carried back, and the follower takes the changes
-pub record AppliesHeld (s : Settings) (leader : NodeName) (p : Writing) (old : Posting) (q : Writing) (new : Posting) : Type 0 where
+pub record AppliesHeld (s : Settings) (leader : NodeName) (p : Writing) (old : World) (q : Writing) (new : World) : Type 0 where
   pub committed : Committed
   pub answered : p.committed ≡ Some committed
-  pub takes : FollowerTakes (types_of s.schema) (way_by leader p) (write_shard p.write) committed.wrote.entry old.scene.fleet new.scene.fleet
-  pub link : new.scene.link ≡ after_carry old.scene.link
+  pub takes : FollowerTakes (types_of s.schema) (way_by leader p) (write_shard p.write) committed.wrote.entry old.fleet new.fleet
+  pub link : new.link ≡ after_carry old.link
   pub rest : AppliesAlone old new
-  pub then : q ≡ after_stage p (came.Apply (Ok tt)) (hops_between old.scene.link new.scene.link)
+  pub then : q ≡ after_stage p (came.Apply (Ok tt)) (hops_between old.link new.link)
 
 -- `apply` fails on the way back: the write stands, at the position that the reply tells where there is an entry
-pub record LosesWayBack (leader : NodeName) (p : Writing) (old : Posting) (q : Writing) (new : Posting) : Type 0 where
+pub record LosesWayBack (leader : NodeName) (p : Writing) (old : World) (q : Writing) (new : World) : Type 0 where
   pub committed : Committed
   pub answered : p.committed ≡ Some committed
-  pub carry : FailsCarry leader p.follower old.scene.link new.scene.link
-  pub fleet : new.scene.fleet ≡ old.scene.fleet
+  pub carry : FailsCarry leader p.follower old.link new.link
+  pub fleet : new.fleet ≡ old.fleet
   pub rest : AppliesAlone old new
-  pub then : q ≡ after_stage p (came.Apply (Err (Refused (Store (LinkFault new.scene.link.faults (when_of committed.wrote.entry))))))
-      (hops_between old.scene.link new.scene.link)
+  pub then : q ≡ after_stage p (came.Apply (Err (Refused (Store (LinkFault new.link.faults (when_of committed.wrote.entry))))))
+      (hops_between old.link new.link)
 
 -- memory was wanting for the way back: the plan ends, at the position of what its commit answered
 abbrev pub way_given_up : Writing → Writing
 way_given_up p = after_stage p (came.Apply (Err (Refused (Memory (entry_position (answered_entry p)))))) 0
 
 -- `apply` fails for want of memory: the plan ends, and the write stands as well
-pub record AppliesInVain (p : Writing) (old : Posting) (q : Writing) (new : Posting) : Type 0 where
+pub record AppliesInVain (p : Writing) (old : World) (q : Writing) (new : World) : Type 0 where
   pub same : new ≡ old
   pub then : q ≡ way_given_up p
 
 -- what the stage does that follows
-abbrev pub DoesWriteStage : LedBy → WriteStage → Writing → Posting → Writing → Posting → Type 0
+abbrev pub DoesWriteStage : LedBy → WriteStage → Writing → World → Writing → World → Type 0
 DoesWriteStage led Commit p old q new = CommitsHeld led p old q new ⊎ RefusesHeld led p old q new
 DoesWriteStage led Apply p old q new =
     AppliesHeld led.settings led.leader p old q new ⊎ (LosesWayBack led.leader p old q new ⊎ AppliesInVain p old q new)
@@ -152,7 +154,7 @@ DoesWriteStage led Done p old q new = ⊥
 -- ---- what each of them keeps
 
 -- a stage of a held write was done: the write can go on, and so can all else
-pub record PassesWriteStage (led : LedBy) (at : WriteStage) (p : Writing) (old : Posting) (q : Writing) (new : Posting) : Type 0 where
+pub record PassesWriteStage (led : LedBy) (at : WriteStage) (p : Writing) (old : World) (q : Writing) (new : World) : Type 0 where
   pub does : DoesWriteStage led at p old q new
-  pub write : IsWriteUnderWay led.tells led.settings new.scene.keepers.told new.scene.fleet q
+  pub write : IsWriteUnderWay led.tells led.settings new.keepers.told new.fleet q
   pub on : PostsOn led.tells led.settings old new

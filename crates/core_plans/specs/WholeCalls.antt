@@ -4,7 +4,8 @@ use Rattle.core_plans.specs.Held.{IsUnderWay, StepsHeld, next_stage}
 use Rattle.core_plans.specs.LedBy.{LedBy}
 use Rattle.core_plans.specs.declared.held.HeldPlan.{HeldPlan}
 use Rattle.core_plans.specs.declared.held.HeldPlan.TheVariants.{Read, Write}
-use Rattle.core_steps.specs.Posting.{Posting, PostsOn}
+use Rattle.core_steps.specs.Posting.{PostsOn}
+use Rattle.core_steps.specs.World.{World}
 use Rattle.read_plan.specs.Standings.{stage_of}
 use Rattle.read_plan.specs.declared.stages.ReadStage.{ReadStage}
 use Rattle.read_plan.specs.declared.stages.ReadStage.TheVariants as reads
@@ -13,18 +14,18 @@ use Rattle.write_plan.specs.declared.stage.WriteStage.{WriteStage}
 use Rattle.write_plan.specs.declared.stage.WriteStage.TheVariants as writes
 
 -- a plan did a stage: it can go on, and so can all else
-pub record PassesStage (led : LedBy) (p : HeldPlan) (old : Posting) (q : HeldPlan) (new : Posting) : Type 0 where
+pub record PassesStage (led : LedBy) (p : HeldPlan) (old : World) (q : HeldPlan) (new : World) : Type 0 where
   pub steps : StepsHeld led p old q new
-  pub under_way : IsUnderWay led.tells led.settings new.scene.keepers.told new.scene.fleet q
+  pub under_way : IsUnderWay led.tells led.settings new.keepers.told new.fleet q
   pub on : PostsOn led.tells led.settings old new
 
 -- so many stages of a plan, each beginning as the one before it left things
-abbrev pub PassesStages : LedBy → ℕ → HeldPlan → Posting → HeldPlan → Posting → Type 0
+abbrev pub PassesStages : LedBy → ℕ → HeldPlan → World → HeldPlan → World → Type 0
 PassesStages led zero p old q new = (q ≡ p) × (new ≡ old)
-PassesStages led (suc n) p old q new = (m : HeldPlan) × (x : Posting) × PassesStages led n p old m x × PassesStage led m x q new
+PassesStages led (suc n) p old q new = (m : HeldPlan) × (x : World) × PassesStages led n p old m x × PassesStage led m x q new
 
 -- all stages of a plan with one leader, one after another, and nothing between them
-pub record CarriesOut (led : LedBy) (p : HeldPlan) (old : Posting) (q : HeldPlan) (new : Posting) : Type 0 where
+pub record CarriesOut (led : LedBy) (p : HeldPlan) (old : World) (q : HeldPlan) (new : World) : Type 0 where
   pub stages : ℕ
   pub passes : PassesStages led stages p old q new
   pub over : next_stage q ≡ None

@@ -8,8 +8,8 @@ use Rattle.core_plans.specs.LedBy.{LedBy, led_by}
 use Rattle.core_plans.specs.WholeCalls.{CarriesOut}
 use Rattle.core_plans.specs.declared.held.HeldPlan.{HeldPlan}
 use Rattle.core_plans.specs.declared.held.HeldPlan.TheVariants.{Read, Write}
-use Rattle.core_steps.specs.Posting.{Posting}
-use Rattle.core_steps.specs.Routes.{Scene, hops_between, was_called}
+use Rattle.core_steps.specs.World.{World}
+use Rattle.core_steps.specs.Routes.{hops_between, was_called}
 use Rattle.graph_model.specs.Records.{HasStamp}
 use Rattle.node_name.specs.declared.NodeName.{NodeName}
 use Rattle.read_plan.specs.Readings.{Reading}
@@ -37,15 +37,15 @@ pub record IsBegunRead (p : Reading) : Type 0 where
   pub store : p.store ≡ false
 
 -- the hops of an answer are the carries between the two scenes, and its `store` says whether a keeper was called
-pub record TellsCost (reply : ReadReply) (old new : Scene) : Type 0 where
+pub record TellsCost (reply : ReadReply) (old new : World) : Type 0 where
   pub hops : reply.hops ≡ hops_between old.link new.link
   pub store : reply.store ≡ was_called old.keepers new.keepers
 
 -- a read that does all of its stages: an answer tells what they took, and no table and no message changes
-pub record WholeRead (led : LedBy) (p : Reading) (old : Posting) (q : HeldPlan) (new : Posting) : Type 0 where
+pub record WholeRead (led : LedBy) (p : Reading) (old : World) (q : HeldPlan) (new : World) : Type 0 where
   pub cost : IsBegunRead p → CarriesOut led (Read p) old q new → (reply : ReadReply) → IsOver q (Called (called.Read reply))
-      → TellsCost reply old.scene new.scene
-  pub tables : CarriesOut led (Read p) old q new → KeepsTables led.tells old.scene.keepers new.scene.keepers
+      → TellsCost reply old new
+  pub tables : CarriesOut led (Read p) old q new → KeepsTables led.tells old.keepers new.keepers
   pub inboxes : CarriesOut led (Read p) old q new → new.inboxes ≡ old.inboxes
 
 -- ---- writes
@@ -57,17 +57,17 @@ pub record IsBegunWrite (p : Writing) : Type 0 where
   pub hops : p.hops ≡ 0
 
 -- a write that does all of its stages: the hops of an Ok reply are the carries that they took
-pub record WholeWrite (led : LedBy) (p : Writing) (old : Posting) (q : HeldPlan) (new : Posting) : Type 0 where
+pub record WholeWrite (led : LedBy) (p : Writing) (old : World) (q : HeldPlan) (new : World) : Type 0 where
   pub cost : IsBegunWrite p → CarriesOut led (Write p) old q new → (reply : WriteReply) → IsOver q (Called (called.Write reply))
-      → reply.hops ≡ hops_between old.scene.link new.scene.link
+      → reply.hops ≡ hops_between old.link new.link
 
 -- each record that the entry owes to another shard is there, or a later one
 abbrev pub HasOtherEnds : Settings → Tables → Entry → Type 0
 HasOtherEnds s tables e = All (λ u. HasStamp (log_of (stores_in s tables).logs (shard_of u.0)) u) (job_of (types_of s.schema) e)
 
 -- a write that does all of its stages, over keepers that tell their tables: where its Ok reply tells the inverse as written, the other end has it
-pub record WrittenIsThere (s : Settings) (leader : NodeName) (p : Writing) (old : Posting) (q : HeldPlan) (new : Posting) : Type 0 where
-  pub there : HaveMasterRegions s → IsBegunWrite p → IsWriteUnderWay true s old.scene.keepers.told old.scene.fleet p
-      → IsConsistent true s old.scene.keepers.told old.scene.fleet → CarriesOut (led_by true s leader) (Write p) old q new
+pub record WrittenIsThere (s : Settings) (leader : NodeName) (p : Writing) (old : World) (q : HeldPlan) (new : World) : Type 0 where
+  pub there : HaveMasterRegions s → IsBegunWrite p → IsWriteUnderWay true s old.keepers.told old.fleet p
+      → IsConsistent true s old.keepers.told old.fleet → CarriesOut (led_by true s leader) (Write p) old q new
       → (reply : WriteReply) → IsOver q (Called (called.Write reply)) → reply.written.inverse ≡ Written
-      → IfSome (told_with (Called (called.Write reply)) q).here (λ t. HasOtherEnds s new.scene.keepers.told t.entry)
+      → IfSome (told_with (Called (called.Write reply)) q).here (λ t. HasOtherEnds s new.keepers.told t.entry)

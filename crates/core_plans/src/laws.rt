@@ -3,8 +3,7 @@ ghost use Rattle.core_plans.specs.HeldLaws.{AsksStayHeld, NothingIsMissedLater, 
 ghost use Rattle.core_plans.specs.LedBy.{LedBy};
 ghost use Rattle.core_plans.specs.WholeLaws.{WholeRead, WholeWrite, WrittenIsThere};
 ghost use Rattle.core_plans.specs.declared.held.HeldPlan.{HeldPlan as AnyPlan};
-ghost use Rattle.core_steps.specs.Posting.{Posting};
-ghost use Rattle.core_steps.specs.Routes.{Scene};
+ghost use Rattle.core_steps.specs.World.{World};
 ghost use Rattle.node_name.specs.declared.NodeName.{NodeName as AnyNode};
 ghost use Rattle.read_plan.specs.Readings.{Reading};
 ghost use Rattle.topology.specs.Config.{Settings};
@@ -25,25 +24,25 @@ pub fn nothing_is_missed_later()
 /// A stage of a held read misses nothing that the read didn't miss before, where stores and nodes are settled and its follower and leader are up.
 #[tactic(auto, using(crate::proofs::WholeStages::stages_miss_nothing))]
 pub fn stages_miss_nothing()
-    ensures { (s : Settings) (leader : AnyNode) (p q : Reading) (old new : Scene) → StagesMissNothing s leader p old q new }
+    ensures { (s : Settings) (leader : AnyNode) (p q : Reading) (old new : World) → StagesMissNothing s leader p old q new }
 {}
 
 /// An answer of a read that does all of its stages tells exactly the carries that they took, and whether they called a keeper. Such a read
 /// changes no table and no message.
 #[tactic(auto, using(crate::proofs::WholeReads::whole_reads))]
 pub fn whole_reads()
-    ensures { (led : LedBy) (p : Reading) (old : Posting) (q : AnyPlan) (new : Posting) → WholeRead led p old q new }
+    ensures { (led : LedBy) (p : Reading) (old : World) (q : AnyPlan) (new : World) → WholeRead led p old q new }
 {}
 
 /// An Ok reply of a write that does all of its stages tells exactly the carries that they took.
 #[tactic(auto, using(crate::proofs::WholeWrites::whole_writes))]
 pub fn whole_writes()
-    ensures { (led : LedBy) (p : Writing) (old : Posting) (q : AnyPlan) (new : Posting) → WholeWrite led p old q new }
+    ensures { (led : LedBy) (p : Writing) (old : World) (q : AnyPlan) (new : World) → WholeWrite led p old q new }
 {}
 
 /// Where the Ok reply of a write that does all of its stages tells its inverse as written, each record that its entry owes to another shard
 /// is there, or a later one.
 #[tactic(auto, using(crate::proofs::InverseThere::written_is_there))]
 pub fn written_is_there()
-    ensures { (s : Settings) (leader : AnyNode) (p : Writing) (old : Posting) (q : AnyPlan) (new : Posting) → WrittenIsThere s leader p old q new }
+    ensures { (s : Settings) (leader : AnyNode) (p : Writing) (old : World) (q : AnyPlan) (new : World) → WrittenIsThere s leader p old q new }
 {}

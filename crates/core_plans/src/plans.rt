@@ -2,14 +2,13 @@
 ghost use Rattle.std.specs.Prelude.{◌≡◌, IfSome};
 ghost use Rattle.core_plans.specs.Held.{CanStep, IsThere, IsUnderWay, StepsHeld, StepsPlan};
 ghost use Rattle.core_plans.specs.LedBy.{led_by};
-ghost use Rattle.core_steps.specs.Routes.{scene};
-ghost use Rattle.core_steps.specs.Posting.{CanPost, PostsOn, posting};
+ghost use Rattle.core_steps.specs.Posting.{CanPost, PostsOn};
+ghost use Rattle.core_steps.specs.World.{world};
 
 use crate::held::HeldPlan;
 use crate::reads::read_stage;
 use crate::writes::write_stage;
-use core_mail::Mail;
-use core_nodes::Fleet;
+use core_steps::Nodes;
 use node_name::NodeName;
 use std::alloc::Global;
 use std::collections::BTreeMap;
@@ -17,7 +16,7 @@ use std::marker::Model;
 use tao_base::OutOfMemory;
 use tao_keeper::Keeper;
 use tao_link::Link;
-use topology::{Config, Topology};
+use topology::Config;
 
 /// Drops a value. Whatever its type, it is one step to the one who reads on.
 fn let_go<T: Drop>(value: T) {
@@ -26,31 +25,26 @@ fn let_go<T: Drop>(value: T) {
 
 /// Does the stage of a plan that follows.
 pub(crate) fn held_stage<K: Keeper, L: Link>(
-    alloc: Global,
-    fleet: &mut Fleet,
-    mail: &mut Mail,
+    nodes: &mut Nodes,
     config: &Config,
-    topology: &Topology,
     keepers: &mut K,
     link: &mut L,
     leader: NodeName,
     plan: &mut HeldPlan,
 )
-    requires ready { CanPost K.TELLS config.now (posting (scene fleet.old (K.state keepers.old) (L.shown link.old)) mail.old topology.now) }
-    requires there { IsThere K.TELLS config.now (K.state keepers.old).told fleet.old leader plan.old }
+    requires ready { CanPost K.TELLS config.now (world nodes.old (K.state keepers.old) (L.shown link.old)) }
+    requires there { IsThere K.TELLS config.now (K.state keepers.old).told nodes.old.fleet leader plan.old }
     ensures steps { StepsHeld (led_by K.TELLS config.now leader)
-        plan.old (posting (scene fleet.old (K.state keepers.old) (L.shown link.old)) mail.old topology.now)
-        plan.new (posting (scene fleet.new (K.state keepers.new) (L.shown link.new)) mail.new topology.now) }
-    ensures under_way { IsUnderWay K.TELLS config.now (K.state keepers.new).told fleet.new plan.new }
+        plan.old (world nodes.old (K.state keepers.old) (L.shown link.old))
+        plan.new (world nodes.new (K.state keepers.new) (L.shown link.new)) }
+    ensures under_way { IsUnderWay K.TELLS config.now (K.state keepers.new).told nodes.new.fleet plan.new }
     ensures on { PostsOn K.TELLS config.now
-        (posting (scene fleet.old (K.state keepers.old) (L.shown link.old)) mail.old topology.now)
-        (posting (scene fleet.new (K.state keepers.new) (L.shown link.new)) mail.new topology.now) }
+        (world nodes.old (K.state keepers.old) (L.shown link.old))
+        (world nodes.new (K.state keepers.new) (L.shown link.new)) }
 {
     match plan {
-        HeldPlan::Read(plan) => read_stage(alloc, fleet, config, keepers, link, leader, plan),
-        HeldPlan::Write(plan) => write_stage(
-            alloc, fleet, mail, config, topology, keepers, link, leader, plan,
-        ),
+        HeldPlan::Read(plan) => read_stage(nodes, config, keepers, link, leader, plan),
+        HeldPlan::Write(plan) => write_stage(nodes, config, keepers, link, leader, plan),
     }
 }
 
@@ -72,7 +66,7 @@ impl HeldPlans {
     ghost use Rattle.std.specs.Prelude.{ℕ, ◌≡◌, Bool, IsSome, None, OnErr, OnOk, false, is_some, option_and_then, option_copied, true};
     ghost use Rattle.core_model.specs.Fleet.{Fleet as Fleet_};
     ghost use Rattle.core_plans.specs.Held.{AddsPlan, TakesPlan, learner, plan_at, plan_count};
-    ghost use Rattle.core_steps.specs.Posting.{Posting};
+    ghost use Rattle.core_steps.specs.World.{World};
     ghost use Rattle.node_name.specs.declared.NodeName.{NodeName as NodeName_};
     ghost use Rattle.tao_keeper.specs.Table.{Tables};
     ghost use Rattle.topology.specs.Config.{Settings};
@@ -139,7 +133,7 @@ impl HeldPlans {
     /// the position that its reply tells, and nothing changes but the plan, which stays. Takes no memory.
     pub fn give_up(&mut self, number: u32)
         requires { IsSome (option_and_then learner (plan_at self.old number)) }
-        ensures steps { (tells : Bool) (s : Settings) (leader : NodeName_) (now : Posting)
+        ensures steps { (tells : Bool) (s : Settings) (leader : NodeName_) (now : World)
             → StepsPlan (led_by tells s leader) number self.old now self.new now }
         ensures under_way { (tells : Bool) (s : Settings) (tables : Tables) (f : Fleet_) → IfSome (plan_at self.old number) (IsUnderWay tells s tables f)
             → IfSome (plan_at self.new number) (IsUnderWay tells s tables f) }
@@ -154,30 +148,25 @@ impl HeldPlans {
     /// master's region. The plan stays, also where it is over then. Costs what the stage does in `core_steps`.
     pub fn step<K: Keeper, L: Link>(
         &mut self,
-        alloc: Global,
-        fleet: &mut Fleet,
-        mail: &mut Mail,
+        nodes: &mut Nodes,
         config: &Config,
-        topology: &Topology,
         keepers: &mut K,
         link: &mut L,
         leader: NodeName,
         number: u32,
     )
-        requires ready { CanPost K.TELLS config.now (posting (scene fleet.old (K.state keepers.old) (L.shown link.old)) mail.old topology.now) }
-        requires can { CanStep K.TELLS config.now (K.state keepers.old).told fleet.old leader (plan_at self.old number) }
+        requires ready { CanPost K.TELLS config.now (world nodes.old (K.state keepers.old) (L.shown link.old)) }
+        requires can { CanStep K.TELLS config.now (K.state keepers.old).told nodes.old.fleet leader (plan_at self.old number) }
         ensures steps { StepsPlan (led_by K.TELLS config.now leader) number
-            self.old (posting (scene fleet.old (K.state keepers.old) (L.shown link.old)) mail.old topology.now)
-            self.new (posting (scene fleet.new (K.state keepers.new) (L.shown link.new)) mail.new topology.now) }
-        ensures under_way { IfSome (plan_at self.new number) (IsUnderWay K.TELLS config.now (K.state keepers.new).told fleet.new) }
+            self.old (world nodes.old (K.state keepers.old) (L.shown link.old))
+            self.new (world nodes.new (K.state keepers.new) (L.shown link.new)) }
+        ensures under_way { IfSome (plan_at self.new number) (IsUnderWay K.TELLS config.now (K.state keepers.new).told nodes.new.fleet) }
         ensures on { PostsOn K.TELLS config.now
-            (posting (scene fleet.old (K.state keepers.old) (L.shown link.old)) mail.old topology.now)
-            (posting (scene fleet.new (K.state keepers.new) (L.shown link.new)) mail.new topology.now) }
+            (world nodes.old (K.state keepers.old) (L.shown link.old))
+            (world nodes.new (K.state keepers.new) (L.shown link.new)) }
     {
         match self.plans.get_mut(&number) {
-            Some(plan) => held_stage(
-                alloc, fleet, mail, config, topology, keepers, link, leader, plan,
-            ),
+            Some(plan) => held_stage(nodes, config, keepers, link, leader, plan),
             None => unreachable!(),
         }
     }

@@ -4,7 +4,7 @@ ghost use Rattle.core_model.specs.Consistent.{IsConsistent, IsFleetOf};
 ghost use Rattle.core_model.specs.Serving.{IsFollowerFor, IsLeaderFor};
 ghost use Rattle.core_plans.specs.HeldReads.{EndsAskAlone, IsReadUnderWay, PassesReadStage, at_bound};
 ghost use Rattle.core_plans.specs.LedBy.{led_by};
-ghost use Rattle.core_steps.specs.Routes.{scene};
+ghost use Rattle.core_steps.specs.World.{world};
 ghost use Rattle.read_plan.specs.Readings.{new_reading, taken};
 ghost use Rattle.read_plan.specs.Standings.{IsAnsweredFrom, came_of, stage_named, stage_of};
 ghost use Rattle.read_plan.specs.declared.stages.ReadStage.TheVariants as stage;
@@ -13,11 +13,11 @@ ghost use Rattle.tao_base.specs.Queries.{query_shard};
 use cache_items::Look;
 use core_model::masters_are_regions;
 use core_nodes::{FirstLook, Fleet};
-use core_steps::{Route, ask_over, out_of_memory, read_over};
+use core_steps::{Nodes, Route, out_of_memory};
 use node_name::NodeName;
 use read_plan::{ReadPlan, ReadResult, ReadStage};
+use replies::Reply;
 use sealed_item::laws::fills_are_sealed;
-use std::alloc::Global;
 use tao_base::{OutOfMemory, Query};
 use tao_keeper::Keeper;
 use tao_link::Link;
@@ -87,44 +87,49 @@ fn end_ask_of(fleet: &mut Fleet, config: &Config, plan: &ReadPlan)
 
 /// The stage `look` of a critical read: its follower isn't to answer.
 fn look_past<K: Keeper, L: Link>(
-    fleet: &mut Fleet,
+    nodes: &mut Nodes,
     config: &Config,
     keepers: &K,
     link: &L,
     leader: NodeName,
     plan: &mut ReadPlan,
 )
-    requires consistent { IsConsistent K.TELLS config.now (K.state keepers.now).told fleet.old }
-    requires read { IsReadUnderWay K.TELLS config.now (K.state keepers.now).told fleet.old plan.old }
+    requires consistent { IsConsistent K.TELLS config.now (K.state keepers.now).told nodes.old.fleet }
+    requires read { IsReadUnderWay K.TELLS config.now (K.state keepers.now).told nodes.old.fleet plan.old }
     requires stage { stage_of plan.old.at ≡ stage.Look }
     requires critical { plan.old.critical ≡ true }
-    ensures { PassesReadStage (led_by K.TELLS config.now leader) plan.old (scene fleet.old (K.state keepers.now) (L.shown link.now))
-        plan.new (scene fleet.new (K.state keepers.now) (L.shown link.now)) }
+    ensures { PassesReadStage (led_by K.TELLS config.now leader) plan.old (world nodes.old (K.state keepers.now) (L.shown link.now))
+        plan.new (world nodes.new (K.state keepers.now) (L.shown link.now)) }
 {
     masters_are_regions(config);
-    let ask = fleet.ask_at_once(config, plan.follower(), plan.query());
+    let ask = nodes
+        .fleet
+        .ask_at_once(config, plan.follower(), plan.query());
     plan.set_ask(ask);
     plan.take(ReadResult::Look(Ok(Look::Miss)), 0, false);
 }
 
 /// The stage `look` of a read that isn't critical.
 fn look_first<K: Keeper, L: Link>(
-    fleet: &mut Fleet,
+    nodes: &mut Nodes,
     config: &Config,
     keepers: &K,
     link: &L,
     leader: NodeName,
     plan: &mut ReadPlan,
 )
-    requires consistent { IsConsistent K.TELLS config.now (K.state keepers.now).told fleet.old }
-    requires read { IsReadUnderWay K.TELLS config.now (K.state keepers.now).told fleet.old plan.old }
+    requires consistent { IsConsistent K.TELLS config.now (K.state keepers.now).told nodes.old.fleet }
+    requires read { IsReadUnderWay K.TELLS config.now (K.state keepers.now).told nodes.old.fleet plan.old }
     requires stage { stage_of plan.old.at ≡ stage.Look }
     requires plain { plan.old.critical ≡ false }
-    ensures { PassesReadStage (led_by K.TELLS config.now leader) plan.old (scene fleet.old (K.state keepers.now) (L.shown link.now))
-        plan.new (scene fleet.new (K.state keepers.now) (L.shown link.now)) }
+    ensures { PassesReadStage (led_by K.TELLS config.now leader) plan.old (world nodes.old (K.state keepers.now) (L.shown link.now))
+        plan.new (world nodes.new (K.state keepers.now) (L.shown link.now)) }
 {
     masters_are_regions(config);
-    match fleet.look(config, plan.follower(), plan.query(), plan.floor()) {
+    match nodes
+        .fleet
+        .look(config, plan.follower(), plan.query(), plan.floor())
+    {
         Ok(FirstLook { look, ask }) => {
             plan.set_ask(ask);
             plan.take(ReadResult::Look(Ok(look)), 0, false);
@@ -135,42 +140,41 @@ fn look_first<K: Keeper, L: Link>(
 
 /// The stage `look`.
 fn look_stage<K: Keeper, L: Link>(
-    fleet: &mut Fleet,
+    nodes: &mut Nodes,
     config: &Config,
     keepers: &K,
     link: &L,
     leader: NodeName,
     plan: &mut ReadPlan,
 )
-    requires consistent { IsConsistent K.TELLS config.now (K.state keepers.now).told fleet.old }
-    requires read { IsReadUnderWay K.TELLS config.now (K.state keepers.now).told fleet.old plan.old }
+    requires consistent { IsConsistent K.TELLS config.now (K.state keepers.now).told nodes.old.fleet }
+    requires read { IsReadUnderWay K.TELLS config.now (K.state keepers.now).told nodes.old.fleet plan.old }
     requires stage { stage_of plan.old.at ≡ stage.Look }
-    ensures { PassesReadStage (led_by K.TELLS config.now leader) plan.old (scene fleet.old (K.state keepers.now) (L.shown link.now))
-        plan.new (scene fleet.new (K.state keepers.now) (L.shown link.now)) }
+    ensures { PassesReadStage (led_by K.TELLS config.now leader) plan.old (world nodes.old (K.state keepers.now) (L.shown link.now))
+        plan.new (world nodes.new (K.state keepers.now) (L.shown link.now)) }
 {
     if plan.is_critical() {
-        look_past(fleet, config, keepers, link, leader, plan);
+        look_past(nodes, config, keepers, link, leader, plan);
     } else {
-        look_first(fleet, config, keepers, link, leader, plan);
+        look_first(nodes, config, keepers, link, leader, plan);
     }
 }
 
 /// The stage `ask`.
 fn ask_stage<K: Keeper, L: Link>(
-    alloc: Global,
-    fleet: &mut Fleet,
+    nodes: &mut Nodes,
     config: &Config,
     keepers: &mut K,
     link: &mut L,
     leader: NodeName,
     plan: &mut ReadPlan,
 )
-    requires consistent { IsConsistent K.TELLS config.now (K.state keepers.old).told fleet.old }
+    requires consistent { IsConsistent K.TELLS config.now (K.state keepers.old).told nodes.old.fleet }
     requires leader { IsLeaderFor config.now (query_shard plan.old.query) leader }
-    requires read { IsReadUnderWay K.TELLS config.now (K.state keepers.old).told fleet.old plan.old }
+    requires read { IsReadUnderWay K.TELLS config.now (K.state keepers.old).told nodes.old.fleet plan.old }
     requires stage { stage_of plan.old.at ≡ stage.Ask }
-    ensures { PassesReadStage (led_by K.TELLS config.now leader) plan.old (scene fleet.old (K.state keepers.old) (L.shown link.old))
-        plan.new (scene fleet.new (K.state keepers.new) (L.shown link.new)) }
+    ensures { PassesReadStage (led_by K.TELLS config.now leader) plan.old (world nodes.old (K.state keepers.old) (L.shown link.old))
+        plan.new (world nodes.new (K.state keepers.new) (L.shown link.new)) }
 {
     let since = so_far(keepers, link);
     let route = Route {
@@ -178,10 +182,11 @@ fn ask_stage<K: Keeper, L: Link>(
         leader,
     };
     let (query, floor) = (plan.query(), plan.floor());
-    match ask_over(alloc, fleet, config, keepers, link, route, query, floor) {
+    match nodes.ask_over(config, keepers, link, route, query, floor) {
         Ok(given) => take_since(keepers, link, since, plan, ReadResult::Ask(Ok(given))),
-        Err(reply) => {
-            end_ask_of(fleet, config, plan);
+        Err(refusal) => {
+            let reply = Reply::Refused(refusal);
+            end_ask_of(&mut nodes.fleet, config, plan);
             take_since(keepers, link, since, plan, ReadResult::Ask(Err(reply)));
         }
     }
@@ -189,26 +194,26 @@ fn ask_stage<K: Keeper, L: Link>(
 
 /// The stage `master`.
 fn master_stage<K: Keeper, L: Link>(
-    alloc: Global,
-    fleet: &mut Fleet,
+    nodes: &mut Nodes,
     config: &Config,
     keepers: &mut K,
     link: &mut L,
     leader: NodeName,
     plan: &mut ReadPlan,
 )
-    requires consistent { IsConsistent K.TELLS config.now (K.state keepers.old).told fleet.old }
-    requires read { IsReadUnderWay K.TELLS config.now (K.state keepers.old).told fleet.old plan.old }
+    requires consistent { IsConsistent K.TELLS config.now (K.state keepers.old).told nodes.old.fleet }
+    requires read { IsReadUnderWay K.TELLS config.now (K.state keepers.old).told nodes.old.fleet plan.old }
     requires stage { stage_of plan.old.at ≡ stage.Master }
-    ensures { PassesReadStage (led_by K.TELLS config.now leader) plan.old (scene fleet.old (K.state keepers.old) (L.shown link.old))
-        plan.new (scene fleet.new (K.state keepers.new) (L.shown link.new)) }
+    ensures { PassesReadStage (led_by K.TELLS config.now leader) plan.old (world nodes.old (K.state keepers.old) (L.shown link.old))
+        plan.new (world nodes.new (K.state keepers.new) (L.shown link.new)) }
 {
     let since = so_far(keepers, link);
     let (follower, query) = (plan.follower(), plan.query());
-    match read_over(alloc, fleet, config, keepers, link, follower, query) {
+    match nodes.read_over(config, keepers, link, follower, query) {
         Ok(out) => take_since(keepers, link, since, plan, ReadResult::Master(Ok(out))),
-        Err(reply) => {
-            end_ask_of(fleet, config, plan);
+        Err(refusal) => {
+            let reply = Reply::Refused(refusal);
+            end_ask_of(&mut nodes.fleet, config, plan);
             take_since(keepers, link, since, plan, ReadResult::Master(Err(reply)));
         }
     }
@@ -216,31 +221,34 @@ fn master_stage<K: Keeper, L: Link>(
 
 /// The stage `keep`.
 fn keep_stage<K: Keeper, L: Link>(
-    fleet: &mut Fleet,
+    nodes: &mut Nodes,
     config: &Config,
     keepers: &K,
     link: &L,
     leader: NodeName,
     plan: &mut ReadPlan,
 )
-    requires consistent { IsConsistent K.TELLS config.now (K.state keepers.now).told fleet.old }
-    requires read { IsReadUnderWay K.TELLS config.now (K.state keepers.now).told fleet.old plan.old }
+    requires consistent { IsConsistent K.TELLS config.now (K.state keepers.now).told nodes.old.fleet }
+    requires read { IsReadUnderWay K.TELLS config.now (K.state keepers.now).told nodes.old.fleet plan.old }
     requires stage { stage_of plan.old.at ≡ stage.Keep }
-    ensures { PassesReadStage (led_by K.TELLS config.now leader) plan.old (scene fleet.old (K.state keepers.now) (L.shown link.now))
-        plan.new (scene fleet.new (K.state keepers.now) (L.shown link.now)) }
+    ensures { PassesReadStage (led_by K.TELLS config.now leader) plan.old (world nodes.old (K.state keepers.now) (L.shown link.now))
+        plan.new (world nodes.new (K.state keepers.now) (L.shown link.now)) }
 {
     masters_are_regions(config);
     match plan.fill() {
         Some(fill) => {
             fills_are_sealed(&fill);
             let (follower, query) = (plan.follower(), plan.query());
-            match fleet.keep(config, follower, query, plan.floor(), plan.ask(), fill) {
+            match nodes
+                .fleet
+                .keep(config, follower, query, plan.floor(), plan.ask(), fill)
+            {
                 Ok(found) => plan.take(ReadResult::Keep(Ok(Some(found))), 0, false),
                 Err(OutOfMemory) => plan.take(ReadResult::Keep(Err(out_of_memory())), 0, false),
             }
         }
         None => {
-            end_ask_of(fleet, config, plan);
+            end_ask_of(&mut nodes.fleet, config, plan);
             plan.take(ReadResult::Keep(Ok(None)), 0, false);
         }
     }
@@ -251,26 +259,25 @@ fn keep_stage<K: Keeper, L: Link>(
 ///
 /// Costs what the stage does in `core_steps`.
 pub fn read_stage<K: Keeper, L: Link>(
-    alloc: Global,
-    fleet: &mut Fleet,
+    nodes: &mut Nodes,
     config: &Config,
     keepers: &mut K,
     link: &mut L,
     leader: NodeName,
     plan: &mut ReadPlan,
 )
-    requires consistent { IsConsistent K.TELLS config.now (K.state keepers.old).told fleet.old }
+    requires consistent { IsConsistent K.TELLS config.now (K.state keepers.old).told nodes.old.fleet }
     requires leader { IsLeaderFor config.now (query_shard plan.old.query) leader }
-    requires read { IsReadUnderWay K.TELLS config.now (K.state keepers.old).told fleet.old plan.old }
+    requires read { IsReadUnderWay K.TELLS config.now (K.state keepers.old).told nodes.old.fleet plan.old }
     requires goes_on { IsSome (stage_named (stage_of plan.old.at)) }
-    ensures { PassesReadStage (led_by K.TELLS config.now leader) plan.old (scene fleet.old (K.state keepers.old) (L.shown link.old))
-        plan.new (scene fleet.new (K.state keepers.new) (L.shown link.new)) }
+    ensures { PassesReadStage (led_by K.TELLS config.now leader) plan.old (world nodes.old (K.state keepers.old) (L.shown link.old))
+        plan.new (world nodes.new (K.state keepers.new) (L.shown link.new)) }
 {
     match plan.next() {
-        ReadStage::Look => look_stage(fleet, config, keepers, link, leader, plan),
-        ReadStage::Ask => ask_stage(alloc, fleet, config, keepers, link, leader, plan),
-        ReadStage::Master => master_stage(alloc, fleet, config, keepers, link, leader, plan),
-        ReadStage::Keep => keep_stage(fleet, config, keepers, link, leader, plan),
+        ReadStage::Look => look_stage(nodes, config, keepers, link, leader, plan),
+        ReadStage::Ask => ask_stage(nodes, config, keepers, link, leader, plan),
+        ReadStage::Master => master_stage(nodes, config, keepers, link, leader, plan),
+        ReadStage::Keep => keep_stage(nodes, config, keepers, link, leader, plan),
         ReadStage::Done => unreachable!(),
     }
 }

@@ -2,46 +2,39 @@
 ghost use Rattle.core_plans.specs.Held.{IsLeaderOf, IsUnderWay};
 ghost use Rattle.core_plans.specs.LedBy.{led_by};
 ghost use Rattle.core_plans.specs.WholeCalls.{CarriesOut};
-ghost use Rattle.core_steps.specs.Posting.{CanPost, PostsOn, posting};
-ghost use Rattle.core_steps.specs.Routes.{scene};
+ghost use Rattle.core_steps.specs.Posting.{CanPost, PostsOn};
+ghost use Rattle.core_steps.specs.World.{world};
 
 use crate::held::HeldPlan;
 use crate::plans::held_stage;
-use core_mail::Mail;
-use core_nodes::Fleet;
+use core_steps::Nodes;
 use node_name::NodeName;
-use std::alloc::Global;
 use tao_keeper::Keeper;
 use tao_link::Link;
-use topology::{Config, Topology};
+use topology::Config;
 
 /// Does all stages of a plan that are left, one after another, with a leader: for a read one that serves its shard, for a write one of the
 /// master's region. A stage that fails is the last. Costs what the stages do: four of a read, five of a write at most.
 pub fn carry_out<K: Keeper, L: Link>(
-    alloc: Global,
-    fleet: &mut Fleet,
-    mail: &mut Mail,
+    nodes: &mut Nodes,
     config: &Config,
-    topology: &Topology,
     keepers: &mut K,
     link: &mut L,
     leader: NodeName,
     plan: &mut HeldPlan,
 )
-    requires ready { CanPost K.TELLS config.now (posting (scene fleet.old (K.state keepers.old) (L.shown link.old)) mail.old topology.now) }
-    requires under_way { IsUnderWay K.TELLS config.now (K.state keepers.old).told fleet.old plan.old }
+    requires ready { CanPost K.TELLS config.now (world nodes.old (K.state keepers.old) (L.shown link.old)) }
+    requires under_way { IsUnderWay K.TELLS config.now (K.state keepers.old).told nodes.old.fleet plan.old }
     requires leader { IsLeaderOf config.now leader plan.old }
     ensures does { CarriesOut (led_by K.TELLS config.now leader)
-        plan.old (posting (scene fleet.old (K.state keepers.old) (L.shown link.old)) mail.old topology.now)
-        plan.new (posting (scene fleet.new (K.state keepers.new) (L.shown link.new)) mail.new topology.now) }
-    ensures under_way { IsUnderWay K.TELLS config.now (K.state keepers.new).told fleet.new plan.new }
+        plan.old (world nodes.old (K.state keepers.old) (L.shown link.old))
+        plan.new (world nodes.new (K.state keepers.new) (L.shown link.new)) }
+    ensures under_way { IsUnderWay K.TELLS config.now (K.state keepers.new).told nodes.new.fleet plan.new }
     ensures on { PostsOn K.TELLS config.now
-        (posting (scene fleet.old (K.state keepers.old) (L.shown link.old)) mail.old topology.now)
-        (posting (scene fleet.new (K.state keepers.new) (L.shown link.new)) mail.new topology.now) }
+        (world nodes.old (K.state keepers.old) (L.shown link.old))
+        (world nodes.new (K.state keepers.new) (L.shown link.new)) }
 {
     while plan.next().is_some() {
-        held_stage(
-            alloc, fleet, mail, config, topology, keepers, link, leader, plan,
-        );
+        held_stage(nodes, config, keepers, link, leader, plan);
     }
 }

@@ -1,14 +1,15 @@
 //! The stages of held writes.
 ghost use Rattle.std.specs.Prelude.{◌≡◌, Bool, IfErr, IfOk, IfSome, IsSome, OnErr, OnOk, true};
-ghost use Rattle.core_mail.specs.Inboxes.{Inboxes};
 ghost use Rattle.core_model.specs.Consistent.{GoesOn, HaveReached, IsConsistent, IsFleetOf};
 ghost use Rattle.core_model.specs.Growing.{StoresGrow};
 ghost use Rattle.core_model.specs.Serving.{IsFollowerFor, IsLeaderIn};
 ghost use Rattle.core_model.specs.Stores.{master_of};
 ghost use Rattle.core_plans.specs.HeldWrites.{DoesWriteStage, IsAnswerTo, IsTakenAs, IsWriteUnderWay, PassesWriteStage, entry_position, way_given_up};
+ghost use Rattle.core_nodes.specs.Settling.{IsLaterLink};
 ghost use Rattle.core_plans.specs.LedBy.{led_by};
-ghost use Rattle.core_steps.specs.Routes.{FailsCarry, scene};
-ghost use Rattle.core_steps.specs.Posting.{CanPost, PostsOn, posting};
+ghost use Rattle.core_steps.specs.Routes.{FailsCarry};
+ghost use Rattle.core_steps.specs.Posting.{CanPost, PostsOn};
+ghost use Rattle.core_steps.specs.World.{world};
 ghost use Rattle.core_steps.specs.Writes.{FollowerTakes};
 ghost use Rattle.shard_tables.specs.Written.{HasEntry};
 ghost use Rattle.tao_base.specs.Writes.{write_shard};
@@ -16,24 +17,20 @@ ghost use Rattle.tao_keeper.specs.KeeperState.{IsLater, KeeperState};
 ghost use Rattle.tao_keeper.specs.Table.{Tables};
 ghost use Rattle.tao_link.specs.Shown.{LinkShown, after_carry};
 ghost use Rattle.tao_schema.specs.Schema.{types_of};
-ghost use Rattle.topology.specs.States.{NodeStates};
 ghost use Rattle.write_model.specs.Writes.{FitsWrite};
 ghost use Rattle.write_plan.specs.Plans.{answered_entry, next_of, when_of};
 ghost use Rattle.write_plan.specs.Stages.{told_stage};
 ghost use Rattle.write_plan.specs.declared.stage.WriteStage.TheVariants as stage;
 
-use core_mail::Mail;
-use core_nodes::Fleet;
-use core_steps::{Route, apply_over, commit_over, end_over, link_fault, merge_over};
+use core_steps::{Nodes, Route, link_fault};
 use node_name::NodeName;
 use replies::{Refusal, Reply, StoreRefused};
 use shard_log::Note;
 use shard_tables::Wrote;
-use std::alloc::Global;
 use tao_base::{OutOfMemory, Write};
 use tao_keeper::Keeper;
 use tao_link::{Link, LinkFailed};
-use topology::{Config, Topology};
+use topology::Config;
 use write_plan::{Committed, WritePlan, WriteResult, WriteStage};
 
 /// What the leader answered to a write, as its plan takes it.
@@ -41,7 +38,7 @@ fn answered(
     config: &Config,
     write: &Write,
     leader: NodeName,
-    wrote: Result<Wrote, Reply>,
+    wrote: Result<Wrote, Refusal>,
 ) -> Result<Committed, Reply>
     requires fits { IfOk wrote (λ w. IfSome w.entry (λ e. FitsWrite e write.now)) }
     requires entry { IfOk wrote (λ w. HasEntry write.now w.entry) }
@@ -49,47 +46,34 @@ fn answered(
 {
     match wrote {
         Ok(wrote) => Ok(Committed::of(&config.schema, write, wrote, leader, None)),
-        Err(reply) => Err(reply),
+        Err(refusal) => Err(Reply::Refused(refusal)),
     }
 }
 
 /// The stage `commit`.
 fn commit_stage<K: Keeper, L: Link>(
-    alloc: Global,
-    fleet: &mut Fleet,
-    mail: &mut Mail,
+    nodes: &mut Nodes,
     config: &Config,
-    topology: &Topology,
     keepers: &mut K,
     link: &mut L,
     leader: NodeName,
     plan: &mut WritePlan,
 )
-    requires ready { CanPost K.TELLS config.now (posting (scene fleet.old (K.state keepers.old) (L.shown link.old)) mail.old topology.now) }
+    requires ready { CanPost K.TELLS config.now (world nodes.old (K.state keepers.old) (L.shown link.old)) }
     requires leader { IsLeaderIn config.now (master_of config.now (write_shard plan.old.write)) leader }
-    requires write { IsWriteUnderWay K.TELLS config.now (K.state keepers.old).told fleet.old plan.old }
+    requires write { IsWriteUnderWay K.TELLS config.now (K.state keepers.old).told nodes.old.fleet plan.old }
     requires stage { next_of plan.old ≡ stage.Commit }
     ensures { PassesWriteStage (led_by K.TELLS config.now leader) stage.Commit
-        plan.old (posting (scene fleet.old (K.state keepers.old) (L.shown link.old)) mail.old topology.now)
-        plan.new (posting (scene fleet.new (K.state keepers.new) (L.shown link.new)) mail.new topology.now) }
+        plan.old (world nodes.old (K.state keepers.old) (L.shown link.old))
+        plan.new (world nodes.new (K.state keepers.new) (L.shown link.new)) }
 {
     let carries = link.carries();
     let route = Route {
         follower: plan.follower(),
         leader,
     };
-    let wrote = commit_over(
-        alloc,
-        fleet,
-        mail,
-        config,
-        topology,
-        keepers,
-        link,
-        route,
-        plan.origin(),
-        plan.write(),
-    );
+    let (origin, write) = (plan.origin(), plan.write());
+    let wrote = nodes.commit_over(config, keepers, link, route, origin, write);
     let outcome = answered(config, plan.write(), leader, wrote);
     let hops = link.carries().saturating_sub(carries);
     plan.take(WriteResult::Commit(outcome), hops);
@@ -97,52 +81,47 @@ fn commit_stage<K: Keeper, L: Link>(
 
 /// The stage `inverse`.
 fn inverse_stage<K: Keeper, L: Link>(
-    alloc: Global,
-    fleet: &mut Fleet,
-    mail: &mut Mail,
+    nodes: &mut Nodes,
     config: &Config,
-    topology: &Topology,
     keepers: &mut K,
     link: &mut L,
     leader: NodeName,
     plan: &mut WritePlan,
 )
-    requires ready { CanPost K.TELLS config.now (posting (scene fleet.old (K.state keepers.old) (L.shown link.old)) mail.old topology.now) }
-    requires write { IsWriteUnderWay K.TELLS config.now (K.state keepers.old).told fleet.old plan.old }
+    requires ready { CanPost K.TELLS config.now (world nodes.old (K.state keepers.old) (L.shown link.old)) }
+    requires write { IsWriteUnderWay K.TELLS config.now (K.state keepers.old).told nodes.old.fleet plan.old }
     requires stage { next_of plan.old ≡ stage.Inverse }
     ensures { PassesWriteStage (led_by K.TELLS config.now leader) stage.Inverse
-        plan.old (posting (scene fleet.old (K.state keepers.old) (L.shown link.old)) mail.old topology.now)
-        plan.new (posting (scene fleet.new (K.state keepers.new) (L.shown link.new)) mail.new topology.now) }
+        plan.old (world nodes.old (K.state keepers.old) (L.shown link.old))
+        plan.new (world nodes.new (K.state keepers.new) (L.shown link.new)) }
 {
     let carries = link.carries();
     let shard = plan.write().shard();
     let Some(job) = plan.job() else {
         unreachable!()
     };
-    let result = merge_over(
-        alloc, fleet, mail, config, topology, keepers, link, leader, shard, job,
-    );
+    let result = nodes.merge_over(config, keepers, link, leader, shard, job);
     let hops = link.carries().saturating_sub(carries);
     plan.take(WriteResult::Inverse(result), hops);
 }
 
 /// The stage `end`.
 fn end_stage<K: Keeper>(
-    fleet: &mut Fleet,
+    nodes: &mut Nodes,
     config: &Config,
     keepers: &mut K,
     leader: NodeName,
     plan: &mut WritePlan,
 )
-    requires consistent { IsConsistent K.TELLS config.now (K.state keepers.old).told fleet.old }
-    requires write { IsWriteUnderWay K.TELLS config.now (K.state keepers.old).told fleet.old plan.old }
+    requires consistent { IsConsistent K.TELLS config.now (K.state keepers.old).told nodes.old.fleet }
+    requires write { IsWriteUnderWay K.TELLS config.now (K.state keepers.old).told nodes.old.fleet plan.old }
     requires stage { next_of plan.old ≡ stage.End }
-    ensures does { (link : LinkShown) (inboxes : Inboxes) (states : NodeStates) → DoesWriteStage (led_by K.TELLS config.now leader) stage.End
-        plan.old (posting (scene fleet.old (K.state keepers.old) link) inboxes states)
-        plan.new (posting (scene fleet.new (K.state keepers.new) link) inboxes states) }
-    ensures write { IsWriteUnderWay K.TELLS config.now (K.state keepers.new).told fleet.new plan.new }
-    ensures same { fleet.new ≡ fleet.old }
-    ensures consistent { IsConsistent K.TELLS config.now (K.state keepers.new).told fleet.new }
+    ensures does { (link : LinkShown) → DoesWriteStage (led_by K.TELLS config.now leader) stage.End
+        plan.old (world nodes.old (K.state keepers.old) link)
+        plan.new (world nodes.new (K.state keepers.new) link) }
+    ensures write { IsWriteUnderWay K.TELLS config.now (K.state keepers.new).told nodes.new.fleet plan.new }
+    ensures same { nodes.new ≡ nodes.old }
+    ensures consistent { IsConsistent K.TELLS config.now (K.state keepers.new).told nodes.new.fleet }
     ensures grows { StoresGrow K.TELLS config.now (K.state keepers.old).told (K.state keepers.new).told }
     ensures later { IsLater (K.state keepers.old) (K.state keepers.new) }
 {
@@ -150,7 +129,7 @@ fn end_stage<K: Keeper>(
     let Some(job) = plan.job() else {
         unreachable!()
     };
-    let result = end_over(fleet, config, keepers, shard, job);
+    let result = nodes.end_over(config, keepers, shard, job);
     plan.take(WriteResult::End(result), 0);
 }
 
@@ -190,70 +169,65 @@ fn answer_note(plan: &mut WritePlan) -> Result<Note, Reply>
 
 /// Carries what was committed back, and lets the follower take it.
 fn carry_back<L: Link>(
-    fleet: &mut Fleet,
+    nodes: &mut Nodes,
     config: &Config,
     link: &mut L,
     route: Route,
     plan: &WritePlan,
     note: Note,
 ) -> Result<(), Reply>
-    requires fleet { IsFleetOf config.now fleet.old }
+    requires fleet { IsFleetOf config.now nodes.old.fleet }
     requires follower { IsFollowerFor config.now (write_shard plan.now.write) plan.now.follower }
-    requires answer { IfSome plan.now.committed (IsAnswerTo config.now fleet.old.stores plan.now) }
+    requires answer { IfSome plan.now.committed (IsAnswerTo config.now nodes.old.fleet.stores plan.now) }
     requires route { route.follower ≡ plan.now.follower }
     requires committed { IsSome plan.now.committed }
     requires note { IfSome plan.now.committed (λ c. note ≡ c.wrote.note) }
     ensures carried { OnOk result (L.shown link.new ≡ after_carry (L.shown link.old)) }
     ensures takes { OnOk result (IfSome plan.now.committed (λ c.
-        FollowerTakes (types_of config.now.schema) route (write_shard plan.now.write) c.wrote.entry fleet.old fleet.new)) }
+        FollowerTakes (types_of config.now.schema) route (write_shard plan.now.write) c.wrote.entry nodes.old.fleet nodes.new.fleet)) }
     ensures failed { IfErr result (λ _. FailsCarry route.leader route.follower (L.shown link.old) (L.shown link.new)) }
     ensures reply { IfErr result (λ reply. reply ≡ Reply.Refused (Refusal.Store
         (StoreRefused.LinkFault (L.shown link.new).faults (when_of (answered_entry plan.now))))) }
-    ensures stays { OnErr result (fleet.new ≡ fleet.old) }
-    ensures rest { fleet.new ≡ record fleet.old { followers = fleet.new.followers } }
-    ensures fleet { IsFleetOf config.now fleet.new }
-    ensures reached { (tables : Tables) → HaveReached tables fleet.old → HaveReached tables fleet.new }
-    ensures goes { GoesOn fleet.old fleet.new }
+    ensures stays { OnErr result (nodes.new ≡ nodes.old) }
+    ensures rest { nodes.new ≡ record nodes.old { fleet = record nodes.old.fleet { followers = nodes.new.fleet.followers } } }
+    ensures fleet { IsFleetOf config.now nodes.new.fleet }
+    ensures reached { (tables : Tables) → HaveReached tables nodes.old.fleet → HaveReached tables nodes.new.fleet }
+    ensures goes { GoesOn nodes.old.fleet nodes.new.fleet }
+    ensures link { IsLaterLink (L.shown link.old) (L.shown link.new) }
 {
     let Some(committed) = plan.committed() else {
         unreachable!()
     };
     let shard = plan.write().shard();
-    match apply_over(
-        fleet,
-        config,
-        link,
-        route,
-        shard,
-        &committed.wrote.entry,
-        note,
-    ) {
+    let entry = &committed.wrote.entry;
+    match nodes.apply_over(config, link, route, shard, entry, note) {
         Ok(()) => Ok(()),
-        Err(LinkFailed) => Err(link_fault(link.faults(), plan.when())),
+        Err(LinkFailed) => Err(Reply::Refused(link_fault(link.faults(), plan.when()))),
     }
 }
 
 /// The stage `apply`.
 fn apply_stage<L: Link>(
-    fleet: &mut Fleet,
+    nodes: &mut Nodes,
     config: &Config,
     link: &mut L,
     leader: NodeName,
     plan: &mut WritePlan,
 )
-    requires fleet { IsFleetOf config.now fleet.old }
+    requires fleet { IsFleetOf config.now nodes.old.fleet }
     requires follower { IsFollowerFor config.now (write_shard plan.old.write) plan.old.follower }
-    requires answer { IfSome plan.old.committed (IsAnswerTo config.now fleet.old.stores plan.old) }
+    requires answer { IfSome plan.old.committed (IsAnswerTo config.now nodes.old.fleet.stores plan.old) }
     requires stage { next_of plan.old ≡ stage.Apply }
-    ensures does { (keepers : KeeperState) (inboxes : Inboxes) (states : NodeStates) → DoesWriteStage (led_by true config.now leader) stage.Apply
-        plan.old (posting (scene fleet.old keepers (L.shown link.old)) inboxes states)
-        plan.new (posting (scene fleet.new keepers (L.shown link.new)) inboxes states) }
-    ensures write { (tells : Bool) (tables : Tables) → IsWriteUnderWay tells config.now tables fleet.old plan.old
-        → IsWriteUnderWay tells config.now tables fleet.new plan.new }
-    ensures rest { fleet.new ≡ record fleet.old { followers = fleet.new.followers } }
-    ensures fleet { IsFleetOf config.now fleet.new }
-    ensures reached { (tables : Tables) → HaveReached tables fleet.old → HaveReached tables fleet.new }
-    ensures goes { GoesOn fleet.old fleet.new }
+    ensures does { (keepers : KeeperState) → DoesWriteStage (led_by true config.now leader) stage.Apply
+        plan.old (world nodes.old keepers (L.shown link.old))
+        plan.new (world nodes.new keepers (L.shown link.new)) }
+    ensures write { (tells : Bool) (tables : Tables) → IsWriteUnderWay tells config.now tables nodes.old.fleet plan.old
+        → IsWriteUnderWay tells config.now tables nodes.new.fleet plan.new }
+    ensures rest { nodes.new ≡ record nodes.old { fleet = record nodes.old.fleet { followers = nodes.new.fleet.followers } } }
+    ensures fleet { IsFleetOf config.now nodes.new.fleet }
+    ensures reached { (tables : Tables) → HaveReached tables nodes.old.fleet → HaveReached tables nodes.new.fleet }
+    ensures goes { GoesOn nodes.old.fleet nodes.new.fleet }
+    ensures link { IsLaterLink (L.shown link.old) (L.shown link.new) }
 {
     let carries = link.carries();
     let route = Route {
@@ -261,7 +235,7 @@ fn apply_stage<L: Link>(
         leader,
     };
     let outcome = match answer_note(plan) {
-        Ok(note) => carry_back(fleet, config, link, route, plan, note),
+        Ok(note) => carry_back(nodes, config, link, route, plan, note),
         Err(reply) => Err(reply),
     };
     let hops = link.carries().saturating_sub(carries);
@@ -272,37 +246,30 @@ fn apply_stage<L: Link>(
 ///
 /// Costs what the stage does in `core_steps`.
 pub fn write_stage<K: Keeper, L: Link>(
-    alloc: Global,
-    fleet: &mut Fleet,
-    mail: &mut Mail,
+    nodes: &mut Nodes,
     config: &Config,
-    topology: &Topology,
     keepers: &mut K,
     link: &mut L,
     leader: NodeName,
     plan: &mut WritePlan,
 )
-    requires ready { CanPost K.TELLS config.now (posting (scene fleet.old (K.state keepers.old) (L.shown link.old)) mail.old topology.now) }
+    requires ready { CanPost K.TELLS config.now (world nodes.old (K.state keepers.old) (L.shown link.old)) }
     requires leader { IsLeaderIn config.now (master_of config.now (write_shard plan.old.write)) leader }
-    requires write { IsWriteUnderWay K.TELLS config.now (K.state keepers.old).told fleet.old plan.old }
+    requires write { IsWriteUnderWay K.TELLS config.now (K.state keepers.old).told nodes.old.fleet plan.old }
     requires goes_on { IsSome (told_stage (next_of plan.old)) }
     ensures does { DoesWriteStage (led_by K.TELLS config.now leader) (next_of plan.old)
-        plan.old (posting (scene fleet.old (K.state keepers.old) (L.shown link.old)) mail.old topology.now)
-        plan.new (posting (scene fleet.new (K.state keepers.new) (L.shown link.new)) mail.new topology.now) }
-    ensures write { IsWriteUnderWay K.TELLS config.now (K.state keepers.new).told fleet.new plan.new }
+        plan.old (world nodes.old (K.state keepers.old) (L.shown link.old))
+        plan.new (world nodes.new (K.state keepers.new) (L.shown link.new)) }
+    ensures write { IsWriteUnderWay K.TELLS config.now (K.state keepers.new).told nodes.new.fleet plan.new }
     ensures on { PostsOn K.TELLS config.now
-        (posting (scene fleet.old (K.state keepers.old) (L.shown link.old)) mail.old topology.now)
-        (posting (scene fleet.new (K.state keepers.new) (L.shown link.new)) mail.new topology.now) }
+        (world nodes.old (K.state keepers.old) (L.shown link.old))
+        (world nodes.new (K.state keepers.new) (L.shown link.new)) }
 {
     match plan.next() {
-        WriteStage::Commit => commit_stage(
-            alloc, fleet, mail, config, topology, keepers, link, leader, plan,
-        ),
-        WriteStage::Inverse => inverse_stage(
-            alloc, fleet, mail, config, topology, keepers, link, leader, plan,
-        ),
-        WriteStage::End => end_stage(fleet, config, keepers, leader, plan),
-        WriteStage::Apply => apply_stage(fleet, config, link, leader, plan),
+        WriteStage::Commit => commit_stage(nodes, config, keepers, link, leader, plan),
+        WriteStage::Inverse => inverse_stage(nodes, config, keepers, link, leader, plan),
+        WriteStage::End => end_stage(nodes, config, keepers, leader, plan),
+        WriteStage::Apply => apply_stage(nodes, config, link, leader, plan),
         WriteStage::Relay | WriteStage::Done => unreachable!(),
     }
 }

@@ -1,9 +1,10 @@
 -- What the stages of a repair come to.
-use Rattle.std.proofs.Common.{◌≡◌, ℕ, ◌≤◌, ◌<◌, Bool, List, Option, Some, None, Ok, Err, IfSome, refl, sym, subst, inl, inr}
+use Rattle.std.proofs.Common.{◌≡◌, ℕ, ◌≤◌, ◌<◌, Bool, List, Option, Some, None, Result, Ok, Err, IfSome, ap, refl, sym, subst, inl, inr}
 use Rattle.counts.proofs.Rises.{Rose-earlier}
 use Rattle.counts.specs.Count.{Rose}
 use Rattle.edge_repair.specs.declared.refusal.RepairRefusal.{RepairRefusal}
 use Rattle.edge_repair.specs.declared.refusal.RepairRefusal.TheVariants.{KeeperFault, LinkFault, LogFull, OutOfMemory}
+use Rattle.edge_repair.specs.declared.repairs.RepairOutcome.{RepairOutcome}
 use Rattle.graph_model.proofs.Later.{all_append}
 use Rattle.graph_model.specs.Told.{WhereTold}
 use Rattle.maint_msg.specs.Maints.{SeenMaint}
@@ -13,57 +14,63 @@ use Rattle.shard_tables.specs.Written.{StandsIn}
 use Rattle.shard_tables.specs.declared.refusal.StoreRefusal.{StoreRefusal}
 use Rattle.shard_tables.specs.declared.refusal.StoreRefusal.TheVariants as store
 use Rattle.tao_base.specs.declared.entry.Entry.{Entry}
-use Rattle.tao_keeper.proofs.Later.{later_trans}
+use Rattle.tao_keeper.proofs.Later.{later_self}
 use Rattle.tao_keeper.specs.KeeperState.{IsLater, KeeperState, KeepsTables}
 use Rattle.tao_keeper.specs.Table.{IsLeastJob, Tables}
 use Rattle.tao_keeper.specs.declared.jobs.Job.{Job}
+use Rattle.tao_link.specs.Shown.{LinkShown}
 use Rattle.topology.specs.Choices.{master_region}
 use Rattle.topology.specs.Config.{Settings}
 use Rattle.topology.specs.States.{NodeStates}
 use Rattle.core_mail.proofs.Arrivals.{arrived_stay, told_of_store}
+use Rattle.core_mail.proofs.InboxLemmas.{inboxes_stay}
 use Rattle.core_mail.specs.Inboxes.{AreInboxesOf, HaveArrived, Inboxes, Sends, entry_message}
 use Rattle.core_model.specs.Consistent.{GoesOn, IsConsistent}
+use Rattle.core_model.specs.Fleet.{Fleet}
 use Rattle.core_model.specs.Growing.{StoresGrow}
 use Rattle.core_model.specs.Jobs.{IsFirstJobOf, ShardJob, job_on}
 use Rattle.core_model.specs.Messages.{IsOfStore, told_besides, told_of}
 use Rattle.core_model.specs.Pens.{pens_of}
 use Rattle.core_model.specs.States.{AreStatesOf}
 use Rattle.core_model.specs.Stores.{AreStoresOf, HaveMasterRegions, master_store, store_length}
-use Rattle.core_nodes.proofs.GrowingLemmas.{stays_stores, stores_in_turn}
-use Rattle.core_nodes.specs.Repairs.{MergesThere, Outside, outside}
-use Rattle.core_steps.proofs.TellLemmas.{master_is, sends_both, within_master}
-use Rattle.core_steps.specs.Posting.{Posting, PostsOn}
+use Rattle.core_nodes.proofs.FleetLemmas.{goes_self}
+use Rattle.core_nodes.proofs.GrowingLemmas.{stays_stores}
+use Rattle.core_nodes.specs.Repairs.{ComesBack, MergesThere, Outside, carry_back, carry_there, outside}
+use Rattle.core_nodes.specs.Settling.{IsLaterLink}
+use Rattle.core_steps.proofs.LinkLemmas.{both_carries, failed_back, failed_carry, link_self}
+use Rattle.core_steps.proofs.PostsLemmas.{posts_same}
+use Rattle.core_steps.proofs.TellLemmas.{arrived_grows, master_is, sends_both, within_master}
+use Rattle.core_steps.specs.Posting.{CanPost, PostsOn}
+use Rattle.core_steps.specs.World.{World, world, world_with}
+use Rattle.core_steps.specs.declared.nodes.Nodes.{Nodes}
 use Rattle.core_repairs.specs.Repairs.{FailsAs, FailsToMerge, FindsFirst, FindsOpenJob, IsMergedAlone, IsNotRepaired, IsNotRun}
-use Rattle.core_repairs.specs.Repairs.{LeavesRest, RunsJob, StopsRepair, TellsOfRepair, shown_of, told_of_repair}
+use Rattle.core_repairs.specs.Repairs.{LeavesRest, RunsJob, StopsRepair, TellsOfRepair, shown_of}
+use Rattle.core_repairs.specs.Repairs.{told_of_repair}
 use Rattle.core_repairs.specs.declared.repairs.RepairFailed.{RepairFailed}
 use Rattle.core_repairs.specs.declared.repairs.RepairFailed.TheVariants.{NoServer, Refused}
 
 -- ---- who is told
 
 -- the followers and then the leader are told
-pub told_repair : (states : NodeStates) (shard region : ℕ) (wrote : Option Entry) (e : Entry) (note again : View) (old mid new : Inboxes)
-    → wrote ≡ Some e → region ≡ master_region states shard → again ≡ note → Sends (told_of states region shard) (entry_message shard e note) old mid
+pub told_repair : (states : NodeStates) (shard : ℕ) (wrote : Option Entry) (e : Entry) (note again : View) (old mid new : Inboxes) → wrote ≡ Some e
+    → again ≡ note → Sends (told_of states (master_region states shard) shard) (entry_message shard e note) old mid
     → Sends (told_besides states shard) (entry_message shard e again) mid new → TellsOfRepair states shard wrote old new
-told_repair states shard region wrote e note again old mid new is here same one two =
-    let followers = subst (λ r. Sends (told_of states r shard) (entry_message shard e note) old mid) here one in
+told_repair states shard wrote e note again old mid new is same one two =
     let more = subst (λ n. Sends (told_besides states shard) (entry_message shard e n) mid new) same two in
-    let told : TellsOfRepair states shard (Some e) old new =
-    inr (
+    let told : TellsOfRepair states shard (Some e) old new = (
       note,
-      sends_both (told_of states (master_region states shard) shard) (told_besides states shard) (entry_message shard e note) old mid new followers more,
+      sends_both (told_of states (master_region states shard) shard) (told_besides states shard) (entry_message shard e note) old mid new one more,
     ) in
     subst (λ found. TellsOfRepair states shard found old new) (sym is) told
 
 -- the stores of their region have come to it
-pub arrived_repair : (tells : Bool) (s : Settings) (tables : Tables) (stores : List Store) (shard : ℕ) (states : NodeStates) (wrote : Option Entry)
+arrived_repair : (tells : Bool) (s : Settings) (tables : Tables) (stores : List Store) (shard : ℕ) (states : NodeStates) (wrote : Option Entry)
     (old new : Inboxes) → HaveMasterRegions s → AreStoresOf tells s tables stores → shard < s.shards → AreStatesOf s states
     → IfSome wrote (StandsIn (pens_of stores shard)) → TellsOfRepair states shard wrote old new → WhereTold tells (HaveArrived tables old)
     → WhereTold tells (HaveArrived tables new)
 arrived_repair tells s tables stores shard states None old new regions are here of stands sent have =
     subst (λ i. WhereTold tells (HaveArrived tables i)) (sym sent) have
-arrived_repair tells s tables stores shard states (Some e) old new regions are here of stands (inl same) have =
-    subst (λ i. WhereTold tells (HaveArrived tables i)) (sym same) have
-arrived_repair tells s tables stores shard states (Some e) old new regions are here of stands (inr sent) have = λ told.
+arrived_repair tells s tables stores shard states (Some e) old new regions are here of stands sent have = λ told.
     let m : SeenMaint = entry_message shard e sent.0 in
     let within = subst (λ r. e.position ≤ store_length tables r shard) (sym (master_is s states shard of.masters))
     (within_master tells s tables stores shard regions are here e stands told) in
@@ -123,15 +130,26 @@ module _ (tells : Bool) (s : Settings) (j : ShardJob) (old new : Outside) where
 
 -- ---- both, seen from the core
 
-module _ (tells : Bool) (s : Settings) (shard : ℕ) (old new : Posting) where
-  module _ (job : Job) (found : KeeperState) (finds : FindsOpenJob tells s shard job old.scene.keepers found) where
+-- of the nodes that were asked only stores changed
+pub leaves_rest : (was new : Nodes) (asked : Fleet) (before after : KeeperState) (from to : LinkShown) → asked ≡ was.fleet
+    → new ≡ record was { fleet = record asked { stores = new.fleet.stores } } → LeavesRest (world was before from) (world new after to)
+leaves_rest was new asked before after from to same rest = record {
+  caches = record {
+    fleet = subst (λ (f : Fleet). new.fleet ≡ record f { stores = new.fleet.stores }) same (ap (λ (n : Nodes). n.fleet) rest);
+    states = ap (λ (n : Nodes). n.topology) rest;
+  };
+  inboxes = ap (λ (n : Nodes). n.mail) rest;
+}
+
+module _ (tells : Bool) (s : Settings) (shard : ℕ) (old new : World) where
+  module _ (job : Job) (found : KeeperState) (finds : FindsOpenJob tells s shard job old.keepers found) where
     -- it was not run
     module _ (rest : LeavesRest old new) where
-      fails_merge : (refusal : RepairRefusal) → MergesThere tells s (job_on shard job) (Err refusal) (outside found old.scene.link) (shown_of new.scene)
+      fails_merge : (refusal : RepairRefusal) → MergesThere tells s (job_on shard job) (Err refusal) (outside found old.link) (shown_of new)
           → FailsToMerge tells s shard refusal old new
       fails_merge refusal merges = record { job = job; found = found; finds = finds; merges = merges; rest = rest }
 
-      stops : (refusal : RepairRefusal) → IsNotRun tells s (job_on shard job) refusal (outside found old.scene.link) (shown_of new.scene)
+      stops : (refusal : RepairRefusal) → IsNotRun tells s (job_on shard job) refusal (outside found old.link) (shown_of new)
           → StopsRepair tells s shard refusal old new
       stops refusal (inl merges) = inr (inl (fails_merge refusal merges))
       stops refusal (inr alone) = inr (inr (record {
@@ -144,10 +162,10 @@ module _ (tells : Bool) (s : Settings) (shard : ℕ) (old new : Posting) where
         rest = rest;
       }))
 
-      pub not_run : (failed : RepairFailed) → RunsJob tells s (job_on shard job) (Err failed) (outside found old.scene.link) (shown_of new.scene)
-          → IsLater old.scene.keepers found → IsNotRepaired tells s shard failed old new
+      pub not_run : (failed : RepairFailed) → RunsJob tells s (job_on shard job) (Err failed) (outside found old.link) (shown_of new)
+          → IsLater old.keepers found → IsNotRepaired tells s shard failed old new
       not_run (Refused KeeperFault) runs later = (
-        Rose-earlier old.scene.keepers.faults found.faults new.scene.keepers.faults later.faults runs.0,
+        Rose-earlier old.keepers.faults found.faults new.keepers.faults later.faults runs.0,
         stops KeeperFault runs.1,
       )
       not_run (Refused LinkFault) runs later = fails_merge LinkFault runs
@@ -155,18 +173,63 @@ module _ (tells : Bool) (s : Settings) (shard : ℕ) (old new : Posting) where
       not_run (Refused OutOfMemory) runs later = stops OutOfMemory runs
       not_run NoServer runs later = absurd runs
 
--- ---- what it keeps
+-- ---- the link
 
--- a job was looked up, which changes no table, and then merged and ended, as far as that went
-pub posts_repaired : (tells : Bool) (s : Settings) (old new : Posting) (found : KeeperState) → KeepsTables tells old.scene.keepers found
-    → IsLater old.scene.keepers found → IsConsistent tells s new.scene.keepers.told new.scene.fleet
-    → AreInboxesOf s (pens_of new.scene.fleet.stores) new.inboxes → WhereTold tells (HaveArrived new.scene.keepers.told new.inboxes)
-    → GoesOn old.scene.fleet new.scene.fleet → StoresGrow tells s found.told new.scene.keepers.told → IsLater found new.scene.keepers → PostsOn tells s old new
-posts_repaired tells s old new found tables finds consistent inboxes arrived goes grows later = record {
-  consistent = consistent;
-  inboxes = inboxes;
-  arrived = arrived;
-  goes = goes;
-  grows = stores_in_turn tells s old.scene.keepers.told found.told new.scene.keepers.told (stays_stores tells s old.scene.keepers found tables) grows;
-  later = later_trans old.scene.keepers found new.scene.keepers finds later;
-}
+link_back : (s : Settings) (j : ShardJob) (old new : LinkShown) → ComesBack s j old new → IsLaterLink old new
+link_back s j old new (inl whole) = both_carries old new whole
+link_back s j old new (inr fails) = failed_back (carry_back s j) old new fails
+
+-- a merge from store to store, whatever came of it
+pub merges_on : (tells : Bool) (s : Settings) (j : ShardJob) (result : Result RepairOutcome RepairRefusal) (old new : Outside)
+    → MergesThere tells s j result old new → IsLaterLink old.link new.link
+merges_on tells s j (Ok repaired) old new merges = both_carries old.link new.link merges.1
+merges_on tells s j (Err KeeperFault) old new merges = link_back s j old.link new.link merges.1
+merges_on tells s j (Err (LogFull count)) old new merges = link_back s j old.link new.link merges.2
+merges_on tells s j (Err OutOfMemory) old new merges = link_back s j old.link new.link merges.1
+merges_on tells s j (Err LinkFault) old new (inl there) = failed_carry (carry_there s j) old.link new.link there.0
+merges_on tells s j (Err LinkFault) old new (inr back) = failed_back (carry_back s j) old.link new.link back.0
+
+-- ---- what each stage keeps
+
+module _ (tells : Bool) (s : Settings) (was : Nodes) (before after : KeeperState) (fleet : Fleet) where
+  -- keepers were asked
+  pub posts_asked : (link : LinkShown) → CanPost tells s (world was before link) → fleet ≡ was.fleet → KeepsTables tells before after
+      → IsConsistent tells s after.told fleet → IsLater before after
+      → PostsOn tells s (world was before link) (world_with fleet was.mail was.topology after link)
+  posts_asked link ready same tables consistent later =
+      posts_same tells s (world was before link) (world_with fleet was.mail was.topology after link) ready.inboxes ready.arrived same refl refl consistent
+      (stays_stores tells s before after tables) later (link_self link)
+
+  -- stores went on
+  pub posts_merged : (from to : LinkShown) → CanPost tells s (world was before from) → IsConsistent tells s after.told fleet → GoesOn was.fleet fleet
+      → StoresGrow tells s before.told after.told → IsLater before after → IsLaterLink from to
+      → PostsOn tells s (world was before from) (world_with fleet was.mail was.topology after to)
+  posts_merged from to ready consistent goes grows later link = record {
+    consistent = consistent;
+    inboxes = (inboxes_stay s (pens_of was.fleet.stores) was.mail).rises (pens_of fleet.stores) goes.rise ready.inboxes;
+    arrived = arrived_grows tells before.told after.told was.mail grows.logs ready.arrived;
+    states = refl;
+    goes = goes;
+    grows = grows;
+    later = later;
+    link = link;
+  }
+
+-- those who see a shard's log were told of what was written there
+pub posts_told : (tells : Bool) (s : Settings) (was new : Nodes) (keepers : KeeperState) (link : LinkShown) (shard : ℕ) (wrote : Option Entry)
+    → CanPost tells s (world was keepers link) → HaveMasterRegions s → shard < s.shards → IfSome wrote (StandsIn (pens_of was.fleet.stores shard))
+    → TellsOfRepair was.topology shard wrote was.mail new.mail → AreInboxesOf s (pens_of was.fleet.stores) new.mail
+    → new ≡ record was { mail = new.mail } → PostsOn tells s (world was keepers link) (world new keepers link)
+posts_told tells s was new keepers link shard wrote ready regions here stands told inboxes rest =
+    let is : PostsOn tells s (world was keepers link) (world_with was.fleet new.mail was.topology keepers link) = record {
+      consistent = ready.consistent;
+      inboxes = inboxes;
+      arrived = arrived_repair tells s keepers.told was.fleet.stores shard was.topology wrote was.mail new.mail regions ready.consistent.stores here
+          ready.states stands told ready.arrived;
+      states = refl;
+      goes = goes_self was.fleet;
+      grows = stays_stores tells s keepers keepers (λ told at. refl);
+      later = later_self keepers;
+      link = link_self link;
+    } in
+    subst (λ (n : Nodes). PostsOn tells s (world was keepers link) (world n keepers link)) (sym rest) is

@@ -4,8 +4,7 @@ use Rattle.std.proofs.Common.{refl, sym, ap, ◌∙◌, subst, inl, inr, arith}
 use Rattle.std.proofs.lemmas.Bool.{cases_lt}
 use Rattle.std.proofs.lemmas.Option.{same_Some}
 use Rattle.std.specs.Prelude.{Option}
-use Rattle.counts.proofs.Rises.{Rose-earlier, Rose-le}
-use Rattle.edge_repair.specs.Carries.{FailsAt}
+use Rattle.counts.proofs.Rises.{Rose-earlier}
 use Rattle.edge_repair.specs.declared.refusal.RepairRefusal.{RepairRefusal}
 use Rattle.edge_repair.specs.declared.refusal.RepairRefusal.TheVariants.{KeeperFault, LinkFault, LogFull, OutOfMemory}
 use Rattle.graph_model.specs.Log.{entry_at}
@@ -18,8 +17,6 @@ use Rattle.tao_keeper.proofs.Later.{later_self}
 use Rattle.tao_keeper.specs.KeeperState.{IsLater}
 use Rattle.tao_keeper.specs.Table.{Tables}
 use Rattle.tao_keeper.specs.declared.jobs.Job.{Job}
-use Rattle.tao_link.specs.Shown.{LinkShown, after_carry}
-use Rattle.tao_link.specs.declared.link.Carry.{Carry}
 use Rattle.tao_schema.specs.Schema.{types_of}
 use Rattle.topology.specs.Config.{Settings}
 use Rattle.write_model.proofs.CoverMerges.{merges_keep}
@@ -31,10 +28,10 @@ use Rattle.write_model.specs.Steps.{EndsJob, IsNextJob, IsOwed, MergesJob}
 use Rattle.core_model.specs.Fleet.{Fleet}
 use Rattle.core_model.specs.Jobs.{EndsOwed, IsFirstJobOf, OwesShardJob, MergesOwed, ShardJob, job_on}
 use Rattle.core_model.specs.Stores.{AreKeptIn, master_log, masters_of, stores_in}
-use Rattle.core_nodes.specs.Repairs.{ComesBack, carry_back, carry_there}
 use Rattle.core_nodes.specs.Settling.{IsLaterLink}
 use Rattle.core_nodes.specs.declared.settling.SettleStop.{SettleStop}
-use Rattle.core_steps.specs.Posting.{Posting}
+use Rattle.core_steps.proofs.LinkLemmas.{both_carries, link_stays, link_trans}
+use Rattle.core_steps.specs.World.{World}
 use Rattle.core_repairs.specs.Repairs.{AreSettling, FailsToEnd, FailsToMerge, FindsNoJob, FailureHasCause, HasNoneUpTo, HaveNoneBelow, HaveRun}
 use Rattle.core_repairs.specs.Repairs.{IsNotRepaired, IsRepaired, OnlyAsks, RanOn, RepairsFirst, RunsAll, RunsTo, SettlesLogs}
 use Rattle.core_repairs.specs.Repairs.{StopsRepair, StopsRun, ran_on, stop_of}
@@ -44,112 +41,75 @@ use Rattle.core_repairs.specs.declared.repairs.RepairFailed.TheVariants.{NoServe
 
 -- ---- keepers that were only asked
 
-asks_trans : (tells : Bool) (a b c : Posting) → OnlyAsks tells a b → OnlyAsks tells b c → OnlyAsks tells a c
+asks_trans : (tells : Bool) (a b c : World) → OnlyAsks tells a b → OnlyAsks tells b c → OnlyAsks tells a c
 asks_trans tells a b c p q = record {
   nodes = record {
     fleet = q.nodes.fleet ∙ p.nodes.fleet;
     inboxes = q.nodes.inboxes ∙ p.nodes.inboxes;
+    states = q.nodes.states ∙ p.nodes.states;
     tables = λ told at. q.nodes.tables told at ∙ p.nodes.tables told at;
   };
   link = q.link ∙ p.link;
-  states = q.states ∙ p.states;
 }
 
-asks_nothing : (tells : Bool) (a : Posting) → OnlyAsks tells a a
-asks_nothing tells a = record { nodes = record { fleet = refl; inboxes = refl; tables = λ told at. refl }; link = refl; states = refl }
+asks_nothing : (tells : Bool) (a : World) → OnlyAsks tells a a
+asks_nothing tells a = record { nodes = record { fleet = refl; inboxes = refl; states = refl; tables = λ told at. refl }; link = refl }
 
-run_and_ask : (tells : Bool) (s : Settings) (jobs : List RanOn) (a b c : Posting) → HaveRun tells s jobs a b → OnlyAsks tells b c → HaveRun tells s jobs a c
+run_and_ask : (tells : Bool) (s : Settings) (jobs : List RanOn) (a b c : World) → HaveRun tells s jobs a b → OnlyAsks tells b c → HaveRun tells s jobs a c
 run_and_ask tells s [] a b c run asks = asks_trans tells a b c run asks
 run_and_ask tells s (r ∷ earlier) a b c run asks = (run.0, run.1, run.2, run.3, asks_trans tells run.1 b c run.4 asks)
 
--- ---- the link
+-- ---- jobs that were run
 
-pub link_trans : (a b c : LinkShown) → IsLaterLink a b → IsLaterLink b c → IsLaterLink a c
-link_trans a b c p q = record { carries = omega arith; faults = omega arith; cuts = q.cuts ∙ p.cuts }
-
-pub link_stays : (old new : LinkShown) → new ≡ old → IsLaterLink old new
-link_stays old new same = subst (IsLaterLink old) (sym same) (record { carries = omega arith; faults = omega arith; cuts = refl })
-
-carried_once : (link : LinkShown) → IsLaterLink link (after_carry link)
-carried_once link = record { carries = omega arith; faults = omega arith; cuts = refl }
-
-both_carries : (old new : LinkShown) → new ≡ after_carry (after_carry old) → IsLaterLink old new
-both_carries old new is =
-    subst (IsLaterLink old) (sym is) (link_trans old (after_carry old) (after_carry (after_carry old)) (carried_once old) (carried_once (after_carry old)))
-
-failed_carry : (at : Carry) (old new : LinkShown) → FailsAt at old new → IsLaterLink old new
-failed_carry at old new fails =
-    record { carries = let is = fails.counted in omega arith; faults = Rose-le old.faults new.faults fails.rose; cuts = fails.cuts }
-
-failed_back : (at : Carry) (old new : LinkShown) → FailsAt at (after_carry old) new → IsLaterLink old new
-failed_back at old new fails = link_trans old (after_carry old) new (carried_once old) (failed_carry at (after_carry old) new fails)
-
-link_back : (s : Settings) (j : ShardJob) (old new : LinkShown) → ComesBack s j old new → IsLaterLink old new
-link_back s j old new (inl whole) = both_carries old new whole
-link_back s j old new (inr fails) = failed_back (carry_back s j) old new fails
+-- no count of the link fell
+run_on : (tells : Bool) (s : Settings) (jobs : List RanOn) (a b : World) → HaveRun tells s jobs a b → IsLaterLink a.link b.link
+run_on tells s [] a b run = link_stays a.link b.link run.link
+run_on tells s (r ∷ earlier) a b run =
+    link_trans a.link run.0.link b.link (run_on tells s earlier a run.0 run.2)
+    (link_trans run.0.link run.1.link b.link (both_carries run.0.link run.1.link run.3.merges.1) (link_stays run.1.link b.link run.4.link))
 
 -- ---- what a repair leaves, whatever came of it
 
--- no count of the link fell, and only stores changed
-pub record ChangesStoresAlone (old new : Posting) : Type 0 where
-  pub link : IsLaterLink old.scene.link new.scene.link
-  pub fleet : new.scene.fleet ≡ record old.scene.fleet { stores = new.scene.fleet.stores }
+-- only stores changed
+abbrev pub ChangesStoresAlone : Fleet → Fleet → Type 0
+ChangesStoresAlone old new = new ≡ record old { stores = new.stores }
 
-same_fleet : (old new : Fleet) → new ≡ old → new ≡ record old { stores = new.stores }
-same_fleet old new same = subst (λ (f : Fleet). f ≡ record old { stores = f.stores }) (sym same) refl
+same_fleet : (old new : Fleet) → new ≡ old → ChangesStoresAlone old new
+same_fleet old new same = subst (ChangesStoresAlone old) (sym same) refl
 
-asks_leave : (tells : Bool) (old new : Posting) → OnlyAsks tells old new → ChangesStoresAlone old new
-asks_leave tells old new asks = record {
-  link = link_stays old.scene.link new.scene.link asks.link;
-  fleet = same_fleet old.scene.fleet new.scene.fleet asks.nodes.fleet;
-}
+module _ (tells : Bool) (s : Settings) (shard : ℕ) (old new : World) where
+  stops_leave : (refusal : RepairRefusal) → StopsRepair tells s shard refusal old new → ChangesStoresAlone old.fleet new.fleet
+  stops_leave refusal (inl asks) = same_fleet old.fleet new.fleet asks.nodes.fleet
+  stops_leave refusal (inr (inl fails)) = fails.rest.caches.fleet
+  stops_leave refusal (inr (inr fails)) = fails.rest.caches.fleet
 
-module _ (tells : Bool) (s : Settings) (shard : ℕ) (old new : Posting) where
-  link_by : (refusal : RepairRefusal) → FailsToMerge tells s shard refusal old new → IsLaterLink old.scene.link new.scene.link
-  link_by KeeperFault fails = link_back s (job_on shard fails.job) old.scene.link new.scene.link fails.merges.1
-  link_by (LogFull count) fails = link_back s (job_on shard fails.job) old.scene.link new.scene.link fails.merges.2
-  link_by OutOfMemory fails = link_back s (job_on shard fails.job) old.scene.link new.scene.link fails.merges.1
-  link_by LinkFault fails = elim fails.merges [
-    | inl there ↦ failed_carry (carry_there s (job_on shard fails.job)) old.scene.link new.scene.link there.0
-    | inr back ↦ failed_back (carry_back s (job_on shard fails.job)) old.scene.link new.scene.link back.0
-  ]
-
-  leaves_by : (refusal : RepairRefusal) → FailsToMerge tells s shard refusal old new → ChangesStoresAlone old new
-  leaves_by refusal fails = record { link = link_by refusal fails; fleet = fails.rest.caches.fleet }
-
-  ends_leave : FailsToEnd tells s shard old new → ChangesStoresAlone old new
-  ends_leave fails = record { link = both_carries old.scene.link new.scene.link fails.merges.1; fleet = fails.rest.caches.fleet }
-
-  stops_leave : (refusal : RepairRefusal) → StopsRepair tells s shard refusal old new → ChangesStoresAlone old new
-  stops_leave refusal (inl asks) = asks_leave tells old new asks
-  stops_leave refusal (inr (inl fails)) = leaves_by refusal fails
-  stops_leave refusal (inr (inr fails)) = ends_leave fails
-
-  pub not_repaired_leaves : (failed : RepairFailed) → IsNotRepaired tells s shard failed old new → ChangesStoresAlone old new
-  not_repaired_leaves NoServer is = asks_leave tells old new is.asks
+  not_repaired_leaves : (failed : RepairFailed) → IsNotRepaired tells s shard failed old new → ChangesStoresAlone old.fleet new.fleet
+  not_repaired_leaves NoServer is = same_fleet old.fleet new.fleet is.asks.nodes.fleet
   not_repaired_leaves (Refused KeeperFault) is = stops_leave KeeperFault is.1
-  not_repaired_leaves (Refused LinkFault) is = leaves_by LinkFault is
-  not_repaired_leaves (Refused (LogFull count)) is = leaves_by (LogFull count) is
+  not_repaired_leaves (Refused LinkFault) is = is.rest.caches.fleet
+  not_repaired_leaves (Refused (LogFull count)) is = is.rest.caches.fleet
   not_repaired_leaves (Refused OutOfMemory) is = stops_leave OutOfMemory is
 
-  pub repaired_leaves : (ran : Ran) → IsRepaired tells s shard ran old new → ChangesStoresAlone old new
-  repaired_leaves ran is = record { link = both_carries old.scene.link new.scene.link is.merges.1; fleet = is.caches.fleet }
-
-  pub none_leaves : FindsNoJob tells s shard old new → ChangesStoresAlone old new
-  none_leaves finds = asks_leave tells old new finds.asks
+  pub first_leaves : (result : Result (Option Ran) RepairFailed) → RepairsFirst tells s shard result old new → ChangesStoresAlone old.fleet new.fleet
+  first_leaves (Ok None) is = same_fleet old.fleet new.fleet is.asks.nodes.fleet
+  first_leaves (Ok (Some ran)) is = is.caches.fleet
+  first_leaves (Err failed) is = not_repaired_leaves failed is
 
   -- a fault is told only where its count rose
-  has_cause : (start : Posting) (failed : RepairFailed) → IsLaterLink start.scene.link old.scene.link → IsLater start.scene.keepers old.scene.keepers
-      → IsNotRepaired tells s shard failed old new → FailureHasCause failed start.scene new.scene
+  has_cause : (start : World) (failed : RepairFailed) → IsLaterLink start.link old.link → IsLater start.keepers old.keepers
+      → IsNotRepaired tells s shard failed old new → FailureHasCause failed start new
   has_cause start NoServer link keepers is = tt
   has_cause start (Refused KeeperFault) link keepers is =
-      Rose-earlier start.scene.keepers.faults old.scene.keepers.faults new.scene.keepers.faults keepers.faults is.0
+      Rose-earlier start.keepers.faults old.keepers.faults new.keepers.faults keepers.faults is.0
   has_cause start (Refused LinkFault) link keepers is = elim is.merges [
-    | inl there ↦ Rose-earlier start.scene.link.faults old.scene.link.faults new.scene.link.faults link.faults there.0.rose
-    | inr back ↦ Rose-earlier start.scene.link.faults old.scene.link.faults new.scene.link.faults link.faults back.0.rose
+    | inl there ↦ Rose-earlier start.link.faults old.link.faults new.link.faults link.faults there.0.rose
+    | inr back ↦ Rose-earlier start.link.faults old.link.faults new.link.faults link.faults back.0.rose
   ]
   has_cause start (Refused (LogFull count)) link keepers is = tt
   has_cause start (Refused OutOfMemory) link keepers is = tt
+
+pub rest_trans : (a b c : Fleet) → ChangesStoresAlone a b → ChangesStoresAlone b c → ChangesStoresAlone a c
+rest_trans a b c p q = q ∙ ap (λ (f : Fleet). record f { stores = c.stores }) p
 
 -- ---- one job, over the tables
 
@@ -255,65 +215,65 @@ settles_to s shard start old new none so (inr half) =
 
 -- ---- one job, over what is seen
 
-module _ (tells : Bool) (s : Settings) (shard : ℕ) (old new : Posting) (told : tells ≡ true) where
-  repaired_done : (ran : Ran) → InversesMatch (types_of s.schema) → AreKeptIn s old.scene.keepers.told → IsRepaired tells s shard ran old new
-      → WorksOffFirst s shard ran.job.position old.scene.keepers.told new.scene.keepers.told
+module _ (tells : Bool) (s : Settings) (shard : ℕ) (old new : World) (told : tells ≡ true) where
+  repaired_done : (ran : Ran) → InversesMatch (types_of s.schema) → AreKeptIn s old.keepers.told → IsRepaired tells s shard ran old new
+      → WorksOffFirst s shard ran.job.position old.keepers.told new.keepers.told
   repaired_done ran match kept is =
       let j = job_on shard ran.job in
-      let same : is.found.told ≡ old.scene.keepers.told = λ i at. is.finds.tables told at i in
+      let same : is.found.told ≡ old.keepers.told = λ i at. is.finds.tables told at i in
       let first = subst (λ t. IsFirstJobOf s t j) same (is.finds.first told) in
       let merges = subst (λ t. MergesOwed s t is.merged.told j) same (is.merges.0 told).merges in
-      is_done s j old.scene.keepers.told is.merged.told new.scene.keepers.told match kept first merges (is.ends told)
+      is_done s j old.keepers.told is.merged.told new.keepers.told match kept first merges (is.ends told)
 
-  asks_half : OnlyAsks tells old new → IsHalfway s shard old.scene.keepers.told new.scene.keepers.told
+  asks_half : OnlyAsks tells old new → IsHalfway s shard old.keepers.told new.keepers.told
   asks_half asks = inl (λ i at. asks.nodes.tables told at i)
 
   -- what was merged at tables that are these
-  half_from : (job : Job) (found : Tables) → found ≡ old.scene.keepers.told → IsFirstJobOf s found (job_on shard job)
-      → MergesOwed s found new.scene.keepers.told (job_on shard job) → IsHalfway s shard old.scene.keepers.told new.scene.keepers.told
+  half_from : (job : Job) (found : Tables) → found ≡ old.keepers.told → IsFirstJobOf s found (job_on shard job)
+      → MergesOwed s found new.keepers.told (job_on shard job) → IsHalfway s shard old.keepers.told new.keepers.told
   half_from job found same first merges = inr (
     job,
     subst (λ t. IsFirstJobOf s t (job_on shard job)) same first,
-    subst (λ t. MergesOwed s t new.scene.keepers.told (job_on shard job)) same merges,
+    subst (λ t. MergesOwed s t new.keepers.told (job_on shard job)) same merges,
   )
 
-  half_by : (refusal : RepairRefusal) → FailsToMerge tells s shard refusal old new → IsHalfway s shard old.scene.keepers.told new.scene.keepers.told
+  half_by : (refusal : RepairRefusal) → FailsToMerge tells s shard refusal old new → IsHalfway s shard old.keepers.told new.keepers.told
   half_by KeeperFault fails =
-      let same : fails.found.told ≡ old.scene.keepers.told = λ i at. fails.finds.tables told at i in
+      let same : fails.found.told ≡ old.keepers.told = λ i at. fails.finds.tables told at i in
       elim fails.merges.0 [
         | inl stays ↦ inl ((λ i at. stays told at i) ∙ same)
         | inr merges ↦ half_from fails.job fails.found.told same (fails.finds.first told) (merges told)
       ]
   half_by OutOfMemory fails =
-      let same : fails.found.told ≡ old.scene.keepers.told = λ i at. fails.finds.tables told at i in
+      let same : fails.found.told ≡ old.keepers.told = λ i at. fails.finds.tables told at i in
       elim fails.merges.0 [
         | inl stays ↦ inl ((λ i at. stays told at i) ∙ same)
         | inr merges ↦ half_from fails.job fails.found.told same (fails.finds.first told) (merges told)
       ]
   half_by (LogFull count) fails =
-      let same : fails.found.told ≡ old.scene.keepers.told = λ i at. fails.finds.tables told at i in
-      let stays : new.scene.keepers.told ≡ fails.found.told = λ i at. fails.merges.1 told at i in
+      let same : fails.found.told ≡ old.keepers.told = λ i at. fails.finds.tables told at i in
+      let stays : new.keepers.told ≡ fails.found.told = λ i at. fails.merges.1 told at i in
       inl (stays ∙ same)
   half_by LinkFault fails =
-      let same : fails.found.told ≡ old.scene.keepers.told = λ i at. fails.finds.tables told at i in
+      let same : fails.found.told ≡ old.keepers.told = λ i at. fails.finds.tables told at i in
       elim fails.merges [
         | inl there ↦ inl ((λ i at. there.1 told at i) ∙ same)
         | inr back ↦ half_from fails.job fails.found.told same (fails.finds.first told) (back.1 told)
       ]
 
-  end_half : FailsToEnd tells s shard old new → IsHalfway s shard old.scene.keepers.told new.scene.keepers.told
+  end_half : FailsToEnd tells s shard old new → IsHalfway s shard old.keepers.told new.keepers.told
   end_half fails =
-      let same : fails.found.told ≡ old.scene.keepers.told = λ i at. fails.finds.tables told at i in
-      let stays : fails.merged.told ≡ new.scene.keepers.told = λ i at. sym (fails.stays told at) i in
+      let same : fails.found.told ≡ old.keepers.told = λ i at. fails.finds.tables told at i in
+      let stays : fails.merged.told ≡ new.keepers.told = λ i at. sym (fails.stays told at) i in
       half_from fails.ran.job fails.found.told same (fails.finds.first told)
       (subst (λ t. MergesOwed s fails.found.told t (job_on shard fails.ran.job)) stays (fails.merges.0 told).merges)
 
-  stops_half : (refusal : RepairRefusal) → StopsRepair tells s shard refusal old new → IsHalfway s shard old.scene.keepers.told new.scene.keepers.told
+  stops_half : (refusal : RepairRefusal) → StopsRepair tells s shard refusal old new → IsHalfway s shard old.keepers.told new.keepers.told
   stops_half refusal (inl asks) = asks_half asks
   stops_half refusal (inr (inl fails)) = half_by refusal fails
   stops_half refusal (inr (inr fails)) = end_half fails
 
-  halfway : (failed : RepairFailed) → IsNotRepaired tells s shard failed old new → IsHalfway s shard old.scene.keepers.told new.scene.keepers.told
+  halfway : (failed : RepairFailed) → IsNotRepaired tells s shard failed old new → IsHalfway s shard old.keepers.told new.keepers.told
   halfway NoServer is = asks_half is.asks
   halfway (Refused KeeperFault) is = stops_half KeeperFault is.1
   halfway (Refused LinkFault) is = half_by LinkFault is
@@ -322,59 +282,57 @@ module _ (tells : Bool) (s : Settings) (shard : ℕ) (old new : Posting) (told :
 
 -- ---- a settle under way
 
-module _ (tells : Bool) (s : Settings) (shard : ℕ) (old new : Posting) where
+module _ (tells : Bool) (s : Settings) (shard : ℕ) (old new : World) where
   -- one more job of the shard
-  module _ (ran : Ran) (match : InversesMatch (types_of s.schema)) (kept : WhereTold tells (AreKeptIn s old.scene.keepers.told))
+  module _ (ran : Ran) (match : InversesMatch (types_of s.schema)) (kept : WhereTold tells (AreKeptIn s old.keepers.told))
       (is : IsRepaired tells s shard ran old new) where
-    pub runs_one : IsLater old.scene.keepers new.scene.keepers → (start : Posting) → RunsTo tells s shard start old → RunsTo tells s shard start new
+    pub runs_one : IsLater old.keepers new.keepers → (start : World) → RunsTo tells s shard start old → RunsTo tells s shard start new
     runs_one later start so = record {
       jobs = ran_on shard ran ∷ so.jobs;
       run = (old, new, so.run, is, asks_nothing tells new);
-      settling = λ told. settles_on s shard ran.job.position old.scene.keepers.told new.scene.keepers.told
-          (repaired_done tells s shard old new told ran match (kept told) is) start.scene.keepers.told match (kept told) (so.none told) (so.settling told);
-      none = λ told. none_below s shard ran.job.position old.scene.keepers.told new.scene.keepers.told
+      settling = λ told. settles_on s shard ran.job.position old.keepers.told new.keepers.told
+          (repaired_done tells s shard old new told ran match (kept told) is) start.keepers.told match (kept told) (so.none told) (so.settling told);
+      none = λ told. none_below s shard ran.job.position old.keepers.told new.keepers.told
           (repaired_done tells s shard old new told ran match (kept told) is) (so.none told);
-      link = link_trans start.scene.link old.scene.link new.scene.link so.link (repaired_leaves tells s shard old new ran is).link;
       keepers = record { calls = let a = so.keepers in omega arith; faults = let a = so.keepers in omega arith };
     }
 
-    pub none_left : WhereTold tells (HasNoneUpTo s new.scene.keepers.told shard ran.job.position)
-    none_left = λ told. none_up_to s shard ran.job.position old.scene.keepers.told new.scene.keepers.told
+    pub none_left : WhereTold tells (HasNoneUpTo s new.keepers.told shard ran.job.position)
+    none_left = λ told. none_up_to s shard ran.job.position old.keepers.told new.keepers.told
         (repaired_done tells s shard old new told ran match (kept told) is)
 
-    pub not_again : (last : ℕ) → WhereTold tells (HasNoneUpTo s old.scene.keepers.told shard last) → ran.job.position ≤ last → tells ≡ true → ⊥
-    not_again last none le told = not_before s shard ran.job.position old.scene.keepers.told new.scene.keepers.told
+    pub not_again : (last : ℕ) → WhereTold tells (HasNoneUpTo s old.keepers.told shard last) → ran.job.position ≤ last → tells ≡ true → ⊥
+    not_again last none le told = not_before s shard ran.job.position old.keepers.told new.keepers.told
         (repaired_done tells s shard old new told ran match (kept told) is) last (none told) le
 
   -- no more jobs of the shard
-  none_more : shard < s.shards → tells ≡ true → HaveNoneBelow s old.scene.keepers.told shard → FindsNoJob tells s shard old new
-      → HaveNoneBelow s new.scene.keepers.told (shard + 1)
+  none_more : shard < s.shards → tells ≡ true → HaveNoneBelow s old.keepers.told shard → FindsNoJob tells s shard old new
+      → HaveNoneBelow s new.keepers.told (shard + 1)
   none_more here told none finds =
-      let same : old.scene.keepers.told ≡ new.scene.keepers.told = λ i at. sym (finds.asks.nodes.tables told at) i in
+      let same : old.keepers.told ≡ new.keepers.told = λ i at. sym (finds.asks.nodes.tables told at) i in
       subst (λ t. HaveNoneBelow s t (shard + 1)) same (λ lower position lt. elim (cases_lt lower shard) [
         | inl below ↦ none lower position below
         | inr past ↦ (
             let at : shard ≡ lower = omega (arith, lt, past) in
-            subst (λ n. (stores_in s old.scene.keepers.told).job n position ≡ None) at
-            ((tables_are_stores (masters_of s) old.scene.keepers.told).job_is shard position here ∙ finds.none told position))
+            subst (λ n. (stores_in s old.keepers.told).job n position ≡ None) at
+            ((tables_are_stores (masters_of s) old.keepers.told).job_is shard position here ∙ finds.none told position))
       ])
 
-  pub no_more : shard < s.shards → FindsNoJob tells s shard old new → IsLater old.scene.keepers new.scene.keepers → (start : Posting)
+  pub no_more : shard < s.shards → FindsNoJob tells s shard old new → IsLater old.keepers new.keepers → (start : World)
       → RunsTo tells s shard start old → RunsTo tells s (shard + 1) start new
   no_more here finds later start so = record {
     jobs = so.jobs;
     run = run_and_ask tells s so.jobs start old new so.run finds.asks;
     settling = λ told.
-        let same : old.scene.keepers.told ≡ new.scene.keepers.told = λ i at. sym (finds.asks.nodes.tables told at) i in
-        subst (AreSettling s start.scene.keepers.told) same (so.settling told);
+        let same : old.keepers.told ≡ new.keepers.told = λ i at. sym (finds.asks.nodes.tables told at) i in
+        subst (AreSettling s start.keepers.told) same (so.settling told);
     none = λ told. none_more here told (so.none told) finds;
-    link = link_trans start.scene.link old.scene.link new.scene.link so.link (none_leaves tells s shard old new finds).link;
     keepers = record { calls = let a = so.keepers in omega arith; faults = let a = so.keepers in omega arith };
   }
 
   -- one that isn't run stops it
   pub stops_run : (failed : RepairFailed) (given : SettleStop) → shard < s.shards → given ≡ stop_of shard failed → IsNotRepaired tells s shard failed old new
-      → (start : Posting) → RunsTo tells s shard start old → StopsRun tells s given start new
+      → (start : World) → RunsTo tells s shard start old → StopsRun tells s given start new
   stops_run failed given here is stops start so = record {
     shard = shard;
     failed = failed;
@@ -383,21 +341,21 @@ module _ (tells : Bool) (s : Settings) (shard : ℕ) (old new : Posting) where
     here = here;
     given_is = is;
     run = so.run;
+    none = so.none;
     stops = stops;
-    cause = has_cause tells s shard old new start failed so.link so.keepers stops;
-    settles = λ told. settles_to s shard start.scene.keepers.told old.scene.keepers.told new.scene.keepers.told (so.none told) (so.settling told)
+    cause = has_cause tells s shard old new start failed (run_on tells s so.jobs start old so.run) so.keepers stops;
+    settles = λ told. settles_to s shard start.keepers.told old.keepers.told new.keepers.told (so.none told) (so.settling told)
         (halfway tells s shard old new told failed stops);
   }
 
 -- a keeper that tells its tables gives no job twice
-pub given_again : (tells : Bool) (s : Settings) (shard : ℕ) (start now : Posting) → (tells ≡ true → ⊥) → RunsTo tells s shard start now
+pub given_again : (tells : Bool) (s : Settings) (shard : ℕ) (start now : World) → (tells ≡ true → ⊥) → RunsTo tells s shard start now
     → RunsTo tells s (shard + 1) start now
 given_again tells s shard start now untold so = record {
   jobs = so.jobs;
   run = so.run;
   settling = so.settling;
   none = λ told. absurd (untold told);
-  link = so.link;
   keepers = so.keepers;
 }
 
@@ -415,39 +373,26 @@ none_at_zero tells s tables shard kept = λ told position le.
         absurd (cc)
 
 -- it begins
-pub runs_none : (tells : Bool) (s : Settings) (start : Posting) → RunsTo tells s 0 start start
+pub runs_none : (tells : Bool) (s : Settings) (start : World) → RunsTo tells s 0 start start
 runs_none tells s start = record {
   jobs = [];
   run = asks_nothing tells start;
-  settling = λ told. ([], settles_in_order.begins (types_of s.schema) (stores_in s start.scene.keepers.told));
+  settling = λ told. ([], settles_in_order.begins (types_of s.schema) (stores_in s start.keepers.told));
   none = λ told lower position lt. absurd (omega (arith, lt));
-  link = link_stays start.scene.link start.scene.link refl;
-  keepers = later_self start.scene.keepers;
+  keepers = later_self start.keepers;
 }
 
 -- and ends behind the last shard
-pub runs_all : (tells : Bool) (s : Settings) (start now : Posting) → WhereTold tells (AreKeptIn s now.scene.keepers.told)
+pub runs_all : (tells : Bool) (s : Settings) (start now : World) → WhereTold tells (AreKeptIn s now.keepers.told)
     → RunsTo tells s s.shards start now → RunsAll tells s start now
 runs_all tells s start now kept so = record {
   jobs = so.jobs;
   run = so.run;
   settles = λ told.
       let far = so.settling told in
-      settles_in_order.stops (types_of s.schema) (stores_in s start.scene.keepers.told) (stores_in s now.scene.keepers.told) far.0 far.1;
+      settles_in_order.stops (types_of s.schema) (stores_in s start.keepers.told) (stores_in s now.keepers.told) far.0 far.1;
   none = λ told.
-      let tables = now.scene.keepers.told in
+      let tables = now.keepers.told in
       let long = each_length (master_log s tables) 0 s.shards in
       settles_in_order.ends (types_of s.schema) (stores_in s tables) (kept told) (λ shard position lt. so.none told shard position (omega (arith, lt, long)));
 }
-
--- ---- one repair after another
-
--- whatever came of a shard's first job, only stores changed, and no count of the link fell
-pub first_leaves : (tells : Bool) (s : Settings) (shard : ℕ) (old new : Posting) (result : Result (Option Ran) RepairFailed)
-    → RepairsFirst tells s shard result old new → ChangesStoresAlone old new
-first_leaves tells s shard old new (Ok None) is = none_leaves tells s shard old new is
-first_leaves tells s shard old new (Ok (Some ran)) is = repaired_leaves tells s shard old new ran is
-first_leaves tells s shard old new (Err failed) is = not_repaired_leaves tells s shard old new failed is
-
-pub rest_trans : (a b c : Fleet) → b ≡ record a { stores = b.stores } → c ≡ record b { stores = c.stores } → c ≡ record a { stores = c.stores }
-rest_trans a b c p q = q ∙ ap (λ (f : Fleet). record f { stores = c.stores }) p

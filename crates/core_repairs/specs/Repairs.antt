@@ -6,7 +6,6 @@ use Rattle.core_model.specs.Jobs.{EndsOwed, IsFirstJobOf, ShardJob, far_shard, j
 use Rattle.core_model.specs.Messages.{told_besides, told_of}
 use Rattle.core_model.specs.Stores.{master_store, stores_in}
 use Rattle.core_nodes.specs.Repairs.{MergesThere, Outside, outside}
-use Rattle.core_nodes.specs.Settling.{IsLaterLink}
 use Rattle.core_nodes.specs.declared.settling.SettleStop.{SettleStop}
 use Rattle.core_nodes.specs.declared.settling.SettleStop.TheVariants as stop
 use Rattle.edge_repair.specs.declared.refusal.RepairRefusal.{RepairRefusal}
@@ -28,8 +27,8 @@ use Rattle.topology.specs.States.{NodeStates}
 use Rattle.write_model.specs.Merges.{Owed}
 use Rattle.write_model.specs.Machine.{Settles}
 use Rattle.write_model.specs.Steps.{HaveNoJobs, Settling}
-use Rattle.core_steps.specs.Posting.{ChangesNoNode, Posting}
-use Rattle.core_steps.specs.Routes.{Scene}
+use Rattle.core_steps.specs.Posting.{ChangesNoNode}
+use Rattle.core_steps.specs.World.{World}
 use Rattle.core_repairs.specs.declared.repairs.Ran.{Ran}
 use Rattle.core_repairs.specs.declared.repairs.RepairFailed.{RepairFailed}
 use Rattle.core_repairs.specs.declared.repairs.RepairFailed.TheVariants.{NoServer, Refused}
@@ -40,32 +39,30 @@ use Rattle.core_repairs.specs.declared.repairs.RepairFailed.TheVariants.{NoServe
 abbrev pub told_of_repair : NodeStates → ℕ → List NodeName
 told_of_repair states shard = told_of states (master_region states shard) shard ++ told_besides states shard
 
--- the nodes that are told of a repair get a message of its entry, where there is one; without memory for a note of the log none does
+-- the nodes that are told of a repair get a message of its entry, where there is one
 abbrev pub TellsOfRepair : NodeStates → ℕ → Option Entry → Inboxes → Inboxes → Type 0
 TellsOfRepair states shard None old new = new ≡ old
-TellsOfRepair states shard (Some e) old new =
-    (new ≡ old) ⊎ ((note : View) × Sends (told_of_repair states shard) (entry_message shard e note) old new)
+TellsOfRepair states shard (Some e) old new = (note : View) × Sends (told_of_repair states shard) (entry_message shard e note) old new
 
 -- ---- the first job of a shard
 
--- what the keepers and the link show of a scene
-abbrev pub shown_of : Scene → Outside
-shown_of scene = outside scene.keepers scene.link
+-- what the keepers and the link of a core show
+abbrev pub shown_of : World → Outside
+shown_of now = outside now.keepers now.link
 
 -- no leader and no follower changed, nor which nodes are up
-pub record LeavesCaches (old new : Posting) : Type 0 where
-  pub fleet : new.scene.fleet ≡ record old.scene.fleet { stores = new.scene.fleet.stores }
+pub record LeavesCaches (old new : World) : Type 0 where
+  pub fleet : new.fleet ≡ record old.fleet { stores = new.fleet.stores }
   pub states : new.states ≡ old.states
 
 -- nothing changed but that keepers were asked
-pub record OnlyAsks (tells : Bool) (old new : Posting) : Type 0 where
+pub record OnlyAsks (tells : Bool) (old new : World) : Type 0 where
   pub nodes : ChangesNoNode tells old new
-  pub link : new.scene.link ≡ old.scene.link
-  pub states : new.states ≡ old.states
+  pub link : new.link ≡ old.link
 
 -- the shard has no open job
-pub record FindsNoJob (tells : Bool) (s : Settings) (shard : ℕ) (old new : Posting) : Type 0 where
-  pub none : WhereTold tells (IsLeastJob (old.scene.keepers.told (master_store s shard)).jobs None)
+pub record FindsNoJob (tells : Bool) (s : Settings) (shard : ℕ) (old new : World) : Type 0 where
+  pub none : WhereTold tells (IsLeastJob (old.keepers.told (master_store s shard)).jobs None)
   pub asks : OnlyAsks tells old new
 
 -- the job is the first open one of the shard, and finding it changed no table
@@ -74,12 +71,12 @@ pub record FindsOpenJob (tells : Bool) (s : Settings) (shard : ℕ) (job : Job) 
   pub tables : KeepsTables tells old new
 
 -- a shard's first job was run: it was merged and then ended, and those who see its records are told of what was written
-pub record IsRepaired (tells : Bool) (s : Settings) (shard : ℕ) (ran : Ran) (old new : Posting) : Type 0 where
+pub record IsRepaired (tells : Bool) (s : Settings) (shard : ℕ) (ran : Ran) (old new : World) : Type 0 where
   pub found : KeeperState
   pub merged : KeeperState
-  pub finds : FindsOpenJob tells s shard ran.job old.scene.keepers found
-  pub merges : MergesThere tells s (job_on shard ran.job) (Ok (record { wrote = ran.wrote })) (outside found old.scene.link) (outside merged new.scene.link)
-  pub ends : WhereTold tells (EndsOwed s merged.told new.scene.keepers.told (job_on shard ran.job))
+  pub finds : FindsOpenJob tells s shard ran.job old.keepers found
+  pub merges : MergesThere tells s (job_on shard ran.job) (Ok (record { wrote = ran.wrote })) (outside found old.link) (outside merged new.link)
+  pub ends : WhereTold tells (EndsOwed s merged.told new.keepers.told (job_on shard ran.job))
   pub told : TellsOfRepair old.states (far_shard ran.job) ran.wrote old.inboxes new.inboxes
   pub caches : LeavesCaches old new
 
@@ -133,51 +130,51 @@ RunsJob tells s j (Err NoServer) old new = ⊥
 -- ---- why it was not run
 
 -- the records of the shard's first job lie on no configured shard
-pub record LiesNowhere (tells : Bool) (s : Settings) (shard : ℕ) (old new : Posting) : Type 0 where
+pub record LiesNowhere (tells : Bool) (s : Settings) (shard : ℕ) (old new : World) : Type 0 where
   pub job : Job
-  pub finds : FindsOpenJob tells s shard job old.scene.keepers new.scene.keepers
+  pub finds : FindsOpenJob tells s shard job old.keepers new.keepers
   pub nowhere : s.shards ≤ far_shard job
   pub asks : OnlyAsks tells old new
 
 -- no leader, no follower and no message changed
-pub record LeavesRest (old new : Posting) : Type 0 where
+pub record LeavesRest (old new : World) : Type 0 where
   pub caches : LeavesCaches old new
   pub inboxes : new.inboxes ≡ old.inboxes
 
 -- the first job of the shard was not merged, or the answer of the merge was lost
-pub record FailsToMerge (tells : Bool) (s : Settings) (shard : ℕ) (refusal : RepairRefusal) (old new : Posting) : Type 0 where
+pub record FailsToMerge (tells : Bool) (s : Settings) (shard : ℕ) (refusal : RepairRefusal) (old new : World) : Type 0 where
   pub job : Job
   pub found : KeeperState
-  pub finds : FindsOpenJob tells s shard job old.scene.keepers found
-  pub merges : MergesThere tells s (job_on shard job) (Err refusal) (outside found old.scene.link) (shown_of new.scene)
+  pub finds : FindsOpenJob tells s shard job old.keepers found
+  pub merges : MergesThere tells s (job_on shard job) (Err refusal) (outside found old.link) (shown_of new)
   pub rest : LeavesRest old new
 
 -- the first job of the shard was merged, and not ended
-pub record FailsToEnd (tells : Bool) (s : Settings) (shard : ℕ) (old new : Posting) : Type 0 where
+pub record FailsToEnd (tells : Bool) (s : Settings) (shard : ℕ) (old new : World) : Type 0 where
   pub ran : Ran
   pub found : KeeperState
   pub merged : KeeperState
-  pub finds : FindsOpenJob tells s shard ran.job old.scene.keepers found
-  pub merges : MergesThere tells s (job_on shard ran.job) (Ok (record { wrote = ran.wrote })) (outside found old.scene.link) (outside merged new.scene.link)
-  pub stays : KeepsTables tells merged new.scene.keepers
+  pub finds : FindsOpenJob tells s shard ran.job old.keepers found
+  pub merges : MergesThere tells s (job_on shard ran.job) (Ok (record { wrote = ran.wrote })) (outside found old.link) (outside merged new.link)
+  pub stays : KeepsTables tells merged new.keepers
   pub rest : LeavesRest old new
 
 -- the first job of the shard was not found, not merged, or not ended
-abbrev pub StopsRepair : Bool → Settings → ℕ → RepairRefusal → Posting → Posting → Type 0
+abbrev pub StopsRepair : Bool → Settings → ℕ → RepairRefusal → World → World → Type 0
 StopsRepair tells s shard refusal old new =
     OnlyAsks tells old new ⊎ (FailsToMerge tells s shard refusal old new ⊎ FailsToEnd tells s shard old new)
 
 -- why a shard's first job was not run, and what was done all the same
-abbrev pub IsNotRepaired : Bool → Settings → ℕ → RepairFailed → Posting → Posting → Type 0
+abbrev pub IsNotRepaired : Bool → Settings → ℕ → RepairFailed → World → World → Type 0
 IsNotRepaired tells s shard NoServer old new = LiesNowhere tells s shard old new
 IsNotRepaired tells s shard (Refused KeeperFault) old new =
-    Rose old.scene.keepers.faults new.scene.keepers.faults × StopsRepair tells s shard KeeperFault old new
+    Rose old.keepers.faults new.keepers.faults × StopsRepair tells s shard KeeperFault old new
 IsNotRepaired tells s shard (Refused LinkFault) old new = FailsToMerge tells s shard LinkFault old new
 IsNotRepaired tells s shard (Refused (LogFull count)) old new = FailsToMerge tells s shard (LogFull count) old new
 IsNotRepaired tells s shard (Refused OutOfMemory) old new = StopsRepair tells s shard OutOfMemory old new
 
 -- what came of the first job of a shard
-abbrev pub RepairsFirst : Bool → Settings → ℕ → Result (Option Ran) RepairFailed → Posting → Posting → Type 0
+abbrev pub RepairsFirst : Bool → Settings → ℕ → Result (Option Ran) RepairFailed → World → World → Type 0
 RepairsFirst tells s shard (Ok None) old new = FindsNoJob tells s shard old new
 RepairsFirst tells s shard (Ok (Some ran)) old new = IsRepaired tells s shard ran old new
 RepairsFirst tells s shard (Err failed) old new = IsNotRepaired tells s shard failed old new
@@ -194,9 +191,9 @@ abbrev pub ran_on : ℕ → Ran → RanOn
 ran_on shard ran = record { shard = shard; ran = ran }
 
 -- the jobs were run one after another; the list has the last one first
-abbrev pub HaveRun : Bool → Settings → List RanOn → Posting → Posting → Type 0
+abbrev pub HaveRun : Bool → Settings → List RanOn → World → World → Type 0
 HaveRun tells s [] old new = OnlyAsks tells old new
-HaveRun tells s (r ∷ earlier) old new = (before after : Posting)
+HaveRun tells s (r ∷ earlier) old new = (before after : World)
     × HaveRun tells s earlier old before × IsRepaired tells s r.shard r.ran before after × OnlyAsks tells after new
 
 -- the logs went on by a settle of the plain machine: open jobs were merged, shard by shard, each shard's in order of position
@@ -204,11 +201,11 @@ abbrev pub SettlesLogs : Settings → Tables → Tables → Type 0
 SettlesLogs s old new = Settles (types_of s.schema) (stores_in s old) (stores_in s new).logs
 
 -- every open job was run
-pub record RunsAll (tells : Bool) (s : Settings) (old new : Posting) : Type 0 where
+pub record RunsAll (tells : Bool) (s : Settings) (old new : World) : Type 0 where
   pub jobs : List RanOn
   pub run : HaveRun tells s jobs old new
-  pub settles : WhereTold tells (SettlesLogs s old.scene.keepers.told new.scene.keepers.told)
-  pub none : WhereTold tells (HaveNoJobs (stores_in s new.scene.keepers.told))
+  pub settles : WhereTold tells (SettlesLogs s old.keepers.told new.keepers.told)
+  pub none : WhereTold tells (HaveNoJobs (stores_in s new.keepers.told))
 
 -- what a settle stops with at a shard
 abbrev pub stop_of : ℕ → RepairFailed → SettleStop
@@ -219,28 +216,33 @@ stop_of shard (Refused (LogFull count)) = stop.Unsettled shard why.LogFull
 stop_of shard (Refused OutOfMemory) = stop.OutOfMemory
 
 -- a fault is told only where its count rose
-abbrev pub FailureHasCause : RepairFailed → Scene → Scene → Type 0
+abbrev pub FailureHasCause : RepairFailed → World → World → Type 0
 FailureHasCause (Refused KeeperFault) old new = Rose old.keepers.faults new.keepers.faults
 FailureHasCause (Refused LinkFault) old new = Rose old.link.faults new.link.faults
 FailureHasCause (Refused (LogFull count)) old new = ⊤
 FailureHasCause (Refused OutOfMemory) old new = ⊤
 FailureHasCause NoServer old new = ⊤
 
--- some jobs were run, and then one was not
-pub record StopsRun (tells : Bool) (s : Settings) (given : SettleStop) (old new : Posting) : Type 0 where
+-- no lower shard has an open job
+abbrev pub HaveNoneBelow : Settings → Tables → ℕ → Type 0
+HaveNoneBelow s tables shard = (lower position : ℕ) → lower < shard → (stores_in s tables).job lower position ≡ None
+
+-- some jobs were run, up to those of a shard, and then one of it was not
+pub record StopsRun (tells : Bool) (s : Settings) (given : SettleStop) (old new : World) : Type 0 where
   pub shard : ℕ
   pub failed : RepairFailed
   pub jobs : List RanOn
-  pub between : Posting
+  pub between : World
   pub here : shard < s.shards
   pub given_is : given ≡ stop_of shard failed
   pub run : HaveRun tells s jobs old between
+  pub none : WhereTold tells (HaveNoneBelow s between.keepers.told shard)
   pub stops : IsNotRepaired tells s shard failed between new
-  pub cause : FailureHasCause failed old.scene new.scene
-  pub settles : WhereTold tells (SettlesLogs s old.scene.keepers.told new.scene.keepers.told)
+  pub cause : FailureHasCause failed old new
+  pub settles : WhereTold tells (SettlesLogs s old.keepers.told new.keepers.told)
 
 -- what came of all open jobs
-abbrev pub RunsJobs : Bool → Settings → Result ⊤ SettleStop → Posting → Posting → Type 0
+abbrev pub RunsJobs : Bool → Settings → Result ⊤ SettleStop → World → World → Type 0
 RunsJobs tells s (Ok done) old new = RunsAll tells s old new
 RunsJobs tells s (Err given) old new = StopsRun tells s given old new
 
@@ -250,32 +252,27 @@ RunsJobs tells s (Err given) old new = StopsRun tells s given old new
 abbrev pub AreSettling : Settings → Tables → Tables → Type 0
 AreSettling s old new = (jobs : List Owed) × Settling (types_of s.schema) (stores_in s old) (stores_in s new) jobs
 
--- no lower shard has an open job
-abbrev pub HaveNoneBelow : Settings → Tables → ℕ → Type 0
-HaveNoneBelow s tables shard = (lower position : ℕ) → lower < shard → (stores_in s tables).job lower position ≡ None
-
 -- the shard has no open job up to the position
 abbrev pub HasNoneUpTo : Settings → Tables → ℕ → ℕ → Type 0
 HasNoneUpTo s tables shard last = (position : ℕ) → position ≤ last → (stores_in s tables).job shard position ≡ None
 
 -- jobs were run, one after another, and no shard below has an open one
-pub record RunsTo (tells : Bool) (s : Settings) (shard : ℕ) (old new : Posting) : Type 0 where
+pub record RunsTo (tells : Bool) (s : Settings) (shard : ℕ) (old new : World) : Type 0 where
   pub jobs : List RanOn
   pub run : HaveRun tells s jobs old new
-  pub settling : WhereTold tells (AreSettling s old.scene.keepers.told new.scene.keepers.told)
-  pub none : WhereTold tells (HaveNoneBelow s new.scene.keepers.told shard)
-  pub link : IsLaterLink old.scene.link new.scene.link
-  pub keepers : IsLater old.scene.keepers new.scene.keepers
+  pub settling : WhereTold tells (AreSettling s old.keepers.told new.keepers.told)
+  pub none : WhereTold tells (HaveNoneBelow s new.keepers.told shard)
+  pub keepers : IsLater old.keepers new.keepers
 
 -- some more jobs of the shard were run, in whichever settle came to it
-pub record RunsMore (tells : Bool) (s : Settings) (shard : ℕ) (old new : Posting) : Type 0 where
-  pub more : (start : Posting) → RunsTo tells s shard start old → RunsTo tells s shard start new
+pub record RunsMore (tells : Bool) (s : Settings) (shard : ℕ) (old new : World) : Type 0 where
+  pub more : (start : World) → RunsTo tells s shard start old → RunsTo tells s shard start new
 
 -- what came of the jobs of the shard, in a settle that came to it
-abbrev pub RunsOn : Bool → Settings → ℕ → Result ⊤ SettleStop → Posting → Posting → Type 0
+abbrev pub RunsOn : Bool → Settings → ℕ → Result ⊤ SettleStop → World → World → Type 0
 RunsOn tells s shard (Ok done) start new = RunsTo tells s (shard + 1) start new
 RunsOn tells s shard (Err given) start new = StopsRun tells s given start new
 
 -- the jobs of the shard were run, in whichever settle came to it
-pub record RunsShard (tells : Bool) (s : Settings) (shard : ℕ) (result : Result ⊤ SettleStop) (old new : Posting) : Type 0 where
-  pub on : (start : Posting) → RunsTo tells s shard start old → RunsOn tells s shard result start new
+pub record RunsShard (tells : Bool) (s : Settings) (shard : ℕ) (result : Result ⊤ SettleStop) (old new : World) : Type 0 where
+  pub on : (start : World) → RunsTo tells s shard start old → RunsOn tells s shard result start new

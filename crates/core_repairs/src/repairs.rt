@@ -1,33 +1,32 @@
 //! A repair: a shard's first open job is merged from store to store and then ended.
-ghost use Rattle.std.specs.Prelude.{◌≡◌, ◌<◌, IfOk, IfSome};
+ghost use Rattle.std.specs.Prelude.{◌≡◌, ◌<◌, IfErr, IfOk, IfSome};
 ghost use Rattle.core_mail.specs.Inboxes.{AreInboxesOf};
-ghost use Rattle.core_model.specs.Consistent.{GoesOn, IsConsistent};
-ghost use Rattle.core_model.specs.Growing.{StoresGrow};
+ghost use Rattle.core_model.specs.Consistent.{IsConsistent};
 ghost use Rattle.core_model.specs.Jobs.{IsOwedJob, far_shard, job_on};
 ghost use Rattle.core_model.specs.Pens.{pens_of};
 ghost use Rattle.core_model.specs.States.{AreStatesOf};
 ghost use Rattle.core_model.specs.Stores.{AreStores, store_count};
 ghost use Rattle.core_nodes.specs.Repairs.{outside};
-ghost use Rattle.core_steps.specs.Posting.{CanPost, PostsOn, posting};
+ghost use Rattle.core_steps.specs.Posting.{CanPost, PostsOn};
+ghost use Rattle.core_steps.specs.World.{world};
 ghost use Rattle.core_repairs.specs.Repairs.{FailsAs, FindsFirst, RepairsFirst, RunsJob, TellsOfRepair};
-ghost use Rattle.core_steps.specs.Routes.{scene};
 ghost use Rattle.graph_model.specs.Told.{WhereTold};
+ghost use Rattle.shard_log.specs.View.{as_note};
 ghost use Rattle.shard_tables.specs.Refusals.{IsOfReads};
 ghost use Rattle.shard_tables.specs.Written.{LiesOn, StandsIn};
 ghost use Rattle.tao_keeper.specs.Given.{IsGivenJob};
 ghost use Rattle.tao_keeper.specs.KeeperState.{IsLater, KeepsTables};
 
-use core_mail::Mail;
 use core_model::{far_shard, masters_are_regions};
 use core_nodes::Fleet;
-use core_steps::tell_besides;
+use core_steps::Nodes;
 use edge_repair::{RepairRefusal, passed_on};
+use shard_log::Note;
 use shard_tables::StoreRefusal;
-use std::alloc::Global;
-use tao_base::Entry;
+use tao_base::{Entry, OutOfMemory};
 use tao_keeper::{Job, Keeper};
 use tao_link::Link;
-use topology::{Config, Topology};
+use topology::Config;
 
 /// A job that was run, and the entry that merged it; none where all of its records were at the other end.
 #[derive(Drop)]
@@ -56,33 +55,37 @@ impl From<RepairRefusal> for RepairFailed {
     }
 }
 
-/// Tells those who see a shard's log of an entry that a repair wrote there. Without memory for a note of the log nobody is told.
-fn tell_of_repair(
-    alloc: Global,
-    fleet: &mut Fleet,
-    mail: &mut Mail,
-    config: &Config,
-    topology: &Topology,
-    shard: u16,
-    wrote: &Option<Entry>,
-)
-    requires here { shard < config.now.shards }
-    requires states { AreStatesOf config.now topology.now }
+/// A note of a shard's log, taken before a repair writes there, for those who are to be told of it.
+fn note_before(fleet: &mut Fleet, config: &Config, shard: u16) -> Result<Note, RepairFailed>
     requires stores { AreStores config.now (store_count config.now) fleet.old.stores }
-    requires stands { IfSome wrote.now (StandsIn (pens_of fleet.old.stores shard)) }
-    requires lies { IfSome wrote.now (LiesOn (pens_of fleet.old.stores shard) shard) }
-    requires inboxes { AreInboxesOf config.now (pens_of fleet.old.stores) mail.old }
-    ensures told { TellsOfRepair topology.now shard wrote.now mail.old mail.new }
-    ensures inboxes { AreInboxesOf config.now (pens_of fleet.new.stores) mail.new }
+    requires here { shard < config.now.shards }
+    ensures note { IfOk result (λ note. note ≡ as_note (pens_of fleet.old.stores shard)) }
+    ensures refused { IfErr result (λ failed. failed ≡ RepairFailed.Refused RepairRefusal.OutOfMemory) }
     ensures same { fleet.new ≡ fleet.old }
 {
+    match fleet.note(config, shard) {
+        Ok(note) => Ok(note),
+        Err(OutOfMemory) => Err(RepairFailed::Refused(RepairRefusal::OutOfMemory)),
+    }
+}
+
+/// Tells those who see a shard's log of an entry that a repair wrote there, where there is one, with a note of that log, which is renewed for it.
+fn tell_of_repair(nodes: &mut Nodes, config: &Config, shard: u16, wrote: &Option<Entry>, note: Note)
+    requires here { shard < config.now.shards }
+    requires states { AreStatesOf config.now nodes.old.topology }
+    requires stores { AreStores config.now (store_count config.now) nodes.old.fleet.stores }
+    requires one_log { (pens_of nodes.old.fleet.stores shard).log ≡ note.log }
+    requires stands { IfSome wrote.now (StandsIn (pens_of nodes.old.fleet.stores shard)) }
+    requires lies { IfSome wrote.now (LiesOn (pens_of nodes.old.fleet.stores shard) shard) }
+    requires inboxes { AreInboxesOf config.now (pens_of nodes.old.fleet.stores) nodes.old.mail }
+    ensures told { TellsOfRepair nodes.old.topology shard wrote.now nodes.old.mail nodes.new.mail }
+    ensures inboxes { AreInboxesOf config.now (pens_of nodes.old.fleet.stores) nodes.new.mail }
+    ensures rest { nodes.new ≡ record nodes.old { mail = nodes.new.mail } }
+{
     let Some(entry) = wrote else { return };
-    let Ok(mut note) = fleet.note(config, shard) else {
-        return;
-    };
-    let region = topology.master(shard);
-    mail.send(alloc, config, topology, region, shard, entry, &mut note);
-    tell_besides(alloc, mail, config, topology, shard, entry, &mut note);
+    let mut note = nodes.fleet.renew(config, shard, note);
+    nodes.tell_followers(config, shard, entry, &mut note);
+    nodes.tell_besides(config, shard, entry, &mut note);
 }
 
 /// Why a job was not run which its store refused to give, or to end.
@@ -117,32 +120,31 @@ fn find_job<K: Keeper>(
 
 /// Merges a job at the store of the shard on which its records lie, over the link, and then ends it.
 fn merge_and_end<K: Keeper, L: Link>(
-    alloc: Global,
-    fleet: &mut Fleet,
+    nodes: &mut Nodes,
     config: &Config,
     keepers: &mut K,
     link: &mut L,
     shard: u16,
     job: &Job,
 ) -> Result<Option<Entry>, RepairFailed>
-    requires consistent { IsConsistent K.TELLS config.now (K.state keepers.old).told fleet.old }
+    requires ready { CanPost K.TELLS config.now (world nodes.old (K.state keepers.old) (L.shown link.old)) }
     requires here { shard < config.now.shards }
     requires there { far_shard job.now < config.now.shards }
     requires given { IsGivenJob job.now }
     requires owed { WhereTold K.TELLS (IsOwedJob config.now (K.state keepers.old).told (job_on shard job.now)) }
     ensures runs { RunsJob K.TELLS config.now (job_on shard job.now) result
         (outside (K.state keepers.old) (L.shown link.old)) (outside (K.state keepers.new) (L.shown link.new)) }
-    ensures stands { IfOk result (λ wrote. IfSome wrote (StandsIn (pens_of fleet.new.stores (far_shard job.now)))) }
-    ensures lies { IfOk result (λ wrote. IfSome wrote (LiesOn (pens_of fleet.new.stores (far_shard job.now)) (far_shard job.now))) }
-    ensures rest { fleet.new ≡ record fleet.old { stores = fleet.new.stores } }
-    ensures consistent { IsConsistent K.TELLS config.now (K.state keepers.new).told fleet.new }
-    ensures goes { GoesOn fleet.old fleet.new }
-    ensures grows { StoresGrow K.TELLS config.now (K.state keepers.old).told (K.state keepers.new).told }
-    ensures later { IsLater (K.state keepers.old) (K.state keepers.new) }
+    ensures stands { IfOk result (λ wrote. IfSome wrote (StandsIn (pens_of nodes.new.fleet.stores (far_shard job.now)))) }
+    ensures lies { IfOk result (λ wrote. IfSome wrote (LiesOn (pens_of nodes.new.fleet.stores (far_shard job.now)) (far_shard job.now))) }
+    ensures rest { nodes.new ≡ record nodes.old { fleet = record nodes.old.fleet { stores = nodes.new.fleet.stores } } }
+    ensures on { PostsOn K.TELLS config.now
+        (world nodes.old (K.state keepers.old) (L.shown link.old)) (world nodes.new (K.state keepers.new) (L.shown link.new)) }
 {
     masters_are_regions(config);
-    let repaired = fleet.merge_there(alloc, config, keepers, link, shard, job)?;
-    match fleet.end_job(config, keepers, shard, job) {
+    let repaired = nodes
+        .fleet
+        .merge_there(nodes.alloc, config, keepers, link, shard, job)?;
+    match nodes.fleet.end_job(config, keepers, shard, job) {
         Ok(()) => Ok(repaired.wrote),
         Err(refusal) => Err(failed_for(refusal)),
     }
@@ -150,38 +152,35 @@ fn merge_and_end<K: Keeper, L: Link>(
 
 /// Runs the first open job of a shard, where one is open: it is carried to the store of the shard on which its records lie, merged there, and ended
 /// once the answer came back. Of a new entry the followers of that shard's master region are told as after a write, and then the leader that the region
-/// prefers, where it is up. No leader takes part.
+/// prefers, where it is up. The note of the log that their messages carry was taken before the merge, so that a message is lost only as one of a write is.
+/// No leader takes part.
 ///
-/// Whatever fails leaves the job open, and at most merged, and nobody is told. `Refused` tells `LinkFault` only where the link's count of faults rose,
-/// `KeeperFault` only where the keepers' did, and `LogFull` where the other shard's log has no room for the entry; `NoServer` comes where that
-/// shard isn't configured. Two carries, two calls of the keeper and what a merge costs.
+/// Whatever fails leaves the job open, and at most merged, and nobody is told; without memory for that note nothing is done. `Refused` tells `LinkFault`
+/// only where the link's count of faults rose, `KeeperFault` only where the keepers' did, and `LogFull` where the other shard's log has no room for the
+/// entry; `NoServer` comes where that shard isn't configured. Two carries, two calls of the keeper and what a merge costs.
 pub fn repair_first<K: Keeper, L: Link>(
-    alloc: Global,
-    fleet: &mut Fleet,
-    mail: &mut Mail,
+    nodes: &mut Nodes,
     config: &Config,
-    topology: &Topology,
     keepers: &mut K,
     link: &mut L,
     shard: u16,
 ) -> Result<Option<Ran>, RepairFailed>
-    requires ready { CanPost K.TELLS config.now (posting (scene fleet.old (K.state keepers.old) (L.shown link.old)) mail.old topology.now) }
+    requires ready { CanPost K.TELLS config.now (world nodes.old (K.state keepers.old) (L.shown link.old)) }
     requires here { shard < config.now.shards }
     ensures repairs { RepairsFirst K.TELLS config.now shard result
-        (posting (scene fleet.old (K.state keepers.old) (L.shown link.old)) mail.old topology.now)
-        (posting (scene fleet.new (K.state keepers.new) (L.shown link.new)) mail.new topology.now) }
+        (world nodes.old (K.state keepers.old) (L.shown link.old)) (world nodes.new (K.state keepers.new) (L.shown link.new)) }
     ensures on { PostsOn K.TELLS config.now
-        (posting (scene fleet.old (K.state keepers.old) (L.shown link.old)) mail.old topology.now)
-        (posting (scene fleet.new (K.state keepers.new) (L.shown link.new)) mail.new topology.now) }
+        (world nodes.old (K.state keepers.old) (L.shown link.old)) (world nodes.new (K.state keepers.new) (L.shown link.new)) }
 {
-    let found = find_job(fleet, config, keepers, shard)?;
+    let found = find_job(&mut nodes.fleet, config, keepers, shard)?;
     let Some(job) = found else { return Ok(None) };
     let far = far_shard(&job);
     if far >= config.shards {
         return Err(RepairFailed::NoServer);
     }
     masters_are_regions(config);
-    let wrote = merge_and_end(alloc, fleet, config, keepers, link, shard, &job)?;
-    tell_of_repair(alloc, fleet, mail, config, topology, far, &wrote);
+    let note = note_before(&mut nodes.fleet, config, far)?;
+    let wrote = merge_and_end(nodes, config, keepers, link, shard, &job)?;
+    tell_of_repair(nodes, config, far, &wrote, note);
     Ok(Some(Ran { job, wrote }))
 }

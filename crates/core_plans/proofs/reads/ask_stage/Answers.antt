@@ -1,5 +1,6 @@
 use Rattle.std.specs.Prelude.{Err, Ok}
-use Rattle.core_steps.specs.Routes.{Scene, scene}
+use Rattle.core_steps.specs.World.{World, world}
+use Rattle.replies.specs.declared.reply.Reply.TheVariants.{Refused}
 use Rattle.core_plans.proofs.HeldReadStages.{asks_done, asks_lost, taken_since}
 use Rattle.core_plans.proofs.reads.ask_stage.Goals as goal
 use Rattle.read_plan.specs.declared.stages.ReadResult.TheVariants as came
@@ -7,8 +8,8 @@ use Rattle.read_plan.specs.declared.stages.ReadResult.TheVariants as came
 pub returns-in-Ok : goal.returns-in-Ok
 returns-in-Ok g c =
     let end = c.ask_over.new in
-    let old : Scene = scene c.args.fleet.now (g.K.Keeper.state c.args.keepers.now) (g.L.Link.shown c.args.link.now) in
-    let new : Scene = scene end.fleet (g.K.Keeper.state end.keepers) (g.L.Link.shown end.link) in
+    let old : World = world c.args.nodes.now (g.K.Keeper.state c.args.keepers.now) (g.L.Link.shown c.args.link.now) in
+    let new : World = world end.self (g.K.Keeper.state end.keepers) (g.L.Link.shown end.link) in
     asks_done g.K.Keeper.TELLS c.args.config.now c.args.leader c.args.plan.now c.take_since.new.plan old new c.requires.read c.ask_over.ensures.on
     c.in-Ok.given c.follower.result c.query-query.result.now c.floor-floor.result c.requires.stage
     (record { follower_is = c.follower.ensures; query_is = c.query-query.ensures; floor_is = c.floor-floor.ensures }) c.in-Ok.ensures.given
@@ -18,11 +19,11 @@ returns-in-Ok g c =
 pub returns-in-Err : goal.returns-in-Err
 returns-in-Err g c =
     let end = c.ask_over.new in
-    let old : Scene = scene c.args.fleet.now (g.K.Keeper.state c.args.keepers.now) (g.L.Link.shown c.args.link.now) in
-    let mid : Scene = scene end.fleet (g.K.Keeper.state end.keepers) (g.L.Link.shown end.link) in
+    let old : World = world c.args.nodes.now (g.K.Keeper.state c.args.keepers.now) (g.L.Link.shown c.args.link.now) in
+    let mid : World = world end.self (g.K.Keeper.state end.keepers) (g.L.Link.shown end.link) in
     asks_lost g.K.Keeper.TELLS c.args.config.now c.args.leader c.args.plan.now c.take_since-in-Err.new.plan old mid c.end_ask_of.new.fleet
-    c.requires.read c.ask_over.ensures.on c.end_ask_of.ensures c.in-Err.reply c.follower.result c.query-query.result.now c.floor-floor.result
+    c.requires.read c.ask_over.ensures.on c.end_ask_of.ensures c.in-Err.refusal c.follower.result c.query-query.result.now c.floor-floor.result
     c.requires.stage (record { follower_is = c.follower.ensures; query_is = c.query-query.ensures; floor_is = c.floor-floor.ensures })
     c.in-Err.ensures.err
-    (taken_since c.args.plan.now c.take_since-in-Err.new.plan (came.Ask (Err c.in-Err.reply)) c.so_far-since.result old mid c.so_far-since.ensures
+    (taken_since c.args.plan.now c.take_since-in-Err.new.plan (came.Ask (Err (Refused c.in-Err.refusal))) c.so_far-since.result old mid c.so_far-since.ensures
     c.take_since-in-Err.ensures)

@@ -10,8 +10,8 @@ returns-in-Ok g c =
     let here = c.keep.ensures in
     let done = c.in-Ok.ensures in
     let found = c.in-Ok.found in
-    keeps_done g.K.Keeper.TELLS c.args.config.now c.args.leader c.args.plan.now c.take.new.self (g.K.Keeper.state c.args.keepers.now)
-    (g.L.Link.shown c.args.link.now) c.args.fleet.now c.keep.new.self
+    keeps_done g.K.Keeper.TELLS c.args.config.now c.args.leader c.args.plan.now c.take.new.self c.args.nodes.now
+    (g.K.Keeper.state c.args.keepers.now) (g.L.Link.shown c.args.link.now) c.args.nodes.now.fleet c.keep.new.self
     (record {
       masters = c.masters_are_regions.ensures;
       consistent = c.requires.consistent;
@@ -19,7 +19,7 @@ returns-in-Ok g c =
       rest = here.rest;
       fleet = here.fleet;
       goes = here.goes;
-      reaches = keep_reaches (g.K.Keeper.state c.args.keepers.now).told c.follower-follower.result c.args.fleet.now c.keep.new.self here.rest
+      reaches = keep_reaches (g.K.Keeper.state c.args.keepers.now).told c.follower-follower.result c.args.nodes.now.fleet c.keep.new.self here.rest
           (types_of c.args.config.now.schema) (wanted c.query-query.result.now c.floor.result) c.ask.result c.in-Some.fill found.0 found.1 done.keeps;
     })
     c.fill.new.self c.in-Some.fill found.0 found.1 c.follower-follower.result c.query-query.result.now c.floor.result c.ask.result
@@ -30,8 +30,8 @@ returns-in-Ok g c =
 pub returns-in-Err : goal.returns-in-Err
 returns-in-Err g c =
     let here = c.keep.ensures in
-    keeps_lost g.K.Keeper.TELLS c.args.config.now c.args.leader c.args.plan.now c.take-in-Err.new.self (g.K.Keeper.state c.args.keepers.now)
-    (g.L.Link.shown c.args.link.now) c.args.fleet.now c.keep.new.self
+    keeps_lost g.K.Keeper.TELLS c.args.config.now c.args.leader c.args.plan.now c.take-in-Err.new.self c.args.nodes.now
+    (g.K.Keeper.state c.args.keepers.now) (g.L.Link.shown c.args.link.now) c.args.nodes.now.fleet c.keep.new.self
     (record {
       masters = c.masters_are_regions.ensures;
       consistent = c.requires.consistent;
@@ -39,7 +39,7 @@ returns-in-Err g c =
       rest = here.rest;
       fleet = here.fleet;
       goes = here.goes;
-      reaches = end_reaches (g.K.Keeper.state c.args.keepers.now).told c.follower-follower.result c.args.fleet.now c.keep.new.self here.rest
+      reaches = end_reaches (g.K.Keeper.state c.args.keepers.now).told c.follower-follower.result c.args.nodes.now.fleet c.keep.new.self here.rest
           c.ask.result c.in-Err.ensures.err;
     })
     c.fill.new.self c.in-Some.fill c.out_of_memory.result c.follower-follower.result c.ask.result (sym c.fill.ensures.fill ∙ c.in-Some.is)
@@ -47,6 +47,6 @@ returns-in-Err g c =
 
 pub returns-in-None : goal.returns-in-None
 returns-in-None g c =
-    hands_done g.K.Keeper.TELLS c.args.config.now c.args.leader c.args.plan.now c.take-in-None.new.self (g.K.Keeper.state c.args.keepers.now)
-    (g.L.Link.shown c.args.link.now) c.args.fleet.now c.end_ask_of.new.fleet c.fill.new.self c.masters_are_regions.ensures c.requires.consistent c.requires.read
+    hands_done g.K.Keeper.TELLS c.args.config.now c.args.leader c.args.plan.now c.take-in-None.new.self c.args.nodes.now
+    (g.K.Keeper.state c.args.keepers.now) (g.L.Link.shown c.args.link.now) c.args.nodes.now.fleet c.end_ask_of.new.fleet c.fill.new.self c.masters_are_regions.ensures c.requires.consistent c.requires.read
     (sym c.fill.ensures.fill ∙ c.in-None.is) c.requires.stage c.fill.ensures.handed c.end_ask_of.ensures c.take-in-None.ensures

@@ -11,8 +11,8 @@ returns-in-Ok g c =
     let first = c.in-Ok.field-0 in
     let here = c.look.ensures in
     let done = c.in-Ok.ensures in
-    looks_done g.K.Keeper.TELLS c.args.config.now c.args.leader c.args.plan.now c.take.new.self (g.K.Keeper.state c.args.keepers.now)
-    (g.L.Link.shown c.args.link.now) c.args.fleet.now c.look.new.self
+    looks_done g.K.Keeper.TELLS c.args.config.now c.args.leader c.args.plan.now c.take.new.self c.args.nodes.now
+    (g.K.Keeper.state c.args.keepers.now) (g.L.Link.shown c.args.link.now) c.args.nodes.now.fleet c.look.new.self
     (record {
       masters = c.masters_are_regions.ensures;
       consistent = c.requires.consistent;
@@ -20,7 +20,7 @@ returns-in-Ok g c =
       rest = here.rest;
       fleet = here.fleet;
       goes = here.goes;
-      reaches = look_reaches (g.K.Keeper.state c.args.keepers.now).told c.follower.result c.args.fleet.now c.look.new.self here.rest
+      reaches = look_reaches (g.K.Keeper.state c.args.keepers.now).told c.follower.result c.args.nodes.now.fleet c.look.new.self here.rest
           (types_of c.args.config.now.schema) (wanted c.query.result.now c.floor.result) first.look first.ask done.looks;
     })
     c.set_ask.new.self first.look first.ask c.follower.result c.query.result.now c.floor.result c.requires.stage c.requires.plain
@@ -30,8 +30,8 @@ returns-in-Ok g c =
 pub returns-in-Err : goal.returns-in-Err
 returns-in-Err g c =
     let here = c.look.ensures in
-    looks_lost g.K.Keeper.TELLS c.args.config.now c.args.leader c.args.plan.now c.take-in-Err.new.self (g.K.Keeper.state c.args.keepers.now)
-    (g.L.Link.shown c.args.link.now) c.args.fleet.now c.look.new.self
+    looks_lost g.K.Keeper.TELLS c.args.config.now c.args.leader c.args.plan.now c.take-in-Err.new.self c.args.nodes.now
+    (g.K.Keeper.state c.args.keepers.now) (g.L.Link.shown c.args.link.now) c.args.nodes.now.fleet c.look.new.self
     (record {
       masters = c.masters_are_regions.ensures;
       consistent = c.requires.consistent;

@@ -7,8 +7,8 @@ use Rattle.tao_schema.specs.Schema.{types_of}
 pub returns : goal.returns
 returns g c =
     let done = c.ask_at_once-ask.ensures in
-    asks_at_once g.K.Keeper.TELLS c.args.config.now c.args.leader c.args.plan.now c.take.new.self (g.K.Keeper.state c.args.keepers.now)
-    (g.L.Link.shown c.args.link.now) c.args.fleet.now c.ask_at_once-ask.new.self
+    asks_at_once g.K.Keeper.TELLS c.args.config.now c.args.leader c.args.plan.now c.take.new.self c.args.nodes.now
+    (g.K.Keeper.state c.args.keepers.now) (g.L.Link.shown c.args.link.now) c.args.nodes.now.fleet c.ask_at_once-ask.new.self
     (record {
       masters = c.masters_are_regions.ensures;
       consistent = c.requires.consistent;
@@ -16,7 +16,7 @@ returns g c =
       rest = done.rest;
       fleet = done.fleet;
       goes = done.goes;
-      reaches = ask_reaches (g.K.Keeper.state c.args.keepers.now).told c.follower.result c.args.fleet.now c.ask_at_once-ask.new.self done.rest
+      reaches = ask_reaches (g.K.Keeper.state c.args.keepers.now).told c.follower.result c.args.nodes.now.fleet c.ask_at_once-ask.new.self done.rest
           (types_of c.args.config.now.schema) c.query.result.now c.ask_at_once-ask.result done.asks;
     })
     c.set_ask.new.self c.ask_at_once-ask.result c.follower.result c.query.result.now c.args.plan.now.floor c.requires.stage c.requires.critical

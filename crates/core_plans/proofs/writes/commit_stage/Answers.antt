@@ -1,6 +1,6 @@
 use Rattle.std.proofs.Common.{◌≡◌, arith, subst, sym}
-use Rattle.core_steps.specs.Routes.{hops_between, scene}
-use Rattle.core_steps.specs.Posting.{Posting, posting}
+use Rattle.core_steps.specs.Routes.{hops_between}
+use Rattle.core_steps.specs.World.{World, world}
 use Rattle.core_plans.specs.HeldWrites.{IsTakenAs}
 use Rattle.core_plans.proofs.HeldWriteStages.{commits_pass}
 use Rattle.core_plans.proofs.writes.commit_stage.Goals as goal
@@ -15,14 +15,14 @@ returns g c =
     let wrote = c.commit_over-wrote.result in
     let over = c.commit_over-wrote.ensures in
     let outcome = c.answered-outcome.result in
-    let old : Posting = posting (scene c.args.fleet.now (state c.args.keepers.now) (shown c.args.link.now)) c.args.mail.now c.args.topology.now in
-    let new : Posting = posting (scene end.fleet (state end.keepers) (shown end.link)) end.mail c.args.topology.now in
-    let hops : c.saturating_sub-hops.result ≡ hops_between old.scene.link new.scene.link =
+    let old : World = world c.args.nodes.now (state c.args.keepers.now) (shown c.args.link.now) in
+    let new : World = world end.self (state end.keepers) (shown end.link) in
+    let hops : c.saturating_sub-hops.result ≡ hops_between old.link new.link =
     omega (arith, c.saturating_sub-hops.ensures, c.carries.ensures, c.carries-carries.ensures) in
     commits_pass g.K.Keeper.TELLS s c.args.leader p c.take.new.self old new c.requires.write
     over.on
-    c.follower.result c.origin.result c.write.result.now wrote outcome c.saturating_sub-hops.result c.requires.stage
-    (record { follower_is = c.follower.ensures; origin_is = c.origin.ensures; write_is = c.write.ensures })
+    c.follower.result c.origin-origin.result c.write-write.result.now wrote outcome c.saturating_sub-hops.result c.requires.stage
+    (record { follower_is = c.follower.ensures; origin_is = c.origin-origin.ensures; write_is = c.write-write.ensures })
     (record { committed = over.committed; apply = over.apply; job = over.job; refused = over.refused })
-    (subst (λ w. IsTakenAs s w wrote outcome) c.write-2.ensures c.answered-outcome.ensures)
+    (subst (λ w. IsTakenAs s w wrote outcome) c.write.ensures c.answered-outcome.ensures)
     hops (c.take.ensures.next (sym c.requires.stage))

@@ -1,8 +1,8 @@
 use Rattle.std.proofs.Common.{◌≡◌, ◌∙◌, ap, arith, sym}
 use Rattle.std.specs.Option.{option_copied}
 use Rattle.core_model.specs.Jobs.{CanBeMerged}
-use Rattle.core_steps.specs.Routes.{hops_between, scene}
-use Rattle.core_steps.specs.Posting.{Posting, posting}
+use Rattle.core_steps.specs.Routes.{hops_between}
+use Rattle.core_steps.specs.World.{World, world}
 use Rattle.core_plans.proofs.HeldWriteStages.{at_inverse, merges_pass, no_job, of_job}
 use Rattle.core_plans.proofs.writes.inverse_stage.Goals as goal
 use Rattle.tao_base.specs.Writes.{write_shard}
@@ -25,9 +25,9 @@ returns g c =
     let result = c.merge_over-result.result in
     let end = c.merge_over-result.new in
     let over = c.merge_over-result.ensures in
-    let old : Posting = posting (scene c.args.fleet.now (state c.args.keepers.now) (shown c.args.link.now)) c.args.mail.now c.args.topology.now in
-    let new : Posting = posting (scene end.fleet (state end.keepers) (shown end.link)) end.mail c.args.topology.now in
-    let hops : c.saturating_sub-hops.result ≡ hops_between old.scene.link new.scene.link =
+    let old : World = world c.args.nodes.now (state c.args.keepers.now) (shown c.args.link.now) in
+    let new : World = world end.self (state end.keepers) (shown end.link) in
+    let hops : c.saturating_sub-hops.result ≡ hops_between old.link new.link =
     omega (arith, c.saturating_sub-hops.ensures, c.carries.ensures, c.carries-carries.ensures) in
     merges_pass g.K.Keeper.TELLS c.args.config.now c.args.leader p c.take.new.self old new c.requires.write
     over.on

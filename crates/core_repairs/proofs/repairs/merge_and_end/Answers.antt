@@ -1,11 +1,12 @@
-use Rattle.std.proofs.Common.{Err, ap}
+use Rattle.std.proofs.Common.{Err, ap, arith, subst, sym}
 use Rattle.std.proofs.lemmas.Result.{err_from_is_err_and}
 use Rattle.counts.proofs.Rises.{Rose-earlier}
+use Rattle.core_model.specs.Consistent.{GoesOn}
 use Rattle.core_model.specs.Jobs.{job_on}
 use Rattle.core_nodes.specs.Repairs.{outside}
 use Rattle.core_nodes.proofs.GrowingLemmas.{stores_in_turn}
 use Rattle.core_steps.proofs.MergeLemmas.{end_grows}
-use Rattle.core_repairs.proofs.RepairLemmas.{refuses_end, refuses_merge}
+use Rattle.core_repairs.proofs.RepairLemmas.{merges_on, posts_merged, refuses_end, refuses_merge}
 use Rattle.core_repairs.proofs.repairs.merge_and_end.Goals as goal
 
 pub returns-in_err-repaired-clause-runs : goal.returns-in_err-repaired-clause-runs
@@ -16,22 +17,6 @@ returns-in_err-repaired-clause-runs g c =
     rw p.1 (refuses_merge g.K.Keeper.TELLS c.args.config.now (job_on c.args.shard c.args.job.now)
     (outside (state c.args.keepers.now) (shown c.args.link.now)) (outside (state c.merge_there.new.keepers) (shown c.merge_there.new.link))
     c.in_err-repaired.field-0.0 p.0 p.2 c.in_err-repaired.ensures.merges (λ is. c.in_err-repaired.ensures.calls.failed (ap (λ r. Err r) is)))
-
-pub returns-in-Ok-clause-grows : goal.returns-in-Ok-clause-grows
-returns-in-Ok-clause-grows g c =
-    let state = g.K.Keeper.state in
-    stores_in_turn g.K.Keeper.TELLS c.args.config.now (state c.args.keepers.now).told (state c.merge_there.new.keepers).told
-    (state c.end_job.new.keepers).told c.merge_there.ensures.grows
-    (end_grows g.K.Keeper.TELLS c.args.config.now (state c.merge_there.new.keepers).told (state c.end_job.new.keepers).told c.args.shard
-    c.args.job.now.position c.end_job.result c.masters_are_regions.ensures c.requires.here c.end_job.ensures.logs c.end_job.ensures.ends)
-
-pub returns-in-Err-clause-grows : goal.returns-in-Err-clause-grows
-returns-in-Err-clause-grows g c =
-    let state = g.K.Keeper.state in
-    stores_in_turn g.K.Keeper.TELLS c.args.config.now (state c.args.keepers.now).told (state c.merge_there.new.keepers).told
-    (state c.end_job.new.keepers).told c.merge_there.ensures.grows
-    (end_grows g.K.Keeper.TELLS c.args.config.now (state c.merge_there.new.keepers).told (state c.end_job.new.keepers).told c.args.shard
-    c.args.job.now.position c.end_job.result c.masters_are_regions.ensures c.requires.here c.end_job.ensures.logs c.end_job.ensures.ends)
 
 pub returns-in-Err-clause-runs : goal.returns-in-Err-clause-runs
 returns-in-Err-clause-runs g c =
@@ -48,3 +33,52 @@ returns-in-Err-clause-runs g c =
     })
     (λ is. Rose-earlier old.keepers.faults (state c.merge_there.new.keepers).faults new.keepers.faults c.merge_there.ensures.calls.faults
     (c.in-Err.ensures.calls.failed (ap (λ r. Err r) is)))
+
+pub returns-in_err-repaired-clause-on : goal.returns-in_err-repaired-clause-on
+returns-in_err-repaired-clause-on g c =
+    let merges = c.merge_there.ensures in
+    let old = outside (g.K.Keeper.state c.args.keepers.now) (g.L.Link.shown c.args.link.now) in
+    let mid = outside (g.K.Keeper.state c.merge_there.new.keepers) (g.L.Link.shown c.merge_there.new.link) in
+    posts_merged g.K.Keeper.TELLS c.args.config.now c.args.nodes.now old.keepers mid.keepers c.merge_there.new.self old.link mid.link c.requires.ready
+    merges.consistent merges.goes merges.grows (record { calls = merges.calls.calls; faults = merges.calls.faults })
+    (merges_on g.K.Keeper.TELLS c.args.config.now (job_on c.args.shard c.args.job.now) c.merge_there.result old mid merges.merges)
+
+pub returns-in-Ok-clause-on : goal.returns-in-Ok-clause-on
+returns-in-Ok-clause-on g c =
+    let tells = g.K.Keeper.TELLS in
+    let state = g.K.Keeper.state in
+    let shown = g.L.Link.shown in
+    let s = c.args.config.now in
+    let was = c.args.nodes.now in
+    let merges = c.merge_there.ensures in
+    let ends = c.end_job.ensures in
+    let old = outside (state c.args.keepers.now) (shown c.args.link.now) in
+    let mid = outside (state c.merge_there.new.keepers) (shown c.merge_there.new.link) in
+    let new = state c.end_job.new.keepers in
+    posts_merged tells s was old.keepers new c.end_job.new.self old.link mid.link c.requires.ready ends.consistent
+    (subst (GoesOn was.fleet) (sym ends.same) merges.goes)
+    (stores_in_turn tells s old.keepers.told mid.keepers.told new.told merges.grows
+    (end_grows tells s mid.keepers.told new.told c.args.shard c.args.job.now.position c.end_job.result c.masters_are_regions.ensures c.requires.here
+    ends.logs ends.ends))
+    (record { calls = omega (arith, merges.calls.calls, ends.calls.calls); faults = omega (arith, merges.calls.faults, ends.calls.faults) })
+    (merges_on tells s (job_on c.args.shard c.args.job.now) c.merge_there.result old mid merges.merges)
+
+pub returns-in-Err-clause-on : goal.returns-in-Err-clause-on
+returns-in-Err-clause-on g c =
+    let tells = g.K.Keeper.TELLS in
+    let state = g.K.Keeper.state in
+    let shown = g.L.Link.shown in
+    let s = c.args.config.now in
+    let was = c.args.nodes.now in
+    let merges = c.merge_there.ensures in
+    let ends = c.end_job.ensures in
+    let old = outside (state c.args.keepers.now) (shown c.args.link.now) in
+    let mid = outside (state c.merge_there.new.keepers) (shown c.merge_there.new.link) in
+    let new = state c.end_job.new.keepers in
+    posts_merged tells s was old.keepers new c.end_job.new.self old.link mid.link c.requires.ready ends.consistent
+    (subst (GoesOn was.fleet) (sym ends.same) merges.goes)
+    (stores_in_turn tells s old.keepers.told mid.keepers.told new.told merges.grows
+    (end_grows tells s mid.keepers.told new.told c.args.shard c.args.job.now.position c.end_job.result c.masters_are_regions.ensures c.requires.here
+    ends.logs ends.ends))
+    (record { calls = omega (arith, merges.calls.calls, ends.calls.calls); faults = omega (arith, merges.calls.faults, ends.calls.faults) })
+    (merges_on tells s (job_on c.args.shard c.args.job.now) c.merge_there.result old mid merges.merges)

@@ -1,11 +1,10 @@
 use Rattle.std.proofs.Common.{Ok, refl, ap, subst}
 use Rattle.tao_base.specs.EdgeTypes.{InversesMatch}
 use Rattle.tao_schema.specs.Schema.{types_of}
-use Rattle.core_steps.specs.Posting.{posting}
+use Rattle.core_steps.specs.World.{world}
 use Rattle.core_repairs.specs.Repairs.{FindsNoJob, IsRepaired, RepairsFirst}
-use Rattle.core_steps.specs.Routes.{scene}
 use Rattle.core_steps.proofs.PostsLemmas.{can_post_on, posts_none, posts_trans}
-use Rattle.core_repairs.proofs.RunLemmas.{first_leaves, given_again, link_stays, link_trans, no_more, none_at_zero, none_left, not_again}
+use Rattle.core_repairs.proofs.RunLemmas.{first_leaves, given_again, no_more, none_at_zero, none_left, not_again}
 use Rattle.core_repairs.proofs.RunLemmas.{rest_trans, runs_one, stops_run}
 use Rattle.core_repairs.proofs.runs.run_shard.Goals as goal
 
@@ -13,19 +12,18 @@ pub loop-found-init : goal.loop-found-init
 loop-found-init g c =
     let state = g.K.Keeper.state in
     let shown = g.L.Link.shown in
-    let start = posting (scene c.args.fleet.now (state c.args.keepers.now) (shown c.args.link.now)) c.args.mail.now c.args.topology.now in
+    let start = world c.args.nodes.now (state c.args.keepers.now) (shown c.args.link.now) in
     record {
       runs = record { more = λ begin so. so };
       none =
           none_at_zero g.K.Keeper.TELLS c.args.config.now (state c.args.keepers.now).told c.args.shard c.requires.ready.consistent.stores.kept;
       rest = refl;
       on = posts_none g.K.Keeper.TELLS c.args.config.now start c.requires.ready;
-      link = link_stays (shown c.args.link.now) (shown c.args.link.now) refl;
     }
 
 pub repair_first-requires-clause-ready : goal.repair_first-requires-clause-ready
 repair_first-requires-clause-ready g c =
-    can_post_on g.K.Keeper.TELLS c.args.config.now _ _ c.requires.ready c.loop-found.invariant.on refl
+    can_post_on g.K.Keeper.TELLS c.args.config.now _ _ c.requires.ready c.loop-found.invariant.on
 
 pub loop-found-preserved : goal.loop-found-preserved
 loop-found-preserved g c =
@@ -35,33 +33,30 @@ loop-found-preserved g c =
     let s = c.args.config.now in
     let shard = c.args.shard in
     let was = c.loop-found.invariant in
-    let start = posting (scene c.args.fleet.now (state c.args.keepers.now) (shown c.args.link.now)) c.args.mail.now c.args.topology.now in
-    let now = posting (scene c.loop-found.fleet (state c.loop-found.keepers) (shown c.loop-found.link)) c.loop-found.mail c.args.topology.now in
-    let new = posting (scene c.repair_first.new.fleet (state c.repair_first.new.keepers) (shown c.repair_first.new.link)) c.repair_first.new.mail
-    c.args.topology.now in
+    let start = world c.args.nodes.now (state c.args.keepers.now) (shown c.args.link.now) in
+    let now = world c.loop-found.nodes (state c.loop-found.keepers) (shown c.loop-found.link) in
+    let new = world c.repair_first.new.nodes (state c.repair_first.new.keepers) (shown c.repair_first.new.link) in
     let ran = c.in-Some.ran in
     let is : IsRepaired tells s shard ran now new =
     subst (λ f. RepairsFirst tells s shard (Ok f) now new) c.in-Some.is c.in-Ok.ensures.repairs in
     let match = subst (λ k. InversesMatch (types_of k)) (ap (λ s. s.schema) c.config.view_is) c.inverses_match.ensures in
-    let leaves = first_leaves tells s shard now new c.repair_first.result c.repair_first.ensures.repairs in
     record {
       runs = record {
         more = λ begin so.
             runs_one tells s shard now new ran match was.on.consistent.stores.kept is c.repair_first.ensures.on.later begin (was.runs.more begin so);
       };
       none = none_left tells s shard now new ran match was.on.consistent.stores.kept is;
-      rest = rest_trans c.args.fleet.now c.loop-found.fleet c.repair_first.new.fleet was.rest leaves.fleet;
+      rest = rest_trans start.fleet now.fleet new.fleet was.rest
+          (first_leaves tells s shard now new c.repair_first.result c.repair_first.ensures.repairs);
       on = posts_trans tells s start now new was.on c.repair_first.ensures.on;
-      link = link_trans (shown c.args.link.now) (shown c.loop-found.link) (shown c.repair_first.new.link) was.link leaves.link;
     }
 
 pub returns-in-Err-clause-runs : goal.returns-in-Err-clause-runs
 returns-in-Err-clause-runs g c =
     let state = g.K.Keeper.state in
     let shown = g.L.Link.shown in
-    let now = posting (scene c.loop-found.fleet (state c.loop-found.keepers) (shown c.loop-found.link)) c.loop-found.mail c.args.topology.now in
-    let new = posting (scene c.repair_first.new.fleet (state c.repair_first.new.keepers) (shown c.repair_first.new.link)) c.repair_first.new.mail
-    c.args.topology.now in
+    let now = world c.loop-found.nodes (state c.loop-found.keepers) (shown c.loop-found.link) in
+    let new = world c.repair_first.new.nodes (state c.repair_first.new.keepers) (shown c.repair_first.new.link) in
     record {
       on = λ begin so.
           stops_run g.K.Keeper.TELLS c.args.config.now c.args.shard now new c.in-Err.failed c.stop_of.result c.requires.here c.stop_of.ensures
@@ -77,9 +72,8 @@ returns-in_default-clause-runs g c =
     let state = g.K.Keeper.state in
     let shown = g.L.Link.shown in
     let s = c.args.config.now in
-    let now = posting (scene c.loop-found.fleet (state c.loop-found.keepers) (shown c.loop-found.link)) c.loop-found.mail c.args.topology.now in
-    let new = posting (scene c.repair_first.new.fleet (state c.repair_first.new.keepers) (shown c.repair_first.new.link)) c.repair_first.new.mail
-    c.args.topology.now in
+    let now = world c.loop-found.nodes (state c.loop-found.keepers) (shown c.loop-found.link) in
+    let new = world c.repair_first.new.nodes (state c.repair_first.new.keepers) (shown c.repair_first.new.link) in
     let finds : FindsNoJob tells s c.args.shard now new =
     subst (λ f. RepairsFirst tells s c.args.shard (Ok f) now new) c.in_default.is c.in-Ok.ensures.repairs in
     record {
@@ -95,9 +89,8 @@ returns-then-position-last-clause-runs g c =
     let s = c.args.config.now in
     let shard = c.args.shard in
     let was = c.loop-found.invariant in
-    let now = posting (scene c.loop-found.fleet (state c.loop-found.keepers) (shown c.loop-found.link)) c.loop-found.mail c.args.topology.now in
-    let new = posting (scene c.repair_first.new.fleet (state c.repair_first.new.keepers) (shown c.repair_first.new.link)) c.repair_first.new.mail
-    c.args.topology.now in
+    let now = world c.loop-found.nodes (state c.loop-found.keepers) (shown c.loop-found.link) in
+    let new = world c.repair_first.new.nodes (state c.repair_first.new.keepers) (shown c.repair_first.new.link) in
     let ran = c.in-Some.ran in
     let is : IsRepaired tells s shard ran now new =
     subst (λ f. RepairsFirst tells s shard (Ok f) now new) c.in-Some.is c.in-Ok.ensures.repairs in

@@ -1,8 +1,8 @@
-use Rattle.std.proofs.Common.{◌≡◌, ◌-◌, ◌^◌}
-use Rattle.core_nodes.specs.Settling.{IsLaterLink}
-use Rattle.core_steps.specs.Posting.{PostsOn, posting}
+use Rattle.std.proofs.Common.{◌-◌, ◌^◌}
+use Rattle.core_steps.specs.Posting.{PostsOn}
+use Rattle.core_steps.specs.World.{world}
 use Rattle.core_repairs.specs.Repairs.{HasNoneUpTo, RunsMore}
-use Rattle.core_steps.specs.Routes.{scene}
+use Rattle.core_repairs.proofs.RunLemmas.{ChangesStoresAlone}
 use Rattle.graph_model.specs.Told.{WhereTold}
 use Rattle.core_repairs.proofs.runs.run_shard.Given as goal
 
@@ -12,14 +12,13 @@ invariant-loop-found g l =
     let tells = g.K.Keeper.TELLS in
     let keepers = g.K.Keeper.state in
     let shown = g.L.Link.shown in
-    let start = posting (scene l.fn.fleet (keepers l.fn.keepers) (shown l.fn.link)) l.fn.mail l.topology in
-    let now = posting (scene l.fleet (keepers l.keepers) (shown l.link)) l.mail l.topology in
+    let start = world l.fn.nodes (keepers l.fn.keepers) (shown l.fn.link) in
+    let now = world l.nodes (keepers l.keepers) (shown l.link) in
     record {
       runs : RunsMore tells l.config l.shard start now;
       none : WhereTold tells (HasNoneUpTo l.config (keepers l.keepers).told l.shard l.last);
-      rest : l.fleet ≡ record l.fn.fleet { stores = l.fleet.stores };
+      rest : ChangesStoresAlone l.fn.nodes.fleet l.nodes.fleet;
       on : PostsOn tells l.config start now;
-      link : IsLaterLink (shown l.fn.link) (shown l.link);
     }
 
 abbrev pub decreases-loop-found : goal.decreases-loop-found

@@ -15,8 +15,9 @@ use Rattle.core_plans.specs.LedBy.{led_by}
 use Rattle.core_plans.specs.WholeCalls.{CarriesOut}
 use Rattle.core_plans.specs.declared.held.HeldPlan.{HeldPlan}
 use Rattle.core_sessions.specs.Sessions.{Session}
-use Rattle.core_steps.specs.Posting.{PostsOn, posting}
-use Rattle.core_steps.specs.Routes.{scene}
+use Rattle.core_steps.specs.Posting.{PostsOn}
+use Rattle.core_steps.specs.World.{world}
+use Rattle.core_steps.specs.declared.nodes.Nodes.{Nodes}
 use Rattle.node_name.specs.declared.NodeName.{NodeName}
 use Rattle.replies.specs.declared.reply.Reply.{Reply}
 use Rattle.request_check.specs.declared.checked.CheckedCall.{CheckedCall}
@@ -29,6 +30,7 @@ use Rattle.tao_core.proofs.AtOnce.{carried_does, carried_leaves, learns_stay, re
 use Rattle.tao_core.proofs.HeldBegun.{goes_first, opens_first}
 use Rattle.tao_core.proofs.HeldOn.{core_goes_on}
 use Rattle.tao_core.proofs.NotBegun.{call_goes}
+use Rattle.tao_core.specs.Calls.{world_at}
 
 -- what a call leaves that isn't held, and how it is replied
 pub record CallLeaves (tells : Bool) (asked : CheckedCall) (old : Moment) (reply : Reply) (new : Moment) : Type 0 where
@@ -37,12 +39,12 @@ pub record CallLeaves (tells : Bool) (asked : CheckedCall) (old : Moment) (reply
 
 module _ (tells : Bool) (asked : CheckedCall) (core seen : CoreState) (own : core ≡ seen) (begun_sessions : List Session)
     (same : begun_sessions ≡ core.sessions) (before now : KeeperState) (from to : LinkShown) (of_seen : IsCoreOf tells before.told seen)
-    (can_seen : CallCanBeDone seen.settings seen.sessions asked) (fleet : Fleet) (mail : Inboxes) (plan after : HeldPlan) (leader : NodeName)
+    (can_seen : CallCanBeDone seen.settings seen.sessions asked) (end : Nodes) (plan after : HeldPlan) (leader : NodeName)
     (begun : IsBegun core.settings core.states core.sessions asked plan) (leads : leader ≡ plan_leader core plan)
-    (carries : CarriesOut (led_by tells core.settings leader) plan (posting (scene core.fleet before from) core.mail core.states)
-    after (posting (scene fleet now to) mail core.states))
-    (under : IsUnderWay tells core.settings now.told fleet after)
-    (on : PostsOn tells core.settings (posting (scene core.fleet before from) core.mail core.states) (posting (scene fleet now to) mail core.states)) where
+    (carries : CarriesOut (led_by tells core.settings leader) plan (world_at core before from)
+    after (world end now to))
+    (under : IsUnderWay tells core.settings now.told end.fleet after)
+    (on : PostsOn tells core.settings (world_at core before from) (world end now to)) where
   core_of : IsCoreOf tells before.told core
   core_of = subst (IsCoreOf tells before.told) (sym own) of_seen
 
@@ -51,16 +53,16 @@ module _ (tells : Bool) (asked : CheckedCall) (core seen : CoreState) (own : cor
 
   pub answered_call : (sessions : List Session) (reply : Reply) → IsOver after reply
       → LearnsOf after (told_with reply after) begun_sessions sessions
-      → CallLeaves tells asked (moment seen before from) reply (moment (record core { fleet = fleet; mail = mail; sessions = sessions }) now to)
+      → CallLeaves tells asked (moment seen before from) reply (moment (record core { fleet = end.fleet; mail = end.mail; states = end.topology; sessions = sessions }) now to)
   answered_call sessions reply over learnt =
       let first = opens_first tells before core core_of.is_consistent asked plan begun can in
       let goes = goes_first tells before core core_of.is_consistent asked plan begun can in
       let learns = subst (λ xs. LearnsOf after (told_with reply after) xs sessions) same learnt in
-      let new : CoreState = record core { fleet = fleet; mail = mail; sessions = sessions } in
-      let leaves = carried_leaves tells core fleet mail before now from to plan after leader core_of.is_consistent first goes carries under on sessions reply learns in
+      let new : CoreState = record core { fleet = end.fleet; mail = end.mail; states = end.topology; sessions = sessions } in
+      let leaves = carried_leaves tells core end before now from to plan after leader core_of.is_consistent first goes carries under on sessions reply learns in
       record {
         does = call_goes core seen own begun_sessions same asked tells before from of_seen plan reply (moment new now to) begun
-            (carried_does tells core fleet mail before now from to plan after leader core_of.is_consistent first goes carries under on sessions reply leads over
+            (carried_does tells core end before now from to plan after leader core_of.is_consistent first goes carries under on sessions reply leads over
             learns);
         usable = subst (λ x. StaysUsable tells before now x new) own
             (core_goes_on tells before now core new core_of leaves refl refl (learns_stay after (told_with reply after) core.sessions sessions learns));
@@ -82,28 +84,28 @@ refill_is s node refill region tier read is of_region of_tier =
     ∙ ap (λ n. at_bound s (new_reading refill.query (region_of node) n refill.floor false node)) of_tier)
 
 module _ (tells : Bool) (node : NodeName) (refill : Refill) (core seen : CoreState) (own : core ≡ seen) (before now : KeeperState) (from to : LinkShown)
-    (of_seen : IsConsistentCore tells before.told seen) (fleet : Fleet) (mail : Inboxes) (read : Reading) (after : HeldPlan) (leader : NodeName)
+    (of_seen : IsConsistentCore tells before.told seen) (end : Nodes) (read : Reading) (after : HeldPlan) (leader : NodeName)
     (begun : of.Read read ≡ refill_plan core.settings node refill) (leads : leader ≡ plan_leader core (of.Read read))
-    (carries : CarriesOut (led_by tells core.settings leader) (of.Read read) (posting (scene core.fleet before from) core.mail core.states)
-    after (posting (scene fleet now to) mail core.states))
-    (under : IsUnderWay tells core.settings now.told fleet after)
-    (on : PostsOn tells core.settings (posting (scene core.fleet before from) core.mail core.states) (posting (scene fleet now to) mail core.states)) where
+    (carries : CarriesOut (led_by tells core.settings leader) (of.Read read) (world_at core before from)
+    after (world end now to))
+    (under : IsUnderWay tells core.settings now.told end.fleet after)
+    (on : PostsOn tells core.settings (world_at core before from) (world end now to)) where
   of_core : IsConsistentCore tells before.told core
   of_core = subst (IsConsistentCore tells before.told) (sym own) of_seen
 
   pub refill_reads : (reply : Reply) → IsOver after reply
-      → RefillReads tells node refill (moment seen before from) reply (moment (record core { fleet = fleet; mail = mail }) now to)
+      → RefillReads tells node refill (moment seen before from) reply (moment (record core { fleet = end.fleet; mail = end.mail; states = end.topology }) now to)
   refill_reads reply over =
       let first : OpensFirst (of.Read read) = subst OpensFirst (sym begun) refl in
       let goes : IsSome (next_stage (of.Read read)) = subst (λ p. IsSome (next_stage p)) (sym begun) refl in
-      let old = posting (scene core.fleet before from) core.mail core.states in
-      let new = posting (scene fleet now to) mail core.states in
+      let old = world_at core before from in
+      let new = world end now to in
       let learns = read_learns tells core.settings leader read after old new (told_with reply after) core.sessions carries in
-      let then : CoreState = record core { fleet = fleet; mail = mail } in
+      let then : CoreState = record core { fleet = end.fleet; mail = end.mail; states = end.topology } in
       subst (λ x. RefillReads tells node refill (moment x before from) reply (moment then now to)) own (record {
         does = subst (λ plan. DoesAtOnce tells plan (moment core before from) reply (moment then now to)) begun
-            (carried_does tells core fleet mail before now from to (of.Read read) after leader of_core first goes carries under on core.sessions reply leads
+            (carried_does tells core end before now from to (of.Read read) after leader of_core first goes carries under on core.sessions reply leads
             over learns);
-        leaves = carried_leaves tells core fleet mail before now from to (of.Read read) after leader of_core first goes carries under on core.sessions reply
+        leaves = carried_leaves tells core end before now from to (of.Read read) after leader of_core first goes carries under on core.sessions reply
             learns;
       })

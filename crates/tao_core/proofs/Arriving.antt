@@ -29,7 +29,7 @@ use Rattle.words.specs.declared.DeliveryWord.{DeliveryWord}
 use Rattle.words.specs.declared.DeliveryWord.TheVariants as word
 use Rattle.tao_core.specs.Core.{CoreState, Moment}
 use Rattle.tao_core.specs.Deliveries.{AnswersDeliver, AnswersLoss, AnswersSecond, IsProcessed}
-use Rattle.tao_core.specs.Replies.{AnswersEvict}
+use Rattle.tao_core.specs.CacheReplies.{AnswersEvict}
 
 -- the stores have come to all that is marked and to all that waits
 pub record HaveCome (tables : Tables) (core : CoreState) : Type 0 where

@@ -1,5 +1,5 @@
 -- What is asked can be done.
-use Rattle.std.proofs.Common.{◌≡◌, ℕ, ◌<◌, true, false, Contains, List, length, Result, Ok, Err, IfOk, Option, Some, None, refl, subst, inl, inr}
+use Rattle.std.proofs.Common.{◌≡◌, ℕ, Bool, true, false, Contains, List, Result, Ok, Err, IfOk, Option, Some, None, refl, subst, sym, inl, inr}
 use Rattle.std.specs.Prelude.{IsSome, is_some, not, ⊤}
 use Rattle.std.proofs.lemmas.Bool.{cases_Bool}
 use Rattle.outcomes.specs.Results.{◌>>=◌, Gives, refused_unless}
@@ -7,35 +7,67 @@ use Rattle.core_model.proofs.Turns.{cache_named}
 use Rattle.core_model.specs.Evictions.{IsCacheOf}
 use Rattle.core_model.specs.Fleet.{follower_names}
 use Rattle.core_plans.specs.Held.{Plans, plan_at}
+use Rattle.core_sessions.specs.Sessions.{Session, is_open}
 use Rattle.node_name.specs.declared.NodeName.{NodeName}
 use Rattle.node_name.specs.declared.NodeName.TheVariants as name
-use Rattle.tao_base.specs.declared.id.Key.{Key}
 use Rattle.tao_base.specs.declared.query.Query.{Query}
 use Rattle.tao_base.specs.declared.write.Write.{Write}
 use Rattle.topology.proofs.Found.{follower_known, leader_known}
 use Rattle.topology.specs.Config.{Settings}
 use Rattle.replies.specs.declared.refusals.NameRefused.{NameRefused}
 use Rattle.replies.specs.declared.refusals.Refusal.{Refusal}
-use Rattle.requests.specs.declared.request.Call.{Call}
-use Rattle.requests.specs.declared.request.Call.TheVariants as call
-use Rattle.requests.specs.declared.request.ReadCall.{ReadCall}
+use Rattle.requests.specs.HealthWords.{health_word}
+use Rattle.requests.specs.RequestWords.{request_word}
+use Rattle.requests.specs.StoreWords.{store_word}
+use Rattle.requests.specs.declared.calls.Call.{Call}
+use Rattle.requests.specs.declared.calls.Call.TheVariants as call
+use Rattle.requests.specs.declared.calls.ReadCall.{ReadCall}
+use Rattle.requests.specs.declared.calls.WriteCall.{WriteCall}
+use Rattle.requests.specs.declared.health.HealthRequest.{HealthRequest}
+use Rattle.requests.specs.declared.health.HealthRequest.TheVariants as health
+use Rattle.requests.specs.declared.plans.PlanRequest.{PlanRequest}
+use Rattle.requests.specs.declared.plans.PlanRequest.TheVariants as plan
 use Rattle.requests.specs.declared.request.Request.{Request}
 use Rattle.requests.specs.declared.request.Request.TheVariants as request
-use Rattle.requests.specs.declared.request.WriteCall.{WriteCall}
 use Rattle.request_check.proofs.Placing.{whatever}
-use Rattle.request_check.specs.Calls.{checked_query, checked_write}
-use Rattle.request_check.specs.Names.{configured_shard, tier_named}
-use Rattle.request_check.specs.Placed.{IsPlaced, IsPlacedCall, IsPlacedFollower, IsPlacedNode}
+use Rattle.request_check.proofs.PlacingStores.{stores_say}
+use Rattle.request_check.specs.Caches.{checked_cache}
+use Rattle.request_check.specs.Calls.{checked_call, checked_query, checked_write}
+use Rattle.request_check.specs.Links.{checked_link}
+use Rattle.request_check.specs.Names.{placed_as, tier_named}
+use Rattle.request_check.specs.Placed.{IsPlacedCall, IsPlacedFollower, IsPlacedNode}
+use Rattle.request_check.specs.Plans.{IsPlacedPlan, checked_plan}
 use Rattle.request_check.specs.Refusal.{for_name, replied, reply_unless_memory}
-use Rattle.request_check.specs.Requests.{checked_call, checked_of, checked_read_call, key_named, link_place, maybe_key_named, placed_as}
+use Rattle.request_check.specs.Requests.{IsPlaced, checked_of}
+use Rattle.request_check.specs.Stores.{checked_store, checked_store_word}
 use Rattle.request_check.specs.declared.checked.Checked.{Checked}
 use Rattle.request_check.specs.declared.checked.Checked.TheVariants as checked
 use Rattle.request_check.specs.declared.checked.CheckedCall.{CheckedCall}
 use Rattle.request_check.specs.declared.checked.CheckedCall.TheVariants as of_call
-use Rattle.request_check.specs.declared.checked.LinkPlace.{LinkPlace}
+use Rattle.request_check.specs.declared.plans.CheckedPlan.{CheckedPlan}
+use Rattle.request_check.specs.declared.plans.CheckedPlan.TheVariants as of_plan
 use Rattle.request_check.specs.declared.refusal.CheckRefusal.{CheckRefusal}
-use Rattle.tao_core.specs.Asked.{CallCanBeDone, CanBeDone, admitted, held_plan, fresh_session, fresh_plan, open_session, asking_session}
-use Rattle.core_sessions.specs.Sessions.{Session, is_open}
+use Rattle.request_check.specs.declared.stores.CheckedStore.{CheckedStore}
+use Rattle.words.specs.declared.Word.{Word}
+use Rattle.tao_core.specs.Asked.{CallCanBeDone, CanBeDone, PlanCanBeDone, StoreCanBeDone, admitted, asking_session, fresh_plan, fresh_session, held_plan}
+use Rattle.tao_core.specs.Asked.{is_built, not_built, open_session, plan_for, session_for}
+
+-- ---- nodes
+
+-- a cache node that is placed is one of the configuration's
+pub cache_there : (s : Settings) (node : NodeName) → IsPlacedNode s node → IsCacheOf s node
+cache_there s (name.Store store) here = absurd here
+cache_there s (name.Leader region index) here = cache_named s (name.Leader region index) (leader_known s.regions region index here)
+cache_there s (name.Follower region tier index) here =
+    cache_named s (name.Follower region tier index) (follower_known s.regions region tier index here)
+
+-- and so is a follower
+pub follower_there : (s : Settings) (node : NodeName) → IsPlacedFollower s node → Contains (follower_names s) node
+follower_there s (name.Store store) here = absurd here.configured
+follower_there s (name.Leader region index) here = (let no : false ≡ true = here.follows in absurd (cc))
+follower_there s (name.Follower region tier index) here = cache_there s (name.Follower region tier index) here.configured
+
+-- ---- what is asked
 
 -- a session that may be opened isn't open
 not_open : (sessions : List Session) (session : ℕ) → fresh_session sessions session ≡ Ok tt → is_open sessions session ≡ false
@@ -69,19 +101,30 @@ both_pass : (first second : Result ⊤ Refusal) → (first >>= (λ x. second)) �
 both_pass (Ok x) second h = (refl, h)
 both_pass (Err refused) second h = absurd (cc)
 
-call_admitted : (sessions : List Session) (plans : Plans) (asked : Call) → admitted sessions plans (request.Call asked) ≡ Ok tt
-    → is_open sessions (asking_session asked) ≡ true
-call_admitted sessions plans asked h = is_so_open sessions (asking_session asked) h
+-- a test that passes is true
+passed : (refusal : Refusal) (test : Bool) → refused_unless refusal test ≡ Ok tt → test ≡ true
+passed refusal true h = refl
+passed refusal false h = absurd (cc)
 
-hold_admitted : (sessions : List Session) (plans : Plans) (plan : ℕ) (asked : Call) → admitted sessions plans (request.Hold plan asked) ≡ Ok tt
-    → (plan_at plans plan ≡ None) × (is_open sessions (asking_session asked) ≡ true)
-hold_admitted sessions plans plan asked h =
-    let both = both_pass (fresh_plan plans plan) (open_session sessions (asking_session asked)) h in
-    (not_held plans plan both.0, is_so_open sessions (asking_session asked) both.1)
+-- no word that changes a node's health is served
+unserved : (asked : HealthRequest) → is_built (health_word asked) ≡ true → ⊥
+unserved (health.Down node) is = absurd (cc)
+unserved (health.Up node) is = absurd (cc)
+unserved (health.Suspect leader) is = absurd (cc)
+unserved (health.Trust leader) is = absurd (cc)
 
-advance_admitted : (sessions : List Session) (plans : Plans) (plan : ℕ) → admitted sessions plans (request.Advance plan) ≡ Ok tt
-    → IsSome (plan_at plans plan)
-advance_admitted sessions plans plan h = some_found (plan_at plans plan) _ (both_pass (held_plan plans plan) (Ok tt) h).0
+-- a request that was admitted is of a word that is served
+word_built : (sessions : List Session) (plans : Plans) (asked : Request) → admitted sessions plans asked ≡ Ok tt → is_built (request_word asked) ≡ true
+word_built sessions plans asked h =
+    passed (not_built asked) (is_built (request_word asked))
+    (both_pass (refused_unless (not_built asked) (is_built (request_word asked))) (plan_for plans asked >>= (λ held. session_for sessions asked)) h).0
+
+-- and it may name its plan and its session
+rest_admitted : (sessions : List Session) (plans : Plans) (asked : Request) → admitted sessions plans asked ≡ Ok tt
+    → (plan_for plans asked ≡ Ok tt) × (session_for sessions asked ≡ Ok tt)
+rest_admitted sessions plans asked h =
+    both_pass (plan_for plans asked) (session_for sessions asked)
+    (both_pass (refused_unless (not_built asked) (is_built (request_word asked))) (plan_for plans asked >>= (λ held. session_for sessions asked)) h).1
 
 module _ (s : Settings) (sessions : List Session) (plans : Plans) where
   write_can : (text : WriteCall) (found : Result Write NameRefused) → is_open sessions text.session ≡ true
@@ -101,83 +144,53 @@ module _ (s : Settings) (sessions : List Session) (plans : Plans) where
   call_can (call.Write text) there = write_can text (checked_write s text.write) there
   call_can (call.Read text) there = read_can text (checked_query s text.query) there
 
-  -- what is asked of it then
-  asks_can : (asks : CheckedCall → Checked) (found : Result CheckedCall NameRefused)
-      → IfOk found (λ c. IsPlaced s (asks c) → CanBeDone s sessions plans (asks c))
-      → IfOk (found >>= (λ c. Ok (asks c))) (λ c. IsPlaced s c → CanBeDone s sessions plans c)
-  asks_can asks (Ok c) can = can
-  asks_can asks (Err refused) can = tt
-
-  hold_can : (plan : ℕ) (found : Result CheckedCall NameRefused) → plan_at plans plan ≡ None
+  hold_can : (number : ℕ) (found : Result CheckedCall NameRefused) → plan_at plans number ≡ None
       → IfOk found (λ c. IsPlacedCall s c → CallCanBeDone s sessions c)
-      → IfOk (found >>= (λ c. Ok (checked.Hold plan c))) (λ c. IsPlaced s c → CanBeDone s sessions plans c)
-  hold_can plan (Ok c) none can = λ here. (none, can here)
-  hold_can plan (Err refused) none can = tt
+      → IfOk (placed_as (λ c. of_plan.Hold number c) found) (λ c. IsPlacedPlan s c → PlanCanBeDone s sessions plans c)
+  hold_can number (Ok c) none can = λ here. (none, can here)
+  hold_can number (Err refused) none can = tt
 
-  region_is : (session region tier : ℕ) → IsPlaced s (checked.Open session region tier) → region < length s.regions
-  region_is session region tier here = here.configured
+  -- what is asked of a plan, as it is checked
+  plan_can : (asked : PlanRequest) → plan_for plans (request.Plan asked) ≡ Ok tt → session_for sessions (request.Plan asked) ≡ Ok tt
+      → IfOk (checked_plan s asked) (λ c. IsPlacedPlan s c → PlanCanBeDone s sessions plans c)
+  plan_can (plan.Hold number asked) free there =
+      hold_can number (checked_call s asked) (not_held plans number free) (call_can asked (is_so_open sessions (asking_session asked) there))
+  plan_can (plan.Advance number) held there = λ here. some_found (plan_at plans number) _ held
 
-  cache_there : (node : NodeName) → IsPlacedNode s node → IsCacheOf s node
-  cache_there (name.Store store) here = absurd here
-  cache_there (name.Leader region index) here = cache_named s (name.Leader region index) (leader_known s.regions region index here)
-  cache_there (name.Follower region tier index) here =
-      cache_named s (name.Follower region tier index) (follower_known s.regions region tier index here)
+  -- what is asked of a store, whose word is served
+  store_can : (word : Word) (found : Result CheckedStore NameRefused) → is_built word ≡ true → IfOk found (λ c. checked_store_word c ≡ word)
+      → IfOk (placed_as checked.Store found) (λ c. IsPlaced s c → CanBeDone s sessions plans c)
+  store_can word (Ok c) built says = λ here. record { built = subst (λ w. is_built w ≡ true) (sym says) built; placed = here }
+  store_can word (Err refused) built says = tt
 
-  follower_there : (node : NodeName) → IsPlacedFollower s node → Contains (follower_names s) node
-  follower_there (name.Store store) here = absurd here.configured
-  follower_there (name.Leader region index) here = (let no : false ≡ true = here.follows in absurd (cc))
-  follower_there (name.Follower region tier index) here = cache_there (name.Follower region tier index) here.configured
-
-  node_can : (asks : NodeName → Checked) (found : Result NodeName NameRefused)
-      → ((node : NodeName) → IsPlaced s (asks node) → CanBeDone s sessions plans (asks node))
+  -- what a family asks is done where it can be
+  family_can : {A : Type 0} (asks : A → Checked) (found : Result A NameRefused) → IfOk found (λ c. IsPlaced s (asks c) → CanBeDone s sessions plans (asks c))
       → IfOk (placed_as asks found) (λ c. IsPlaced s c → CanBeDone s sessions plans c)
-  node_can asks (Ok node) can = can node
-  node_can asks (Err refused) can = tt
+  family_can asks (Ok c) can = can
+  family_can asks (Err refused) can = tt
 
-  evict_can : (found : Result NodeName NameRefused) (key : Result (Option Key) NameRefused)
-      → IfOk (found >>= (λ node. key >>= (λ k. Ok (checked.Evict node k)))) (λ c. IsPlaced s c → CanBeDone s sessions plans c)
-  evict_can (Ok node) (Ok key) = λ here. cache_there node here.0
-  evict_can (Ok node) (Err refused) = tt
-  evict_can (Err refused) key = tt
-
-  show_can : (found : Result NodeName NameRefused) (key : Result Key NameRefused)
-      → IfOk (found >>= (λ node. key >>= (λ k. Ok (checked.Show node k)))) (λ c. IsPlaced s c → CanBeDone s sessions plans c)
-  show_can (Ok node) (Ok key) = λ here. cache_there node here.0
-  show_can (Ok node) (Err refused) = tt
-  show_can (Err refused) key = tt
-
-  link_can : (asks : LinkPlace → Checked) (found : Result LinkPlace NameRefused)
-      → ((place : LinkPlace) → CanBeDone s sessions plans (asks place))
+  -- and where nothing is known but its place, that is enough
+  always_can : {A : Type 0} (asks : A → Checked) (found : Result A NameRefused) → ((c : A) → IsPlaced s (asks c) → CanBeDone s sessions plans (asks c))
       → IfOk (placed_as asks found) (λ c. IsPlaced s c → CanBeDone s sessions plans c)
-  link_can asks (Ok place) can = λ here. can place
-  link_can asks (Err refused) can = tt
+  always_can asks (Ok c) can = can c
+  always_can asks (Err refused) can = tt
 
   -- what is placed, of a request that was admitted
-  by_word : (asked : Request) → admitted sessions plans asked ≡ Ok tt → IfOk (checked_of s asked) (λ c. IsPlaced s c → CanBeDone s sessions plans c)
-  by_word (request.Open opening) h =
-      whatever _ (tier_named s opening.region opening.tier) _
-      (λ found here. (not_open sessions opening.session h, region_is opening.session found.region found.tier here))
-  by_word (request.Call asked) h = asks_can checked.Call (checked_call s asked) (call_can asked (call_admitted sessions plans asked h))
-  by_word (request.Hold plan asked) h =
-      let may = hold_admitted sessions plans plan asked h in
-      hold_can plan (checked_call s asked) may.0 (call_can asked may.1)
-  by_word (request.Advance plan) h = λ here. advance_admitted sessions plans plan h
-  by_word (request.Deliver name) h =
-      node_can (λ node. checked.Deliver node name.message) _ (λ node here. cache_there node here)
-  by_word (request.Again name) h =
-      node_can (λ node. checked.Again node name.message) _ (λ node here. cache_there node here)
-  by_word (request.Drop name) h =
-      node_can (λ node. checked.Drop node name.message) _ (λ node here. cache_there node here)
-  by_word (request.Refill name) h = node_can checked.Refill _ (λ node here. follower_there node here)
-  by_word (request.Evict name key) h = evict_can _ (maybe_key_named s key)
-  by_word (request.Show name key) h = show_can _ (key_named s key)
-  by_word (request.Inbox name) h = node_can checked.Inbox _ (λ node here. cache_there node here)
-  by_word (request.Cut link) h = link_can checked.Cut (link_place s link) (λ place. tt)
-  by_word (request.Mend link) h = link_can checked.Mend (link_place s link) (λ place. tt)
-  by_word (request.Repair shard) h = whatever _ (configured_shard s shard) _ (λ u here. here)
-  by_word (request.Audit text) h = whatever _ (checked_read_call s text) _ (λ r here. here)
-  by_word request.Settle h = λ here. tt
-  by_word asked h = absurd (cc)
+  by_family : (asked : Request) → admitted sessions plans asked ≡ Ok tt → IfOk (checked_of s asked) (λ c. IsPlaced s c → CanBeDone s sessions plans c)
+  by_family (request.Open opening) h =
+      whatever _ (tier_named s opening.region opening.tier) _ (λ found here. (not_open sessions opening.session h, here.configured))
+  by_family (request.Call asked) h =
+      family_can checked.Call (checked_call s asked)
+      (call_can asked (is_so_open sessions (asking_session asked) (rest_admitted sessions plans (request.Call asked) h).1))
+  by_family (request.Plan asked) h =
+      let rest = rest_admitted sessions plans (request.Plan asked) h in
+      family_can checked.Plan (checked_plan s asked) (plan_can asked rest.0 rest.1)
+  by_family (request.Cache asked) h = always_can checked.Cache (checked_cache s asked) (λ c here. here)
+  by_family (request.Store asked) h =
+      store_can (store_word asked) (checked_store s asked) (word_built sessions plans (request.Store asked) h) (stores_say s asked)
+  by_family (request.Health asked) h =
+      absurd (unserved asked (word_built sessions plans (request.Health asked) h))
+  by_family (request.Link asked) h = always_can checked.Link (checked_link s asked) (λ c here. tt)
 
 named_ok : (found : Result Checked NameRefused) (c : Checked) → replied (for_name found) ≡ Ok c → found ≡ Ok c
 named_ok (Ok x) c h = cc
@@ -188,5 +201,5 @@ pub checked_can : (s : Settings) (sessions : List Session) (plans : Plans) (aske
     → admitted sessions plans asked ≡ Ok tt → Gives reply_unless_memory r (replied (for_name (checked_of s asked))) → IfOk r (IsPlaced s)
     → IfOk r (CanBeDone s sessions plans)
 checked_can s sessions plans asked (Ok c) there h here =
-    (subst (λ r. IfOk r (λ x. IsPlaced s x → CanBeDone s sessions plans x)) (named_ok (checked_of s asked) c h) (by_word s sessions plans asked there)) here
+    (subst (λ r. IfOk r (λ x. IsPlaced s x → CanBeDone s sessions plans x)) (named_ok (checked_of s asked) c h) (by_family s sessions plans asked there)) here
 checked_can s sessions plans asked (Err e) there h here = tt

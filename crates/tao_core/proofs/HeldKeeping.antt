@@ -9,6 +9,7 @@ use Rattle.core_model.specs.Stores.{HaveMasterRegions}
 use Rattle.core_model.specs.Growing.{StoresGrow}
 use Rattle.core_model.specs.Pens.{pens_of}
 use Rattle.core_model.proofs.Places.{one_some}
+use Rattle.core_nodes.specs.Settling.{IsLaterLink}
 use Rattle.core_plans.specs.Held.{
   ArePlansOf,
   CanStep,
@@ -32,8 +33,8 @@ use Rattle.core_sessions.specs.Sessions.{Session}
 use Rattle.core_plans.proofs.WritesGoOn.{plan_later}
 use Rattle.core_plans.specs.LedBy.{led_by}
 use Rattle.core_steps.proofs.TellLemmas.{merges_in}
-use Rattle.core_steps.specs.Routes.{scene}
-use Rattle.core_steps.specs.Posting.{posting}
+use Rattle.core_steps.specs.World.{world}
+use Rattle.core_steps.specs.declared.nodes.Nodes.{Nodes}
 use Rattle.graph_model.proofs.Members.{if_some_at}
 use Rattle.graph_model.specs.Told.{WhereTold}
 use Rattle.node_name.specs.declared.NodeName.{NodeName}
@@ -51,7 +52,7 @@ use Rattle.topology.specs.Choices.{master_region}
 use Rattle.topology.specs.Config.{Settings}
 use Rattle.topology.specs.States.{is_cache}
 use Rattle.words.specs.declared.PlanWord.{PlanWord}
-use Rattle.tao_core.specs.Calls.{posting_of}
+use Rattle.tao_core.specs.Calls.{world_at, world_of}
 use Rattle.tao_core.specs.Core.{CoreState, IsConsistentCore, IsCoreOf, IsOfSession, IsSessionOf, Moment, moment}
 use Rattle.tao_core.specs.HeldCalls.{DoesStage, EndsPlan, IsOfRegion, Leaves, LearnsOf, StepsAt, held_seen, held_in, next_at, numbered_plan}
 use Rattle.tao_core.specs.HeldCalls.{plan_leader}
@@ -61,6 +62,7 @@ use Rattle.tao_core.proofs.Reaching.{held_reaches}
 use Rattle.tao_core.proofs.NamesOnce.{stand_alone}
 use Rattle.tao_core.proofs.Told.{sessions_later}
 use Rattle.tao_core.proofs.Ways.{leads_at, region_within}
+use Rattle.core_model.specs.States.{AreStatesOf}
 
 -- ---- one plan is set
 
@@ -209,17 +211,17 @@ with_sessions tells tables core plans sessions of all = record {
 }
 
 -- and after a step of one of them
-pub stepped_core : (tells : Bool) (tables later : Tables) (core : CoreState) (fleet : Fleet) (mail : Inboxes) (plans : Plans)
-    → IsConsistentCore tells tables core → IsConsistent tells core.settings later fleet → AreInboxesOf core.settings (pens_of fleet.stores) mail
-    → WhereTold tells (HaveArrived later mail) → GoesOn core.fleet fleet → StoresGrow tells core.settings tables later
-    → IsConsistentCore tells later (record core { fleet = fleet; mail = mail; plans = plans })
-stepped_core tells tables later core fleet mail plans of consistent inboxes arrived goes grows = record {
+pub stepped_core : (tells : Bool) (tables later : Tables) (core : CoreState) (end : Nodes) (plans : Plans)
+    → IsConsistentCore tells tables core → end.topology ≡ core.states → IsConsistent tells core.settings later end.fleet → AreInboxesOf core.settings (pens_of end.fleet.stores) end.mail
+    → WhereTold tells (HaveArrived later end.mail) → GoesOn core.fleet end.fleet → StoresGrow tells core.settings tables later
+    → IsConsistentCore tells later (record core { fleet = end.fleet; mail = end.mail; states = end.topology; plans = plans })
+stepped_core tells tables later core end plans of same consistent inboxes arrived goes grows = record {
   masters = of.masters;
   consistent = consistent;
-  states = of.states;
+  states = subst (AreStatesOf core.settings) (sym same) of.states;
   mail = inboxes;
   arrived = arrived;
-  sessions = sessions_later tells core.settings tables later (pens_of core.fleet.stores) (pens_of fleet.stores) core.sessions grows.logs goes.rise
+  sessions = sessions_later tells core.settings tables later (pens_of core.fleet.stores) (pens_of end.fleet.stores) core.sessions grows.logs goes.rise
       of.sessions;
 }
 
@@ -242,7 +244,7 @@ module _ (tells : Bool) (number : ℕ) (old mid : Moment) (does : DoesStage tell
   module _ (of : IsCoreOf tells old.keepers.told old.core) where
     asks_of : StepsAsks (Some does.steps.before) (held_after After) old.core.fleet.followers mid.core.fleet.followers
     asks_of =
-        steps_asks tells old.core.settings (plan_leader old.core does.plan) does.steps.before After (posting_of old) (posting_of mid)
+        steps_asks tells old.core.settings (plan_leader old.core does.plan) does.steps.before After (world_of old) (world_of mid)
         (stand_alone old.core.settings old.core.fleet.followers of.is_consistent.consistent.fleet.follower_names)
         (of.plans.begun number does.steps.before does.steps.stands) does.steps.steps
 
@@ -271,7 +273,7 @@ module _ (tells : Bool) (number : ℕ) (old mid : Moment) (does : DoesStage tell
 
     author_after : IsOfSession old.core.sessions After
     author_after =
-        author_stays tells old.core.settings (plan_leader old.core does.plan) does.steps.before After (posting_of old) (posting_of mid) old.core.sessions
+        author_stays tells old.core.settings (plan_leader old.core does.plan) does.steps.before After (world_of old) (world_of mid) old.core.sessions
         does.steps.steps (of.authors number does.steps.before does.steps.stands)
 
     pub author_held : (sessions : List Session) → old.core.sessions ≡ sessions → (other : ℕ) (plan : HeldPlan) → plan_at mid.core.plans other ≡ Some plan
@@ -347,9 +349,9 @@ module _ (tells : Bool) (number : ℕ) (old mid : Moment) (does : DoesStage tell
   same_plan : does.plan ≡ does.steps.before
   same_plan = one_some does.plan does.steps.before (sym does.stands ∙ does.steps.stands)
 
-  steps_before : StepsHeld (led_by tells old.core.settings (plan_leader old.core does.steps.before)) does.steps.before (posting_of old) After (posting_of mid)
+  steps_before : StepsHeld (led_by tells old.core.settings (plan_leader old.core does.steps.before)) does.steps.before (world_of old) After (world_of mid)
   steps_before =
-      subst (λ p. StepsHeld (led_by tells old.core.settings (plan_leader old.core p)) does.steps.before (posting_of old) After (posting_of mid)) same_plan
+      subst (λ p. StepsHeld (led_by tells old.core.settings (plan_leader old.core p)) does.steps.before (world_of old) After (world_of mid)) same_plan
       does.steps.steps
 
   -- it is held before the stage that follows
@@ -365,6 +367,7 @@ module _ (tells : Bool) (number : ℕ) (old mid : Moment) (does : DoesStage tell
     reaches = does.reaches;
     leaves = subst (λ n. Leaves asked (numbered_plan number After) n (held_in old.core) reply (held_seen mid.core.plans sessions)) (sym next ∙ next_is)
         (record { told = told; changes = does.steps.changes; sessions = same });
+    link = does.link;
     rest = ap (λ (x : CoreState). record x { sessions = sessions }) rest;
   }
 
@@ -381,21 +384,22 @@ module _ (tells : Bool) (number : ℕ) (old mid : Moment) (does : DoesStage tell
     reaches = does.reaches;
     leaves = subst (λ n. Leaves asked (numbered_plan number After) n (held_in old.core) reply (held_seen later sessions)) (sym over ∙ next_is)
         (ends_here later sessions reply over ends);
+    link = does.link;
     rest = ap (λ (x : CoreState). record x { plans = later; sessions = sessions }) rest;
   }
 
 -- ---- a stage is done
 
-pub does_stage : (tells : Bool) (number : ℕ) (core : CoreState) (fleet : Fleet) (mail : Inboxes) (plans : Plans) (before now : KeeperState)
-    (from to : LinkShown) (plan : HeldPlan) (leader : NodeName) → plan_at core.plans number ≡ Some plan → leader ≡ plan_leader core plan
-    → StepsPlan (led_by tells core.settings leader) number core.plans (posting (scene core.fleet before from) core.mail core.states) plans
-    (posting (scene fleet now to) mail core.states)
-    → HaveMasterRegions core.settings → IsConsistent tells core.settings now.told fleet
-    → IfSome (plan_at plans number) (IsUnderWay tells core.settings now.told fleet)
-    → DoesStage tells number (moment core before from) (moment (record core { fleet = fleet; mail = mail; plans = plans }) now to)
-does_stage tells number core fleet mail plans before now from to plan leader stands leads steps masters consistent under =
-    let old = posting (scene core.fleet before from) core.mail core.states in
-    let new = posting (scene fleet now to) mail core.states in
+pub does_stage : (tells : Bool) (number : ℕ) (core : CoreState) (end : Nodes) (plans : Plans) (before now : KeeperState)
+    (from to : LinkShown) (plan : HeldPlan) (leader : NodeName) → end.topology ≡ core.states → IsLaterLink from to → plan_at core.plans number ≡ Some plan → leader ≡ plan_leader core plan
+    → StepsPlan (led_by tells core.settings leader) number core.plans (world_at core before from) plans
+    (world end now to)
+    → HaveMasterRegions core.settings → IsConsistent tells core.settings now.told end.fleet
+    → IfSome (plan_at plans number) (IsUnderWay tells core.settings now.told end.fleet)
+    → DoesStage tells number (moment core before from) (moment (record core { fleet = end.fleet; mail = end.mail; states = end.topology; plans = plans }) now to)
+does_stage tells number core end plans before now from to plan leader same link stands leads steps masters consistent under =
+    let old = world_at core before from in
+    let new = world end now to in
     record {
       plan = plan;
       stands = stands;
@@ -406,7 +410,8 @@ does_stage tells number core fleet mail plans before now from to plan leader sta
         steps = subst (λ l. StepsHeld (led_by tells core.settings l) steps.before old steps.after new) leads steps.steps;
         changes = steps.changes;
       };
-      reaches = held_reaches tells core.settings leader steps.before steps.after old new now.told fleet steps.steps masters consistent
-          (if_some_at (IsUnderWay tells core.settings now.told fleet) (plan_at plans number) steps.after under
+      reaches = held_reaches tells core.settings leader steps.before steps.after old new now.told end.fleet steps.steps masters consistent
+          (if_some_at (IsUnderWay tells core.settings now.told end.fleet) (plan_at plans number) steps.after under
           (set_here number (Some steps.after) core.plans plans steps.changes.sets));
+      link = link;
     }

@@ -27,7 +27,7 @@ use Rattle.core_plans.specs.declared.held.ToldEntries.{ToldEntries}
 use Rattle.core_plans.specs.LedBy.{led_by}
 use Rattle.core_sessions.specs.Sessions.{HasRoomForBoth, Session, is_open, sessions_of}
 use Rattle.core_steps.specs.OtherEnds.{StandsThere, told_there}
-use Rattle.core_steps.specs.Posting.{Posting}
+use Rattle.core_steps.specs.World.{World}
 use Rattle.core_steps.specs.Writes.{AuthoredWrite, RefusesCommit, sent_write}
 use Rattle.core_steps.specs.declared.routes.Route.{Route}
 use Rattle.counts.specs.Count.{after_one}
@@ -37,7 +37,7 @@ use Rattle.node_name.specs.declared.NodeName.{NodeName}
 use Rattle.read_plan.specs.Readings.{Reading}
 use Rattle.replies.specs.declared.calls.CallReply.{CallReply}
 use Rattle.replies.specs.declared.reply.Reply.{Reply}
-use Rattle.replies.specs.declared.reply.Reply.TheVariants.{Called}
+use Rattle.replies.specs.declared.reply.Reply.TheVariants.{Called, Refused}
 use Rattle.session_pass.specs.Passes.{SeenPass}
 use Rattle.shard_tables.specs.StoreView.{Store as StoreSeen}
 use Rattle.shard_tables.specs.declared.writes.Wrote.{Wrote}
@@ -63,7 +63,7 @@ use Rattle.tao_core.proofs.WriteStages.{KeepsOn, end_keeps, inverse_keeps, stage
 -- ---- the session of a write
 
 -- a write stays that of its client
-pub origin_stays : (tells : Bool) (s : Settings) (by : NodeName) (at : WriteStage) (p q : Writing) (old new : Posting)
+pub origin_stays : (tells : Bool) (s : Settings) (by : NodeName) (at : WriteStage) (p q : Writing) (old new : World)
     → DoesWriteStage (led_by tells s by) at p old q new
     → q.origin ≡ p.origin
 origin_stays tells s by Commit p q old new (inl commits) = ap (λ (x : Writing). x.origin) commits.then
@@ -76,7 +76,7 @@ origin_stays tells s by End p q old new does = (end_keeps tells s p q old new do
 origin_stays tells s by Relay p q old new does = absurd does
 origin_stays tells s by Done p q old new does = absurd does
 
-pub author_stays : (tells : Bool) (s : Settings) (by : NodeName) (before after : HeldPlan) (old new : Posting) (sessions : List Session)
+pub author_stays : (tells : Bool) (s : Settings) (by : NodeName) (before after : HeldPlan) (old new : World) (sessions : List Session)
     → StepsHeld (led_by tells s by) before old after new → IsOfSession sessions before → IsOfSession sessions after
 author_stays tells s by (Read p) (Read q) old new sessions steps is = tt
 author_stays tells s by (Write p) (Write q) old new sessions steps is =
@@ -119,15 +119,11 @@ refused_room q reply passes refused never = λ over called is.
     let told : reply_of q ≡ Some reply = ap (λ r. reply_by r q.committed q.job q.hops) refused in
     absurd (never called (one_some reply (Called called) (sym told ∙ is)))
 
-refusal_never : (tells : Bool) (s : Settings) (route : Route) (call : AuthoredWrite) (reply : Reply) (old new : Posting)
-    → RefusesCommit tells s (sent_write route call) reply old new → (called : CallReply) → reply ≡ Called called → ⊥
-refusal_never tells s route call reply old new is called same = subst (λ r. RefusesCommit tells s (sent_write route call) r old new) same is
-
 -- one that has a stage left is told with nothing yet
 left_room : (q : Writing) (passes : List SeenPass) → IsSome (next_stage (Write q)) → HasRoomFor (Write q) passes
 left_room q passes some = λ over called is. (let e : false ≡ true = subst IsSome over some in absurd (cc))
 
-module _ (tells : Bool) (s : Settings) (by : NodeName) (p q : Writing) (old new : Posting) (passes : List SeenPass) where
+module _ (tells : Bool) (s : Settings) (by : NodeName) (p q : Writing) (old new : World) (passes : List SeenPass) where
   applied_room : next_of p ≡ Apply → IsTrue (is_client p.origin) → IfSome (learner (Write p)) (λ n. HasRoomForBoth n passes) → q.origin ≡ p.origin
       → HasRoomFor (Write q) passes
   applied_room is client room same = λ over called told. subst (λ o. HasRoomForBoth (author o) passes) (sym same) (learner_room p passes is client room)
@@ -145,15 +141,14 @@ module _ (tells : Bool) (s : Settings) (by : NodeName) (p q : Writing) (old new 
       (ap (λ (x : Writing). x.refused) commits.then ∙ unrefused p.refused p.committed p.job p.back some)
       (ap (λ (x : Writing). x.committed) commits.then) (subst IsBefore (sym (ap (λ (x : Writing). x.back) commits.then)) first))
   room_then Commit is first client (inr refuses) room =
-      refused_room q refuses.reply passes (ap (λ (x : Writing). x.refused) refuses.then)
-      (refusal_never tells s (way_by by p) (call_of_plan p) refuses.reply old new refuses.refuses)
+      refused_room q (Refused refuses.refusal) passes (ap (λ (x : Writing). x.refused) refuses.then) (λ called same. absurd (cc))
   room_then Apply is first client does room = applied_room is client room (origin_stays tells s by Apply p q old new does)
   room_then Inverse is first client does room = kept_room (subst (λ x. IsSome (told_stage x)) (sym is) refl) first (inverse_keeps tells s by p q old new does)
   room_then End is first client does room = kept_room (subst (λ x. IsSome (told_stage x)) (sym is) refl) first (end_keeps tells s p q old new does)
   room_then Relay is first client does room = absurd does
   room_then Done is first client does room = absurd does
 
-pub room_after : (tells : Bool) (s : Settings) (tables : Tables) (f : Fleet) (by : NodeName) (before after : HeldPlan) (old new : Posting)
+pub room_after : (tells : Bool) (s : Settings) (tables : Tables) (f : Fleet) (by : NodeName) (before after : HeldPlan) (old new : World)
     (passes : List SeenPass) → OpensFirst before → IsUnderWay tells s tables f before → StepsHeld (led_by tells s by) before old after new
     → IfSome (learner before) (λ n. HasRoomForBoth n passes) → HasRoomFor after passes
 room_after tells s tables f by (Read p) (Read q) old new passes first under steps room = tt
@@ -169,8 +164,8 @@ none_carried h = absurd (cc)
 no_learner : (at : WriteStage) (p : Writing) → next_of p ≡ at → learner_at at p.origin ≡ None → IsSome (learner (Write p)) → ⊥
 no_learner at p is none some = (let e : false ≡ true = subst IsSome (ap (λ n. learner_at n p.origin) is ∙ none) some in absurd (cc))
 
-given_up_room : (tells : Bool) (s : Settings) (by : NodeName) (at : WriteStage) (p q : Writing) (now : Posting) (passes : List SeenPass) → next_of p ≡ at
-    → now.scene.link.carries ≡ 0 → IsSome (learner (Write p)) → DoesWriteStage (led_by tells s by) at p now q now → HasRoomFor (Write q) passes
+given_up_room : (tells : Bool) (s : Settings) (by : NodeName) (at : WriteStage) (p q : Writing) (now : World) (passes : List SeenPass) → next_of p ≡ at
+    → now.link.carries ≡ 0 → IsSome (learner (Write p)) → DoesWriteStage (led_by tells s by) at p now q now → HasRoomFor (Write q) passes
 given_up_room tells s by Apply p q now passes is still some (inl applies) =
     absurd (none_carried (sym still ∙ ap (λ (l : LinkShown). l.carries) applies.link ∙ ap after_one still))
 given_up_room tells s by Apply p q now passes is still some (inr (inl loses)) =
@@ -183,8 +178,8 @@ given_up_room tells s by End p q now passes is still some does = absurd (no_lear
 given_up_room tells s by Relay p q now passes is still some does = absurd does
 given_up_room tells s by Done p q now passes is still some does = absurd does
 
-pub room_given_up : (tells : Bool) (s : Settings) (by : NodeName) (before after : HeldPlan) (now : Posting) (passes : List SeenPass)
-    → now.scene.link.carries ≡ 0 → IsSome (learner before) → StepsHeld (led_by tells s by) before now after now → HasRoomFor after passes
+pub room_given_up : (tells : Bool) (s : Settings) (by : NodeName) (before after : HeldPlan) (now : World) (passes : List SeenPass)
+    → now.link.carries ≡ 0 → IsSome (learner before) → StepsHeld (led_by tells s by) before now after now → HasRoomFor after passes
 room_given_up tells s by (Read p) after now passes still some steps = absurd (cc)
 room_given_up tells s by (Write p) (Write q) now passes still some steps = given_up_room tells s by (next_of p) p q now passes refl still some steps
 room_given_up tells s by (Write p) (Read q) now passes still some steps = tt

@@ -8,8 +8,9 @@ use Rattle.core_plans.specs.Held.{CanStep, ChangesPlan, IsUnderWay, OpensFirst, 
 use Rattle.core_plans.specs.declared.held.HeldPlan.{HeldPlan}
 use Rattle.core_plans.specs.LedBy.{led_by}
 use Rattle.core_sessions.specs.Sessions.{HasRoomForBoth, Session, sessions_of}
-use Rattle.core_steps.specs.Routes.{Scene, scene}
-use Rattle.core_steps.specs.Posting.{Posting, PostsOn, posting}
+use Rattle.core_steps.specs.World.{World, world}
+use Rattle.core_steps.specs.declared.nodes.Nodes.{Nodes}
+use Rattle.core_steps.specs.Posting.{PostsOn}
 use Rattle.graph_model.proofs.Members.{if_some, if_some_at}
 use Rattle.node_name.specs.declared.NodeName.{NodeName}
 use Rattle.replies.specs.declared.plans.PlanReply.TheVariants.{Next}
@@ -28,6 +29,7 @@ use Rattle.tao_core.specs.HeldCalls.{DoesStage, EndsPlan, HasRoomFor, MayLearn, 
 use Rattle.tao_core.proofs.HeldOn.{none_come}
 use Rattle.tao_core.proofs.HeldKeeping.{author_held, does_stage, end_steps, ends_core, next_core, next_steps, set_here, stepped_core}
 use Rattle.tao_core.proofs.HeldLearning.{may_learn, room_after, room_given_up}
+use Rattle.tao_core.specs.Calls.{world_at}
 
 -- ---- a stage, or the end without it
 
@@ -46,7 +48,7 @@ module _ (tells : Bool) (s : Settings) (leader : NodeName) (number : ℕ) (plans
   room_there after changes room =
       subst (λ (o : Option HeldPlan). IfSome o (λ one. HasRoomFor one passes)) (sym (set_here number (Some after) plans later changes.sets)) room
 
-  pub room_stepped : (tables : Tables) (f : Fleet) (old new : Posting) → StepsPlan (led_by tells s leader) number plans old later new
+  pub room_stepped : (tables : Tables) (f : Fleet) (old new : World) → StepsPlan (led_by tells s leader) number plans old later new
       → CanStep tells s tables f leader (plan_at plans number) → IfSome (plan_at plans number) OpensFirst
       → IfSome (option_and_then learner (plan_at plans number)) (λ n. HasRoomForBoth n passes) → IfSome (plan_at later number) (λ one. HasRoomFor one passes)
   room_stepped tables f old new steps can first room = room_there steps.after steps.changes
@@ -55,12 +57,10 @@ module _ (tells : Bool) (s : Settings) (leader : NodeName) (number : ℕ) (plans
       (if_some_at (IsUnderWay tells s tables f) (plan_at plans number) steps.before (can_under tells s tables f leader (plan_at plans number) can) steps.stands)
       steps.steps (subst (λ o. IfSome (option_and_then learner o) (λ n. HasRoomForBoth n passes)) steps.stands room))
 
-  pub room_given : (scene : Scene) (inboxes : Inboxes) (states : NodeStates)
-      → StepsPlan (led_by tells s leader) number plans (posting (record scene { link = fresh_link }) inboxes states) later
-      (posting (record scene { link = fresh_link }) inboxes states)
+  pub room_given : (now : World) → StepsPlan (led_by tells s leader) number plans (record now { link = fresh_link }) later (record now { link = fresh_link })
       → IsSome (option_and_then learner (plan_at plans number)) → IfSome (plan_at later number) (λ one. HasRoomFor one passes)
-  room_given scene inboxes states steps some = room_there steps.after steps.changes
-      (room_given_up tells s leader steps.before steps.after (posting (record scene { link = fresh_link }) inboxes states) passes refl
+  room_given now steps some = room_there steps.after steps.changes
+      (room_given_up tells s leader steps.before steps.after (record now { link = fresh_link }) passes refl
       (subst (λ o. IsSome (option_and_then learner o)) steps.stands some) steps.steps)
 
 -- ---- the replies
@@ -70,16 +70,16 @@ pub record StageLeaves (tells : Bool) (asked : PlanWord) (number : ℕ) (old : M
   pub steps : StepsAt tells asked number old reply new
   pub usable : StaysUsable tells old.keepers new.keepers old.core new.core
 
-module _ (tells : Bool) (number : ℕ) (core seen : CoreState) (own : core ≡ seen) (fleet : Fleet) (mail : Inboxes) (plans : Plans) (sessions : List Session)
+module _ (tells : Bool) (number : ℕ) (core seen : CoreState) (own : core ≡ seen) (end : Nodes) (plans : Plans) (sessions : List Session)
     (before now : KeeperState) (from to : LinkShown) (plan : HeldPlan) (leader : NodeName)
     (of_seen : IsCoreOf tells before.told seen) (stands : plan_at core.plans number ≡ Some plan) (leads_seen : leader ≡ plan_leader seen plan)
-    (steps : StepsPlan (led_by tells core.settings leader) number core.plans (posting (scene core.fleet before from) core.mail core.states) plans
-    (posting (scene fleet now to) mail core.states))
-    (under : IfSome (plan_at plans number) (IsUnderWay tells core.settings now.told fleet))
-    (posts : PostsOn tells core.settings (posting (scene core.fleet before from) core.mail core.states) (posting (scene fleet now to) mail core.states))
+    (steps : StepsPlan (led_by tells core.settings leader) number core.plans (world_at core before from) plans
+    (world end now to))
+    (under : IfSome (plan_at plans number) (IsUnderWay tells core.settings now.told end.fleet))
+    (posts : PostsOn tells core.settings (world_at core before from) (world end now to))
     (same : sessions ≡ core.sessions) where
   abbrev Mid : CoreState
-  Mid = record core { fleet = fleet; mail = mail; plans = plans }
+  Mid = record core { fleet = end.fleet; mail = end.mail; states = end.topology; plans = plans }
 
   of : IsCoreOf tells before.told core
   of = subst (IsCoreOf tells before.told) (sym own) of_seen
@@ -88,11 +88,14 @@ module _ (tells : Bool) (number : ℕ) (core seen : CoreState) (own : core ≡ s
   leads = subst (λ (x : CoreState). leader ≡ plan_leader x plan) (sym own) leads_seen
 
   does : DoesStage tells number (moment core before from) (moment Mid now to)
-  does = does_stage tells number core fleet mail plans before now from to plan leader stands leads steps of.is_consistent.masters posts.consistent under
+  does = does_stage tells number core end plans before now from to plan leader posts.states posts.link stands leads steps of.is_consistent.masters posts.consistent under
 
   is_mid : IsConsistentCore tells now.told Mid
-  is_mid = stepped_core tells before.told now.told core fleet mail plans of.is_consistent posts.consistent posts.inboxes posts.arrived posts.goes
+  is_mid = stepped_core tells before.told now.told core end plans of.is_consistent posts.states posts.consistent posts.inboxes posts.arrived posts.goes
       posts.grows
+
+  own_rest : Mid ≡ record core { fleet = end.fleet; mail = end.mail; plans = plans }
+  own_rest = ap (λ (n : NodeStates). record Mid { states = n }) posts.states
 
   -- as its callers see the core
   leaves_so : (asked : PlanWord) (reply : Reply) (later : Plans) (learnt : List Session)
@@ -107,7 +110,7 @@ module _ (tells : Bool) (number : ℕ) (core seen : CoreState) (own : core ≡ s
           settings = ap (λ (x : CoreState). x.settings) at.rest;
           keepers = is;
           goes = posts.goes;
-          comes = none_come tells now.told core (record Mid { plans = later; sessions = learnt }) refl;
+          comes = none_come tells now.told core (record Mid { plans = later; sessions = learnt }) posts.states;
           grows = posts.grows;
           later = posts.later;
         };
@@ -119,7 +122,7 @@ module _ (tells : Bool) (number : ℕ) (core seen : CoreState) (own : core ≡ s
       → StageLeaves tells asked number (moment seen before from) reply (moment (record Mid { sessions = sessions }) now to)
   next_leaves asked stage reply next told =
       leaves_so asked reply plans sessions
-      (next_steps tells number (moment core before from) (moment Mid now to) does asked stage sessions reply next told same refl)
+      (next_steps tells number (moment core before from) (moment Mid now to) does asked stage sessions reply next told same own_rest)
       (subst (λ xs. IsCoreOf tells now.told (record Mid { sessions = xs })) (sym same)
       (next_core tells number (moment core before from) (moment Mid now to) does of stage next is_mid refl refl posts.goes posts.grows under))
 
@@ -128,12 +131,12 @@ module _ (tells : Bool) (number : ℕ) (core seen : CoreState) (own : core ≡ s
   pub may_here : (passes : List SeenPass) → sessions_of passes ≡ core.sessions → IfSome (plan_at plans number) (λ held_plan. HasRoomFor held_plan passes)
       → IfSome (plan_at plans number) (λ held_plan. MayLearn held_plan passes)
   may_here passes are room = if_some (λ held_plan. MayLearn held_plan passes) (plan_at plans number) (λ held_plan at.
-      may_learn tells core.settings now.told fleet held_plan passes
-      (if_some_at (IsUnderWay tells core.settings now.told fleet) (plan_at plans number) held_plan under at)
+      may_learn tells core.settings now.told end.fleet held_plan passes
+      (if_some_at (IsUnderWay tells core.settings now.told end.fleet) (plan_at plans number) held_plan under at)
       (subst (λ xs. IsOfSession xs held_plan) (sym are)
       (author_held tells number (moment core before from) (moment Mid now to) does of core.sessions refl number held_plan at))
       (if_some_at (λ one. HasRoomFor one passes) (plan_at plans number) held_plan room at)
-      (subst (All (IsSessionOf tells core.settings now.told (pens_of fleet.stores))) (sym are) is_mid.sessions))
+      (subst (All (IsSessionOf tells core.settings now.told (pens_of end.fleet.stores))) (sym are) is_mid.sessions))
 
   pub end_leaves : (asked : PlanWord) (later : Plans) (learnt : List Session) (reply : Reply) → next_at plans number ≡ None
       → IfSome (plan_at plans number) (λ held_plan. EndsPlan number held_plan (held_seen plans sessions) reply (held_seen later learnt))
@@ -142,5 +145,5 @@ module _ (tells : Bool) (number : ℕ) (core seen : CoreState) (own : core ≡ s
       let mid =
       subst (λ xs. IfSome (plan_at plans number) (λ held_plan. EndsPlan number held_plan (held_seen plans xs) reply (held_seen later learnt))) same ends in
       leaves_so asked reply later learnt
-      (end_steps tells number (moment core before from) (moment Mid now to) does asked later learnt reply over mid refl)
+      (end_steps tells number (moment core before from) (moment Mid now to) does asked later learnt reply over mid own_rest)
       (ends_core tells number (moment core before from) (moment Mid now to) does later learnt reply over mid of is_mid refl refl posts.goes posts.grows under)

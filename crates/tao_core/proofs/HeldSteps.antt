@@ -5,11 +5,11 @@ use Rattle.cache_items.specs.declared.look.Look.{Look}
 use Rattle.cache_items.specs.declared.look.Look.TheVariants.{Hit, Miss}
 use Rattle.cache_items.specs.Node.{Node}
 use Rattle.core_model.specs.Fleet.{ChangesNode, Fleet, HasAsk, named}
-use Rattle.core_model.specs.Reads.{AfterLook, AsksAtOnce, EndsAsk, KeepsFill, LooksFirst, taken_fill}
+use Rattle.core_model.specs.Reads.{AfterLook, AsksAtOnce, EndsAsk, KeepsFill, LooksFirst, taken_fill, Wanted}
 use Rattle.core_model.proofs.Places.{get_set, one_some}
 use Rattle.core_plans.specs.Held.{HasNoneAt, HoldsAsk, IsBefore, IsOpenAt, OpensFirst, OpensNone, StepsHeld, is_open_ask, next_stage}
 use Rattle.core_plans.specs.HeldLaws.{Followers}
-use Rattle.core_plans.specs.HeldReads.{DoesLook, DoesReadStage, DoesKeep, wanted_by}
+use Rattle.core_plans.specs.HeldReads.{DoesLook, DoesReadStage, DoesKeep, wanted_by, EndsItsAsk}
 use Rattle.core_plans.specs.HeldWrites.{DoesWriteStage}
 use Rattle.core_plans.specs.declared.held.HeldPlan.{HeldPlan}
 use Rattle.core_plans.specs.declared.held.HeldPlan.TheVariants.{Read, Write}
@@ -24,8 +24,7 @@ use Rattle.core_plans.proofs.AsksHeld.{
   same_opens_none,
   stage_opens_none,
 }
-use Rattle.core_steps.specs.Routes.{Scene}
-use Rattle.core_steps.specs.Posting.{Posting}
+use Rattle.core_steps.specs.World.{World}
 use Rattle.follower_cache.specs.Seen.{FollowerState}
 use Rattle.node_name.specs.declared.NodeName.{NodeName}
 use Rattle.read_plan.specs.Readings.{Reading, taken}
@@ -50,6 +49,10 @@ use Rattle.write_plan.specs.declared.stage.WriteStage.{WriteStage}
 use Rattle.write_plan.specs.declared.stage.WriteStage.TheVariants.{Commit, Inverse, End, Relay, Apply, Done}
 use Rattle.tao_core.proofs.NamesOnce.{StandAlone}
 use Rattle.tao_core.proofs.WriteStages.{applied_over, end_keeps, inverse_keeps}
+use Rattle.replies.specs.declared.refusals.Refusal.{Refusal}
+use Rattle.core_steps.specs.ReadSteps.{IsNotGiven, IsNotRead}
+use Rattle.core_steps.specs.declared.routes.Route.{Route}
+use Rattle.tao_base.specs.declared.query.Query.{Query}
 
 -- ---- a plan that did a stage
 
@@ -234,13 +237,31 @@ mastered_first : (out : ReadOut) (ask : Option ℕ) → HasNoneAt (after_master 
 mastered_first (store.Filled fill) ask = tt
 mastered_first (store.Past answer version total note) ask = tt
 
-module _ (tells : Bool) (s : Settings) (by : NodeName) (p q : Reading) (old new : Scene) (alone : StandAlone old.fleet.followers) where
+-- nothing was carried back to a read, and no follower changed
+not_given_rests : (s : Settings) (route : Route) (read : Wanted) (refusal : Refusal) (old mid : World) → IsNotGiven s route read refusal old mid
+    → mid.fleet.followers ≡ old.fleet.followers
+not_given_rests s route read refusal old mid (inl lost) = ap (λ (x : World). x.fleet.followers) lost.rest
+not_given_rests s route read refusal old mid (inr (inl none)) = ap (λ (x : World). x.fleet.followers) none.rest
+not_given_rests s route read refusal old mid (inr (inr lost)) = ap (λ (x : World). x.fleet.followers) lost.rest
+
+not_read_rests : (s : Settings) (follower : NodeName) (query : Query) (refusal : Refusal) (old mid : World) → IsNotRead s follower query refusal old mid
+    → mid.fleet.followers ≡ old.fleet.followers
+not_read_rests s follower query refusal old mid (inl lost) = ap (λ (x : World). x.fleet.followers) lost.rest
+not_read_rests s follower query refusal old mid (inr (inl none)) = ap (λ (x : World). x.fleet.followers) none.rest
+not_read_rests s follower query refusal old mid (inr (inr lost)) = ap (λ (f : Fleet). f.followers) lost.same
+
+module _ (tells : Bool) (s : Settings) (by : NodeName) (p q : Reading) (old new : World) (alone : StandAlone old.fleet.followers) where
   abbrev Asks : Reading → Type 0
   Asks r = StepsAsks (Some (Read p)) (held_after (Read r)) old.fleet.followers new.fleet.followers
 
   ended : ChangesNode p.follower (EndsAsk p.ask) old.fleet.followers new.fleet.followers
       → StepsAsks (Some (Read p)) None old.fleet.followers new.fleet.followers
   ended change = ask_ended p old.fleet.followers new.fleet.followers (EndsAsk p.ask) alone change (ends_open p.ask)
+
+  -- after a stage that left the followers
+  ended_after : (mid : World) → mid.fleet.followers ≡ old.fleet.followers → EndsItsAsk p mid new
+      → StepsAsks (Some (Read p)) None old.fleet.followers new.fleet.followers
+  ended_after mid same ends = ended (subst (λ fs. ChangesNode p.follower (EndsAsk p.ask) fs new.fleet.followers) same ends)
 
   over_given : (given : Given) → p.at ≡ Keeping given → DoesKeep s p given old q new → Asks q
   over_given (Fill fill) at (inl from) =
@@ -264,7 +285,7 @@ module _ (tells : Bool) (s : Settings) (by : NodeName) (p q : Reading) (old new 
   look_asks false none (inr vain) =
       subst Asks (sym vain.then)
       (holds_none (Some (Read p)) None old.fleet.followers new.fleet.followers
-      (same_opens_none old.fleet.followers new.fleet.followers (ap (λ (x : Scene). x.fleet.followers) vain.same))
+      (same_opens_none old.fleet.followers new.fleet.followers (ap (λ (x : World). x.fleet.followers) vain.same))
       (λ name number. no_ask p name number none) (λ name number h. absurd h) tt)
   look_asks true none looks =
       subst Asks (sym looks.then)
@@ -274,16 +295,18 @@ module _ (tells : Bool) (s : Settings) (by : NodeName) (p q : Reading) (old new 
   read_asks Looking at none does = look_asks p.critical none does
   read_asks Asking at none (inl asks) =
       let r : Reading = taken (came.Ask (Ok asks.given)) _ _ p in
-      let same : new.fleet.followers ≡ old.fleet.followers = ap (λ (f : Fleet). f.followers) asks.over.rest in
+      let same : new.fleet.followers ≡ old.fleet.followers = ap (λ (x : World). x.fleet.followers) asks.over.rest in
       subst Asks (sym asks.then) (subst (λ held. StepsAsks (Some (Read p)) held old.fleet.followers new.fleet.followers) (sym (asked_goes asks.given (Read r)))
       (ask_stays p old.fleet.followers new.fleet.followers r same refl refl (asked_first asks.given p.ask)))
-  read_asks Asking at none (inr vain) = subst Asks (sym vain.then) (ended vain.ends)
+  read_asks Asking at none (inr vain) =
+      subst Asks (sym vain.then) (ended_after vain.mid (not_given_rests s _ _ vain.refusal old vain.mid vain.fails) vain.ends)
   read_asks Mastering at none (inl asks) =
       let r : Reading = taken (came.Master (Ok asks.out)) _ _ p in
       let same : new.fleet.followers ≡ old.fleet.followers = ap (λ (f : Fleet). f.followers) asks.over.same in
       subst Asks (sym asks.then) (subst (λ held. StepsAsks (Some (Read p)) held old.fleet.followers new.fleet.followers) (sym (mastered_goes asks.out (Read r)))
       (ask_stays p old.fleet.followers new.fleet.followers r same refl refl (mastered_first asks.out p.ask)))
-  read_asks Mastering at none (inr vain) = subst Asks (sym vain.then) (ended vain.ends)
+  read_asks Mastering at none (inr vain) =
+      subst Asks (sym vain.then) (ended_after vain.mid (not_read_rests s p.follower p.query vain.refusal old vain.mid vain.fails) vain.ends)
   read_asks (Keeping given) at none does = over_given given at does
   read_asks (Ended end) at none does = absurd does
 
@@ -293,7 +316,7 @@ module _ (tells : Bool) (s : Settings) (by : NodeName) (p q : Reading) (old new 
 same_back : (p q : Writing) → q.back ≡ p.back → IsBefore p.back → MayHold (held_after (Write q))
 same_back p q same before = kept_may (next_stage (Write q)) (Write q) (subst IsBefore (sym same) before)
 
-write_may : (tells : Bool) (s : Settings) (by : NodeName) (at : WriteStage) (p q : Writing) (old new : Posting) → next_of p ≡ at → IsBefore p.back
+write_may : (tells : Bool) (s : Settings) (by : NodeName) (at : WriteStage) (p q : Writing) (old new : World) → next_of p ≡ at → IsBefore p.back
     → DoesWriteStage (led_by tells s by) at p old q new → MayHold (held_after (Write q))
 write_may tells s by Commit p q old new is before (inl commits) = same_back p q (ap (λ (x : Writing). x.back) commits.then) before
 write_may tells s by Commit p q old new is before (inr refuses) = same_back p q (ap (λ (x : Writing). x.back) refuses.then) before
@@ -308,12 +331,12 @@ write_may tells s by Done p q old new is before does = absurd does
 
 -- ---- the stage of a plan
 
-pub steps_asks : (tells : Bool) (s : Settings) (by : NodeName) (before after : HeldPlan) (old new : Posting) → StandAlone old.scene.fleet.followers
+pub steps_asks : (tells : Bool) (s : Settings) (by : NodeName) (before after : HeldPlan) (old new : World) → StandAlone old.fleet.followers
     → OpensFirst before → StepsHeld (led_by tells s by) before old after new
-    → StepsAsks (Some before) (held_after after) old.scene.fleet.followers new.scene.fleet.followers
-steps_asks tells s by (Read p) (Read q) old new alone first steps = read_asks tells s by p q old.scene new.scene alone p.at refl first steps.steps.does
+    → StepsAsks (Some before) (held_after after) old.fleet.followers new.fleet.followers
+steps_asks tells s by (Read p) (Read q) old new alone first steps = read_asks tells s by p q old new alone p.at refl first steps.steps.does
 steps_asks tells s by (Write p) (Write q) old new alone first steps =
-    holds_none (Some (Write p)) (held_after (Write q)) old.scene.fleet.followers new.scene.fleet.followers
+    holds_none (Some (Write p)) (held_after (Write q)) old.fleet.followers new.fleet.followers
     (stage_opens_none tells s by p q old new (next_of p) steps) (λ name number h. h)
     (λ name number h. kept_holds (next_stage (Write q)) (Write q) name number h)
     (write_may tells s by (next_of p) p q old new refl first steps)

@@ -14,8 +14,8 @@ use Rattle.core_nodes.proofs.FleetLemmas.{goes_self}
 use Rattle.core_sessions.specs.Sessions.{Session, new_session, with_session}
 use Rattle.core_sessions.specs.declared.sessions.OpenSession.{OpenSession}
 use Rattle.core_steps.proofs.TellLemmas.{arrived_grows}
-use Rattle.core_steps.specs.Posting.{CanPost, posting}
-use Rattle.core_steps.specs.Routes.{scene}
+use Rattle.core_steps.specs.Posting.{CanPost}
+use Rattle.core_steps.specs.World.{world}
 use Rattle.graph_model.specs.Told.{WhereTold}
 use Rattle.node_name.specs.declared.NodeName.{NodeName}
 use Rattle.node_name.specs.declared.NodeName.TheVariants.{Store as StoreName_, Leader, Follower}
@@ -31,15 +31,18 @@ use Rattle.tao_keeper.specs.KeeperState.{KeeperState}
 use Rattle.tao_keeper.specs.Table.{Tables, Stays}
 use Rattle.tao_link.specs.Shown.{LinkShown}
 use Rattle.tao_core.specs.Core.{CoreState, IsConsistentCore, IsSessionOf, Moment}
-use Rattle.tao_core.specs.Replies.{AnswersEvict}
+use Rattle.tao_core.specs.CacheReplies.{AnswersEvict}
 use Rattle.tao_core.proofs.Arriving.{HaveCome, evicted_reach}
 use Rattle.tao_core.proofs.Told.{sessions_later}
 use Rattle.tao_core.proofs.Ways.{with_session_too}
+use Rattle.tao_core.specs.Calls.{world_at}
+use Rattle.topology.specs.States.{NodeStates}
+use Rattle.core_model.specs.States.{AreStatesOf}
 
 -- ---- a write or a repair begins
 
 pub core_can_post : (tells : Bool) (core : CoreState) (keepers : KeeperState) (link : LinkShown) → IsConsistentCore tells keepers.told core
-    → CanPost tells core.settings (posting (scene core.fleet keepers link) core.mail core.states)
+    → CanPost tells core.settings (world_at core keepers link)
 core_can_post tells core keepers link of = record { consistent = of.consistent; inboxes = of.mail; arrived = of.arrived; states = of.states }
 
 -- ---- a session is opened
@@ -96,14 +99,15 @@ module _ (tells : Bool) (tables : Tables) (core : CoreState) (of : IsConsistentC
     sessions = sessions_later tells core.settings tables later (pens_of core.fleet.stores) (pens_of fleet.stores) core.sessions grows goes.rise of.sessions;
   }
 
-  -- messages were sent
-  pub written_core : (later : Tables) (fleet : Fleet) (mail : Inboxes) → IsConsistent tells core.settings later fleet
+  -- messages were sent, and who is up stays so
+  pub written_core : (later : Tables) (states : NodeStates) (fleet : Fleet) (mail : Inboxes) → states ≡ core.states
+      → IsConsistent tells core.settings later fleet
       → AreInboxesOf core.settings (pens_of fleet.stores) mail → WhereTold tells (HaveArrived later mail) → GoesOn core.fleet fleet
-      → LogsGrow tells tables later → IsConsistentCore tells later (record core { fleet = fleet; mail = mail })
-  written_core later fleet mail consistent inboxes arrived goes grows = record {
+      → LogsGrow tells tables later → IsConsistentCore tells later (record core { states = states; fleet = fleet; mail = mail })
+  written_core later states fleet mail same consistent inboxes arrived goes grows = record {
     masters = of.masters;
     consistent = consistent;
-    states = of.states;
+    states = subst (AreStatesOf core.settings) (sym same) of.states;
     mail = inboxes;
     arrived = arrived;
     sessions = sessions_later tells core.settings tables later (pens_of core.fleet.stores) (pens_of fleet.stores) core.sessions grows goes.rise of.sessions;

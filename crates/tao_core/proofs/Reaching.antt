@@ -18,8 +18,7 @@ use Rattle.core_plans.specs.Held.{IsUnderWay, StepsHeld}
 use Rattle.core_plans.specs.declared.held.HeldPlan.{HeldPlan}
 use Rattle.core_plans.specs.declared.held.HeldPlan.TheVariants as held
 use Rattle.core_plans.specs.LedBy.{led_by}
-use Rattle.core_steps.specs.Posting.{Posting}
-use Rattle.core_steps.specs.Routes.{Scene}
+use Rattle.core_steps.specs.World.{World}
 use Rattle.follower_cache.specs.Seen.{FollowerState}
 use Rattle.graph_model.specs.Log.{version}
 use Rattle.node_name.specs.declared.NodeName.{NodeName}
@@ -81,7 +80,7 @@ hit_of types (Some item) query given at is = (
 )
 
 -- a version that the follower answers again with has come as far as its mark
-reaches_mark : (tells : Bool) (s : Settings) (name : NodeName) (query : Query) (given : Answer) (reached : ℕ) (new : Scene) → tells ≡ true
+reaches_mark : (tells : Bool) (s : Settings) (name : NodeName) (query : Query) (given : Answer) (reached : ℕ) (new : World) → tells ≡ true
     → HaveMasterRegions s → IsConsistent tells s new.keepers.told new.fleet → query_shard query < s.shards
     → ((place : ℕ) (f : FollowerState) → IsFirstAt name new.fleet.followers place → slice_get new.fleet.followers place ≡ Some (named name f)
     → look_of (types_of s.schema) (item_at f.node.items (query_key query)) query 0 ≡ Hit given reached)
@@ -98,12 +97,12 @@ reaches_mark tells s name query given reached new told masters consistent here a
 
 -- ---- a read that was held
 
-pub held_reaches : (tells : Bool) (s : Settings) (leader : NodeName) (before after : HeldPlan) (old new : Posting) (tables : Tables) (f : Fleet)
-    → StepsHeld (led_by tells s leader) before old after new → HaveMasterRegions s → IsConsistent tells s new.scene.keepers.told new.scene.fleet
+pub held_reaches : (tells : Bool) (s : Settings) (leader : NodeName) (before after : HeldPlan) (old new : World) (tables : Tables) (f : Fleet)
+    → StepsHeld (led_by tells s leader) before old after new → HaveMasterRegions s → IsConsistent tells s new.keepers.told new.fleet
     → IsUnderWay tells s tables f after
-    → HeldReaches tells s after new.scene
+    → HeldReaches tells s after new
 held_reaches tells s leader (held.Read p) (held.Read q) old new tables f steps masters consistent under = λ reply ends told kept.
-    reaches_mark tells s q.follower q.query reply.answer reply.version new.scene told masters consistent under.follower.here
+    reaches_mark tells s q.follower q.query reply.answer reply.version new told masters consistent under.follower.here
     (λ place node first at. (steps.steps.legal reply ends).1 told kept place node 0 first at (omega arith))
 held_reaches tells s leader (held.Write p) (held.Write q) old new tables f steps masters consistent under = tt
 held_reaches tells s leader (held.Read p) (held.Write q) old new tables f steps masters consistent under = tt

@@ -24,9 +24,9 @@ use Rattle.core_nodes.specs.declared.settling.SettleStop.TheVariants as stop
 use Rattle.core_plans.proofs.AsksHeld.{same_opens_none}
 use Rattle.core_plans.specs.Held.{OpensNone, is_open_ask}
 use Rattle.core_steps.proofs.TellLemmas.{arrived_grows}
-use Rattle.core_steps.specs.Posting.{Posting, posting}
+use Rattle.core_steps.specs.World.{World, world}
+use Rattle.core_steps.specs.declared.nodes.Nodes.{Nodes}
 use Rattle.core_repairs.specs.Repairs.{IsNotRepaired, RepairsFirst, RunsAll, StopsRepair, StopsRun}
-use Rattle.core_steps.specs.Routes.{scene}
 use Rattle.core_repairs.specs.declared.repairs.Ran.{Ran}
 use Rattle.core_repairs.specs.declared.repairs.RepairFailed.{RepairFailed}
 use Rattle.core_repairs.specs.declared.repairs.RepairFailed.TheVariants as repair
@@ -51,6 +51,7 @@ use Rattle.tao_core.proofs.HeldOn.{held_on, none_come}
 use Rattle.tao_core.proofs.Keeping.{written_core}
 use Rattle.tao_core.specs.Core.{CoreState, IsConsistentCore, LeavesCore, Moment, StaysHeld, moment}
 use Rattle.tao_core.specs.Settling.{HasRunJobs, IsUnsettled, SettlesCore}
+use Rattle.tao_core.specs.Calls.{world_at}
 
 -- ---- asks that stay open
 
@@ -95,13 +96,13 @@ stores_held old new goes same = record { goes = goes; opens = same_opens_none ol
 
 -- ---- repairs
 
-module _ (tells : Bool) (s : Settings) (shard : ℕ) (old new : Posting) where
-  stopped_same : (refusal : RepairRefusal) → StopsRepair tells s shard refusal old new → new.scene.fleet.followers ≡ old.scene.fleet.followers
+module _ (tells : Bool) (s : Settings) (shard : ℕ) (old new : World) where
+  stopped_same : (refusal : RepairRefusal) → StopsRepair tells s shard refusal old new → new.fleet.followers ≡ old.fleet.followers
   stopped_same refusal (inl asks) = ap (λ (f : Fleet). f.followers) asks.nodes.fleet
   stopped_same refusal (inr (inl fails)) = ap (λ (f : Fleet). f.followers) fails.rest.caches.fleet
   stopped_same refusal (inr (inr fails)) = ap (λ (f : Fleet). f.followers) fails.rest.caches.fleet
 
-  not_repaired_same : (failed : RepairFailed) → IsNotRepaired tells s shard failed old new → new.scene.fleet.followers ≡ old.scene.fleet.followers
+  not_repaired_same : (failed : RepairFailed) → IsNotRepaired tells s shard failed old new → new.fleet.followers ≡ old.fleet.followers
   not_repaired_same repair.NoServer is = ap (λ (f : Fleet). f.followers) is.asks.nodes.fleet
   not_repaired_same (repair.Refused KeeperFault) is = stopped_same KeeperFault is.1
   not_repaired_same (repair.Refused LinkFault) is = ap (λ (f : Fleet). f.followers) is.rest.caches.fleet
@@ -110,7 +111,7 @@ module _ (tells : Bool) (s : Settings) (shard : ℕ) (old new : Posting) where
 
   -- a repair changes no follower
   pub repaired_same : (outcome : Result (Option Ran) RepairFailed) → RepairsFirst tells s shard outcome old new
-      → new.scene.fleet.followers ≡ old.scene.fleet.followers
+      → new.fleet.followers ≡ old.fleet.followers
   repaired_same (Ok None) is = ap (λ (f : Fleet). f.followers) is.asks.nodes.fleet
   repaired_same (Ok (Some ran)) is = ap (λ (f : Fleet). f.followers) is.caches.fleet
   repaired_same (Err failed) is = not_repaired_same failed is
@@ -127,8 +128,9 @@ cause_before s ran mid now to last (stop.Unsettled shard why.LogFull) later is =
 cause_before s ran mid now to last (stop.NoServer shard) later is = is
 cause_before s ran mid now to last stop.OutOfMemory later is = is
 
-abbrev pub left_core : CoreState → Fleet → Inboxes → CoreState
-left_core core fleet mail = record core { fleet = fleet; mail = mail }
+-- the core, with these of its nodes up, and this fleet with the messages that wait for it
+abbrev pub left_core : CoreState → NodeStates → Fleet → Inboxes → CoreState
+left_core core states fleet mail = record core { states = states; fleet = fleet; mail = mail }
 
 -- what is said of a settle, and what it leaves
 pub record SettleLeaves (tells : Bool) (Says : Moment → Moment → Type 0) (old new : Moment) : Type 0 where
@@ -136,125 +138,128 @@ pub record SettleLeaves (tells : Bool) (Says : Moment → Moment → Type 0) (ol
   pub leaves : LeavesCore tells old.keepers new.keepers old.core new.core
   pub rest : new.core ≡ record old.core { fleet = new.core.fleet; mail = new.core.mail }
 
-module _ (tells : Bool) (core seen : CoreState) (own : core ≡ seen) (before ran : KeeperState) (from to : LinkShown) (fleet : Fleet) (mail : Inboxes)
-    (of_seen : IsConsistentCore tells before.told seen) (consistent : IsConsistent tells core.settings ran.told fleet)
-    (inboxes : AreInboxesOf core.settings (pens_of fleet.stores) mail) (arrived : WhereTold tells (HaveArrived ran.told mail)) (goes : GoesOn core.fleet fleet)
-    (caches : fleet ≡ record core.fleet { stores = fleet.stores }) (grows : StoresGrow tells core.settings before.told ran.told)
+module _ (tells : Bool) (core seen : CoreState) (own : core ≡ seen) (before ran : KeeperState) (from to : LinkShown) (end : Nodes)
+    (still_up : end.topology ≡ core.states)
+    (of_seen : IsConsistentCore tells before.told seen) (consistent : IsConsistent tells core.settings ran.told end.fleet)
+    (inboxes : AreInboxesOf core.settings (pens_of end.fleet.stores) end.mail) (arrived : WhereTold tells (HaveArrived ran.told end.mail)) (goes : GoesOn core.fleet end.fleet)
+    (caches : end.fleet ≡ record core.fleet { stores = end.fleet.stores }) (grows : StoresGrow tells core.settings before.told ran.told)
     (later : IsLater before ran) where
-  abbrev start : Posting
-  start = posting (scene core.fleet before from) core.mail core.states
+  abbrev start : World
+  start = world_at core before from
 
-  abbrev between : Posting
-  between = posting (scene fleet ran to) mail core.states
+  abbrev between : World
+  between = world end ran to
 
   of : IsConsistentCore tells before.told core
   of = subst (IsConsistentCore tells before.told) (sym own) of_seen
 
   -- as its callers see the core
   leaves_so : (Says : Moment → Moment → Type 0) (now : KeeperState) (last : LinkShown) (next : Fleet) (left : Inboxes)
-      → Says (moment core before from) (moment (left_core core next left) now last) → LeavesCore tells before now core (left_core core next left)
-      → SettleLeaves tells Says (moment seen before from) (moment (left_core core next left) now last)
+      → Says (moment core before from) (moment (left_core core end.topology next left) now last) → LeavesCore tells before now core (left_core core end.topology next left)
+      → SettleLeaves tells Says (moment seen before from) (moment (left_core core end.topology next left) now last)
   leaves_so Says now last next left says leaves =
-      subst (λ x. SettleLeaves tells Says (moment x before from) (moment (left_core core next left) now last)) own
-      (record { says = says; leaves = leaves; rest = refl })
+      subst (λ x. SettleLeaves tells Says (moment x before from) (moment (left_core core end.topology next left) now last)) own
+      (record { says = says; leaves = leaves; rest = ap (λ n. left_core core n next left) still_up })
 
   -- once jobs were run
-  ran_along : LeavesCore tells before ran core (left_core core fleet mail)
+  ran_along : LeavesCore tells before ran core (left_core core end.topology end.fleet end.mail)
   ran_along = record {
-    is_consistent = written_core tells before.told core of ran.told fleet mail consistent inboxes arrived goes grows.logs;
-    on = stores_held core.fleet fleet goes (ap (λ (f : Fleet). f.followers) caches);
-    comes = none_come tells ran.told core (left_core core fleet mail) refl;
+    is_consistent = written_core tells before.told core of ran.told end.topology end.fleet end.mail still_up consistent inboxes arrived goes grows.logs;
+    on = stores_held core.fleet end.fleet goes (ap (λ (f : Fleet). f.followers) caches);
+    comes = none_come tells ran.told core (left_core core end.topology end.fleet end.mail) still_up;
     grows = grows;
     later = later;
   }
 
-  pub stops_at_jobs : (given : SettleStop) → StopsRun tells core.settings given start between
-      → SettleLeaves tells (IsUnsettled tells given) (moment seen before from) (moment (left_core core fleet mail) ran to)
-  stops_at_jobs given stops = leaves_so (IsUnsettled tells given) ran to fleet mail (inl (record { stops = stops; rest = refl })) ran_along
+  pub stops_at_jobs : (given : SettleStop) → IsLaterLink from to → StopsRun tells core.settings given start between
+      → SettleLeaves tells (IsUnsettled tells given) (moment seen before from) (moment (left_core core end.topology end.fleet end.mail) ran to)
+  stops_at_jobs given link stops = leaves_so (IsUnsettled tells given) ran to end.fleet end.mail
+      (inl (record { stops = stops; link = link; rest = ap (λ n. left_core core n end.fleet end.mail) still_up })) ran_along
 
   -- and the keepers were read
-  module _ (runs : RunsAll tells core.settings start between) (link : IsLaterLink from to) (mid : KeeperState) (same : Fleet) (fleet_is : same ≡ fleet)
+  module _ (runs : RunsAll tells core.settings start between) (link : IsLaterLink from to) (mid : KeeperState) (same : Fleet) (fleet_is : same ≡ end.fleet)
       (read : IsConsistent tells core.settings mid.told same) (tables : KeepsTables tells ran mid) (read_later : IsLater ran mid) where
-    has_run : HasRunJobs tells (moment core before from) (moment (left_core core fleet mail) ran to)
-    has_run = record { runs = runs; keepers = later; link = link; caches = caches; rest = refl }
+    has_run : HasRunJobs tells (moment core before from) (moment (left_core core end.topology end.fleet end.mail) ran to)
+    has_run = record { runs = runs; keepers = later; link = link; caches = caches; rest = ap (λ n. left_core core n end.fleet end.mail) still_up }
 
     mid_grows : StoresGrow tells core.settings before.told mid.told
     mid_grows = stores_in_turn tells core.settings before.told ran.told mid.told grows (stays_stores tells core.settings ran mid tables)
 
-    arrived_mid : WhereTold tells (HaveArrived mid.told mail)
-    arrived_mid = arrived_grows tells ran.told mid.told mail (growing_laws.stays tells ran.told mid.told tables) arrived
+    arrived_mid : WhereTold tells (HaveArrived mid.told end.mail)
+    arrived_mid = arrived_grows tells ran.told mid.told end.mail (growing_laws.stays tells ran.told mid.told tables) arrived
 
-    read_along : LeavesCore tells before mid core (left_core core same mail)
+    read_along : LeavesCore tells before mid core (left_core core end.topology same end.mail)
     read_along = record {
-      is_consistent = written_core tells before.told core of mid.told same mail read
-          (subst (λ (f : Fleet). AreInboxesOf core.settings (pens_of f.stores) mail) (sym fleet_is) inboxes) arrived_mid
+      is_consistent = written_core tells before.told core of mid.told end.topology same end.mail still_up read
+          (subst (λ (f : Fleet). AreInboxesOf core.settings (pens_of f.stores) end.mail) (sym fleet_is) inboxes) arrived_mid
           (subst (GoesOn core.fleet) (sym fleet_is) goes) mid_grows.logs;
       on = subst (StaysHeld core.fleet) (sym fleet_is) ran_along.on;
-      comes = none_come tells mid.told core (left_core core same mail) refl;
+      comes = none_come tells mid.told core (left_core core end.topology same end.mail) still_up;
       grows = mid_grows;
       later = later_trans before ran mid later read_later;
     }
 
     pub stops_at_lengths : (given : SettleStop) → StopsLengths core.settings ran mid given
-        → SettleLeaves tells (IsUnsettled tells given) (moment seen before from) (moment (left_core core same mail) mid to)
-    stops_at_lengths given stops = leaves_so (IsUnsettled tells given) mid to same mail (inr (inl (record {
-      ran = moment (left_core core fleet mail) ran to;
+        → SettleLeaves tells (IsUnsettled tells given) (moment seen before from) (moment (left_core core end.topology same end.mail) mid to)
+    stops_at_lengths given stops = leaves_so (IsUnsettled tells given) mid to same end.mail (inr (inl (record {
+      ran = moment (left_core core end.topology end.fleet end.mail) ran to;
       jobs = has_run;
       stops = stops;
       tables = tables;
-      same = ap (λ f. moment (left_core core f mail) mid to) fleet_is;
+      same = ap (λ f. moment (left_core core end.topology f end.mail) mid to) fleet_is;
     }))) read_along
 
     -- and the nodes went on
     module _ (now : KeeperState) (last : LinkShown) (next : Fleet) (stores : next.stores ≡ same.stores)
         (caught : IsConsistent tells core.settings now.told next) (catch_goes : GoesOn same next)
-        (on : AllProcessOn tells core.settings core.states now.told same next) (reads : OnlyReads tells (outside mid to) (outside now last)) where
-      on_from : AllProcessOn tells core.settings core.states now.told fleet next
-      on_from = subst (λ f. AllProcessOn tells core.settings core.states now.told f next) fleet_is on
+        (on : AllProcessOn tells core.settings end.topology now.told same next) (reads : OnlyReads tells (outside mid to) (outside now last)) where
+      on_from : AllProcessOn tells core.settings end.topology now.told end.fleet next
+      on_from = subst (λ f. AllProcessOn tells core.settings end.topology now.told f next) fleet_is on
 
-      caught_along : (left : Inboxes) → (AreInboxesOf core.settings (pens_of fleet.stores) mail → AreInboxesOf core.settings (pens_of fleet.stores) left)
-          → WhereTold tells (HaveArrived now.told left) → LeavesCore tells before now core (left_core core next left)
+      caught_along : (left : Inboxes) → (AreInboxesOf core.settings (pens_of end.fleet.stores) end.mail → AreInboxesOf core.settings (pens_of end.fleet.stores) left)
+          → WhereTold tells (HaveArrived now.told left) → LeavesCore tells before now core (left_core core end.topology next left)
       caught_along left stays arrives =
           let held = held_on core.fleet same next read_along.on (record {
             goes = catch_goes;
-            opens = catches_open_none tells core.settings core.states now.told same.followers next.followers on.followers;
+            opens = catches_open_none tells core.settings end.topology now.told same.followers next.followers on.followers;
           }) in
           let ends = stores_in_turn tells core.settings before.told mid.told now.told mid_grows (stays_stores tells core.settings mid now reads.tables) in
           record {
-            is_consistent = written_core tells before.told core of now.told next left caught
+            is_consistent = written_core tells before.told core of now.told end.topology next left still_up caught
                 (subst (λ ms. AreInboxesOf core.settings (pens_of ms) left) (sym (stores ∙ ap (λ (f : Fleet). f.stores) fleet_is)) (stays inboxes))
                 arrives held.goes ends.logs;
             on = held;
-            comes = none_come tells now.told core (left_core core next left) refl;
+            comes = none_come tells now.told core (left_core core end.topology next left) still_up;
             grows = ends;
             later = later_trans before mid now (later_trans before ran mid later read_later) reads.keepers;
           }
 
       pub stops_at_node : (given : SettleStop) → StopsCatchUp core.settings (outside mid to) (outside now last) given
-          → SettleLeaves tells (IsUnsettled tells given) (moment seen before from) (moment (left_core core next mail) now last)
-      stops_at_node given stops = leaves_so (IsUnsettled tells given) now last next mail (inr (inr (record {
-        ran = moment (left_core core fleet mail) ran to;
+          → SettleLeaves tells (IsUnsettled tells given) (moment seen before from) (moment (left_core core end.topology next end.mail) now last)
+      stops_at_node given stops = leaves_so (IsUnsettled tells given) now last next end.mail (inr (inr (record {
+        ran = moment (left_core core end.topology end.fleet end.mail) ran to;
         jobs = has_run;
         asked = keeps_trans tells ran mid now tables reads.tables;
         stops = cause_before core.settings ran mid now to last given read_later stops;
+        link = reads.link;
         on = on_from;
         rest = refl;
-      }))) (caught_along mail (λ are. are) (arrived_grows tells mid.told now.told mail (growing_laws.stays tells mid.told now.told reads.tables) arrived_mid))
+      }))) (caught_along end.mail (λ are. are) (arrived_grows tells mid.told now.told end.mail (growing_laws.stays tells mid.told now.told reads.tables) arrived_mid))
 
       -- what is so of the tables once jobs were run is so at the end
       at_the_end : (P : Tables → Type 0) → tells ≡ true → P ran.told → P now.told
       at_the_end P told is = so_before P now.told ran.told (λ at. sym (keeps_trans tells ran mid now tables reads.tables told at)) is
 
-      caught_from : AllCatchUp core.settings core.states now.told same next → AllCatchUp core.settings core.states now.told fleet next
-      caught_from all = subst (λ f. AllCatchUp core.settings core.states now.told f next) fleet_is all
+      caught_from : AllCatchUp core.settings end.topology now.told same next → AllCatchUp core.settings end.topology now.told end.fleet next
+      caught_from all = subst (λ f. AllCatchUp core.settings end.topology now.told f next) fleet_is all
 
       -- it came to its end
       pub settles_core : (logs : List ℕ) (left : Inboxes) → WhereTold tells (logs ≡ log_lengths core.settings mid.told) → AreEmpty left
-          → (AreInboxesOf core.settings (pens_of fleet.stores) mail → AreInboxesOf core.settings (pens_of fleet.stores) left)
-          → WhereTold tells (AllCatchUp core.settings core.states now.told same next) → InversesMatch (types_of core.settings.schema)
-          → SettleLeaves tells (SettlesCore tells logs) (moment seen before from) (moment (left_core core next left) now last)
+          → (AreInboxesOf core.settings (pens_of end.fleet.stores) end.mail → AreInboxesOf core.settings (pens_of end.fleet.stores) left)
+          → WhereTold tells (AllCatchUp core.settings end.topology now.told same next) → InversesMatch (types_of core.settings.schema)
+          → SettleLeaves tells (SettlesCore tells logs) (moment seen before from) (moment (left_core core end.topology next left) now last)
       settles_core logs left lengths empty stays all match = leaves_so (SettlesCore tells logs) now last next left (record {
-        ran = moment (left_core core fleet mail) ran to;
+        ran = moment (left_core core end.topology end.fleet end.mail) ran to;
         jobs = has_run;
         reads = record {
           tables = keeps_trans tells ran mid now tables reads.tables;
@@ -270,7 +275,7 @@ module _ (tells : Bool) (core seen : CoreState) (own : core ≡ seen) (before ra
               none = none;
               paired = no_jobs_are_paired.paired (types_of core.settings.schema) (stores_in core.settings now.told) match (caught.stores.kept told) none;
               lengths = so_before (λ t. logs ≡ log_lengths core.settings t) now.told mid.told (λ at. sym (reads.tables told at)) (lengths told);
-              ends = (nodes_catch_up core.settings now.told).caught core.states same next (all told);
+              ends = (nodes_catch_up core.settings now.told).caught end.topology same next (all told);
             };
-        rest = refl;
+        rest = ap (λ n. left_core core n next left) still_up;
       }) (caught_along left stays (λ told. (arrived_stay now.told).empty left empty))

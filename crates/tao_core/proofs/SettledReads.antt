@@ -14,7 +14,7 @@ use Rattle.core_plans.specs.LedBy.{LedBy, led_by}
 use Rattle.core_plans.specs.WholeCalls.{PassesStage, PassesStages}
 use Rattle.core_plans.specs.declared.held.HeldPlan.{HeldPlan}
 use Rattle.core_plans.specs.declared.held.HeldPlan.TheVariants as of
-use Rattle.core_steps.specs.Posting.{Posting}
+use Rattle.core_steps.specs.World.{World}
 use Rattle.graph_model.proofs.Exact.{version_take}
 use Rattle.graph_model.specs.Log.{version}
 use Rattle.node_name.specs.declared.NodeName.{NodeName}
@@ -56,29 +56,29 @@ read_one : (p q : Reading) → of.Read p ≡ of.Read q → p ≡ q
 read_one p q is = cc
 
 -- the plan is the read that began, stores and nodes are settled still, and it has come to the version that stood when it began
-record ComesSoFar (s : Settings) (p : Reading) (old : Posting) (plan : HeldPlan) (now : Posting) : Type 0 where
+record ComesSoFar (s : Settings) (p : Reading) (old : World) (plan : HeldPlan) (now : World) : Type 0 where
   q : Reading
   is : plan ≡ of.Read q
   same : IsSameRead p q
-  tables : Stays old.scene.keepers.told now.scene.keepers.told
-  are : IsConsistent true s now.scene.keepers.told now.scene.fleet
-  settled : AreSettled s now.scene.keepers.told (nodes_now now.scene.fleet old.states)
-  come : HasComeTo (version_now s p old.scene.keepers) (version_now s q now.scene.keepers) q.at
+  tables : Stays old.keepers.told now.keepers.told
+  are : IsConsistent true s now.keepers.told now.fleet
+  settled : AreSettled s now.keepers.told (nodes_now now.fleet old.states)
+  come : HasComeTo (version_now s p old.keepers) (version_now s q now.keepers) q.at
 
-module _ (s : Settings) (leader : NodeName) (p : Reading) (old : Posting) (masters : HaveMasterRegions s)
+module _ (s : Settings) (leader : NodeName) (p : Reading) (old : World) (masters : HaveMasterRegions s)
     (follower_up : is_up old.states p.follower ≡ true) (leader_up : is_up old.states leader ≡ true) where
   abbrev Led : LedBy
   Led = led_by true s leader
 
-  comes_by : (q : Reading) (plan : HeldPlan) (x y : Posting) → IsSameRead p q → Stays old.scene.keepers.told x.scene.keepers.told
-      → IsConsistent true s x.scene.keepers.told x.scene.fleet → AreSettled s x.scene.keepers.told (nodes_now x.scene.fleet old.states)
-      → HasComeTo (version_now s p old.scene.keepers) (version_now s q x.scene.keepers) q.at → PassesStage Led (of.Read q) x plan y
+  comes_by : (q : Reading) (plan : HeldPlan) (x y : World) → IsSameRead p q → Stays old.keepers.told x.keepers.told
+      → IsConsistent true s x.keepers.told x.fleet → AreSettled s x.keepers.told (nodes_now x.fleet old.states)
+      → HasComeTo (version_now s p old.keepers) (version_now s q x.keepers) q.at → PassesStage Led (of.Read q) x plan y
       → ComesSoFar s p old plan y
   comes_by q (of.Read r) x y same tables are settled come stage =
       let steps = stage.steps in
-      let stays : Stays x.scene.keepers.told y.scene.keepers.told = steps.tables refl in
-      let grows = stays_stores true s x.scene.keepers y.scene.keepers steps.tables in
-      let next = read_same q r x.scene y.scene Led q.at steps.steps.does in
+      let stays : Stays x.keepers.told y.keepers.told = steps.tables refl in
+      let grows = stays_stores true s x.keepers y.keepers steps.tables in
+      let next = read_same q r x y Led q.at steps.steps.does in
       record {
         q = r;
         is = refl;
@@ -91,21 +91,21 @@ module _ (s : Settings) (leader : NodeName) (p : Reading) (old : Posting) (maste
         };
         tables = λ at. stays at ∙ tables at;
         are = stage.on.consistent;
-        settled = (settled_stays s x.scene.keepers.told y.scene.keepers.told (nodes_now x.scene.fleet old.states) (nodes_now y.scene.fleet old.states)).stay
+        settled = (settled_stays s x.keepers.told y.keepers.told (nodes_now x.fleet old.states) (nodes_now y.fleet old.states)).stay
             masters are stage.on.consistent stage.on.goes
             (record {
               leaders = λ place name node at comes. absurd (comes_not name old.states old.states refl comes);
               followers = λ place name node at comes. absurd (comes_not name old.states old.states refl comes);
             })
             grows (λ shard here. ap (λ t. t.log) (stays (master_store s shard))) settled;
-        come = (stages_miss_nothing s leader q r x.scene y.scene).whole old.states steps.steps are settled
-            (subst (λ name. is_up old.states name ≡ true) (sym same.follower) follower_up) leader_up grows.logs (version_now s p old.scene.keepers) come;
+        come = (stages_miss_nothing s leader q r x y).whole old.states steps.steps are settled
+            (subst (λ name. is_up old.states name ≡ true) (sym same.follower) follower_up) leader_up grows.logs (version_now s p old.keepers) come;
       }
   comes_by q (of.Write w) x y same tables are settled come stage = absurd stage.steps
 
-  comes_then : (n : ℕ) (plan : HeldPlan) (now : Posting) → IsConsistent true s old.scene.keepers.told old.scene.fleet
-      → AreSettled s old.scene.keepers.told (nodes_now old.scene.fleet old.states)
-      → HasComeTo (version_now s p old.scene.keepers) (version_now s p old.scene.keepers) p.at → PassesStages Led n (of.Read p) old plan now
+  comes_then : (n : ℕ) (plan : HeldPlan) (now : World) → IsConsistent true s old.keepers.told old.fleet
+      → AreSettled s old.keepers.told (nodes_now old.fleet old.states)
+      → HasComeTo (version_now s p old.keepers) (version_now s p old.keepers) p.at → PassesStages Led n (of.Read p) old plan now
       → ComesSoFar s p old plan now
   comes_then zero plan now are settled come passes =
       subst (ComesSoFar s p old plan) (sym passes.1) (record {
@@ -122,35 +122,35 @@ module _ (s : Settings) (leader : NodeName) (p : Reading) (old : Posting) (maste
       comes_by so.q plan passes.1 now so.same so.tables so.are so.settled so.come
       (subst (λ m. PassesStage Led m passes.1 plan now) so.is passes.3)
 
-  last_by : (q : Reading) (plan : HeldPlan) (x y : Posting) (reply : ReadReply) → IsSameRead p q → Stays old.scene.keepers.told x.scene.keepers.told
-      → IsConsistent true s x.scene.keepers.told x.scene.fleet → AreSettled s x.scene.keepers.told (nodes_now x.scene.fleet old.states)
-      → HasComeTo (version_now s p old.scene.keepers) (version_now s q x.scene.keepers) q.at → PassesStage Led (of.Read q) x plan y
-      → IsOver plan (Called (called.Read reply)) → reply.version ≡ version_now s p old.scene.keepers
+  last_by : (q : Reading) (plan : HeldPlan) (x y : World) (reply : ReadReply) → IsSameRead p q → Stays old.keepers.told x.keepers.told
+      → IsConsistent true s x.keepers.told x.fleet → AreSettled s x.keepers.told (nodes_now x.fleet old.states)
+      → HasComeTo (version_now s p old.keepers) (version_now s q x.keepers) q.at → PassesStage Led (of.Read q) x plan y
+      → IsOver plan (Called (called.Read reply)) → reply.version ≡ version_now s p old.keepers
   last_by q (of.Read r) x y reply same tables are settled come stage over =
       let on = comes_by q (of.Read r) x y same tables are settled come stage in
       let steps = stage.steps.steps in
-      let log = master_log s y.scene.keepers.told (query_shard r.query) in
+      let log = master_log s y.keepers.told (query_shard r.query) in
       let key = query_key r.query in
       let legal = (steps.legal reply over).0 refl in
-      let never = stage_never Led q.at q r x.scene y.scene refl steps.does in
+      let never = stage_never Led q.at q r x y refl steps.does in
       let here : on.q ≡ r = read_one on.q r (sym on.is) in
-      let come = subst (λ (x : Reading). HasComeTo (version_now s p old.scene.keepers) (version_now s x y.scene.keepers) x.at) here on.come in
-      let least : version_now s p old.scene.keepers ≤ reply.version = ended_version r.at r reply _ _ refl never over come in
+      let come = subst (λ (x : Reading). HasComeTo (version_now s p old.keepers) (version_now s x y.keepers) x.at) here on.come in
+      let least : version_now s p old.keepers ≤ reply.version = ended_version r.at r reply _ _ refl never over come in
       let most : reply.version ≤ version log key = subst (λ v. v ≤ version log key) (sym legal.version_is) (version_take legal.n log key) in
-      let now : version log key ≡ version_now s p old.scene.keepers =
-      ap (λ query. version (master_log s y.scene.keepers.told (query_shard query)) (query_key query)) (subst (λ (x : Reading). x.query ≡ p.query) here on.same.query)
+      let now : version log key ≡ version_now s p old.keepers =
+      ap (λ query. version (master_log s y.keepers.told (query_shard query)) (query_key query)) (subst (λ (x : Reading). x.query ≡ p.query) here on.same.query)
       ∙ ap (λ l. version l (query_key p.query)) (ap (λ t. t.log) (on.tables (master_store s (query_shard p.query)))) in
       omega (arith, least, most, now)
   last_by q (of.Write w) x y reply same tables are settled come stage over = absurd stage.steps
 
   -- a read that was carried out whole
-  pub read_last : (n : ℕ) (plan : HeldPlan) (now : Posting) (reply : ReadReply) → p.at ≡ Looking
-      → IsConsistent true s old.scene.keepers.told old.scene.fleet → AreSettled s old.scene.keepers.told (nodes_now old.scene.fleet old.states)
-      → PassesStages Led n (of.Read p) old plan now → IsOver plan (Called (called.Read reply)) → reply.version ≡ version_now s p old.scene.keepers
+  pub read_last : (n : ℕ) (plan : HeldPlan) (now : World) (reply : ReadReply) → p.at ≡ Looking
+      → IsConsistent true s old.keepers.told old.fleet → AreSettled s old.keepers.told (nodes_now old.fleet old.states)
+      → PassesStages Led n (of.Read p) old plan now → IsOver plan (Called (called.Read reply)) → reply.version ≡ version_now s p old.keepers
   read_last zero plan now reply begun are settled passes over =
       absurd (subst (λ at. EndsAt at p (Called (called.Read reply))) begun (subst (λ m. IsOver m (Called (called.Read reply))) passes.0 over))
   read_last (suc n) plan now reply begun are settled passes over =
-      let last = version_now s p old.scene.keepers in
+      let last = version_now s p old.keepers in
       let so = comes_then n passes.0 passes.1 are settled (subst (HasComeTo last last) (sym begun) (omega arith)) passes.2 in
       last_by so.q plan passes.1 now reply so.same so.tables so.are so.settled so.come
       (subst (λ m. PassesStage Led m passes.1 plan now) so.is passes.3) over

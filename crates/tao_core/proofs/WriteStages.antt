@@ -7,7 +7,7 @@ use Rattle.core_plans.specs.HeldWrites.{EndsHeld, MergesHeld, job_by}
 use Rattle.core_plans.specs.declared.held.HeldPlan.TheVariants.{Write}
 use Rattle.core_plans.specs.LedBy.{led_by}
 use Rattle.core_steps.specs.OtherEnds.{EndsOver, JobWay, MergesOver, job_way}
-use Rattle.core_steps.specs.Posting.{Posting}
+use Rattle.core_steps.specs.World.{World}
 use Rattle.hop_count.specs.Hops.{hops_after}
 use Rattle.node_name.specs.declared.NodeName.{NodeName}
 use Rattle.replies.specs.declared.reply.Reply.{Reply}
@@ -35,7 +35,7 @@ pub record KeepsAnswer (p q : Writing) : Type 0 where
   pub committed : q.committed ≡ p.committed
   pub back : q.back ≡ p.back
 
-module _ (tells : Bool) (s : Settings) (old new : Posting) (p q : Writing) (hops : ℕ) where
+module _ (tells : Bool) (s : Settings) (old new : World) (p q : Writing) (hops : ℕ) where
   -- it changes how far the job has come, what was written at the other end, and the carries
   keeps_answer : (job : OtherEnd) (other : Option Wrote) (count : ℕ) → q ≡ record p { job = job; other = other; hops = count } → KeepsAnswer p q
   keeps_answer job other count is = record {
@@ -68,13 +68,13 @@ pub record KeepsOn (p q : Writing) : Type 0 where
   pub committed : Committed
   pub answered : q.committed ≡ Some committed
 
-pub inverse_keeps : (tells : Bool) (s : Settings) (by : NodeName) (p q : Writing) (old new : Posting) → MergesHeld (led_by tells s by) p old q new → KeepsOn p q
+pub inverse_keeps : (tells : Bool) (s : Settings) (by : NodeName) (p q : Writing) (old new : World) → MergesHeld (led_by tells s by) p old q new → KeepsOn p q
 inverse_keeps tells s by p q old new merges =
     let keeps = merged_keeps tells s old new p q _ (job_way by (job_by p merges.job)) merges.result merges.merges merges.then in
     let one = answered p.committed merges.job merges.answered in
     record { keeps = keeps; committed = one.0; answered = keeps.committed ∙ one.1 }
 
-pub end_keeps : (tells : Bool) (s : Settings) (p q : Writing) (old new : Posting) → EndsHeld tells s p old q new → KeepsOn p q
+pub end_keeps : (tells : Bool) (s : Settings) (p q : Writing) (old new : World) → EndsHeld tells s p old q new → KeepsOn p q
 end_keeps tells s p q old new ends =
     let keeps = ended_keeps tells s old new p q 0 (job_by p ends.job) ends.result ends.ends ends.then in
     let one = answered p.committed ends.job ends.answered in

@@ -1,11 +1,13 @@
 -- What a request asks of the core, or why it is refused before any table is looked at.
-use Rattle.std.specs.Prelude.{ℕ, ◌≡◌, ◌<◌, Bool, true, false, Contains, IsSome, List, None, is_some, length, Result, Ok, ⊤, nat_lt, not}
+use Rattle.std.specs.Prelude.{ℕ, ◌≡◌, ◌<◌, Bool, true, false, IsSome, List, None, is_some, length, Result, Ok, ⊤, nat_lt, not}
 use Rattle.outcomes.specs.Results.{◌>>=◌, refused_unless}
 use Rattle.tao_base.specs.Queries.{query_key}
 use Rattle.topology.specs.Config.{Settings}
 use Rattle.requests.specs.RequestWords.{request_word}
-use Rattle.requests.specs.declared.request.Call.{Call}
-use Rattle.requests.specs.declared.request.Call.TheVariants as call
+use Rattle.requests.specs.declared.calls.Call.{Call}
+use Rattle.requests.specs.declared.calls.Call.TheVariants as call
+use Rattle.requests.specs.declared.plans.PlanRequest.{PlanRequest}
+use Rattle.requests.specs.declared.plans.PlanRequest.TheVariants as plan
 use Rattle.requests.specs.declared.request.Request.{Request}
 use Rattle.requests.specs.declared.request.Request.TheVariants as request
 use Rattle.replies.specs.declared.refusals.LineRefused.TheVariants.{NotBuilt}
@@ -16,41 +18,33 @@ use Rattle.replies.specs.declared.refusals.PlanRefused.TheVariants.{NoPlan, Plan
 use Rattle.replies.specs.declared.refusals.SessionRefused.TheVariants.{NoSession, SessionThere, SessionFull}
 use Rattle.replies.specs.declared.reply.Reply.{Reply}
 use Rattle.replies.specs.declared.reply.Reply.TheVariants.{Refused}
-use Rattle.core_model.specs.Evictions.{IsCacheOf}
-use Rattle.core_model.specs.Fleet.{follower_names}
 use Rattle.core_plans.specs.Held.{Plans, plan_at, plan_count}
 use Rattle.core_sessions.specs.Sessions.{Session, is_open, most_sessions}
+use Rattle.request_check.specs.Caches.{IsPlacedCache}
+use Rattle.request_check.specs.Health.{checked_health_word}
 use Rattle.request_check.specs.Placed.{IsPlacedKey, IsPlacedWrite}
 use Rattle.request_check.specs.Refusal.{for_name}
 use Rattle.request_check.specs.Requests.{checked_of}
+use Rattle.request_check.specs.Stores.{IsPlacedStore, checked_store_word}
 use Rattle.request_check.specs.declared.checked.Checked.{Checked}
 use Rattle.request_check.specs.declared.checked.Checked.TheVariants as checked
 use Rattle.request_check.specs.declared.checked.CheckedCall.{CheckedCall}
 use Rattle.request_check.specs.declared.checked.CheckedCall.TheVariants as checked_call
+use Rattle.request_check.specs.declared.plans.CheckedPlan.{CheckedPlan}
+use Rattle.request_check.specs.declared.plans.CheckedPlan.TheVariants as checked_plan
 use Rattle.request_check.specs.declared.refusal.CheckRefusal.{CheckRefusal}
 use Rattle.request_check.specs.declared.refusal.CheckRefusal.TheVariants as check
+use Rattle.request_check.specs.declared.stores.CheckedStore.{CheckedStore}
+use Rattle.words.specs.declared.Word.{Word}
+use Rattle.words.specs.declared.Word.TheVariants as word
 
 -- ---- what is built
 
--- the calls of objects and associations are built, held or not, and so are `advance`, `open`, `audit`, `cut`, `mend` and the words of single cache nodes
-abbrev pub is_built : Request → Bool
-is_built (request.Open opening) = true
-is_built (request.Call asked) = true
-is_built (request.Hold plan asked) = true
-is_built (request.Advance plan) = true
-is_built (request.Deliver message) = true
-is_built (request.Again message) = true
-is_built (request.Drop message) = true
-is_built (request.Refill node) = true
-is_built (request.Evict name key) = true
-is_built (request.Show name key) = true
-is_built (request.Inbox node) = true
-is_built (request.Cut link) = true
-is_built (request.Mend link) = true
-is_built (request.Repair shard) = true
-is_built (request.Audit read) = true
-is_built request.Settle = true
-is_built other = false
+-- whether the word is served: all are but `stream` and those that change the health of a node
+abbrev pub is_built : Word → Bool
+is_built word.Stream = false
+is_built (word.Health which) = false
+is_built other = true
 
 -- the refusal of a request whose word isn't built yet
 abbrev pub not_built : Request → Refusal
@@ -72,10 +66,14 @@ fresh_plan plans number = do
   new ← refused_unless (Plan (PlanThere number)) (not (is_some (plan_at plans number)))
   refused_unless (Plan (PlanFull (plan_count plans))) (nat_lt (plan_count plans) most_plans)
 
--- nothing but `hold` and `advance` names a plan
+-- a plan that a call is held under is a new one, and one that is advanced is held
+abbrev pub named_plan : Plans → PlanRequest → Result ⊤ Refusal
+named_plan plans (plan.Hold number asked) = fresh_plan plans number
+named_plan plans (plan.Advance number) = held_plan plans number
+
+-- nothing but what is asked of plans names a plan
 abbrev pub plan_for : Plans → Request → Result ⊤ Refusal
-plan_for plans (request.Hold number asked) = fresh_plan plans number
-plan_for plans (request.Advance number) = held_plan plans number
+plan_for plans (request.Plan asked) = named_plan plans asked
 plan_for plans other = Ok tt
 
 -- ---- sessions
@@ -97,9 +95,9 @@ fresh_session sessions session = do
 
 -- nothing but calls, held or not, and `open` names a session
 abbrev pub session_for : List Session → Request → Result ⊤ Refusal
-session_for sessions (request.Call asked) = open_session sessions (asking_session asked)
-session_for sessions (request.Hold plan asked) = open_session sessions (asking_session asked)
 session_for sessions (request.Open opening) = fresh_session sessions opening.session
+session_for sessions (request.Call asked) = open_session sessions (asking_session asked)
+session_for sessions (request.Plan (plan.Hold number asked)) = open_session sessions (asking_session asked)
 session_for sessions other = Ok tt
 
 -- ---- requests
@@ -107,7 +105,7 @@ session_for sessions other = Ok tt
 -- what isn't built is refused first, then a plan, and then a session
 abbrev pub admitted : List Session → Plans → Request → Result ⊤ Refusal
 admitted sessions plans asked = do
-  built ← refused_unless (not_built asked) (is_built asked)
+  built ← refused_unless (not_built asked) (is_built (request_word asked))
   held ← plan_for plans asked
   session_for sessions asked
 
@@ -122,25 +120,25 @@ abbrev pub CallCanBeDone : Settings → List Session → CheckedCall → Type 0
 CallCanBeDone s sessions (checked_call.Write call) = IsPlacedWrite s call.write × (is_open sessions call.session ≡ true)
 CallCanBeDone s sessions (checked_call.Read call) = IsPlacedKey s (query_key call.query) × (is_open sessions call.session ≡ true)
 
--- what is asked is one of what is built, each shard, key and node is configured, and a session that is to be opened isn't open, and is of a region
+-- a plan that a call is held under isn't held yet, and the call can be done; one that is advanced is held
+abbrev pub PlanCanBeDone : Settings → List Session → Plans → CheckedPlan → Type 0
+PlanCanBeDone s sessions plans (checked_plan.Hold number asked) = (plan_at plans number ≡ None) × CallCanBeDone s sessions asked
+PlanCanBeDone s sessions plans (checked_plan.Advance number) = IsSome (plan_at plans number)
+
+-- what is asked of stores is served, and is of regions and shards of the configuration
+pub record StoreCanBeDone (s : Settings) (asked : CheckedStore) : Type 0 where
+  pub built : is_built (checked_store_word asked) ≡ true
+  pub placed : IsPlacedStore s asked
+
+-- what is asked is served, each shard, key and node is configured, and a session that is to be opened isn't open, and is of a region
 abbrev pub CanBeDone : Settings → List Session → Plans → Checked → Type 0
 CanBeDone s sessions plans (checked.Open session region tier) = (is_open sessions session ≡ false) × (region < length s.regions)
 CanBeDone s sessions plans (checked.Call asked) = CallCanBeDone s sessions asked
-CanBeDone s sessions plans (checked.Hold plan asked) = (plan_at plans plan ≡ None) × CallCanBeDone s sessions asked
-CanBeDone s sessions plans (checked.Advance plan) = IsSome (plan_at plans plan)
-CanBeDone s sessions plans (checked.Deliver node message) = IsCacheOf s node
-CanBeDone s sessions plans (checked.Again node message) = IsCacheOf s node
-CanBeDone s sessions plans (checked.Drop node message) = IsCacheOf s node
-CanBeDone s sessions plans (checked.Refill node) = Contains (follower_names s) node
-CanBeDone s sessions plans (checked.Evict node key) = IsCacheOf s node
-CanBeDone s sessions plans (checked.Show node key) = IsCacheOf s node
-CanBeDone s sessions plans (checked.Inbox node) = IsCacheOf s node
-CanBeDone s sessions plans (checked.Cut link) = ⊤
-CanBeDone s sessions plans (checked.Mend link) = ⊤
-CanBeDone s sessions plans (checked.Repair shard) = shard < s.shards
-CanBeDone s sessions plans checked.Settle = ⊤
-CanBeDone s sessions plans (checked.Audit asked) = IsPlacedKey s (query_key asked.query)
-CanBeDone s sessions plans other = ⊥
+CanBeDone s sessions plans (checked.Plan asked) = PlanCanBeDone s sessions plans asked
+CanBeDone s sessions plans (checked.Cache asked) = IsPlacedCache s asked
+CanBeDone s sessions plans (checked.Store asked) = StoreCanBeDone s asked
+CanBeDone s sessions plans (checked.Health asked) = is_built (word.Health (checked_health_word asked)) ≡ true
+CanBeDone s sessions plans (checked.Link asked) = ⊤
 
 -- how it is replied that nothing is asked
 abbrev pub reply_as : CheckRefusal → Reply

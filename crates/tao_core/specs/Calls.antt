@@ -5,8 +5,7 @@ use Rattle.core_model.specs.Fleet.{IsFirstAt, named}
 use Rattle.core_model.specs.Stores.{master_log}
 use Rattle.core_plans.specs.declared.held.ToldEntries.{ToldEntries}
 use Rattle.core_sessions.specs.Sessions.{Session, SessionLearns}
-use Rattle.core_steps.specs.Routes.{Scene, scene}
-use Rattle.core_steps.specs.Posting.{Posting, posting}
+use Rattle.core_steps.specs.World.{World, world_with}
 use Rattle.core_steps.specs.declared.jobs.ToldEntry.{ToldEntry}
 use Rattle.follower_cache.specs.Seen.{FollowerState}
 use Rattle.graph_model.specs.Log.{version}
@@ -22,26 +21,28 @@ use Rattle.tao_base.specs.Queries.{query_key, query_shard}
 use Rattle.tao_base.specs.declared.query.Query.{Query}
 use Rattle.tao_base.specs.declared.entry.Entry.{Entry}
 use Rattle.topology.specs.Config.{Settings}
-use Rattle.tao_core.specs.Core.{Moment}
+use Rattle.tao_keeper.specs.KeeperState.{KeeperState}
+use Rattle.tao_link.specs.Shown.{LinkShown}
+use Rattle.tao_core.specs.Core.{CoreState, Moment}
 
--- the nodes of a core, with what is shown to them
-abbrev pub scene_of : Moment → Scene
-scene_of m = scene m.core.fleet m.keepers m.link
+-- the nodes of a core, with what its keepers and its link show
+abbrev pub world_at : CoreState → KeeperState → LinkShown → World
+world_at core keepers link = world_with core.fleet core.mail core.states keepers link
 
--- with the messages that wait
-abbrev pub posting_of : Moment → Posting
-posting_of m = posting (scene_of m) m.core.mail m.core.states
+-- the nodes of a core, with what its keepers and its link show at a moment
+abbrev pub world_of : Moment → World
+world_of m = world_at m.core m.keepers m.link
 
 -- ---- what is kept
 
 -- the version has come as far as the key's at the mark of the follower of that name
-abbrev pub ReachesMark : Settings → NodeName → Query → ℕ → Scene → Type 0
+abbrev pub ReachesMark : Settings → NodeName → Query → ℕ → World → Type 0
 ReachesMark s name query reached new = (place : ℕ) (f : FollowerState) → IsFirstAt name new.fleet.followers place
     → slice_get new.fleet.followers place ≡ Some (named name f)
     → version (take (low_at (query_shard query) f.node.served) (master_log s new.keepers.told (query_shard query))) (query_key query) ≤ reached
 
 -- what is said to be kept has
-abbrev pub KeptReaches : Bool → Settings → NodeName → Query → Reply → Scene → Type 0
+abbrev pub KeptReaches : Bool → Settings → NodeName → Query → Reply → World → Type 0
 KeptReaches tells s name query (Called (called.Read reply)) new = WhereTold tells (reply.kept ≡ Kept → ReachesMark s name query reply.version new)
 KeptReaches tells s name query reply new = ⊤
 

@@ -40,9 +40,9 @@ abbrev pub core_state : Inside → CoreState
 core_state core = record {
   settings = core.config.now;
   sessions = sessions_of core.sessions;
-  states = core.topology;
-  fleet = core.fleet;
-  mail = core.mail;
+  states = core.nodes.topology;
+  fleet = core.nodes.fleet;
+  mail = core.nodes.mail;
   plans = core.plans;
 }
 

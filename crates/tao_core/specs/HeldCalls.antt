@@ -3,6 +3,7 @@ use Rattle.std.specs.Prelude.{ℕ, ◌≡◌, ◌<◌, ◌⊎◌, ⊤, Bool, tru
 use Rattle.session_pass.specs.Passes.{IsNoteOf, SeenPass}
 use Rattle.graph_model.specs.Log.{entry_at}
 use Rattle.graph_model.specs.Told.{WhereTold}
+use Rattle.core_nodes.specs.Settling.{IsLaterLink}
 use Rattle.core_plans.specs.Held.{AddsPlan, ChangesPlan, IsOver, Plans, StepsHeld, StepsPlan, TakesPlan, next_stage, plan_at, told_of_write, told_with}
 use Rattle.core_plans.specs.HeldReads.{at_bound}
 use Rattle.core_plans.specs.declared.held.HeldPlan.{HeldPlan}
@@ -11,7 +12,7 @@ use Rattle.core_plans.specs.declared.held.ToldEntries.{ToldEntries}
 use Rattle.core_plans.specs.LedBy.{led_by}
 use Rattle.core_plans.specs.WholeCalls.{CarriesOut}
 use Rattle.core_sessions.specs.Sessions.{HasRoom, HasRoomForBoth, Session, is_open, session_at, sessions_of}
-use Rattle.core_steps.specs.Routes.{Scene}
+use Rattle.core_steps.specs.World.{World}
 use Rattle.core_steps.specs.declared.jobs.ToldEntry.{ToldEntry}
 use Rattle.node_name.specs.declared.NodeName.{NodeName}
 use Rattle.read_plan.specs.Ends.{EndsWith}
@@ -28,6 +29,8 @@ use Rattle.replies.specs.declared.reply.Reply.TheVariants.{Called, Refused}
 use Rattle.replies.specs.declared.reply.Reply.TheVariants as replied
 use Rattle.request_check.specs.declared.checked.CheckedCall.{CheckedCall}
 use Rattle.request_check.specs.declared.checked.CheckedCall.TheVariants as call
+use Rattle.request_check.specs.declared.plans.CheckedPlan.{CheckedPlan}
+use Rattle.request_check.specs.declared.plans.CheckedPlan.TheVariants as checked_plan
 use Rattle.session_pass.specs.Floors.{floor_at}
 use Rattle.tao_base.specs.Queries.{query_key, query_shard}
 use Rattle.tao_base.specs.Writes.{write_shard}
@@ -38,7 +41,7 @@ use Rattle.topology.specs.States.{NodeStates}
 use Rattle.words.specs.declared.PlanWord.{PlanWord}
 use Rattle.words.specs.declared.PlanWord.TheVariants as word
 use Rattle.write_plan.specs.Plans.{Writing, begun_write, reply_of}
-use Rattle.tao_core.specs.Calls.{KeptReaches, LearnsBoth, posting_of, scene_of}
+use Rattle.tao_core.specs.Calls.{KeptReaches, LearnsBoth, world_of}
 use Rattle.tao_core.specs.Core.{CoreState, Moment, author}
 
 -- ---- one stage
@@ -161,7 +164,7 @@ abbrev pub next_at : Plans → ℕ → Option Stage
 next_at plans number = option_and_then next_stage (plan_at plans number)
 
 -- what a read that ends says is kept has come as far as its follower's mark
-abbrev pub HeldReaches : Bool → Settings → HeldPlan → Scene → Type 0
+abbrev pub HeldReaches : Bool → Settings → HeldPlan → World → Type 0
 HeldReaches tells s (of.Read q) new = (reply : ReadReply) → EndsWith q (Called (called.Read reply))
     → KeptReaches tells s q.follower q.query (Called (called.Read reply)) new
 HeldReaches tells s (of.Write q) new = ⊤
@@ -170,17 +173,19 @@ HeldReaches tells s (of.Write q) new = ⊤
 pub record DoesStage (tells : Bool) (number : ℕ) (old new : Moment) : Type 0 where
   pub plan : HeldPlan
   pub stands : plan_at old.core.plans number ≡ Some plan
-  pub steps : StepsPlan (led_by tells old.core.settings (plan_leader old.core plan)) number old.core.plans (posting_of old) new.core.plans (posting_of new)
-  pub reaches : HeldReaches tells old.core.settings steps.after (scene_of new)
+  pub steps : StepsPlan (led_by tells old.core.settings (plan_leader old.core plan)) number old.core.plans (world_of old) new.core.plans (world_of new)
+  pub reaches : HeldReaches tells old.core.settings steps.after (world_of new)
+  pub link : IsLaterLink old.link new.link
 
--- the plan of that number did the stage that follows, and is held on or gone
+-- the plan of that number did the stage that follows, and is held on or gone; no count of the link fell, and what is cut stays so
 pub record StepsAt (tells : Bool) (asked : PlanWord) (number : ℕ) (old : Moment) (reply : Reply) (new : Moment) : Type 0 where
   pub before : HeldPlan
   pub after : HeldPlan
   pub stands : plan_at old.core.plans number ≡ Some before
-  pub steps : StepsHeld (led_by tells old.core.settings (plan_leader old.core before)) before (posting_of old) after (posting_of new)
-  pub reaches : HeldReaches tells old.core.settings after (scene_of new)
+  pub steps : StepsHeld (led_by tells old.core.settings (plan_leader old.core before)) before (world_of old) after (world_of new)
+  pub reaches : HeldReaches tells old.core.settings after (world_of new)
   pub leaves : Leaves asked (numbered_plan number after) (next_stage after) (held_in old.core) reply (held_in new.core)
+  pub link : IsLaterLink old.link new.link
   pub rest : new.core ≡ record old.core { fleet = new.core.fleet; mail = new.core.mail; plans = new.core.plans; sessions = new.core.sessions }
 
 -- ---- advance
@@ -263,10 +268,11 @@ AnswersHold tells number asked old reply new = HoldGoes tells number asked old r
 -- a plan does all of its stages at once, with the leader that is preferred for it. Its session learns what is told with its reply
 pub record DoesAtOnce (tells : Bool) (plan : HeldPlan) (old : Moment) (reply : Reply) (new : Moment) : Type 0 where
   pub after : HeldPlan
-  pub carries : CarriesOut (led_by tells old.core.settings (plan_leader old.core plan)) plan (posting_of old) after (posting_of new)
+  pub carries : CarriesOut (led_by tells old.core.settings (plan_leader old.core plan)) plan (world_of old) after (world_of new)
   pub over : IsOver after reply
-  pub reaches : HeldReaches tells old.core.settings after (scene_of new)
+  pub reaches : HeldReaches tells old.core.settings after (world_of new)
   pub learns : LearnsOf after (told_with reply after) old.core.sessions new.core.sessions
+  pub link : IsLaterLink old.link new.link
   pub rest : new.core ≡ record old.core { fleet = new.core.fleet; mail = new.core.mail; sessions = new.core.sessions }
 
 -- the plan of the call does all of its stages
@@ -278,3 +284,10 @@ pub record CallGoes (tells : Bool) (asked : CheckedCall) (old : Moment) (reply :
 -- what the reply to a call says that isn't held: its plan did all of its stages, or none was begun
 abbrev pub AnswersCall : Bool → CheckedCall → Moment → Reply → Moment → Type 0
 AnswersCall tells asked old reply new = CallGoes tells asked old reply new ⊎ RefusesCall asked old reply new
+
+-- ---- plans
+
+-- what the reply to what is asked of a plan says
+abbrev pub AnswersPlan : Bool → CheckedPlan → Moment → Reply → Moment → Type 0
+AnswersPlan tells (checked_plan.Hold number call) old reply new = AnswersHold tells number call old reply new
+AnswersPlan tells (checked_plan.Advance number) old reply new = AnswersAdvance tells number old reply new

@@ -1,8 +1,11 @@
 pub mod Asked
+pub mod CacheReplies
 pub mod Calls
 pub mod Core
 pub mod HeldCalls
 pub mod Deliveries
 pub mod Laws
+pub mod LinkReplies
 pub mod Replies
+pub mod StoreReplies
 pub mod Settling

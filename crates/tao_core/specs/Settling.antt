@@ -26,7 +26,7 @@ use Rattle.topology.specs.Choices.{master_region}
 use Rattle.topology.specs.States.{NodeStates}
 use Rattle.write_model.specs.Machine.{ArePaired}
 use Rattle.write_model.specs.Steps.{HaveNoJobs}
-use Rattle.tao_core.specs.Calls.{posting_of}
+use Rattle.tao_core.specs.Calls.{world_of}
 use Rattle.tao_core.specs.Core.{Moment}
 
 -- ---- repairs
@@ -45,14 +45,15 @@ repaired_as region keeper_faults link_faults (Err (repair.Refused OutOfMemory)) 
 pub record AnswersRepair (tells : Bool) (shard : ℕ) (old : Moment) (reply : Reply) (new : Moment) : Type 0 where
   pub outcome : Result (Option Ran) RepairFailed
   pub reply_is : reply ≡ repaired_as (master_region old.core.states shard) new.keepers.faults new.link.faults outcome
-  pub repairs : RepairsFirst tells old.core.settings shard outcome (posting_of old) (posting_of new)
+  pub repairs : RepairsFirst tells old.core.settings shard outcome (world_of old) (world_of new)
+  pub link : IsLaterLink old.link new.link
   pub rest : new.core ≡ record old.core { fleet = new.core.fleet; mail = new.core.mail }
 
 -- ---- settles
 
 -- all open jobs were run, which leaves no node but the stores changed
 pub record HasRunJobs (tells : Bool) (old ran : Moment) : Type 0 where
-  pub runs : RunsAll tells old.core.settings (posting_of old) (posting_of ran)
+  pub runs : RunsAll tells old.core.settings (world_of old) (world_of ran)
   pub keepers : IsLater old.keepers ran.keepers
   pub link : IsLaterLink old.link ran.link
   pub caches : ran.core.fleet ≡ record old.core.fleet { stores = ran.core.fleet.stores }
@@ -80,7 +81,8 @@ pub record SettlesCore (tells : Bool) (logs : List ℕ) (old new : Moment) : Typ
 
 -- a settle stopped while the jobs were run
 pub record StopsAtJobs (tells : Bool) (given : SettleStop) (old new : Moment) : Type 0 where
-  pub stops : StopsRun tells old.core.settings given (posting_of old) (posting_of new)
+  pub stops : StopsRun tells old.core.settings given (world_of old) (world_of new)
+  pub link : IsLaterLink old.link new.link
   pub rest : new.core ≡ record old.core { fleet = new.core.fleet; mail = new.core.mail }
 
 -- a settle stopped at the lengths of the logs, once the jobs had been run
@@ -97,6 +99,7 @@ pub record StopsAtNode (tells : Bool) (given : SettleStop) (old new : Moment) : 
   pub jobs : HasRunJobs tells old ran
   pub asked : KeepsTables tells ran.keepers new.keepers
   pub stops : StopsCatchUp old.core.settings (outside ran.keepers ran.link) (outside new.keepers new.link) given
+  pub link : IsLaterLink ran.link new.link
   pub on : AllProcessOn tells new.core.settings new.core.states new.keepers.told ran.core.fleet new.core.fleet
   pub rest : new.core ≡ record ran.core { fleet = new.core.fleet }
 

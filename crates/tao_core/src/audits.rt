@@ -1,5 +1,5 @@
 //! Audits.
-ghost use Rattle.tao_core.specs.Replies.{AnswersAudit};
+ghost use Rattle.tao_core.specs.StoreReplies.{AnswersAudit};
 ghost use Rattle.tao_keeper.specs.KeeperState.{IsLater, KeepsTables};
 
 use crate::refusals::failed_as;

@@ -18,7 +18,6 @@ use core_steps::out_of_memory;
 use node_name::NodeName;
 use replies::Reply;
 use request_check::{CheckedCall, CheckedWrite};
-use std::alloc::Global;
 use tao_base::{Origin, OutOfMemory};
 use tao_keeper::Keeper;
 use tao_link::Link;
@@ -179,11 +178,13 @@ impl<'c> Core<'c> {
         match plan {
             HeldPlan::Read(plan) => {
                 let shard = plan.query().shard();
-                self.topology.preferred(plan.region(), shard)
+                self.nodes.topology.preferred(plan.region(), shard)
             }
             HeldPlan::Write(plan) => {
                 let shard = plan.write().shard();
-                self.topology.preferred(self.topology.master(shard), shard)
+                self.nodes
+                    .topology
+                    .preferred(self.nodes.topology.master(shard), shard)
             }
         }
     }
@@ -191,7 +192,6 @@ impl<'c> Core<'c> {
     /// Answers a session's call: its plan does all of its stages, and its session learns what the reply tells.
     pub(crate) fn answer<K: Keeper, L: Link>(
         &mut self,
-        alloc: Global,
         keepers: &mut K,
         link: &mut L,
         call: CheckedCall,
@@ -202,17 +202,19 @@ impl<'c> Core<'c> {
             (moment self.new (K.state keepers.new) (L.shown link.new)) }
         ensures usable { StaysUsable K.TELLS (K.state keepers.old) (K.state keepers.new) self.old self.new }
     {
-        let mut plan = match begin_plan(&mut self.sessions, &self.topology, self.config, call) {
+        let mut plan = match begin_plan(
+            &mut self.sessions,
+            &self.nodes.topology,
+            self.config,
+            call,
+        ) {
             Ok(plan) => plan,
             Err(reply) => return reply,
         };
         let leader = self.plan_leader(&plan);
         carry_out(
-            alloc,
-            &mut self.fleet,
-            &mut self.mail,
+            &mut self.nodes,
             self.config,
-            &self.topology,
             keepers,
             link,
             leader,

@@ -107,8 +107,8 @@ impl<'c> Core<'c> {
         ensures rest { self.new ≡ record self.old { fleet = self.new.fleet } }
     {
         let message_told = told(&message);
-        let dropped = self.fleet.deliver(self.config, node, message);
-        match self.fleet.mark(node, message_told.shard) {
+        let dropped = self.nodes.fleet.deliver(self.config, node, message);
+        match self.nodes.fleet.mark(node, message_told.shard) {
             Some(mark) => Reply::Node(NodeReply::Cache(CacheReply::Delivered(DeliveredReply {
                 word,
                 dropped,
@@ -131,7 +131,7 @@ impl<'c> Core<'c> {
         ensures on { StaysHeld self.old.fleet self.new.fleet }
         ensures rest { self.new ≡ record self.old { fleet = self.new.fleet; mail = self.new.mail } }
     {
-        match self.mail.take(node, place as usize) {
+        match self.nodes.mail.take(node, place as usize) {
             Some(message) => self.process(DeliveryWord::Deliver, node, message),
             None => no_message(place),
         }
@@ -148,7 +148,7 @@ impl<'c> Core<'c> {
         ensures on { StaysHeld self.old.fleet self.new.fleet }
         ensures rest { self.new ≡ record self.old { fleet = self.new.fleet } }
     {
-        match self.mail.copy(node, place as usize) {
+        match self.nodes.mail.copy(node, place as usize) {
             Ok(copy) => match copy {
                 Some(message) => self.process(DeliveryWord::Again, node, message),
                 None => no_message(place),
@@ -165,7 +165,7 @@ impl<'c> Core<'c> {
         ensures inboxes { AreInboxesOf self.old.settings (pens_of self.old.fleet.stores) self.new.mail }
         ensures rest { self.new ≡ record self.old { mail = self.new.mail } }
     {
-        lost_as(self.mail.take(node, place as usize), place)
+        lost_as(self.nodes.mail.take(node, place as usize), place)
     }
 
     /// The messages that wait for a node.
@@ -174,7 +174,7 @@ impl<'c> Core<'c> {
         requires node { IsCacheOf self.now.settings node }
         ensures { AnswersInbox node self.now result }
     {
-        match self.mail.messages(alloc, node) {
+        match self.nodes.mail.messages(alloc, node) {
             Ok(messages) => Reply::Node(NodeReply::Cache(CacheReply::Inbox { messages })),
             Err(OutOfMemory) => out_of_memory(),
         }
@@ -187,10 +187,10 @@ impl<'c> Core<'c> {
         ensures { (tells : Bool) (keepers : KeeperState) (link : LinkShown) → IsConsistentCore tells keepers.told self.now
             → AnswersShow tells node key (moment self.now keepers link) result }
     {
-        let Some(mark) = self.fleet.mark(node, key.shard()) else {
+        let Some(mark) = self.nodes.fleet.mark(node, key.shard()) else {
             unreachable!()
         };
-        match shown_item(alloc, self.fleet.item(node, key)) {
+        match shown_item(alloc, self.nodes.fleet.item(node, key)) {
             Ok(item) => Reply::Node(NodeReply::Cache(CacheReply::Shown { mark, item })),
             Err(OutOfMemory) => out_of_memory(),
         }
@@ -199,7 +199,6 @@ impl<'c> Core<'c> {
     /// Reads a refill of a follower: its plan does all of its stages.
     fn read_refill<K: Keeper, L: Link>(
         &mut self,
-        alloc: Global,
         keepers: &mut K,
         link: &mut L,
         node: NodeName,
@@ -219,11 +218,8 @@ impl<'c> Core<'c> {
         let mut plan = HeldPlan::Read(read);
         let leader = self.plan_leader(&plan);
         carry_out(
-            alloc,
-            &mut self.fleet,
-            &mut self.mail,
+            &mut self.nodes,
             self.config,
-            &self.topology,
             keepers,
             link,
             leader,
@@ -235,7 +231,6 @@ impl<'c> Core<'c> {
     /// Takes the oldest refill of a follower out, and reads it.
     pub(crate) fn refill<K: Keeper, L: Link>(
         &mut self,
-        alloc: Global,
         keepers: &mut K,
         link: &mut L,
         node: NodeName,
@@ -247,8 +242,8 @@ impl<'c> Core<'c> {
         ensures leaves { LeavesCore K.TELLS (K.state keepers.old) (K.state keepers.new) self.old self.new }
         ensures same { self.new ≡ record self.old { fleet = self.new.fleet; mail = self.new.mail } }
     {
-        match self.fleet.next_refill(self.config, node) {
-            Some(refill) => refilled_as(self.read_refill(alloc, keepers, link, node, refill)),
+        match self.nodes.fleet.next_refill(self.config, node) {
+            Some(refill) => refilled_as(self.read_refill(keepers, link, node, refill)),
             None => no_refill(node),
         }
     }

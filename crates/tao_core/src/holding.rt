@@ -3,28 +3,25 @@ ghost use Rattle.std.specs.Prelude.{◌≡◌, IfSome, IsSome, None, OnErr, OnOk
 ghost use Rattle.core_plans.specs.Held.{CanStep, IsUnderWay, OpensFirst, StepsPlan, learner, plan_at};
 ghost use Rattle.core_plans.specs.LedBy.{led_by};
 ghost use Rattle.core_sessions.specs.Sessions.{HasRoomForBoth, sessions_of};
-ghost use Rattle.core_steps.specs.Routes.{scene};
-ghost use Rattle.core_steps.specs.Posting.{CanPost, PostsOn, posting};
-ghost use Rattle.tao_core.specs.Asked.{CallCanBeDone};
+ghost use Rattle.core_steps.specs.Posting.{CanPost, PostsOn};
+ghost use Rattle.core_steps.specs.World.{world};
+ghost use Rattle.tao_core.specs.Asked.{CallCanBeDone, PlanCanBeDone};
 ghost use Rattle.tao_core.specs.Core.{IsCoreOf, IsOfSession, StaysUsable, author, moment};
-ghost use Rattle.tao_core.specs.HeldCalls.{AnswersHold, EndsPlan, HasRoomFor, MayLearn, StepsAt};
+ghost use Rattle.tao_core.specs.HeldCalls.{AnswersHold, AnswersPlan, EndsPlan, HasRoomFor, MayLearn, StepsAt};
 ghost use Rattle.tao_core.specs.HeldCalls.{held_seen, next_at, plan_leader, told_with_number};
 
 use crate::calls::{begin_plan, finish_plan};
 use crate::serving::Core;
-use core_mail::Mail;
-use core_nodes::Fleet;
 use core_plans::HeldPlans;
 use core_sessions::Sessions;
-use core_steps::out_of_memory;
+use core_steps::{Nodes, out_of_memory};
 use node_name::NodeName;
 use replies::{PlanReply, Reply, Stage};
-use request_check::CheckedCall;
-use std::alloc::Global;
+use request_check::{CheckedCall, CheckedPlan};
 use tao_base::OutOfMemory;
 use tao_keeper::Keeper;
 use tao_link::Link;
-use topology::{Config, Topology};
+use topology::Config;
 use words::PlanWord;
 
 /// The reply of a plan that is over.
@@ -85,36 +82,31 @@ fn room_for_last(plans: &HeldPlans, sessions: &mut Sessions, number: u32) -> Res
 /// Does the stage of a held plan that follows. Before the last stage of a write room is made for what its session is to learn; where
 /// memory is wanting for that, the plan is over.
 fn step_or_give_up<K: Keeper, L: Link>(
-    alloc: Global,
     plans: &mut HeldPlans,
     sessions: &mut Sessions,
-    fleet: &mut Fleet,
-    mail: &mut Mail,
+    nodes: &mut Nodes,
     config: &Config,
-    topology: &Topology,
     keepers: &mut K,
     link: &mut L,
     leader: NodeName,
     number: u32,
 )
-    requires ready { CanPost K.TELLS config.now (posting (scene fleet.old (K.state keepers.old) (L.shown link.old)) mail.old topology.now) }
-    requires can { CanStep K.TELLS config.now (K.state keepers.old).told fleet.old leader (plan_at plans.old number) }
+    requires ready { CanPost K.TELLS config.now (world nodes.old (K.state keepers.old) (L.shown link.old)) }
+    requires can { CanStep K.TELLS config.now (K.state keepers.old).told nodes.old.fleet leader (plan_at plans.old number) }
     requires author { IfSome (plan_at plans.old number) (IsOfSession (sessions_of sessions.old)) }
     requires begun { IfSome (plan_at plans.old number) OpensFirst }
     ensures steps { StepsPlan (led_by K.TELLS config.now leader) number
-        plans.old (posting (scene fleet.old (K.state keepers.old) (L.shown link.old)) mail.old topology.now)
-        plans.new (posting (scene fleet.new (K.state keepers.new) (L.shown link.new)) mail.new topology.now) }
-    ensures under_way { IfSome (plan_at plans.new number) (IsUnderWay K.TELLS config.now (K.state keepers.new).told fleet.new) }
+        plans.old (world nodes.old (K.state keepers.old) (L.shown link.old))
+        plans.new (world nodes.new (K.state keepers.new) (L.shown link.new)) }
+    ensures under_way { IfSome (plan_at plans.new number) (IsUnderWay K.TELLS config.now (K.state keepers.new).told nodes.new.fleet) }
     ensures on { PostsOn K.TELLS config.now
-        (posting (scene fleet.old (K.state keepers.old) (L.shown link.old)) mail.old topology.now)
-        (posting (scene fleet.new (K.state keepers.new) (L.shown link.new)) mail.new topology.now) }
+        (world nodes.old (K.state keepers.old) (L.shown link.old))
+        (world nodes.new (K.state keepers.new) (L.shown link.new)) }
     ensures same { sessions_of sessions.new ≡ sessions_of sessions.old }
     ensures room { IfSome (plan_at plans.new number) (λ plan. HasRoomFor plan sessions.new) }
 {
     match room_for_last(plans, sessions, number) {
-        Ok(()) => plans.step(
-            alloc, fleet, mail, config, topology, keepers, link, leader, number,
-        ),
+        Ok(()) => plans.step(nodes, config, keepers, link, leader, number),
         Err(OutOfMemory) => plans.give_up(number),
     }
 }
@@ -123,7 +115,6 @@ impl<'c> Core<'c> {
     /// Does the stage of a held plan that follows, with the leader that is preferred for it.
     pub(crate) fn step_plan<K: Keeper, L: Link>(
         &mut self,
-        alloc: Global,
         keepers: &mut K,
         link: &mut L,
         word: PlanWord,
@@ -140,13 +131,10 @@ impl<'c> Core<'c> {
         };
         let leader = self.plan_leader(plan);
         step_or_give_up(
-            alloc,
             &mut self.plans,
             &mut self.sessions,
-            &mut self.fleet,
-            &mut self.mail,
+            &mut self.nodes,
             self.config,
-            &self.topology,
             keepers,
             link,
             leader,
@@ -165,7 +153,6 @@ impl<'c> Core<'c> {
     /// Holds a session's call in a plan, and does its first stage.
     pub(crate) fn hold<K: Keeper, L: Link>(
         &mut self,
-        alloc: Global,
         keepers: &mut K,
         link: &mut L,
         number: u32,
@@ -178,13 +165,34 @@ impl<'c> Core<'c> {
             (moment self.new (K.state keepers.new) (L.shown link.new)) }
         ensures usable { StaysUsable K.TELLS (K.state keepers.old) (K.state keepers.new) self.old self.new }
     {
-        let plan = match begin_plan(&mut self.sessions, &self.topology, self.config, call) {
+        let plan = match begin_plan(&mut self.sessions, &self.nodes.topology, self.config, call) {
             Ok(plan) => plan,
             Err(reply) => return reply,
         };
         match self.plans.add(number, plan) {
-            Ok(()) => self.step_plan(alloc, keepers, link, PlanWord::Hold, number),
+            Ok(()) => self.step_plan(keepers, link, PlanWord::Hold, number),
             Err(OutOfMemory) => out_of_memory(),
+        }
+    }
+
+    /// Does what is asked of a plan.
+    pub(crate) fn perform_plan<K: Keeper, L: Link>(
+        &mut self,
+        keepers: &mut K,
+        link: &mut L,
+        asked: CheckedPlan,
+    ) -> Reply
+        requires keepers { IsCoreOf K.TELLS (K.state keepers.old).told self.old }
+        requires can { PlanCanBeDone self.old.settings self.old.sessions self.old.plans asked }
+        ensures does { AnswersPlan K.TELLS asked (moment self.old (K.state keepers.old) (L.shown link.old)) result
+            (moment self.new (K.state keepers.new) (L.shown link.new)) }
+        ensures usable { StaysUsable K.TELLS (K.state keepers.old) (K.state keepers.new) self.old self.new }
+    {
+        match asked {
+            CheckedPlan::Hold { plan, call } => self.hold(keepers, link, plan, call),
+            CheckedPlan::Advance { plan } => {
+                self.step_plan(keepers, link, PlanWord::Advance, plan)
+            }
         }
     }
 }

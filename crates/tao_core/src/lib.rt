@@ -31,14 +31,17 @@
 #![tactic(auto)]
 
 mod audits;
+mod caches;
 mod calls;
 mod deliveries;
 mod holding;
 pub mod laws;
+mod links;
 mod refusals;
 mod resolving;
 mod serving;
 mod settling;
+mod stores;
 mod teaching;
 
 pub use core_sessions::OpenSession;

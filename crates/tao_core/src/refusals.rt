@@ -1,6 +1,6 @@
 //! The replies where a keeper gives no answer, or no node can be chosen.
 ghost use Rattle.std.specs.Prelude.{◌≡◌};
-ghost use Rattle.tao_core.specs.Replies.{failed_as};
+ghost use Rattle.tao_core.specs.StoreReplies.{failed_as};
 
 use core_steps::out_of_memory;
 use node_name::NodeName;

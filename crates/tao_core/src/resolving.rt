@@ -4,15 +4,16 @@ ghost use Rattle.core_sessions.specs.Sessions.{sessions_of};
 ghost use Rattle.outcomes.specs.Results.{Gives};
 ghost use Rattle.request_check.specs.Refusal.{replied, reply_unless_memory};
 ghost use Rattle.tao_core.specs.Asked.{CanBeDone, admitted, asked_of, held_plan, is_built, fresh_session, fresh_plan, not_built, open_session, plan_for};
-ghost use Rattle.tao_core.specs.Asked.{session_for, asking_session};
+ghost use Rattle.tao_core.specs.Asked.{named_plan, session_for, asking_session};
 
 use core_plans::HeldPlans;
 use core_sessions::Sessions;
 use replies::{LineRefused, PlanRefused, Refusal, Reply, SessionRefused};
 use request_check::{CheckRefusal, Checked, check};
-use requests::{Call, Request};
+use requests::{Call, PlanRequest, Request};
 use std::alloc::Global;
 use topology::Config;
+use words::Word;
 
 /// The most sessions that may be open.
 const MOST_SESSIONS: usize = 1024;
@@ -43,7 +44,7 @@ pub(crate) fn resolve(
 fn admit(sessions: &Sessions, plans: &HeldPlans, request: &Request) -> Result<(), Refusal>
     ensures { result ≡ admitted (sessions_of sessions.now) plans.now request.now }
 {
-    if !is_built(request) {
+    if !is_built(request.word()) {
         return Err(not_built(request));
     }
     plan_for(plans, request)?;
@@ -52,32 +53,15 @@ fn admit(sessions: &Sessions, plans: &HeldPlans, request: &Request) -> Result<()
 
 // ---- what is built
 
-fn is_built(request: &Request) -> bool
-    ensures { result ≡ is_built request.now }
+/// Whether the word is served: all are but `stream` and those that change the health of a node.
+fn is_built(word: Word) -> bool
+    ensures { result ≡ is_built word }
 {
-    match request {
-        Request::Open(_)
-        | Request::Call(_)
-        | Request::Hold { .. }
-        | Request::Advance { .. }
-        | Request::Deliver(_)
-        | Request::Again(_)
-        | Request::Drop(_)
-        | Request::Refill { .. }
-        | Request::Evict { .. }
-        | Request::Show { .. }
-        | Request::Inbox { .. }
-        | Request::Cut(_)
-        | Request::Mend(_)
-        | Request::Repair { .. }
-        | Request::Audit(_)
-        | Request::Settle => true,
-        _ => false,
-    }
+    !matches!(word, Word::Stream | Word::Health(_))
 }
 
 /// That the request's word isn't built yet.
-pub(crate) fn not_built(request: &Request) -> Refusal
+fn not_built(request: &Request) -> Refusal
     ensures { result ≡ not_built request.now }
 {
     Refusal::Line(LineRefused::NotBuilt {
@@ -113,13 +97,22 @@ fn new_plan(plans: &HeldPlans, plan: u32) -> Result<(), Refusal>
     }
 }
 
+/// Refuses the plan that is named, unless it may.
+fn named_plan(plans: &HeldPlans, asked: &PlanRequest) -> Result<(), Refusal>
+    ensures { result ≡ named_plan plans.now asked.now }
+{
+    match asked {
+        PlanRequest::Hold { plan, .. } => new_plan(plans, *plan),
+        PlanRequest::Advance { plan } => held_plan(plans, *plan),
+    }
+}
+
 /// Refuses the plan that the request names, unless it may.
 fn plan_for(plans: &HeldPlans, request: &Request) -> Result<(), Refusal>
     ensures { result ≡ plan_for plans.now request.now }
 {
     match request {
-        Request::Hold { plan, .. } => new_plan(plans, *plan),
-        Request::Advance { plan } => held_plan(plans, *plan),
+        Request::Plan(asked) => named_plan(plans, asked),
         _ => Ok(()),
     }
 }
@@ -166,9 +159,9 @@ fn session_for(sessions: &Sessions, request: &Request) -> Result<(), Refusal>
     ensures { result ≡ session_for (sessions_of sessions.now) request.now }
 {
     match request {
-        Request::Call(call) => open_session(sessions, session_of(call)),
-        Request::Hold { call, .. } => open_session(sessions, session_of(call)),
         Request::Open(opening) => fresh_session(sessions, opening.session),
+        Request::Call(call) => open_session(sessions, session_of(call)),
+        Request::Plan(PlanRequest::Hold { call, .. }) => open_session(sessions, session_of(call)),
         _ => Ok(()),
     }
 }

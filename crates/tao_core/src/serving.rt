@@ -4,12 +4,13 @@ ghost use Rattle.core_nodes.specs.Shown.{IsHeldAt, IsMarkAt};
 ghost use Rattle.core_nodes.specs.Opening.{IsOpened, MayOpen, RefusesOpening};
 ghost use Rattle.graph_model.specs.Told.{WhereTold};
 ghost use Rattle.tao_core.specs.Asked.{CanBeDone, reply_as};
-ghost use Rattle.tao_core.specs.Core.{CoreState, IsConsistentCore, IsCoreOf, IsNewCore, StaysHeld, StaysUsable, moment};
+ghost use Rattle.tao_core.specs.Core.{IsConsistentCore, IsCoreOf, IsNewCore, StaysHeld, StaysUsable, moment};
 ghost use Rattle.core_nodes.specs.Beginning.{AreAtStores};
 ghost use Rattle.core_model.specs.Stores.{AreStores, store_count};
 ghost use Rattle.core_model.specs.Consistent.{IsFleetOf};
 ghost use Rattle.core_model.specs.Evictions.{IsCacheOf};
-ghost use Rattle.tao_core.specs.Replies.{AnswersAsked, AnswersEvict, AnswersOpen, AnswersRequest, AnswersSwitch};
+ghost use Rattle.tao_core.specs.CacheReplies.{AnswersEvict};
+ghost use Rattle.tao_core.specs.Replies.{AnswersAsked, AnswersOpen, AnswersRequest};
 ghost use Rattle.tao_keeper.specs.KeeperState.{KeeperState};
 ghost use Rattle.tao_link.specs.Shown.{LinkShown};
 ghost use Rattle.core_sessions.specs.Sessions.{is_open, session_at};
@@ -19,18 +20,18 @@ ghost use Rattle.tao_keeper.specs.Growing.{LogsGrow};
 ghost use Rattle.tao_keeper.specs.Table.{Tables};
 ghost use Rattle.tao_keeper.specs.KeeperState.{IsLater};
 
-use crate::audits::audit;
-use crate::resolving::{not_built, resolve};
+use crate::links::perform_link;
+use crate::resolving::resolve;
 use cache_items::Item;
 use core_mail::Mail;
 use core_model::masters_are_regions;
 use core_nodes::Fleet;
 use core_plans::HeldPlans;
 use core_sessions::{OpenSession, Sessions};
-use core_steps::out_of_memory;
+use core_steps::{Nodes, out_of_memory};
 use node_name::NodeName;
 use replies::{CacheReply, NodeReply, OpenRefusal, Reply};
-use request_check::{CheckRefusal, Checked, LinkPlace};
+use request_check::{CheckRefusal, Checked};
 use requests::Request;
 use std::alloc::Global;
 use std::marker::Model;
@@ -38,7 +39,6 @@ use tao_base::{Key, OutOfMemory};
 use tao_keeper::Keeper;
 use tao_link::Link;
 use topology::{Config, Topology};
-use words::{LinkWord, PlanWord};
 
 /// The core of a run: its configuration, the sessions that are open with what they were told of, which nodes are up, the messages that
 /// wait, the calls that are held, and the nodes: followers, leaders, and the stores of the shards. What the stores hold lies with the
@@ -47,9 +47,7 @@ use words::{LinkWord, PlanWord};
 pub struct Core<'c> {
     pub(crate) config: &'c Config,
     pub(crate) sessions: Sessions,
-    pub(crate) topology: Topology,
-    pub(crate) fleet: Fleet,
-    pub(crate) mail: Mail,
+    pub(crate) nodes: Nodes,
     pub(crate) plans: HeldPlans,
 }
 
@@ -96,9 +94,12 @@ impl<'c> Core<'c> {
             Ok(mail) => Ok(Core {
                 config,
                 sessions: Sessions::new(alloc),
-                topology,
-                fleet,
-                mail,
+                nodes: Nodes {
+                    alloc,
+                    fleet,
+                    mail,
+                    topology,
+                },
                 plans: HeldPlans::new(alloc),
             }),
             Err(OutOfMemory) => Err(OpenRefusal::OutOfMemory),
@@ -126,7 +127,7 @@ impl<'c> Core<'c> {
         ensures usable { StaysUsable K.TELLS (K.state keepers.old) (K.state keepers.new) self.old self.new }
     {
         match resolve(alloc, self.config, &self.sessions, &self.plans, request) {
-            Ok(asked) => self.perform(alloc, keepers, link, request, asked),
+            Ok(asked) => self.perform(alloc, keepers, link, asked),
             Err(refusal) => unasked(refusal),
         }
     }
@@ -137,7 +138,6 @@ impl<'c> Core<'c> {
         alloc: Global,
         keepers: &mut K,
         link: &mut L,
-        request: &Request,
         asked: Checked,
     ) -> Reply
         requires keepers { IsCoreOf K.TELLS (K.state keepers.old).told self.old }
@@ -159,24 +159,12 @@ impl<'c> Core<'c> {
                 };
                 self.open_session(alloc, opened)
             }
-            Checked::Cut(place) => switch(link, LinkWord::Cut, place, false),
-            Checked::Mend(place) => switch(link, LinkWord::Mend, place, true),
-            Checked::Call(call) => self.answer(alloc, keepers, link, call),
-            Checked::Hold { plan, call } => self.hold(alloc, keepers, link, plan, call),
-            Checked::Advance { plan } => {
-                self.step_plan(alloc, keepers, link, PlanWord::Advance, plan)
-            }
-            Checked::Deliver { node, message } => self.deliver(node, message),
-            Checked::Again { node, message } => self.deliver_again(node, message),
-            Checked::Drop { node, message } => self.lose(node, message),
-            Checked::Refill { node } => self.refill(alloc, keepers, link, node),
-            Checked::Evict { node, key } => self.evict(node, key),
-            Checked::Show { node, key } => self.show(alloc, node, key),
-            Checked::Inbox { node } => self.show_inbox(alloc, node),
-            Checked::Repair { shard } => self.repair(alloc, keepers, link, shard),
-            Checked::Audit(call) => audit(alloc, self.config, keepers, &call),
-            Checked::Settle => self.settle(alloc, keepers, link),
-            _ => Reply::Refused(not_built(request)),
+            Checked::Call(call) => self.answer(keepers, link, call),
+            Checked::Plan(asked) => self.perform_plan(keepers, link, asked),
+            Checked::Cache(asked) => self.perform_cache(alloc, keepers, link, asked),
+            Checked::Store(asked) => self.perform_store(alloc, keepers, link, asked),
+            Checked::Health(_) => unreachable!(),
+            Checked::Link(asked) => perform_link(link, asked),
         }
     }
 
@@ -185,7 +173,7 @@ impl<'c> Core<'c> {
     pub fn item(&self, node: NodeName, key: Key) -> Option<&Item>
         ensures { IsHeldAt self.now.fleet node key (option_copied result) }
     {
-        self.fleet.item(node, key)
+        self.nodes.fleet.item(node, key)
     }
 
     /// The low-water mark of a leader or follower for the shard, up to which it has processed the shard's log; 0 where it doesn't serve
@@ -193,7 +181,7 @@ impl<'c> Core<'c> {
     pub fn mark(&self, node: NodeName, shard: u16) -> Option<u64>
         ensures { IsMarkAt self.now.fleet node shard result }
     {
-        self.fleet.mark(node, shard)
+        self.nodes.fleet.mark(node, shard)
     }
 
     /// The version that a session's reads of the key have at least: the greatest that its writes which were carried out gave the key. None
@@ -213,7 +201,7 @@ impl<'c> Core<'c> {
         ensures keepers { (tells : Bool) (tables : Tables) → IsConsistentCore tells tables self.old → IsConsistentCore tells tables self.new }
         ensures rest { self.new ≡ record self.old { sessions = self.new.sessions } }
     {
-        let Ok(notes) = self.fleet.notes(alloc, self.config) else {
+        let Ok(notes) = self.nodes.fleet.notes(alloc, self.config) else {
             return out_of_memory();
         };
         let session = opened.session;
@@ -224,15 +212,16 @@ impl<'c> Core<'c> {
     }
 
     /// Drops an item of a cache node.
-    fn evict(&mut self, node: NodeName, key: Option<Key>) -> Reply
+    pub(crate) fn evict(&mut self, node: NodeName, key: Option<Key>) -> Reply
         requires fleet { IsFleetOf self.old.settings self.old.fleet }
         requires node { IsCacheOf self.old.settings node }
-        ensures does { (keepers : KeeperState) (link : LinkShown) → AnswersEvict node key (moment self.old keepers link) result (moment self.new keepers link) }
+        ensures does { (keepers : KeeperState) (link : LinkShown) →
+            AnswersEvict node key (moment self.old keepers link) result (moment self.new keepers link) }
         ensures fleet { IsFleetOf self.old.settings self.new.fleet }
         ensures on { StaysHeld self.old.fleet self.new.fleet }
         ensures rest { self.new ≡ record self.old { fleet = self.new.fleet } }
     {
-        let evicted = self.fleet.evict(self.config, node, key);
+        let evicted = self.nodes.fleet.evict(self.config, node, key);
         Reply::Node(NodeReply::Cache(CacheReply::Evicted { evicted }))
     }
 }
@@ -244,16 +233,5 @@ fn unasked(refusal: CheckRefusal) -> Reply
     match refusal {
         CheckRefusal::Refused(reply) => reply,
         CheckRefusal::OutOfMemory => out_of_memory(),
-    }
-}
-
-/// Asks a link to cut one direction between two nodes, or to mend it.
-fn switch<L: Link>(link: &mut L, word: LinkWord, place: LinkPlace, whole: bool) -> Reply
-    ensures { (core : CoreState) (keepers : KeeperState) → AnswersSwitch word whole place (moment core keepers (L.shown link.old)) result
-        (moment core keepers (L.shown link.new)) }
-{
-    match link.switch(place.from, place.to, whole) {
-        Ok(()) => Reply::Node(NodeReply::Link { word }),
-        Err(OutOfMemory) => out_of_memory(),
     }
 }

@@ -42,7 +42,7 @@ fn repaired_as(
         RepairRefusal::KeeperFault => Reply::Refused(Refusal::Store(StoreRefused::KeeperFault {
             count: keeper_faults,
         })),
-        RepairRefusal::LinkFault => link_fault(link_faults, When::Before),
+        RepairRefusal::LinkFault => Reply::Refused(link_fault(link_faults, When::Before)),
         RepairRefusal::LogFull { length } => {
             Reply::Refused(Refusal::Store(StoreRefused::LogFull { length }))
         }
@@ -103,7 +103,6 @@ impl<'c> Core<'c> {
     /// Runs the first open job of a shard, where one is open: it is merged from store to store at the shard on which its records lie, and then ended.
     pub(crate) fn repair<K: Keeper, L: Link>(
         &mut self,
-        alloc: Global,
         keepers: &mut K,
         link: &mut L,
         shard: u16,
@@ -114,17 +113,8 @@ impl<'c> Core<'c> {
             (moment self.new (K.state keepers.new) (L.shown link.new)) }
         ensures leaves { LeavesCore K.TELLS (K.state keepers.old) (K.state keepers.new) self.old self.new }
     {
-        let outcome = repair_first(
-            alloc,
-            &mut self.fleet,
-            &mut self.mail,
-            self.config,
-            &self.topology,
-            keepers,
-            link,
-            shard,
-        );
-        let region = self.topology.master(shard);
+        let outcome = repair_first(&mut self.nodes, self.config, keepers, link, shard);
+        let region = self.nodes.topology.master(shard);
         repaired_as(&outcome, region, keepers.faults(), link.faults())
     }
 
@@ -136,29 +126,23 @@ impl<'c> Core<'c> {
     /// owed lies on a shard that isn't configured.
     ///
     /// Costs what the jobs do, two calls of the keeper for each store, and one for each entry that a node has yet to process.
-    pub fn settle<K: Keeper, L: Link>(
-        &mut self,
-        alloc: Global,
-        keepers: &mut K,
-        link: &mut L,
-    ) -> Reply
+    pub fn settle<K: Keeper, L: Link>(&mut self, keepers: &mut K, link: &mut L) -> Reply
         requires keepers { IsCoreOf K.TELLS (K.state keepers.old).told self.old }
         ensures does { AnswersSettle K.TELLS (moment self.old (K.state keepers.old) (L.shown link.old)) result
             (moment self.new (K.state keepers.new) (L.shown link.new)) }
         ensures usable { StaysUsable K.TELLS (K.state keepers.old) (K.state keepers.new) self.old self.new }
     {
-        match self.settle_all(alloc, keepers, link) {
+        match self.settle_all(keepers, link) {
             Ok(logs) => Reply::Settled {
                 logs: Lengths::of(logs),
             },
-            Err(stop) => unsettled_as(&self.topology, stop),
+            Err(stop) => unsettled_as(&self.nodes.topology, stop),
         }
     }
 
     /// Settles, and gives the lengths of the shards' logs.
     fn settle_all<K: Keeper, L: Link>(
         &mut self,
-        alloc: Global,
         keepers: &mut K,
         link: &mut L,
     ) -> Result<Vec<u64>, SettleStop>
@@ -173,20 +157,15 @@ impl<'c> Core<'c> {
     {
         let config = self.config;
         inverses_match(&config.schema);
-        run_jobs(
-            alloc,
-            &mut self.fleet,
-            &mut self.mail,
-            config,
-            &self.topology,
-            keepers,
-            link,
-        )?;
-        let measured = measure(alloc, &mut self.fleet, config, keepers)?;
+        run_jobs(&mut self.nodes, config, keepers, link)?;
+        let measured = measure(self.nodes.alloc, &mut self.nodes.fleet, config, keepers)?;
         let lengths = measured.stores.as_slice();
-        self.fleet
-            .catch_up(alloc, config, &self.topology, keepers, link, lengths)?;
-        self.mail.clear();
+        let alloc = self.nodes.alloc;
+        let topology = &self.nodes.topology;
+        self.nodes
+            .fleet
+            .catch_up(alloc, config, topology, keepers, link, lengths)?;
+        self.nodes.mail.clear();
         Ok(measured.shards)
     }
 }

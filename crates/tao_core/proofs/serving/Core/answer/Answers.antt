@@ -48,7 +48,7 @@ finish_plan-requires-clause-may g c =
     let plan = c.in-Ok.plan in
     let begun = c.in-Ok.ensures.begun in
     let went = c.carry_out in
-    carried_learns g.K.Keeper.TELLS core went.new.fleet went.new.mail keepers (state went.new.keepers) (shown c.args.link.now) (shown went.new.link)
+    carried_learns g.K.Keeper.TELLS core went.new.nodes keepers (state went.new.keepers) (shown c.args.link.now) (shown went.new.link)
     plan went.new.plan c.plan_leader-leader.result of.is_consistent
     (opens_first g.K.Keeper.TELLS keepers core of.is_consistent c.args.call plan begun can)
     (goes_first g.K.Keeper.TELLS keepers core of.is_consistent c.args.call plan begun can)
@@ -63,7 +63,7 @@ returns g c =
     let done =
     answered_call g.K.Keeper.TELLS c.args.call (core_state c.self.inside) c.args.self.now c.self.view_is (sessions_of c.begin_plan.new.sessions)
     c.begin_plan.ensures.same (state c.args.keepers.now) (state went.new.keepers) (shown c.args.link.now) (shown went.new.link) c.requires.keepers
-    c.requires.can went.new.fleet went.new.mail c.in-Ok.plan went.new.plan c.plan_leader-leader.result c.in-Ok.ensures.begun
+    c.requires.can went.new.nodes c.in-Ok.plan went.new.plan c.plan_leader-leader.result c.in-Ok.ensures.begun
     (subst (λ xs. c.plan_leader-leader.result ≡ plan_leader (record (core_state c.self.inside) { sessions = xs }) c.in-Ok.plan) c.begin_plan.ensures.same
     c.plan_leader-leader.ensures.is)
     went.ensures.does went.ensures.under_way went.ensures.on (sessions_of c.finish_plan.new.sessions) c.finish_plan.result c.finish_plan.ensures.over

@@ -15,7 +15,7 @@ take-requires c =
 
 pub process-requires-clause-message : goal.process-requires-clause-message
 process-requires-clause-message c =
-    c.in-Some.ensures.message c.self.inside.config.now (pens_of c.self.inside.fleet.stores)
+    c.in-Some.ensures.message c.self.inside.config.now (pens_of c.self.inside.nodes.fleet.stores)
     (subst (λ (x : CoreState). AreInboxesOf x.settings (pens_of x.fleet.stores) x.mail) (sym c.self.view_is) c.requires.inboxes)
 
 pub returns-in-Some : goal.returns-in-Some
@@ -23,7 +23,7 @@ returns-in-Some c =
     let is = subst (λ (x : CoreState). AreInboxesOf x.settings (pens_of x.fleet.stores) x.mail) (sym c.self.view_is) c.requires.inboxes in
     let done =
     delivered c.args.node c.args.place (core_state c.self.inside) c.args.self.now c.take.new.self c.process.result c.self.view_is c.in-Some.message
-    c.process.new.self c.in-Some.ensures.takes (c.take.ensures.of c.self.inside.config.now (pens_of c.self.inside.fleet.stores) is)
+    c.process.new.self c.in-Some.ensures.takes (c.take.ensures.of c.self.inside.config.now (pens_of c.self.inside.nodes.fleet.stores) is)
     c.process.ensures.does c.process.ensures.fleet c.process.ensures.on c.process.ensures.rest in
     record { does = done.does; fleet = done.fleet; inboxes = done.inboxes; stores = done.stores; on = done.on; rest = done.rest }
 
@@ -33,5 +33,5 @@ returns-in-None c =
     let fleet = subst (λ (x : CoreState). IsFleetOf x.settings x.fleet) (sym c.self.view_is) c.requires.fleet in
     let done =
     none_delivered c.args.node c.args.place (core_state c.self.inside) c.args.self.now c.take.new.self c.no_message.result c.self.view_is
-    c.no_message.ensures c.in-None.ensures.takes (c.take.ensures.of c.self.inside.config.now (pens_of c.self.inside.fleet.stores) is) fleet in
+    c.no_message.ensures c.in-None.ensures.takes (c.take.ensures.of c.self.inside.config.now (pens_of c.self.inside.nodes.fleet.stores) is) fleet in
     record { does = done.does; fleet = done.fleet; inboxes = done.inboxes; stores = done.stores; on = done.on; rest = done.rest }

@@ -18,14 +18,14 @@ copy-requires c =
 pub process-requires-clause-message : goal.process-requires-clause-message
 process-requires-clause-message c =
     let s = c.self.inside.config.now in
-    let pens = pens_of c.self.inside.fleet.stores in
+    let pens = pens_of c.self.inside.nodes.fleet.stores in
     subst (λ found. IfSome found (IsMessageFor s pens c.args.node)) c.in-Some.is
     (c.in-Ok.ensures.message s pens
     (subst (λ (x : CoreState). AreInboxesOf x.settings (pens_of x.fleet.stores) x.mail) (sym c.self.view_is) c.requires.inboxes))
 
 pub returns-in-Some : goal.returns-in-Some
 returns-in-Some c =
-    let waits = subst (λ found. WaitsAt c.args.node c.args.place found c.self.inside.mail) c.in-Some.is c.in-Ok.ensures.copy in
+    let waits = subst (λ found. WaitsAt c.args.node c.args.place found c.self.inside.nodes.mail) c.in-Some.is c.in-Ok.ensures.copy in
     let done =
     repeated c.args.node c.args.place (core_state c.self.inside) c.args.self.now c.copy.new.self c.process.result c.self.view_is c.copy.ensures.same
     c.in-Some.message c.process.new.self waits c.process.ensures.does c.process.ensures.fleet c.process.ensures.on c.process.ensures.rest in
@@ -33,7 +33,7 @@ returns-in-Some c =
 
 pub returns-in-None : goal.returns-in-None
 returns-in-None c =
-    let none = subst (λ found. WaitsAt c.args.node c.args.place found c.self.inside.mail) c.in-None.is c.in-Ok.ensures.copy in
+    let none = subst (λ found. WaitsAt c.args.node c.args.place found c.self.inside.nodes.mail) c.in-None.is c.in-Ok.ensures.copy in
     let fleet = subst (λ (x : CoreState). IsFleetOf x.settings x.fleet) (sym c.self.view_is) c.requires.fleet in
     let done =
     none_repeated c.args.node c.args.place (core_state c.self.inside) c.args.self.now c.copy.new.self c.no_message.result c.self.view_is

@@ -59,7 +59,7 @@ returns g c =
     let went = c.carry_out in
     let done =
     refill_reads g.K.Keeper.TELLS c.args.node c.args.refill core c.args.self.now c.self.view_is (state c.args.keepers.now) (state went.new.keepers)
-    (shown c.args.link.now) (shown went.new.link) c.requires.keepers went.new.fleet went.new.mail c.begin_read-read.result went.new.plan
+    (shown c.args.link.now) (shown went.new.link) c.requires.keepers went.new.nodes c.begin_read-read.result went.new.plan
     c.plan_leader-leader.result
     (refill_is core.settings c.args.node c.args.refill c.region_of-region.result c.home_tier-tier.result c.begin_read-read.result c.begin_read-read.ensures
     c.region_of-region.ensures c.home_tier-tier.ensures)

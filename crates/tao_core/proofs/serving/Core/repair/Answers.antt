@@ -1,6 +1,6 @@
-use Rattle.std.proofs.Common.{refl, subst, sym}
-use Rattle.core_steps.specs.Posting.{posting}
-use Rattle.core_steps.specs.Routes.{scene}
+use Rattle.std.proofs.Common.{subst, sym}
+use Rattle.core_steps.specs.World.{world}
+use Rattle.tao_core.specs.Calls.{world_at}
 use Rattle.tao_core.specs.Core.{CoreState, IsConsistentCore, LeavesCore, core_state}
 use Rattle.tao_core.proofs.HeldOn.{none_come}
 use Rattle.tao_core.proofs.Keeping.{core_can_post, written_core}
@@ -22,13 +22,14 @@ returns-clause-leaves g c =
     let now = g.K.Keeper.state done.new.keepers in
     let on = done.ensures.on in
     let of = subst (IsConsistentCore tells before.told) (sym c.self.view_is) c.requires.keepers in
-    subst (λ (x : CoreState). LeavesCore tells before now x (left_core core done.new.fleet done.new.mail)) c.self.view_is (record {
-      is_consistent = written_core tells before.told core of now.told done.new.fleet done.new.mail on.consistent on.inboxes on.arrived on.goes
-          on.grows.logs;
-      on = stores_held core.fleet done.new.fleet on.goes
-          (repaired_same tells core.settings c.args.shard (posting (scene core.fleet before (g.L.Link.shown c.args.link.now)) core.mail core.states)
-          (posting (scene done.new.fleet now (g.L.Link.shown done.new.link)) done.new.mail core.states) done.result done.ensures.repairs);
-      comes = none_come tells now.told core (left_core core done.new.fleet done.new.mail) refl;
+    let end = done.new.nodes in
+    subst (λ (x : CoreState). LeavesCore tells before now x (left_core core end.topology end.fleet end.mail)) c.self.view_is (record {
+      is_consistent = written_core tells before.told core of now.told end.topology end.fleet end.mail on.states on.consistent on.inboxes on.arrived
+          on.goes on.grows.logs;
+      on = stores_held core.fleet end.fleet on.goes
+          (repaired_same tells core.settings c.args.shard (world_at core before (g.L.Link.shown c.args.link.now))
+          (world end now (g.L.Link.shown done.new.link)) done.result done.ensures.repairs);
+      comes = none_come tells now.told core (left_core core end.topology end.fleet end.mail) on.states;
       grows = on.grows;
       later = on.later;
     })

@@ -4,8 +4,9 @@ use Rattle.core_model.specs.Pens.{pens_of}
 use Rattle.core_nodes.specs.Repairs.{outside}
 use Rattle.core_nodes.specs.Settling.{StopsCatchUp, StopsLengths}
 use Rattle.core_repairs.specs.Repairs.{StopsRun}
-use Rattle.core_steps.specs.Posting.{posting}
-use Rattle.core_steps.specs.Routes.{scene}
+use Rattle.core_steps.specs.World.{world}
+use Rattle.core_steps.specs.declared.nodes.Nodes.{Nodes}
+use Rattle.tao_core.specs.Calls.{world_at}
 use Rattle.tao_base.specs.EdgeTypes.{InversesMatch}
 use Rattle.tao_schema.specs.Schema.{types_of}
 use Rattle.topology.specs.Config.{Settings}
@@ -32,12 +33,12 @@ returns-in_err-run_jobs g c =
     let p = err_from_is_err_and c.from_residual.result c.from_residual.ensures.1 in
     let stops =
     subst (λ e. StopsRun g.K.Keeper.TELLS core.settings e
-    (posting (scene core.fleet (state c.args.keepers.now) (shown c.args.link.now)) core.mail core.states)
-    (posting (scene ran.new.fleet (state ran.new.keepers) (shown ran.new.link)) ran.new.mail core.states)) (sym p.2) c.in_err-run_jobs.ensures.runs in
+    (world_at core (state c.args.keepers.now) (shown c.args.link.now))
+    (world ran.new.nodes (state ran.new.keepers) (shown ran.new.link))) (sym p.2) c.in_err-run_jobs.ensures.runs in
     let done =
     stops_at_jobs g.K.Keeper.TELLS core c.args.self.now c.self.view_is (state c.args.keepers.now) (state ran.new.keepers) (shown c.args.link.now)
-    (shown ran.new.link) ran.new.fleet ran.new.mail c.requires.keepers on.consistent on.inboxes on.arrived on.goes ran.ensures.rest
-    on.grows on.later p.0 stops in
+    (shown ran.new.link) ran.new.nodes on.states c.requires.keepers on.consistent on.inboxes on.arrived on.goes ran.ensures.rest
+    on.grows on.later p.0 on.link stops in
     record {
       settles = rw p.1 tt;
       empty = rw p.1 tt;
@@ -57,8 +58,8 @@ returns-in_err-measured g c =
     let p = err_from_is_err_and c.from_residual-in_err-measured.result c.from_residual-in_err-measured.ensures.1 in
     let done =
     stops_at_lengths g.K.Keeper.TELLS core c.args.self.now c.self.view_is (state c.args.keepers.now) (state ran.new.keepers) (shown c.args.link.now)
-    (shown ran.new.link) ran.new.fleet ran.new.mail c.requires.keepers on.consistent on.inboxes on.arrived on.goes ran.ensures.rest
-    on.grows on.later c.in_ok-run_jobs.ensures.runs ran.ensures.link (state read.new.keepers) read.new.fleet read.ensures.same
+    (shown ran.new.link) ran.new.nodes on.states c.requires.keepers on.consistent on.inboxes on.arrived on.goes ran.ensures.rest
+    on.grows on.later c.in_ok-run_jobs.ensures.runs on.link (state read.new.keepers) read.new.fleet read.ensures.same
     read.ensures.consistent read.ensures.tables read.ensures.later p.0
     (subst (StopsLengths core.settings (state ran.new.keepers) (state read.new.keepers)) (sym p.2) c.in_err-measured.ensures.stop) in
     record {
@@ -81,8 +82,8 @@ returns-in_err-catch_up g c =
     let p = err_from_is_err_and c.from_residual-in_err-catch_up.result c.from_residual-in_err-catch_up.ensures.1 in
     let done =
     stops_at_node g.K.Keeper.TELLS core c.args.self.now c.self.view_is (state c.args.keepers.now) (state ran.new.keepers) (shown c.args.link.now)
-    (shown ran.new.link) ran.new.fleet ran.new.mail c.requires.keepers on.consistent on.inboxes on.arrived on.goes ran.ensures.rest
-    on.grows on.later c.in_ok-run_jobs.ensures.runs ran.ensures.link (state read.new.keepers) read.new.fleet read.ensures.same
+    (shown ran.new.link) ran.new.nodes on.states c.requires.keepers on.consistent on.inboxes on.arrived on.goes ran.ensures.rest
+    on.grows on.later c.in_ok-run_jobs.ensures.runs on.link (state read.new.keepers) read.new.fleet read.ensures.same
     read.ensures.consistent read.ensures.tables read.ensures.later (state caught.new.keepers) (shown caught.new.link) caught.new.self
     caught.ensures.stores caught.ensures.consistent caught.ensures.goes caught.ensures.on caught.ensures.reads p.0
     (subst (StopsCatchUp core.settings (outside (state read.new.keepers) (shown ran.new.link)) (outside (state caught.new.keepers) (shown caught.new.link)))
@@ -107,12 +108,12 @@ returns g c =
     let match = subst (λ k. InversesMatch (types_of k)) (ap (λ (s : Settings). s.schema) c.config.view_is) c.inverses_match.ensures in
     let done =
     settles_core g.K.Keeper.TELLS core c.args.self.now c.self.view_is (state c.args.keepers.now) (state ran.new.keepers) (shown c.args.link.now)
-    (shown ran.new.link) ran.new.fleet ran.new.mail c.requires.keepers on.consistent on.inboxes on.arrived on.goes ran.ensures.rest
-    on.grows on.later c.in_ok-run_jobs.ensures.runs ran.ensures.link (state read.new.keepers) read.new.fleet read.ensures.same
+    (shown ran.new.link) ran.new.nodes on.states c.requires.keepers on.consistent on.inboxes on.arrived on.goes ran.ensures.rest
+    on.grows on.later c.in_ok-run_jobs.ensures.runs on.link (state read.new.keepers) read.new.fleet read.ensures.same
     read.ensures.consistent read.ensures.tables read.ensures.later (state caught.new.keepers) (shown caught.new.link) caught.new.self
     caught.ensures.stores caught.ensures.consistent caught.ensures.goes caught.ensures.on caught.ensures.reads c.in_ok-measured.measured.shards.items
     c.clear.new.self
-    c.in_ok-measured.ensures.shards c.clear.ensures.empty (c.clear.ensures.of core.settings (pens_of ran.new.fleet.stores))
+    c.in_ok-measured.ensures.shards c.clear.ensures.empty (c.clear.ensures.of core.settings (pens_of ran.new.nodes.fleet.stores))
     c.in_ok-catch_up.ensures.caught match in
     record {
       settles = done.says;

@@ -44,7 +44,7 @@ end_plan-requires-clause-may g c =
     let state = g.K.Keeper.state in
     let shown = g.L.Link.shown in
     let did = c.step_or_give_up in
-    may_here g.K.Keeper.TELLS c.args.number (core_state c.self.inside) c.args.self.now c.self.view_is did.new.fleet did.new.mail did.new.plans
+    may_here g.K.Keeper.TELLS c.args.number (core_state c.self.inside) c.args.self.now c.self.view_is did.new.nodes did.new.plans
     (sessions_of did.new.sessions) (state c.args.keepers.now) (state did.new.keepers) (shown c.args.link.now) (shown did.new.link) c.in-Some.plan.now
     c.plan_leader-leader.result c.requires.keepers (sym c.at.ensures ∙ ap option_copied c.in-Some.is) c.plan_leader-leader.ensures.is did.ensures.steps
     did.ensures.under_way did.ensures.on did.ensures.same
@@ -56,7 +56,7 @@ returns-in-Some-next_at g c =
     let shown = g.L.Link.shown in
     let did = c.step_or_give_up in
     let done =
-    next_leaves g.K.Keeper.TELLS c.args.number (core_state c.self.inside) c.args.self.now c.self.view_is did.new.fleet did.new.mail did.new.plans
+    next_leaves g.K.Keeper.TELLS c.args.number (core_state c.self.inside) c.args.self.now c.self.view_is did.new.nodes did.new.plans
     (sessions_of did.new.sessions) (state c.args.keepers.now) (state did.new.keepers) (shown c.args.link.now) (shown did.new.link) c.in-Some.plan.now
     c.plan_leader-leader.result c.requires.keepers (sym c.at.ensures ∙ ap option_copied c.in-Some.is) c.plan_leader-leader.ensures.is did.ensures.steps
     did.ensures.under_way did.ensures.on did.ensures.same
@@ -69,7 +69,7 @@ returns-in-None g c =
     let shown = g.L.Link.shown in
     let did = c.step_or_give_up in
     let done =
-    end_leaves g.K.Keeper.TELLS c.args.number (core_state c.self.inside) c.args.self.now c.self.view_is did.new.fleet did.new.mail did.new.plans
+    end_leaves g.K.Keeper.TELLS c.args.number (core_state c.self.inside) c.args.self.now c.self.view_is did.new.nodes did.new.plans
     (sessions_of did.new.sessions) (state c.args.keepers.now) (state did.new.keepers) (shown c.args.link.now) (shown did.new.link) c.in-Some.plan.now
     c.plan_leader-leader.result c.requires.keepers (sym c.at.ensures ∙ ap option_copied c.in-Some.is) c.plan_leader-leader.ensures.is did.ensures.steps
     did.ensures.under_way did.ensures.on did.ensures.same

@@ -1,0 +1,53 @@
+-- What stands in a run stands from then on.
+use Rattle.std.proofs.Common.{◌≡◌, ◌++◌, ◌∷◌, [], ℕ, List, Option, Some, None, length, drop, ap, sym, subst, ◌∙◌}
+use Rattle.std.specs.Prelude.{Contains}
+use Rattle.std.proofs.lemmas.List.{take-append-drop}
+use Rattle.std.proofs.lemmas.List.Elements.{Contains-append_left}
+use Rattle.graph_model.specs.Log.{entry_at}
+use Rattle.plain_promise.specs.Promise.{EachGrows, Logs, Plain, RunsPlainly, Said, SaysPlainly, StandsFromThenOn, Terms}
+use Rattle.replies.specs.declared.reply.Reply.{Reply}
+use Rattle.request_check.specs.declared.checked.Checked.{Checked}
+use Rattle.tao_base.specs.declared.entry.Entry.{Entry}
+use Rattle.write_model.proofs.Growing.{Grown, entry_stays}
+use Rattle.write_model.specs.Merges.{log_of}
+
+-- logs that grew are longer by what follows
+pub grown_by : (old new : Logs) → EachGrows old new → Grown (log_of old) (log_of new)
+grown_by old new grows = record {
+  more = λ shard. drop (length (log_of old shard)) (log_of new shard);
+  is = λ shard. sym (ap (λ log. log ++ drop (length (log_of old shard)) (log_of new shard)) (grows shard)
+      ∙ take-append-drop (length (log_of old shard)) (log_of new shard));
+}
+
+-- one line
+one_stands : (terms : Terms) (old new : Plain) (asked : Option Checked) (reply : Reply) (shard position : ℕ) (e : Entry)
+    → SaysPlainly terms old asked reply new → entry_at (log_of old.stores.logs shard) position ≡ Some e
+    → entry_at (log_of new.stores.logs shard) position ≡ Some e
+one_stands terms old new None reply shard position e says stands =
+    subst (λ (p : Plain). entry_at (log_of p.stores.logs shard) position ≡ Some e) (sym says.same) stands
+one_stands terms old new (Some asked) reply shard position e says stands =
+    entry_stays terms.types (log_of old.stores.logs) (log_of new.stores.logs) (grown_by old.stores.logs new.stores.logs says.grows) shard position e stands
+
+one_told : (terms : Terms) (old new : Plain) (asked : Option Checked) (reply : Reply) (session : ℕ) (e : Entry) → SaysPlainly terms old asked reply new
+    → Contains (old.told session) e → Contains (new.told session) e
+one_told terms old new None reply session e says told = subst (λ (p : Plain). Contains (p.told session) e) (sym says.same) told
+one_told terms old new (Some asked) reply session e says told =
+    let more = says.told session in
+    subst (λ es. Contains es e) (sym more.1) (Contains-append_left (old.told session) more.0 e told)
+
+-- one after another
+all_stand : (terms : Terms) (old : Plain) (saids : List Said) (new : Plain) (shard position : ℕ) (e : Entry) → RunsPlainly terms old saids new
+    → entry_at (log_of old.stores.logs shard) position ≡ Some e → entry_at (log_of new.stores.logs shard) position ≡ Some e
+all_stand terms old [] new shard position e runs stands =
+    subst (λ (p : Plain). entry_at (log_of p.stores.logs shard) position ≡ Some e) (sym runs) stands
+all_stand terms old (said ∷ more) new shard position e runs stands =
+    all_stand terms runs.0 more new shard position e runs.3 (one_stands terms old runs.0 said.asked said.reply shard position e runs.1 stands)
+
+all_told : (terms : Terms) (old : Plain) (saids : List Said) (new : Plain) (session : ℕ) (e : Entry) → RunsPlainly terms old saids new
+    → Contains (old.told session) e → Contains (new.told session) e
+all_told terms old [] new session e runs told = subst (λ (p : Plain). Contains (p.told session) e) (sym runs) told
+all_told terms old (said ∷ more) new session e runs told =
+    all_told terms runs.0 more new session e runs.3 (one_told terms old runs.0 said.asked said.reply session e runs.1 told)
+
+pub stands_from_then_on : (terms : Terms) (old : Plain) (saids : List Said) (new : Plain) → StandsFromThenOn terms old saids new
+stands_from_then_on terms old saids new = record { stands = all_stand terms old saids new; told = all_told terms old saids new }

@@ -1,0 +1,100 @@
+-- A run of six lines, worked: a session opens, adds an edge, reads it twice, audits its list, and settles. And four replies that are no step of the promise.
+use Rattle.std.specs.Prelude.{◌≡◌, ◌∷◌, ◌==◌, [], true, false, List, Some, None, if◌then◌else◌}
+use Rattle.plain_promise.specs.Promise.{Plain, RunsPlainly, Said, SaysPlainly, Terms}
+use Rattle.replies.specs.declared.calls.CallReply.TheVariants as called
+use Rattle.replies.specs.declared.calls.InverseEnd.TheVariants as inverse
+use Rattle.replies.specs.declared.calls.ReadReply.{ReadReply}
+use Rattle.replies.specs.declared.calls.WriteKind.TheVariants as kind
+use Rattle.replies.specs.declared.calls.WriteReply.{WriteReply}
+use Rattle.replies.specs.declared.nodes.KeptOrNot.TheVariants.{Kept}
+use Rattle.replies.specs.declared.reply.Reply.TheVariants.{Audited, Called, Opened, Settled}
+use Rattle.request_check.specs.declared.checked.Checked.{Checked}
+use Rattle.request_check.specs.declared.checked.Checked.TheVariants as asks
+use Rattle.request_check.specs.declared.stores.CheckedStore.TheVariants.{Audit, Settle}
+use Rattle.request_check.specs.declared.checked.CheckedCall.TheVariants.{Read, Write}
+use Rattle.request_check.specs.declared.checked.CheckedRead.{CheckedRead}
+use Rattle.tao_base.specs.declared.entry.Entry.{Entry}
+use Rattle.tao_base.specs.declared.query.Answer.TheVariants.{Edges as EdgesAre}
+use Rattle.tao_base.specs.declared.query.Query.TheVariants.{AssocRange}
+use Rattle.words.specs.declared.ReadWord.TheVariants as word
+use Rattle.write_model.specs.Examples.{add, edge, first_add, likes, one_type}
+use Rattle.write_model.specs.Merges.{Stores, no_epochs}
+use Rattle.graph_model.specs.Soundness.{EdgeUpdate}
+
+-- one region, and one type of edges, without an inverse
+abbrev pub one_region : Terms
+one_region = record { types = one_type; regions = 1 }
+
+-- the stores of one shard with this log, and no open job
+abbrev pub with_log : List Entry → Stores
+with_log log = record { logs = log ∷ []; job = λ shard position. None; epochs = no_epochs }
+
+-- before the first line nothing was written, and nobody was told of anything
+abbrev pub at_first : Plain
+at_first = record { stores = with_log []; told = λ session. []; held = λ plan. None; settled = None }
+
+-- once the edge is written, session 1 was told of its entry
+abbrev pub once_written : Plain
+once_written = record { stores = with_log first_add; told = λ session. if session == 1 then first_add else []; held = λ plan. None; settled = None }
+
+-- once that is settled
+abbrev pub once_settled : Plain
+once_settled = record once_written { settled = Some (first_add ∷ []) }
+
+-- session 1 opens
+abbrev pub opens : Said
+opens = record { asked = Some (asks.Open 1 0 0); reply = Opened 1 }
+
+-- session 1 adds the edge from id 1 to id 2
+abbrev pub adds : Checked
+adds = asks.Call (Write (record { session = 1; seq = 1; write = add 2 5 }))
+
+-- its reply: the entry is at position 1
+abbrev pub added_at_1 : WriteReply
+added_at_1 = record { kind = kind.AssocAdd; written = record { changed = true; inverse = inverse.None; position = 1; retry = false }; hops = 2 }
+
+-- session 1 reads the list of id 1
+abbrev pub reads_list : CheckedRead
+reads_list = record { session = 1; query = AssocRange 1 likes 0 10; critical = false }
+
+-- the list has the one edge, by its leader's store
+abbrev pub list_from_store : ReadReply
+list_from_store = record { word = word.AssocRange; answer = EdgesAre (edge 2 5 1 ∷ []); version = 1; hops = 2; store = true; kept = Kept }
+
+-- and then by its follower
+abbrev pub list_kept : ReadReply
+list_kept = record list_from_store { hops = 0; store = false }
+
+-- the six lines, with their replies
+abbrev pub six_lines : List Said
+six_lines =
+    opens
+    ∷ record { asked = Some adds; reply = Called (called.Write added_at_1) }
+    ∷ record { asked = Some (asks.Call (Read reads_list)); reply = Called (called.Read list_from_store) }
+    ∷ record { asked = Some (asks.Call (Read reads_list)); reply = Called (called.Read list_kept) }
+    ∷ record { asked = Some (asks.Store (Audit reads_list)); reply = Audited (EdgesAre (edge 2 5 1 ∷ [])) 1 }
+    ∷ record { asked = Some (asks.Store Settle); reply = Settled (1 ∷ []) }
+    ∷ []
+
+-- they are a run of the promise
+pub record SixLinesRun : Type 0 where
+  pub run : RunsPlainly one_region at_first six_lines once_settled
+
+-- a read that tells an empty list, where its session was told of the edge
+abbrev pub list_before : ReadReply
+list_before = record { word = word.AssocRange; answer = EdgesAre []; version = 0; hops = 0; store = false; kept = Kept }
+
+-- the stores once the edge is written, with an open job of its entry
+abbrev pub job_left : List EdgeUpdate → Stores
+job_left us = record (with_log first_add) { job = λ shard position. Some us }
+
+-- these four replies are no step of the promise, whatever state they lead to
+pub record FourAreRefused : Type 0 where
+  -- a read below its session's floor
+  pub below_floor : (new : Plain) → SaysPlainly one_region once_written (Some (asks.Call (Read reads_list))) (Called (called.Read list_before)) new → ⊥
+  -- a write that is acknowledged and doesn't stand
+  pub not_standing : (new : Plain) → new.stores ≡ with_log [] → SaysPlainly one_region at_first (Some adds) (Called (called.Write added_at_1)) new → ⊥
+  -- a settle that leaves an open job
+  pub job_open : (new : Plain) (us : List EdgeUpdate) → new.stores ≡ job_left us → SaysPlainly one_region once_written (Some (asks.Store Settle)) (Settled (1 ∷ [])) new → ⊥
+  -- an audit of a front of the log
+  pub front_audited : (new : Plain) → SaysPlainly one_region once_written (Some (asks.Store (Audit reads_list))) (Audited (EdgesAre []) 0) new → ⊥

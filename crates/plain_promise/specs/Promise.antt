@@ -1,0 +1,324 @@
+-- What a run promises to its caller, line by line. Nothing here speaks of caches, links or messages: only of the log of each shard with its open jobs, of
+-- the entries that each session was told of, and of the calls that are under way.
+use Rattle.std.specs.Prelude.{ℕ, zero, suc, ◌≡◌, ◌≤◌, ◌⊎◌, ◌++◌, ◌∷◌, [], ◌==◌, true, false, List, Contains, IsSomeAnd, Option, Some, None, ⊤}
+use Rattle.std.specs.Prelude.{if◌then◌else◌, length, map, slice_get, take}
+use Rattle.graph_model.specs.Answers.{answer}
+use Rattle.graph_model.specs.Legal.{IsLegal, MissesNothing, floor}
+use Rattle.graph_model.specs.Log.{entry_at, version}
+use Rattle.graph_model.specs.Prefixes.{IsExactList, IsExactObject}
+use Rattle.replies.specs.declared.calls.CallReply.{CallReply}
+use Rattle.replies.specs.declared.calls.CallReply.TheVariants as called
+use Rattle.replies.specs.declared.calls.InverseEnd.TheVariants as inverse
+use Rattle.replies.specs.declared.calls.ReadReply.{ReadReply}
+use Rattle.replies.specs.declared.calls.WriteKind.{WriteKind}
+use Rattle.replies.specs.declared.calls.WriteKind.TheVariants as kind
+use Rattle.replies.specs.declared.calls.WriteReply.{WriteReply}
+use Rattle.replies.specs.declared.nodes.CacheReply.TheVariants.{Shown as ShownReply}
+use Rattle.replies.specs.declared.nodes.KeptOrNot.TheVariants.{Kept}
+use Rattle.replies.specs.declared.nodes.NodeReply.TheVariants.{Cache, Repaired}
+use Rattle.replies.specs.declared.nodes.Shown.TheVariants.{Held}
+use Rattle.replies.specs.declared.nodes.ShownItem.{ShownItem}
+use Rattle.replies.specs.declared.nodes.ShownItem.TheVariants as shown
+use Rattle.replies.specs.declared.plans.PlanReply.TheVariants.{Next, Ended}
+use Rattle.replies.specs.declared.refusals.Refusal.{Refusal}
+use Rattle.replies.specs.declared.refusals.Refusal.TheVariants.{Memory, Store}
+use Rattle.replies.specs.declared.refusals.StoreRefused.TheVariants.{LinkFault}
+use Rattle.replies.specs.declared.refusals.When.TheVariants.{After}
+use Rattle.replies.specs.declared.reply.Reply.{Reply}
+use Rattle.replies.specs.declared.reply.Reply.TheVariants.{Audited, Called, Node, Plan, Refused, Settled}
+use Rattle.request_check.specs.declared.checked.Checked.{Checked}
+use Rattle.request_check.specs.declared.checked.Checked.TheVariants as asks
+use Rattle.request_check.specs.declared.caches.CheckedCache.TheVariants.{Show}
+use Rattle.request_check.specs.declared.plans.CheckedPlan.TheVariants.{Advance, Hold}
+use Rattle.request_check.specs.declared.stores.CheckedStore.TheVariants.{Audit, Repair, Settle}
+use Rattle.request_check.specs.declared.checked.CheckedCall.{CheckedCall}
+use Rattle.request_check.specs.declared.checked.CheckedCall.TheVariants.{Read, Write}
+use Rattle.request_check.specs.declared.checked.CheckedRead.{CheckedRead}
+use Rattle.request_check.specs.declared.checked.CheckedWrite.{CheckedWrite}
+use Rattle.tao_base.specs.EdgeTypes.{EdgeTypes}
+use Rattle.tao_base.specs.Keys.{key_shard}
+use Rattle.tao_base.specs.Queries.{query_key, query_shard}
+use Rattle.tao_base.specs.Writes.{write_shard}
+use Rattle.tao_base.specs.declared.entry.Entry.{Entry}
+use Rattle.tao_base.specs.declared.entry.Origin.TheVariants.{Client}
+use Rattle.tao_base.specs.declared.id.Key.{Key}
+use Rattle.tao_base.specs.declared.id.Key.TheVariants.{Obj, List as Assocs}
+use Rattle.write_model.specs.Machine.{ArePaired, ClientWrite, LeavesEntry, Repairs, Settles, StandsFor}
+use Rattle.write_model.specs.Merges.{AreThere, Owed, OwesOpenly, Stores, job_of, log_of}
+use Rattle.write_model.specs.Steps.{HaveNoJobs}
+use Rattle.write_model.specs.Writes.{forward_entry}
+
+-- ---- the state
+
+-- the logs of all shards
+abbrev pub Logs : Type 0
+Logs = List (List Entry)
+
+-- a call that is under way: what it asks; and of the moment at which it began the logs, what its session was told of, and the logs of the last settle
+pub record Begun : Type 0 where
+  pub call : CheckedCall
+  pub logs : Logs
+  pub told : List Entry
+  pub settled : Option Logs
+
+-- between two lines: the logs of all shards with their open jobs, the entries that each session was told of, the call that each plan holds, and the logs as
+-- the last settle left them, if there was one
+pub record Plain : Type 0 where
+  pub stores : Stores
+  pub told : ℕ → List Entry
+  pub held : ℕ → Option Begun
+  pub settled : Option Logs
+
+-- each log is the same
+abbrev pub AreSameLogs : Logs → Logs → Type 0
+AreSameLogs old new = (shard : ℕ) → log_of new shard ≡ log_of old shard
+
+-- what a configuration fixes of the promise: what it says of each type of edges, and how many regions there are
+pub record Terms : Type 0 where
+  pub types : EdgeTypes
+  pub regions : ℕ
+
+-- the session of a call
+abbrev pub caller : CheckedCall → ℕ
+caller (Read call) = call.session
+caller (Write call) = call.session
+
+-- a call that begins now
+abbrev pub begun_now : Plain → CheckedCall → Begun
+begun_now state call = record { call = call; logs = state.stores.logs; told = state.told (caller call); settled = state.settled }
+
+-- ---- reads
+
+-- the log that a read asks
+abbrev pub log_read : Logs → CheckedRead → List Entry
+log_read logs call = log_of logs (query_shard call.query)
+
+-- a read answers as some beginning of its shard's log, which has all that its session was told of before the read began. A critical read misses nothing
+-- that stood when it began. One that began after a settle, since which no log has grown, has the last version, where there is one region
+pub record ReadsRightly (terms : Terms) (began : Begun) (call : CheckedRead) (reply : ReadReply) (now : Logs) : Type 0 where
+  pub legal : IsLegal terms.types (log_read now call) call.query (floor began.told (query_key call.query)) reply.answer reply.version
+  pub whole : call.critical ≡ true → MissesNothing (log_read began.logs call) call.query reply.version
+  pub last : (logs : Logs) → terms.regions ≤ 1 → began.settled ≡ Some logs → AreSameLogs logs now
+      → reply.version ≡ version (log_read now call) (query_key call.query)
+
+-- ---- writes
+
+-- what a session asks to be written: on the shard of the write, in that shard's epoch, and under the session's number for it
+abbrev pub client_write_of : Stores → CheckedWrite → ClientWrite
+client_write_of stores call = record {
+  shard = write_shard call.write;
+  epoch = stores.epochs.of (write_shard call.write);
+  origin = Client call.session call.seq;
+  asked = call.write;
+}
+
+-- the log that a write writes to
+abbrev pub log_written : Logs → CheckedWrite → List Entry
+log_written logs call = log_of logs (write_shard call.write)
+
+-- a write's line changes no log; or it adds the write's one entry, and perhaps the merge of what that owes; or that merge alone, where the entry stands
+abbrev pub WritesAlone : EdgeTypes → Stores → CheckedWrite → Logs → Type 0
+WritesAlone types old call new =
+    (new ≡ old.logs) ⊎ ((entry : Entry) × (other : ℕ) × LeavesEntry types old.logs new (client_write_of old call) entry other)
+
+-- the id that a reply tells is that of the object which the entry adds
+abbrev pub TellsId : WriteKind → Entry → Type 0
+TellsId (kind.ObjAdd id) entry = IsSomeAnd (slice_get entry.touches 0) (λ t. t.key ≡ Obj id)
+TellsId other entry = ⊤
+
+-- the write's entry stands at the position that the reply tells, and adds the object that it names; where the reply says that the inverse is written, the
+-- other end of each edge has what the entry wrote, or a later record
+pub record StandsAsTold (types : EdgeTypes) (stores : Stores) (call : CheckedWrite) (reply : WriteReply) (entry : Entry) : Type 0 where
+  pub stands : StandsFor stores.logs (client_write_of stores call) entry
+  pub position_is : reply.written.position ≡ entry.position
+  pub id_is : TellsId reply.kind entry
+  pub other_ends : reply.written.inverse ≡ inverse.Written → AreThere (log_of stores.logs) (job_of types entry)
+
+-- the log had a moment, since the write began, at which there was nothing for it to change
+pub record FoundNothing (types : EdgeTypes) (began : Begun) (stores : Stores) (call : CheckedWrite) (reply : WriteReply) : Type 0 where
+  pub n : ℕ
+  pub since : length (log_written began.logs call) ≤ n
+  pub nothing : forward_entry types (client_write_of stores call).epoch (take n (log_written stores.logs call)) (Client call.session call.seq) call.write ≡ None
+  pub position_is : reply.written.position ≡ 0
+
+-- a write that is acknowledged stands, and its session was told of it; or there was nothing to change
+abbrev pub IsAcknowledged : EdgeTypes → Begun → CheckedWrite → WriteReply → Plain → Type 0
+IsAcknowledged types began call reply new =
+    ((entry : Entry) × StandsAsTold types new.stores call reply entry × Contains (new.told call.session) entry)
+    ⊎ FoundNothing types began new.stores call reply
+
+-- the position that a refusal tells: that of an entry which stands all the same, or 0
+abbrev pub refused_at : Refusal → ℕ
+refused_at (Memory position) = position
+refused_at (Store (LinkFault count (After position))) = position
+refused_at other = 0
+
+-- a line of a call was refused, with this position: with 0 no log changed, and else the write's entry stands there
+abbrev pub RefusesAt : ℕ → CheckedCall → Plain → Plain → Type 0
+RefusesAt zero call old new = new.stores.logs ≡ old.stores.logs
+RefusesAt (suc n) (Write call) old new =
+    (entry : Entry) × StandsFor new.stores.logs (client_write_of new.stores call) entry × (entry.position ≡ suc n)
+RefusesAt (suc n) (Read call) old new = new.stores.logs ≡ old.stores.logs
+
+-- ---- calls, held or not
+
+-- a call was carried out, in this line or over several
+abbrev pub IsCarriedOutRightly : Terms → Begun → CheckedCall → CallReply → Plain → Type 0
+IsCarriedOutRightly terms began (Read call) (called.Read reply) new = ReadsRightly terms began call reply new.stores.logs
+IsCarriedOutRightly terms began (Write call) (called.Write reply) new = IsAcknowledged terms.types began call reply new
+IsCarriedOutRightly terms began (Read call) (called.Write reply) new = ⊥
+IsCarriedOutRightly terms began (Write call) (called.Read reply) new = ⊥
+
+-- what the reply to a line of a call says
+abbrev pub SaysOfCall : Terms → Begun → Plain → Reply → Plain → Type 0
+SaysOfCall terms began old (Called reply) new = IsCarriedOutRightly terms began began.call reply new
+SaysOfCall terms began old (Plan (Ended number reply)) new = IsCarriedOutRightly terms began began.call reply new
+SaysOfCall terms began old (Plan (Next word number stage)) new = ⊤
+SaysOfCall terms began old (Refused refusal) new = RefusesAt (refused_at refusal) began.call old new
+SaysOfCall terms began old other new = ⊥
+
+-- one line of a call: reads change no log
+abbrev pub CallsAlone : EdgeTypes → CheckedCall → Stores → Logs → Type 0
+CallsAlone types (Read call) old new = new ≡ old.logs
+CallsAlone types (Write call) old new = WritesAlone types old call new
+
+-- what the call that a plan holds is said and done in a line
+pub record AdvancesCall (terms : Terms) (plan : ℕ) (old : Plain) (reply : Reply) (new : Plain) : Type 0 where
+  pub began : Begun
+  pub holds : old.held plan ≡ Some began
+  pub says : SaysOfCall terms began old reply new
+  pub changes : CallsAlone terms.types began.call old.stores new.stores.logs
+
+-- ---- repairs, settles and what is shown
+
+-- after a repair no job is open up to the position of the one that it ran; a repair that found none tells 0, and then the shard has none
+abbrev pub IsRepairedUpTo : ℕ → ℕ → Stores → Type 0
+IsRepairedUpTo shard zero stores = (position : ℕ) → stores.job shard position ≡ None
+IsRepairedUpTo shard (suc n) stores = (position : ℕ) → position ≤ suc n → stores.job shard position ≡ None
+
+-- a repair merges the shard's first job, or changes no log
+abbrev pub RepairsAlone : EdgeTypes → Stores → Logs → Type 0
+RepairsAlone types old new = (new ≡ old.logs) ⊎ ((owed : Owed) × Repairs types old new owed)
+
+-- after a settle no job is open, each edge is paired, and the reply tells the lengths of the logs
+pub record IsSettledNow (types : EdgeTypes) (lengths : List ℕ) (new : Stores) : Type 0 where
+  pub none : HaveNoJobs new
+  pub paired : ArePaired types new.logs
+  pub lengths_are : lengths ≡ map length new.logs
+
+-- an audit tells what the whole log of the shard answers, and its length
+pub record IsAuditOf (types : EdgeTypes) (logs : Logs) (call : CheckedRead) (reply : Reply) : Type 0 where
+  pub reply_is : reply ≡ Audited (answer types (log_read logs call) call.query) (length (log_read logs call))
+
+-- an item is what the log says of the key at that version: the object, or the first edges of the list and its length
+abbrev pub IsShownOf : List Entry → Key → ℕ → ShownItem → Type 0
+IsShownOf log (Obj id) at (shown.Object found) = IsExactObject log id at found
+IsShownOf log (Assocs id1 atype) at (shown.List edges total) = IsExactList log id1 atype at edges total
+IsShownOf log (Obj id) at (shown.List edges total) = ⊥
+IsShownOf log (Assocs id1 atype) at (shown.Object found) = ⊥
+
+-- ---- a line
+
+-- what the reply says
+abbrev pub SaysRightly : Terms → Plain → Checked → Reply → Plain → Type 0
+SaysRightly terms old (asks.Call call) reply new = SaysOfCall terms (begun_now old call) old reply new
+SaysRightly terms old (asks.Plan (Hold plan call)) reply new = SaysOfCall terms (begun_now old call) old reply new
+SaysRightly terms old (asks.Plan (Advance plan)) reply new = AdvancesCall terms plan old reply new
+SaysRightly terms old (asks.Store (Repair shard)) (Node (Repaired reply)) new = IsRepairedUpTo shard reply.job new.stores
+SaysRightly terms old (asks.Store Settle) (Settled lengths) new = IsSettledNow terms.types lengths new.stores
+SaysRightly terms old (asks.Store (Audit call)) (Audited given position) new = IsAuditOf terms.types old.stores.logs call (Audited given position)
+SaysRightly terms old (asks.Cache (Show node key)) (Node (Cache (ShownReply mark (Held at item)))) new =
+    IsShownOf (log_of old.stores.logs (key_shard key)) key at item
+SaysRightly terms old asked reply new = ⊤
+
+-- how a line may change the logs: only as what it asks does
+abbrev pub ChangesLogs : EdgeTypes → Plain → Checked → Logs → Type 0
+ChangesLogs types old (asks.Call call) new = CallsAlone types call old.stores new
+ChangesLogs types old (asks.Plan (Hold plan call)) new = CallsAlone types call old.stores new
+ChangesLogs types old (asks.Plan (Advance plan)) new = ⊤
+ChangesLogs types old (asks.Store (Repair shard)) new = RepairsAlone types old.stores new
+ChangesLogs types old (asks.Store Settle) new = Settles types old.stores new
+ChangesLogs types old other new = new ≡ old.stores.logs
+
+-- what each plan holds after a line: a `hold` begins a call, and nothing else changes one
+abbrev pub held_after : Plain → Checked → ℕ → Option Begun
+held_after old (asks.Plan (Hold plan call)) number = if number == plan then Some (begun_now old call) else old.held number
+held_after old other number = old.held number
+
+-- the logs of the last settle after a line: those that a settle's Ok reply leaves
+abbrev pub settled_after : Plain → Reply → Logs → Option Logs
+settled_after old (Settled lengths) new = Some new
+settled_after old other new = old.settled
+
+-- no two entries of a log are of one origin
+pub record HasEachOnce (log : List Entry) : Type 0 where
+  pub once : (first second : ℕ) (d e : Entry) → entry_at log first ≡ Some d → entry_at log second ≡ Some e → d.origin ≡ e.origin → first ≡ second
+
+-- what is so of the logs after each line: each has an entry once, and where an edge lacks its other end, or a later record, an open job has it
+pub record IsWellKept (types : EdgeTypes) (stores : Stores) : Type 0 where
+  pub once : (shard : ℕ) → HasEachOnce (log_of stores.logs shard)
+  pub owed : (shard : ℕ) → OwesOpenly types (log_of stores.logs) (stores.job shard) shard
+
+-- each log begins as it was
+abbrev pub EachGrows : Logs → Logs → Type 0
+EachGrows old new = (shard : ℕ) → log_of old shard ≡ take (length (log_of old shard)) (log_of new shard)
+
+-- a line that asks something. Its reply is right. The logs changed only as what it asks does, each of them at its end, and are well kept. A session that was
+-- told of an entry stays so, and a plan holds its call
+pub record KeepsPromise (terms : Terms) (old : Plain) (asked : Checked) (reply : Reply) (new : Plain) : Type 0 where
+  pub says : SaysRightly terms old asked reply new
+  pub changes : ChangesLogs terms.types old asked new.stores.logs
+  pub grows : EachGrows old.stores.logs new.stores.logs
+  pub well_kept : IsWellKept terms.types new.stores
+  pub told : (session : ℕ) → (more : List Entry) × (new.told session ≡ old.told session ++ more)
+  pub held : (plan : ℕ) → new.held plan ≡ held_after old asked plan
+  pub settled : new.settled ≡ settled_after old reply new.stores.logs
+
+-- ---- a run
+
+-- what a line asks, or None where it was refused before anything was done, and its reply
+pub record Said : Type 0 where
+  pub asked : Option Checked
+  pub reply : Reply
+
+-- a line that was refused before anything was done changes nothing
+pub record IsRefusedBefore (old : Plain) (reply : Reply) (new : Plain) : Type 0 where
+  pub refusal : Refusal
+  pub reply_is : reply ≡ Refused refusal
+  pub same : new ≡ old
+
+-- one line and its reply
+abbrev pub SaysPlainly : Terms → Plain → Option Checked → Reply → Plain → Type 0
+SaysPlainly terms old (Some asked) reply new = KeepsPromise terms old asked reply new
+SaysPlainly terms old None reply new = IsRefusedBefore old reply new
+
+-- two replies to one read are the same; the second took no hop, and no keeper was called
+pub record AreSameReplies (first second : ReadReply) : Type 0 where
+  pub answer : second.answer ≡ first.answer
+  pub version : second.version ≡ first.version
+  pub hops : second.hops ≡ 0
+  pub store : second.store ≡ false
+
+-- a read that isn't critical, and whose reply says that it was kept, is answered the same where the next line asks it again
+pub record AnswersSameAgain (first second : Said) : Type 0 where
+  pub same : (call : CheckedRead) (a b : ReadReply) → first.asked ≡ Some (asks.Call (Read call)) → second.asked ≡ first.asked → call.critical ≡ false
+      → first.reply ≡ Called (called.Read a) → second.reply ≡ Called (called.Read b) → a.kept ≡ Kept → AreSameReplies a b
+
+-- so is the first of the lines that follow, if there is one
+abbrev pub AnswersNext : Said → List Said → Type 0
+AnswersNext said [] = ⊤
+AnswersNext said (next ∷ more) = AnswersSameAgain said next
+
+-- one line after another
+abbrev pub RunsPlainly : Terms → Plain → List Said → Plain → Type 0
+RunsPlainly terms old [] new = new ≡ old
+RunsPlainly terms old (said ∷ more) new =
+    (between : Plain) × SaysPlainly terms old said.asked said.reply between × AnswersNext said more × RunsPlainly terms between more new
+
+-- ---- what follows
+
+-- an entry that stands after one line stands after all later ones, and who was told of it stays so
+pub record StandsFromThenOn (terms : Terms) (old : Plain) (saids : List Said) (new : Plain) : Type 0 where
+  pub stands : (shard position : ℕ) (entry : Entry) → RunsPlainly terms old saids new → entry_at (log_of old.stores.logs shard) position ≡ Some entry
+      → entry_at (log_of new.stores.logs shard) position ≡ Some entry
+  pub told : (session : ℕ) (entry : Entry) → RunsPlainly terms old saids new → Contains (old.told session) entry → Contains (new.told session) entry

@@ -1,0 +1,29 @@
+//! What a run promises to its caller, in the words of the plain graph: legal reads, acknowledged writes, settled and paired.
+//!
+//! What it promises. What a run is to promise is one page, `specs/Promise.antt`; that a run keeps it is not proved so far. By it an entry that
+//! stands after one line stands from then on.
+//!
+//! The contracts that say so: its laws. A worked run is in `specs/Example.antt`.
+#![tactic(auto)]
+
+ghost use Rattle.std.specs.Prelude.{List};
+ghost use Rattle.plain_promise.specs.Example.{FourAreRefused, SixLinesRun};
+ghost use Rattle.plain_promise.specs.Promise.{Plain, Said, StandsFromThenOn, Terms};
+
+/// An entry that stands after one line of a run stands after all later ones, and who was told of it stays so.
+#[tactic(auto, using(crate::proofs::PromiseLaws::stands_from_then_on))]
+pub fn stands_from_then_on()
+    ensures { (terms : Terms) (old : Plain) (saids : List Said) (new : Plain) → StandsFromThenOn terms old saids new }
+{}
+
+/// The worked run of six lines is one of the promise.
+#[tactic(auto, using(crate::proofs::ExampleLemmas::six_lines_run))]
+pub fn six_lines_run()
+    ensures { SixLinesRun }
+{}
+
+/// A read below its session's floor, an acknowledged write that doesn't stand, a settle that leaves a job and an audit of a front are none.
+#[tactic(auto, using(crate::proofs::ExampleLemmas::four_are_refused))]
+pub fn four_are_refused()
+    ensures { FourAreRefused }
+{}

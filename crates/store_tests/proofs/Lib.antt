@@ -1,0 +1,2 @@
+pub mod ServesLemmas
+pub mod SoundLemmas

@@ -1,9 +1,0 @@
-use Rattle.tao_schema.specs.Schema.{types_of}
-use Rattle.stream_tests.proofs.StreamLemmas.{stays_sound}
-use Rattle.stream_tests.proofs.following.play.Goals as goal
-
-pub returns-in-Follow-clause-sound : goal.returns-in-Follow-clause-sound
-returns-in-Follow-clause-sound c = stays_sound (types_of c.args.schema.now) _ _ c.move_next.ensures.stays c.requires.sound
-
-pub returns-in-Apply-clause-sound : goal.returns-in-Apply-clause-sound
-returns-in-Apply-clause-sound c = stays_sound (types_of c.args.schema.now) _ _ c.apply_at.ensures.stays c.requires.sound

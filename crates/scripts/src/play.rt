@@ -1,40 +1,43 @@
 //! Plays a script.
 ghost use Rattle.std.specs.Prelude.{IfOk};
+ghost use Rattle.graph_model.specs.Told.{WhereTold};
 ghost use Rattle.keeper_map.specs.MapKeeper.{told_by};
 ghost use Rattle.tao_top.specs.Kept.{MayBeginAny};
 
 use crate::narrow::NarrowSink;
 use keeper_map::{Fails, MapKeeper};
+use keeper_sql::SqlKeeper;
 use script_text::{Run, Script, Unread, describe, fault_of, read};
 use std::alloc::{AllocError, Global};
 use tao_io::{MemorySink, MemorySource, Sink, Source, Status};
+use tao_keeper::Keeper;
 use tao_link::{Link, PlannedLink, SwitchLink};
 
 /// The status of a run over the keeper and a link, after which another may follow.
-fn run_kept<R: Source, S: Sink, L: Link>(
+fn run_kept<R: Source, S: Sink, K: Keeper, L: Link>(
     alloc: Global,
     words: &[String],
     input: &mut R,
     output: &mut S,
-    keeper: &mut MapKeeper,
+    keeper: &mut K,
     link: &mut L,
 ) -> Status
-    requires { MayBeginAny (told_by keeper.old) }
-    ensures { MayBeginAny (told_by keeper.new) }
+    requires { WhereTold K.TELLS (MayBeginAny (K.state keeper.old).told) }
+    ensures { WhereTold K.TELLS (MayBeginAny (K.state keeper.new).told) }
 {
     tao_top::run(alloc, words, input, output, keeper, link)
 }
 
 /// The status of a run of a script, which writes to this sink. Its link fails at the carries that the script tells, or where it has none
 /// at those that the run cuts.
-fn run_over<S: Sink>(
+fn run_over<S: Sink, K: Keeper>(
     alloc: Global,
-    keeper: &mut MapKeeper,
+    keeper: &mut K,
     run: &Run,
     output: &mut S,
 ) -> Result<Status, AllocError>
-    requires { MayBeginAny (told_by keeper.old) }
-    ensures { MayBeginAny (told_by keeper.new) }
+    requires { WhereTold K.TELLS (MayBeginAny (K.state keeper.old).told) }
+    ensures { WhereTold K.TELLS (MayBeginAny (K.state keeper.new).told) }
 {
     let input = run.input.as_bytes().to_vec(alloc)?;
     let mut source = MemorySource::of(input, run.takes.to_vec(alloc)?);
@@ -63,9 +66,13 @@ fn judge(
 }
 
 /// Plays a run over the keeper. What is said of its fault, or nothing.
-fn play_over(alloc: Global, keeper: &mut MapKeeper, run: &Run) -> Result<Option<String>, AllocError>
-    requires { MayBeginAny (told_by keeper.old) }
-    ensures { MayBeginAny (told_by keeper.new) }
+fn play_run<K: Keeper>(
+    alloc: Global,
+    keeper: &mut K,
+    run: &Run,
+) -> Result<Option<String>, AllocError>
+    requires { WhereTold K.TELLS (MayBeginAny (K.state keeper.old).told) }
+    ensures { WhereTold K.TELLS (MayBeginAny (K.state keeper.new).told) }
 {
     if let Some(room) = run.room {
         let mut output = NarrowSink::make(alloc, room);
@@ -75,6 +82,26 @@ fn play_over(alloc: Global, keeper: &mut MapKeeper, run: &Run) -> Result<Option<
     let mut output = MemorySink::make(alloc, run.puts.to_vec(alloc)?);
     let status = run_over(alloc, keeper, run, &mut output)?;
     judge(alloc, run, output.bytes(), status)
+}
+
+/// Plays runs over the keeper, one after the other, of which the first has this number. What is said of the first fault, or nothing.
+fn play_runs<K: Keeper>(
+    alloc: Global,
+    keeper: &mut K,
+    runs: &[Run],
+    first: usize,
+) -> Result<Option<String>, AllocError>
+    requires { WhereTold K.TELLS (MayBeginAny (K.state keeper.old).told) }
+{
+    let mut number = first;
+    for run in runs {
+        if let Some(fault) = play_run(alloc, keeper, run)? {
+            let text = format!(in alloc; "run {number}, {fault}")?;
+            return Ok(Some(text));
+        }
+        number = number.saturating_add(1);
+    }
+    Ok(None)
 }
 
 /// A keeper without tables, which fails as a script says.
@@ -88,35 +115,77 @@ fn new_keeper(alloc: Global, script: &Script) -> Result<MapKeeper, AllocError>
     Ok(MapKeeper::make(alloc, fails))
 }
 
-/// Plays a run of a script, over the keeper or over one of its own in its place.
-fn play_run(
+/// Plays runs of a script over tables in maps.
+fn play_over_maps(
     alloc: Global,
-    keeper: &mut MapKeeper,
     script: &Script,
-    run: &Run,
-) -> Result<Option<String>, AllocError>
-    requires { MayBeginAny (told_by keeper.old) }
-    ensures { MayBeginAny (told_by keeper.new) }
-{
-    if !run.is_anew {
-        return play_over(alloc, keeper, run);
+    runs: &[Run],
+    first: usize,
+) -> Result<Option<String>, AllocError> {
+    let mut keeper = new_keeper(alloc, script)?;
+    play_runs(alloc, &mut keeper, runs, first)
+}
+
+/// Plays runs over tables by SQL.
+fn play_over_sql(alloc: Global, runs: &[Run], first: usize) -> Result<Option<String>, AllocError> {
+    let Ok(keeper) = SqlKeeper::open_memory(alloc) else {
+        let text = format!(in alloc; "no tables")?;
+        return Ok(Some(text));
+    };
+    let mut keeper = keeper;
+    let said = play_runs(alloc, &mut keeper, runs, first);
+    keeper.close();
+    said
+}
+
+/// The most bytes of a run's lines that are played over tables by SQL, where a write takes several times as long as in maps.
+const MOST_OVER_SQL: usize = 65_536;
+
+/// Whether a script is for maps alone: a keeper has to fail where it says, or a run of it is long.
+fn is_for_maps(script: &Script) -> bool {
+    !script.calls.is_empty()
+        || !script.commits.is_empty()
+        || script
+            .runs
+            .iter()
+            .any(|run| run.input.len() > MOST_OVER_SQL)
+}
+
+/// Plays runs of a script, over tables in maps and then, unless it is for these alone, by SQL.
+fn play_over_each(
+    alloc: Global,
+    script: &Script,
+    runs: &[Run],
+    first: usize,
+) -> Result<Option<String>, AllocError> {
+    if let Some(fault) = play_over_maps(alloc, script, runs, first)? {
+        return Ok(Some(fault));
     }
-    *keeper = new_keeper(alloc, script)?;
-    play_over(alloc, keeper, run)
+    if is_for_maps(script) {
+        return Ok(None);
+    }
+    let Some(fault) = play_over_sql(alloc, runs, first)? else {
+        return Ok(None);
+    };
+    let text = format!(in alloc; "over SQL, {fault}")?;
+    Ok(Some(text))
 }
 
 /// What is said of a script.
 fn play(alloc: Global, script: &Script) -> Result<String, AllocError> {
-    let mut keeper = new_keeper(alloc, script)?;
-    let mut number: usize = 0;
-    for run in &script.runs {
-        number = number.saturating_add(1);
-        if let Some(fault) = play_run(alloc, &mut keeper, script, run)? {
-            return format!(in alloc; "run {number}, {fault}");
+    let mut first: usize = 1;
+    // Those that follow one another over one keeper.
+    for runs in script.runs.chunk_by(|_, next| !next.is_anew) {
+        if let Some(fault) = play_over_each(alloc, script, runs, first)? {
+            return Ok(fault);
         }
+        first = first.saturating_add(runs.len());
     }
-    if number == 0 {
+    if script.runs.is_empty() {
         return format!(in alloc; "no run");
+    }
+    if is_for_maps(script) {
+        return format!(in alloc; "ok, not over SQL");
     }
     format!(in alloc; "ok")
 }

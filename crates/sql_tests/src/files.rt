@@ -1,17 +1,74 @@
 //! Tables in a file are found again.
-use crate::playing::{AGAIN, FIRST, faults_of};
+ghost use Rattle.std.specs.Prelude.{◌≡◌, IfOk, IfSome};
+ghost use Rattle.tao_keeper.specs.Given.{HaveSmallStamps, IsGivenJob};
+
+use crate::asking::{AT, Call, answers};
 use keeper_sql::SqlKeeper;
+use sqlite::Connection;
+use std::alloc::{AllocError, Global};
 use std::fs;
 use std::test::Fail;
+use tao_base::{AType, Change, EdgeState, Entry, Id, Key, Kind, Origin, Stamp, Touch, Touches};
+use tao_keeper::{Commit, Job, JobEdges, KeepFail, Keeper, Opened};
 
-/// A first line with another type, which a store that was opened before refuses.
-const OTHER: [(&str, &str); 1] = [(
-    r#"{"assocs":[{"name":"loves"}],"objects":["user"],"regions":[{"name":"east","tiers":[{"name":"t1"}]}],"shards":1}"#,
-    r#"{"bad":"configuration","field":"file"}"#,
-)];
+/// The line that the store is opened with first.
+const LINE: &[u8] = b"a";
 
-/// Runs over one file in turn: their lines with the replies, and their status.
-const RUNS: [(&[(&str, &str)], u8); 3] = [(&FIRST, 0), (&AGAIN, 0), (&OTHER, 3)];
+/// The rows of the store, as any program may write them: an object, its edges to 2 and to 3, and the job that the second of these left.
+const ROWS: [&str; 10] = [
+    "UPDATE store SET serial = 1",
+    "INSERT INTO object (region, shard, id, otype, data) VALUES (0, 0, 1, 515, x'010001610000')",
+    "INSERT INTO edge (region, shard, id1, atype, id2, idkey, live, time, number, sshard, data) \
+        VALUES (0, 0, 1, 0, 2, x'0000000000000002', 1, 5, 2, 0, x'00')",
+    "INSERT INTO edge (region, shard, id1, atype, id2, idkey, live, time, number, sshard, data) \
+        VALUES (0, 0, 1, 0, 3, x'0000000000000003', 1, 5, 3, 0, x'00')",
+    "INSERT INTO size (region, shard, id1, atype, n) VALUES (0, 0, 1, 0, 2)",
+    "INSERT INTO version (region, shard, tag, id, atype, n) VALUES (0, 0, 2, 1, 0, 2)",
+    "INSERT INTO log (region, shard, position, tag, a, b, entry) VALUES (0, 0, 1, 1, 1, 1, \
+        x'000000000000000101000000010000000000000001010100000000000000010000000000000001010203010001610000')",
+    "INSERT INTO log (region, shard, position, tag, a, b, entry) VALUES (0, 0, 2, 1, 1, 2, \
+        x'000000000000000204000000010000000000000002010200000000000000010000000000000000000103000000000000\
+        000200000005000000000000000200000000')",
+    "INSERT INTO log (region, shard, position, tag, a, b, entry) VALUES (0, 0, 3, 1, 1, 3, \
+        x'000000000000000304000000010000000000000003010200000000000000010000000000000000000203000000000000\
+        000300000005000000000000000300000000')",
+    "INSERT INTO job (region, shard, position, edges) VALUES (0, 0, 3, \
+        x'000000000000000307000000000000000000000003010200000000000000030001000000000000000103000000000000\
+        000100000005000000000000000300000000')",
+];
+
+/// What is answered of these rows.
+const FOUND: [(Call, u64); 14] = [
+    (Call::Length, 3),
+    (Call::LastSerial, 1),
+    (Call::Entry(1), 1),
+    (Call::Entry(3), 3),
+    (Call::Entry(4), 0),
+    (Call::Origin(2), 2),
+    (Call::FirstJob, 3),
+    (Call::Job(3), 3),
+    (Call::Object, 515),
+    (Call::Edge(2), 5),
+    (Call::Edge(4), 0),
+    (Call::Edges, 32),
+    (Call::Count, 2),
+    (Call::Version, 2),
+];
+
+/// What is answered once the edge to 3 was deleted, and its job ended.
+const FOUND_LATER: [(Call, u64); 11] = [
+    (Call::Length, 4),
+    (Call::LastSerial, 1),
+    (Call::Entry(4), 4),
+    (Call::Origin(4), 4),
+    (Call::FirstJob, 4),
+    (Call::Job(3), 0),
+    (Call::Object, 515),
+    (Call::Edge(3), 0),
+    (Call::Edges, 2),
+    (Call::Count, 1),
+    (Call::Version, 3),
+];
 
 /// Takes a file away, with what stands beside it. That there is none is no fault.
 pub fn remove(rt: &HostRuntime, path: &str) -> Result<(), Fail> {
@@ -21,25 +78,116 @@ pub fn remove(rt: &HostRuntime, path: &str) -> Result<(), Fail> {
     Ok(())
 }
 
-/// What went wrong in a run over the file.
-pub fn faults_over(
-    rt: &HostRuntime,
-    path: &str,
-    rows: &[(&str, &str)],
-    code: u8,
-) -> Result<String, Fail> {
-    let mut keepers = SqlKeeper::open_file(rt, path)?;
-    let faults = faults_of(rt.alloc(), &mut keepers, rows, code);
-    keepers.close();
-    faults
+/// Whether a statement over the file was done.
+pub fn alter(rt: &HostRuntime, path: &str, sql: &str) -> bool {
+    match Connection::open(rt, path) {
+        Ok(conn) => {
+            let mut conn = conn;
+            let done = conn.execute(sql, &[]).is_ok();
+            conn.close().is_ok() && done
+        }
+        Err(_) => false,
+    }
+}
+
+/// Whether a store of the file takes this line.
+fn opens(rt: &HostRuntime, path: &str, line: &[u8], wanted: Opened) -> bool {
+    match SqlKeeper::open_file(rt, path) {
+        Ok(keepers) => {
+            let mut keepers = keepers;
+            let opened = keepers.open(AT, line);
+            keepers.close();
+            opened == Ok(wanted)
+        }
+        Err(_) => false,
+    }
+}
+
+/// Makes a file, whose store was opened with `LINE` and has the rows.
+pub fn make_file(rt: &HostRuntime, path: &str) -> Result<bool, Fail> {
+    remove(rt, path)?;
+    let mut done = opens(rt, path, LINE, Opened::Ready);
+    for row in ROWS {
+        done = alter(rt, path, row) && done;
+    }
+    Ok(done)
+}
+
+/// The write that deletes the edge to 3, and what it leaves to do at the other end.
+fn later(alloc: Global, id1: Id, id2: Id) -> Result<Commit, AllocError>
+    ensures stamps { IfOk result (λ commit. HaveSmallStamps commit.entry.touches) }
+    ensures job { IfOk result (λ commit. IfSome commit.job (λ job. job.position ≡ commit.entry.position)) }
+    ensures given { IfOk result (λ commit. IfSome commit.job IsGivenJob) }
+{
+    let stamp = Stamp {
+        number: 4,
+        shard: 0,
+    };
+    let change = Change::CutEdge {
+        id2,
+        stamp,
+        was: Some(5),
+    };
+    let touch = Touch {
+        key: Key::List(id1, AType(0)),
+        change,
+        version: 3,
+    };
+    let record = (id2, AType(1), id1, EdgeState::Cut { stamp });
+    Ok(Commit {
+        entry: Entry {
+            position: 4,
+            kind: Kind::AssocDelete,
+            origin: Origin::Client { session: 1, seq: 4 },
+            touches: Touches::of(vec![in alloc; touch]?),
+        },
+        job: Some(Job {
+            position: 4,
+            edges: JobEdges::of(vec![in alloc; record]?),
+        }),
+    })
+}
+
+/// Commits that write, and ends the job of the one before it.
+fn go_on(keepers: &mut SqlKeeper, commit: &Commit) -> Result<(), KeepFail>
+    requires stamps { HaveSmallStamps commit.now.entry.touches }
+    requires job { IfSome commit.now.job (λ job. job.position ≡ commit.now.entry.position) }
+    requires given { IfSome commit.now.job IsGivenJob }
+{
+    keepers.commit(AT, commit)?;
+    keepers.end_job(AT, 3)
+}
+
+/// Whether a keeper of the file goes on.
+fn goes_on(rt: &HostRuntime, path: &str) -> Result<bool, Fail> {
+    let commit = later(
+        rt.alloc(),
+        Id::read(1).ok_or("an id")?,
+        Id::read(3).ok_or("an id")?,
+    )?;
+    match SqlKeeper::open_file(rt, path) {
+        Ok(keepers) => {
+            let mut keepers = keepers;
+            let done = go_on(&mut keepers, &commit).is_ok();
+            keepers.close();
+            Ok(done)
+        }
+        Err(_) => Ok(false),
+    }
 }
 
 #[test]
 fn a_file_keeps_what_was_written(rt: HostRuntime) -> Result<(), Fail> {
     let path = "kept.test.db";
-    remove(&rt, path)?;
-    for (rows, code) in RUNS {
-        assert_eq!(rt; faults_over(&rt, path, rows, code)?.as_str(), "");
+    assert!(rt; make_file(&rt, path)?);
+    assert!(rt; opens(&rt, path, LINE, Opened::Ready));
+    assert!(rt; opens(&rt, path, b"b", Opened::OtherLine));
+    for (call, number) in FOUND {
+        assert!(rt; answers(&rt, path, call, Some(number)), "{number}");
+    }
+    assert!(rt; goes_on(&rt, path)?);
+    for (call, number) in FOUND_LATER {
+        assert!(rt; answers(&rt, path, call, Some(number)), "later {number}");
     }
     remove(&rt, path)
 }

@@ -1,11 +1,11 @@
-//! Tests of runs over tables that stand in a file, or in memory, by SQL. There is no code here.
+//! Tests of tables that stand in a file, by SQL: what no script can say, whose tables stand in memory. There is no code here.
 #![tactic(auto)]
 
+#[cfg(test)]
+mod asking;
 #[cfg(test)]
 mod damage;
 #[cfg(test)]
 mod files;
-#[cfg(test)]
-mod playing;
 #[cfg(test)]
 mod refused;

@@ -3,12 +3,19 @@ ghost use Rattle.graph_model.specs.Told.{WhereTold};
 ghost use Rattle.tao_top.specs.Kept.{MayBeginAny};
 
 use keeper_map::{Fails, MapKeeper};
+use keeper_sql::SqlKeeper;
 use tao_io::{StdSink, StdSource};
-use tao_keeper::Keeper;
+use tao_keeper::{KeepFail, Keeper};
 use tao_link::SwitchLink;
 
+/// The status where the file can't be opened.
+const NO_FILE: u8 = 6;
+
+/// The status where there was no memory.
+pub const NO_MEMORY: u8 = 7;
+
 /// Serves over these keepers, and answers the status of the run. Each reply is written as soon as it is there.
-pub fn over<K: Keeper>(rt: &HostRuntime, words: &[String], keepers: &mut K) -> u8
+fn over<K: Keeper>(rt: &HostRuntime, words: &[String], keepers: &mut K) -> u8
     requires { WhereTold K.TELLS (MayBeginAny (K.state keepers.old).told) }
 {
     let mut input = StdSource::of(rt.stdin());
@@ -26,7 +33,7 @@ pub fn over<K: Keeper>(rt: &HostRuntime, words: &[String], keepers: &mut K) -> u
 }
 
 /// Serves over stores in memory, which nothing was written to.
-pub(crate) fn in_memory(rt: &HostRuntime, words: &[String]) -> u8 {
+pub fn in_memory(rt: &HostRuntime, words: &[String]) -> u8 {
     let alloc = rt.alloc();
     let fails = Fails {
         calls: Vec::new(alloc),
@@ -34,4 +41,18 @@ pub(crate) fn in_memory(rt: &HostRuntime, words: &[String]) -> u8 {
     };
     let mut keepers = MapKeeper::make(alloc, fails);
     over(rt, words, &mut keepers)
+}
+
+/// Serves over tables in a file, which is made where it isn't there.
+pub fn in_file(rt: &HostRuntime, words: &[String], path: &str) -> u8 {
+    match SqlKeeper::open_file(rt, path) {
+        Ok(keepers) => {
+            let mut keepers = keepers;
+            let code = over(rt, words, &mut keepers);
+            keepers.close();
+            code
+        }
+        Err(KeepFail::Failed) => NO_FILE,
+        Err(KeepFail::OutOfMemory) => NO_MEMORY,
+    }
 }

@@ -43,8 +43,8 @@ abbrev pub without_asks : Asks → Asks
 without_asks t = asks_of [] t.given
 
 -- what an ask gives at its end: its key, mark and floor
-abbrev pub told : Ask → Key × ℕ × ℕ
-told a = (a.key, a.mark, a.floor)
+abbrev pub shown : Ask → Key × ℕ × ℕ
+shown a = (a.key, a.mark, a.floor)
 
 -- the numbers rise, below the one that is given next, and there are at most 256 asks
 pub record IsTable (t : Asks) : Type 0 where

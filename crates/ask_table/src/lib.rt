@@ -11,7 +11,7 @@
 //! `open_asks_tell_the_calls` over all calls.
 #![tactic(auto)]
 
-ghost use Rattle.ask_table.specs.Asks.{IsTable, asks_of, is_full, told, with_ask, with_floor, without_ask, without_asks, without_shard};
+ghost use Rattle.ask_table.specs.Asks.{IsTable, asks_of, is_full, shown, with_ask, with_floor, without_ask, without_asks, without_shard};
 ghost use Rattle.ask_table.specs.Open.{is_numbered};
 ghost use Rattle.std.specs.Option.{option_map};
 ghost use Rattle.std.specs.Prelude.{◌≡◌, ◌+◌, ◌↔◌, [], find as find_word, IfNone, IfOk, IfSome, IsNone, IsTrue, OnSome};
@@ -102,7 +102,7 @@ impl AskTable {
     /// Ends an ask, and answers its key, mark and floor. None exactly where it isn't open. Looks at
     /// each open ask, and takes no memory.
     pub fn end(&mut self, ask: AskNo) -> Option<(Key, u64, u64)>
-        ensures told { result ≡ option_map told (find_word (is_numbered ask) self.old.asks) }
+        ensures shown { result ≡ option_map shown (find_word (is_numbered ask) self.old.asks) }
         ensures ended { self.new ≡ without_ask ask self.old }
     {
         let found = self.find(ask)?;

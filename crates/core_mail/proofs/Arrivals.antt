@@ -14,11 +14,11 @@ use Rattle.topology.specs.Choices.{master_region, preferred_leader, round_from, 
 use Rattle.topology.specs.Counts.{tier_count}
 use Rattle.topology.specs.States.{NodeStates, is_up}
 use Rattle.core_model.specs.Fleet.{ChangesNode, named, region_of, serves_in_turn}
-use Rattle.core_model.specs.Messages.{IsOfStore, told_besides, told_by, told_of}
+use Rattle.core_model.specs.Messages.{IsOfStore, notified_besides, notified_by, notified_of}
 use Rattle.core_model.specs.Stores.{region_store, store_length}
 use Rattle.core_model.proofs.NamedNodes.{all_set}
 use Rattle.core_mail.specs.Inboxes.{HaveArrived, Inboxes, LosesAll, Sends, TakesOut}
-use Rattle.core_mail.specs.Laws.{ArrivedStay, ToldOfStore}
+use Rattle.core_mail.specs.Laws.{ArrivedStay, NotifiedOfStore}
 use Rattle.core_mail.proofs.InboxLemmas.{all_at, all_of_image, all_removed, empty_at}
 
 module _ (tables : Tables) where
@@ -80,22 +80,22 @@ module _ (tables : Tables) (states : NodeStates) (shard : ℕ) (m : SeenMaint) w
   abbrev IsOf : NodeName → Type 0
   IsOf name = IsOfStore tables name m
 
-  followers_of : (region : ℕ) → m.position ≤ store_length tables region m.shard → AllByRecursion IsOf (told_of states region shard)
+  followers_of : (region : ℕ) → m.position ≤ store_length tables region m.shard → AllByRecursion IsOf (notified_of states region shard)
   followers_of region within =
       let tiers = round_from 0 (tier_count states.regions region) in
       all_filter IsOf (is_up states) (map (λ t. serving_follower states.regions region t shard) tiers)
       (all_of_image IsOf (λ t. serving_follower states.regions region t shard) (λ t. within) tiers)
 
-  leader_of : m.position ≤ store_length tables (master_region states shard) m.shard → AllByRecursion IsOf (told_besides states shard)
+  leader_of : m.position ≤ store_length tables (master_region states shard) m.shard → AllByRecursion IsOf (notified_besides states shard)
   leader_of within = all_filter IsOf (is_up states) (preferred_leader states (master_region states shard) shard ∷ []) (within, tt)
 
-  all_told_by : (leader : NodeName) → m.position ≤ store_length tables (master_region states shard) m.shard
-      → AllByRecursion IsOf (told_by states leader shard)
-  all_told_by leader within = elim (cases_Bool (serves_in_turn states.regions leader shard)) [
-    | inl serves ↦ rw serves (all_append IsOf (told_of states (master_region states shard) shard) [] (followers_of (master_region states shard) within) tt)
-    | inr stands_in ↦ rw stands_in (all_append IsOf (told_of states (master_region states shard) shard) (told_besides states shard)
+  all_notified_by : (leader : NodeName) → m.position ≤ store_length tables (master_region states shard) m.shard
+      → AllByRecursion IsOf (notified_by states leader shard)
+  all_notified_by leader within = elim (cases_Bool (serves_in_turn states.regions leader shard)) [
+    | inl serves ↦ rw serves (all_append IsOf (notified_of states (master_region states shard) shard) [] (followers_of (master_region states shard) within) tt)
+    | inr stands_in ↦ rw stands_in (all_append IsOf (notified_of states (master_region states shard) shard) (notified_besides states shard)
         (followers_of (master_region states shard) within) (leader_of within))
   ]
 
-  pub told_of_store : ToldOfStore tables states shard m
-  told_of_store = record { of = followers_of; besides = leader_of; by = all_told_by }
+  pub notified_of_store : NotifiedOfStore tables states shard m
+  notified_of_store = record { of = followers_of; besides = leader_of; by = all_notified_by }

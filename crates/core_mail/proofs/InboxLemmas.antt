@@ -20,7 +20,7 @@ use Rattle.topology.specs.Counts.{NodeCounts, follower_count, tier_count}
 use Rattle.topology.specs.States.{NodeStates, is_up}
 use Rattle.core_model.specs.Evictions.{IsCacheOf}
 use Rattle.core_model.specs.Fleet.{ChangesNode, IsFirstAt, follower_names, leader_names, named, node_names, regions_of, serves_in_turn}
-use Rattle.core_model.specs.Messages.{IsMessageFor, told_of}
+use Rattle.core_model.specs.Messages.{IsMessageFor, notified_of}
 use Rattle.core_model.specs.Pens.{IsSeen, Pens}
 use Rattle.core_model.specs.declared.named.Named.{Named}
 use Rattle.core_model.proofs.NamedNodes.{all_set, named_stands, names_set}
@@ -107,10 +107,10 @@ module _ (s : Settings) (pens : Pens) where
       (change_kept (IsSent m) name old sends.0 sends.1 (λ from to sent was. sent_kept name m from to all.0 sent was) is)
 
   -- who is told of an entry serves its shard
-  told_serve : (states : NodeStates) (region shard : ℕ) (m : SeenMaint) → states.regions ≡ regions_of s → m.shard ≡ shard
+  notified_serve : (states : NodeStates) (region shard : ℕ) (m : SeenMaint) → states.regions ≡ regions_of s → m.shard ≡ shard
       → ((name : NodeName) → serves_in_turn (regions_of s) name m.shard ≡ true → IsMessageFor s pens name m)
-      → AllByRecursion (λ name. IsMessageFor s pens name m) (told_of states region shard)
-  told_serve states region shard m own here is =
+      → AllByRecursion (λ name. IsMessageFor s pens name m) (notified_of states region shard)
+  notified_serve states region shard m own here is =
       let tiers = round_from 0 (tier_count states.regions region) in
       let serve : (tier : ℕ) → serves_in_turn (regions_of s) (serving_follower states.regions region tier shard) m.shard ≡ true =
       λ tier. eq-eqb (m.shard % follower_count (regions_of s) region tier) (shard % follower_count states.regions region tier)
@@ -129,12 +129,12 @@ module _ (s : Settings) (pens : Pens) where
       sends_kept (name ∷ []) (entry_message shard entry note) old new (for, tt) sends is
 
   pub send_kept : (states : NodeStates) (region shard : ℕ) (entry : Entry) (note : View) (old new : Inboxes) → states.regions ≡ regions_of s
-      → shard < s.shards → StandsIn note entry → LiesOn note shard entry → Sends (told_of states region shard) (entry_message shard entry note) old new
+      → shard < s.shards → StandsIn note entry → LiesOn note shard entry → Sends (notified_of states region shard) (entry_message shard entry note) old new
       → IsSeen pens shard note → AreInboxesOf s pens old → AreInboxesOf s pens new
   send_kept states region shard entry note old new own here stands lies sends seen is =
       let m = entry_message shard entry note in
-      sends_kept (told_of states region shard) m old new
-      (told_serve states region shard m own refl
+      sends_kept (notified_of states region shard) m old new
+      (notified_serve states region shard m own refl
       (λ name serves. record { here = here; serves = serves; seen = seen; names = is_maint entry shard note stands lies })) sends is
 
 -- the message at a place of the inbox that code reads

@@ -1,3 +1,3 @@
 pub mod Arrivals
 pub mod InboxLemmas
-pub mod Telling
+pub mod Notifying

@@ -10,7 +10,7 @@ use Rattle.topology.specs.Config.{Settings}
 use Rattle.topology.specs.States.{NodeStates}
 use Rattle.core_model.specs.Evictions.{IsCacheOf}
 use Rattle.core_model.specs.Fleet.{ChangesNode, HasNode}
-use Rattle.core_model.specs.Messages.{IsOfStore, told_besides, told_by, told_of}
+use Rattle.core_model.specs.Messages.{IsOfStore, notified_besides, notified_by, notified_of}
 use Rattle.core_model.specs.Pens.{Pens, Rise}
 use Rattle.core_model.specs.Stores.{store_length}
 use Rattle.core_mail.specs.Inboxes.{AreEmpty, AreInboxesOf, HaveArrived, Inboxes, LosesAll, Sends, TakesOut, WaitsAt}
@@ -43,12 +43,12 @@ pub record ArrivedStay (tables : Tables) : Type 0 where
   pub empty : (inboxes : Inboxes) → AreEmpty inboxes → HaveArrived tables inboxes
 
 -- where a store has come to a message, so have those of the nodes that are told of it there
-pub record ToldOfStore (tables : Tables) (states : NodeStates) (shard : ℕ) (message : SeenMaint) : Type 0 where
+pub record NotifiedOfStore (tables : Tables) (states : NodeStates) (shard : ℕ) (message : SeenMaint) : Type 0 where
   pub of : (region : ℕ) → message.position ≤ store_length tables region message.shard
-      → AllByRecursion (λ name. IsOfStore tables name message) (told_of states region shard)
+      → AllByRecursion (λ name. IsOfStore tables name message) (notified_of states region shard)
   -- besides them the leader that the master's region prefers
   pub besides : message.position ≤ store_length tables (master_region states shard) message.shard
-      → AllByRecursion (λ name. IsOfStore tables name message) (told_besides states shard)
+      → AllByRecursion (λ name. IsOfStore tables name message) (notified_besides states shard)
   -- and all that are told of what a leader wrote
   pub by : (leader : NodeName) → message.position ≤ store_length tables (master_region states shard) message.shard
-      → AllByRecursion (λ name. IsOfStore tables name message) (told_by states leader shard)
+      → AllByRecursion (λ name. IsOfStore tables name message) (notified_by states leader shard)

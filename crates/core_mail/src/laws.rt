@@ -1,7 +1,7 @@
 //! What stays so.
 ghost use Rattle.std.specs.Prelude.{ℕ};
 ghost use Rattle.core_mail.specs.Inboxes.{Inboxes};
-ghost use Rattle.core_mail.specs.Laws.{ArrivedStay, InboxesStay, ToldOfStore};
+ghost use Rattle.core_mail.specs.Laws.{ArrivedStay, InboxesStay, NotifiedOfStore};
 ghost use Rattle.core_model.specs.Pens.{Pens};
 ghost use Rattle.maint_msg.specs.Maints.{SeenMaint};
 ghost use Rattle.tao_keeper.specs.Table.{Tables};
@@ -21,7 +21,7 @@ pub fn arrived_stay()
 {}
 
 /// Who is told of what a store has is of that store's region.
-#[tactic(auto, using(crate::proofs::Arrivals::told_of_store))]
-pub fn told_of_store()
-    ensures { (tables : Tables) (states : NodeStates) (shard : ℕ) (message : SeenMaint) → ToldOfStore tables states shard message }
+#[tactic(auto, using(crate::proofs::Arrivals::notified_of_store))]
+pub fn notified_of_store()
+    ensures { (tables : Tables) (states : NodeStates) (shard : ℕ) (message : SeenMaint) → NotifiedOfStore tables states shard message }
 {}

@@ -6,8 +6,8 @@
 //! the last; each message that waits is one for its node, and the store of the node's region has come to it,
 //! through every call and growth of the logs; one node alone is told; one inbox is emptied, or all are.
 //!
-//! The contracts that say so: `Mail::open`, `send`, `tell`, `take`, `copy`, `messages`, `clear`, `clear_inbox`; the
-//! laws `inboxes_stay`, `arrived_stay`, `told_of_store`.
+//! The contracts that say so: `Mail::open`, `send`, `notify`, `take`, `copy`, `messages`, `clear`, `clear_inbox`; the
+//! laws `inboxes_stay`, `arrived_stay`, `notified_of_store`.
 #![tactic(auto)]
 
 mod inboxes;

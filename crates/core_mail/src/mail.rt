@@ -2,7 +2,7 @@
 ghost use Rattle.std.specs.Prelude.{◌≡◌, ◌<◌, ◌∷◌, [], IfOk, IfSome, IsTrue};
 ghost use Rattle.core_mail.specs.Inboxes.{AreEmpty, AreInboxesOf, LosesAll, Sends, ShowsInbox, TakesOut, WaitsAt, cache_names, entry_message};
 ghost use Rattle.core_model.specs.Fleet.{ChangesNode, HasNode, node_names, regions_of, serves_in_turn};
-ghost use Rattle.core_model.specs.Messages.{IsMessageFor, told_of};
+ghost use Rattle.core_model.specs.Messages.{IsMessageFor, notified_of};
 ghost use Rattle.core_model.specs.Pens.{IsSeen, Pens};
 ghost use Rattle.shard_tables.specs.Written.{LiesOn, StandsIn};
 ghost use Rattle.topology.specs.Config.{Settings};
@@ -50,7 +50,7 @@ fn send_each(
     requires names { node_names inboxes.old ≡ cache_names config.now }
     requires stands { StandsIn note.old entry.now }
     requires lies { LiesOn note.old shard entry.now }
-    ensures sends { Sends (told_of topology.now region shard) (entry_message shard entry.now note.old) inboxes.old inboxes.new }
+    ensures sends { Sends (notified_of topology.now region shard) (entry_message shard entry.now note.old) inboxes.old inboxes.new }
     ensures note { note.new ≡ note.old }
 {
     for tier in 0..tier_count(config, region) {
@@ -94,7 +94,7 @@ impl Mail {
         requires here { shard < config.now.shards }
         requires stands { StandsIn note.old entry.now }
         requires lies { LiesOn note.old shard entry.now }
-        ensures sends { Sends (told_of topology.now region shard) (entry_message shard entry.now note.old) self.old self.new }
+        ensures sends { Sends (notified_of topology.now region shard) (entry_message shard entry.now note.old) self.old self.new }
         ensures note { note.new ≡ note.old }
         ensures of { (pens : Pens) → IsSeen pens shard note.old → AreInboxesOf config.now pens self.old → AreInboxesOf config.now pens self.new }
     {
@@ -115,7 +115,7 @@ impl Mail {
     ///
     /// With 4,096 messages waiting the message is lost, and so it is without memory for its note, its keys or its place. Takes no
     /// other memory.
-    pub fn tell(
+    pub fn notify(
         &mut self,
         alloc: Global,
         config: &Config,

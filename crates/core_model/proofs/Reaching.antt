@@ -334,8 +334,8 @@ nodes_stay_at region = record { stays = stays_at region }
 -- ---- what is told
 
 module _ (tells : Bool) (s : Settings) (tables : Tables) (stores : List Store) where
-  told_by_store : (shard : ℕ) → AreStoresOf tells s tables stores → (pens_of stores shard).log.told ≡ true → tells ≡ true
-  told_by_store shard are told = by_master (master_in stores shard) refl told
+  notified_by_store : (shard : ℕ) → AreStoresOf tells s tables stores → (pens_of stores shard).log.told ≡ true → tells ≡ true
+  notified_by_store shard are told = by_master (master_in stores shard) refl told
     where
       by_master : (o : Option Store) → master_in stores shard ≡ o → (view_or_none o).log.told ≡ true → tells ≡ true
       by_master None none told = absurd (cc)
@@ -355,7 +355,7 @@ module _ (tells : Bool) (s : Settings) (tables : Tables) (stores : List Store) w
           → (t : ServedShard) × (served_at shard node.served ≡ Some t) × (t.view.log.told ≡ true) → tells ≡ true
       by_served o same found =
           let seen = served-at (pens_of stores) shard node.served found.0 is.seen found.1 in
-          told_by_store shard are (ap (λ l. l.told) seen.log_is ∙ found.2)
+          notified_by_store shard are (ap (λ l. l.told) seen.log_is ∙ found.2)
 
   pub nodes_told : NodesAreToldAs tells s tables stores
   nodes_told = record { told = node_told }

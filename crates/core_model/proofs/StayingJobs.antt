@@ -13,7 +13,7 @@ use Rattle.tao_keeper.specs.Table.{Tables}
 use Rattle.tao_schema.specs.Schema.{types_of}
 use Rattle.topology.specs.Config.{Settings}
 use Rattle.write_model.proofs.Growing.{Grown, entry_stays, stamp_stays}
-use Rattle.write_model.specs.Merges.{Owed, job_of, log_of}
+use Rattle.write_model.specs.Merges.{JobSource, job_of, log_of}
 use Rattle.write_model.specs.Steps.{IsOwed}
 use Rattle.core_model.specs.Jobs.{IsMergedJob, IsOwedJob, ShardJob}
 use Rattle.core_model.specs.Laws.{JobsStayOwed}
@@ -48,7 +48,7 @@ module _ (s : Settings) where
     pub logs_grown : Grown (log_of (stores_in s old).logs) (log_of (stores_in s new).logs)
     logs_grown = record { more = λ shard. (grown_at shard).0; is = λ shard. (grown_at shard).1 }
 
-    pub owes_on : (owed : Owed) → IsOwed (types_of s.schema) (stores_in s old) owed → IsOwed (types_of s.schema) (stores_in s new) owed
+    pub owes_on : (owed : JobSource) → IsOwed (types_of s.schema) (stores_in s old) owed → IsOwed (types_of s.schema) (stores_in s new) owed
     owes_on owed was = record {
       epoch_is = was.epoch_is;
       stands = entry_stays (types_of s.schema) (log_of (stores_in s old).logs) (log_of (stores_in s new).logs) logs_grown owed.shard owed.entry.position

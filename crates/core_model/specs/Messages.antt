@@ -41,17 +41,17 @@ abbrev pub IsOfStore : Tables → NodeName → SeenMaint → Type 0
 IsOfStore tables name m = m.position ≤ store_length tables (region_of name) m.shard
 
 -- who is told of an entry that the region's store took: of each tier the follower that serves the shard, where it is up
-abbrev pub told_of : NodeStates → ℕ → ℕ → List NodeName
-told_of states region shard = filter (is_up states) (followers_in_turn states.regions region 0 shard)
+abbrev pub notified_of : NodeStates → ℕ → ℕ → List NodeName
+notified_of states region shard = filter (is_up states) (followers_in_turn states.regions region 0 shard)
 
 -- the leader that the master's region prefers, where it is up, which is told of an entry that another wrote: a repair or a stand-in
-abbrev pub told_besides : NodeStates → ℕ → List NodeName
-told_besides states shard = filter (is_up states) (preferred_leader states (master_region states shard) shard ∷ [])
+abbrev pub notified_besides : NodeStates → ℕ → List NodeName
+notified_besides states shard = filter (is_up states) (preferred_leader states (master_region states shard) shard ∷ [])
 
 -- who is told of an entry of a shard that a leader wrote
-abbrev pub told_by : NodeStates → NodeName → ℕ → List NodeName
-told_by states leader shard = told_of states (master_region states shard) shard
-    ++ (if serves_in_turn states.regions leader shard then [] else told_besides states shard)
+abbrev pub notified_by : NodeStates → NodeName → ℕ → List NodeName
+notified_by states leader shard = notified_of states (master_region states shard) shard
+    ++ (if serves_in_turn states.regions leader shard then [] else notified_besides states shard)
 
 -- ---- deliveries
 

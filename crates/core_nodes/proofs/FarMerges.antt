@@ -13,7 +13,7 @@ use Rattle.core_nodes.proofs.GrowingLemmas.{gains_stores, stays_stores}
 use Rattle.core_nodes.proofs.JobLemmas.{due, is_merged, may_be_merged, merge_keeps, merges_owed}
 use Rattle.core_nodes.proofs.MasterStores.{IsMasterRead, goes_same, pen_is, pens_rise, stores_left}
 use Rattle.core_nodes.proofs.StoreLemmas.{OthersStay, goes_with, others_stay}
-use Rattle.core_nodes.specs.Repairs.{ComesBack, FindsNoRoom, MergesOrRests, MergesThere, Outside, WritesDueEntry, carry_back, carry_there, outside}
+use Rattle.core_nodes.specs.Repairs.{ComesBack, FindsNoRoom, MergesOrRests, MergesFar, Outside, WritesDueEntry, carry_back, carry_there, outside}
 use Rattle.edge_repair.specs.Calls.{MayTakeJob}
 use Rattle.edge_repair.specs.Carries.{CarriesBack, CarriesBy, FailsAt}
 use Rattle.edge_repair.specs.JobBetween.{JobBetween, job_between, way_back, way_there}
@@ -227,7 +227,7 @@ module _ (s : Settings) (j : ShardJob) (from : StoreName) (x : Store) (from_is :
 
     merges_there : (before after : LinkShown) (r : Result RepairOutcome RepairRefusal)
         → WhereTold tells (MergesBy taken after.failed old.told new.told r) → CarriesBy taken before after r
-        → MergesThere tells s j r (outside old before) (outside new after)
+        → MergesFar tells s j r (outside old before) (outside new after)
     merges_there before after (Ok repaired) merges carries = (λ told. wrote_due told repaired.wrote (merges told), carries)
     merges_there before after (Err (LogFull count)) merges carries =
         (λ told. no_room count (merges told), λ told. (merges told).stays, comes_back before after carries)
@@ -270,7 +270,7 @@ pub record TakesJob (tells : Bool) (b : JobBetween) (old new : Outside) (y : Sto
 
 module _ (tells : Bool) (s : Settings) (j : ShardJob) where
   pub record FarMerged (old new : Outside) (before after : List Store) (r : Result RepairOutcome RepairRefusal) : Type 0 where
-    pub merges : MergesThere tells s j r old new
+    pub merges : MergesFar tells s j r old new
     pub stands : IfOk r (λ repaired. IfSome repaired.wrote (StandsIn (pens_of after (far_shard j.job))))
     pub lies : IfOk r (λ repaired. IfSome repaired.wrote (LiesOn (pens_of after (far_shard j.job)) (far_shard j.job)))
     pub stores : AreStoresOf tells s new.keepers.told after

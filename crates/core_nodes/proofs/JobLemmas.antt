@@ -17,7 +17,7 @@ use Rattle.write_model.proofs.CoverMerges.{merges_keep}
 use Rattle.write_model.proofs.MergeOf.{jobs_may_be_merged}
 use Rattle.write_model.proofs.OpenJobs.{open_jobs_are_owed}
 use Rattle.write_model.specs.MergeLaws.{MayBeMerged}
-use Rattle.write_model.specs.Merges.{Owed, job_of, log_of, merge_of, owed_number}
+use Rattle.write_model.specs.Merges.{JobSource, job_of, log_of, merge_of, source_number}
 use Rattle.core_model.proofs.OwedJobs.{first_record}
 use Rattle.core_model.specs.Jobs.{EndsOwed, IsFirstJobOf, OwesShardJob, IsMergedJob, IsOwedJob, MergesOwed, ShardJob, far_shard, job_on}
 use Rattle.core_model.specs.Stores.{AreKeptIn, master_log, master_store, masters_of, stores_in}
@@ -27,7 +27,7 @@ abbrev OfJob : Type 1
 OfJob = ℕ → ℕ → ℕ → List EdgeUpdate → Type 0
 
 -- what is so of an entry that owes is so of its job, and the other way round
-pub of_job : (s : Settings) (j : ShardJob) (owed : Owed) (P : OfJob) → OwesShardJob s j owed
+pub of_job : (s : Settings) (j : ShardJob) (owed : JobSource) (P : OfJob) → OwesShardJob s j owed
     → P owed.other owed.shard owed.entry.position (job_of (types_of s.schema) owed.entry) → P (far_shard j.job) j.shard j.job.position j.job.edges
 of_job s j owed P is p =
     let us = job_of (types_of s.schema) owed.entry in
@@ -36,7 +36,7 @@ of_job s j owed P is p =
     let position = subst (λ k. P (far_shard j.job) j.shard k us) is.position_is shard in
     subst (P (far_shard j.job) j.shard j.job.position) (sym is.records_are) position
 
-pub of_owed : (s : Settings) (j : ShardJob) (owed : Owed) (P : OfJob) → OwesShardJob s j owed → P (far_shard j.job) j.shard j.job.position j.job.edges
+pub of_owed : (s : Settings) (j : ShardJob) (owed : JobSource) (P : OfJob) → OwesShardJob s j owed → P (far_shard j.job) j.shard j.job.position j.job.edges
     → P owed.other owed.shard owed.entry.position (job_of (types_of s.schema) owed.entry)
 of_owed s j owed P is p =
     let us = job_of (types_of s.schema) owed.entry in
@@ -51,12 +51,12 @@ due s tables j = merge_of (master_log s tables (far_shard j.job)) j.shard j.job.
 
 module _ (s : Settings) (old : Tables) (j : ShardJob) (far : far_shard j.job < s.shards) where
   -- every epoch is the first, so a merge names the entry by its position
-  number_is : (is : IsOwedJob s old j) → owed_number is.owed ≡ is.owed.entry.position
+  number_is : (is : IsOwedJob s old j) → source_number is.owed ≡ is.owed.entry.position
   number_is is = (numbers_are_positions (masters_of s) old).number_is (types_of s.schema) is.owed is.owes
 
   by_number : (is : IsOwedJob s old j) (made : Option Entry)
       → merge_of (old ((masters_of s).name is.owed.other)).log is.owed.shard is.owed.entry.position (job_of (types_of s.schema) is.owed.entry) ≡ made
-      → merge_of (old ((masters_of s).name is.owed.other)).log is.owed.shard (owed_number is.owed) (job_of (types_of s.schema) is.owed.entry) ≡ made
+      → merge_of (old ((masters_of s).name is.owed.other)).log is.owed.shard (source_number is.owed) (job_of (types_of s.schema) is.owed.entry) ≡ made
   by_number is made = subst (λ n. merge_of (old ((masters_of s).name is.owed.other)).log is.owed.shard n (job_of (types_of s.schema) is.owed.entry) ≡ made)
       (sym (number_is is))
 

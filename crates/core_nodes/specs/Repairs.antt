@@ -59,12 +59,12 @@ abbrev pub MergesOrRests : Bool → Settings → ShardJob → KeeperState → Ke
 MergesOrRests tells s j old new = KeepsTables tells old new ⊎ WhereTold tells (MergesOwed s old.told new.told j)
 
 -- what the merge of a job from store to store is answered
-abbrev pub MergesThere : Bool → Settings → ShardJob → Result RepairOutcome RepairRefusal → Outside → Outside → Type 0
-MergesThere tells s j (Ok repaired) old new =
+abbrev pub MergesFar : Bool → Settings → ShardJob → Result RepairOutcome RepairRefusal → Outside → Outside → Type 0
+MergesFar tells s j (Ok repaired) old new =
     WhereTold tells (WritesDueEntry s j repaired.wrote old.keepers new.keepers) × (new.link ≡ after_carry (after_carry old.link))
-MergesThere tells s j (Err (LogFull count)) old new =
+MergesFar tells s j (Err (LogFull count)) old new =
     WhereTold tells (FindsNoRoom s j count old.keepers) × KeepsTables tells old.keepers new.keepers × ComesBack s j old.link new.link
-MergesThere tells s j (Err LinkFault) old new = (FailsAt (carry_there s j) old.link new.link × KeepsTables tells old.keepers new.keepers)
+MergesFar tells s j (Err LinkFault) old new = (FailsAt (carry_there s j) old.link new.link × KeepsTables tells old.keepers new.keepers)
     ⊎ (FailsAt (carry_back s j) (after_carry old.link) new.link × WhereTold tells (MergesOwed s old.keepers.told new.keepers.told j))
-MergesThere tells s j (Err KeeperFault) old new = MergesOrRests tells s j old.keepers new.keepers × ComesBack s j old.link new.link
-MergesThere tells s j (Err OutOfMemory) old new = MergesOrRests tells s j old.keepers new.keepers × ComesBack s j old.link new.link
+MergesFar tells s j (Err KeeperFault) old new = MergesOrRests tells s j old.keepers new.keepers × ComesBack s j old.link new.link
+MergesFar tells s j (Err OutOfMemory) old new = MergesOrRests tells s j old.keepers new.keepers × ComesBack s j old.link new.link

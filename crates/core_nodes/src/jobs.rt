@@ -9,7 +9,7 @@ ghost use Rattle.core_model.specs.Pens.{IsSeen, Rise, pens_of, store_in};
 ghost use Rattle.core_model.specs.Serving.{IsLeaderIn};
 ghost use Rattle.core_model.specs.Stores.{AreStoresOf, master_of, master_store};
 ghost use Rattle.core_nodes.specs.MasterWrites.{job_of_master};
-ghost use Rattle.core_nodes.specs.Repairs.{MergesThere, outside};
+ghost use Rattle.core_nodes.specs.Repairs.{MergesFar, outside};
 ghost use Rattle.core_nodes.specs.Stages.{NodeIs, taken_by};
 ghost use Rattle.edge_repair.specs.declared.refusal.RepairRefusal.TheVariants as repair;
 ghost use Rattle.graph_model.specs.Told.{WhereTold};
@@ -32,7 +32,7 @@ use crate::stores::{master_store, region_store};
 use core_model::{
     Named, far_shard, master_of, masters_are_regions, named_place, serves_in_turn, store_place,
 };
-use edge_repair::{RepairOutcome, RepairRefusal, merge_there};
+use edge_repair::{RepairOutcome, RepairRefusal, merge_far};
 use leader_tier::Leader;
 use node_name::NodeName;
 use node_stages::merge_of;
@@ -163,7 +163,7 @@ fn merge_over<K: Keeper, L: Link>(
     requires there { far_shard job.now < config.now.shards }
     requires given { IsGivenJob job.now }
     requires owed { WhereTold K.TELLS (IsOwedJob config.now (K.state keepers.old).told (job_on from job.now)) }
-    ensures merges { MergesThere K.TELLS config.now (job_on from job.now) result
+    ensures merges { MergesFar K.TELLS config.now (job_on from job.now) result
         (outside (K.state keepers.old) (L.shown link.old)) (outside (K.state keepers.new) (L.shown link.new)) }
     ensures stands { IfOk result (λ repaired. IfSome repaired.wrote (StandsIn (pens_of stores.new (far_shard job.now)))) }
     ensures lies { IfOk result (λ repaired. IfSome repaired.wrote (LiesOn (pens_of stores.new (far_shard job.now)) (far_shard job.now))) }
@@ -179,7 +179,7 @@ fn merge_over<K: Keeper, L: Link>(
     let at = region_store(master_of(config, shard), shard);
     let place = store_place(config, at);
     let to = &mut stores[place];
-    merge_there(alloc, from, to, keepers, link, job)
+    merge_far(alloc, from, to, keepers, link, job)
 }
 
 impl Fleet {
@@ -284,7 +284,7 @@ impl Fleet {
     /// the merge was refused. No leader takes part, and the job stays open.
     ///
     /// `LinkFault` comes only where the link's count of faults rose, and `KeeperFault` only where the keepers' did. Costs a merge.
-    pub fn merge_there<K: Keeper, L: Link>(
+    pub fn merge_far<K: Keeper, L: Link>(
         &mut self,
         alloc: Global,
         config: &Config,
@@ -298,7 +298,7 @@ impl Fleet {
         requires there { far_shard job.now < config.now.shards }
         requires given { IsGivenJob job.now }
         requires owed { WhereTold K.TELLS (IsOwedJob config.now (K.state keepers.old).told (job_on from job.now)) }
-        ensures merges { MergesThere K.TELLS config.now (job_on from job.now) result
+        ensures merges { MergesFar K.TELLS config.now (job_on from job.now) result
             (outside (K.state keepers.old) (L.shown link.old)) (outside (K.state keepers.new) (L.shown link.new)) }
         ensures stands { IfOk result (λ repaired. IfSome repaired.wrote (StandsIn (pens_of self.new.stores (far_shard job.now)))) }
         ensures lies { IfOk result (λ repaired. IfSome repaired.wrote (LiesOn (pens_of self.new.stores (far_shard job.now)) (far_shard job.now))) }

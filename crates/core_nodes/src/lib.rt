@@ -19,7 +19,7 @@
 //! that isn't behind these; where each store has all of its shard's log, they hold last versions alone.
 //!
 //! The contracts that say so: `Fleet::open`, `look`, `ask_at_once`, `ask`, `read_store`, `notes`, `note`, `renew`,
-//! `keep`, `end_ask`, `commit`, `merge`, `merge_there`, `end_job`, `first_job`, `apply`, `evict`, `deliver`,
+//! `keep`, `end_ask`, `commit`, `merge`, `merge_far`, `end_job`, `first_job`, `apply`, `evict`, `deliver`,
 //! `next_refill`, `lengths`, `shard_lengths`, `catch_up`, `go_down`, `come_up`, `item`, `mark`; the law `nodes_catch_up`.
 #![tactic(auto)]
 

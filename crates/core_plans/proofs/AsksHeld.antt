@@ -57,9 +57,9 @@ use Rattle.tao_base.specs.declared.query.Query.{Query}
 use Rattle.tao_schema.specs.Schema.{types_of}
 use Rattle.topology.specs.Config.{Settings}
 use Rattle.write_plan.specs.Plans.{Writing}
-use Rattle.write_plan.specs.declared.results.Late.{Late}
-use Rattle.write_plan.specs.declared.results.Late.TheVariants.{Scheduled}
-use Rattle.write_plan.specs.declared.results.Late.TheVariants as late
+use Rattle.write_plan.specs.declared.results.LeftOpen.{LeftOpen}
+use Rattle.write_plan.specs.declared.results.LeftOpen.TheVariants.{Scheduled}
+use Rattle.write_plan.specs.declared.results.LeftOpen.TheVariants as late
 use Rattle.write_plan.specs.declared.stage.WriteStage.{WriteStage}
 use Rattle.write_plan.specs.declared.stage.WriteStage.TheVariants.{Commit, Inverse, End, Relay, Apply, Done}
 use Rattle.ask_table.proofs.Tables.{raised_number}
@@ -279,7 +279,7 @@ module _ (tells : Bool) (s : Settings) (way : JobWay) (old new : World) where
   left_same why.Memory (Some w) is = absurd is
 
   -- a merge changes no follower
-  pub merge_same : (result : Result Wrote Late) → MergesOver tells s way result old new → followers_in new ≡ followers_in old
+  pub merge_same : (result : Result Wrote LeftOpen) → MergesOver tells s way result old new → followers_in new ≡ followers_in old
   merge_same (Ok wrote) is = is.0.followers
   merge_same (Err (Scheduled why wrote)) is = left_same why wrote is
   merge_same (Err (late.Refused reply)) is = absurd is
@@ -298,7 +298,7 @@ late_same tells s j why.LogFull wrote old new is = absurd is
 late_same tells s j NoServer wrote old new is = absurd is
 
 -- nor does the end of a job
-pub end_same : (tells : Bool) (s : Settings) (j : ShardJob) (result : Result ⊤ Late) (old new : World) → EndsOver tells s j result old new
+pub end_same : (tells : Bool) (s : Settings) (j : ShardJob) (result : Result ⊤ LeftOpen) (old new : World) → EndsOver tells s j result old new
     → followers_in new ≡ followers_in old
 end_same tells s j (Ok done) old new is = changed_keepers old new is.1
 end_same tells s j (Err (Scheduled why wrote)) old new is = late_same tells s j why wrote old new is

@@ -26,15 +26,15 @@ use Rattle.tao_keeper.specs.declared.jobs.Job.{Job}
 use Rattle.tao_link.specs.Shown.{LinkShown}
 use Rattle.tao_schema.specs.Schema.{types_of}
 use Rattle.topology.specs.Config.{Settings}
-use Rattle.write_plan.specs.Committing.{has_inverse, told_kind}
+use Rattle.write_plan.specs.Committing.{has_inverse, kind_said}
 use Rattle.write_plan.specs.Plans.{Writing, after_stage, answered_job, back_stage, job_stage, next_of, stage_from as stage_by, written_there}
 use Rattle.write_plan.specs.declared.committed.Committed.{Committed}
 use Rattle.write_plan.specs.declared.progress.OtherEnd.{OtherEnd}
 use Rattle.write_plan.specs.declared.progress.OtherEnd.TheVariants.{Due, Merged, Ended, Open}
 use Rattle.write_plan.specs.declared.progress.WayBack.{WayBack}
 use Rattle.write_plan.specs.declared.progress.WayBack.TheVariants.{Ahead, Relayed, Applied}
-use Rattle.write_plan.specs.declared.results.Late.{Late}
-use Rattle.write_plan.specs.declared.results.Late.TheVariants.{Scheduled, Refused}
+use Rattle.write_plan.specs.declared.results.LeftOpen.{LeftOpen}
+use Rattle.write_plan.specs.declared.results.LeftOpen.TheVariants.{Scheduled, Refused}
 use Rattle.write_plan.specs.declared.results.WriteResult.{WriteResult}
 use Rattle.write_plan.specs.declared.results.WriteResult.TheVariants as came
 use Rattle.write_plan.specs.declared.stage.WriteStage.{WriteStage}
@@ -140,7 +140,7 @@ more_there s stores job (Some w) more was now = was
 more_there s stores job None more was now = now
 
 -- what the end of a job writes there
-abbrev late_wrote : Result ⊤ Late → Option Wrote
+abbrev late_wrote : Result ⊤ LeftOpen → Option Wrote
 late_wrote (Ok done) = None
 late_wrote (Err (Scheduled why wrote)) = wrote
 late_wrote (Err (Refused reply)) = None
@@ -154,7 +154,7 @@ no_late_wrote tells s j NoServer w old new is = absurd is
 no_late_wrote tells s j Memory w old new is = absurd is
 
 -- is nothing
-end_writes_none : (tells : Bool) (s : Settings) (j : ShardJob) (result : Result ⊤ Late) (old new : World) → EndsOver tells s j result old new
+end_writes_none : (tells : Bool) (s : Settings) (j : ShardJob) (result : Result ⊤ LeftOpen) (old new : World) → EndsOver tells s j result old new
     → late_wrote result ≡ None
 end_writes_none tells s j (Ok done) old new is = refl
 end_writes_none tells s j (Err (Scheduled why None)) old new is = refl
@@ -172,7 +172,7 @@ module _ (tells : Bool) (s : Settings) (tables : Tables) (f : Fleet) (p : Writin
   answer_stays q write origin c answer = record {
     apply = subst (λ w. CanBeApplied (client_call q.origin w) c.wrote f.stores) (sym write)
         (subst (λ o. CanBeApplied (client_call o p.write) c.wrote f.stores) (sym origin) answer.apply);
-    kind = subst (λ w. told_kind w c.wrote.entry ≡ Some c.kind) (sym write) answer.kind;
+    kind = subst (λ w. kind_said w c.wrote.entry ≡ Some c.kind) (sym write) answer.kind;
     passed = answer.passed;
     paired = subst (λ w. c.paired ≡ has_inverse (types_of s.schema) w) (sym write) answer.paired;
   }
@@ -230,7 +230,7 @@ module _ (tells : Bool) (s : Settings) (tables : Tables) (f : Fleet) (p : Writin
         (more_there s f.stores job p.other more (subst (λ o. IfSome o (λ j. StandsThere s j p.other f.stores)) at is.other) now)
 
     -- its job was merged, or not
-    merged_still : (result : Result Wrote Late) (hops : ℕ) → WhereTold tells (OnOk result (IsMergedJob s tables (job_by p job)))
+    merged_still : (result : Result Wrote LeftOpen) (hops : ℕ) → WhereTold tells (OnOk result (IsMergedJob s tables (job_by p job)))
         → StandsThere s job (known_of result) f.stores → IsWriteUnderWay tells s tables f (after_stage p (came.Inverse result) hops)
     merged_still (Ok wrote) hops merged stands =
         moves Merged (written_there p.other (Some wrote)) p.back p.refused _ (not_begun Merged (written_there p.other (Some wrote)))
@@ -241,7 +241,7 @@ module _ (tells : Bool) (s : Settings) (tables : Tables) (f : Fleet) (p : Writin
     merged_still (Err (Refused reply)) hops merged stands = refused_still reply _
 
     -- it ended, or not
-    pub ended_still : (result : Result ⊤ Late) (hops : ℕ) → late_wrote result ≡ None
+    pub ended_still : (result : Result ⊤ LeftOpen) (hops : ℕ) → late_wrote result ≡ None
         → IsWriteUnderWay tells s tables f (after_stage p (came.End result) hops)
     ended_still (Ok done) hops none = moves Ended p.other p.back p.refused _ (not_begun Ended p.other) (λ now. absurd (cc)) is.other
     ended_still (Err (Scheduled why wrote)) hops none =
@@ -277,7 +277,7 @@ answer_of : (s : Settings) (stores : List Store) (p : Writing) (wrote : Result W
     → IsTakenAs s p.write wrote outcome → IfOk wrote (λ w. CanBeApplied (call_of_plan p) w stores) → IfOk outcome (IsAnswerTo s stores p)
 answer_of s stores p (Ok w) (Ok c) taken apply = record {
   apply = subst (λ x. CanBeApplied (call_of_plan p) x stores) (sym taken.0) apply;
-  kind = subst (λ (x : Wrote). told_kind p.write x.entry ≡ Some c.kind) (sym taken.0) taken.1;
+  kind = subst (λ (x : Wrote). kind_said p.write x.entry ≡ Some c.kind) (sym taken.0) taken.1;
   passed = taken.2;
   paired = taken.3;
 }
@@ -328,7 +328,7 @@ module _ (P : ShardJob → Type 0) (p : Writing) (job : Job) (shard : ℕ) (shar
 abbrev pub no_carries : LinkShown
 no_carries = record { cuts = None; carries = 0; faults = 0; failed = None }
 
-pub ended_on : (tells : Bool) (s : Settings) (tables : Tables) (f : Fleet) (p : Writing) (job : Job) (result : Result ⊤ Late) (old new : World)
+pub ended_on : (tells : Bool) (s : Settings) (tables : Tables) (f : Fleet) (p : Writing) (job : Job) (result : Result ⊤ LeftOpen) (old new : World)
     → IsWriteUnderWay tells s tables f p → answered_job p ≡ Some job → EndsOver tells s (job_by p job) result old new
     → IsWriteUnderWay tells s tables f (after_stage p (came.End result) 0)
 ended_on tells s tables f p job result old new is at ends =
@@ -364,7 +364,7 @@ module _ (tells : Bool) (s : Settings) (leader : NodeName) (p q : Writing) (old 
       (answer_of s new.fleet.stores p wrote outcome taken comes.apply)
       (job_of_answer s p.write (λ j. CanBeMerged tells s tables (job_by p j)) wrote outcome taken comes.job))
 
-  pub merges_pass : (job : Job) (shard : ℕ) (result : Result Wrote Late) (took : ℕ) → answered_job p ≡ Some job → shard ≡ write_shard p.write
+  pub merges_pass : (job : Job) (shard : ℕ) (result : Result Wrote LeftOpen) (took : ℕ) → answered_job p ≡ Some job → shard ≡ write_shard p.write
       → MergesOver tells s (job_way leader (job_on shard job)) result old new
       → WhereTold tells (OnOk result (IsMergedJob s new.keepers.told (job_on shard job)))
       → StandsThere s job (known_of result) new.fleet.stores

@@ -26,8 +26,8 @@ use Rattle.tao_base.specs.Writes.{write_shard}
 use Rattle.replies.specs.declared.reply.Reply.TheVariants.{Refused as Refused_}
 use Rattle.topology.specs.Config.{Settings}
 use Rattle.write_plan.specs.Plans.{Writing, after_stage, next_of}
-use Rattle.write_plan.specs.Stages.{told_stage}
-use Rattle.write_plan.specs.declared.results.Late.TheVariants.{Refused, Scheduled}
+use Rattle.write_plan.specs.Stages.{stage_said}
+use Rattle.write_plan.specs.declared.results.LeftOpen.TheVariants.{Refused, Scheduled}
 use Rattle.write_plan.specs.declared.results.WriteResult.{WriteResult}
 use Rattle.write_plan.specs.declared.results.WriteResult.TheVariants as came
 use Rattle.write_plan.specs.declared.stage.WriteStage.{WriteStage}
@@ -52,7 +52,8 @@ module _ (p q : Reading) (old new : World) where
   keep_same : (s : Settings) (given : Given) → DoesKeep s p given old q new → IsSameRead p q
   keep_same s (Fill fill) (inl from) = subst (IsSameRead p) (sym from.then) (record { query = refl; region = refl; floor = refl; critical = refl; follower = refl })
   keep_same s (Fill fill) (inr vain) = subst (IsSameRead p) (sym vain.then) (record { query = refl; region = refl; floor = refl; critical = refl; follower = refl })
-  keep_same s (Past answer version total seen) on = subst (IsSameRead p) (sym on.then) (record { query = refl; region = refl; floor = refl; critical = refl; follower = refl })
+  keep_same s (Past answer version total seen) on = subst (IsSameRead p) (sym on.then)
+      (record { query = refl; region = refl; floor = refl; critical = refl; follower = refl })
   keep_same s (HandedOut version) on = absurd on
 
   pub read_same : (led : LedBy) (at : Standing) → DoesReadStage led at p old q new → IsSameRead p q
@@ -115,11 +116,11 @@ module _ (p q : Writing) (old new : World) where
 
 -- a write that did a stage had one before it
 write_goes : (led : LedBy) (at : WriteStage) (p q : Writing) (old new : World) → next_of p ≡ at → DoesWriteStage led at p old q new
-    → IsSome (told_stage (next_of p))
-write_goes led Commit p q old new is does = subst (λ a. IsSome (told_stage a)) (sym is) refl
-write_goes led Inverse p q old new is does = subst (λ a. IsSome (told_stage a)) (sym is) refl
-write_goes led End p q old new is does = subst (λ a. IsSome (told_stage a)) (sym is) refl
-write_goes led Apply p q old new is does = subst (λ a. IsSome (told_stage a)) (sym is) refl
+    → IsSome (stage_said (next_of p))
+write_goes led Commit p q old new is does = subst (λ a. IsSome (stage_said a)) (sym is) refl
+write_goes led Inverse p q old new is does = subst (λ a. IsSome (stage_said a)) (sym is) refl
+write_goes led End p q old new is does = subst (λ a. IsSome (stage_said a)) (sym is) refl
+write_goes led Apply p q old new is does = subst (λ a. IsSome (stage_said a)) (sym is) refl
 write_goes led Relay p q old new is does = absurd does
 write_goes led Done p q old new is does = absurd does
 

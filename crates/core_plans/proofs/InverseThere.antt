@@ -31,13 +31,13 @@ use Rattle.write_model.proofs.Covered.{at_place}
 use Rattle.write_model.proofs.OpenJobs.{open_jobs_are_owed}
 use Rattle.write_model.specs.Merges.{HasJob, Stores, job_of, log_of}
 use Rattle.write_model.specs.Steps.{AreSoundAndCovered, opened_job}
-use Rattle.write_plan.specs.Plans.{Writing, after_stage, answered_job, back_stage, has_other, inverse_told, job_stage, next_of, stage_from, written_by}
-use Rattle.write_plan.specs.Stages.{told_stage}
+use Rattle.write_plan.specs.Plans.{Writing, after_stage, answered_job, back_stage, has_other, inverse_said, job_stage, next_of, stage_from, written_by}
+use Rattle.write_plan.specs.Stages.{stage_said}
 use Rattle.write_plan.specs.declared.committed.Committed.{Committed}
 use Rattle.write_plan.specs.declared.progress.OtherEnd.{OtherEnd}
 use Rattle.write_plan.specs.declared.progress.OtherEnd.TheVariants.{Due, Merged, Ended, Open}
-use Rattle.write_plan.specs.declared.results.Late.{Late}
-use Rattle.write_plan.specs.declared.results.Late.TheVariants.{Refused, Scheduled}
+use Rattle.write_plan.specs.declared.results.LeftOpen.{LeftOpen}
+use Rattle.write_plan.specs.declared.results.LeftOpen.TheVariants.{Refused, Scheduled}
 use Rattle.write_plan.specs.declared.results.WriteResult.TheVariants as came
 use Rattle.write_plan.specs.declared.stage.WriteStage.{WriteStage}
 use Rattle.write_plan.specs.declared.stage.WriteStage.TheVariants.{Apply, Commit, Done, End, Inverse, Relay}
@@ -45,7 +45,7 @@ use Rattle.core_model.proofs.KeptStores.{sound_logs}
 use Rattle.core_model.specs.Consistent.{IsConsistent}
 use Rattle.core_model.specs.Pens.{pens_of}
 use Rattle.core_model.specs.Stores.{HaveMasterRegions, master_store, masters_of, stores_in}
-use Rattle.core_plans.specs.Held.{IsOver, next_stage, told_with}
+use Rattle.core_plans.specs.Held.{IsOver, next_stage, learnt_with}
 use Rattle.core_plans.specs.HeldWrites.{CommitsHeld, DoesWriteStage, IsAnswerTo, IsWriteUnderWay, call_of_plan, job_by}
 use Rattle.core_plans.specs.LedBy.{led_by}
 use Rattle.core_plans.specs.WholeCalls.{PassesStage}
@@ -58,10 +58,10 @@ use Rattle.core_plans.proofs.WholeRuns.{OfWrite, write_keeps}
 use Rattle.core_plans.proofs.WriteRefusals.{IsAnswered, IsRefusedSo, answered_write, refused_so}
 use Rattle.core_steps.proofs.ReadLemmas.{log_is}
 use Rattle.core_steps.proofs.WriteLemmas.{stands_in_log}
-use Rattle.core_steps.specs.OtherEnds.{EndsOver, MergesOver, job_way, told_entry}
+use Rattle.core_steps.specs.OtherEnds.{EndsOver, MergesOver, job_way, learnt_entry_of}
 use Rattle.core_steps.specs.World.{World}
 use Rattle.core_steps.specs.Writes.{StepsAs, asked_of_log}
-use Rattle.core_steps.specs.declared.jobs.ToldEntry.{ToldEntry}
+use Rattle.core_steps.specs.declared.jobs.LearntEntry.{LearntEntry}
 use Rattle.node_name.specs.declared.NodeName.{NodeName}
 
 -- ---- an entry whose job isn't open
@@ -161,7 +161,7 @@ module _ (s : Settings) (shard : ℕ) where
       (on e (subst (λ o. JobStands s shard e o before old) is was)))
 
   -- where its job is due
-  merges : (p q : Writing) (job : Job) (result : Result Wrote Late) (hops : ℕ) (old new : Tables) → answered_job p ≡ Some job → p.job ≡ Due
+  merges : (p q : Writing) (job : Job) (result : Result Wrote LeftOpen) (hops : ℕ) (old new : Tables) → answered_job p ≡ Some job → p.job ≡ Due
       → ((reply : Reply) → result ≡ Err (Refused reply) → ⊥) → q ≡ after_stage p (came.Inverse result) hops → JobsStand s shard p.committed p.job old
       → JobsStand s shard q.committed q.job new
   merges p q job (Ok wrote) hops old new is due never then stands =
@@ -173,7 +173,7 @@ module _ (s : Settings) (shard : ℕ) where
   merges p q job (Err (Refused reply)) hops old new is due never then stands = absurd (never reply refl)
 
   -- where it is merged
-  ends : (p q : Writing) (job : Job) (result : Result ⊤ Late) (hops : ℕ) (old new : Tables) → answered_job p ≡ Some job → p.job ≡ Merged
+  ends : (p q : Writing) (job : Job) (result : Result ⊤ LeftOpen) (hops : ℕ) (old new : Tables) → answered_job p ≡ Some job → p.job ≡ Merged
       → ((reply : Reply) → result ≡ Err (Refused reply) → ⊥)
       → (result ≡ Ok tt → (e : Entry) → job.position ≡ e.position → (stores_in s new).job shard e.position ≡ None)
       → q ≡ after_stage p (came.End result) hops → JobsStand s shard p.committed p.job old → JobsStand s shard q.committed q.job new
@@ -280,8 +280,8 @@ inverse_in reply = Written
 
 -- the job isn't open where nothing is left to do and the inverse is told as written
 closed : (s : Settings) (shard : ℕ) (e : Entry) (tables : Tables) (job : Option Job) (state : OtherEnd) (other : Bool) (next : WriteStage)
-    → JobStands s shard e job state tables → told_stage (unwrap_or (option_and_then (λ _. job_stage state) job) next) ≡ None
-    → Written ≡ inverse_told other state → (stores_in s tables).job shard e.position ≡ None
+    → JobStands s shard e job state tables → stage_said (unwrap_or (option_and_then (λ _. job_stage state) job) next) ≡ None
+    → Written ≡ inverse_said other state → (stores_in s tables).job shard e.position ≡ None
 closed s shard e tables None state other next stands over told = stands
 closed s shard e tables (Some j) Ended other next stands over told = stands
 closed s shard e tables (Some j) Due other next stands over told = absurd (cc)
@@ -289,16 +289,16 @@ closed s shard e tables (Some j) Merged other next stands over told = absurd (cc
 closed s shard e tables (Some j) (Open why) other next stands over told = absurd (cc)
 
 -- an entry, as it is told
-abbrev as_told : ℕ → View → Entry → ToldEntry
+abbrev as_told : ℕ → View → Entry → LearntEntry
 as_told shard note e = record { shard = shard; entry = e; note = note }
 
-told_so : (shard : ℕ) (note : View) (entry : Option Entry) (P : Entry → Type 0) → IfSome entry P
+learnt_so : (shard : ℕ) (note : View) (entry : Option Entry) (P : Entry → Type 0) → IfSome entry P
     → IfSome (option_map (as_told shard note) entry) (λ t. P t.entry)
-told_so shard note None P is = tt
-told_so shard note (Some e) P is = is
+learnt_so shard note None P is = tt
+learnt_so shard note (Some e) P is = is
 
 module _ (s : Settings) (q : Writing) (now : World) (reply : WriteReply) (regions : HaveMasterRegions s) (so : StandsSoFar s q now)
-    (by : IsAnswered q (called.Write reply)) (over : told_stage (next_of q) ≡ None) (told : reply.written.inverse ≡ Written) where
+    (by : IsAnswered q (called.Write reply)) (over : stage_said (next_of q) ≡ None) (told : reply.written.inverse ≡ Written) where
   abbrev its_shard : ℕ
   its_shard = write_shard q.write
 
@@ -331,25 +331,25 @@ module _ (s : Settings) (q : Writing) (now : World) (reply : WriteReply) (region
       (stands_in_log pens its_shard wrote.note wrote.entry its_answer.apply.seen) in
       let jobs = subst (λ o. IfSome o (λ e. JobStands s its_shard e wrote.job q.job tables)) entry_is
       (subst (λ o. JobsStand s its_shard o q.job tables) by.answered so.jobs) in
-      let left : told_stage (stage_from None (Some committed) q.job q.back) ≡ None =
-      subst (λ o. told_stage (stage_from None o q.job q.back) ≡ None) by.answered
-      (subst (λ r. told_stage (stage_from r q.committed q.job q.back) ≡ None) by.unrefused over) in
+      let left : stage_said (stage_from None (Some committed) q.job q.back) ≡ None =
+      subst (λ o. stage_said (stage_from None o q.job q.back) ≡ None) by.answered
+      (subst (λ r. stage_said (stage_from r q.committed q.job q.back) ≡ None) by.unrefused over) in
       let said = ap inverse_in by.reply_is
-      ∙ ap (λ o. (written_by wrote.retry (inverse_told (has_other committed) q.job) o).inverse) entry_is in
+      ∙ ap (λ o. (written_by wrote.retry (inverse_said (has_other committed) q.job) o).inverse) entry_is in
       all_there (types_of s.schema) Logs (so.are.stores.kept refl) its_shard e (stands_then e stands)
       (closed s its_shard e tables wrote.job q.job (has_other committed) (back_stage committed.passed q.back) jobs left (sym told ∙ said))
 
-  told_there : IfSome (told_with (Called (called.Write reply)) (Write q)).here (λ t. HasOtherEnds s tables t.entry)
-  told_there = subst (λ o. IfSome (option_and_then (λ c. told_entry its_shard c.wrote) o) (λ t. HasOtherEnds s tables t.entry)) (sym by.answered)
-      (told_so its_shard committed.wrote.note committed.wrote.entry (HasOtherEnds s tables) (entry_there committed.wrote.entry refl))
+  learnt_far : IfSome (learnt_with (Called (called.Write reply)) (Write q)).here (λ t. HasOtherEnds s tables t.entry)
+  learnt_far = subst (λ o. IfSome (option_and_then (λ c. learnt_entry_of its_shard c.wrote) o) (λ t. HasOtherEnds s tables t.entry)) (sym by.answered)
+      (learnt_so its_shard committed.wrote.note committed.wrote.entry (HasOtherEnds s tables) (entry_there committed.wrote.entry refl))
 
 -- ---- all of its stages
 
 ended_there : (s : Settings) (q : HeldPlan) (now : World) (reply : WriteReply) → HaveMasterRegions s → OfWrite (StandsSoFar s) q now
     → IsOver q (Called (called.Write reply)) → next_stage q ≡ None → reply.written.inverse ≡ Written
-    → IfSome (told_with (Called (called.Write reply)) q).here (λ t. HasOtherEnds s now.keepers.told t.entry)
+    → IfSome (learnt_with (Called (called.Write reply)) q).here (λ t. HasOtherEnds s now.keepers.told t.entry)
 ended_there s (Write q) now reply regions so over none told =
-    told_there s q now reply regions so (answered_write q (called.Write reply) so.never over) none told
+    learnt_far s q now reply regions so (answered_write q (called.Write reply) so.never over) none told
 ended_there s (Read q) now reply regions so over none told = absurd so
 
 begun_stands : (s : Settings) (p : Writing) (now : World) → IsBegunWrite p → IsWriteUnderWay true s now.keepers.told now.fleet p

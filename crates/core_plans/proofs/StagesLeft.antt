@@ -32,8 +32,8 @@ use Rattle.write_plan.specs.declared.progress.OtherEnd.{OtherEnd}
 use Rattle.write_plan.specs.declared.progress.OtherEnd.TheVariants as job
 use Rattle.write_plan.specs.declared.progress.WayBack.{WayBack}
 use Rattle.write_plan.specs.declared.progress.WayBack.TheVariants.{Ahead, Applied, Relayed}
-use Rattle.write_plan.specs.declared.results.Late.{Late}
-use Rattle.write_plan.specs.declared.results.Late.TheVariants.{Refused, Scheduled}
+use Rattle.write_plan.specs.declared.results.LeftOpen.{LeftOpen}
+use Rattle.write_plan.specs.declared.results.LeftOpen.TheVariants.{Refused, Scheduled}
 use Rattle.write_plan.specs.declared.results.WriteResult.TheVariants as came
 use Rattle.replies.specs.declared.calls.ScheduledWhy.{ScheduledWhy}
 use Rattle.write_plan.specs.declared.stage.WriteStage.{WriteStage}
@@ -112,7 +112,8 @@ ended_left : (owed : Option Job) (passed : Option NodeName) (back : WayBack) →
 ended_left None passed back = back_left passed back
 ended_left (Some owed) passed back = back_left passed back
 
-open_left : (owed : Option Job) (passed : Option NodeName) (back : WayBack) (why : ScheduledWhy) → write_stages_left (following owed (job.Open why) passed back) < 3
+open_left : (owed : Option Job) (passed : Option NodeName) (back : WayBack) (why : ScheduledWhy)
+    → write_stages_left (following owed (job.Open why) passed back) < 3
 open_left None passed back why = back_left passed back
 open_left (Some owed) passed back why = back_left passed back
 
@@ -158,7 +159,7 @@ module _ (p q : Writing) (hops : ℕ) where
       → write_stages_left (stage_from p.refused p.committed state back) < n
   next_left g state back n less = subst (λ next. write_stages_left next < n) (sym (going_next p g state back)) less
 
-  inverse_left : (result : Result Wrote Late) → IsGoing p → q ≡ after_stage p (came.Inverse result) hops → left_of q < 4
+  inverse_left : (result : Result Wrote LeftOpen) → IsGoing p → q ≡ after_stage p (came.Inverse result) hops → left_of q < 4
   inverse_left (Ok wrote) g then =
       subst (λ r. left_of r < 4) (sym then) (next_left g job.Merged p.back 4 (merged_left g.committed.wrote.job g.committed.passed p.back))
   inverse_left (Err (Scheduled why wrote)) g then =
@@ -166,7 +167,7 @@ module _ (p q : Writing) (hops : ℕ) where
       subst (λ r. left_of r < 4) (sym then) (next_left g (job.Open why) p.back 4 (omega (arith, less)))
   inverse_left (Err (Refused reply)) g then = subst (λ r. left_of r < 4) (sym then) (omega arith)
 
-  end_left : (result : Result ⊤ Late) → IsGoing p → q ≡ after_stage p (came.End result) hops → left_of q < 3
+  end_left : (result : Result ⊤ LeftOpen) → IsGoing p → q ≡ after_stage p (came.End result) hops → left_of q < 3
   end_left (Ok done) g then =
       subst (λ r. left_of r < 3) (sym then) (next_left g job.Ended p.back 3 (ended_left g.committed.wrote.job g.committed.passed p.back))
   end_left (Err (Scheduled why wrote)) g then =

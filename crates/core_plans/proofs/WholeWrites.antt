@@ -27,8 +27,8 @@ use Rattle.replies.specs.declared.reply.Reply.TheVariants.{Called, Refused as Re
 use Rattle.shard_tables.specs.declared.writes.Wrote.{Wrote}
 use Rattle.tao_link.specs.Shown.{LinkShown}
 use Rattle.write_plan.specs.Plans.{Writing, after_stage, next_of}
-use Rattle.write_plan.specs.declared.results.Late.{Late}
-use Rattle.write_plan.specs.declared.results.Late.TheVariants.{Refused, Scheduled}
+use Rattle.write_plan.specs.declared.results.LeftOpen.{LeftOpen}
+use Rattle.write_plan.specs.declared.results.LeftOpen.TheVariants.{Refused, Scheduled}
 use Rattle.write_plan.specs.declared.results.WriteResult.TheVariants as came
 use Rattle.write_plan.specs.declared.stage.WriteStage.{WriteStage}
 use Rattle.write_plan.specs.declared.stage.WriteStage.TheVariants.{Apply, Commit, Done, End, Inverse, Relay}
@@ -60,7 +60,7 @@ module _ (led : LedBy) (old new : World) where
   left_few way LogFull (Some w) is = absurd is
   left_few way Memory (Some w) is = absurd is
 
-  merge_few : (way : JobWay) (result : Result Wrote Late) → MergesOver led.tells led.settings way result old new → FewHere
+  merge_few : (way : JobWay) (result : Result Wrote LeftOpen) → MergesOver led.tells led.settings way result old new → FewHere
   merge_few way (Ok wrote) is = between_few _ _ old.link new.link is.1
   merge_few way (Err (Scheduled why wrote)) is = left_few way why wrote is
   merge_few way (Err (Refused reply)) is = absurd is
@@ -80,7 +80,7 @@ module _ (led : LedBy) (old new : World) where
   late_same j LogFull wrote is = absurd is
   late_same j NoServer wrote is = absurd is
 
-  end_same : (j : ShardJob) (result : Result ⊤ Late) → EndsOver led.tells led.settings j result old new → SameLink
+  end_same : (j : ShardJob) (result : Result ⊤ LeftOpen) → EndsOver led.tells led.settings j result old new → SameLink
   end_same j (Ok done) is = keepers_same is.1
   end_same j (Err (Scheduled why wrote)) is = late_same j why wrote is
   end_same j (Err (Refused reply)) is = absurd is
@@ -116,7 +116,7 @@ module _ (led : LedBy) (first : LinkShown) (p q : Writing) (old new : World) (so
   ends : (reply : Reply) → q.refused ≡ Some reply → q.refused ≡ None → HasHops first q new.link
   ends reply some none = (let no : Some reply ≡ None = sym some ∙ none in absurd (cc))
 
-  merges_on : (way : JobWay) (result : Result Wrote Late) → MergesOver led.tells led.settings way result old new
+  merges_on : (way : JobWay) (result : Result Wrote LeftOpen) → MergesOver led.tells led.settings way result old new
       → q ≡ after_stage p (came.Inverse result) (hops_between old.link new.link) → q.refused ≡ None → HasHops first q new.link
   merges_on way (Ok wrote) is then =
       adds (merge_few led old new way (Ok wrote) is) (ap (λ (r : Writing). r.hops) then) (ap (λ (r : Writing). r.refused) then)
@@ -124,7 +124,7 @@ module _ (led : LedBy) (first : LinkShown) (p q : Writing) (old new : World) (so
       adds (merge_few led old new way (Err (Scheduled why wrote)) is) (ap (λ (r : Writing). r.hops) then) (ap (λ (r : Writing). r.refused) then)
   merges_on way (Err (Refused reply)) is then = absurd is
 
-  ends_on : (j : ShardJob) (result : Result ⊤ Late) → EndsOver led.tells led.settings j result old new → q ≡ after_stage p (came.End result) 0
+  ends_on : (j : ShardJob) (result : Result ⊤ LeftOpen) → EndsOver led.tells led.settings j result old new → q ≡ after_stage p (came.End result) 0
       → q.refused ≡ None → HasHops first q new.link
   ends_on j (Ok done) is then =
       rests (end_same led old new j (Ok done) is) (ap (λ (r : Writing). r.hops) then) (ap (λ (r : Writing). r.refused) then)

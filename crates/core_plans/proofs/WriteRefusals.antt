@@ -13,8 +13,8 @@ use Rattle.shard_tables.specs.declared.writes.Wrote.{Wrote}
 use Rattle.write_plan.specs.Plans.{Writing, after_stage, reply_after, reply_by, reply_of}
 use Rattle.write_plan.specs.declared.committed.Committed.{Committed}
 use Rattle.write_plan.specs.declared.progress.OtherEnd.{OtherEnd}
-use Rattle.write_plan.specs.declared.results.Late.{Late}
-use Rattle.write_plan.specs.declared.results.Late.TheVariants.{Refused, Scheduled}
+use Rattle.write_plan.specs.declared.results.LeftOpen.{LeftOpen}
+use Rattle.write_plan.specs.declared.results.LeftOpen.TheVariants.{Refused, Scheduled}
 use Rattle.write_plan.specs.declared.results.WriteResult.TheVariants as came
 use Rattle.write_plan.specs.declared.stage.WriteStage.{WriteStage}
 use Rattle.write_plan.specs.declared.stage.WriteStage.TheVariants.{Apply, Commit, Done, End, Inverse, Relay}
@@ -24,13 +24,13 @@ abbrev pub IsRefusedSo : Option Reply → Type 0
 IsRefusedSo refused = IfSome refused (λ reply. (answered : CallReply) → reply ≡ Called answered → ⊥)
 
 module _ (led : LedBy) (p q : Writing) (old new : World) (was : IsRefusedSo p.refused) where
-  merge_so : (way : JobWay) (result : Result Wrote Late) (hops : ℕ) → MergesOver led.tells led.settings way result old new
+  merge_so : (way : JobWay) (result : Result Wrote LeftOpen) (hops : ℕ) → MergesOver led.tells led.settings way result old new
       → q ≡ after_stage p (came.Inverse result) hops → IsRefusedSo q.refused
   merge_so way (Ok wrote) hops merges then = subst (λ (x : Writing). IsRefusedSo x.refused) (sym then) was
   merge_so way (Err (Scheduled why wrote)) hops merges then = subst (λ (x : Writing). IsRefusedSo x.refused) (sym then) was
   merge_so way (Err (Refused reply)) hops merges then = absurd merges
 
-  end_so : (j : ShardJob) (result : Result ⊤ Late) (hops : ℕ) → EndsOver led.tells led.settings j result old new
+  end_so : (j : ShardJob) (result : Result ⊤ LeftOpen) (hops : ℕ) → EndsOver led.tells led.settings j result old new
       → q ≡ after_stage p (came.End result) hops → IsRefusedSo q.refused
   end_so j (Ok done) hops ends then = subst (λ (x : Writing). IsRefusedSo x.refused) (sym then) was
   end_so j (Err (Scheduled why wrote)) hops ends then = subst (λ (x : Writing). IsRefusedSo x.refused) (sym then) was

@@ -9,9 +9,9 @@ use Rattle.core_model.specs.Fleet.{Fleet, named}
 use Rattle.core_model.specs.Serving.{IsLeaderFor, IsLeaderIn}
 use Rattle.core_model.specs.Stores.{master_of}
 use Rattle.core_model.specs.declared.named.Named.{Named}
-use Rattle.core_steps.specs.OtherEnds.{told_entry, told_there}
+use Rattle.core_steps.specs.OtherEnds.{learnt_entry_of, learnt_far}
 use Rattle.core_steps.specs.World.{World}
-use Rattle.core_steps.specs.declared.jobs.ToldEntry.{ToldEntry}
+use Rattle.core_steps.specs.declared.jobs.LearntEntry.{LearntEntry}
 use Rattle.follower_cache.specs.Seen.{FollowerState}
 use Rattle.node_name.specs.declared.NodeName.{NodeName}
 use Rattle.read_plan.specs.Ends.{EndsWith}
@@ -30,7 +30,7 @@ use Rattle.tao_keeper.specs.KeeperState.{KeepsTables}
 use Rattle.tao_keeper.specs.Table.{Tables}
 use Rattle.topology.specs.Config.{Settings}
 use Rattle.write_plan.specs.Plans.{Writing, answered_job, next_of, reply_of}
-use Rattle.write_plan.specs.Stages.{told_stage}
+use Rattle.write_plan.specs.Stages.{stage_said}
 use Rattle.write_plan.specs.declared.stage.WriteStage.{WriteStage}
 use Rattle.write_plan.specs.declared.progress.WayBack.{WayBack}
 use Rattle.write_plan.specs.declared.progress.WayBack.TheVariants.{Ahead, Applied, Relayed}
@@ -39,7 +39,7 @@ use Rattle.core_plans.specs.HeldReads.{IsReadUnderWay, StepsRead}
 use Rattle.core_plans.specs.HeldWrites.{DoesWriteStage, IsWriteUnderWay, way_given_up}
 use Rattle.core_plans.specs.declared.held.HeldPlan.{HeldPlan}
 use Rattle.core_plans.specs.declared.held.HeldPlan.TheVariants.{Read, Write}
-use Rattle.core_plans.specs.declared.held.ToldEntries.{ToldEntries}
+use Rattle.core_plans.specs.declared.held.LearntEntries.{LearntEntries}
 use Rattle.core_plans.specs.declared.plans.HeldPlans.TheInside.{Inside}
 use Rattle.core_plans.specs.LedBy.{LedBy}
 
@@ -48,7 +48,7 @@ use Rattle.core_plans.specs.LedBy.{LedBy}
 -- the stage that follows; none where it is over
 abbrev pub next_stage : HeldPlan → Option Stage
 next_stage (Read p) = stage_named (stage_of p.at)
-next_stage (Write p) = told_stage (next_of p)
+next_stage (Write p) = stage_said (next_of p)
 
 -- the plan is over, with this reply
 abbrev pub IsOver : HeldPlan → Reply → Type 0
@@ -63,22 +63,22 @@ IsUnderWay tells s tables f (Write p) = IsWriteUnderWay tells s tables f p
 -- ---- what a session learns of it
 
 -- the entry that was written on its shard, or that stood there
-abbrev pub told_here : Writing → Option ToldEntry
-told_here p = option_and_then (λ c. told_entry (write_shard p.write) c.wrote) p.committed
+abbrev pub learnt_here : Writing → Option LearntEntry
+learnt_here p = option_and_then (λ c. learnt_entry_of (write_shard p.write) c.wrote) p.committed
 
 -- a session is told of it, and of the entry that was written at the other end
-abbrev pub told_of_write : Writing → ToldEntries
-told_of_write p = record { here = told_here p; other = told_there (answered_job p) p.other }
+abbrev pub learnt_of_write : Writing → LearntEntries
+learnt_of_write p = record { here = learnt_here p; other = learnt_far (answered_job p) p.other }
 
 -- what a session is told where there is no entry to learn, here or at the other end
-abbrev pub nothing_told : ToldEntries
-nothing_told = record { here = None; other = None }
+abbrev pub nothing_learnt : LearntEntries
+nothing_learnt = record { here = None; other = None }
 
 -- what is told with the reply of a plan: of a write that was carried out, both
-abbrev pub told_with : Reply → HeldPlan → ToldEntries
-told_with (Called reply) (Write p) = told_of_write p
-told_with (Called reply) (Read p) = nothing_told
-told_with reply plan = nothing_told
+abbrev pub learnt_with : Reply → HeldPlan → LearntEntries
+learnt_with (Called reply) (Write p) = learnt_of_write p
+learnt_with (Called reply) (Read p) = nothing_learnt
+learnt_with reply plan = nothing_learnt
 
 -- the session of a write, where only its last stage is left
 abbrev pub learner_at : WriteStage → Origin → Option ℕ

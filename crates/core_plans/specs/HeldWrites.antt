@@ -27,11 +27,11 @@ use Rattle.tao_keeper.specs.declared.jobs.Job.{Job}
 use Rattle.tao_link.specs.Shown.{after_carry}
 use Rattle.tao_schema.specs.Schema.{types_of}
 use Rattle.topology.specs.Config.{Settings}
-use Rattle.write_plan.specs.Committing.{has_inverse, told_kind}
+use Rattle.write_plan.specs.Committing.{has_inverse, kind_said}
 use Rattle.write_plan.specs.Plans.{Writing, after_stage, answered_entry, answered_job, when_of}
 use Rattle.write_plan.specs.declared.committed.Committed.{Committed}
 use Rattle.write_plan.specs.declared.progress.OtherEnd.TheVariants.{Due, Merged}
-use Rattle.write_plan.specs.declared.results.Late.{Late}
+use Rattle.write_plan.specs.declared.results.LeftOpen.{LeftOpen}
 use Rattle.write_plan.specs.declared.results.WriteResult.TheVariants as came
 use Rattle.write_plan.specs.declared.stage.WriteStage.{WriteStage}
 use Rattle.write_plan.specs.declared.stage.WriteStage.TheVariants.{Commit, Inverse, End, Relay, Apply, Done}
@@ -53,13 +53,13 @@ entry_position (Some e) = e.position
 -- what its commit answered: its follower may take it, and it passed no other leader
 pub record IsAnswerTo (s : Settings) (stores : List StoreSeen) (p : Writing) (c : Committed) : Type 0 where
   pub apply : CanBeApplied (call_of_plan p) c.wrote stores
-  pub kind : told_kind p.write c.wrote.entry ≡ Some c.kind
+  pub kind : kind_said p.write c.wrote.entry ≡ Some c.kind
   pub passed : c.passed ≡ None
   pub paired : c.paired ≡ has_inverse (types_of s.schema) p.write
 
 -- what the leader answered to a write, as its plan takes it: so it does where it passed no other leader
 abbrev pub IsTakenAs : Settings → Write → Result Wrote Refusal → Result Committed Reply → Type 0
-IsTakenAs s write (Ok wrote) (Ok c) = (c.wrote ≡ wrote) × (told_kind write wrote.entry ≡ Some c.kind) × (c.passed ≡ None)
+IsTakenAs s write (Ok wrote) (Ok c) = (c.wrote ≡ wrote) × (kind_said write wrote.entry ≡ Some c.kind) × (c.passed ≡ None)
     × (c.paired ≡ has_inverse (types_of s.schema) write)
 IsTakenAs s write (Err refusal) (Err reply) = reply ≡ Refused refusal
 IsTakenAs s write (Ok wrote) (Err reply) = ⊥
@@ -101,7 +101,7 @@ pub record RefusesHeld (led : LedBy) (p : Writing) (old : World) (q : Writing) (
 pub record MergesHeld (led : LedBy) (p : Writing) (old : World) (q : Writing) (new : World) : Type 0 where
   pub job : Job
   pub answered : answered_job p ≡ Some job
-  pub result : Result Wrote Late
+  pub result : Result Wrote LeftOpen
   pub merges : MergesOver led.tells led.settings (job_way led.leader (job_by p job)) result old new
   pub then : q ≡ after_stage p (came.Inverse result) (hops_between old.link new.link)
 
@@ -109,7 +109,7 @@ pub record MergesHeld (led : LedBy) (p : Writing) (old : World) (q : Writing) (n
 pub record EndsHeld (tells : Bool) (s : Settings) (p : Writing) (old : World) (q : Writing) (new : World) : Type 0 where
   pub job : Job
   pub answered : answered_job p ≡ Some job
-  pub result : Result ⊤ Late
+  pub result : Result ⊤ LeftOpen
   pub ends : EndsOver tells s (job_by p job) result old new
   pub then : q ≡ after_stage p (came.End result) 0
 

@@ -2,7 +2,7 @@
 use Rattle.std.specs.Prelude.{◌≡◌, All, IfSome, None, false, true}
 use Rattle.core_model.specs.Consistent.{IsConsistent}
 use Rattle.core_model.specs.Stores.{HaveMasterRegions, stores_in}
-use Rattle.core_plans.specs.Held.{IsOver, told_with}
+use Rattle.core_plans.specs.Held.{IsOver, learnt_with}
 use Rattle.core_plans.specs.HeldWrites.{IsWriteUnderWay}
 use Rattle.core_plans.specs.LedBy.{LedBy, led_by}
 use Rattle.core_plans.specs.WholeCalls.{CarriesOut}
@@ -70,4 +70,4 @@ pub record WrittenIsThere (s : Settings) (leader : NodeName) (p : Writing) (old 
   pub there : HaveMasterRegions s → IsBegunWrite p → IsWriteUnderWay true s old.keepers.told old.fleet p
       → IsConsistent true s old.keepers.told old.fleet → CarriesOut (led_by true s leader) (Write p) old q new
       → (reply : WriteReply) → IsOver q (Called (called.Write reply)) → reply.written.inverse ≡ Written
-      → IfSome (told_with (Called (called.Write reply)) q).here (λ t. HasOtherEnds s new.keepers.told t.entry)
+      → IfSome (learnt_with (Called (called.Write reply)) q).here (λ t. HasOtherEnds s new.keepers.told t.entry)

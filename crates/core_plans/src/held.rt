@@ -1,10 +1,10 @@
 //! `HeldPlan`.
 ghost use Rattle.std.specs.Prelude.{◌≡◌, IsSome, None, option_and_then};
-ghost use Rattle.core_plans.specs.Held.{IsOver, given_up, learner, next_stage, nothing_told, told_with};
-ghost use Rattle.core_steps.specs.OtherEnds.{told_entry, told_there};
+ghost use Rattle.core_plans.specs.Held.{IsOver, given_up, learner, next_stage, nothing_learnt, learnt_with};
+ghost use Rattle.core_steps.specs.OtherEnds.{learnt_entry_of, learnt_far};
 
 use crate::writes::give_up_way;
-use core_steps::{ToldEntry, told_entry, told_there};
+use core_steps::{LearntEntry, learnt_entry_of, learnt_far};
 use read_plan::ReadPlan;
 use replies::{Reply, Stage};
 use shard_tables::Wrote;
@@ -20,40 +20,40 @@ pub enum HeldPlan {
 
 /// What a session is told of a write: its own entry, and the one that it wrote at the other end.
 #[derive(Drop)]
-pub struct ToldEntries {
-    pub here: Option<ToldEntry>,
-    pub other: Option<ToldEntry>,
+pub struct LearntEntries {
+    pub here: Option<LearntEntry>,
+    pub other: Option<LearntEntry>,
 }
 
 /// What comes of a plan that is over: its reply, and what its session is told with it.
 #[derive(Drop)]
 pub struct EndedPlan {
     pub reply: Reply,
-    pub told: ToldEntries,
+    pub told: LearntEntries,
 }
 
-impl ToldEntries {
+impl LearntEntries {
     /// Nothing is told.
-    fn none() -> ToldEntries
-        ensures { result ≡ nothing_told }
+    fn none() -> LearntEntries
+        ensures { result ≡ nothing_learnt }
     {
-        ToldEntries {
+        LearntEntries {
             here: None,
             other: None,
         }
     }
 
     /// What a write of the shard wrote, by what its commit answered and by what was written at the other end.
-    fn of(shard: u16, committed: Option<Committed>, other: Option<Wrote>) -> ToldEntries
-        ensures here { result.here ≡ option_and_then (λ c. told_entry shard c.wrote) committed }
-        ensures other { result.other ≡ told_there (option_and_then (λ c. c.wrote.job) committed) other }
+    fn of(shard: u16, committed: Option<Committed>, other: Option<Wrote>) -> LearntEntries
+        ensures here { result.here ≡ option_and_then (λ c. learnt_entry_of shard c.wrote) committed }
+        ensures other { result.other ≡ learnt_far (option_and_then (λ c. c.wrote.job) committed) other }
     {
         match committed {
-            Some(Committed { wrote, .. }) => ToldEntries {
-                other: told_there(&wrote.job, other),
-                here: told_entry(shard, wrote),
+            Some(Committed { wrote, .. }) => LearntEntries {
+                other: learnt_far(&wrote.job, other),
+                here: learnt_entry_of(shard, wrote),
             },
-            None => ToldEntries::none(),
+            None => LearntEntries::none(),
         }
     }
 }
@@ -97,12 +97,12 @@ impl HeldPlan {
     pub fn finish(self) -> EndedPlan
         requires { next_stage self ≡ None }
         ensures over { IsOver self result.reply }
-        ensures told { result.told ≡ told_with result.reply self }
+        ensures told { result.told ≡ learnt_with result.reply self }
     {
         match self {
             HeldPlan::Read(plan) => EndedPlan {
                 reply: plan.finish(),
-                told: ToldEntries::none(),
+                told: LearntEntries::none(),
             },
             HeldPlan::Write(plan) => {
                 let shard = plan.write().shard();
@@ -112,8 +112,8 @@ impl HeldPlan {
                     other,
                 } = plan.into_parts();
                 let told = match &reply {
-                    Reply::Called(_) => ToldEntries::of(shard, committed, other),
-                    _ => ToldEntries::none(),
+                    Reply::Called(_) => LearntEntries::of(shard, committed, other),
+                    _ => LearntEntries::none(),
                 };
                 EndedPlan { reply, told }
             }

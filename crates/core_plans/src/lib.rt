@@ -30,7 +30,7 @@ mod reads;
 mod whole;
 mod writes;
 
-pub use held::{EndedPlan, HeldPlan, ToldEntries};
+pub use held::{EndedPlan, HeldPlan, LearntEntries};
 pub use plans::HeldPlans;
 pub use reads::{begin_read, read_stage};
 pub use whole::carry_out;

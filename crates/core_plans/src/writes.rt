@@ -19,7 +19,7 @@ ghost use Rattle.tao_link.specs.Shown.{LinkShown, after_carry};
 ghost use Rattle.tao_schema.specs.Schema.{types_of};
 ghost use Rattle.write_model.specs.Writes.{FitsWrite};
 ghost use Rattle.write_plan.specs.Plans.{answered_entry, next_of, when_of};
-ghost use Rattle.write_plan.specs.Stages.{told_stage};
+ghost use Rattle.write_plan.specs.Stages.{stage_said};
 ghost use Rattle.write_plan.specs.declared.stage.WriteStage.TheVariants as stage;
 
 use core_steps::{Nodes, Route, link_fault};
@@ -256,7 +256,7 @@ pub fn write_stage<K: Keeper, L: Link>(
     requires ready { CanPost K.TELLS config.now (world nodes.old (K.state keepers.old) (L.shown link.old)) }
     requires leader { IsLeaderIn config.now (master_of config.now (write_shard plan.old.write)) leader }
     requires write { IsWriteUnderWay K.TELLS config.now (K.state keepers.old).told nodes.old.fleet plan.old }
-    requires goes_on { IsSome (told_stage (next_of plan.old)) }
+    requires goes_on { IsSome (stage_said (next_of plan.old)) }
     ensures does { DoesWriteStage (led_by K.TELLS config.now leader) (next_of plan.old)
         plan.old (world nodes.old (K.state keepers.old) (L.shown link.old))
         plan.new (world nodes.new (K.state keepers.new) (L.shown link.new)) }

@@ -22,51 +22,51 @@ use Rattle.tao_link.specs.Shown.{LinkShown}
 use Rattle.topology.specs.Choices.{master_region}
 use Rattle.topology.specs.Config.{Settings}
 use Rattle.topology.specs.States.{NodeStates}
-use Rattle.core_mail.proofs.Arrivals.{arrived_stay, told_of_store}
+use Rattle.core_mail.proofs.Arrivals.{arrived_stay, notified_of_store}
 use Rattle.core_mail.proofs.InboxLemmas.{inboxes_stay}
 use Rattle.core_mail.specs.Inboxes.{AreInboxesOf, HaveArrived, Inboxes, Sends, entry_message}
 use Rattle.core_model.specs.Consistent.{GoesOn, IsConsistent}
 use Rattle.core_model.specs.Fleet.{Fleet}
 use Rattle.core_model.specs.Growing.{StoresGrow}
 use Rattle.core_model.specs.Jobs.{IsFirstJobOf, ShardJob, job_on}
-use Rattle.core_model.specs.Messages.{IsOfStore, told_besides, told_of}
+use Rattle.core_model.specs.Messages.{IsOfStore, notified_besides, notified_of}
 use Rattle.core_model.specs.Pens.{pens_of}
 use Rattle.core_model.specs.States.{AreStatesOf}
 use Rattle.core_model.specs.Stores.{AreStoresOf, HaveMasterRegions, master_store, store_length}
 use Rattle.core_nodes.proofs.FleetLemmas.{goes_self}
 use Rattle.core_nodes.proofs.GrowingLemmas.{stays_stores}
-use Rattle.core_nodes.specs.Repairs.{ComesBack, MergesThere, Outside, carry_back, carry_there, outside}
+use Rattle.core_nodes.specs.Repairs.{ComesBack, MergesFar, Outside, carry_back, carry_there, outside}
 use Rattle.core_nodes.specs.Settling.{IsLaterLink}
 use Rattle.core_steps.proofs.LinkLemmas.{both_carries, failed_back, failed_carry, link_self}
 use Rattle.core_steps.proofs.PostsLemmas.{posts_same}
-use Rattle.core_steps.proofs.TellLemmas.{arrived_grows, master_is, sends_both, within_master}
+use Rattle.core_steps.proofs.NotifyLemmas.{arrived_grows, master_is, sends_both, within_master}
 use Rattle.core_steps.specs.Posting.{CanPost, PostsOn}
 use Rattle.core_steps.specs.World.{World, world, world_with}
 use Rattle.core_steps.specs.declared.nodes.Nodes.{Nodes}
 use Rattle.core_repairs.specs.Repairs.{FailsAs, FailsToMerge, FindsFirst, FindsOpenJob, IsMergedAlone, IsNotRepaired, IsNotRun}
-use Rattle.core_repairs.specs.Repairs.{LeavesRest, RunsJob, StopsRepair, TellsOfRepair, shown_of}
-use Rattle.core_repairs.specs.Repairs.{told_of_repair}
+use Rattle.core_repairs.specs.Repairs.{LeavesRest, RunsJob, StopsRepair, NotifiesOfRepair, shown_of}
+use Rattle.core_repairs.specs.Repairs.{notified_of_repair}
 use Rattle.core_repairs.specs.declared.repairs.RepairFailed.{RepairFailed}
 use Rattle.core_repairs.specs.declared.repairs.RepairFailed.TheVariants.{NoServer, Refused}
 
 -- ---- who is told
 
 -- the followers and then the leader are told
-pub told_repair : (states : NodeStates) (shard : ℕ) (wrote : Option Entry) (e : Entry) (note again : View) (old mid new : Inboxes) → wrote ≡ Some e
-    → again ≡ note → Sends (told_of states (master_region states shard) shard) (entry_message shard e note) old mid
-    → Sends (told_besides states shard) (entry_message shard e again) mid new → TellsOfRepair states shard wrote old new
-told_repair states shard wrote e note again old mid new is same one two =
-    let more = subst (λ n. Sends (told_besides states shard) (entry_message shard e n) mid new) same two in
-    let told : TellsOfRepair states shard (Some e) old new = (
+pub notified_repair : (states : NodeStates) (shard : ℕ) (wrote : Option Entry) (e : Entry) (note again : View) (old mid new : Inboxes) → wrote ≡ Some e
+    → again ≡ note → Sends (notified_of states (master_region states shard) shard) (entry_message shard e note) old mid
+    → Sends (notified_besides states shard) (entry_message shard e again) mid new → NotifiesOfRepair states shard wrote old new
+notified_repair states shard wrote e note again old mid new is same one two =
+    let more = subst (λ n. Sends (notified_besides states shard) (entry_message shard e n) mid new) same two in
+    let told : NotifiesOfRepair states shard (Some e) old new = (
       note,
-      sends_both (told_of states (master_region states shard) shard) (told_besides states shard) (entry_message shard e note) old mid new one more,
+      sends_both (notified_of states (master_region states shard) shard) (notified_besides states shard) (entry_message shard e note) old mid new one more,
     ) in
-    subst (λ found. TellsOfRepair states shard found old new) (sym is) told
+    subst (λ found. NotifiesOfRepair states shard found old new) (sym is) told
 
 -- the stores of their region have come to it
 arrived_repair : (tells : Bool) (s : Settings) (tables : Tables) (stores : List Store) (shard : ℕ) (states : NodeStates) (wrote : Option Entry)
     (old new : Inboxes) → HaveMasterRegions s → AreStoresOf tells s tables stores → shard < s.shards → AreStatesOf s states
-    → IfSome wrote (StandsIn (pens_of stores shard)) → TellsOfRepair states shard wrote old new → WhereTold tells (HaveArrived tables old)
+    → IfSome wrote (StandsIn (pens_of stores shard)) → NotifiesOfRepair states shard wrote old new → WhereTold tells (HaveArrived tables old)
     → WhereTold tells (HaveArrived tables new)
 arrived_repair tells s tables stores shard states None old new regions are here of stands sent have =
     subst (λ i. WhereTold tells (HaveArrived tables i)) (sym sent) have
@@ -74,9 +74,9 @@ arrived_repair tells s tables stores shard states (Some e) old new regions are h
     let m : SeenMaint = entry_message shard e sent.0 in
     let within = subst (λ r. e.position ≤ store_length tables r shard) (sym (master_is s states shard of.masters))
     (within_master tells s tables stores shard regions are here e stands told) in
-    let by = told_of_store tables states shard m in
-    (arrived_stay tables).sends (told_of_repair states shard) m old new sent.1
-    (all_append (λ name. IsOfStore tables name m) (told_of states (master_region states shard) shard) (told_besides states shard)
+    let by = notified_of_store tables states shard m in
+    (arrived_stay tables).sends (notified_of_repair states shard) m old new sent.1
+    (all_append (λ name. IsOfStore tables name m) (notified_of states (master_region states shard) shard) (notified_besides states shard)
     (by.of (master_region states shard) within) (by.besides within)) (have told)
 
 -- ---- the first job
@@ -104,14 +104,14 @@ module _ (tells : Bool) (s : Settings) (shard : ℕ) (old new : KeeperState) whe
 -- ---- the merge, and the end
 
 module _ (tells : Bool) (s : Settings) (j : ShardJob) (old new : Outside) where
-  not_merged : (refusal : RepairRefusal) → MergesThere tells s j (Err refusal) old new
+  not_merged : (refusal : RepairRefusal) → MergesFar tells s j (Err refusal) old new
       → (refusal ≡ KeeperFault → Rose old.keepers.faults new.keepers.faults) → RunsJob tells s j (Err (Refused refusal)) old new
   not_merged KeeperFault merges cause = (cause refl, inl merges)
   not_merged LinkFault merges cause = merges
   not_merged (LogFull count) merges cause = merges
   not_merged OutOfMemory merges cause = inl merges
 
-  pub refuses_merge : (refusal : RepairRefusal) (failed : RepairFailed) → failed ≡ Refused refusal → MergesThere tells s j (Err refusal) old new
+  pub refuses_merge : (refusal : RepairRefusal) (failed : RepairFailed) → failed ≡ Refused refusal → MergesFar tells s j (Err refusal) old new
       → (refusal ≡ KeeperFault → Rose old.keepers.faults new.keepers.faults) → RunsJob tells s j (Err failed) old new
   refuses_merge refusal failed is merges cause = subst (λ f. RunsJob tells s j (Err f) old new) (sym is) (not_merged refusal merges cause)
 
@@ -145,7 +145,7 @@ module _ (tells : Bool) (s : Settings) (shard : ℕ) (old new : World) where
   module _ (job : Job) (found : KeeperState) (finds : FindsOpenJob tells s shard job old.keepers found) where
     -- it was not run
     module _ (rest : LeavesRest old new) where
-      fails_merge : (refusal : RepairRefusal) → MergesThere tells s (job_on shard job) (Err refusal) (outside found old.link) (shown_of new)
+      fails_merge : (refusal : RepairRefusal) → MergesFar tells s (job_on shard job) (Err refusal) (outside found old.link) (shown_of new)
           → FailsToMerge tells s shard refusal old new
       fails_merge refusal merges = record { job = job; found = found; finds = finds; merges = merges; rest = rest }
 
@@ -181,7 +181,7 @@ link_back s j old new (inr fails) = failed_back (carry_back s j) old new fails
 
 -- a merge from store to store, whatever came of it
 pub merges_on : (tells : Bool) (s : Settings) (j : ShardJob) (result : Result RepairOutcome RepairRefusal) (old new : Outside)
-    → MergesThere tells s j result old new → IsLaterLink old.link new.link
+    → MergesFar tells s j result old new → IsLaterLink old.link new.link
 merges_on tells s j (Ok repaired) old new merges = both_carries old.link new.link merges.1
 merges_on tells s j (Err KeeperFault) old new merges = link_back s j old.link new.link merges.1
 merges_on tells s j (Err (LogFull count)) old new merges = link_back s j old.link new.link merges.2
@@ -216,11 +216,11 @@ module _ (tells : Bool) (s : Settings) (was : Nodes) (before after : KeeperState
   }
 
 -- those who see a shard's log were told of what was written there
-pub posts_told : (tells : Bool) (s : Settings) (was new : Nodes) (keepers : KeeperState) (link : LinkShown) (shard : ℕ) (wrote : Option Entry)
+pub posts_notified : (tells : Bool) (s : Settings) (was new : Nodes) (keepers : KeeperState) (link : LinkShown) (shard : ℕ) (wrote : Option Entry)
     → CanPost tells s (world was keepers link) → HaveMasterRegions s → shard < s.shards → IfSome wrote (StandsIn (pens_of was.fleet.stores shard))
-    → TellsOfRepair was.topology shard wrote was.mail new.mail → AreInboxesOf s (pens_of was.fleet.stores) new.mail
+    → NotifiesOfRepair was.topology shard wrote was.mail new.mail → AreInboxesOf s (pens_of was.fleet.stores) new.mail
     → new ≡ record was { mail = new.mail } → PostsOn tells s (world was keepers link) (world new keepers link)
-posts_told tells s was new keepers link shard wrote ready regions here stands told inboxes rest =
+posts_notified tells s was new keepers link shard wrote ready regions here stands told inboxes rest =
     let is : PostsOn tells s (world was keepers link) (world_with was.fleet new.mail was.topology keepers link) = record {
       consistent = ready.consistent;
       inboxes = inboxes;

@@ -23,7 +23,7 @@ use Rattle.write_model.proofs.CoverMerges.{merges_keep}
 use Rattle.write_model.proofs.OpenJobs.{job_found}
 use Rattle.write_model.proofs.Settled.{settles_in_order}
 use Rattle.write_model.specs.Machine.{IsFirstJob}
-use Rattle.write_model.specs.Merges.{Owed, Stores, log_of}
+use Rattle.write_model.specs.Merges.{JobSource, Stores, log_of}
 use Rattle.write_model.specs.Steps.{EndsJob, IsNextJob, IsOwed, MergesJob}
 use Rattle.core_model.specs.Fleet.{Fleet}
 use Rattle.core_model.specs.Jobs.{EndsOwed, IsFirstJobOf, OwesShardJob, MergesOwed, ShardJob, job_on}
@@ -114,7 +114,7 @@ rest_trans a b c p q = q ∙ ap (λ (f : Fleet). record f { stores = c.stores })
 -- ---- one job, over the tables
 
 -- what owes a job is one
-same_owed : (s : Settings) (j : ShardJob) (tables : Tables) (a b : Owed) → OwesShardJob s j a → OwesShardJob s j b
+same_owed : (s : Settings) (j : ShardJob) (tables : Tables) (a b : JobSource) → OwesShardJob s j a → OwesShardJob s j b
     → IsOwed (types_of s.schema) (stores_in s tables) a → IsOwed (types_of s.schema) (stores_in s tables) b → a ≡ b
 same_owed s j tables a b p q x y =
     let logs = (stores_in s tables).logs in
@@ -129,7 +129,7 @@ same_owed s j tables a b p q x y =
 
 -- the first job of its shard was merged and then ended
 record WorksOffFirst (s : Settings) (shard position : ℕ) (old new : Tables) : Type 0 where
-  owed : Owed
+  owed : JobSource
   mid : Stores
   first : IsFirstJob (types_of s.schema) (stores_in s old) owed
   merges : MergesJob (types_of s.schema) (stores_in s old) mid owed
@@ -154,7 +154,7 @@ is_done s j old mid new match kept first merges ends =
       position_is = first.of.position_is;
     }
 
-is_next : (s : Settings) (tables : Tables) (shard : ℕ) (owed : Owed) → owed.shard ≡ shard → IsFirstJob (types_of s.schema) (stores_in s tables) owed
+is_next : (s : Settings) (tables : Tables) (shard : ℕ) (owed : JobSource) → owed.shard ≡ shard → IsFirstJob (types_of s.schema) (stores_in s tables) owed
     → HaveNoneBelow s tables shard → IsNextJob (types_of s.schema) (stores_in s tables) owed
 is_next s tables shard owed is first none =
     record { first = first; lower = λ lower position lt. none lower position (subst (λ n. lower < n) is lt) }

@@ -3,9 +3,9 @@ use Rattle.std.specs.Prelude.{ℕ, ◌≡◌, ◌≤◌, ◌<◌, ◌+◌, ◌�
 use Rattle.counts.specs.Count.{Rose}
 use Rattle.core_mail.specs.Inboxes.{Inboxes, Sends, entry_message}
 use Rattle.core_model.specs.Jobs.{EndsOwed, IsFirstJobOf, ShardJob, far_shard, job_on}
-use Rattle.core_model.specs.Messages.{told_besides, told_of}
+use Rattle.core_model.specs.Messages.{notified_besides, notified_of}
 use Rattle.core_model.specs.Stores.{master_store, stores_in}
-use Rattle.core_nodes.specs.Repairs.{MergesThere, Outside, outside}
+use Rattle.core_nodes.specs.Repairs.{MergesFar, Outside, outside}
 use Rattle.core_nodes.specs.declared.settling.SettleStop.{SettleStop}
 use Rattle.core_nodes.specs.declared.settling.SettleStop.TheVariants as stop
 use Rattle.edge_repair.specs.declared.refusal.RepairRefusal.{RepairRefusal}
@@ -24,7 +24,7 @@ use Rattle.tao_schema.specs.Schema.{types_of}
 use Rattle.topology.specs.Choices.{master_region}
 use Rattle.topology.specs.Config.{Settings}
 use Rattle.topology.specs.States.{NodeStates}
-use Rattle.write_model.specs.Merges.{Owed}
+use Rattle.write_model.specs.Merges.{JobSource}
 use Rattle.write_model.specs.Machine.{Settles}
 use Rattle.write_model.specs.Steps.{HaveNoJobs, Settling}
 use Rattle.core_steps.specs.Posting.{ChangesNoNode}
@@ -36,13 +36,13 @@ use Rattle.core_repairs.specs.declared.repairs.RepairFailed.TheVariants.{NoServe
 -- ---- who is told
 
 -- of an entry that a repair wrote on a shard: the followers of the master's region as of any other, and then the leader that it prefers, where that is up
-abbrev pub told_of_repair : NodeStates → ℕ → List NodeName
-told_of_repair states shard = told_of states (master_region states shard) shard ++ told_besides states shard
+abbrev pub notified_of_repair : NodeStates → ℕ → List NodeName
+notified_of_repair states shard = notified_of states (master_region states shard) shard ++ notified_besides states shard
 
 -- the nodes that are told of a repair get a message of its entry, where there is one
-abbrev pub TellsOfRepair : NodeStates → ℕ → Option Entry → Inboxes → Inboxes → Type 0
-TellsOfRepair states shard None old new = new ≡ old
-TellsOfRepair states shard (Some e) old new = (note : View) × Sends (told_of_repair states shard) (entry_message shard e note) old new
+abbrev pub NotifiesOfRepair : NodeStates → ℕ → Option Entry → Inboxes → Inboxes → Type 0
+NotifiesOfRepair states shard None old new = new ≡ old
+NotifiesOfRepair states shard (Some e) old new = (note : View) × Sends (notified_of_repair states shard) (entry_message shard e note) old new
 
 -- ---- the first job of a shard
 
@@ -75,9 +75,9 @@ pub record IsRepaired (tells : Bool) (s : Settings) (shard : ℕ) (ran : Ran) (o
   pub found : KeeperState
   pub merged : KeeperState
   pub finds : FindsOpenJob tells s shard ran.job old.keepers found
-  pub merges : MergesThere tells s (job_on shard ran.job) (Ok (record { wrote = ran.wrote })) (outside found old.link) (outside merged new.link)
+  pub merges : MergesFar tells s (job_on shard ran.job) (Ok (record { wrote = ran.wrote })) (outside found old.link) (outside merged new.link)
   pub ends : WhereTold tells (EndsOwed s merged.told new.keepers.told (job_on shard ran.job))
-  pub told : TellsOfRepair old.states (far_shard ran.job) ran.wrote old.inboxes new.inboxes
+  pub told : NotifiesOfRepair old.states (far_shard ran.job) ran.wrote old.inboxes new.inboxes
   pub caches : LeavesCaches old new
 
 -- ---- the stages of a repair
@@ -104,26 +104,26 @@ FindsFirst tells s shard (Err NoServer) old new = ⊥
 -- the job was merged, and then ended
 pub record IsRun (tells : Bool) (s : Settings) (j : ShardJob) (wrote : Option Entry) (old new : Outside) : Type 0 where
   pub merged : KeeperState
-  pub merges : MergesThere tells s j (Ok (record { wrote = wrote })) old (outside merged new.link)
+  pub merges : MergesFar tells s j (Ok (record { wrote = wrote })) old (outside merged new.link)
   pub ends : WhereTold tells (EndsOwed s merged.told new.keepers.told j)
 
 -- the job was merged, and not ended
 pub record IsMergedAlone (tells : Bool) (s : Settings) (j : ShardJob) (old new : Outside) : Type 0 where
   pub wrote : Option Entry
   pub merged : KeeperState
-  pub merges : MergesThere tells s j (Ok (record { wrote = wrote })) old (outside merged new.link)
+  pub merges : MergesFar tells s j (Ok (record { wrote = wrote })) old (outside merged new.link)
   pub stays : KeepsTables tells merged new.keepers
 
 -- the job was not merged, or it was merged and not ended
 abbrev pub IsNotRun : Bool → Settings → ShardJob → RepairRefusal → Outside → Outside → Type 0
-IsNotRun tells s j refusal old new = MergesThere tells s j (Err refusal) old new ⊎ IsMergedAlone tells s j old new
+IsNotRun tells s j refusal old new = MergesFar tells s j (Err refusal) old new ⊎ IsMergedAlone tells s j old new
 
 -- what came of both
 abbrev pub RunsJob : Bool → Settings → ShardJob → Result (Option Entry) RepairFailed → Outside → Outside → Type 0
 RunsJob tells s j (Ok wrote) old new = IsRun tells s j wrote old new
 RunsJob tells s j (Err (Refused KeeperFault)) old new = Rose old.keepers.faults new.keepers.faults × IsNotRun tells s j KeeperFault old new
-RunsJob tells s j (Err (Refused LinkFault)) old new = MergesThere tells s j (Err LinkFault) old new
-RunsJob tells s j (Err (Refused (LogFull count))) old new = MergesThere tells s j (Err (LogFull count)) old new
+RunsJob tells s j (Err (Refused LinkFault)) old new = MergesFar tells s j (Err LinkFault) old new
+RunsJob tells s j (Err (Refused (LogFull count))) old new = MergesFar tells s j (Err (LogFull count)) old new
 RunsJob tells s j (Err (Refused OutOfMemory)) old new = IsNotRun tells s j OutOfMemory old new
 RunsJob tells s j (Err NoServer) old new = ⊥
 
@@ -146,7 +146,7 @@ pub record FailsToMerge (tells : Bool) (s : Settings) (shard : ℕ) (refusal : R
   pub job : Job
   pub found : KeeperState
   pub finds : FindsOpenJob tells s shard job old.keepers found
-  pub merges : MergesThere tells s (job_on shard job) (Err refusal) (outside found old.link) (shown_of new)
+  pub merges : MergesFar tells s (job_on shard job) (Err refusal) (outside found old.link) (shown_of new)
   pub rest : LeavesRest old new
 
 -- the first job of the shard was merged, and not ended
@@ -155,7 +155,7 @@ pub record FailsToEnd (tells : Bool) (s : Settings) (shard : ℕ) (old new : Wor
   pub found : KeeperState
   pub merged : KeeperState
   pub finds : FindsOpenJob tells s shard ran.job old.keepers found
-  pub merges : MergesThere tells s (job_on shard ran.job) (Ok (record { wrote = ran.wrote })) (outside found old.link) (outside merged new.link)
+  pub merges : MergesFar tells s (job_on shard ran.job) (Ok (record { wrote = ran.wrote })) (outside found old.link) (outside merged new.link)
   pub stays : KeepsTables tells merged new.keepers
   pub rest : LeavesRest old new
 
@@ -250,7 +250,7 @@ RunsJobs tells s (Err given) old new = StopsRun tells s given old new
 
 -- jobs were merged and ended, in order, and nothing else was done to the stores
 abbrev pub AreSettling : Settings → Tables → Tables → Type 0
-AreSettling s old new = (jobs : List Owed) × Settling (types_of s.schema) (stores_in s old) (stores_in s new) jobs
+AreSettling s old new = (jobs : List JobSource) × Settling (types_of s.schema) (stores_in s old) (stores_in s new) jobs
 
 -- the shard has no open job up to the position
 abbrev pub HasNoneUpTo : Settings → Tables → ℕ → ℕ → Type 0

@@ -9,7 +9,7 @@ ghost use Rattle.core_model.specs.Stores.{AreStores, store_count};
 ghost use Rattle.core_nodes.specs.Repairs.{outside};
 ghost use Rattle.core_steps.specs.Posting.{CanPost, PostsOn};
 ghost use Rattle.core_steps.specs.World.{world};
-ghost use Rattle.core_repairs.specs.Repairs.{FailsAs, FindsFirst, RepairsFirst, RunsJob, TellsOfRepair};
+ghost use Rattle.core_repairs.specs.Repairs.{FailsAs, FindsFirst, RepairsFirst, RunsJob, NotifiesOfRepair};
 ghost use Rattle.graph_model.specs.Told.{WhereTold};
 ghost use Rattle.shard_log.specs.View.{as_note};
 ghost use Rattle.shard_tables.specs.Refusals.{IsOfReads};
@@ -70,7 +70,13 @@ fn note_before(fleet: &mut Fleet, config: &Config, shard: u16) -> Result<Note, R
 }
 
 /// Tells those who see a shard's log of an entry that a repair wrote there, where there is one, with a note of that log, which is renewed for it.
-fn tell_of_repair(nodes: &mut Nodes, config: &Config, shard: u16, wrote: &Option<Entry>, note: Note)
+fn notify_of_repair(
+    nodes: &mut Nodes,
+    config: &Config,
+    shard: u16,
+    wrote: &Option<Entry>,
+    note: Note,
+)
     requires here { shard < config.now.shards }
     requires states { AreStatesOf config.now nodes.old.topology }
     requires stores { AreStores config.now (store_count config.now) nodes.old.fleet.stores }
@@ -78,14 +84,14 @@ fn tell_of_repair(nodes: &mut Nodes, config: &Config, shard: u16, wrote: &Option
     requires stands { IfSome wrote.now (StandsIn (pens_of nodes.old.fleet.stores shard)) }
     requires lies { IfSome wrote.now (LiesOn (pens_of nodes.old.fleet.stores shard) shard) }
     requires inboxes { AreInboxesOf config.now (pens_of nodes.old.fleet.stores) nodes.old.mail }
-    ensures told { TellsOfRepair nodes.old.topology shard wrote.now nodes.old.mail nodes.new.mail }
+    ensures told { NotifiesOfRepair nodes.old.topology shard wrote.now nodes.old.mail nodes.new.mail }
     ensures inboxes { AreInboxesOf config.now (pens_of nodes.old.fleet.stores) nodes.new.mail }
     ensures rest { nodes.new ≡ record nodes.old { mail = nodes.new.mail } }
 {
     let Some(entry) = wrote else { return };
     let mut note = nodes.fleet.renew(config, shard, note);
-    nodes.tell_followers(config, shard, entry, &mut note);
-    nodes.tell_besides(config, shard, entry, &mut note);
+    nodes.notify_followers(config, shard, entry, &mut note);
+    nodes.notify_besides(config, shard, entry, &mut note);
 }
 
 /// Why a job was not run which its store refused to give, or to end.
@@ -143,7 +149,7 @@ fn merge_and_end<K: Keeper, L: Link>(
     masters_are_regions(config);
     let repaired = nodes
         .fleet
-        .merge_there(nodes.alloc, config, keepers, link, shard, job)?;
+        .merge_far(nodes.alloc, config, keepers, link, shard, job)?;
     match nodes.fleet.end_job(config, keepers, shard, job) {
         Ok(()) => Ok(repaired.wrote),
         Err(refusal) => Err(failed_for(refusal)),
@@ -181,6 +187,6 @@ pub fn repair_first<K: Keeper, L: Link>(
     masters_are_regions(config);
     let note = note_before(&mut nodes.fleet, config, far)?;
     let wrote = merge_and_end(nodes, config, keepers, link, shard, &job)?;
-    tell_of_repair(nodes, config, far, &wrote, note);
+    notify_of_repair(nodes, config, far, &wrote, note);
     Ok(Some(Ran { job, wrote }))
 }

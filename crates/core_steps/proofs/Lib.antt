@@ -7,5 +7,5 @@ pub mod ReadLemmas
 pub mod ReachLemmas
 pub mod Repeats
 pub mod StepLemmas
-pub mod TellLemmas
+pub mod NotifyLemmas
 pub mod WriteLemmas

@@ -16,13 +16,13 @@ use Rattle.tao_link.specs.declared.link.LinkFailed.{LinkFailed}
 use Rattle.topology.specs.Choices.{master_region, preferred_leader}
 use Rattle.topology.specs.Config.{Settings}
 use Rattle.topology.specs.States.{NodeStates}
-use Rattle.write_plan.specs.declared.results.Late.{Late}
-use Rattle.write_plan.specs.declared.results.Late.TheVariants.{Scheduled}
+use Rattle.write_plan.specs.declared.results.LeftOpen.{LeftOpen}
+use Rattle.write_plan.specs.declared.results.LeftOpen.TheVariants.{Scheduled}
 use Rattle.core_model.specs.Growing.{StoresGrow}
 use Rattle.core_model.specs.Jobs.{CanBeMerged, IsOwedJob, job_on}
 use Rattle.core_model.specs.Stores.{HaveMasterRegions, master_store}
 use Rattle.core_nodes.proofs.GrowingLemmas.{becomes_stores}
-use Rattle.core_steps.specs.MergeAnswers.{RefusesMerge, merge_answer, why_late}
+use Rattle.core_steps.specs.MergeAnswers.{RefusesMerge, merge_answer, why_open}
 use Rattle.core_steps.specs.OtherEnds.{Crosses, FailsToCross, GoesBetween, JobWay, LeavesJob}
 use Rattle.core_steps.specs.OtherEnds.{MayComeBack, MergesOver, TakesMerge, master_leader, merging_leader}
 use Rattle.core_steps.specs.Posting.{ChangesNoNode}
@@ -71,7 +71,7 @@ module _ (tells : Bool) (s : Settings) (way : JobWay) (old new : World) (mid : L
       (inr (fails_back way.leader to old.link mid new.link there fails))
 
   late_merge : (r : StoreRefusal) → RefusesMerge tells s way.job r old.keepers new.keepers → ChangesNoNode tells old new
-      → MayComeBack way.leader (merging_leader old.states way) old.link new.link → LeavesJob tells s way (Scheduled (why_late r) None) old new
+      → MayComeBack way.leader (merging_leader old.states way) old.link new.link → LeavesJob tells s way (Scheduled (why_open r) None) old new
   late_merge KeeperFault cause same back = (cause, same, back)
   late_merge (LogFull count) cause same back = ((λ told. (count, cause told)), same, back)
   late_merge OutOfMemory cause same back = (same, back)
@@ -97,7 +97,7 @@ module _ (tells : Bool) (s : Settings) (way : JobWay) (old new : World) (mid : L
   answered (Err r) back takes refuses same crosses fails =
       late_merge r refuses same (may_come_back back crosses fails)
 
-  pub merges_over : (result : Result Wrote Late) (merged : Result Wrote StoreRefusal) (back : Result ⊤ LinkFailed) → result ≡ merge_answer merged back
+  pub merges_over : (result : Result Wrote LeftOpen) (merged : Result Wrote StoreRefusal) (back : Result ⊤ LinkFailed) → result ≡ merge_answer merged back
       → IfOk merged (λ wrote. TakesMerge tells s way wrote old new)
       → IfErr merged (λ r. RefusesMerge tells s way.job r old.keepers new.keepers) → OnErr merged (ChangesNoNode tells old new)
       → OnOk back (Crosses to way.leader mid new.link) → OnErr back (FailsToCross to way.leader mid new.link)

@@ -18,7 +18,7 @@ use Rattle.core_nodes.specs.Settling.{IsLaterLink}
 use Rattle.core_steps.proofs.LinkLemmas.{link_self, link_trans}
 use Rattle.core_steps.proofs.ReachLemmas.{consistent_on}
 use Rattle.core_steps.proofs.ReadLemmas.{goes_trans}
-use Rattle.core_steps.proofs.TellLemmas.{arrived_grows}
+use Rattle.core_steps.proofs.NotifyLemmas.{arrived_grows}
 
 module _ (tells : Bool) (s : Settings) where
   -- nothing was done

@@ -11,11 +11,11 @@ use Rattle.tao_base.specs.declared.entry.Entry.{Entry}
 use Rattle.topology.specs.Config.{Settings}
 use Rattle.topology.specs.States.{NodeStates}
 use Rattle.core_mail.specs.Inboxes.{Inboxes, Sends, entry_message}
-use Rattle.core_model.specs.Messages.{told_by}
+use Rattle.core_model.specs.Messages.{notified_by}
 use Rattle.core_model.specs.Pens.{IsSeen, Pens}
 use Rattle.core_model.specs.Writes.{IsSeenEntry}
 use Rattle.node_name.specs.declared.NodeName.{NodeName}
-use Rattle.core_steps.specs.Posting.{TellsOfNew}
+use Rattle.core_steps.specs.Posting.{NotifiesOfNew}
 use Rattle.core_steps.specs.World.{World}
 use Rattle.core_steps.specs.Replies.{refused_as}
 use Rattle.core_steps.specs.Writes.{AuthoredWrite, RefusesCommit, RefusesThere, asked_of_log, sent_write}
@@ -37,11 +37,11 @@ stands_in_log pens shard note (Some e) seen = λ told.
     entry_stays note (pens shard) e.position e seen.seen (seen.stands (ap (λ l. l.told) (sym seen.seen.log_is) ∙ told))
 
 -- those who see the shard's log are told of it
-pub told_new : (states : NodeStates) (leader : NodeName) (shard : ℕ) (entry : Option Entry) (e : Entry) (note : View) (old new : Inboxes)
-    → entry ≡ Some e → Sends (told_by states leader shard) (entry_message shard e note) old new → TellsOfNew states leader shard entry old new
-told_new states leader shard entry e note old new is sends =
-    let told : TellsOfNew states leader shard (Some e) old new = (note, sends) in
-    subst (λ found. TellsOfNew states leader shard found old new) (sym is) told
+pub notified_new : (states : NodeStates) (leader : NodeName) (shard : ℕ) (entry : Option Entry) (e : Entry) (note : View) (old new : Inboxes)
+    → entry ≡ Some e → Sends (notified_by states leader shard) (entry_message shard e note) old new → NotifiesOfNew states leader shard entry old new
+notified_new states leader shard entry e note old new is sends =
+    let told : NotifiesOfNew states leader shard (Some e) old new = (note, sends) in
+    subst (λ found. NotifiesOfNew states leader shard found old new) (sym is) told
 
 -- ---- refused
 

@@ -12,8 +12,8 @@ use Rattle.shard_tables.specs.declared.writes.Wrote.{Wrote}
 use Rattle.tao_keeper.specs.KeeperState.{KeeperState}
 use Rattle.tao_link.specs.declared.link.LinkFailed.{LinkFailed}
 use Rattle.topology.specs.Config.{Settings}
-use Rattle.write_plan.specs.declared.results.Late.{Late}
-use Rattle.write_plan.specs.declared.results.Late.TheVariants.{Scheduled}
+use Rattle.write_plan.specs.declared.results.LeftOpen.{LeftOpen}
+use Rattle.write_plan.specs.declared.results.LeftOpen.TheVariants.{Scheduled}
 
 -- why a store refused to merge a job: a fault that came now, a log that has no room, or want of memory
 abbrev pub RefusesMerge : Bool → Settings → ShardJob → StoreRefusal → KeeperState → KeeperState → Type 0
@@ -25,17 +25,17 @@ RefusesMerge tells s j (ShardFull serial) old new = ⊥
 RefusesMerge tells s j (StampFull number) old new = ⊥
 
 -- why a job is late that the store refused to merge or to end; what refuses a write alone refuses neither
-abbrev pub why_late : StoreRefusal → ScheduledWhy
-why_late KeeperFault = why.KeeperFault
-why_late (LogFull count) = why.LogFull
-why_late refusal = why.Memory
+abbrev pub why_open : StoreRefusal → ScheduledWhy
+why_open KeeperFault = why.KeeperFault
+why_open (LogFull count) = why.LogFull
+why_open refusal = why.Memory
 
 -- the job stays open, and nothing was written
-abbrev pub late_as : StoreRefusal → Late
-late_as refusal = Scheduled (why_late refusal) None
+abbrev pub left_open_as : StoreRefusal → LeftOpen
+left_open_as refusal = Scheduled (why_open refusal) None
 
 -- what a merge is answered, over the carry back: what was written is told also where its answer was lost, and a refusal stands in any case
-abbrev pub merge_answer : Result Wrote StoreRefusal → Result ⊤ LinkFailed → Result Wrote Late
+abbrev pub merge_answer : Result Wrote StoreRefusal → Result ⊤ LinkFailed → Result Wrote LeftOpen
 merge_answer (Ok wrote) (Ok done) = Ok wrote
 merge_answer (Ok wrote) (Err lost) = Err (Scheduled why.LinkFault (Some wrote))
-merge_answer (Err refusal) back = Err (late_as refusal)
+merge_answer (Err refusal) back = Err (left_open_as refusal)

@@ -17,12 +17,12 @@ use Rattle.tao_link.specs.Shown.{LinkShown, after_carry}
 use Rattle.topology.specs.Choices.{master_region, preferred_leader}
 use Rattle.topology.specs.Config.{Settings}
 use Rattle.topology.specs.States.{NodeStates}
-use Rattle.write_plan.specs.declared.results.Late.{Late}
-use Rattle.write_plan.specs.declared.results.Late.TheVariants.{Scheduled, Refused}
-use Rattle.core_steps.specs.Posting.{ChangesNoNode, LeaderTakes, TellsOfNew}
+use Rattle.write_plan.specs.declared.results.LeftOpen.{LeftOpen}
+use Rattle.write_plan.specs.declared.results.LeftOpen.TheVariants.{Scheduled, Refused}
+use Rattle.core_steps.specs.Posting.{ChangesNoNode, LeaderTakes, NotifiesOfNew}
 use Rattle.core_steps.specs.Routes.{FailsCarry, there_and_back}
 use Rattle.core_steps.specs.World.{World}
-use Rattle.core_steps.specs.declared.jobs.ToldEntry.{ToldEntry}
+use Rattle.core_steps.specs.declared.jobs.LearntEntry.{LearntEntry}
 
 -- the leader that the master's region of a shard prefers for it
 abbrev pub master_leader : NodeStates → ℕ → NodeName
@@ -64,11 +64,11 @@ pub record TakesMerge (tells : Bool) (s : Settings) (way : JobWay) (wrote : Wrot
   pub writes : WhereTold tells (WritesDueEntry s way.job wrote.entry old.keepers new.keepers)
   pub leader : LeaderTakes s (merging_leader old.states way) (far_shard way.job.job) wrote.entry old.fleet new.fleet
   pub followers : new.fleet.followers ≡ old.fleet.followers
-  pub told : TellsOfNew old.states (merging_leader old.states way) (far_shard way.job.job) wrote.entry old.inboxes new.inboxes
+  pub told : NotifiesOfNew old.states (merging_leader old.states way) (far_shard way.job.job) wrote.entry old.inboxes new.inboxes
   pub states : new.states ≡ old.states
 
 -- why a job was not merged, or its answer was lost, and what was written all the same
-abbrev pub LeavesJob : Bool → Settings → JobWay → Late → World → World → Type 0
+abbrev pub LeavesJob : Bool → Settings → JobWay → LeftOpen → World → World → Type 0
 LeavesJob tells s way (Scheduled NoServer None) old new = (s.shards ≤ far_shard way.job.job) × (new ≡ old)
 LeavesJob tells s way (Scheduled LinkFault None) old new = (way.leader ≢ merging_leader old.states way)
     × FailsCarry way.leader (merging_leader old.states way) old.link new.link × ChangesNoNode tells old new
@@ -87,13 +87,13 @@ LeavesJob tells s way (Scheduled Memory (Some wrote)) old new = ⊥
 LeavesJob tells s way (Refused reply) old new = ⊥
 
 -- what came of the stage `inverse`: the job was carried to the leader of the other shard, which merged it, and its answer back
-abbrev pub MergesOver : Bool → Settings → JobWay → Result Wrote Late → World → World → Type 0
+abbrev pub MergesOver : Bool → Settings → JobWay → Result Wrote LeftOpen → World → World → Type 0
 MergesOver tells s way (Ok wrote) old new =
     TakesMerge tells s way wrote old new × GoesBetween way.leader (merging_leader old.states way) old.link new.link
 MergesOver tells s way (Err late) old new = LeavesJob tells s way late old new
 
 -- what was written at the other end, as far as that is known
-abbrev pub known_of : Result Wrote Late → Option Wrote
+abbrev pub known_of : Result Wrote LeftOpen → Option Wrote
 known_of (Ok wrote) = Some wrote
 known_of (Err (Scheduled why wrote)) = wrote
 known_of (Err (Refused reply)) = None
@@ -110,7 +110,7 @@ abbrev pub ChangesKeepers : World → World → Type 0
 ChangesKeepers old new = new ≡ record old { keepers = new.keepers }
 
 -- what came of the stage `end`: a job that was merged was ended, a step of the plain machine, or the keeper failed, or memory was wanting
-abbrev pub EndsOver : Bool → Settings → ShardJob → Result ⊤ Late → World → World → Type 0
+abbrev pub EndsOver : Bool → Settings → ShardJob → Result ⊤ LeftOpen → World → World → Type 0
 EndsOver tells s j (Ok done) old new = WhereTold tells (EndsOwed s old.keepers.told new.keepers.told j) × ChangesKeepers old new
 EndsOver tells s j (Err (Scheduled KeeperFault None)) old new = Rose old.keepers.faults new.keepers.faults
     × KeepsTables tells old.keepers new.keepers × ChangesKeepers old new
@@ -120,9 +120,9 @@ EndsOver tells s j (Err late) old new = ⊥
 -- ---- what is told of both ends
 
 -- the entry that was written on a shard, with what was seen of its log
-abbrev pub told_entry : ℕ → Wrote → Option ToldEntry
-told_entry shard wrote = option_map (λ e. record { shard = shard; entry = e; note = wrote.note }) wrote.entry
+abbrev pub learnt_entry_of : ℕ → Wrote → Option LearntEntry
+learnt_entry_of shard wrote = option_map (λ e. record { shard = shard; entry = e; note = wrote.note }) wrote.entry
 
 -- the entry that was written at the other end, with what was seen of its log; None without a job, or where nothing was written
-abbrev pub told_there : Option Job → Option Wrote → Option ToldEntry
-told_there job wrote = option_and_then (λ j. option_and_then (told_entry (far_shard j)) wrote) job
+abbrev pub learnt_far : Option Job → Option Wrote → Option LearntEntry
+learnt_far job wrote = option_and_then (λ j. option_and_then (learnt_entry_of (far_shard j)) wrote) job

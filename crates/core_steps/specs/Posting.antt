@@ -4,7 +4,7 @@ use Rattle.core_mail.specs.Inboxes.{AreInboxesOf, HaveArrived, Inboxes, Sends, e
 use Rattle.core_model.specs.Consistent.{GoesOn, IsConsistent}
 use Rattle.core_model.specs.Fleet.{ChangesNode, Fleet, serves}
 use Rattle.core_model.specs.Growing.{StoresGrow}
-use Rattle.core_model.specs.Messages.{told_by}
+use Rattle.core_model.specs.Messages.{notified_by}
 use Rattle.core_model.specs.Pens.{pens_of}
 use Rattle.core_model.specs.States.{AreStatesOf}
 use Rattle.core_nodes.specs.Settling.{IsLaterLink}
@@ -26,9 +26,9 @@ pub record LeaderTakes (s : Settings) (leader : NodeName) (shard : ℕ) (entry :
   pub takes : ChangesNode leader (TakesWritten (types_of s.schema) shard (taken_by (serves s leader shard) entry) note) old.leaders new.leaders
 
 -- of an entry that the log gained, by that leader, the followers of the master's region are told, and the leader that it stands in for; and of no other
-abbrev pub TellsOfNew : NodeStates → NodeName → ℕ → Option Entry → Inboxes → Inboxes → Type 0
-TellsOfNew states leader shard None old new = new ≡ old
-TellsOfNew states leader shard (Some e) old new = (note : View) × Sends (told_by states leader shard) (entry_message shard e note) old new
+abbrev pub NotifiesOfNew : NodeStates → NodeName → ℕ → Option Entry → Inboxes → Inboxes → Type 0
+NotifiesOfNew states leader shard None old new = new ≡ old
+NotifiesOfNew states leader shard (Some e) old new = (note : View) × Sends (notified_by states leader shard) (entry_message shard e note) old new
 
 -- no node, no inbox and no table changed
 pub record ChangesNoNode (tells : Bool) (old new : World) : Type 0 where

@@ -8,9 +8,9 @@ ghost use Rattle.core_model.specs.Pens.{pens_of};
 ghost use Rattle.core_model.specs.Serving.{IsLeaderIn};
 ghost use Rattle.core_model.specs.States.{AreStatesOf};
 ghost use Rattle.core_model.specs.Stores.{master_of};
-ghost use Rattle.core_steps.specs.MergeAnswers.{RefusesMerge, late_as, merge_answer, why_late};
+ghost use Rattle.core_steps.specs.MergeAnswers.{RefusesMerge, left_open_as, merge_answer, why_open};
 ghost use Rattle.core_steps.specs.OtherEnds.{Crosses, EndsOver, FailsToCross, MergesOver, StandsThere, TakesMerge, job_way};
-ghost use Rattle.core_steps.specs.OtherEnds.{known_of, master_leader, told_entry, told_there};
+ghost use Rattle.core_steps.specs.OtherEnds.{known_of, master_leader, learnt_entry_of, learnt_far};
 ghost use Rattle.core_steps.specs.Posting.{CanPost, ChangesNoNode, PostsOn};
 ghost use Rattle.core_steps.specs.World.{world};
 ghost use Rattle.core_nodes.specs.Settling.{IsLaterLink};
@@ -31,21 +31,21 @@ use tao_base::Entry;
 use tao_keeper::{Job, Keeper};
 use tao_link::{Link, LinkFailed};
 use topology::Config;
-use write_plan::Late;
+use write_plan::LeftOpen;
 
 /// An entry of a shard's log, and a note that has seen it there.
 #[derive(Drop)]
-pub struct ToldEntry {
+pub struct LearntEntry {
     pub shard: u16,
     pub entry: Entry,
     pub note: Note,
 }
 
 /// The entry of what was written on a shard, where there is one. Takes no memory.
-pub fn told_entry(shard: u16, wrote: Wrote) -> Option<ToldEntry>
-    ensures { result ≡ told_entry shard wrote }
+pub fn learnt_entry_of(shard: u16, wrote: Wrote) -> Option<LearntEntry>
+    ensures { result ≡ learnt_entry_of shard wrote }
 {
-    Some(ToldEntry {
+    Some(LearntEntry {
         shard,
         entry: wrote.entry?,
         note: wrote.note,
@@ -53,10 +53,10 @@ pub fn told_entry(shard: u16, wrote: Wrote) -> Option<ToldEntry>
 }
 
 /// The entry that was written at the other end, where there is one. Takes no memory.
-pub fn told_there(job: &Option<Job>, wrote: Option<Wrote>) -> Option<ToldEntry>
-    ensures { result ≡ told_there job.now wrote }
+pub fn learnt_far(job: &Option<Job>, wrote: Option<Wrote>) -> Option<LearntEntry>
+    ensures { result ≡ learnt_far job.now wrote }
 {
-    told_entry(far_shard(job.as_ref()?), wrote?)
+    learnt_entry_of(far_shard(job.as_ref()?), wrote?)
 }
 
 /// Carries a call, or its answer, from one node to another, unless they are one.
@@ -71,9 +71,9 @@ fn carry_between<L: Link>(link: &mut L, from: NodeName, to: NodeName) -> Result<
 }
 
 /// Why a job is late that the store refused to merge or to end.
-fn why_late(refusal: &StoreRefusal) -> ScheduledWhy
+fn why_open(refusal: &StoreRefusal) -> ScheduledWhy
     requires { IsOfMerges refusal.now }
-    ensures { result ≡ why_late refusal.now }
+    ensures { result ≡ why_open refusal.now }
 {
     match refusal {
         StoreRefusal::KeeperFault => ScheduledWhy::KeeperFault,
@@ -84,12 +84,12 @@ fn why_late(refusal: &StoreRefusal) -> ScheduledWhy
 }
 
 /// A job that stays open, which the store refused to merge or to end.
-fn late_as(refusal: StoreRefusal) -> Late
+fn left_open_as(refusal: StoreRefusal) -> LeftOpen
     requires { IsOfMerges refusal }
-    ensures { result ≡ late_as refusal }
+    ensures { result ≡ left_open_as refusal }
 {
-    Late::Scheduled {
-        why: why_late(&refusal),
+    LeftOpen::Scheduled {
+        why: why_open(&refusal),
         wrote: None,
     }
 }
@@ -98,17 +98,17 @@ fn late_as(refusal: StoreRefusal) -> Late
 fn merge_answer(
     merged: Result<Wrote, StoreRefusal>,
     back: Result<(), LinkFailed>,
-) -> Result<Wrote, Late>
+) -> Result<Wrote, LeftOpen>
     requires { IfErr merged IsOfMerges }
     ensures { result ≡ merge_answer merged back }
 {
     let wrote = match merged {
         Ok(wrote) => wrote,
-        Err(refusal) => return Err(late_as(refusal)),
+        Err(refusal) => return Err(left_open_as(refusal)),
     };
     match back {
         Ok(()) => Ok(wrote),
-        Err(LinkFailed) => Err(Late::Scheduled {
+        Err(LinkFailed) => Err(LeftOpen::Scheduled {
             why: ScheduledWhy::LinkFault,
             wrote: Some(wrote),
         }),
@@ -149,7 +149,7 @@ impl Nodes {
         let mut wrote = self
             .fleet
             .merge(self.alloc, config, keepers, leader, shard, job)?;
-        self.tell_of(config, leader, far_shard(job), &mut wrote);
+        self.notify_of(config, leader, far_shard(job), &mut wrote);
         Ok(wrote)
     }
 
@@ -168,7 +168,7 @@ impl Nodes {
         leader: NodeName,
         shard: u16,
         job: &Job,
-    ) -> Result<Wrote, Late>
+    ) -> Result<Wrote, LeftOpen>
         requires ready { CanPost K.TELLS config.now (world self.old (K.state keepers.old) (L.shown link.old)) }
         requires job { CanBeMerged K.TELLS config.now (K.state keepers.old).told (job_on shard job.now) }
         ensures merges { MergesOver K.TELLS config.now (job_way leader (job_on shard job.now)) result
@@ -180,14 +180,14 @@ impl Nodes {
     {
         let far = far_shard(job);
         if far >= config.shards {
-            return Err(Late::Scheduled {
+            return Err(LeftOpen::Scheduled {
                 why: ScheduledWhy::NoServer,
                 wrote: None,
             });
         }
         let merging = self.topology.preferred(self.topology.master(far), far);
         if let Err(LinkFailed) = carry_between(link, leader, merging) {
-            return Err(Late::Scheduled {
+            return Err(LeftOpen::Scheduled {
                 why: ScheduledWhy::LinkFault,
                 wrote: None,
             });
@@ -205,7 +205,7 @@ impl Nodes {
         keepers: &mut K,
         shard: u16,
         job: &Job,
-    ) -> Result<(), Late>
+    ) -> Result<(), LeftOpen>
         requires consistent { IsConsistent K.TELLS config.now (K.state keepers.old).told self.old.fleet }
         requires here { shard < config.now.shards }
         requires merged { WhereTold K.TELLS (IsMergedJob config.now (K.state keepers.old).told (job_on shard job.now)) }
@@ -219,7 +219,7 @@ impl Nodes {
         masters_are_regions(config);
         match self.fleet.end_job(config, keepers, shard, job) {
             Ok(()) => Ok(()),
-            Err(refusal) => Err(late_as(refusal)),
+            Err(refusal) => Err(left_open_as(refusal)),
         }
     }
 }

@@ -18,19 +18,19 @@
 //! Contracts see it with what the keepers and the link show as one state, `World`.
 //!
 //! The contracts that say so: `Nodes::ask_over`, `read_over`, `commit_over`, `merge_over`, `end_over`, `apply_over`,
-//! `tell_followers`, `tell_besides`; `IsGivenOver`, `IsNotGiven`, `IsReadOver`, `IsNotRead`, `IsCommitted`, `RefusesCommit`,
-//! `TellsOfNew`, `MergesOver`, `EndsOver`.
+//! `notify_followers`, `notify_besides`; `IsGivenOver`, `IsNotGiven`, `IsReadOver`, `IsNotRead`, `IsCommitted`, `RefusesCommit`,
+//! `NotifiesOfNew`, `MergesOver`, `EndsOver`.
 #![tactic(auto)]
 
 mod asking;
 mod jobs;
 mod nodes;
+mod notifying;
 mod refusals;
 mod routes;
-mod telling;
 mod writes;
 
-pub use jobs::{ToldEntry, told_entry, told_there};
+pub use jobs::{LearntEntry, learnt_entry_of, learnt_far};
 pub use nodes::Nodes;
 pub use refusals::{link_fault, out_of_memory, refilled_as, refused_as};
 pub use routes::Route;

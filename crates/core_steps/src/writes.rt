@@ -125,7 +125,7 @@ impl Nodes {
         {
             Ok(wrote) => {
                 let mut wrote = wrote;
-                self.tell_of_new(config, route.leader, write.shard(), &mut wrote);
+                self.notify_of_new(config, route.leader, write.shard(), &mut wrote);
                 Ok(wrote)
             }
             Err(refusal) => Err(refused_as(refusal, keepers.faults())),

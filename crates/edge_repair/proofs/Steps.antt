@@ -18,7 +18,7 @@ use Rattle.tao_link.specs.declared.link.Carry.{Carry}
 use Rattle.write_model.proofs.CoverEnds.{ends_keep}
 use Rattle.write_model.proofs.CoverMerges.{merges_keep}
 use Rattle.write_model.specs.Machine.{IsFirstJob, MergesNews, Repairs}
-use Rattle.write_model.specs.Merges.{Owed, Stores, job_of, merge_of, owed_number}
+use Rattle.write_model.specs.Merges.{JobSource, Stores, job_of, merge_of, source_number}
 use Rattle.write_model.specs.Steps.{AreSoundAndCovered, EndsJob, MergesJob}
 
 -- stores with the same logs and jobs are sound and covered as well
@@ -27,8 +27,8 @@ same_stores_are_kept types old new same kept =
     let is : new ≡ old = λ i. record { logs = same.logs i; job = λ shard position. same.jobs shard position i; epochs = same.epochs i } in
     subst (AreSoundAndCovered types) (sym is) kept
 
-module _ (types : EdgeTypes) (m : Masters) (old new : Tables) (owed : Owed) (j : JobBetween) (p : IsOwedBetween types m old owed j) where
-  due_is : merge_of (old (m.name owed.other)).log owed.shard (owed_number owed) (job_of types owed.entry) ≡ due_entry j old
+module _ (types : EdgeTypes) (m : Masters) (old new : Tables) (owed : JobSource) (j : JobBetween) (p : IsOwedBetween types m old owed j) where
+  due_is : merge_of (old (m.name owed.other)).log owed.shard (source_number owed) (job_of types owed.entry) ≡ due_entry j old
   due_is = sym (ap (λ n. merge_of (old n).log j.from.shard j.job.position j.job.edges) p.to_is
       ∙ ap (λ s. merge_of (old (m.name owed.other)).log s j.job.position j.job.edges) (ap (λ n. n.shard) p.from_is ∙ m.of_shard owed.shard)
       ∙ ap (λ q. merge_of (old (m.name owed.other)).log owed.shard q j.job.edges) p.position_is
@@ -39,7 +39,7 @@ module _ (types : EdgeTypes) (m : Masters) (old new : Tables) (owed : Owed) (j :
   merges_step : (mid : Tables) → MergesDue j old mid → MergesJob types (stores_of m old) (stores_of m mid) owed
   merges_step mid merges = by (due_entry j old) due_is (subst (λ n. TableGains old mid n (due_entry j old) None) p.to_is merges)
     where
-      by : (due : Option Entry) → merge_of (old (m.name owed.other)).log owed.shard (owed_number owed) (job_of types owed.entry) ≡ due
+      by : (due : Option Entry) → merge_of (old (m.name owed.other)).log owed.shard (source_number owed) (job_of types owed.entry) ≡ due
           → TableGains old mid (m.name owed.other) due None → MergesJob types (stores_of m old) (stores_of m mid) owed
       by None is stays = (calls_are_steps m old mid).merges_none types owed p.within.1 p.owes is stays
       by (Some e) is gains = (calls_are_steps m old mid).merges types owed e p.within.1 p.owes is gains

@@ -4,7 +4,7 @@
 //! carries; each refusal leaves the job open, and its cause says what else it left; as steps of the stores of all
 //! shards it is a merge and then an end, and keeps them sound and covered.
 //!
-//! The contracts that say so: `run_first`, `merge_there`, `end_here`, `run_between`; `repairs_are_steps`.
+//! The contracts that say so: `run_first`, `merge_far`, `end_here`, `run_between`; `repairs_are_steps`.
 #![tactic(auto)]
 
 mod laws;
@@ -13,4 +13,4 @@ mod repairs;
 
 pub use laws::repairs_are_steps;
 pub use refusal::RepairRefusal;
-pub use repairs::{RepairOutcome, end_here, merge_there, passed_on, run_between, run_first};
+pub use repairs::{RepairOutcome, end_here, merge_far, passed_on, run_between, run_first};

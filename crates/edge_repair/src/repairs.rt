@@ -49,7 +49,7 @@ pub fn passed_on(refusal: StoreRefusal) -> RepairRefusal
 /// refused. The refusal of the merge stands where the carry back fails as well. The job stays open.
 ///
 /// `LinkFault` comes only where the link's count of faults rose, `KeeperFault` only where the keeper's did. Costs a merge.
-pub fn merge_there<M: Keeper, L: Link>(
+pub fn merge_far<M: Keeper, L: Link>(
     alloc: Global,
     from: StoreName,
     to: &mut StoreNode,
@@ -137,7 +137,7 @@ pub fn run_first<M: Keeper, L: Link>(
     ensures carries { CarriesBy (job_between from.old.name to.old job.now) (L.shown link.old) (L.shown link.new) result }
     ensures calls { CallsKeeper KeeperFault (M.state keeper.old) (M.state keeper.new) result }
 {
-    let repaired = merge_there(alloc, from.name(), to, keeper, link, job)?;
+    let repaired = merge_far(alloc, from.name(), to, keeper, link, job)?;
     end_here(from, keeper, job.position)?;
     Ok(repaired)
 }
@@ -175,7 +175,7 @@ pub fn run_between<F: Keeper, T: Keeper, L: Link>(
     ensures carries { CarriesBy (job_between from.old.name to.old job.now) (L.shown link.old) (L.shown link.new) result }
     ensures calls { CallsEither (F.state from_keeper.old) (F.state from_keeper.new) (T.state to_keeper.old) (T.state to_keeper.new) result }
 {
-    let repaired = merge_there(alloc, from.name(), to, to_keeper, link, job)?;
+    let repaired = merge_far(alloc, from.name(), to, to_keeper, link, job)?;
     end_here(from, from_keeper, job.position)?;
     Ok(repaired)
 }

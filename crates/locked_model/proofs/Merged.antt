@@ -20,16 +20,17 @@ use Rattle.write_model.proofs.Growing.{GainsAt, Grown, entry_stays, gained_grown
 use Rattle.write_model.proofs.Merging.{merge_done, merge_origin_is, merge_stays, merge_touches, merge_updates, some_news}
 use Rattle.write_model.proofs.WrittenRecords.{first_of, job_source}
 use Rattle.write_model.specs.MergeLaws.{IsFarEntry, IsMergeable, IsNewOrDone}
-use Rattle.write_model.specs.Merges.{AreThere, HasItsJobs, HasJob, IsMergeAt, IsWritten, Owed, job_of, merge_entry, number_in, owed_number}
+use Rattle.write_model.specs.Merges.{AreThere, HasItsJobs, HasJob, IsMergeAt, IsWritten, JobSource, job_of, merge_entry, number_in, source_number}
 use Rattle.locked_model.proofs.Gained.{stays_kept}
 use Rattle.locked_model.specs.Locked.{GainsOwn, IsMergedFrom, IsKept, Knowledge, SeesOwed}
 use Rattle.locked_model.specs.LockedLaws.{LockedMergesKeep}
 
-may_merge : (types : EdgeTypes) (k : Knowledge) (owed : Owed) → IsKept types owed.other k → SeesOwed types k owed → IsNewOrDone types (k.log owed.other) owed
+may_merge : (types : EdgeTypes) (k : Knowledge) (owed : JobSource) → IsKept types owed.other k → SeesOwed types k owed
+    → IsNewOrDone types (k.log owed.other) owed
 may_merge types k owed kept sees =
     new_or_done types k.log k.epoch owed.other owed.entry.position owed (kept.sound owed.other) kept.covered.merges sees.epoch_is sees.stands refl
 
-module _ (types : EdgeTypes) (old new : Knowledge) (owed : Owed) (m : Entry) (match : InversesMatch types) (was : IsKept types owed.other old)
+module _ (types : EdgeTypes) (old new : Knowledge) (owed : JobSource) (m : Entry) (match : InversesMatch types) (was : IsKept types owed.other old)
     (sees : SeesOwed types old owed) (is : merge_entry types (old.log owed.other) owed ≡ Some m) (g : GainsOwn old new owed.other m) where
   abbrev e : Entry
   e = owed.entry
@@ -84,9 +85,9 @@ module _ (types : EdgeTypes) (old new : Knowledge) (owed : Owed) (m : Entry) (ma
   merge_at : (from number : ℕ) → m.origin ≡ Merge from number
       → ∥ IsMergeAt types (new.log from) (old.epoch from) (take (length log + 1) (new.log owed.other)) m number ∥₁
   merge_at from number origin =
-      let same : Merge owed.shard (owed_number owed) ≡ Merge from number = sym (merge_origin_is types log owed m is) ∙ origin in
+      let same : Merge owed.shard (source_number owed) ≡ Merge from number = sym (merge_origin_is types log owed m is) ∙ origin in
       let from_is : owed.shard ≡ from = cc in
-      let number_is : owed_number owed ≡ number = cc in
+      let number_is : source_number owed ≡ number = cc in
       subst (λ s. ∥ IsMergeAt types (new.log s) (old.epoch s) (take (length log + 1) (new.log owed.other)) m number ∥₁) from_is ∣ record {
         position = e.position;
         entry = e;
@@ -98,7 +99,7 @@ module _ (types : EdgeTypes) (old new : Knowledge) (owed : Owed) (m : Entry) (ma
 
   source_at : (from number : ℕ) → m.origin ≡ Merge from number → ∥ IsMergedFrom types (new.log from) m ∥₁
   source_at from number origin =
-      let same : Merge owed.shard (owed_number owed) ≡ Merge from number = sym (merge_origin_is types log owed m is) ∙ origin in
+      let same : Merge owed.shard (source_number owed) ≡ Merge from number = sym (merge_origin_is types log owed m is) ∙ origin in
       let from_is : owed.shard ≡ from = cc in
       subst (λ s. ∥ IsMergedFrom types (new.log s) m ∥₁) from_is ∣ record { position = e.position; entry = e; stands = stands_new; owed = in_job } ∣₁
 

@@ -21,7 +21,7 @@ use Rattle.write_model.proofs.Forward.{forward_follows}
 use Rattle.write_model.proofs.Growing.{GainsAt, Grown, entry_at-last, entry_at-within, gained_grown, gained_sound, job_stays}
 use Rattle.write_model.proofs.NextNumbers.{forward_origin, numbers_follow}
 use Rattle.write_model.proofs.WrittenRecords.{is_news_here, same_stamp_there}
-use Rattle.write_model.specs.Merges.{AreThere, HasItsJobs, IsJob, IsWritten, Owed, OwesOpenly, job_of}
+use Rattle.write_model.specs.Merges.{AreThere, HasItsJobs, IsJob, IsWritten, JobSource, OwesOpenly, job_of}
 use Rattle.write_model.specs.Steps.{opened_job}
 use Rattle.write_model.specs.WriteLaws.{IsAdmitted}
 use Rattle.write_model.specs.Writes.{epoch_base, forward_entry}
@@ -106,7 +106,7 @@ module _ (types : EdgeTypes) (shard : ℕ) (old new : Knowledge) (origin : Origi
 pub locked_writes_keep : LockedWritesKeep
 locked_writes_keep = record { keep = write_keeps }
 
-module _ (types : EdgeTypes) (old new : Knowledge) (owed : Owed) (was : IsKept types owed.shard old) (h : EndsOwn types old new owed) where
+module _ (types : EdgeTypes) (old new : Knowledge) (owed : JobSource) (was : IsKept types owed.shard old) (h : EndsOwn types old new owed) where
   abbrev position : ℕ
   position = owed.entry.position
 

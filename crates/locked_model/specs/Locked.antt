@@ -9,7 +9,7 @@ use Rattle.tao_base.specs.declared.entry.Origin.TheVariants.{Merge}
 use Rattle.graph_model.specs.Log.{entry_at}
 use Rattle.graph_model.specs.Records.{HasStamp}
 use Rattle.graph_model.specs.Soundness.{EdgeUpdate, IsSoundOf, other_end, updates_of}
-use Rattle.write_model.specs.Merges.{HasJob, IsCovered, IsWritten, Owed, Stores, job_of, log_of}
+use Rattle.write_model.specs.Merges.{HasJob, IsCovered, IsWritten, JobSource, Stores, job_of, log_of}
 use Rattle.write_model.specs.Writes.{epoch_base}
 
 -- all that the entry writes are records of the job of one entry of the source
@@ -66,14 +66,14 @@ pub record JobTurns (old new : Knowledge) (position : ℕ) (given : Option (List
   pub others : (p : ℕ) → p ≢ position → new.job p ≡ old.job p
 
 -- the entry of a job stands in what the store has seen, in its shard's epoch, and the records of the job lie on one other shard
-pub record SeesOwed (types : EdgeTypes) (k : Knowledge) (owed : Owed) : Type 0 where
+pub record SeesOwed (types : EdgeTypes) (k : Knowledge) (owed : JobSource) : Type 0 where
   pub epoch_is : owed.epoch ≡ k.epoch owed.shard
   pub stands : entry_at (k.log owed.shard) owed.entry.position ≡ Some owed.entry
   pub there : All (λ u. shard_of u.0 ≡ owed.other) (job_of types owed.entry)
   pub away : owed.shard ≢ owed.other
 
 -- the store ends a job of its shard, whose records it has all seen at the other shard
-pub record EndsOwn (types : EdgeTypes) (old new : Knowledge) (owed : Owed) : Type 0 where
+pub record EndsOwn (types : EdgeTypes) (old new : Knowledge) (owed : JobSource) : Type 0 where
   pub sees : SeesOwed types old owed
   pub done : HasJob types (old.log owed.other) owed.entry
   pub log : new.log ≡ old.log

@@ -7,7 +7,7 @@ use Rattle.tao_base.specs.declared.write.Write.{Write}
 use Rattle.graph_model.specs.Soundness.{is_client}
 use Rattle.write_model.specs.Machine.{ArePaired}
 use Rattle.write_model.specs.MergeLaws.{IsNewOrDone}
-use Rattle.write_model.specs.Merges.{HasJob, IsCovered, Owed, Stores, job_of, log_of, merge_entry}
+use Rattle.write_model.specs.Merges.{HasJob, IsCovered, JobSource, Stores, job_of, log_of, merge_entry}
 use Rattle.write_model.specs.Steps.{AreSound, AreSoundAndCovered, HaveNoJobs, opened_job}
 use Rattle.write_model.specs.WriteLaws.{IsAdmitted}
 use Rattle.write_model.specs.Writes.{forward_entry}
@@ -26,17 +26,18 @@ pub record LockedWritesKeep : Type 0 where
 
 -- a job is merged at the store that its records lie on, under that store's lock, where the job's entry was seen
 pub record LockedMergesKeep : Type 0 where
-  pub may : (types : EdgeTypes) (k : Knowledge) (owed : Owed) → IsKept types owed.other k → SeesOwed types k owed → IsNewOrDone types (k.log owed.other) owed
-  pub keep : (types : EdgeTypes) (old new : Knowledge) (owed : Owed) (m : Entry) → InversesMatch types → IsKept types owed.other old
+  pub may : (types : EdgeTypes) (k : Knowledge) (owed : JobSource) → IsKept types owed.other k → SeesOwed types k owed
+      → IsNewOrDone types (k.log owed.other) owed
+  pub keep : (types : EdgeTypes) (old new : Knowledge) (owed : JobSource) (m : Entry) → InversesMatch types → IsKept types owed.other old
       → SeesOwed types old owed → merge_entry types (old.log owed.other) owed ≡ Some m → GainsOwn old new owed.other m → new.job ≡ old.job
       → IsKept types owed.other new
-  pub done : (types : EdgeTypes) (old new : Knowledge) (owed : Owed) (m : Entry) → InversesMatch types → IsKept types owed.other old
+  pub done : (types : EdgeTypes) (old new : Knowledge) (owed : JobSource) (m : Entry) → InversesMatch types → IsKept types owed.other old
       → SeesOwed types old owed → merge_entry types (old.log owed.other) owed ≡ Some m → GainsOwn old new owed.other m
       → HasJob types (new.log owed.other) owed.entry
 
 -- a job is ended under its store's lock, where its records were seen
 pub record LockedEndsKeep : Type 0 where
-  pub keep : (types : EdgeTypes) (old new : Knowledge) (owed : Owed) → IsKept types owed.shard old → EndsOwn types old new owed
+  pub keep : (types : EdgeTypes) (old new : Knowledge) (owed : JobSource) → IsKept types owed.shard old → EndsOwn types old new owed
       → IsKept types owed.shard new
 
 -- a store learns the whole log of another one, while both locks are held

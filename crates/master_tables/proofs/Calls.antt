@@ -8,7 +8,7 @@ use Rattle.tao_base.specs.declared.entry.Origin.{Origin}
 use Rattle.tao_base.specs.declared.write.Write.{Write}
 use Rattle.write_model.proofs.OpenJobs.{open_jobs_are_owed}
 use Rattle.write_model.specs.Machine.{Gains}
-use Rattle.write_model.specs.Merges.{HasJob, Owed, job_of, log_of, merge_of, number_in, owed_number}
+use Rattle.write_model.specs.Merges.{HasJob, JobSource, job_of, log_of, merge_of, number_in, source_number}
 use Rattle.graph_model.specs.Soundness.{EdgeUpdate}
 use Rattle.write_model.specs.Steps.{CommitsWithJob, EndsJob, IsOwed, JobBecomes, JobsStay, MergesJob, opened_job}
 use Rattle.write_model.specs.Writes.{forward_entry}
@@ -95,35 +95,35 @@ module _ (m : Masters) (old new : Tables) where
     epochs = refl;
   }
 
-  step_merges : (types : EdgeTypes) (owed : Owed) (e : Entry) → owed.other < m.shards → IsOwed types (stores_of m old) owed
-      → merge_of (old (m.name owed.other)).log owed.shard (owed_number owed) (job_of types owed.entry) ≡ Some e
+  step_merges : (types : EdgeTypes) (owed : JobSource) (e : Entry) → owed.other < m.shards → IsOwed types (stores_of m old) owed
+      → merge_of (old (m.name owed.other)).log owed.shard (source_number owed) (job_of types owed.entry) ≡ Some e
       → Becomes old new (m.name owed.other) (after_commit (old (m.name owed.other)) e None) → MergesJob types (stores_of m old) (stores_of m new) owed
   step_merges types owed e lt owes is b = record {
     owes = owes;
     merges = inr (record {
       merged = e;
       there = owes.there;
-      is = ap (λ l. merge_of l owed.shard (owed_number owed) (job_of types owed.entry)) (log_at old owed.other lt) ∙ is;
+      is = ap (λ l. merge_of l owed.shard (source_number owed) (job_of types owed.entry)) (log_at old owed.other lt) ∙ is;
       gained = gains owed.other (after_commit (old (m.name owed.other)) e None) e lt b refl;
     });
     jobs = jobs_stay (field_is (λ t. t.jobs) owed.other (after_commit (old (m.name owed.other)) e None) b refl);
     epochs = refl;
   }
 
-  step_merges_none : (types : EdgeTypes) (owed : Owed) → owed.other < m.shards → IsOwed types (stores_of m old) owed
-      → merge_of (old (m.name owed.other)).log owed.shard (owed_number owed) (job_of types owed.entry) ≡ None
+  step_merges_none : (types : EdgeTypes) (owed : JobSource) → owed.other < m.shards → IsOwed types (stores_of m old) owed
+      → merge_of (old (m.name owed.other)).log owed.shard (source_number owed) (job_of types owed.entry) ≡ None
       → Stays old new → MergesJob types (stores_of m old) (stores_of m new) owed
   step_merges_none types owed lt owes is stays = record {
     owes = owes;
     merges = inl (
-      ap (λ l. merge_of l owed.shard (owed_number owed) (job_of types owed.entry)) (log_at old owed.other lt) ∙ is,
+      ap (λ l. merge_of l owed.shard (source_number owed) (job_of types owed.entry)) (log_at old owed.other lt) ∙ is,
       logs_stay (λ s. ap (λ t. t.log) (stays (m.name s))),
     );
     jobs = jobs_stay (λ s. ap (λ t. t.jobs) (stays (m.name s)));
     epochs = refl;
   }
 
-  step_ends : (types : EdgeTypes) (owed : Owed) → owed.shard < m.shards → IsOwed types (stores_of m old) owed
+  step_ends : (types : EdgeTypes) (owed : JobSource) → owed.shard < m.shards → IsOwed types (stores_of m old) owed
       → HasJob types (log_of (stores_of m old).logs owed.other) owed.entry
       → Becomes old new (m.name owed.shard) (after_end (old (m.name owed.shard)) owed.entry.position) → EndsJob types (stores_of m old) (stores_of m new) owed
   step_ends types owed lt owes done b = record {

@@ -4,7 +4,7 @@ use Rattle.tao_base.specs.Ids.{shard_of}
 use Rattle.tao_base.specs.EdgeTypes.{EdgeTypes}
 use Rattle.tao_base.specs.declared.entry.Entry.{Entry}
 use Rattle.write_model.specs.Machine.{ClientWrite, IsFirstJob}
-use Rattle.write_model.specs.Merges.{HasJob, Owed, job_of, log_of, merge_of, owed_number}
+use Rattle.write_model.specs.Merges.{HasJob, JobSource, job_of, log_of, merge_of, source_number}
 use Rattle.graph_model.specs.Soundness.{EdgeUpdate}
 use Rattle.write_model.specs.Steps.{AreSoundAndCovered, CommitsWithJob, EndsJob, IsJobOf, IsOwed, JobsStay, MergesJob}
 use Rattle.write_model.specs.Writes.{forward_entry}
@@ -19,7 +19,7 @@ pub record TablesAreStores (m : Masters) (tables : Tables) : Type 0 where
 
 -- a merge names an entry that owes by its position: every epoch is the first
 pub record NumbersArePositions (m : Masters) (tables : Tables) : Type 0 where
-  pub number_is : (types : EdgeTypes) (owed : Owed) → IsOwed types (stores_of m tables) owed → owed_number owed ≡ owed.entry.position
+  pub number_is : (types : EdgeTypes) (owed : JobSource) → IsOwed types (stores_of m tables) owed → source_number owed ≡ owed.entry.position
 
 -- the calls are the steps
 pub record CallsAreSteps (m : Masters) (old new : Tables) : Type 0 where
@@ -31,15 +31,15 @@ pub record CallsAreSteps (m : Masters) (old new : Tables) : Type 0 where
       → Becomes old new (m.name w.shard) (after_commit (old (m.name w.shard)) e (job_from e.position (job_of types e)))
       → CommitsWithJob types (stores_of m old) (stores_of m new) w e
   -- the commit of a merge, without a job
-  pub merges : (types : EdgeTypes) (owed : Owed) (e : Entry) → owed.other < m.shards → IsOwed types (stores_of m old) owed
-      → merge_of (old (m.name owed.other)).log owed.shard (owed_number owed) (job_of types owed.entry) ≡ Some e
+  pub merges : (types : EdgeTypes) (owed : JobSource) (e : Entry) → owed.other < m.shards → IsOwed types (stores_of m old) owed
+      → merge_of (old (m.name owed.other)).log owed.shard (source_number owed) (job_of types owed.entry) ≡ Some e
       → Becomes old new (m.name owed.other) (after_commit (old (m.name owed.other)) e None) → MergesJob types (stores_of m old) (stores_of m new) owed
   -- a merge that has nothing to write
-  pub merges_none : (types : EdgeTypes) (owed : Owed) → owed.other < m.shards → IsOwed types (stores_of m old) owed
-      → merge_of (old (m.name owed.other)).log owed.shard (owed_number owed) (job_of types owed.entry) ≡ None
+  pub merges_none : (types : EdgeTypes) (owed : JobSource) → owed.other < m.shards → IsOwed types (stores_of m old) owed
+      → merge_of (old (m.name owed.other)).log owed.shard (source_number owed) (job_of types owed.entry) ≡ None
       → Stays old new → MergesJob types (stores_of m old) (stores_of m new) owed
   -- the end of a job
-  pub ends : (types : EdgeTypes) (owed : Owed) → owed.shard < m.shards → IsOwed types (stores_of m old) owed
+  pub ends : (types : EdgeTypes) (owed : JobSource) → owed.shard < m.shards → IsOwed types (stores_of m old) owed
       → HasJob types (log_of (stores_of m old).logs owed.other) owed.entry
       → Becomes old new (m.name owed.shard) (after_end (old (m.name owed.shard)) owed.entry.position) → EndsJob types (stores_of m old) (stores_of m new) owed
 
@@ -47,7 +47,7 @@ pub record CallsAreSteps (m : Masters) (old new : Tables) : Type 0 where
 pub record FirstJobsAreFirst (m : Masters) (tables : Tables) : Type 0 where
   pub first : (types : EdgeTypes) (shard : ℕ) (job : Job) (u : EdgeUpdate) → shard < m.shards → AreSoundAndCovered types (stores_of m tables)
       → IsLeastJob (tables (m.name shard)).jobs (Some job) → Contains job.edges u
-      → (by : Owed) × IsJobOf types (stores_of m tables) shard job.position job.edges by × (by.other ≡ shard_of u.0)
+      → (by : JobSource) × IsJobOf types (stores_of m tables) shard job.position job.edges by × (by.other ≡ shard_of u.0)
       × IsFirstJob types (stores_of m tables) by
   pub none : (shard position : ℕ) → shard < m.shards → IsLeastJob (tables (m.name shard)).jobs None → (stores_of m tables).job shard position ≡ None
 

@@ -89,7 +89,7 @@ opened = record {
   changes = refl;
   grows = grows_none ([] ∷ []);
   well_kept = well_kept [] (omega arith);
-  told = λ session. ([], refl);
+  learnt = λ session. ([], refl);
   held = λ plan. refl;
   settled = refl;
 }
@@ -113,7 +113,7 @@ added_is = record {
   changes = inr (first_entry, 0, inl (record { between = first_add ∷ []; commits = record { is = refl; gained = (omega arith, refl) }; merges = inl refl }));
   grows = grows_first;
   well_kept = well_kept first_add one_long;
-  told = λ session. (once_written.told session, refl);
+  learnt = λ session. (once_written.learnt session, refl);
   held = λ plan. refl;
   settled = refl;
 }
@@ -134,7 +134,7 @@ reads_so reply answer version = record {
   changes = refl;
   grows = grows_none (first_add ∷ []);
   well_kept = well_kept first_add one_long;
-  told = λ session. ([], sym (append-nil (once_written.told session)));
+  learnt = λ session. ([], sym (append-nil (once_written.learnt session)));
   held = λ plan. refl;
   settled = refl;
 }
@@ -145,7 +145,7 @@ audited = record {
   changes = refl;
   grows = grows_none (first_add ∷ []);
   well_kept = well_kept first_add one_long;
-  told = λ session. ([], sym (append-nil (once_written.told session)));
+  learnt = λ session. ([], sym (append-nil (once_written.learnt session)));
   held = λ plan. refl;
   settled = refl;
 }
@@ -161,7 +161,7 @@ settled_is = record {
   };
   grows = grows_none (first_add ∷ []);
   well_kept = well_kept first_add one_long;
-  told = λ session. ([], sym (append-nil (once_written.told session)));
+  learnt = λ session. ([], sym (append-nil (once_written.learnt session)));
   held = λ plan. refl;
   settled = refl;
 }

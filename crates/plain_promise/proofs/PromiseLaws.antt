@@ -28,12 +28,12 @@ one_stands terms old new None reply shard position e says stands =
 one_stands terms old new (Some asked) reply shard position e says stands =
     entry_stays terms.types (log_of old.stores.logs) (log_of new.stores.logs) (grown_by old.stores.logs new.stores.logs says.grows) shard position e stands
 
-one_told : (terms : Terms) (old new : Plain) (asked : Option Checked) (reply : Reply) (session : ℕ) (e : Entry) → SaysPlainly terms old asked reply new
-    → Contains (old.told session) e → Contains (new.told session) e
-one_told terms old new None reply session e says told = subst (λ (p : Plain). Contains (p.told session) e) (sym says.same) told
-one_told terms old new (Some asked) reply session e says told =
-    let more = says.told session in
-    subst (λ es. Contains es e) (sym more.1) (Contains-append_left (old.told session) more.0 e told)
+one_learnt : (terms : Terms) (old new : Plain) (asked : Option Checked) (reply : Reply) (session : ℕ) (e : Entry) → SaysPlainly terms old asked reply new
+    → Contains (old.learnt session) e → Contains (new.learnt session) e
+one_learnt terms old new None reply session e says learnt = subst (λ (p : Plain). Contains (p.learnt session) e) (sym says.same) learnt
+one_learnt terms old new (Some asked) reply session e says learnt =
+    let more = says.learnt session in
+    subst (λ es. Contains es e) (sym more.1) (Contains-append_left (old.learnt session) more.0 e learnt)
 
 -- one after another
 all_stand : (terms : Terms) (old : Plain) (saids : List Said) (new : Plain) (shard position : ℕ) (e : Entry) → RunsPlainly terms old saids new
@@ -43,11 +43,11 @@ all_stand terms old [] new shard position e runs stands =
 all_stand terms old (said ∷ more) new shard position e runs stands =
     all_stand terms runs.0 more new shard position e runs.3 (one_stands terms old runs.0 said.asked said.reply shard position e runs.1 stands)
 
-all_told : (terms : Terms) (old : Plain) (saids : List Said) (new : Plain) (session : ℕ) (e : Entry) → RunsPlainly terms old saids new
-    → Contains (old.told session) e → Contains (new.told session) e
-all_told terms old [] new session e runs told = subst (λ (p : Plain). Contains (p.told session) e) (sym runs) told
-all_told terms old (said ∷ more) new session e runs told =
-    all_told terms runs.0 more new session e runs.3 (one_told terms old runs.0 said.asked said.reply session e runs.1 told)
+all_learnt : (terms : Terms) (old : Plain) (saids : List Said) (new : Plain) (session : ℕ) (e : Entry) → RunsPlainly terms old saids new
+    → Contains (old.learnt session) e → Contains (new.learnt session) e
+all_learnt terms old [] new session e runs learnt = subst (λ (p : Plain). Contains (p.learnt session) e) (sym runs) learnt
+all_learnt terms old (said ∷ more) new session e runs learnt =
+    all_learnt terms runs.0 more new session e runs.3 (one_learnt terms old runs.0 said.asked said.reply session e runs.1 learnt)
 
 pub stands_from_then_on : (terms : Terms) (old : Plain) (saids : List Said) (new : Plain) → StandsFromThenOn terms old saids new
-stands_from_then_on terms old saids new = record { stands = all_stand terms old saids new; told = all_told terms old saids new }
+stands_from_then_on terms old saids new = record { stands = all_stand terms old saids new; learnt = all_learnt terms old saids new }

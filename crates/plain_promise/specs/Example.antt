@@ -29,13 +29,13 @@ one_region = record { types = one_type; regions = 1 }
 abbrev pub with_log : List Entry → Stores
 with_log log = record { logs = log ∷ []; job = λ shard position. None; epochs = no_epochs }
 
--- before the first line nothing was written, and nobody was told of anything
+-- before the first line nothing was written, and nobody has learnt of anything
 abbrev pub at_first : Plain
-at_first = record { stores = with_log []; told = λ session. []; held = λ plan. None; settled = None }
+at_first = record { stores = with_log []; learnt = λ session. []; held = λ plan. None; settled = None }
 
--- once the edge is written, session 1 was told of its entry
+-- once the edge is written, session 1 has learnt of its entry
 abbrev pub once_written : Plain
-once_written = record { stores = with_log first_add; told = λ session. if session == 1 then first_add else []; held = λ plan. None; settled = None }
+once_written = record { stores = with_log first_add; learnt = λ session. if session == 1 then first_add else []; held = λ plan. None; settled = None }
 
 -- once that is settled
 abbrev pub once_settled : Plain
@@ -80,7 +80,7 @@ six_lines =
 pub record SixLinesRun : Type 0 where
   pub run : RunsPlainly one_region at_first six_lines once_settled
 
--- a read that tells an empty list, where its session was told of the edge
+-- a read that tells an empty list, where its session has learnt of the edge
 abbrev pub list_before : ReadReply
 list_before = record { word = word.AssocRange; answer = EdgesAre []; version = 0; hops = 0; store = false; kept = Kept }
 

@@ -1,5 +1,5 @@
 -- What a run promises to its caller, line by line. Nothing here speaks of caches, links or messages: only of the log of each shard with its open jobs, of
--- the entries that each session was told of, and of the calls that are under way.
+-- the entries that each session has learnt of, and of the calls that are under way.
 use Rattle.std.specs.Prelude.{ℕ, zero, suc, ◌≡◌, ◌≤◌, ◌⊎◌, ◌++◌, ◌∷◌, [], ◌==◌, true, false, List, Contains, IsSomeAnd, Option, Some, None, ⊤}
 use Rattle.std.specs.Prelude.{if◌then◌else◌, length, map, slice_get, take}
 use Rattle.graph_model.specs.Answers.{answer}
@@ -44,7 +44,7 @@ use Rattle.tao_base.specs.declared.entry.Origin.TheVariants.{Client}
 use Rattle.tao_base.specs.declared.id.Key.{Key}
 use Rattle.tao_base.specs.declared.id.Key.TheVariants.{Obj, List as Assocs}
 use Rattle.write_model.specs.Machine.{ArePaired, ClientWrite, LeavesEntry, Repairs, Settles, StandsFor}
-use Rattle.write_model.specs.Merges.{AreThere, Owed, OwesOpenly, Stores, job_of, log_of}
+use Rattle.write_model.specs.Merges.{AreThere, JobSource, OwesOpenly, Stores, job_of, log_of}
 use Rattle.write_model.specs.Steps.{HaveNoJobs}
 use Rattle.write_model.specs.Writes.{forward_entry}
 
@@ -54,18 +54,18 @@ use Rattle.write_model.specs.Writes.{forward_entry}
 abbrev pub Logs : Type 0
 Logs = List (List Entry)
 
--- a call that is under way: what it asks; and of the moment at which it began the logs, what its session was told of, and the logs of the last settle
+-- a call that is under way: what it asks; and of the moment at which it began the logs, what its session has learnt of, and the logs of the last settle
 pub record Begun : Type 0 where
   pub call : CheckedCall
   pub logs : Logs
-  pub told : List Entry
+  pub learnt : List Entry
   pub settled : Option Logs
 
--- between two lines: the logs of all shards with their open jobs, the entries that each session was told of, the call that each plan holds, and the logs as
+-- between two lines: the logs of all shards with their open jobs, the entries that each session has learnt of, the call that each plan holds, and the logs as
 -- the last settle left them, if there was one
 pub record Plain : Type 0 where
   pub stores : Stores
-  pub told : ℕ → List Entry
+  pub learnt : ℕ → List Entry
   pub held : ℕ → Option Begun
   pub settled : Option Logs
 
@@ -85,7 +85,7 @@ caller (Write call) = call.session
 
 -- a call that begins now
 abbrev pub begun_now : Plain → CheckedCall → Begun
-begun_now state call = record { call = call; logs = state.stores.logs; told = state.told (caller call); settled = state.settled }
+begun_now state call = record { call = call; logs = state.stores.logs; learnt = state.learnt (caller call); settled = state.settled }
 
 -- ---- reads
 
@@ -93,10 +93,10 @@ begun_now state call = record { call = call; logs = state.stores.logs; told = st
 abbrev pub log_read : Logs → CheckedRead → List Entry
 log_read logs call = log_of logs (query_shard call.query)
 
--- a read answers as some beginning of its shard's log, which has all that its session was told of before the read began. A critical read misses nothing
+-- a read answers as some beginning of its shard's log, which has all that its session has learnt of before the read began. A critical read misses nothing
 -- that stood when it began. One that began after a settle, since which no log has grown, has the last version, where there is one region
 pub record ReadsRightly (terms : Terms) (began : Begun) (call : CheckedRead) (reply : ReadReply) (now : Logs) : Type 0 where
-  pub legal : IsLegal terms.types (log_read now call) call.query (floor began.told (query_key call.query)) reply.answer reply.version
+  pub legal : IsLegal terms.types (log_read now call) call.query (floor began.learnt (query_key call.query)) reply.answer reply.version
   pub whole : call.critical ≡ true → MissesNothing (log_read began.logs call) call.query reply.version
   pub last : (logs : Logs) → terms.regions ≤ 1 → began.settled ≡ Some logs → AreSameLogs logs now
       → reply.version ≡ version (log_read now call) (query_key call.query)
@@ -128,7 +128,7 @@ TellsId other entry = ⊤
 
 -- the write's entry stands at the position that the reply tells, and adds the object that it names; where the reply says that the inverse is written, the
 -- other end of each edge has what the entry wrote, or a later record
-pub record StandsAsTold (types : EdgeTypes) (stores : Stores) (call : CheckedWrite) (reply : WriteReply) (entry : Entry) : Type 0 where
+pub record StandsAsLearnt (types : EdgeTypes) (stores : Stores) (call : CheckedWrite) (reply : WriteReply) (entry : Entry) : Type 0 where
   pub stands : StandsFor stores.logs (client_write_of stores call) entry
   pub position_is : reply.written.position ≡ entry.position
   pub id_is : TellsId reply.kind entry
@@ -141,10 +141,10 @@ pub record FoundNothing (types : EdgeTypes) (began : Begun) (stores : Stores) (c
   pub nothing : forward_entry types (client_write_of stores call).epoch (take n (log_written stores.logs call)) (Client call.session call.seq) call.write ≡ None
   pub position_is : reply.written.position ≡ 0
 
--- a write that is acknowledged stands, and its session was told of it; or there was nothing to change
+-- a write that is acknowledged stands, and its session has learnt of it; or there was nothing to change
 abbrev pub IsAcknowledged : EdgeTypes → Begun → CheckedWrite → WriteReply → Plain → Type 0
 IsAcknowledged types began call reply new =
-    ((entry : Entry) × StandsAsTold types new.stores call reply entry × Contains (new.told call.session) entry)
+    ((entry : Entry) × StandsAsLearnt types new.stores call reply entry × Contains (new.learnt call.session) entry)
     ⊎ FoundNothing types began new.stores call reply
 
 -- the position that a refusal tells: that of an entry which stands all the same, or 0
@@ -198,7 +198,7 @@ IsRepairedUpTo shard (suc n) stores = (position : ℕ) → position ≤ suc n �
 
 -- a repair merges the shard's first job, or changes no log
 abbrev pub RepairsAlone : EdgeTypes → Stores → Logs → Type 0
-RepairsAlone types old new = (new ≡ old.logs) ⊎ ((owed : Owed) × Repairs types old new owed)
+RepairsAlone types old new = (new ≡ old.logs) ⊎ ((owed : JobSource) × Repairs types old new owed)
 
 -- after a settle no job is open, each edge is paired, and the reply tells the lengths of the logs
 pub record IsSettledNow (types : EdgeTypes) (lengths : List ℕ) (new : Stores) : Type 0 where
@@ -270,7 +270,7 @@ pub record KeepsPromise (terms : Terms) (old : Plain) (asked : Checked) (reply :
   pub changes : ChangesLogs terms.types old asked new.stores.logs
   pub grows : EachGrows old.stores.logs new.stores.logs
   pub well_kept : IsWellKept terms.types new.stores
-  pub told : (session : ℕ) → (more : List Entry) × (new.told session ≡ old.told session ++ more)
+  pub learnt : (session : ℕ) → (more : List Entry) × (new.learnt session ≡ old.learnt session ++ more)
   pub held : (plan : ℕ) → new.held plan ≡ held_after old asked plan
   pub settled : new.settled ≡ settled_after old reply new.stores.logs
 
@@ -317,8 +317,8 @@ RunsPlainly terms old (said ∷ more) new =
 
 -- ---- what follows
 
--- an entry that stands after one line stands after all later ones, and who was told of it stays so
+-- an entry that stands after one line stands after all later ones, and who has learnt of it stays so
 pub record StandsFromThenOn (terms : Terms) (old : Plain) (saids : List Said) (new : Plain) : Type 0 where
   pub stands : (shard position : ℕ) (entry : Entry) → RunsPlainly terms old saids new → entry_at (log_of old.stores.logs shard) position ≡ Some entry
       → entry_at (log_of new.stores.logs shard) position ≡ Some entry
-  pub told : (session : ℕ) (entry : Entry) → RunsPlainly terms old saids new → Contains (old.told session) entry → Contains (new.told session) entry
+  pub learnt : (session : ℕ) (entry : Entry) → RunsPlainly terms old saids new → Contains (old.learnt session) entry → Contains (new.learnt session) entry

@@ -10,7 +10,7 @@ ghost use Rattle.std.specs.Prelude.{List};
 ghost use Rattle.plain_promise.specs.Example.{FourAreRefused, SixLinesRun};
 ghost use Rattle.plain_promise.specs.Promise.{Plain, Said, StandsFromThenOn, Terms};
 
-/// An entry that stands after one line of a run stands after all later ones, and who was told of it stays so.
+/// An entry that stands after one line of a run stands after all later ones, and who has learnt of it stays so.
 #[tactic(auto, using(crate::proofs::PromiseLaws::stands_from_then_on))]
 pub fn stands_from_then_on()
     ensures { (terms : Terms) (old : Plain) (saids : List Said) (new : Plain) → StandsFromThenOn terms old saids new }

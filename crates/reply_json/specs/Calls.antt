@@ -15,7 +15,7 @@ use Rattle.replies.specs.declared.calls.WriteReply.{WriteReply}
 use Rattle.reply_json.specs.Json.{fields, given, text, whole}
 use Rattle.reply_json.specs.Texts.{inverse_text, scheduled_text}
 use Rattle.reply_json.specs.Nodes.{had, is_kept, needs, not_kept_why}
-use Rattle.reply_json.specs.Values.{count_told, edges_told, object_told}
+use Rattle.reply_json.specs.Values.{count_said, edges_said, object_said}
 use Rattle.topology.specs.Config.{Settings}
 
 -- the id of an object that was added
@@ -50,9 +50,9 @@ write_data plan w =
 -- or why not
 abbrev pub read_data : Settings → Option ℕ → ReadReply → Data
 read_data s plan r =
-    fields (given ((codes "count", count_told r.answer) ∷ (codes "edges", edges_told r.answer) ∷ (codes "have", had r.kept)
+    fields (given ((codes "count", count_said r.answer) ∷ (codes "edges", edges_said r.answer) ∷ (codes "have", had r.kept)
     ∷ (codes "hops", Some (whole r.hops)) ∷ (codes "kept", Some (boolean (is_kept r.kept))) ∷ (codes "need", needs r.kept)
-    ∷ (codes "object", object_told s r.answer) ∷ (codes "ok", Some (text (word_text (word.Read r.word)))) ∷ (codes "plan", plan_number plan)
+    ∷ (codes "object", object_said s r.answer) ∷ (codes "ok", Some (text (word_text (word.Read r.word)))) ∷ (codes "plan", plan_number plan)
     ∷ (codes "store", Some (boolean r.store)) ∷ (codes "version", Some (whole r.version)) ∷ (codes "why", not_kept_why r.kept) ∷ []))
 
 -- a call is told with the number of its plan, where it was carried out by one

@@ -46,22 +46,22 @@ answer_data s (EdgesAre edges) = edges_data edges
 answer_data s (Count n) = whole n
 
 -- what is told of an answer under each of the three names: it stands under its own alone
-abbrev pub count_told : Answer → Option Data
-count_told (Count n) = Some (whole n)
-count_told (EdgesAre edges) = None
-count_told (ObjectIs o) = None
+abbrev pub count_said : Answer → Option Data
+count_said (Count n) = Some (whole n)
+count_said (EdgesAre edges) = None
+count_said (ObjectIs o) = None
 
 -- what stands under `edges`: None where the answer is a count or an object
-abbrev pub edges_told : Answer → Option Data
-edges_told (Count n) = None
-edges_told (EdgesAre edges) = Some (edges_data edges)
-edges_told (ObjectIs o) = None
+abbrev pub edges_said : Answer → Option Data
+edges_said (Count n) = None
+edges_said (EdgesAre edges) = Some (edges_data edges)
+edges_said (ObjectIs o) = None
 
 -- what stands under `object`, `null` of one that isn't there; None where the answer is a count or edges
-abbrev pub object_told : Settings → Answer → Option Data
-object_told s (Count n) = None
-object_told s (EdgesAre edges) = None
-object_told s (ObjectIs o) = Some (object_data s o)
+abbrev pub object_said : Settings → Answer → Option Data
+object_said s (Count n) = None
+object_said s (EdgesAre edges) = None
+object_said s (ObjectIs o) = Some (object_data s o)
 
 -- lengths, in their order
 abbrev pub lengths_data : List ℕ → Data

@@ -5,7 +5,7 @@ ghost use Rattle.reply_json.specs.Said.{said_value};
 ghost use Rattle.reply_json.specs.Writing.{Puts};
 
 use crate::nodes::{had, is_kept, needs, not_kept_why};
-use crate::said::{Said, count_told, edges_told, object_told};
+use crate::said::{Said, count_said, edges_said, object_said};
 use crate::spelled::put_given;
 use crate::texts::{inverse_text, scheduled_text};
 use json::Writer;
@@ -90,13 +90,13 @@ fn put_read<'r>(
     put_given(
         out,
         &[
-            ("count", count_told(&reply.answer)),
-            ("edges", edges_told(&reply.answer)),
+            ("count", count_said(&reply.answer)),
+            ("edges", edges_said(&reply.answer)),
             ("have", had(reply.kept)),
             ("hops", Some(Said::Whole(reply.hops))),
             ("kept", Some(Said::Flag(is_kept(reply.kept)))),
             ("need", needs(reply.kept)),
-            ("object", object_told(config, &reply.answer)),
+            ("object", object_said(config, &reply.answer)),
             ("ok", Some(Said::Text(Word::Read(reply.word).text()))),
             ("plan", plan_number(plan)),
             ("store", Some(Said::Flag(reply.store))),

@@ -1,7 +1,7 @@
 //! What the members of a reply's line say.
 ghost use Rattle.std.specs.Prelude.{◌≡◌, option_map};
 ghost use Rattle.reply_json.specs.Said.{object_value, said_value};
-ghost use Rattle.reply_json.specs.Values.{answer_data, answer_name, count_told, edges_told, object_data, object_told};
+ghost use Rattle.reply_json.specs.Values.{answer_data, answer_name, count_said, edges_said, object_data, object_said};
 ghost use Rattle.reply_json.specs.Writing.{Puts};
 
 use crate::spelled::{Spelled, put_items, put_members};
@@ -88,8 +88,8 @@ pub(crate) fn said_answer<'r>(config: &'r Config, answer: &'r Answer) -> Said<'r
 }
 
 /// What is said of an answer that is a number.
-pub(crate) fn count_told<'r>(answer: &'r Answer) -> Option<Said<'r>>
-    ensures { option_map said_value result ≡ count_told answer.now }
+pub(crate) fn count_said<'r>(answer: &'r Answer) -> Option<Said<'r>>
+    ensures { option_map said_value result ≡ count_said answer.now }
 {
     match answer {
         Answer::Count(count) => Some(Said::Whole(*count)),
@@ -98,8 +98,8 @@ pub(crate) fn count_told<'r>(answer: &'r Answer) -> Option<Said<'r>>
 }
 
 /// What is said of an answer of edges.
-pub(crate) fn edges_told<'r>(answer: &'r Answer) -> Option<Said<'r>>
-    ensures { option_map said_value result ≡ edges_told answer.now }
+pub(crate) fn edges_said<'r>(answer: &'r Answer) -> Option<Said<'r>>
+    ensures { option_map said_value result ≡ edges_said answer.now }
 {
     match answer {
         Answer::Edges(edges) => Some(Said::Edges(edges.as_slice())),
@@ -108,8 +108,8 @@ pub(crate) fn edges_told<'r>(answer: &'r Answer) -> Option<Said<'r>>
 }
 
 /// What is said of an answer that is an object, or none.
-pub(crate) fn object_told<'r>(config: &'r Config, answer: &'r Answer) -> Option<Said<'r>>
-    ensures { option_map said_value result ≡ object_told config.now answer.now }
+pub(crate) fn object_said<'r>(config: &'r Config, answer: &'r Answer) -> Option<Said<'r>>
+    ensures { option_map said_value result ≡ object_said config.now answer.now }
 {
     match answer {
         Answer::Object(object) => Some(said_object(config, object)),

@@ -19,19 +19,19 @@ use Rattle.tao_base.specs.declared.entry.Touch.{Touch}
 use Rattle.tao_base.specs.declared.id.Key.{Key}
 use Rattle.session_pass.proofs.FloorLemmas.{learns}
 use Rattle.session_pass.proofs.PassLemmas.{both_reached, own_of, reached_by_note, reached_on}
-use Rattle.session_pass.specs.Floors.{LearnsTouches, floor_at, learnt_touches, version_told, with_learnt}
+use Rattle.session_pass.specs.Floors.{LearnsTouches, floor_at, learnt_touches, version_learnt, with_learnt}
 use Rattle.session_pass.specs.Passes.{HasReached, IsNoteOf, IsPass, MeetsNote, SeenPass, after_meeting}
 
 -- ---- touches
 
-told_one : (key : Key) (t : Touch) (b : Bool) → same_key key t.key ≡ b → version_told key (t ∷ []) ≡ cond b t.version 0
-told_one key t true e = rw e (omega arith)
-told_one key t false e = rw e refl
+learnt_one : (key : Key) (t : Touch) (b : Bool) → same_key key t.key ≡ b → version_learnt key (t ∷ []) ≡ cond b t.version 0
+learnt_one key t true e = rw e (omega arith)
+learnt_one key t false e = rw e refl
 
 pub learns_one : (shard : ℕ) (t : Touch) (floors : List (Key × ℕ)) → key_shard t.key ≡ shard
     → LearnsTouches shard (t ∷ []) floors (with_learnt t.key t.version floors)
 learns_one shard t floors here = record {
-  here = λ key on. by key (same_key key t.key) refl ∙ ap (max (floor_at floors key)) (sym (told_one key t (same_key key t.key) refl));
+  here = λ key on. by key (same_key key t.key) refl ∙ ap (max (floor_at floors key)) (sym (learnt_one key t (same_key key t.key) refl));
   others = λ key off. (learns floors t.key t.version).others key (λ same. off (ap key_shard same ∙ here));
 }
   where
@@ -57,11 +57,11 @@ first_eight ts touches n is same = elim (cases_lt (length ts) 8) [
 
 -- ---- what the touches of an entry tell is reached where it stands
 
-told_below : (log : List Entry) (n : ℕ) (key : Key) (ts : List Touch) → AllByRecursion (λ t. t.version ≡ version (take n log) t.key) ts
-    → version_told key ts ≤ version log key
-told_below log n key [] all = omega arith
-told_below log n key (t ∷ ts) all = most (cond (same_key key t.key) t.version 0) (version_told key ts) (version log key) (by (same_key key t.key) refl)
-    (told_below log n key ts all.1)
+learnt_below : (log : List Entry) (n : ℕ) (key : Key) (ts : List Touch) → AllByRecursion (λ t. t.version ≡ version (take n log) t.key) ts
+    → version_learnt key ts ≤ version log key
+learnt_below log n key [] all = omega arith
+learnt_below log n key (t ∷ ts) all = most (cond (same_key key t.key) t.version 0) (version_learnt key ts) (version log key) (by (same_key key t.key) refl)
+    (learnt_below log n key ts all.1)
   where
     most : (a b m : ℕ) → a ≤ m → b ≤ m → max a b ≤ m
     most a b m p q = omega (arith, p, q)
@@ -73,11 +73,11 @@ told_below log n key (t ∷ ts) all = most (cond (same_key key t.key) t.version 
         omega (arith, here, rises)
     by false e = omega arith
 
-pub told_reached : (log : List Entry) (position : ℕ) (e : Entry) (key : Key) → IsSound log → entry_at log position ≡ Some e
-    → version_told key (learnt_touches e) ≤ version log key
-told_reached log zero e key sound at = absurd (cc (at))
-told_reached log (suc n) e key sound at =
-    told_below log (n + 1) key (take 8 e.touches) (all_take (λ t. t.version ≡ version (take (n + 1) log) t.key) 8 e.touches
+pub learnt_reached : (log : List Entry) (position : ℕ) (e : Entry) (key : Key) → IsSound log → entry_at log position ≡ Some e
+    → version_learnt key (learnt_touches e) ≤ version log key
+learnt_reached log zero e key sound at = absurd (cc (at))
+learnt_reached log (suc n) e key sound at =
+    learnt_below log (n + 1) key (take 8 e.touches) (all_take (λ t. t.version ≡ version (take (n + 1) log) t.key) 8 e.touches
     (recursion_from_All (λ t. t.version ≡ version (take (n + 1) log) t.key) e.touches (touches_tell log sound n e at).versions))
 
 pub learnt_entry : (pass : SeenPass) (shard : ℕ) (e : Entry) (note : View) (floors : List (Key × ℕ)) (spare : ℕ)
@@ -88,9 +88,9 @@ pub learnt_entry : (pass : SeenPass) (shard : ℕ) (e : Entry) (note : View) (fl
 learnt_entry pass shard e note floors spare known meets sound stands learnt keeps = record {
   reached = λ key. elim (cases_eq (key_shard key) shard) [
     | inl on ↦ subst (HasReached (after_meeting shard note pass.notes) key) (sym (learnt.here key on))
-        (both_reached (after_meeting shard note pass.notes) key (floor_at pass.floors key) (version_told key (learnt_touches e)) (stays key)
-        (reached_by_note shard note pass.notes (own_of shard note pass.notes known meets) key (version_told key (learnt_touches e)) on
-        (λ told. told_reached note.entries e.position e key (sound told) (stands told))))
+        (both_reached (after_meeting shard note pass.notes) key (floor_at pass.floors key) (version_learnt key (learnt_touches e)) (stays key)
+        (reached_by_note shard note pass.notes (own_of shard note pass.notes known meets) key (version_learnt key (learnt_touches e)) on
+        (λ told. learnt_reached note.entries e.position e key (sound told) (stands told))))
     | inr off ↦ subst (HasReached (after_meeting shard note pass.notes) key) (sym (learnt.others key off)) (stays key)
   ];
 }

@@ -36,11 +36,11 @@ abbrev pub learnt_touches : Entry → List Touch
 learnt_touches entry = take 8 entry.touches
 
 -- the greatest version that the touches tell of the key; 0 where they tell none
-abbrev pub version_told : Key → List Touch → ℕ
-version_told key [] = 0
-version_told key (t ∷ ts) = max (if same_key key t.key then t.version else 0) (version_told key ts)
+abbrev pub version_learnt : Key → List Touch → ℕ
+version_learnt key [] = 0
+version_learnt key (t ∷ ts) = max (if same_key key t.key then t.version else 0) (version_learnt key ts)
 
 -- each key of the shard now has the greater of its floor and the version that the touches tell of it, and each other floor stays
 pub record LearnsTouches (shard : ℕ) (touches : List Touch) (old new : List (Key × ℕ)) : Type 0 where
-  pub here : (key : Key) → key_shard key ≡ shard → floor_at new key ≡ max (floor_at old key) (version_told key touches)
+  pub here : (key : Key) → key_shard key ≡ shard → floor_at new key ≡ max (floor_at old key) (version_learnt key touches)
   pub others : (key : Key) → key_shard key ≢ shard → floor_at new key ≡ floor_at old key

@@ -2,7 +2,7 @@
 use Rattle.std.proofs.Common.{◌≡◌, ◌∙◌, ℕ, Bool, false, List, ap, refl, subst, sym}
 use Rattle.core_mail.specs.Inboxes.{Inboxes}
 use Rattle.core_model.specs.Fleet.{Fleet}
-use Rattle.core_plans.specs.Held.{IsOver, IsUnderWay, OpensFirst, next_stage, told_with}
+use Rattle.core_plans.specs.Held.{IsOver, IsUnderWay, OpensFirst, next_stage, learnt_with}
 use Rattle.core_plans.specs.HeldReads.{at_bound}
 use Rattle.core_plans.specs.declared.held.HeldPlan.TheVariants as of
 use Rattle.core_model.specs.Fleet.{region_of}
@@ -52,12 +52,12 @@ module _ (tells : Bool) (asked : CheckedCall) (core seen : CoreState) (own : cor
   can = subst (λ (x : CoreState). CallCanBeDone x.settings x.sessions asked) (sym own) can_seen
 
   pub answered_call : (sessions : List Session) (reply : Reply) → IsOver after reply
-      → LearnsOf after (told_with reply after) begun_sessions sessions
+      → LearnsOf after (learnt_with reply after) begun_sessions sessions
       → CallLeaves tells asked (moment seen before from) reply (moment (record core { fleet = end.fleet; mail = end.mail; states = end.topology; sessions = sessions }) now to)
   answered_call sessions reply over learnt =
       let first = opens_first tells before core core_of.is_consistent asked plan begun can in
       let goes = goes_first tells before core core_of.is_consistent asked plan begun can in
-      let learns = subst (λ xs. LearnsOf after (told_with reply after) xs sessions) same learnt in
+      let learns = subst (λ xs. LearnsOf after (learnt_with reply after) xs sessions) same learnt in
       let new : CoreState = record core { fleet = end.fleet; mail = end.mail; states = end.topology; sessions = sessions } in
       let leaves = carried_leaves tells core end before now from to plan after leader core_of.is_consistent first goes carries under on sessions reply learns in
       record {
@@ -65,7 +65,7 @@ module _ (tells : Bool) (asked : CheckedCall) (core seen : CoreState) (own : cor
             (carried_does tells core end before now from to plan after leader core_of.is_consistent first goes carries under on sessions reply leads over
             learns);
         usable = subst (λ x. StaysUsable tells before now x new) own
-            (core_goes_on tells before now core new core_of leaves refl refl (learns_stay after (told_with reply after) core.sessions sessions learns));
+            (core_goes_on tells before now core new core_of leaves refl refl (learns_stay after (learnt_with reply after) core.sessions sessions learns));
       }
 
 -- ---- refills
@@ -100,7 +100,7 @@ module _ (tells : Bool) (node : NodeName) (refill : Refill) (core seen : CoreSta
       let goes : IsSome (next_stage (of.Read read)) = subst (λ p. IsSome (next_stage p)) (sym begun) refl in
       let old = world_at core before from in
       let new = world end now to in
-      let learns = read_learns tells core.settings leader read after old new (told_with reply after) core.sessions carries in
+      let learns = read_learns tells core.settings leader read after old new (learnt_with reply after) core.sessions carries in
       let then : CoreState = record core { fleet = end.fleet; mail = end.mail; states = end.topology } in
       subst (λ x. RefillReads tells node refill (moment x before from) reply (moment then now to)) own (record {
         does = subst (λ plan. DoesAtOnce tells plan (moment core before from) reply (moment then now to)) begun

@@ -7,7 +7,7 @@ use Rattle.core_model.specs.Fleet.{Fleet}
 use Rattle.core_model.specs.Pens.{pens_of}
 use Rattle.core_model.specs.Stores.{HaveMasterRegions}
 use Rattle.core_plans.proofs.InTurn.{goes_on}
-use Rattle.core_plans.specs.Held.{HoldsAsk, IsOpenAt, IsOver, IsUnderWay, OpensFirst, OpensNone, StepsHeld, next_stage, told_with}
+use Rattle.core_plans.specs.Held.{HoldsAsk, IsOpenAt, IsOver, IsUnderWay, OpensFirst, OpensNone, StepsHeld, next_stage, learnt_with}
 use Rattle.core_plans.specs.HeldLaws.{Followers}
 use Rattle.core_plans.specs.LedBy.{LedBy, led_by}
 use Rattle.core_plans.specs.WholeCalls.{CarriesOut, PassesStages}
@@ -32,7 +32,7 @@ use Rattle.tao_core.specs.HeldCalls.{DoesAtOnce, HasRoomAlready, HasRoomFor, Hel
 use Rattle.tao_core.proofs.HeldKeeping.{stepped_core, with_sessions}
 use Rattle.tao_core.proofs.HeldLearning.{author_stays, learns_open, learns_ours, may_learn}
 use Rattle.tao_core.proofs.StayOpen.{StayOpen}
-use Rattle.core_plans.specs.declared.held.ToldEntries.{ToldEntries}
+use Rattle.core_plans.specs.declared.held.LearntEntries.{LearntEntries}
 use Rattle.tao_core.proofs.HeldOn.{none_come}
 use Rattle.tao_core.proofs.HeldSteps.{MayHold, held_after, kept, kept_may, steps_asks}
 use Rattle.tao_core.proofs.NamesOnce.{stand_alone}
@@ -49,7 +49,7 @@ room_for (Write p) passes room = λ over reply is. room
 room_for (Read p) passes room = tt
 
 -- each session that is open stays so, whatever that of a plan learns
-pub learns_stay : (plan : HeldPlan) (told : ToldEntries) (old new : List Session) → LearnsOf plan told old new → StayOpen old new
+pub learns_stay : (plan : HeldPlan) (told : LearntEntries) (old new : List Session) → LearnsOf plan told old new → StayOpen old new
 learns_stay plan told old new learns = record { stays = λ n there. learns_open plan told old new learns n ∙ there }
 
 module _ (tells : Bool) (s : Settings) (leader : NodeName) where
@@ -88,7 +88,7 @@ module _ (tells : Bool) (s : Settings) (leader : NodeName) where
       let so_far = read_then n p passes.0 old passes.1 passes.2 in
       read_by so_far.0 q passes.1 new (subst (λ m. StepsHeld Led m passes.1 q new) so_far.1 passes.3.steps)
 
-  pub read_learns : (p : Reading) (q : HeldPlan) (old new : World) (told : ToldEntries) (sessions : List Session) → CarriesOut Led (Read p) old q new
+  pub read_learns : (p : Reading) (q : HeldPlan) (old new : World) (told : LearntEntries) (sessions : List Session) → CarriesOut Led (Read p) old q new
       → LearnsOf q told sessions sessions
   read_learns p q old new told sessions carries =
       subst (λ plan. LearnsOf plan told sessions sessions) (sym (read_then carries.stages p q old new carries.passes).1) refl
@@ -180,7 +180,7 @@ module _ (tells : Bool) (core : CoreState) (end : Nodes) (before now : KeeperSta
       (room_for after passes (room_then tells core.settings leader carries.stages plan after Old New passes carries.passes room))
       (subst (All (IsSessionOf tells core.settings now.told (pens_of end.fleet.stores))) (sym same) is_mid.sessions)
 
-  pub carried_leaves : (sessions : List Session) (reply : Reply) → LearnsOf after (told_with reply after) core.sessions sessions
+  pub carried_leaves : (sessions : List Session) (reply : Reply) → LearnsOf after (learnt_with reply after) core.sessions sessions
       → LeavesCore tells before now core (record Mid { sessions = sessions })
   carried_leaves sessions reply learns = record {
     is_consistent = with_sessions tells now.told Mid core.plans sessions is_mid
@@ -192,7 +192,7 @@ module _ (tells : Bool) (core : CoreState) (end : Nodes) (before now : KeeperSta
   }
 
   pub carried_does : (sessions : List Session) (reply : Reply) → leader ≡ plan_leader core plan → IsOver after reply
-      → LearnsOf after (told_with reply after) core.sessions sessions
+      → LearnsOf after (learnt_with reply after) core.sessions sessions
       → DoesAtOnce tells plan (moment core before from) reply (moment (record Mid { sessions = sessions }) now to)
   carried_does sessions reply leads over learns = record {
     after = after;

@@ -25,14 +25,14 @@ use Rattle.core_plans.specs.Held.{
   TakesPlan,
   next_stage,
   plan_at,
-  told_with,
+  learnt_with,
 }
 use Rattle.core_plans.specs.declared.held.HeldPlan.{HeldPlan}
 use Rattle.core_plans.specs.declared.held.HeldPlan.TheVariants.{Read, Write}
 use Rattle.core_sessions.specs.Sessions.{Session}
 use Rattle.core_plans.proofs.WritesGoOn.{plan_later}
 use Rattle.core_plans.specs.LedBy.{led_by}
-use Rattle.core_steps.proofs.TellLemmas.{merges_in}
+use Rattle.core_steps.proofs.NotifyLemmas.{merges_in}
 use Rattle.core_steps.specs.World.{world}
 use Rattle.core_steps.specs.declared.nodes.Nodes.{Nodes}
 use Rattle.graph_model.proofs.Members.{if_some_at}
@@ -212,7 +212,8 @@ with_sessions tells tables core plans sessions of all = record {
 
 -- and after a step of one of them
 pub stepped_core : (tells : Bool) (tables later : Tables) (core : CoreState) (end : Nodes) (plans : Plans)
-    → IsConsistentCore tells tables core → end.topology ≡ core.states → IsConsistent tells core.settings later end.fleet → AreInboxesOf core.settings (pens_of end.fleet.stores) end.mail
+    → IsConsistentCore tells tables core → end.topology ≡ core.states → IsConsistent tells core.settings later end.fleet
+    → AreInboxesOf core.settings (pens_of end.fleet.stores) end.mail
     → WhereTold tells (HaveArrived later end.mail) → GoesOn core.fleet end.fleet → StoresGrow tells core.settings tables later
     → IsConsistentCore tells later (record core { fleet = end.fleet; mail = end.mail; states = end.topology; plans = plans })
 stepped_core tells tables later core end plans of same consistent inboxes arrived goes grows = record {
@@ -336,11 +337,11 @@ module _ (tells : Bool) (number : ℕ) (old mid : Moment) (does : DoesStage tell
               (learns_ours tells mid.core.settings mid.keepers.told mid.core.fleet After ends_after.ended mid.core.sessions sessions is.masters
               is.consistent.stores
               (subst (λ s. IsUnderWay tells s mid.keepers.told mid.core.fleet After) (sym own) here)
-              (subst (λ xs. LearnsOf After (told_with ends_after.ended After) xs sessions) (sym same) ends_after.learns) is.sessions);
+              (subst (λ xs. LearnsOf After (learnt_with ends_after.ended After) xs sessions) (sym same) ends_after.learns) is.sessions);
           plans = subst (λ s. ArePlansOf tells s mid.keepers.told mid.core.fleet later) (sym own)
               (held_then of None later mid.keepers.told is_over gone goes grows (consistent_here is own) under);
           authors = set_each number None mid.core.plans later (IsOfSession sessions) ends_after.takes.sets (λ one is. absurd (cc))
-              (λ other plan there. of_session_still After (told_with ends_after.ended After) old.core.sessions sessions plan ends_after.learns
+              (λ other plan there. of_session_still After (learnt_with ends_after.ended After) old.core.sessions sessions plan ends_after.learns
               (author_held of old.core.sessions refl other plan there));
         }
 
@@ -391,7 +392,8 @@ module _ (tells : Bool) (number : ℕ) (old mid : Moment) (does : DoesStage tell
 -- ---- a stage is done
 
 pub does_stage : (tells : Bool) (number : ℕ) (core : CoreState) (end : Nodes) (plans : Plans) (before now : KeeperState)
-    (from to : LinkShown) (plan : HeldPlan) (leader : NodeName) → end.topology ≡ core.states → IsLaterLink from to → plan_at core.plans number ≡ Some plan → leader ≡ plan_leader core plan
+    (from to : LinkShown) (plan : HeldPlan) (leader : NodeName) → end.topology ≡ core.states → IsLaterLink from to
+    → plan_at core.plans number ≡ Some plan → leader ≡ plan_leader core plan
     → StepsPlan (led_by tells core.settings leader) number core.plans (world_at core before from) plans
     (world end now to)
     → HaveMasterRegions core.settings → IsConsistent tells core.settings now.told end.fleet

@@ -16,17 +16,17 @@ use Rattle.core_plans.specs.Held.{
   learner,
   learner_at,
   next_stage,
-  nothing_told,
-  told_of_write,
-  told_with,
+  nothing_learnt,
+  learnt_of_write,
+  learnt_with,
 }
 use Rattle.core_plans.specs.HeldWrites.{DoesWriteStage, IsAnswerTo, IsWriteUnderWay, call_of_plan, way_by}
 use Rattle.core_plans.specs.declared.held.HeldPlan.{HeldPlan}
 use Rattle.core_plans.specs.declared.held.HeldPlan.TheVariants.{Read, Write}
-use Rattle.core_plans.specs.declared.held.ToldEntries.{ToldEntries}
+use Rattle.core_plans.specs.declared.held.LearntEntries.{LearntEntries}
 use Rattle.core_plans.specs.LedBy.{led_by}
 use Rattle.core_sessions.specs.Sessions.{HasRoomForBoth, Session, is_open, sessions_of}
-use Rattle.core_steps.specs.OtherEnds.{StandsThere, told_there}
+use Rattle.core_steps.specs.OtherEnds.{StandsThere, learnt_far}
 use Rattle.core_steps.specs.World.{World}
 use Rattle.core_steps.specs.Writes.{AuthoredWrite, RefusesCommit, sent_write}
 use Rattle.core_steps.specs.declared.routes.Route.{Route}
@@ -50,14 +50,14 @@ use Rattle.tao_keeper.specs.declared.jobs.Job.{Job}
 use Rattle.tao_link.specs.Shown.{LinkShown}
 use Rattle.topology.specs.Config.{Settings}
 use Rattle.write_plan.specs.Plans.{Writing, answered_job, next_of, reply_by, reply_of}
-use Rattle.write_plan.specs.Stages.{told_stage}
+use Rattle.write_plan.specs.Stages.{stage_said}
 use Rattle.write_plan.specs.declared.committed.Committed.{Committed}
 use Rattle.write_plan.specs.declared.stage.WriteStage.{WriteStage}
 use Rattle.write_plan.specs.declared.stage.WriteStage.TheVariants.{Commit, Inverse, End, Relay, Apply, Done}
-use Rattle.tao_core.specs.Calls.{LearnsBoth, told_by_note}
+use Rattle.tao_core.specs.Calls.{LearnsBoth, learn_through_note}
 use Rattle.tao_core.specs.Core.{IsOfSession, author}
 use Rattle.tao_core.specs.HeldCalls.{HasRoomFor, LearnsOf, MayLearn, MayLearnNow, MayLearnOf, learns_of}
-use Rattle.tao_core.proofs.LearningBoth.{AreOurs, AreToldOf, IsToldOf, both_open, both_ours, may_both, now_ready}
+use Rattle.tao_core.proofs.LearningBoth.{AreOurs, AreLearntOf, IsLearntOf, both_open, both_ours, may_both, now_ready}
 use Rattle.tao_core.proofs.WriteStages.{KeepsOn, end_keeps, inverse_keeps, stage_left, unrefused}
 
 -- ---- the session of a write
@@ -136,15 +136,15 @@ module _ (tells : Bool) (s : Settings) (by : NodeName) (p q : Writing) (old new 
   room_then : (at : WriteStage) → next_of p ≡ at → OpensFirst (Write p) → IsTrue (is_client p.origin) → DoesWriteStage (led_by tells s by) at p old q new
       → IfSome (learner (Write p)) (λ n. HasRoomForBoth n passes) → HasRoomFor (Write q) passes
   room_then Commit is first client (inl commits) room =
-      let some : IsSome (next_stage (Write p)) = subst (λ x. IsSome (told_stage x)) (sym is) refl in
+      let some : IsSome (next_stage (Write p)) = subst (λ x. IsSome (stage_said x)) (sym is) refl in
       left_room q passes (stage_left q commits.committed
       (ap (λ (x : Writing). x.refused) commits.then ∙ unrefused p.refused p.committed p.job p.back some)
       (ap (λ (x : Writing). x.committed) commits.then) (subst IsBefore (sym (ap (λ (x : Writing). x.back) commits.then)) first))
   room_then Commit is first client (inr refuses) room =
       refused_room q (Refused refuses.refusal) passes (ap (λ (x : Writing). x.refused) refuses.then) (λ called same. absurd (cc))
   room_then Apply is first client does room = applied_room is client room (origin_stays tells s by Apply p q old new does)
-  room_then Inverse is first client does room = kept_room (subst (λ x. IsSome (told_stage x)) (sym is) refl) first (inverse_keeps tells s by p q old new does)
-  room_then End is first client does room = kept_room (subst (λ x. IsSome (told_stage x)) (sym is) refl) first (end_keeps tells s p q old new does)
+  room_then Inverse is first client does room = kept_room (subst (λ x. IsSome (stage_said x)) (sym is) refl) first (inverse_keeps tells s by p q old new does)
+  room_then End is first client does room = kept_room (subst (λ x. IsSome (stage_said x)) (sym is) refl) first (end_keeps tells s p q old new does)
   room_then Relay is first client does room = absurd does
   room_then Done is first client does room = absurd does
 
@@ -188,37 +188,37 @@ room_given_up tells s by (Write p) (Read q) now passes still some steps = tt
 
 here_seen : (tells : Bool) (s : Settings) (tables : Tables) (f : Fleet) (p : Writing) (committed : Option Committed) → IsWriteUnderWay tells s tables f p
     → IfSome committed (IsAnswerTo s f.stores p)
-    → IfSome (option_and_then (λ c. told_by_note (write_shard p.write) c.wrote.note c.wrote.entry) committed) (IsToldOf s f.stores)
+    → IfSome (option_and_then (λ c. learn_through_note (write_shard p.write) c.wrote.note c.wrote.entry) committed) (IsLearntOf s f.stores)
 here_seen tells s tables f p None under is = tt
 here_seen tells s tables f p (Some c) under is = by c.wrote.entry is.apply.seen
   where
     by : (entry : Option Entry) → IfSome entry (IsSeenEntry (pens_of f.stores) (write_shard p.write) c.wrote.note)
-        → IfSome (told_by_note (write_shard p.write) c.wrote.note entry) (IsToldOf s f.stores)
+        → IfSome (learn_through_note (write_shard p.write) c.wrote.note entry) (IsLearntOf s f.stores)
     by None seen = tt
     by (Some e) seen = (under.follower.here, seen)
 
 there_seen : (s : Settings) (stores : List StoreSeen) (job : Option Job) (wrote : Option Wrote) → IfSome job (λ j. StandsThere s j wrote stores)
-    → IfSome (told_there job wrote) (IsToldOf s stores)
+    → IfSome (learnt_far job wrote) (IsLearntOf s stores)
 there_seen s stores None wrote stands = tt
 there_seen s stores (Some j) None stands = tt
 there_seen s stores (Some j) (Some w) stands = by w.entry stands
   where
     by : (entry : Option Entry) → IfSome entry (λ e. (far_shard j < s.shards) × IsSeenEntry (pens_of stores) (far_shard j) w.note e)
-        → IfSome (told_by_note (far_shard j) w.note entry) (IsToldOf s stores)
+        → IfSome (learn_through_note (far_shard j) w.note entry) (IsLearntOf s stores)
     by None seen = tt
     by (Some e) seen = seen
 
-plan_told : (tells : Bool) (s : Settings) (tables : Tables) (f : Fleet) (p : Writing) → IsWriteUnderWay tells s tables f p
-    → AreToldOf s f.stores (told_of_write p)
-plan_told tells s tables f p under = record {
+plan_learnt : (tells : Bool) (s : Settings) (tables : Tables) (f : Fleet) (p : Writing) → IsWriteUnderWay tells s tables f p
+    → AreLearntOf s f.stores (learnt_of_write p)
+plan_learnt tells s tables f p under = record {
   here = here_seen tells s tables f p p.committed under under.committed;
   other = there_seen s f.stores (answered_job p) p.other under.other;
 }
 
-with_told : (tells : Bool) (s : Settings) (tables : Tables) (f : Fleet) (p : Writing) (ended : Reply) → IsWriteUnderWay tells s tables f p
-    → AreToldOf s f.stores (told_with ended (Write p))
-with_told tells s tables f p (Called reply) under = plan_told tells s tables f p under
-with_told tells s tables f p ended under = record { here = tt; other = tt }
+with_learnt_of : (tells : Bool) (s : Settings) (tables : Tables) (f : Fleet) (p : Writing) (ended : Reply) → IsWriteUnderWay tells s tables f p
+    → AreLearntOf s f.stores (learnt_with ended (Write p))
+with_learnt_of tells s tables f p (Called reply) under = plan_learnt tells s tables f p under
+with_learnt_of tells s tables f p ended under = record { here = tt; other = tt }
 
 module _ (tells : Bool) (s : Settings) (tables : Tables) (f : Fleet) where
   -- the session may learn it
@@ -228,21 +228,21 @@ module _ (tells : Bool) (s : Settings) (tables : Tables) (f : Fleet) where
   may_learn (Write p) passes under found room all = record {
     author_is = found;
     room = room;
-    told = may_both tells s tables f.stores (sessions_of passes) (author p.origin) (told_of_write p) all (plan_told tells s tables f p under);
+    told = may_both tells s tables f.stores (sessions_of passes) (author p.origin) (learnt_of_write p) all (plan_learnt tells s tables f p under);
   }
 
   -- and is one of the core then
   pub learns_ours : (plan : HeldPlan) (ended : Reply) (old new : List Session) → HaveMasterRegions s
-      → AreStoresOf tells s tables f.stores → IsUnderWay tells s tables f plan → LearnsOf plan (told_with ended plan) old new
+      → AreStoresOf tells s tables f.stores → IsUnderWay tells s tables f plan → LearnsOf plan (learnt_with ended plan) old new
       → AreOurs tells s tables f.stores old
       → AreOurs tells s tables f.stores new
   learns_ours (Read p) ended old new masters stores under learns all = subst (AreOurs tells s tables f.stores) (sym learns) all
   learns_ours (Write p) ended old new masters stores under learns all =
-      both_ours tells s tables f.stores (author p.origin) (told_with ended (Write p)) old new masters stores
-      (with_told tells s tables f p ended under) learns all
+      both_ours tells s tables f.stores (author p.origin) (learnt_with ended (Write p)) old new masters stores
+      (with_learnt_of tells s tables f p ended under) learns all
 
 -- each session that is open stays so
-pub learns_open : (plan : HeldPlan) (told : ToldEntries) (old new : List Session) → LearnsOf plan told old new → (n : ℕ) → is_open new n ≡ is_open old n
+pub learns_open : (plan : HeldPlan) (told : LearntEntries) (old new : List Session) → LearnsOf plan told old new → (n : ℕ) → is_open new n ≡ is_open old n
 learns_open (Read p) told old new learns n = ap (λ xs. is_open xs n) learns
 learns_open (Write p) told old new learns n = both_open (author p.origin) told old new learns n
 
@@ -250,34 +250,34 @@ of_session_by : (old new : List Session) (plan : HeldPlan) → ((n : ℕ) → is
 of_session_by old new (Read p) same is = tt
 of_session_by old new (Write p) same is = same (author p.origin) ∙ is
 
-pub of_session_still : (ended : HeldPlan) (told : ToldEntries) (old new : List Session) (plan : HeldPlan) → LearnsOf ended told old new
+pub of_session_still : (ended : HeldPlan) (told : LearntEntries) (old new : List Session) (plan : HeldPlan) → LearnsOf ended told old new
     → IsOfSession old plan → IsOfSession new plan
 of_session_still ended told old new plan learns = of_session_by old new plan (learns_open ended told old new learns)
 
 -- ---- the end of a plan
 
 -- what is told with nothing may be learnt
-none_now : (number : ℕ) (passes : List SeenPass) → MayLearnNow number nothing_told passes
+none_now : (number : ℕ) (passes : List SeenPass) → MayLearnNow number nothing_learnt passes
 none_now number passes = record { ready = (tt, tt); may = record { here = tt; other = tt } }
 
-read_untold : (p : Reading) (reply : Reply) → told_with reply (Read p) ≡ nothing_told
+read_untold : (p : Reading) (reply : Reply) → learnt_with reply (Read p) ≡ nothing_learnt
 read_untold p (Called reply) = refl
 read_untold p reply = refl
 
 write_now : (p : Writing) (reply : Reply) (passes : List SeenPass) → next_stage (Write p) ≡ None → reply_of p ≡ Some reply → MayLearnOf p passes
-    → MayLearnNow (author p.origin) (told_with reply (Write p)) passes
-write_now p (Called reply) passes over is may = now_ready (author p.origin) (told_of_write p) passes may.author_is (may.room over reply is) may.told
+    → MayLearnNow (author p.origin) (learnt_with reply (Write p)) passes
+write_now p (Called reply) passes over is may = now_ready (author p.origin) (learnt_of_write p) passes may.author_is (may.room over reply is) may.told
 write_now p reply passes over is may = none_now (author p.origin) passes
 
 pub learns_now : (plan : HeldPlan) (reply : Reply) (passes : List SeenPass) → next_stage plan ≡ None → IsOver plan reply → MayLearn plan passes
-    → MayLearnNow (learns_of plan) (told_with reply plan) passes
+    → MayLearnNow (learns_of plan) (learnt_with reply plan) passes
 learns_now (Read p) reply passes over is may =
     subst (λ told. MayLearnNow 0 told passes) (sym (read_untold p reply)) (none_now 0 passes)
 learns_now (Write p) reply passes over is may = write_now p reply passes over is may
 
-pub learnt_of : (plan : HeldPlan) (reply : Reply) (old new : List Session) → LearnsBoth (learns_of plan) (told_with reply plan) old new
-    → LearnsOf plan (told_with reply plan) old new
+pub learnt_of : (plan : HeldPlan) (reply : Reply) (old new : List Session) → LearnsBoth (learns_of plan) (learnt_with reply plan) old new
+    → LearnsOf plan (learnt_with reply plan) old new
 learnt_of (Read p) reply old new learns =
-    let none : LearnsBoth 0 nothing_told old new = subst (λ told. LearnsBoth 0 told old new) (read_untold p reply) learns in
+    let none : LearnsBoth 0 nothing_learnt old new = subst (λ told. LearnsBoth 0 told old new) (read_untold p reply) learns in
     none.other ∙ none.here
 learnt_of (Write p) reply old new learns = learns

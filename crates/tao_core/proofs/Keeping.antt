@@ -13,7 +13,7 @@ use Rattle.core_nodes.proofs.AskLemmas.{still_consistent}
 use Rattle.core_nodes.proofs.FleetLemmas.{goes_self}
 use Rattle.core_sessions.specs.Sessions.{Session, new_session, with_session}
 use Rattle.core_sessions.specs.declared.sessions.OpenSession.{OpenSession}
-use Rattle.core_steps.proofs.TellLemmas.{arrived_grows}
+use Rattle.core_steps.proofs.NotifyLemmas.{arrived_grows}
 use Rattle.core_steps.specs.Posting.{CanPost}
 use Rattle.core_steps.specs.World.{world}
 use Rattle.graph_model.specs.Told.{WhereTold}

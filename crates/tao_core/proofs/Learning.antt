@@ -11,7 +11,7 @@ use Rattle.core_model.proofs.KeptStores.{sound_logs}
 use Rattle.core_model.specs.Stores.{AreStoresOf, HaveMasterRegions, master_log}
 use Rattle.core_sessions.specs.Sessions.{LearnsWith, Session, SessionLearns, is_open, with_changed}
 use Rattle.graph_model.specs.Log.{entry_at, version}
-use Rattle.session_pass.specs.Floors.{floor_at, learnt_touches, version_told}
+use Rattle.session_pass.specs.Floors.{floor_at, learnt_touches, version_learnt}
 use Rattle.session_pass.specs.Passes.{after_meeting}
 use Rattle.shard_log.proofs.GrowthLemmas.{entry_stays, seen-meets}
 use Rattle.shard_log.specs.View.{View, longer_view}
@@ -25,7 +25,7 @@ use Rattle.topology.specs.Config.{Settings}
 use Rattle.tao_core.specs.Core.{IsSessionOf}
 use Rattle.core_steps.proofs.ReadLemmas.{log_is}
 use Rattle.tao_core.proofs.Found.{session_is}
-use Rattle.session_pass.proofs.EntryLemmas.{told_reached}
+use Rattle.session_pass.proofs.EntryLemmas.{learnt_reached}
 
 -- ---- sessions by their numbers
 
@@ -79,20 +79,20 @@ module _ (tells : Bool) (s : Settings) (tables : Tables) (stores : List Store) (
   abbrev IsOne : Session → Type 0
   IsOne = IsSessionOf tells s tables (pens_of stores)
 
-  told_now : (key : Key) → tells ≡ true → version_told key (learnt_touches entry) ≤ version (master_log s tables shard) key
-  told_now key told =
+  learnt_now : (key : Key) → tells ≡ true → version_learnt key (learnt_touches entry) ≤ version (master_log s tables shard) key
+  learnt_now key told =
       let log = log_is tells s tables stores shard masters are here in
       let own : note.log.told ≡ true = ap (λ l. l.told) (sym seen.log_is) ∙ log.told_is ∙ told in
       let at = entry_stays note (pens_of stores shard) entry.position entry seen (stands own) in
-      told_reached (master_log s tables shard) entry.position entry key (sound_logs s tables (are.kept told) shard here).sound
+      learnt_reached (master_log s tables shard) entry.position entry key (sound_logs s tables (are.kept told) shard here).sound
       (subst (λ es. entry_at es entry.position ≡ Some entry) (log.entries_is told) at)
 
   floor_now : (old new : Session) (key : Key) → LearnsWith shard entry note old new → IsOne old → tells ≡ true
       → floor_at new.floors key ≤ version (master_log s tables (key_shard key)) key
   floor_now old new key learns is told = elim (cases_eq (key_shard key) shard) [
-    | inl on ↦ within (floor_at old.floors key) (version_told key (learnt_touches entry)) (version (master_log s tables (key_shard key)) key)
+    | inl on ↦ within (floor_at old.floors key) (version_learnt key (learnt_touches entry)) (version (master_log s tables (key_shard key)) key)
         (floor_at new.floors key) (learns.floors.here key on) (is.floors told key)
-        (subst (λ n. version_told key (learnt_touches entry) ≤ version (master_log s tables n) key) (sym on) (told_now key told))
+        (subst (λ n. version_learnt key (learnt_touches entry) ≤ version (master_log s tables n) key) (sym on) (learnt_now key told))
     | inr off ↦ subst (λ n. n ≤ version (master_log s tables (key_shard key)) key) (sym (learns.floors.others key off)) (is.floors told key)
   ]
 

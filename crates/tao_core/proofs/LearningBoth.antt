@@ -6,9 +6,9 @@ use Rattle.core_model.proofs.Places.{at_index, one_some, some_and}
 use Rattle.core_model.specs.Pens.{AreFirstNotes, IsSeen, Pens, pens_of}
 use Rattle.core_model.specs.Stores.{AreStoresOf, HaveMasterRegions}
 use Rattle.core_model.specs.Writes.{IsSeenEntry}
-use Rattle.core_plans.specs.declared.held.ToldEntries.{ToldEntries}
+use Rattle.core_plans.specs.declared.held.LearntEntries.{LearntEntries}
 use Rattle.core_sessions.specs.Sessions.{HasRoom, HasRoomForBoth, Session, SessionLearns, is_open, session_at, sessions_of, with_changed}
-use Rattle.core_steps.specs.declared.jobs.ToldEntry.{ToldEntry}
+use Rattle.core_steps.specs.declared.jobs.LearntEntry.{LearntEntry}
 use Rattle.graph_model.proofs.Members.{if_some, if_some_at}
 use Rattle.session_pass.specs.Passes.{IsNoteOf, SeenPass, after_meeting}
 use Rattle.shard_log.specs.View.{View}
@@ -16,9 +16,9 @@ use Rattle.shard_tables.specs.StoreView.{Store}
 use Rattle.tao_base.specs.declared.entry.Entry.{Entry}
 use Rattle.tao_keeper.specs.Table.{Tables}
 use Rattle.topology.specs.Config.{Settings}
-use Rattle.tao_core.specs.Calls.{LearnsBoth, LearnsTold}
+use Rattle.tao_core.specs.Calls.{LearnsBoth, LearnsThrough}
 use Rattle.tao_core.specs.Core.{IsSessionOf}
-use Rattle.tao_core.specs.HeldCalls.{MayLearnBoth, MayLearnNow, MayLearnOne, MayLearnTold}
+use Rattle.tao_core.specs.HeldCalls.{MayLearnBoth, MayLearnNow, MayLearnOne, MayLearnThrough}
 use Rattle.tao_core.proofs.Learning.{learnt_open, learnt_sessions, same_number}
 use Rattle.tao_core.proofs.Found.{session_is}
 
@@ -65,35 +65,36 @@ note_still number shard entry note old new n other learns is =
     subst (λ o. IfSome o (λ (s : Session). IsNoteOf n other s.notes)) (sym (ap (λ xs. session_at xs number) learns.is ∙ found))
     (subst (λ (s : Session). IsNoteOf n other s.notes) (sym learns.learns.rest) met)
 
-told_still : (number : ℕ) (told : Option ToldEntry) (old new : List Session) (t : ToldEntry) → LearnsTold number told old new
-    → MayLearnTold t number old → MayLearnTold t number new
-told_still number None old new t learns may = subst (MayLearnTold t number) (sym learns) may
-told_still number (Some one) old new t learns may = record {
+learnt_still : (number : ℕ) (told : Option LearntEntry) (old new : List Session) (t : LearntEntry) → LearnsThrough number told old new
+    → MayLearnThrough t number old → MayLearnThrough t number new
+learnt_still number None old new t learns may = subst (MayLearnThrough t number) (sym learns) may
+learnt_still number (Some one) old new t learns may = record {
   note = note_still number one.shard one.entry one.note old new t.shard t.note learns may.note;
   stands = may.stands;
 }
 
 -- each session that is open stays so, and no other is open
-pub told_open : (number : ℕ) (told : Option ToldEntry) (old new : List Session) → LearnsTold number told old new → (n : ℕ) → is_open new n ≡ is_open old n
-told_open number None old new learns n = ap (λ xs. is_open xs n) learns
-told_open number (Some t) old new learns n = learnt_open number t.shard t.entry t.note old new learns n
+pub learning_open : (number : ℕ) (told : Option LearntEntry) (old new : List Session) → LearnsThrough number told old new → (n : ℕ)
+    → is_open new n ≡ is_open old n
+learning_open number None old new learns n = ap (λ xs. is_open xs n) learns
+learning_open number (Some t) old new learns n = learnt_open number t.shard t.entry t.note old new learns n
 
-pub both_open : (number : ℕ) (told : ToldEntries) (old new : List Session) → LearnsBoth number told old new → (n : ℕ) → is_open new n ≡ is_open old n
+pub both_open : (number : ℕ) (told : LearntEntries) (old new : List Session) → LearnsBoth number told old new → (n : ℕ) → is_open new n ≡ is_open old n
 both_open number told old new learns n =
-    told_open number told.other learns.between new learns.other n ∙ told_open number told.here old learns.between learns.here n
+    learning_open number told.other learns.between new learns.other n ∙ learning_open number told.here old learns.between learns.here n
 
 -- ---- both are learnt
 
 -- the second may be learnt after the first
-module _ (number : ℕ) (told : ToldEntries) (passes : List SeenPass) (now : MayLearnNow number told passes) where
-  pub learns_then : (between : List SeenPass) → LearnsTold number told.here (sessions_of passes) (sessions_of between)
+module _ (number : ℕ) (told : LearntEntries) (passes : List SeenPass) (now : MayLearnNow number told passes) where
+  pub learns_then : (between : List SeenPass) → LearnsThrough number told.here (sessions_of passes) (sessions_of between)
       → (HasRoomForBoth number passes → HasRoom number between) → IfSome told.other (λ t. MayLearnOne number t between)
   learns_then between learns more = if_some (λ t. MayLearnOne number t between) told.other (λ t is.
       let ready = if_some_at _ told.other t now.ready.1 is in record {
-        author_is = told_open number told.here (sessions_of passes) (sessions_of between) learns number ∙ ready.0;
+        author_is = learning_open number told.here (sessions_of passes) (sessions_of between) learns number ∙ ready.0;
         room = more ready.1;
-        may = told_still number told.here (sessions_of passes) (sessions_of between) t learns
-            (if_some_at (λ one. MayLearnTold one number (sessions_of passes)) told.other t now.may.other is);
+        may = learnt_still number told.here (sessions_of passes) (sessions_of between) t learns
+            (if_some_at (λ one. MayLearnThrough one number (sessions_of passes)) told.other t now.may.other is);
       })
 
 any_some : {X : Type 0} (o : Option X) (P : Type 0) → P → IfSome o (λ _. P)
@@ -101,7 +102,7 @@ any_some None P h = tt
 any_some (Some x) P h = h
 
 -- a session that is open and has room may learn what it may be told
-pub now_ready : (number : ℕ) (told : ToldEntries) (passes : List SeenPass) → is_open (sessions_of passes) number ≡ true → HasRoomForBoth number passes
+pub now_ready : (number : ℕ) (told : LearntEntries) (passes : List SeenPass) → is_open (sessions_of passes) number ≡ true → HasRoomForBoth number passes
     → MayLearnBoth told number (sessions_of passes) → MayLearnNow number told passes
 now_ready number told passes found room may = record {
   ready = (any_some told.here _ (found, room), any_some told.other _ (found, room));
@@ -111,12 +112,12 @@ now_ready number told passes found room may = record {
 -- ---- what is told was seen
 
 -- the entry stands in what was seen of the log of a configured shard
-abbrev pub IsToldOf : Settings → List Store → ToldEntry → Type 0
-IsToldOf s stores t = (t.shard < s.shards) × IsSeenEntry (pens_of stores) t.shard t.note t.entry
+abbrev pub IsLearntOf : Settings → List Store → LearntEntry → Type 0
+IsLearntOf s stores t = (t.shard < s.shards) × IsSeenEntry (pens_of stores) t.shard t.note t.entry
 
-pub record AreToldOf (s : Settings) (stores : List Store) (told : ToldEntries) : Type 0 where
-  pub here : IfSome told.here (IsToldOf s stores)
-  pub other : IfSome told.other (IsToldOf s stores)
+pub record AreLearntOf (s : Settings) (stores : List Store) (told : LearntEntries) : Type 0 where
+  pub here : IfSome told.here (IsLearntOf s stores)
+  pub other : IfSome told.other (IsLearntOf s stores)
 
 own_note : (pens : Pens) (count shard : ℕ) (note : View) (notes : List View) → shard < count → AreFirstNotes pens count notes → IsSeen pens shard note
     → IsNoteOf shard note notes
@@ -132,20 +133,20 @@ module _ (tells : Bool) (s : Settings) (tables : Tables) (stores : List Store) w
 
   -- ---- the session may learn it
 
-  may_told : (sessions : List Session) (number : ℕ) (t : ToldEntry) → AreOurs sessions → IsToldOf s stores t → MayLearnTold t number sessions
-  may_told sessions number t all is = record {
+  may_learn_one : (sessions : List Session) (number : ℕ) (t : LearntEntry) → AreOurs sessions → IsLearntOf s stores t → MayLearnThrough t number sessions
+  may_learn_one sessions number t all is = record {
     note = if_some (λ (o : Session). IsNoteOf t.shard t.note o.notes) (session_at sessions number) (λ session found.
         own_note (pens_of stores) s.shards t.shard t.note session.notes is.0
         (session_is (IsSessionOf tells s tables (pens_of stores)) sessions number session all found).notes is.1.seen);
     stands = is.1.stands;
   }
 
-  may_any : (sessions : List Session) (number : ℕ) (told : Option ToldEntry) → AreOurs sessions → IfSome told (IsToldOf s stores)
-      → IfSome told (λ t. MayLearnTold t number sessions)
-  may_any sessions number told all are = if_some (λ t. MayLearnTold t number sessions) told
-      (λ t is. may_told sessions number t all (if_some_at (IsToldOf s stores) told t are is))
+  may_any : (sessions : List Session) (number : ℕ) (told : Option LearntEntry) → AreOurs sessions → IfSome told (IsLearntOf s stores)
+      → IfSome told (λ t. MayLearnThrough t number sessions)
+  may_any sessions number told all are = if_some (λ t. MayLearnThrough t number sessions) told
+      (λ t is. may_learn_one sessions number t all (if_some_at (IsLearntOf s stores) told t are is))
 
-  pub may_both : (sessions : List Session) (number : ℕ) (told : ToldEntries) → AreOurs sessions → AreToldOf s stores told
+  pub may_both : (sessions : List Session) (number : ℕ) (told : LearntEntries) → AreOurs sessions → AreLearntOf s stores told
       → MayLearnBoth told number sessions
   may_both sessions number told all are = record {
     here = may_any sessions number told.here all are.here;
@@ -154,15 +155,16 @@ module _ (tells : Bool) (s : Settings) (tables : Tables) (stores : List Store) w
 
   -- ---- it is one of the core then
 
-  told_ours : (number : ℕ) (told : Option ToldEntry) (old new : List Session) → HaveMasterRegions s
-      → AreStoresOf tells s tables stores → IfSome told (IsToldOf s stores)
-      → LearnsTold number told old new → AreOurs old → AreOurs new
-  told_ours number None old new masters kept are learns all = subst AreOurs (sym learns) all
-  told_ours number (Some t) old new masters kept are learns all =
+  learnt_ours : (number : ℕ) (told : Option LearntEntry) (old new : List Session) → HaveMasterRegions s
+      → AreStoresOf tells s tables stores → IfSome told (IsLearntOf s stores)
+      → LearnsThrough number told old new → AreOurs old → AreOurs new
+  learnt_ours number None old new masters kept are learns all = subst AreOurs (sym learns) all
+  learnt_ours number (Some t) old new masters kept are learns all =
       learnt_sessions tells s tables stores number t.shard t.entry t.note masters kept are.0 are.1.seen are.1.stands old new learns all
 
-  pub both_ours : (number : ℕ) (told : ToldEntries) (old new : List Session) → HaveMasterRegions s → AreStoresOf tells s tables stores → AreToldOf s stores told
+  pub both_ours : (number : ℕ) (told : LearntEntries) (old new : List Session) → HaveMasterRegions s → AreStoresOf tells s tables stores
+      → AreLearntOf s stores told
       → LearnsBoth number told old new → AreOurs old → AreOurs new
   both_ours number told old new masters kept are learns all =
-      told_ours number told.other learns.between new masters kept are.other learns.other
-      (told_ours number told.here old learns.between masters kept are.here learns.here all)
+      learnt_ours number told.other learns.between new masters kept are.other learns.other
+      (learnt_ours number told.here old learns.between masters kept are.here learns.here all)

@@ -23,7 +23,7 @@ use Rattle.core_nodes.specs.declared.settling.SettleStop.{SettleStop}
 use Rattle.core_nodes.specs.declared.settling.SettleStop.TheVariants as stop
 use Rattle.core_plans.proofs.AsksHeld.{same_opens_none}
 use Rattle.core_plans.specs.Held.{OpensNone, is_open_ask}
-use Rattle.core_steps.proofs.TellLemmas.{arrived_grows}
+use Rattle.core_steps.proofs.NotifyLemmas.{arrived_grows}
 use Rattle.core_steps.specs.World.{World, world}
 use Rattle.core_steps.specs.declared.nodes.Nodes.{Nodes}
 use Rattle.core_repairs.specs.Repairs.{IsNotRepaired, RepairsFirst, RunsAll, StopsRepair, StopsRun}
@@ -141,7 +141,8 @@ pub record SettleLeaves (tells : Bool) (Says : Moment → Moment → Type 0) (ol
 module _ (tells : Bool) (core seen : CoreState) (own : core ≡ seen) (before ran : KeeperState) (from to : LinkShown) (end : Nodes)
     (still_up : end.topology ≡ core.states)
     (of_seen : IsConsistentCore tells before.told seen) (consistent : IsConsistent tells core.settings ran.told end.fleet)
-    (inboxes : AreInboxesOf core.settings (pens_of end.fleet.stores) end.mail) (arrived : WhereTold tells (HaveArrived ran.told end.mail)) (goes : GoesOn core.fleet end.fleet)
+    (inboxes : AreInboxesOf core.settings (pens_of end.fleet.stores) end.mail) (arrived : WhereTold tells (HaveArrived ran.told end.mail))
+    (goes : GoesOn core.fleet end.fleet)
     (caches : end.fleet ≡ record core.fleet { stores = end.fleet.stores }) (grows : StoresGrow tells core.settings before.told ran.told)
     (later : IsLater before ran) where
   abbrev start : World
@@ -155,7 +156,8 @@ module _ (tells : Bool) (core seen : CoreState) (own : core ≡ seen) (before ra
 
   -- as its callers see the core
   leaves_so : (Says : Moment → Moment → Type 0) (now : KeeperState) (last : LinkShown) (next : Fleet) (left : Inboxes)
-      → Says (moment core before from) (moment (left_core core end.topology next left) now last) → LeavesCore tells before now core (left_core core end.topology next left)
+      → Says (moment core before from) (moment (left_core core end.topology next left) now last)
+      → LeavesCore tells before now core (left_core core end.topology next left)
       → SettleLeaves tells Says (moment seen before from) (moment (left_core core end.topology next left) now last)
   leaves_so Says now last next left says leaves =
       subst (λ x. SettleLeaves tells Says (moment x before from) (moment (left_core core end.topology next left) now last)) own
@@ -216,7 +218,8 @@ module _ (tells : Bool) (core seen : CoreState) (own : core ≡ seen) (before ra
       on_from : AllProcessOn tells core.settings end.topology now.told end.fleet next
       on_from = subst (λ f. AllProcessOn tells core.settings end.topology now.told f next) fleet_is on
 
-      caught_along : (left : Inboxes) → (AreInboxesOf core.settings (pens_of end.fleet.stores) end.mail → AreInboxesOf core.settings (pens_of end.fleet.stores) left)
+      caught_along : (left : Inboxes) → (AreInboxesOf core.settings (pens_of end.fleet.stores) end.mail
+          → AreInboxesOf core.settings (pens_of end.fleet.stores) left)
           → WhereTold tells (HaveArrived now.told left) → LeavesCore tells before now core (left_core core end.topology next left)
       caught_along left stays arrives =
           let held = held_on core.fleet same next read_along.on (record {
@@ -244,7 +247,8 @@ module _ (tells : Bool) (core seen : CoreState) (own : core ≡ seen) (before ra
         link = reads.link;
         on = on_from;
         rest = refl;
-      }))) (caught_along end.mail (λ are. are) (arrived_grows tells mid.told now.told end.mail (growing_laws.stays tells mid.told now.told reads.tables) arrived_mid))
+      }))) (caught_along end.mail (λ are. are) (arrived_grows tells mid.told now.told end.mail
+          (growing_laws.stays tells mid.told now.told reads.tables) arrived_mid))
 
       -- what is so of the tables once jobs were run is so at the end
       at_the_end : (P : Tables → Type 0) → tells ≡ true → P ran.told → P now.told

@@ -9,7 +9,7 @@ use Rattle.core_model.specs.Pens.{Pens, pens_of}
 use Rattle.core_model.specs.Serving.{IsFollowerFor, IsLeaderFor, IsLeaderIn}
 use Rattle.core_model.specs.Stores.{master_of}
 use Rattle.core_sessions.specs.Sessions.{Session, session_at, with_session}
-use Rattle.core_steps.proofs.TellLemmas.{merges_in}
+use Rattle.core_steps.proofs.NotifyLemmas.{merges_in}
 use Rattle.session_pass.specs.Floors.{floor_at}
 use Rattle.std.specs.Option.{option_map}
 use Rattle.tao_base.specs.declared.id.Key.{Key}

@@ -15,14 +15,14 @@ use Rattle.shard_tables.specs.declared.writes.Wrote.{Wrote}
 use Rattle.tao_keeper.specs.declared.jobs.Job.{Job}
 use Rattle.topology.specs.Config.{Settings}
 use Rattle.write_plan.specs.Plans.{Writing, after_stage, back_stage, job_stage, next_of, stage_from as stage_by, written_there}
-use Rattle.write_plan.specs.Stages.{told_stage}
+use Rattle.write_plan.specs.Stages.{stage_said}
 use Rattle.write_plan.specs.declared.committed.Committed.{Committed}
 use Rattle.write_plan.specs.declared.progress.OtherEnd.{OtherEnd}
 use Rattle.write_plan.specs.declared.progress.OtherEnd.TheVariants.{Due, Merged, Ended, Open}
 use Rattle.write_plan.specs.declared.progress.WayBack.{WayBack}
 use Rattle.write_plan.specs.declared.progress.WayBack.TheVariants.{Ahead, Relayed, Applied}
-use Rattle.write_plan.specs.declared.results.Late.{Late}
-use Rattle.write_plan.specs.declared.results.Late.TheVariants.{Scheduled, Refused}
+use Rattle.write_plan.specs.declared.results.LeftOpen.{LeftOpen}
+use Rattle.write_plan.specs.declared.results.LeftOpen.TheVariants.{Scheduled, Refused}
 use Rattle.write_plan.specs.declared.results.WriteResult.TheVariants as came
 use Rattle.write_plan.specs.declared.stage.WriteStage.TheVariants.{Apply}
 
@@ -45,13 +45,13 @@ module _ (tells : Bool) (s : Settings) (old new : World) (p q : Writing) (hops :
     back = ap (λ (x : Writing). x.back) is;
   }
 
-  merged_keeps : (way : JobWay) (result : Result Wrote Late) → MergesOver tells s way result old new → q ≡ after_stage p (came.Inverse result) hops
+  merged_keeps : (way : JobWay) (result : Result Wrote LeftOpen) → MergesOver tells s way result old new → q ≡ after_stage p (came.Inverse result) hops
       → KeepsAnswer p q
   merged_keeps way (Ok wrote) merges is = keeps_answer Merged (written_there p.other (Some wrote)) (hops_after p.hops hops) is
   merged_keeps way (Err (Scheduled why wrote)) merges is = keeps_answer (Open why) (written_there p.other wrote) (hops_after p.hops hops) is
   merged_keeps way (Err (Refused reply)) merges is = absurd merges
 
-  ended_keeps : (j : ShardJob) (result : Result ⊤ Late) → EndsOver tells s j result old new → q ≡ after_stage p (came.End result) hops → KeepsAnswer p q
+  ended_keeps : (j : ShardJob) (result : Result ⊤ LeftOpen) → EndsOver tells s j result old new → q ≡ after_stage p (came.End result) hops → KeepsAnswer p q
   ended_keeps j (Ok done) ends is = keeps_answer Ended p.other (hops_after p.hops hops) is
   ended_keeps j (Err (Scheduled why wrote)) ends is = keeps_answer (Open why) (written_there p.other wrote) (hops_after p.hops hops) is
   ended_keeps j (Err (Refused reply)) ends is = absurd ends
@@ -84,11 +84,11 @@ end_keeps tells s p q old new ends =
 
 -- a plan with a stage left wasn't refused
 pub unrefused : (refused : Option Reply) (committed : Option Committed) (job : OtherEnd) (back : WayBack)
-    → IsSome (told_stage (stage_by refused committed job back)) → refused ≡ None
+    → IsSome (stage_said (stage_by refused committed job back)) → refused ≡ None
 unrefused None committed job back some = refl
 unrefused (Some reply) committed job back some = absurd (cc)
 
-back_left : (passed : Option NodeName) (back : WayBack) → IsBefore back → IsSome (told_stage (back_stage passed back))
+back_left : (passed : Option NodeName) (back : WayBack) → IsBefore back → IsSome (stage_said (back_stage passed back))
 back_left None Ahead before = refl
 back_left (Some leader) Ahead before = refl
 back_left None Relayed before = refl
@@ -96,7 +96,7 @@ back_left (Some leader) Relayed before = refl
 back_left passed Applied before = absurd before
 
 job_left : (o : Option Job) (passed : Option NodeName) (job : OtherEnd) (back : WayBack) → IsBefore back
-    → IsSome (told_stage (unwrap_or (option_and_then (λ _. job_stage job) o) (back_stage passed back)))
+    → IsSome (stage_said (unwrap_or (option_and_then (λ _. job_stage job) o) (back_stage passed back)))
 job_left None passed job back before = back_left passed back before
 job_left (Some j) passed Due back before = refl
 job_left (Some j) passed Merged back before = refl
@@ -106,16 +106,16 @@ job_left (Some j) passed (Open why) back before = back_left passed back before
 -- one whose commit was answered has a stage left, until its way back is done
 pub stage_left : (q : Writing) (c : Committed) → q.refused ≡ None → q.committed ≡ Some c → IsBefore q.back → IsSome (next_stage (Write q))
 stage_left q c none is before =
-    subst (λ r. IsSome (told_stage (stage_by r q.committed q.job q.back))) (sym none)
-    (subst (λ o. IsSome (told_stage (stage_by None o q.job q.back))) (sym is) (job_left c.wrote.job c.passed q.job q.back before))
+    subst (λ r. IsSome (stage_said (stage_by r q.committed q.job q.back))) (sym none)
+    (subst (λ o. IsSome (stage_said (stage_by None o q.job q.back))) (sym is) (job_left c.wrote.job c.passed q.job q.back before))
 
-back_over : (passed : Option NodeName) → told_stage (back_stage passed Applied) ≡ None
+back_over : (passed : Option NodeName) → stage_said (back_stage passed Applied) ≡ None
 back_over None = refl
 back_over (Some leader) = refl
 
 job_over : (o : Option Job) (passed : Option NodeName) (job : OtherEnd) (back : WayBack)
     → unwrap_or (option_and_then (λ _. job_stage job) o) (back_stage passed back) ≡ Apply
-    → told_stage (unwrap_or (option_and_then (λ _. job_stage job) o) (back_stage passed Applied)) ≡ None
+    → stage_said (unwrap_or (option_and_then (λ _. job_stage job) o) (back_stage passed Applied)) ≡ None
 job_over None passed job back at = back_over passed
 job_over (Some j) passed Due back at = absurd (cc)
 job_over (Some j) passed Merged back at = absurd (cc)
@@ -123,7 +123,7 @@ job_over (Some j) passed Ended back at = back_over passed
 job_over (Some j) passed (Open why) back at = back_over passed
 
 over_by : (refused : Option Reply) (committed : Option Committed) (job : OtherEnd) (back : WayBack) → stage_by refused committed job back ≡ Apply
-    → told_stage (stage_by refused committed job Applied) ≡ None
+    → stage_said (stage_by refused committed job Applied) ≡ None
 over_by (Some reply) committed job back at = refl
 over_by None None job back at = absurd (cc)
 over_by None (Some c) job back at = job_over c.wrote.job c.passed job back at

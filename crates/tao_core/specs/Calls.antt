@@ -3,10 +3,10 @@ use Rattle.std.specs.Prelude.{ℕ, ◌≡◌, ◌≤◌, ⊤, Bool, List, Option
 use Rattle.std.specs.Option.{option_map}
 use Rattle.core_model.specs.Fleet.{IsFirstAt, named}
 use Rattle.core_model.specs.Stores.{master_log}
-use Rattle.core_plans.specs.declared.held.ToldEntries.{ToldEntries}
+use Rattle.core_plans.specs.declared.held.LearntEntries.{LearntEntries}
 use Rattle.core_sessions.specs.Sessions.{Session, SessionLearns}
 use Rattle.core_steps.specs.World.{World, world_with}
-use Rattle.core_steps.specs.declared.jobs.ToldEntry.{ToldEntry}
+use Rattle.core_steps.specs.declared.jobs.LearntEntry.{LearntEntry}
 use Rattle.follower_cache.specs.Seen.{FollowerState}
 use Rattle.graph_model.specs.Log.{version}
 use Rattle.graph_model.specs.Told.{WhereTold}
@@ -49,16 +49,16 @@ KeptReaches tells s name query reply new = ⊤
 -- ---- what is learnt
 
 -- the session of that number learns the entry of a shard's log that it is told, where there is one, and nothing else is learnt
-abbrev pub LearnsTold : ℕ → Option ToldEntry → List Session → List Session → Type 0
-LearnsTold number None old new = new ≡ old
-LearnsTold number (Some t) old new = SessionLearns number t.shard t.entry t.note old new
+abbrev pub LearnsThrough : ℕ → Option LearntEntry → List Session → List Session → Type 0
+LearnsThrough number None old new = new ≡ old
+LearnsThrough number (Some t) old new = SessionLearns number t.shard t.entry t.note old new
 
 -- the session of that number learns what a write wrote: first the entry of the write, and then the one at the other end
-pub record LearnsBoth (number : ℕ) (told : ToldEntries) (old new : List Session) : Type 0 where
+pub record LearnsBoth (number : ℕ) (told : LearntEntries) (old new : List Session) : Type 0 where
   pub between : List Session
-  pub here : LearnsTold number told.here old between
-  pub other : LearnsTold number told.other between new
+  pub here : LearnsThrough number told.here old between
+  pub other : LearnsThrough number told.other between new
 
 -- an entry of a shard's log, as it is told by a note
-abbrev pub told_by_note : ℕ → View → Option Entry → Option ToldEntry
-told_by_note shard note entry = option_map (λ e. record { shard = shard; entry = e; note = note }) entry
+abbrev pub learn_through_note : ℕ → View → Option Entry → Option LearntEntry
+learn_through_note shard note entry = option_map (λ e. record { shard = shard; entry = e; note = note }) entry

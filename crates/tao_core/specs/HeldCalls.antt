@@ -4,16 +4,16 @@ use Rattle.session_pass.specs.Passes.{IsNoteOf, SeenPass}
 use Rattle.graph_model.specs.Log.{entry_at}
 use Rattle.graph_model.specs.Told.{WhereTold}
 use Rattle.core_nodes.specs.Settling.{IsLaterLink}
-use Rattle.core_plans.specs.Held.{AddsPlan, ChangesPlan, IsOver, Plans, StepsHeld, StepsPlan, TakesPlan, next_stage, plan_at, told_of_write, told_with}
+use Rattle.core_plans.specs.Held.{AddsPlan, ChangesPlan, IsOver, Plans, StepsHeld, StepsPlan, TakesPlan, next_stage, plan_at, learnt_of_write, learnt_with}
 use Rattle.core_plans.specs.HeldReads.{at_bound}
 use Rattle.core_plans.specs.declared.held.HeldPlan.{HeldPlan}
 use Rattle.core_plans.specs.declared.held.HeldPlan.TheVariants as of
-use Rattle.core_plans.specs.declared.held.ToldEntries.{ToldEntries}
+use Rattle.core_plans.specs.declared.held.LearntEntries.{LearntEntries}
 use Rattle.core_plans.specs.LedBy.{led_by}
 use Rattle.core_plans.specs.WholeCalls.{CarriesOut}
 use Rattle.core_sessions.specs.Sessions.{HasRoom, HasRoomForBoth, Session, is_open, session_at, sessions_of}
 use Rattle.core_steps.specs.World.{World}
-use Rattle.core_steps.specs.declared.jobs.ToldEntry.{ToldEntry}
+use Rattle.core_steps.specs.declared.jobs.LearntEntry.{LearntEntry}
 use Rattle.node_name.specs.declared.NodeName.{NodeName}
 use Rattle.read_plan.specs.Ends.{EndsWith}
 use Rattle.read_plan.specs.Readings.{new_reading}
@@ -70,12 +70,12 @@ abbrev pub held_in : CoreState → Held
 held_in core = held_seen core.plans core.sessions
 
 -- the reply of a plan that is over: that of its call, with the plan's number, or its refusal
-abbrev pub told_with_number : ℕ → Reply → Reply
-told_with_number number (Called reply) = replied.Plan (Ended number reply)
-told_with_number number reply = reply
+abbrev pub numbered_reply : ℕ → Reply → Reply
+numbered_reply number (Called reply) = replied.Plan (Ended number reply)
+numbered_reply number reply = reply
 
 -- the session of a write learns what is told with its reply
-abbrev pub LearnsOf : HeldPlan → ToldEntries → List Session → List Session → Type 0
+abbrev pub LearnsOf : HeldPlan → LearntEntries → List Session → List Session → Type 0
 LearnsOf (of.Write p) told old new = LearnsBoth (author p.origin) told old new
 LearnsOf (of.Read p) told old new = new ≡ old
 
@@ -91,27 +91,27 @@ HasRoomAlready (of.Write p) passes = HasRoomForBoth (author p.origin) passes
 HasRoomAlready (of.Read p) passes = ⊤
 
 -- what is told of a shard's log stands in what was seen of that, and the session of that number may learn it
-pub record MayLearnTold (told : ToldEntry) (number : ℕ) (sessions : List Session) : Type 0 where
+pub record MayLearnThrough (told : LearntEntry) (number : ℕ) (sessions : List Session) : Type 0 where
   pub note : IfSome (session_at sessions number) (λ s. IsNoteOf told.shard told.note s.notes)
   pub stands : WhereTold told.note.log.told (entry_at told.note.entries told.entry.position ≡ Some told.entry)
 
 -- each of the entries that a write tells stands in what was seen, and the session of that number may learn it
-pub record MayLearnBoth (told : ToldEntries) (number : ℕ) (sessions : List Session) : Type 0 where
-  pub here : IfSome told.here (λ t. MayLearnTold t number sessions)
-  pub other : IfSome told.other (λ t. MayLearnTold t number sessions)
+pub record MayLearnBoth (told : LearntEntries) (number : ℕ) (sessions : List Session) : Type 0 where
+  pub here : IfSome told.here (λ t. MayLearnThrough t number sessions)
+  pub other : IfSome told.other (λ t. MayLearnThrough t number sessions)
 
 -- where anything is told, it is so
-abbrev pub IfTold : ToldEntries → Type 0 → Type 0
+abbrev pub IfTold : LearntEntries → Type 0 → Type 0
 IfTold told P = IfSome told.here (λ _. P) × IfSome told.other (λ _. P)
 
 -- the session of that number is open, and has room for an entry that it may learn
-pub record MayLearnOne (number : ℕ) (told : ToldEntry) (passes : List SeenPass) : Type 0 where
+pub record MayLearnOne (number : ℕ) (told : LearntEntry) (passes : List SeenPass) : Type 0 where
   pub author_is : is_open (sessions_of passes) number ≡ true
   pub room : HasRoom number passes
-  pub may : MayLearnTold told number (sessions_of passes)
+  pub may : MayLearnThrough told number (sessions_of passes)
 
 -- the session of that number is open, and has room for both entries that a write tells, where it tells any
-pub record MayLearnNow (number : ℕ) (told : ToldEntries) (passes : List SeenPass) : Type 0 where
+pub record MayLearnNow (number : ℕ) (told : LearntEntries) (passes : List SeenPass) : Type 0 where
   pub ready : IfTold told ((is_open (sessions_of passes) number ≡ true) × HasRoomForBoth number passes)
   pub may : MayLearnBoth told number (sessions_of passes)
 
@@ -119,7 +119,7 @@ pub record MayLearnNow (number : ℕ) (told : ToldEntries) (passes : List SeenPa
 pub record MayLearnOf (p : Writing) (passes : List SeenPass) : Type 0 where
   pub author_is : is_open (sessions_of passes) (author p.origin) ≡ true
   pub room : HasRoomFor (of.Write p) passes
-  pub told : MayLearnBoth (told_of_write p) (author p.origin) (sessions_of passes)
+  pub told : MayLearnBoth (learnt_of_write p) (author p.origin) (sessions_of passes)
 
 -- the session of a held plan may learn what the plan tells; a read teaches nothing
 abbrev pub MayLearn : HeldPlan → List SeenPass → Type 0
@@ -135,9 +135,9 @@ learns_of (of.Read p) = 0
 pub record EndsPlan (number : ℕ) (plan : HeldPlan) (old : Held) (reply : Reply) (new : Held) : Type 0 where
   pub ended : Reply
   pub over : IsOver plan ended
-  pub told : reply ≡ told_with_number number ended
+  pub told : reply ≡ numbered_reply number ended
   pub takes : TakesPlan number old.plans new.plans
-  pub learns : LearnsOf plan (told_with ended plan) old.sessions new.sessions
+  pub learns : LearnsOf plan (learnt_with ended plan) old.sessions new.sessions
 
 -- a plan that did a stage is held before the stage that follows, which is told
 pub record GoesOnHeld (next : Reply) (number : ℕ) (plan : HeldPlan) (old : Held) (reply : Reply) (new : Held) : Type 0 where
@@ -271,7 +271,7 @@ pub record DoesAtOnce (tells : Bool) (plan : HeldPlan) (old : Moment) (reply : R
   pub carries : CarriesOut (led_by tells old.core.settings (plan_leader old.core plan)) plan (world_of old) after (world_of new)
   pub over : IsOver after reply
   pub reaches : HeldReaches tells old.core.settings after (world_of new)
-  pub learns : LearnsOf after (told_with reply after) old.core.sessions new.core.sessions
+  pub learns : LearnsOf after (learnt_with reply after) old.core.sessions new.core.sessions
   pub link : IsLaterLink old.link new.link
   pub rest : new.core ≡ record old.core { fleet = new.core.fleet; mail = new.core.mail; sessions = new.core.sessions }
 

@@ -1,7 +1,7 @@
 //! Calls: the plan of a call is begun, and carried out at once or held.
 ghost use Rattle.tao_base.specs.declared.entry.Origin.TheVariants.{Client};
 ghost use Rattle.std.specs.Prelude.{◌≡◌, IfErr, IfOk, IsSomeAnd, IsTrue, None, OnOk, true};
-ghost use Rattle.core_plans.specs.Held.{IsOver, next_stage, told_with};
+ghost use Rattle.core_plans.specs.Held.{IsOver, next_stage, learnt_with};
 ghost use Rattle.core_sessions.specs.Sessions.{Session, is_open, opening_of, session_at, sessions_of};
 ghost use Rattle.tao_core.specs.Asked.{CallCanBeDone};
 ghost use Rattle.tao_core.specs.Core.{IsCoreOf, StaysUsable, author, moment};
@@ -161,7 +161,7 @@ pub(crate) fn finish_plan(sessions: &mut Sessions, plan: HeldPlan) -> Reply
     requires over { next_stage plan ≡ None }
     requires may { MayLearn plan sessions.old }
     ensures over { IsOver plan result }
-    ensures learns { LearnsOf plan (told_with result plan) (sessions_of sessions.old) (sessions_of sessions.new) }
+    ensures learns { LearnsOf plan (learnt_with result plan) (sessions_of sessions.old) (sessions_of sessions.new) }
 {
     let session = learns_of(&plan);
     let EndedPlan { reply, told } = plan.finish();

@@ -8,7 +8,7 @@ ghost use Rattle.core_steps.specs.World.{world};
 ghost use Rattle.tao_core.specs.Asked.{CallCanBeDone, PlanCanBeDone};
 ghost use Rattle.tao_core.specs.Core.{IsCoreOf, IsOfSession, StaysUsable, author, moment};
 ghost use Rattle.tao_core.specs.HeldCalls.{AnswersHold, AnswersPlan, EndsPlan, HasRoomFor, MayLearn, StepsAt};
-ghost use Rattle.tao_core.specs.HeldCalls.{held_seen, next_at, plan_leader, told_with_number};
+ghost use Rattle.tao_core.specs.HeldCalls.{held_seen, next_at, plan_leader, numbered_reply};
 
 use crate::calls::{begin_plan, finish_plan};
 use crate::serving::Core;
@@ -25,8 +25,8 @@ use topology::Config;
 use words::PlanWord;
 
 /// The reply of a plan that is over.
-fn told_by(number: u32, reply: Reply) -> Reply
-    ensures { result ≡ told_with_number number reply }
+fn notified_by(number: u32, reply: Reply) -> Reply
+    ensures { result ≡ numbered_reply number reply }
 {
     match reply {
         Reply::Called(reply) => Reply::Plan(PlanReply::Ended {
@@ -53,7 +53,7 @@ fn end_plan(plans: &mut HeldPlans, sessions: &mut Sessions, number: u32) -> Repl
         EndsPlan number plan (held_seen plans.old (sessions_of sessions.old)) result (held_seen plans.new (sessions_of sessions.new))) }
 {
     match plans.take(number) {
-        Some(plan) => told_by(number, finish_plan(sessions, plan)),
+        Some(plan) => notified_by(number, finish_plan(sessions, plan)),
         None => unreachable!(),
     }
 }

@@ -10,19 +10,19 @@ use Rattle.graph_model.proofs.Members.{All-from_in, All-in}
 use Rattle.write_model.proofs.SameLogs.{same_logs_keep}
 use Rattle.write_model.specs.CoverLaws.{EndsKeep}
 use Rattle.graph_model.specs.Records.{HasStamp}
-use Rattle.write_model.specs.Merges.{AreThere, HasJob, Owed, OwesOpenly, Stores, job_of, log_of}
+use Rattle.write_model.specs.Merges.{AreThere, HasJob, JobSource, OwesOpenly, Stores, job_of, log_of}
 use Rattle.graph_model.specs.Log.{entry_at}
 use Rattle.graph_model.specs.Soundness.{EdgeUpdate}
 use Rattle.write_model.specs.Steps.{AreSoundAndCovered, EndsJob}
 
 -- a job of which all is at the shard that its records lie on
-pub job_there : (types : EdgeTypes) (log : ℕ → List Entry) (owed : Owed) → All (λ u. shard_of u.0 ≡ owed.other) (job_of types owed.entry)
+pub job_there : (types : EdgeTypes) (log : ℕ → List Entry) (owed : JobSource) → All (λ u. shard_of u.0 ≡ owed.other) (job_of types owed.entry)
     → HasJob types (log owed.other) owed.entry → AreThere log (job_of types owed.entry)
 job_there types log owed there done = All-from_in (λ u. HasStamp (log (shard_of u.0)) u) (job_of types owed.entry) (λ u k.
     subst (λ s. HasStamp (log s) u) (sym (All-in (λ w. shard_of w.0 ≡ owed.other) (job_of types owed.entry) u there k))
     (All-in (HasStamp (log owed.other)) (job_of types owed.entry) u done k))
 
-module _ (types : EdgeTypes) (old new : Stores) (owed : Owed) (was : AreSoundAndCovered types old) (h : EndsJob types old new owed) where
+module _ (types : EdgeTypes) (old new : Stores) (owed : JobSource) (was : AreSoundAndCovered types old) (h : EndsJob types old new owed) where
   abbrev position : ℕ
   position = owed.entry.position
 

@@ -20,19 +20,19 @@ use Rattle.write_model.proofs.WrittenRecords.{first_of, job_source}
 use Rattle.write_model.specs.CoverLaws.{MergesKeep}
 use Rattle.write_model.specs.Machine.{Merges}
 use Rattle.write_model.specs.MergeLaws.{IsMergeable}
-use Rattle.write_model.specs.Merges.{AreThere, HasJob, IsMergeAt, IsWritten, Owed, Stores, entries_ever, job_of, log_of, merge_entry, number_in, owed_number}
+use Rattle.write_model.specs.Merges.{AreThere, HasJob, IsMergeAt, IsWritten, JobSource, Stores, entries_ever, job_of, log_of, merge_entry, number_in, source_number}
 use Rattle.graph_model.specs.Log.{entry_at}
 use Rattle.graph_model.specs.Records.{HasStamp, is_news}
 use Rattle.graph_model.specs.Soundness.{EdgeUpdate, other_end, updates_of}
 use Rattle.write_model.specs.Steps.{AreSound, AreSoundAndCovered, IsOwed, MergesJob}
 
 -- what a merge leaves
-record IsLeft (types : EdgeTypes) (new : Stores) (owed : Owed) : Type 0 where
+record IsLeft (types : EdgeTypes) (new : Stores) (owed : JobSource) : Type 0 where
   kept : AreSoundAndCovered types new
   owes : IsOwed types new owed
   done : HasJob types (log_of new.logs owed.other) owed.entry
 
-module _ (types : EdgeTypes) (old new : Stores) (owed : Owed) (match : InversesMatch types) (was : AreSoundAndCovered types old)
+module _ (types : EdgeTypes) (old new : Stores) (owed : JobSource) (match : InversesMatch types) (was : AreSoundAndCovered types old)
     (h : MergesJob types old new owed) where
   abbrev e : Entry
   e = owed.entry
@@ -98,9 +98,9 @@ module _ (types : EdgeTypes) (old new : Stores) (owed : Owed) (match : InversesM
     merge_at : (from number : ℕ) → m.merged.origin ≡ Merge from number
         → ∥ IsMergeAt types (log_of new.logs from) (old.epochs.of from) (take (length log + 1) (log_of new.logs owed.other)) m.merged number ∥₁
     merge_at from number origin =
-        let same : Merge owed.shard (owed_number owed) ≡ Merge from number = sym (merge_origin_is types log owed m.merged m.is) ∙ origin in
+        let same : Merge owed.shard (source_number owed) ≡ Merge from number = sym (merge_origin_is types log owed m.merged m.is) ∙ origin in
         let from_is : owed.shard ≡ from = cc in
-        let number_is : owed_number owed ≡ number = cc in
+        let number_is : source_number owed ≡ number = cc in
         let entries = take (length log + 1) (log_of new.logs owed.other) in
         subst (λ s. ∥ IsMergeAt types (log_of new.logs s) (old.epochs.of s) entries m.merged number ∥₁) from_is ∣ record {
           position = e.position;
@@ -183,7 +183,7 @@ module _ (types : EdgeTypes) (old new : Stores) (owed : Owed) (match : InversesM
   left : IsLeft types new owed
   left = elim h.merges [ inl n ↦ none_left n.0 n.1 | inr m ↦ merged_left m ]
 
-pub merges_grow : (types : EdgeTypes) (old new : Stores) (owed : Owed) → InversesMatch types → AreSoundAndCovered types old → MergesJob types old new owed
+pub merges_grow : (types : EdgeTypes) (old new : Stores) (owed : JobSource) → InversesMatch types → AreSoundAndCovered types old → MergesJob types old new owed
     → Grown (log_of old.logs) (log_of new.logs)
 merges_grow types old new owed match was h = elim h.merges [
   | inl n ↦ grown_same old.logs new.logs n.1

@@ -15,7 +15,7 @@ use Rattle.tao_base.specs.declared.entry.Origin.TheVariants.{Client, Merge}
 use Rattle.write_model.proofs.FarJobs.{jobs_are_far}
 use Rattle.graph_model.proofs.Rising.{stamps_stay}
 use Rattle.write_model.specs.MergeLaws.{CoveredJobsMayMerge, IsNewOrDone}
-use Rattle.write_model.specs.Merges.{HasItsMerges, Owed, job_of, log_of, number_in, owed_number}
+use Rattle.write_model.specs.Merges.{HasItsMerges, JobSource, job_of, log_of, number_in, source_number}
 use Rattle.write_model.specs.Writes.{epoch_base}
 use Rattle.graph_model.specs.Records.{HasStamp}
 use Rattle.graph_model.specs.Log.{entry_at}
@@ -66,17 +66,17 @@ done_there log n us sound done =
     All-weaker (HasStamp (take n log)) (HasStamp log) (λ u h. subst (λ l. HasStamp l u) whole
     ((stamps_stay (take n log)).stays (drop n log) u (subst IsSound (sym whole) sound) h)) us done
 
-pub new_or_done : (types : EdgeTypes) (log : ℕ → List Entry) (epoch : ℕ → ℕ) (shard position : ℕ) (owed : Owed) → IsSoundOf types shard (log shard)
+pub new_or_done : (types : EdgeTypes) (log : ℕ → List Entry) (epoch : ℕ → ℕ) (shard position : ℕ) (owed : JobSource) → IsSoundOf types shard (log shard)
     → HasItsMerges types log epoch shard → owed.epoch ≡ epoch owed.shard → entry_at (log owed.shard) position ≡ Some owed.entry
     → owed.entry.position ≡ position → IsNewOrDone types (log shard) owed
 new_or_done types log epoch shard position owed sound merges epoch_is stands same =
-    elim (new_or_there (log shard) (Merge owed.shard (owed_number owed))) [
+    elim (new_or_there (log shard) (Merge owed.shard (source_number owed))) [
       | inl new ↦ inl new
       | inr there ↦ (
           let first = at_first position owed.entry stands in
-          let number : owed_number owed ≡ number_in (epoch owed.shard) position = λ i. number_in (epoch_is i) (same i) in
-          let merged = merges (suc there.place) there.entry owed.shard (owed_number owed) there.stands there.is
-          (above (owed_number owed) (epoch_base (epoch owed.shard)) position number first) in
+          let number : source_number owed ≡ number_in (epoch owed.shard) position = λ i. number_in (epoch_is i) (same i) in
+          let merged = merges (suc there.place) there.entry owed.shard (source_number owed) there.stands there.is
+          (above (source_number owed) (epoch_base (epoch owed.shard)) position number first) in
           inr (∥∥₁_elim merged (hlevel props) (λ merge.
           let at : merge.position ≡ position = one_position (epoch_base (epoch owed.shard)) merge.position position (sym merge.number_is ∙ number) in
           let one : merge.entry ≡ owed.entry = same_Some merge.entry owed.entry (sym merge.stands ∙ ap (entry_at (log owed.shard)) at ∙ stands) in

@@ -21,7 +21,7 @@ use Rattle.write_model.proofs.Written.{AreApart, given_entry, keys_apart}
 use Rattle.graph_model.specs.Edges.{edge_record}
 use Rattle.write_model.specs.MergeLaws.{IsFarEntry, join_all, merged, records_at}
 use Rattle.graph_model.specs.Records.{is_later, is_news, join}
-use Rattle.write_model.specs.Merges.{Owed, job_of, merge_entry}
+use Rattle.write_model.specs.Merges.{JobSource, job_of, merge_entry}
 use Rattle.graph_model.specs.Soundness.{EdgeUpdate, updates_of}
 use Rattle.write_model.specs.Writes.{edge_touch, same_edge, when}
 
@@ -52,7 +52,8 @@ join_one gained found (s ∷ []) p f g = elim (cases_Bool (is_later s found)) [
         other (inr e) later = e
 
 -- the entry that a merge gives, if it gives one
-module _ (types : EdgeTypes) (owed : Owed) (shard : ℕ) (far : IsFarEntry types owed.shard shard owed.entry) (match : InversesMatch types) (log : List Entry)
+module _ (types : EdgeTypes) (owed : JobSource) (shard : ℕ) (far : IsFarEntry types owed.shard shard owed.entry) (match : InversesMatch types)
+    (log : List Entry)
   where
     abbrev news : List EdgeUpdate
     news = filter (is_news log) (job_of types owed.entry)

@@ -19,36 +19,36 @@ use Rattle.graph_model.specs.Edges.{edge_record}
 use Rattle.write_model.specs.MergeLaws.{AreMergeable, AreMerged, IsFarEntry, IsMergeable, IsNewOrDone, MergesJoin, OrderIsFree, join_all, merged}
 use Rattle.write_model.specs.MergeLaws.{merged_in_turn, records_at, records_of}
 use Rattle.graph_model.specs.Records.{Agree, HasStamp, join}
-use Rattle.write_model.specs.Merges.{Owed, job_of, merge_entry, owed_number}
+use Rattle.write_model.specs.Merges.{JobSource, job_of, merge_entry, source_number}
 use Rattle.graph_model.specs.Soundness.{IsSound, IsSoundOf}
 
 -- the jobs: any of them is the only one under its shard and number
-record AreJobs (types : EdgeTypes) (shard : ℕ) (jobs : List Owed) : Type 0 where
+record AreJobs (types : EdgeTypes) (shard : ℕ) (jobs : List JobSource) : Type 0 where
   match : InversesMatch types
-  there : (job : Owed) → IsIn job jobs → job.other ≡ shard
-  far : (job : Owed) → IsIn job jobs → IsFarEntry types job.shard shard job.entry
-  one : (job other : Owed) → IsIn job jobs → IsIn other jobs → job.shard ≡ other.shard → owed_number job ≡ owed_number other → job ≡ other
+  there : (job : JobSource) → IsIn job jobs → job.other ≡ shard
+  far : (job : JobSource) → IsIn job jobs → IsFarEntry types job.shard shard job.entry
+  one : (job other : JobSource) → IsIn job jobs → IsIn other jobs → job.shard ≡ other.shard → source_number job ≡ source_number other → job ≡ other
 
 -- the log has become a longer one, in which all jobs that were new may still be merged
-record Grows (types : EdgeTypes) (shard : ℕ) (jobs : List Owed) (log new : List Entry) : Type 0 where
+record Grows (types : EdgeTypes) (shard : ℕ) (jobs : List JobSource) (log new : List Entry) : Type 0 where
   sound : IsSoundOf types shard new
   more : List Entry
   longer : new ≡ log ++ more
-  origins : (job : Owed) → IsIn job jobs → IsNewOrDone types new job
+  origins : (job : JobSource) → IsIn job jobs → IsNewOrDone types new job
 
 stays_done : (types : EdgeTypes) (log more : List Entry) (e : Entry) → IsSound (log ++ more) → All (HasStamp log) (job_of types e)
     → All (HasStamp (log ++ more)) (job_of types e)
 stays_done types log more e sound done = All-weaker (HasStamp log) (HasStamp (log ++ more)) (λ u h. (stamps_stay log).stays more u sound h)
     (job_of types e) done
 
-module _ (types : EdgeTypes) (shard : ℕ) (jobs : List Owed) (are : AreJobs types shard jobs) where
+module _ (types : EdgeTypes) (shard : ℕ) (jobs : List JobSource) (are : AreJobs types shard jobs) where
   -- another job may still be merged after one that is merged
-  still_open : (log : List Entry) (m : Entry) (job other : Owed) → IsIn job jobs → IsIn other jobs → IsSound (log ++ m ∷ [])
+  still_open : (log : List Entry) (m : Entry) (job other : JobSource) → IsIn job jobs → IsIn other jobs → IsSound (log ++ m ∷ [])
       → m.origin ≡ merge_origin job
       → All (HasStamp (log ++ m ∷ [])) (job_of types job.entry) → IsNewOrDone types log other → IsNewOrDone types (log ++ m ∷ []) other
   still_open log m job other h k sound origin done (inr there) = inr (stays_done types log (m ∷ []) other.entry sound there)
   still_open log m job other h k sound origin done (inl new) = elim (cases_eq job.shard other.shard) [
-    | inl shards ↦ elim (cases_eq (owed_number job) (owed_number other)) [
+    | inl shards ↦ elim (cases_eq (source_number job) (source_number other)) [
       | inl positions ↦ inr (subst (λ j. All (HasStamp (log ++ m ∷ [])) (job_of types j.entry)) (are.one job other h k shards positions) done)
       | inr apart ↦ inl (All-push (λ old. old.origin ≢ merge_origin other) log m new
           (λ e. apart (let same : merge_origin job ≡ merge_origin other = sym origin ∙ e in cc)))
@@ -57,8 +57,8 @@ module _ (types : EdgeTypes) (shard : ℕ) (jobs : List Owed) (are : AreJobs typ
         (λ e. apart (let same : merge_origin job ≡ merge_origin other = sym origin ∙ e in cc)))
   ]
 
-  one_more : (log : List Entry) (job : Owed) → IsIn job jobs → IsSoundOf types shard log
-      → ((other : Owed) → IsIn other jobs → IsNewOrDone types log other)
+  one_more : (log : List Entry) (job : JobSource) → IsIn job jobs → IsSoundOf types shard log
+      → ((other : JobSource) → IsIn other jobs → IsNewOrDone types log other)
       → (o : Option Entry) → merge_entry types log job ≡ o
       → Grows types shard jobs log (log ++ option_to_list o) × All (HasStamp (log ++ option_to_list o)) (job_of types job.entry)
   one_more log job h sound origins None e =
@@ -83,10 +83,10 @@ module _ (types : EdgeTypes) (shard : ℕ) (jobs : List Owed) (are : AreJobs typ
         done,
       )
 
-  in_turn : (js : List Owed) → ((job : Owed) → IsIn job js → IsIn job jobs) → (log : List Entry) → IsSoundOf types shard log
-      → ((other : Owed) → IsIn other jobs → IsNewOrDone types log other)
+  in_turn : (js : List JobSource) → ((job : JobSource) → IsIn job js → IsIn job jobs) → (log : List Entry) → IsSoundOf types shard log
+      → ((other : JobSource) → IsIn other jobs → IsNewOrDone types log other)
       → Grows types shard jobs log (fold (merged types) log js)
-      × ((job : Owed) → IsIn job js → All (HasStamp (fold (merged types) log js)) (job_of types job.entry))
+      × ((job : JobSource) → IsIn job js → All (HasStamp (fold (merged types) log js)) (job_of types job.entry))
   in_turn [] among log sound origins = (record { sound = sound; more = []; longer = sym (append-nil log); origins = origins }, λ job h. absurd h)
   in_turn (j ∷ js) among log sound origins =
       let step = one_more log j (among j (inl refl)) sound origins (merge_entry types log j) refl in
@@ -101,7 +101,7 @@ module _ (types : EdgeTypes) (shard : ℕ) (jobs : List Owed) (are : AreJobs typ
       )
     where
       done_of : (part whole more : List Entry) → whole ≡ part ++ more → IsSound whole → All (HasStamp part) (job_of types j.entry)
-          → ((job : Owed) → IsIn job js → All (HasStamp whole) (job_of types job.entry)) → (job : Owed) → IsIn job (j ∷ js)
+          → ((job : JobSource) → IsIn job js → All (HasStamp whole) (job_of types job.entry)) → (job : JobSource) → IsIn job (j ∷ js)
           → All (HasStamp whole) (job_of types job.entry)
       done_of part whole more e sound first later job (inl k) =
           subst (λ x. All (HasStamp whole) (job_of types x.entry)) k
@@ -109,7 +109,7 @@ module _ (types : EdgeTypes) (shard : ℕ) (jobs : List Owed) (are : AreJobs typ
       done_of part whole more e sound first later job (inr k) = later job k
 
   -- the record after jobs merged one after another
-  record_in_turn : (js : List Owed) → ((job : Owed) → IsIn job js → IsIn job jobs) → (log : List Entry) (id1 : Id) (atype : AType) (id2 : Id)
+  record_in_turn : (js : List JobSource) → ((job : JobSource) → IsIn job js → IsIn job jobs) → (log : List Entry) (id1 : Id) (atype : AType) (id2 : Id)
       → edge_record (fold (merged types) log js) id1 atype id2 ≡ join_all (edge_record log id1 atype id2) (records_of types js id1 atype id2)
   record_in_turn [] among log id1 atype id2 = refl
   record_in_turn (j ∷ js) among log id1 atype id2 =
@@ -119,7 +119,7 @@ module _ (types : EdgeTypes) (shard : ℕ) (jobs : List Owed) (are : AreJobs typ
       (record_merged types j shard (are.far j (among j (inl refl))) are.match log id1 atype id2)
       ∙ sym (fold-append (λ old state. join old (Some state)) (edge_record log id1 atype id2) here (records_of types js id1 atype id2))
 
-are_jobs : (types : EdgeTypes) (shard : ℕ) (log : List Entry) (jobs : List Owed) → AreMergeable types shard log jobs → AreJobs types shard jobs
+are_jobs : (types : EdgeTypes) (shard : ℕ) (log : List Entry) (jobs : List JobSource) → AreMergeable types shard log jobs → AreJobs types shard jobs
 are_jobs types shard log jobs may = record {
   match = may.inverses;
   there = λ job h. All-in (λ j. j.other ≡ shard) jobs job may.there h;
@@ -127,7 +127,7 @@ are_jobs types shard log jobs may = record {
   one = λ job other h k. may.one job other (contains_from_in jobs job h) (contains_from_in jobs other k);
 }
 
-pub are_merged : (types : EdgeTypes) (shard : ℕ) (log : List Entry) (jobs : List Owed) → AreMergeable types shard log jobs
+pub are_merged : (types : EdgeTypes) (shard : ℕ) (log : List Entry) (jobs : List JobSource) → AreMergeable types shard log jobs
     → AreMerged types shard log jobs
 are_merged types shard log jobs may =
     let are : AreJobs types shard jobs = are_jobs types shard log jobs may in
@@ -142,8 +142,8 @@ pub merges_join : (shard : ℕ) (log : List Entry) → MergesJoin shard log
 merges_join shard log = record { merges = λ types jobs may. are_merged types shard log jobs may }
 
 -- the same jobs in another order may be merged too
-other_order : (types : EdgeTypes) (shard : ℕ) (log : List Entry) (jobs others : List Owed) → AreMergeable types shard log jobs
-    → ((job : Owed) → Contains others job → Contains jobs job) → AreMergeable types shard log others
+other_order : (types : EdgeTypes) (shard : ℕ) (log : List Entry) (jobs others : List JobSource) → AreMergeable types shard log jobs
+    → ((job : JobSource) → Contains others job → Contains jobs job) → AreMergeable types shard log others
 other_order types shard log jobs others may from = record {
   inverses = may.inverses;
   sound = may.sound;
@@ -156,11 +156,11 @@ other_order types shard log jobs others may from = record {
   one = λ job other h k. may.one job other (from job h) (from other k);
 }
 
-same_records : (types : EdgeTypes) (jobs others : List Owed) → ((job : Owed) → Contains jobs job → Contains others job)
+same_records : (types : EdgeTypes) (jobs others : List JobSource) → ((job : JobSource) → Contains jobs job → Contains others job)
     → (id1 : Id) (atype : AType) (id2 : Id) (s : EdgeState)
     → IsIn s (records_of types jobs id1 atype id2) → IsIn s (records_of types others id1 atype id2)
 same_records types jobs others to id1 atype id2 s h =
-    let at : Owed → List EdgeState = λ job. records_at id1 atype id2 (job_of types job.entry) in
+    let at : JobSource → List EdgeState = λ job. records_at id1 atype id2 (job_of types job.entry) in
     let r = in_flat_map_parts at jobs s h in
     in_flat_map at others r.0 s (in_from_contains others r.0 (to r.0 (contains_from_in jobs r.0 r.1))) r.2
 

@@ -18,7 +18,7 @@ use Rattle.graph_model.proofs.Rising.{stamps_stay}
 use Rattle.write_model.proofs.Written.{AreApart, AreWritten, CutBefore, given_entry, update_of-touch, updates-touches, written_stays}
 use Rattle.write_model.specs.MergeLaws.{IsFarEntry, IsMergeable, IsNewOrDone, MergeFollows, MergesNothing}
 use Rattle.graph_model.specs.Records.{HasStamp, is_news}
-use Rattle.write_model.specs.Merges.{Owed, WriteOnly, job_of, merge_entry, owed_number}
+use Rattle.write_model.specs.Merges.{JobSource, WriteOnly, job_of, merge_entry, source_number}
 use Rattle.graph_model.specs.Soundness.{EdgeUpdate, IsSound, update_at, updates_of, IsNewOrigin}
 use Rattle.write_model.specs.WriteLaws.{StaysSound}
 use Rattle.write_model.specs.Writes.{edge_touch, next_entry}
@@ -62,8 +62,8 @@ no_news log [] h = refl
 no_news log (u ∷ us) h = rw (All-head (HasStamp log) u us h) (no_news log us (All-tail (HasStamp log) u us h))
 
 -- the origin of the entry that merges a job
-abbrev pub merge_origin : Owed → Origin
-merge_origin owed = Merge owed.shard (owed_number owed)
+abbrev pub merge_origin : JobSource → Origin
+merge_origin owed = Merge owed.shard (source_number owed)
 
 pub merges_nothing : (log : List Entry) → MergesNothing log
 merges_nothing log = record {
@@ -72,23 +72,23 @@ merges_nothing log = record {
   nothing = λ types owed h. ap (λ us. next_entry log Merged (merge_origin owed) (map (edge_touch log) us)) (no_news log (job_of types owed.entry) h);
 }
 
-pub some_news : (types : EdgeTypes) (log : List Entry) (owed : Owed) (m : Entry) → merge_entry types log owed ≡ Some m
+pub some_news : (types : EdgeTypes) (log : List Entry) (owed : JobSource) (m : Entry) → merge_entry types log owed ≡ Some m
     → 0 < length (filter (is_news log) (job_of types owed.entry))
 some_news types log owed m h =
     rw (length-map (filter (is_news log) (job_of types owed.entry)) (edge_touch log)) at
     (given_entry log Merged (merge_origin owed) (map (edge_touch log) (filter (is_news log) (job_of types owed.entry))) m h).0
 
-new_origin : (types : EdgeTypes) (log : List Entry) (owed : Owed) (m : Entry) → IsNewOrDone types log owed → merge_entry types log owed ≡ Some m
+new_origin : (types : EdgeTypes) (log : List Entry) (owed : JobSource) (m : Entry) → IsNewOrDone types log owed → merge_entry types log owed ≡ Some m
     → IsNewOrigin log (merge_origin owed)
 new_origin types log owed m (inl new) h = new
 new_origin types log owed m (inr done) h = let none : merge_entry types log owed ≡ None = (merges_nothing log).nothing types owed done in absurd (cc)
 
-pub merge_stays : (types : EdgeTypes) (log : List Entry) (owed : Owed) (m : Entry) → IsMergeable types log owed
+pub merge_stays : (types : EdgeTypes) (log : List Entry) (owed : JobSource) (m : Entry) → IsMergeable types log owed
     → merge_entry types log owed ≡ Some m → StaysSound types owed.other log m
 merge_stays types log owed m may h =
     written_stays types owed.other log Merged (merge_origin owed) (filter (is_news log) (job_of types owed.entry)) m may.sound
     (new_origin types log owed m may.origin h)
-    (news_written types owed.shard (owed_number owed) owed.other owed.entry may.far may.inverses log (some_news types log owed m h)) h
+    (news_written types owed.shard (source_number owed) owed.other owed.entry may.far may.inverses log (some_news types log owed m h)) h
 
 -- the records that an entry of news writes
 news_updates : (log : List Entry) (origin : Origin) (us : List EdgeUpdate) (m : Entry)
@@ -107,21 +107,21 @@ news_done log origin us m sound h = All-from_in (HasStamp (log ++ m ∷ [])) us 
 ])
 
 -- the records that the merge of a job writes
-pub merge_updates : (types : EdgeTypes) (log : List Entry) (owed : Owed) (m : Entry) → merge_entry types log owed ≡ Some m
+pub merge_updates : (types : EdgeTypes) (log : List Entry) (owed : JobSource) (m : Entry) → merge_entry types log owed ≡ Some m
     → updates_of m ≡ filter (is_news log) (job_of types owed.entry)
 merge_updates types log owed m h = news_updates log (merge_origin owed) (job_of types owed.entry) m h
 
-pub merge_done : (types : EdgeTypes) (log : List Entry) (owed : Owed) (m : Entry) → IsMergeable types log owed → merge_entry types log owed ≡ Some m
+pub merge_done : (types : EdgeTypes) (log : List Entry) (owed : JobSource) (m : Entry) → IsMergeable types log owed → merge_entry types log owed ≡ Some m
     → All (HasStamp (log ++ m ∷ [])) (job_of types owed.entry)
 merge_done types log owed m may h = news_done log (merge_origin owed) (job_of types owed.entry) m (merge_stays types log owed m may h).sound.sound h
 
 -- the entry that a merge makes has its origin
-pub merge_origin_is : (types : EdgeTypes) (log : List Entry) (owed : Owed) (m : Entry) → merge_entry types log owed ≡ Some m → m.origin ≡ merge_origin owed
+pub merge_origin_is : (types : EdgeTypes) (log : List Entry) (owed : JobSource) (m : Entry) → merge_entry types log owed ≡ Some m → m.origin ≡ merge_origin owed
 merge_origin_is types log owed m h =
     ap (λ x. x.origin) (sym (given_entry log Merged (merge_origin owed) (map (edge_touch log) (filter (is_news log) (job_of types owed.entry))) m h).1)
 
 -- and each of its touches writes a record of the job
-pub merge_touches : (types : EdgeTypes) (log : List Entry) (owed : Owed) (m : Entry) → merge_entry types log owed ≡ Some m
+pub merge_touches : (types : EdgeTypes) (log : List Entry) (owed : JobSource) (m : Entry) → merge_entry types log owed ≡ Some m
     → WriteOnly (job_of types owed.entry) m.touches
 merge_touches types log owed m h =
     let job : List EdgeUpdate = job_of types owed.entry in

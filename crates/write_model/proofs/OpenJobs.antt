@@ -16,7 +16,7 @@ use Rattle.graph_model.proofs.Members.{All-from_in, All-in, contains_from_in}
 use Rattle.write_model.proofs.WrittenRecords.{first_of}
 use Rattle.write_model.specs.CoverLaws.{OpenJobsAreOwed}
 use Rattle.write_model.specs.MergeLaws.{IsMergeable}
-use Rattle.write_model.specs.Merges.{HasJob, IsJob, Owed, Stores, job_of, log_of}
+use Rattle.write_model.specs.Merges.{HasJob, IsJob, JobSource, Stores, job_of, log_of}
 use Rattle.graph_model.specs.Records.{HasStamp}
 use Rattle.graph_model.specs.Log.{entry_at}
 use Rattle.graph_model.specs.Soundness.{EdgeUpdate}
@@ -45,11 +45,11 @@ module _ (types : EdgeTypes) (stores : Stores) (shard position : ℕ) (us : List
   stands_there : entry_at (log_of stores.logs shard) job_found.entry.position ≡ Some job_found.entry
   stands_there = ap (entry_at (log_of stores.logs shard)) position_is ∙ job_found.stands
 
-  abbrev owes_to : ℕ → Owed
+  abbrev owes_to : ℕ → JobSource
   owes_to other = record { shard = shard; epoch = stores.epochs.of shard; entry = job_found.entry; other = other }
 
-  owed_by : (u : EdgeUpdate) → Contains us u → IsJobOf types stores shard position us (owes_to (shard_of u.0))
-  owed_by u k =
+  source_of_write : (u : EdgeUpdate) → Contains us u → IsJobOf types stores shard position us (owes_to (shard_of u.0))
+  source_of_write u k =
       let at = at_place types shard (log_of stores.logs shard) position job_found.entry (kept.sound shard) job_found.stands in
       let far = (jobs_are_far shard (log_of stores.logs shard)).far types (kept.sound shard) at.0 job_found.entry u at.1
       (subst (λ vs. Contains vs u) job_found.job_is k) in
@@ -77,7 +77,7 @@ entry_owes types stores shard position e u kept stands h =
     record { epoch_is = refl; stands = ap (entry_at (log_of stores.logs shard)) at.2 ∙ stands; there = far.there }
 
 -- what is owed may be merged where one of its records lies
-pub may_be_merged : (types : EdgeTypes) (stores : Stores) (owed : Owed) → InversesMatch types → AreSoundAndCovered types stores → IsOwed types stores owed
+pub may_be_merged : (types : EdgeTypes) (stores : Stores) (owed : JobSource) → InversesMatch types → AreSoundAndCovered types stores → IsOwed types stores owed
     → (u : EdgeUpdate) → Contains (job_of types owed.entry) u → shard_of u.0 ≡ owed.other → IsMergeable types (log_of stores.logs owed.other) owed
 may_be_merged types stores owed match kept owes u h there =
     let may = covered_jobs_may_merge.may types stores match kept.sound kept.covered owed.shard owed.entry.position owed.entry u owes.stands h in
@@ -86,7 +86,7 @@ may_be_merged types stores owed match kept owes u h there =
     (subst (λ s. IsMergeable types (log_of stores.logs s) (record { shard = owed.shard; epoch = stores.epochs.of owed.shard; entry = owed.entry; other = s }))
     there may)
 
-owed_mergeable : (types : EdgeTypes) (stores : Stores) (owed : Owed) → InversesMatch types → AreSoundAndCovered types stores → IsOwed types stores owed
+owed_mergeable : (types : EdgeTypes) (stores : Stores) (owed : JobSource) → InversesMatch types → AreSoundAndCovered types stores → IsOwed types stores owed
     → 0 < length (job_of types owed.entry) → IsMergeable types (log_of stores.logs owed.other) owed
 owed_mergeable types stores owed match kept owes some =
     let first = first_of (job_of types owed.entry) some in
@@ -94,7 +94,7 @@ owed_mergeable types stores owed match kept owes some =
     (All-in (λ x. shard_of x.0 ≡ owed.other) (job_of types owed.entry) first.0 owes.there first.1)
 
 -- a job that isn't open is there
-pub closed_is_there : (types : EdgeTypes) (stores : Stores) (owed : Owed) → AreSoundAndCovered types stores → IsOwed types stores owed
+pub closed_is_there : (types : EdgeTypes) (stores : Stores) (owed : JobSource) → AreSoundAndCovered types stores → IsOwed types stores owed
     → stores.job owed.shard owed.entry.position ≡ None → HasJob types (log_of stores.logs owed.other) owed.entry
 closed_is_there types stores owed kept owes none = All-from_in (HasStamp (log_of stores.logs owed.other)) (job_of types owed.entry) (λ u h.
     subst (λ s. HasStamp (log_of stores.logs s) u) (All-in (λ x. shard_of x.0 ≡ owed.other) (job_of types owed.entry) u owes.there h)
@@ -106,7 +106,7 @@ open_jobs_are_owed = record {
   some = λ types stores shard position us kept h. (job_found types stores shard position us kept h).some;
   owed = λ types stores shard position us u kept h k. (
     owes_to types stores shard position us kept h (shard_of u.0),
-    owed_by types stores shard position us kept h u k,
+    source_of_write types stores shard position us kept h u k,
     refl,
   );
   owes = λ types stores shard position e u kept stands h. entry_owes types stores shard position e u kept stands h;

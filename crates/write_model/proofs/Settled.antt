@@ -12,35 +12,35 @@ use Rattle.graph_model.proofs.Members.{IsIn, All-in, AllPairs-from_recursion, pa
 use Rattle.write_model.proofs.OpenJobs.{job_found, open_jobs_are_owed}
 use Rattle.write_model.specs.CoverLaws.{SettlesInOrder}
 use Rattle.write_model.specs.Machine.{ComesBefore, IsOpenJob, MayMerge, MergeInTurn, MergesNews, Settles}
-use Rattle.write_model.specs.Merges.{Owed, Stores, job_of, log_of}
+use Rattle.write_model.specs.Merges.{JobSource, Stores, job_of, log_of}
 use Rattle.graph_model.specs.Log.{entry_at}
 use Rattle.graph_model.specs.Soundness.{EdgeUpdate}
 use Rattle.write_model.specs.Steps.{AreSoundAndCovered, EndsJob, HaveNoJobs, IsNextJob, MergesJob, Settling}
 
 -- one more job merged in turn
-in_turn_push : (types : EdgeTypes) (a b c : List (List Entry)) (jobs : List Owed) (owed : Owed) → MergeInTurn types a b jobs → MayMerge types b c owed
+in_turn_push : (types : EdgeTypes) (a b c : List (List Entry)) (jobs : List JobSource) (owed : JobSource) → MergeInTurn types a b jobs → MayMerge types b c owed
     → MergeInTurn types a c (jobs ++ owed ∷ [])
 in_turn_push types a b c [] owed h may = (c, subst (λ l. MayMerge types l c owed) h may, refl)
 in_turn_push types a b c (job ∷ jobs) owed h may = (h.0, h.1, in_turn_push types h.0 b c jobs owed h.2 may)
 
-may_merge : (types : EdgeTypes) (a b : List (List Entry)) (owed : Owed) → MergesNews types a b owed → MayMerge types a b owed
+may_merge : (types : EdgeTypes) (a b : List (List Entry)) (owed : JobSource) → MergesNews types a b owed → MayMerge types a b owed
 may_merge types a b owed (inl n) = inl n.1
 may_merge types a b owed (inr m) = inr m
 
-in_order_push : (jobs : List Owed) (owed : Owed) → AllPairs ComesBefore jobs → All (λ done. ComesBefore done owed) jobs
+in_order_push : (jobs : List JobSource) (owed : JobSource) → AllPairs ComesBefore jobs → All (λ done. ComesBefore done owed) jobs
     → AllPairs ComesBefore (jobs ++ owed ∷ [])
 in_order_push jobs owed order before =
     AllPairs-from_recursion ComesBefore (jobs ++ owed ∷ [])
     (pairs_append ComesBefore jobs (owed ∷ []) (recursion_from_AllPairs ComesBefore jobs order) (tt, tt) (λ x y h k. last x y h k))
   where
-    last : (x y : Owed) → IsIn x jobs → IsIn y (owed ∷ []) → ComesBefore x y
+    last : (x y : JobSource) → IsIn x jobs → IsIn y (owed ∷ []) → ComesBefore x y
     last x y h (inl e) = subst (ComesBefore x) e (All-in (λ done. ComesBefore done owed) jobs x before h)
     last x y h (inr k) = absurd k
 
 no_pairs : AllPairs ComesBefore []
 no_pairs i j d lt in' = absurd (omega arith)
 
-module _ (types : EdgeTypes) (start now mid : Stores) (jobs : List Owed) (owed : Owed)
+module _ (types : EdgeTypes) (start now mid : Stores) (jobs : List JobSource) (owed : JobSource)
     (so_far : Settling types start now jobs) (next : IsNextJob types now owed) (merge : MergesJob types now mid owed) where
   was : IsOpenJob types start owed × All (λ done. ComesBefore done owed) jobs
   was = so_far.left owed next.first.job
@@ -62,14 +62,14 @@ module _ (types : EdgeTypes) (start now mid : Stores) (jobs : List Owed) (owed :
     kept_mid = merges_keep.keep types now mid owed match kept merge
 
     -- a job that is left isn't the one that was ended
-    not_ended : (other : Owed) → IsOpenJob types new other → other.shard ≡ owed.shard → other.entry.position ≢ owed.entry.position
+    not_ended : (other : JobSource) → IsOpenJob types new other → other.shard ≡ owed.shard → other.entry.position ≢ owed.entry.position
     not_ended other h same at =
         let none : None ≡ Some (job_of types other.entry) =
         sym (ap (new.job other.shard) at ∙ ap (λ i. new.job i owed.entry.position) same ∙ end.ends.here) ∙ h.job_is in
         absurd (cc)
 
     -- and was open before
-    was_open : (other : Owed) → IsOpenJob types new other → IsOpenJob types now other
+    was_open : (other : JobSource) → IsOpenJob types new other → IsOpenJob types now other
     was_open other h =
         let job_is : now.job other.shard other.entry.position ≡ Some (job_of types other.entry) =
         sym (end.ends.others other.shard other.entry.position (not_ended other h) ∙ merge.jobs other.shard other.entry.position) ∙ h.job_is in
@@ -87,7 +87,7 @@ module _ (types : EdgeTypes) (start now mid : Stores) (jobs : List Owed) (owed :
         }
 
     -- it comes after the one that was ended
-    comes_after : (other : Owed) → IsOpenJob types new other → IsOpenJob types now other → ComesBefore owed other
+    comes_after : (other : JobSource) → IsOpenJob types new other → IsOpenJob types now other → ComesBefore owed other
     comes_after other h before = elim (cases_lt owed.shard other.shard) [
       | inl lt ↦ inl lt
       | inr le ↦ elim (cases_eq other.shard owed.shard) [
@@ -109,7 +109,7 @@ module _ (types : EdgeTypes) (start now mid : Stores) (jobs : List Owed) (owed :
           ]
         ]
 
-    left_now : (other : Owed) → IsOpenJob types new other → IsOpenJob types start other × All (λ done. ComesBefore done other) (jobs ++ owed ∷ [])
+    left_now : (other : JobSource) → IsOpenJob types new other → IsOpenJob types start other × All (λ done. ComesBefore done other) (jobs ++ owed ∷ [])
     left_now other h =
         let before = was_open other h in
         let first = so_far.left other before in

@@ -5,7 +5,7 @@ use Rattle.tao_base.specs.Ids.{shard_of}
 use Rattle.tao_base.specs.declared.entry.Entry.{Entry}
 use Rattle.write_model.specs.Machine.{ArePaired, ClientWrite, Settles}
 use Rattle.write_model.specs.MergeLaws.{IsMergeable}
-use Rattle.write_model.specs.Merges.{HasJob, Owed, Stores, job_of, log_of}
+use Rattle.write_model.specs.Merges.{HasJob, JobSource, Stores, job_of, log_of}
 use Rattle.graph_model.specs.Log.{entry_at}
 use Rattle.graph_model.specs.Soundness.{EdgeUpdate, is_client}
 use Rattle.write_model.specs.Steps.{AllRest, AreSoundAndCovered, CommitsWithJob, EndsJob, HaveNoJobs, IsJobOf, IsNextJob, IsOwed}
@@ -28,14 +28,14 @@ pub record CommitsKeep : Type 0 where
 
 -- a merge keeps the stores sound and covered, and leaves all of the job there
 pub record MergesKeep : Type 0 where
-  pub keep : (types : EdgeTypes) (old new : Stores) (owed : Owed) → InversesMatch types → AreSoundAndCovered types old
+  pub keep : (types : EdgeTypes) (old new : Stores) (owed : JobSource) → InversesMatch types → AreSoundAndCovered types old
       → MergesJob types old new owed → AreSoundAndCovered types new
-  pub done : (types : EdgeTypes) (old new : Stores) (owed : Owed) → InversesMatch types → AreSoundAndCovered types old
+  pub done : (types : EdgeTypes) (old new : Stores) (owed : JobSource) → InversesMatch types → AreSoundAndCovered types old
       → MergesJob types old new owed → IsOwed types new owed × HasJob types (log_of new.logs owed.other) owed.entry
 
 -- the end of a job whose records are all there keeps the stores sound and covered
 pub record EndsKeep : Type 0 where
-  pub keep : (types : EdgeTypes) (old new : Stores) (owed : Owed) → AreSoundAndCovered types old → EndsJob types old new owed
+  pub keep : (types : EdgeTypes) (old new : Stores) (owed : JobSource) → AreSoundAndCovered types old → EndsJob types old new owed
       → AreSoundAndCovered types new
 
 -- an open job has a record, and each of its records says where it may be merged
@@ -43,15 +43,15 @@ pub record OpenJobsAreOwed : Type 0 where
   pub some : (types : EdgeTypes) (stores : Stores) (shard position : ℕ) (us : List EdgeUpdate) → AreSoundAndCovered types stores
       → stores.job shard position ≡ Some us → 0 < length us
   pub owed : (types : EdgeTypes) (stores : Stores) (shard position : ℕ) (us : List EdgeUpdate) (u : EdgeUpdate) → AreSoundAndCovered types stores
-      → stores.job shard position ≡ Some us → Contains us u → (by : Owed) × IsJobOf types stores shard position us by × (by.other ≡ shard_of u.0)
+      → stores.job shard position ≡ Some us → Contains us u → (by : JobSource) × IsJobOf types stores shard position us by × (by.other ≡ shard_of u.0)
   -- so does each record of an entry that stands, whether its job is still open or not
   pub owes : (types : EdgeTypes) (stores : Stores) (shard position : ℕ) (e : Entry) (u : EdgeUpdate) → AreSoundAndCovered types stores
       → entry_at (log_of stores.logs shard) position ≡ Some e → Contains (job_of types e) u
       → IsOwed types stores (record { shard = shard; epoch = stores.epochs.of shard; entry = e; other = shard_of u.0 })
-  pub mergeable : (types : EdgeTypes) (stores : Stores) (owed : Owed) → InversesMatch types → AreSoundAndCovered types stores
+  pub mergeable : (types : EdgeTypes) (stores : Stores) (owed : JobSource) → InversesMatch types → AreSoundAndCovered types stores
       → IsOwed types stores owed → 0 < length (job_of types owed.entry) → IsMergeable types (log_of stores.logs owed.other) owed
   -- a job that isn't open is there
-  pub closed : (types : EdgeTypes) (stores : Stores) (owed : Owed) → AreSoundAndCovered types stores → IsOwed types stores owed
+  pub closed : (types : EdgeTypes) (stores : Stores) (owed : JobSource) → AreSoundAndCovered types stores → IsOwed types stores owed
       → stores.job owed.shard owed.entry.position ≡ None → HasJob types (log_of stores.logs owed.other) owed.entry
   pub within : (types : EdgeTypes) (stores : Stores) (shard position : ℕ) (us : List EdgeUpdate) → AreSoundAndCovered types stores
       → stores.job shard position ≡ Some us → shard < length stores.logs
@@ -66,12 +66,12 @@ pub record NoJobsArePaired : Type 0 where
 pub record SettlesInOrder : Type 0 where
   pub begins : (types : EdgeTypes) (start : Stores) → Settling types start start []
   -- one more job
-  pub goes_on : (types : EdgeTypes) (start now mid new : Stores) (jobs : List Owed) (owed : Owed) → InversesMatch types → AreSoundAndCovered types now
+  pub goes_on : (types : EdgeTypes) (start now mid new : Stores) (jobs : List JobSource) (owed : JobSource) → InversesMatch types → AreSoundAndCovered types now
       → Settling types start now jobs → IsNextJob types now owed → MergesJob types now mid owed → EndsJob types mid new owed
       → Settling types start new (jobs ++ owed ∷ [])
   -- it may stop before a job, or after it was merged
-  pub stops : (types : EdgeTypes) (start now : Stores) (jobs : List Owed) → Settling types start now jobs → Settles types start now.logs
-  pub stops_within : (types : EdgeTypes) (start now mid : Stores) (jobs : List Owed) (owed : Owed)
+  pub stops : (types : EdgeTypes) (start now : Stores) (jobs : List JobSource) → Settling types start now jobs → Settles types start now.logs
+  pub stops_within : (types : EdgeTypes) (start now mid : Stores) (jobs : List JobSource) (owed : JobSource)
       → Settling types start now jobs → IsNextJob types now owed → MergesJob types now mid owed → Settles types start mid.logs
   -- where no configured shard has an open job, none is open
   pub ends : (types : EdgeTypes) (now : Stores) → AreSoundAndCovered types now

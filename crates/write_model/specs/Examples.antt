@@ -20,7 +20,7 @@ use Rattle.tao_base.specs.declared.query.Query.TheVariants.{ObjGet, AssocGet, As
 use Rattle.graph_model.specs.Answers.{answer}
 use Rattle.graph_model.specs.Edges.{edge_list}
 use Rattle.graph_model.specs.Log.{version}
-use Rattle.write_model.specs.Merges.{Owed, job_of, merge_entry}
+use Rattle.write_model.specs.Merges.{JobSource, job_of, merge_entry}
 use Rattle.graph_model.specs.Soundness.{updates_of}
 use Rattle.graph_model.specs.Prefixes.{IsPrefixOf, decides, edges_after, total_after}
 use Rattle.write_model.specs.Writes.{forward_entry}
@@ -232,7 +232,7 @@ far_job : flat_map (job_of four_types) far_follow ≡ (far, followed_by, 1, Live
 far_job = refl
 
 -- an entry of that shard that owes records to the other one, in the first epoch
-abbrev pub owes : ℕ → Entry → Owed
+abbrev pub owes : ℕ → Entry → JobSource
 owes shard e = record { shard = shard; epoch = 0; entry = e; other = 1 - shard }
 
 -- the log with the merges of entries of another shard

@@ -14,7 +14,7 @@ use Rattle.graph_model.specs.Edges.{edge_record}
 use Rattle.graph_model.specs.Log.{entry_at}
 use Rattle.tao_base.specs.Keys.{key_shard}
 use Rattle.graph_model.specs.Records.{Agree, HasStamp, join}
-use Rattle.write_model.specs.Merges.{AreCovered, Owed, Stores, job_of, log_of, merge_entry, merge_of, owed_number}
+use Rattle.write_model.specs.Merges.{AreCovered, JobSource, Stores, job_of, log_of, merge_entry, merge_of, source_number}
 use Rattle.graph_model.specs.Soundness.{AreInOrder, CanFollow, EdgeUpdate, IsSound, IsSoundOf, IsNewOrigin}
 use Rattle.write_model.specs.WriteLaws.{StaysSound}
 use Rattle.write_model.specs.Writes.{same_edge, when}
@@ -32,11 +32,11 @@ pub record IsFarEntry (types : EdgeTypes) (from shard : ℕ) (e : Entry) : Type 
   pub there : All (λ u. shard_of u.0 ≡ shard) (job_of types e)
 
 -- the job is new to the log, or all of it is there
-abbrev pub IsNewOrDone : EdgeTypes → List Entry → Owed → Type 0
-IsNewOrDone types log owed = IsNewOrigin log (Merge owed.shard (owed_number owed)) ⊎ All (HasStamp log) (job_of types owed.entry)
+abbrev pub IsNewOrDone : EdgeTypes → List Entry → JobSource → Type 0
+IsNewOrDone types log owed = IsNewOrigin log (Merge owed.shard (source_number owed)) ⊎ All (HasStamp log) (job_of types owed.entry)
 
 -- a job that may be merged on the log of the other shard
-pub record IsMergeable (types : EdgeTypes) (log : List Entry) (owed : Owed) : Type 0 where
+pub record IsMergeable (types : EdgeTypes) (log : List Entry) (owed : JobSource) : Type 0 where
   pub inverses : InversesMatch types
   pub sound : IsSoundOf types owed.other log
   pub far : IsFarEntry types owed.shard owed.other owed.entry
@@ -44,18 +44,18 @@ pub record IsMergeable (types : EdgeTypes) (log : List Entry) (owed : Owed) : Ty
 
 -- nothing is merged exactly where all of the job is there
 pub record MergesNothing (log : List Entry) : Type 0 where
-  pub done : (types : EdgeTypes) (owed : Owed) → merge_entry types log owed ≡ None → All (HasStamp log) (job_of types owed.entry)
-  pub nothing : (types : EdgeTypes) (owed : Owed) → All (HasStamp log) (job_of types owed.entry) → merge_entry types log owed ≡ None
+  pub done : (types : EdgeTypes) (owed : JobSource) → merge_entry types log owed ≡ None → All (HasStamp log) (job_of types owed.entry)
+  pub nothing : (types : EdgeTypes) (owed : JobSource) → All (HasStamp log) (job_of types owed.entry) → merge_entry types log owed ≡ None
 
 -- the entry keeps the log sound and leaves all of the job there, and then nothing is left to merge
-pub record IsMerged (types : EdgeTypes) (log : List Entry) (owed : Owed) (m : Entry) : Type 0 where
+pub record IsMerged (types : EdgeTypes) (log : List Entry) (owed : JobSource) (m : Entry) : Type 0 where
   pub stays : StaysSound types owed.other log m
   pub done : All (HasStamp (log ++ m ∷ [])) (job_of types owed.entry)
   pub nothing : merge_entry types (log ++ m ∷ []) owed ≡ None
 
 -- the entry that merges a job that may be merged keeps the log sound and leaves all of the job there
 pub record MergeFollows (log : List Entry) : Type 0 where
-  pub merges : (types : EdgeTypes) (owed : Owed) (m : Entry) → IsMergeable types log owed → merge_entry types log owed ≡ Some m → IsMerged types log owed m
+  pub merges : (types : EdgeTypes) (owed : JobSource) (m : Entry) → IsMergeable types log owed → merge_entry types log owed ≡ Some m → IsMerged types log owed m
 
 -- an entry of a sound log is far from where a record of its job lies
 pub record JobsAreFar (from : ℕ) (source : List Entry) : Type 0 where
@@ -70,11 +70,11 @@ pub record CoveredJobsMayMerge : Type 0 where
       → IsMergeable types (log_of stores.logs (shard_of u.0)) (record { shard = from; epoch = stores.epochs.of from; entry = e; other = shard_of u.0 })
 
 -- the log after the merge of a job
-abbrev pub merged : EdgeTypes → List Entry → Owed → List Entry
+abbrev pub merged : EdgeTypes → List Entry → JobSource → List Entry
 merged types log owed = log ++ option_to_list (merge_entry types log owed)
 
 -- the log after merges of jobs, one after another
-abbrev pub merged_in_turn : EdgeTypes → List Entry → List Owed → List Entry
+abbrev pub merged_in_turn : EdgeTypes → List Entry → List JobSource → List Entry
 merged_in_turn types log jobs = fold (merged types) log jobs
 
 -- of the records, those of the one edge, in their order
@@ -82,7 +82,7 @@ abbrev pub records_at : Id → AType → Id → List EdgeUpdate → List EdgeSta
 records_at id1 atype id2 us = filter_map (λ u. when (same_edge (id1, atype, id2, u.3) u) (Some u.3)) us
 
 -- what jobs say of one edge
-abbrev pub records_of : EdgeTypes → List Owed → Id → AType → Id → List EdgeState
+abbrev pub records_of : EdgeTypes → List JobSource → Id → AType → Id → List EdgeState
 records_of types jobs id1 atype id2 = flat_map (λ job. records_at id1 atype id2 (job_of types job.entry)) jobs
 
 -- the join of a record with others
@@ -90,16 +90,16 @@ abbrev pub join_all : Option EdgeState → List EdgeState → Option EdgeState
 join_all found states = fold (λ old state. join old (Some state)) found states
 
 -- jobs that may be merged on the log of the other shard, with one job under each shard and number
-pub record AreMergeable (types : EdgeTypes) (shard : ℕ) (log : List Entry) (jobs : List Owed) : Type 0 where
+pub record AreMergeable (types : EdgeTypes) (shard : ℕ) (log : List Entry) (jobs : List JobSource) : Type 0 where
   pub inverses : InversesMatch types
   pub sound : IsSoundOf types shard log
   pub there : All (λ job. job.other ≡ shard) jobs
   pub far : All (λ job. IsFarEntry types job.shard shard job.entry) jobs
   pub origins : All (IsNewOrDone types log) jobs
-  pub one : (job next : Owed) → Contains jobs job → Contains jobs next → job.shard ≡ next.shard → owed_number job ≡ owed_number next → job ≡ next
+  pub one : (job next : JobSource) → Contains jobs job → Contains jobs next → job.shard ≡ next.shard → source_number job ≡ source_number next → job ≡ next
 
 -- jobs merged in turn keep the log sound and are all there, and each record is the join of the one before with theirs
-pub record AreMerged (types : EdgeTypes) (shard : ℕ) (log : List Entry) (jobs : List Owed) : Type 0 where
+pub record AreMerged (types : EdgeTypes) (shard : ℕ) (log : List Entry) (jobs : List JobSource) : Type 0 where
   pub sound : IsSoundOf types shard (merged_in_turn types log jobs)
   pub done : All (λ job. All (HasStamp (merged_in_turn types log jobs)) (job_of types job.entry)) jobs
   pub record_is : (id1 : Id) (atype : AType) (id2 : Id)
@@ -107,10 +107,10 @@ pub record AreMerged (types : EdgeTypes) (shard : ℕ) (log : List Entry) (jobs 
 
 -- jobs that may be merged, in whatever order they come, join their records with the log's and leave it sound
 pub record MergesJoin (shard : ℕ) (log : List Entry) : Type 0 where
-  pub merges : (types : EdgeTypes) (jobs : List Owed) → AreMergeable types shard log jobs → AreMerged types shard log jobs
+  pub merges : (types : EdgeTypes) (jobs : List JobSource) → AreMergeable types shard log jobs → AreMerged types shard log jobs
 
 -- of the edge's records, the log's and those of the jobs, two with one stamp are one
-abbrev pub RecordsAgree : EdgeTypes → List Entry → List Owed → Id → AType → Id → Type 0
+abbrev pub RecordsAgree : EdgeTypes → List Entry → List JobSource → Id → AType → Id → Type 0
 RecordsAgree types log jobs id1 atype id2 = AllAgree (option_to_list (edge_record log id1 atype id2) ++ records_of types jobs id1 atype id2)
   where
     AllAgree : List EdgeState → Type 0
@@ -118,8 +118,8 @@ RecordsAgree types log jobs id1 atype id2 = AllAgree (option_to_list (edge_recor
 
 -- jobs that are merged in another order, or more than once, leave the same record of each edge whose records agree
 pub record OrderIsFree (shard : ℕ) (log : List Entry) : Type 0 where
-  pub same : (types : EdgeTypes) (jobs others : List Owed) → AreMergeable types shard log jobs
-      → ((job : Owed) → Contains jobs job ↔ Contains others job)
+  pub same : (types : EdgeTypes) (jobs others : List JobSource) → AreMergeable types shard log jobs
+      → ((job : JobSource) → Contains jobs job ↔ Contains others job)
       → (id1 : Id) (atype : AType) (id2 : Id) → RecordsAgree types log jobs id1 atype id2
       → edge_record (merged_in_turn types log jobs) id1 atype id2 ≡ edge_record (merged_in_turn types log others) id1 atype id2
 
@@ -165,5 +165,5 @@ pub record MergesNone (log : List Entry) (from number : ℕ) (us : List EdgeUpda
 
 -- where a job may be merged, its records may be, seen without the entry whose job it is
 pub record JobsMayBeMerged : Type 0 where
-  pub may : (types : EdgeTypes) (log : List Entry) (owed : Owed) → IsMergeable types log owed
-      → MayBeMerged owed.other log owed.shard (owed_number owed) (job_of types owed.entry)
+  pub may : (types : EdgeTypes) (log : List Entry) (owed : JobSource) → IsMergeable types log owed
+      → MayBeMerged owed.other log owed.shard (source_number owed) (job_of types owed.entry)

@@ -18,7 +18,7 @@ abbrev pub job_of : EdgeTypes → Entry → List EdgeUpdate
 job_of types e = filter_map (λ u. when (not (is_near u)) (other_end types u)) (updates_of e)
 
 -- who owes a job: the entry at its shard, in the shard's epoch, and the other shard, which the job's records lie on
-pub record Owed : Type 0 where
+pub record JobSource : Type 0 where
   pub shard : ℕ
   pub epoch : ℕ
   pub entry : Entry
@@ -29,16 +29,16 @@ abbrev pub number_in : ℕ → ℕ → ℕ
 number_in epoch position = epoch_base epoch + position
 
 -- the number by which a merge names the job of this entry
-abbrev pub owed_number : Owed → ℕ
-owed_number owed = number_in owed.epoch owed.entry.position
+abbrev pub source_number : JobSource → ℕ
+source_number owed = number_in owed.epoch owed.entry.position
 
 -- the entry that merges records of the other ends of an entry, which another shard's log names by the number, or nothing where none is later
 abbrev pub merge_of : List Entry → ℕ → ℕ → List EdgeUpdate → Option Entry
 merge_of log from number us = next_entry log Merged (Merge from number) (map (edge_touch log) (filter (is_news log) us))
 
 -- the entry that merges a job on the other shard's log; None where no record of the job is later than the log's
-abbrev pub merge_entry : EdgeTypes → List Entry → Owed → Option Entry
-merge_entry types log owed = merge_of log owed.shard (owed_number owed) (job_of types owed.entry)
+abbrev pub merge_entry : EdgeTypes → List Entry → JobSource → Option Entry
+merge_entry types log owed = merge_of log owed.shard (source_number owed) (job_of types owed.entry)
 
 -- what promotions made of the stores: each shard's epoch, the last epoch of all, and how many entries were lost
 pub record Epochs : Type 0 where

@@ -4,7 +4,7 @@ use Rattle.tao_base.specs.EdgeTypes.{EdgeTypes}
 use Rattle.tao_base.specs.Ids.{shard_of}
 use Rattle.tao_base.specs.declared.entry.Entry.{Entry}
 use Rattle.write_model.specs.Machine.{ClientWrite, ComesBefore, Commits, IsFirstJob, IsOpenJob, MergeInTurn, MergesNews}
-use Rattle.write_model.specs.Merges.{AreCovered, HasJob, Owed, Stores, job_of, log_of}
+use Rattle.write_model.specs.Merges.{AreCovered, HasJob, JobSource, Stores, job_of, log_of}
 use Rattle.graph_model.specs.Log.{entry_at}
 use Rattle.graph_model.specs.Soundness.{EdgeUpdate, IsSoundOf}
 
@@ -43,20 +43,20 @@ pub record CommitsWithJob (types : EdgeTypes) (old new : Stores) (w : ClientWrit
   pub epochs : new.epochs ≡ old.epochs
 
 -- an entry stands, in the epoch of its shard, and the records of its job lie on the other shard, whether that job is still open or not
-pub record IsOwed (types : EdgeTypes) (stores : Stores) (owed : Owed) : Type 0 where
+pub record IsOwed (types : EdgeTypes) (stores : Stores) (owed : JobSource) : Type 0 where
   pub epoch_is : owed.epoch ≡ stores.epochs.of owed.shard
   pub stands : entry_at (log_of stores.logs owed.shard) owed.entry.position ≡ Some owed.entry
   pub there : All (λ u. shard_of u.0 ≡ owed.other) (job_of types owed.entry)
 
 -- the job is merged at the other shard, where any of its records is news; no job is opened or ended
-pub record MergesJob (types : EdgeTypes) (old new : Stores) (owed : Owed) : Type 0 where
+pub record MergesJob (types : EdgeTypes) (old new : Stores) (owed : JobSource) : Type 0 where
   pub owes : IsOwed types old owed
   pub merges : MergesNews types old.logs new.logs owed
   pub jobs : JobsStay old new
   pub epochs : new.epochs ≡ old.epochs
 
 -- the job is ended, once all of its records are at the other shard
-pub record EndsJob (types : EdgeTypes) (old new : Stores) (owed : Owed) : Type 0 where
+pub record EndsJob (types : EdgeTypes) (old new : Stores) (owed : JobSource) : Type 0 where
   pub owes : IsOwed types old owed
   pub done : HasJob types (log_of old.logs owed.other) owed.entry
   pub logs : new.logs ≡ old.logs
@@ -65,7 +65,7 @@ pub record EndsJob (types : EdgeTypes) (old new : Stores) (owed : Owed) : Type 0
 
 -- a job is merged, or one is ended: what a retry, a repair and a settle do after a write, and nothing else changes the stores between two commits
 abbrev pub WorksOff : EdgeTypes → Stores → Stores → Type 0
-WorksOff types old new = (owed : Owed) × (MergesJob types old new owed ⊎ EndsJob types old new owed)
+WorksOff types old new = (owed : JobSource) × (MergesJob types old new owed ⊎ EndsJob types old new owed)
 
 -- stores that follow one another, each from those before by the merge or the end of one job
 abbrev pub WorksOffAll : EdgeTypes → Stores → List Stores → Type 0
@@ -78,7 +78,7 @@ AllRest old [] = Unit {0}
 AllRest old (new ∷ later) = (new.logs ≡ old.logs) × HaveNoJobs new × AllRest old later
 
 -- what an open job owes
-pub record IsJobOf (types : EdgeTypes) (stores : Stores) (shard position : ℕ) (us : List EdgeUpdate) (owed : Owed) : Type 0 where
+pub record IsJobOf (types : EdgeTypes) (stores : Stores) (shard position : ℕ) (us : List EdgeUpdate) (owed : JobSource) : Type 0 where
   pub job : IsOpenJob types stores owed
   pub owes : IsOwed types stores owed
   pub shard_is : owed.shard ≡ shard
@@ -86,13 +86,13 @@ pub record IsJobOf (types : EdgeTypes) (stores : Stores) (shard position : ℕ) 
   pub records_are : us ≡ job_of types owed.entry
 
 -- the shard's first job, where no lower shard has an open job
-pub record IsNextJob (types : EdgeTypes) (stores : Stores) (owed : Owed) : Type 0 where
+pub record IsNextJob (types : EdgeTypes) (stores : Stores) (owed : JobSource) : Type 0 where
   pub first : IsFirstJob types stores owed
   pub lower : (shard position : ℕ) → shard < owed.shard → stores.job shard position ≡ None
 
 -- a settle under way: it merged and ended these jobs, in order; those that are left were open before, and come later
-pub record Settling (types : EdgeTypes) (start now : Stores) (jobs : List Owed) : Type 0 where
+pub record Settling (types : EdgeTypes) (start now : Stores) (jobs : List JobSource) : Type 0 where
   pub open_jobs : All (IsOpenJob types start) jobs
   pub in_order : AllPairs ComesBefore jobs
   pub merges : MergeInTurn types start.logs now.logs jobs
-  pub left : (owed : Owed) → IsOpenJob types now owed → IsOpenJob types start owed × All (λ done. ComesBefore done owed) jobs
+  pub left : (owed : JobSource) → IsOpenJob types now owed → IsOpenJob types start owed × All (λ done. ComesBefore done owed) jobs

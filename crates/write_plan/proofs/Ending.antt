@@ -12,9 +12,9 @@ use Rattle.tao_base.specs.declared.entry.Entry.{Entry}
 use Rattle.tao_base.specs.declared.entry.Origin.{Origin}
 use Rattle.tao_base.specs.declared.write.Write.{Write}
 use Rattle.tao_keeper.specs.declared.jobs.Job.{Job}
-use Rattle.write_plan.specs.PlanLaws.{Applies, Came, CameBack, CameOfJob, EndsInTime, EndsLate, IsPlanAfter, IsCarriedOut, IsRefusedBy, MergesLate}
+use Rattle.write_plan.specs.PlanLaws.{Applies, Came, CameBack, CameOfJob, EndsInTime, EndsLeftOpen, IsPlanAfter, IsCarriedOut, IsRefusedBy, MergesLeftOpen}
 use Rattle.write_plan.specs.PlanLaws.{PlanLaws, RefusesBy, TakesResults, came, carries_of}
-use Rattle.write_plan.specs.Plans.{Writing, after_result, after_stage, back_stage, has_other, inverse_told, job_stage, begun_write, next_of}
+use Rattle.write_plan.specs.Plans.{Writing, after_result, after_stage, back_stage, has_other, inverse_said, job_stage, begun_write, next_of}
 use Rattle.write_plan.specs.Plans.{reply_of, stage_after, written_by}
 use Rattle.write_plan.specs.Stages.{result_stage}
 use Rattle.write_plan.specs.declared.committed.Committed.{Committed}
@@ -22,7 +22,7 @@ use Rattle.write_plan.specs.declared.progress.OtherEnd.{OtherEnd}
 use Rattle.write_plan.specs.declared.progress.OtherEnd.TheVariants.{Due, Merged, Ended, Open}
 use Rattle.write_plan.specs.declared.progress.WayBack.{WayBack}
 use Rattle.write_plan.specs.declared.progress.WayBack.TheVariants.{Ahead, Relayed, Applied}
-use Rattle.write_plan.specs.declared.results.Late.TheVariants.{Scheduled, Refused}
+use Rattle.write_plan.specs.declared.results.LeftOpen.TheVariants.{Scheduled, Refused}
 use Rattle.write_plan.specs.declared.results.WriteResult.{WriteResult}
 use Rattle.write_plan.specs.declared.results.WriteResult.TheVariants.{Commit, Inverse, End, Relay, Apply}
 use Rattle.write_plan.specs.declared.stage.WriteStage.{WriteStage}
@@ -211,11 +211,11 @@ record DidJob (b : Writing) (c : Committed) (cs : List Came) (q : Writing) : Typ
   of_job : List Came
   of_way : List Came
   came_is : cs ≡ of_job ++ of_way
-  told : CameOfJob c.wrote.job c.paired of_job other (inverse_told (has_other c) job)
+  told : CameOfJob c.wrote.job c.paired of_job other (inverse_said (has_other c) job)
   way : CameBack c.passed of_way
   is : q ≡ going b c job other Applied hops
 
-told_of_paired : (paired : Bool) → inverse_told paired Due ≡ (if paired then inverse.Written else inverse.None)
+told_of_paired : (paired : Bool) → inverse_said paired Due ≡ (if paired then inverse.Written else inverse.None)
 told_of_paired true = refl
 told_of_paired false = refl
 
@@ -241,8 +241,8 @@ module _ (b : Writing) (c : Committed) where
             of_job = [];
             of_way = cs;
             came_is = refl;
-            told = subst (λ f. CameOfJob f c.paired [] None (inverse_told (has_other c) Due)) (sym e)
-                (refl, refl, ap (λ p. inverse_told p Due) has ∙ told_of_paired c.paired);
+            told = subst (λ f. CameOfJob f c.paired [] None (inverse_said (has_other c) Due)) (sym e)
+                (refl, refl, ap (λ p. inverse_said p Due) has ∙ told_of_paired c.paired);
             way = w.way;
             is = w.is;
           })
@@ -264,8 +264,8 @@ module _ (b : Writing) (c : Committed) where
 
     -- the job came to this, and then came the way back
     did : (j : OtherEnd) (o : Option Wrote) (of_job cs whole : List Came) (q : Writing) → whole ≡ of_job ++ cs
-        → (EndsInTime of_job o (inverse_told (has_other c) j)
-        ⊎ (EndsLate of_job o (inverse_told (has_other c) j) ⊎ MergesLate of_job o (inverse_told (has_other c) j)))
+        → (EndsInTime of_job o (inverse_said (has_other c) j)
+        ⊎ (EndsLeftOpen of_job o (inverse_said (has_other c) j) ⊎ MergesLeftOpen of_job o (inverse_said (has_other c) j)))
         → WentBack b c j o cs q → DidJob b c whole q
     did j o of_job cs whole q is told w = record {
       job = j;
@@ -274,7 +274,7 @@ module _ (b : Writing) (c : Committed) where
       of_job = of_job;
       of_way = cs;
       came_is = is;
-      told = subst (λ f. CameOfJob f c.paired of_job o (inverse_told (has_other c) j)) (sym e) told;
+      told = subst (λ f. CameOfJob f c.paired of_job o (inverse_said (has_other c) j)) (sym e) told;
       way = w.way;
       is = w.is;
     }
@@ -285,7 +285,7 @@ module _ (b : Writing) (c : Committed) where
     end_first wrote m h (End (Ok done)) n rest q takes =
         before_part 2 (came (End (Ok done)) n) rest q (WentBack b c Ended (Some wrote) rest q) _
         (did Ended (Some wrote) (came (Inverse (Ok wrote)) m ∷ came (End (Ok tt)) n ∷ []) rest _ q refl
-        (inl (record { wrote = wrote; merges = m; ends = n; came_is = refl; other_is = refl; told_is = ap (λ x. inverse_told x Ended) has_job })))
+        (inl (record { wrote = wrote; merges = m; ends = n; came_is = refl; other_is = refl; told_is = ap (λ x. inverse_said x Ended) has_job })))
         (way_part b c Ended (Some wrote) (nothing_left Ended refl) (hops_after h n) rest q takes.1)
     end_first wrote m h (End (Err (Scheduled why more))) n rest q takes =
         before_part 2 (came (End (Err (Scheduled why more))) n) rest q (WentBack b c (Open why) (Some wrote) rest q) _
@@ -298,7 +298,7 @@ module _ (b : Writing) (c : Committed) where
           ends = n;
           came_is = refl;
           other_is = refl;
-          told_is = ap (λ x. inverse_told x (Open why)) has_job;
+          told_is = ap (λ x. inverse_said x (Open why)) has_job;
         }))))
         (way_part b c (Open why) (Some wrote) (nothing_left (Open why) refl) (hops_after h n) rest q takes.1)
     end_first wrote m h (End (Err (Refused reply))) n rest q takes =
@@ -324,7 +324,7 @@ module _ (b : Writing) (c : Committed) where
         let part = way_part b c (Open why) wrote (nothing_left (Open why) refl) (hops_after h n) rest q takes.1 in
         before_part 3 (came (Inverse (Err (Scheduled why wrote))) n) rest q (WentBack b c (Open why) wrote rest q) _
         (did (Open why) wrote (came (Inverse (Err (Scheduled why wrote))) n ∷ []) rest _ q refl
-        (inr (inr (record { why = why; merges = n; came_is = refl; told_is = ap (λ x. inverse_told x (Open why)) has_job }))))
+        (inr (inr (record { why = why; merges = n; came_is = refl; told_is = ap (λ x. inverse_said x (Open why)) has_job }))))
         (record { few = let low : length rest ≤ 2 = part.few in omega arith; done = part.done })
     inverse_first h (Inverse (Err (Refused reply))) n rest q takes =
         refused_here 3 (came (Inverse (Err (Refused reply))) n) rest (after_stage (going b c Due None Ahead h) (Inverse (Err (Refused reply))) n) q reply _
@@ -359,7 +359,7 @@ tells_by retry told None = (tt, (refl, refl, refl), refl)
 carried_out : (b : Writing) (c : Committed) (n : ℕ) (cs : List Came) (q : Writing) → q.hops ≡ min (n + carries_of cs) most_hops → DidJob b c cs q
     → IsCarriedOut (came (Commit (Ok c)) n ∷ cs) q
 carried_out b c n cs q sum g =
-    let told = inverse_told (has_other c) g.job in
+    let told = inverse_said (has_other c) g.job in
     let tells = tells_by c.wrote.retry told c.wrote.entry in
     record {
       committed = c;

@@ -18,14 +18,14 @@ IsAdding (AssocDelete id1 atype id2) = ⊥
 IsAdding (AssocChangeType id1 atype id2 newtype) = ⊥
 
 -- which write it was, as a reply tells it: an object's addition by the id that its entry gave
-abbrev pub told_kind : Write → Option Entry → Option WriteKind
-told_kind (ObjAdd shard otype payload) None = None
-told_kind (ObjAdd shard otype payload) (Some entry) = option_map kind.ObjAdd (first_put entry.touches)
-told_kind (ObjUpdate id payload) entry = Some kind.ObjUpdate
-told_kind (ObjDelete id) entry = Some kind.ObjDelete
-told_kind (AssocAdd id1 atype id2 time payload) entry = Some kind.AssocAdd
-told_kind (AssocDelete id1 atype id2) entry = Some kind.AssocDelete
-told_kind (AssocChangeType id1 atype id2 newtype) entry = Some kind.AssocChangeType
+abbrev pub kind_said : Write → Option Entry → Option WriteKind
+kind_said (ObjAdd shard otype payload) None = None
+kind_said (ObjAdd shard otype payload) (Some entry) = option_map kind.ObjAdd (first_put entry.touches)
+kind_said (ObjUpdate id payload) entry = Some kind.ObjUpdate
+kind_said (ObjDelete id) entry = Some kind.ObjDelete
+kind_said (AssocAdd id1 atype id2 time payload) entry = Some kind.AssocAdd
+kind_said (AssocDelete id1 atype id2) entry = Some kind.AssocDelete
+kind_said (AssocChangeType id1 atype id2 newtype) entry = Some kind.AssocChangeType
 
 -- a type that the write names has an inverse
 abbrev pub has_inverse : EdgeTypes → Write → Bool

@@ -17,7 +17,7 @@ use Rattle.tao_keeper.specs.declared.jobs.Job.{Job}
 use Rattle.write_plan.specs.Plans.{Writing, after_stage, begun_write, next_of, reply_of}
 use Rattle.write_plan.specs.Stages.{result_stage}
 use Rattle.write_plan.specs.declared.committed.Committed.{Committed}
-use Rattle.write_plan.specs.declared.results.Late.TheVariants.{Scheduled, Refused}
+use Rattle.write_plan.specs.declared.results.LeftOpen.TheVariants.{Scheduled, Refused}
 use Rattle.write_plan.specs.declared.results.WriteResult.{WriteResult}
 use Rattle.write_plan.specs.declared.results.WriteResult.TheVariants.{Commit, Inverse, End, Relay, Apply}
 use Rattle.write_plan.specs.declared.stage.WriteStage.TheVariants.{Done}
@@ -53,7 +53,7 @@ pub record EndsInTime (cs : List Came) (other : Option Wrote) (told : InverseEnd
   pub told_is : told ≡ inverse.Written
 
 -- the job of the write was merged and not removed: the inverse is scheduled, for that reason
-pub record EndsLate (cs : List Came) (other : Option Wrote) (told : InverseEnd) : Type 0 where
+pub record EndsLeftOpen (cs : List Came) (other : Option Wrote) (told : InverseEnd) : Type 0 where
   pub wrote : Wrote
   pub why : ScheduledWhy
   pub more : Option Wrote
@@ -64,7 +64,7 @@ pub record EndsLate (cs : List Came) (other : Option Wrote) (told : InverseEnd) 
   pub told_is : told ≡ inverse.Scheduled why
 
 -- the job of the write was not merged, or its answer lost: the inverse is scheduled, for that reason, and what was written is kept
-pub record MergesLate (cs : List Came) (other : Option Wrote) (told : InverseEnd) : Type 0 where
+pub record MergesLeftOpen (cs : List Came) (other : Option Wrote) (told : InverseEnd) : Type 0 where
   pub why : ScheduledWhy
   pub merges : ℕ
   pub came_is : cs ≡ came (Inverse (Err (Scheduled why other))) merges ∷ []
@@ -74,7 +74,7 @@ pub record MergesLate (cs : List Came) (other : Option Wrote) (told : InverseEnd
 -- there is no such stage, and the inverse is written where the write's type has one
 abbrev pub CameOfJob : Option Job → Bool → List Came → Option Wrote → InverseEnd → Type 0
 CameOfJob None paired cs other told = (cs ≡ []) × (other ≡ None) × (told ≡ (if paired then inverse.Written else inverse.None))
-CameOfJob (Some job) paired cs other told = EndsInTime cs other told ⊎ (EndsLate cs other told ⊎ MergesLate cs other told)
+CameOfJob (Some job) paired cs other told = EndsInTime cs other told ⊎ (EndsLeftOpen cs other told ⊎ MergesLeftOpen cs other told)
 
 -- the follower took the changes
 pub record Applies (cs : List Came) : Type 0 where

@@ -20,8 +20,8 @@ use Rattle.write_plan.specs.declared.progress.OtherEnd.{OtherEnd}
 use Rattle.write_plan.specs.declared.progress.OtherEnd.TheVariants.{Due, Merged, Ended, Open}
 use Rattle.write_plan.specs.declared.progress.WayBack.{WayBack}
 use Rattle.write_plan.specs.declared.progress.WayBack.TheVariants.{Ahead, Relayed, Applied}
-use Rattle.write_plan.specs.declared.results.Late.{Late}
-use Rattle.write_plan.specs.declared.results.Late.TheVariants.{Scheduled, Refused}
+use Rattle.write_plan.specs.declared.results.LeftOpen.{LeftOpen}
+use Rattle.write_plan.specs.declared.results.LeftOpen.TheVariants.{Scheduled, Refused}
 use Rattle.write_plan.specs.declared.results.WriteResult.{WriteResult}
 use Rattle.write_plan.specs.declared.results.WriteResult.TheVariants as came
 use Rattle.write_plan.specs.declared.stage.WriteStage.{WriteStage}
@@ -100,9 +100,9 @@ written_there (Some before) more = Some before
 written_there None more = more
 
 -- the job stays open, or the plan ends
-abbrev pub after_late : Writing → Late → Writing
-after_late p (Scheduled why wrote) = record p { job = Open why; other = written_there p.other wrote }
-after_late p (Refused reply) = refused_by p reply
+abbrev pub after_left_open : Writing → LeftOpen → Writing
+after_left_open p (Scheduled why wrote) = record p { job = Open why; other = written_there p.other wrote }
+after_left_open p (Refused reply) = refused_by p reply
 
 -- the way back has come so far, or the plan ends
 abbrev pub after_way : {T : Type 0} → Writing → Result T Reply → WayBack → Writing
@@ -114,9 +114,9 @@ abbrev pub after_result : Writing → WriteResult → Writing
 after_result p (came.Commit (Ok c)) = record p { committed = Some c }
 after_result p (came.Commit (Err reply)) = refused_by p reply
 after_result p (came.Inverse (Ok wrote)) = record p { job = Merged; other = written_there p.other (Some wrote) }
-after_result p (came.Inverse (Err late)) = after_late p late
+after_result p (came.Inverse (Err late)) = after_left_open p late
 after_result p (came.End (Ok done)) = record p { job = Ended }
-after_result p (came.End (Err late)) = after_late p late
+after_result p (came.End (Err late)) = after_left_open p late
 after_result p (came.Relay answer) = after_way p answer Relayed
 after_result p (came.Apply answer) = after_way p answer Applied
 
@@ -146,10 +146,10 @@ abbrev pub has_other : Committed → Bool
 has_other c = is_some c.wrote.job || c.paired
 
 -- what became of the inverse of an edge that was written: a job that is late is to write it, else it is written where there is one
-abbrev pub inverse_told : Bool → OtherEnd → InverseEnd
-inverse_told other (Open why) = inverse.Scheduled why
-inverse_told true job = inverse.Written
-inverse_told false job = inverse.None
+abbrev pub inverse_said : Bool → OtherEnd → InverseEnd
+inverse_said other (Open why) = inverse.Scheduled why
+inverse_said true job = inverse.Written
+inverse_said false job = inverse.None
 
 -- what was written: by the entry that the commit answered, where it did
 abbrev pub written_by : Bool → InverseEnd → Option Entry → Written
@@ -160,7 +160,7 @@ written_by retry told (Some entry) = record { changed = true; inverse = told; po
 abbrev pub reply_after : Committed → OtherEnd → ℕ → Reply
 reply_after c job hops = Called (OfWrite (record {
   kind = c.kind;
-  written = written_by c.wrote.retry (inverse_told (has_other c) job) c.wrote.entry;
+  written = written_by c.wrote.retry (inverse_said (has_other c) job) c.wrote.entry;
   hops = hops;
 }))
 

@@ -8,13 +8,13 @@ use Rattle.write_plan.specs.declared.stage.WriteStage.{WriteStage}
 use Rattle.write_plan.specs.declared.stage.WriteStage.TheVariants.{Commit, Inverse, End, Relay, Apply, Done}
 
 -- how a reply tells a stage; none where nothing is left
-abbrev pub told_stage : WriteStage → Option Stage
-told_stage Commit = Some told.Commit
-told_stage Inverse = Some told.Inverse
-told_stage End = Some told.End
-told_stage Relay = Some told.Relay
-told_stage Apply = Some told.Apply
-told_stage Done = None
+abbrev pub stage_said : WriteStage → Option Stage
+stage_said Commit = Some told.Commit
+stage_said Inverse = Some told.Inverse
+stage_said End = Some told.End
+stage_said Relay = Some told.Relay
+stage_said Apply = Some told.Apply
+stage_said Done = None
 
 -- the stage that a result came of
 abbrev pub result_stage : WriteResult → WriteStage

@@ -3,7 +3,7 @@ ghost use Rattle.std.specs.Prelude.{◌≡◌, IfSome, Some};
 ghost use Rattle.shard_tables.specs.Written.{HasEntry};
 ghost use Rattle.tao_schema.specs.Schema.{types_of};
 ghost use Rattle.write_model.specs.Writes.{FitsWrite};
-ghost use Rattle.write_plan.specs.Committing.{IsAdding, has_inverse, told_kind};
+ghost use Rattle.write_plan.specs.Committing.{IsAdding, has_inverse, kind_said};
 
 use node_name::NodeName;
 use replies::WriteKind;
@@ -31,7 +31,7 @@ fn adding(entry: &Option<Entry>, write: &Write) -> WriteKind
     requires adds { IsAdding write.now }
     requires fits { IfSome entry.now (λ e. FitsWrite e write.now) }
     requires entry { HasEntry write.now entry.now }
-    ensures { told_kind write.now entry.now ≡ Some result }
+    ensures { kind_said write.now entry.now ≡ Some result }
 {
     let Some(entry) = entry else { unreachable!() };
     match object_added(entry) {
@@ -41,10 +41,10 @@ fn adding(entry: &Option<Entry>, write: &Write) -> WriteKind
 }
 
 /// Which write it was.
-pub fn told_kind(write: &Write, entry: &Option<Entry>) -> WriteKind
+pub fn kind_said(write: &Write, entry: &Option<Entry>) -> WriteKind
     requires fits { IfSome entry.now (λ e. FitsWrite e write.now) }
     requires entry { HasEntry write.now entry.now }
-    ensures { told_kind write.now entry.now ≡ Some result }
+    ensures { kind_said write.now entry.now ≡ Some result }
 {
     match write {
         Write::ObjAdd { .. } => adding(entry, write),
@@ -85,11 +85,11 @@ impl Committed {
         ensures wrote { result.wrote ≡ wrote }
         ensures leader { result.leader ≡ leader }
         ensures passed { result.passed ≡ passed }
-        ensures kind { told_kind write.now wrote.entry ≡ Some result.kind }
+        ensures kind { kind_said write.now wrote.entry ≡ Some result.kind }
         ensures paired { result.paired ≡ has_inverse (types_of schema.now) write.now }
     {
         Committed {
-            kind: told_kind(write, &wrote.entry),
+            kind: kind_said(write, &wrote.entry),
             paired: has_inverse(schema, write),
             wrote,
             leader,

@@ -16,8 +16,8 @@ mod progress;
 mod results;
 mod stage;
 
-pub use committed::{Committed, told_kind};
+pub use committed::{Committed, kind_said};
 pub use plan::{EndedWrite, WritePlan};
 pub use progress::{OtherEnd, WayBack};
-pub use results::{Late, WriteResult};
+pub use results::{LeftOpen, WriteResult};
 pub use stage::WriteStage;

@@ -3,7 +3,7 @@ ghost use Rattle.std.specs.Prelude.{◌≡◌, ◌≢◌, IfOk, Some, option_cop
 
 use crate::committed::Committed;
 use crate::progress::{OtherEnd, WayBack, reply_by, stage_after};
-use crate::results::{Late, WriteResult};
+use crate::results::{LeftOpen, WriteResult};
 use crate::stage::WriteStage;
 use node_name::NodeName;
 use replies::{Reply, When};
@@ -52,7 +52,7 @@ impl Model for WritePlan {
 
 impl WritePlan {
     ghost use Rattle.replies.specs.declared.reply.Reply.{Reply};
-    ghost use Rattle.write_plan.specs.Plans.{after_late, after_result, after_stage, after_way, answered_entry, answered_job, begun_write, next_of};
+    ghost use Rattle.write_plan.specs.Plans.{after_left_open, after_result, after_stage, after_way, answered_entry, answered_job, begun_write, next_of};
     ghost use Rattle.write_plan.specs.Plans.{refused_by, reply_of, when_of, written_there};
     ghost use Rattle.write_plan.specs.Stages.{result_stage};
     ghost use Rattle.write_plan.specs.declared.stage.WriteStage.TheVariants.{Done};
@@ -231,7 +231,7 @@ impl WritePlan {
         }
     }
 
-    fn keep_inverse(&mut self, answer: Result<Wrote, Late>)
+    fn keep_inverse(&mut self, answer: Result<Wrote, LeftOpen>)
         ensures { self.new ≡ after_result self.old (WriteResult.Inverse answer) }
     {
         match answer {
@@ -239,28 +239,28 @@ impl WritePlan {
                 self.job = OtherEnd::Merged;
                 self.know(Some(wrote));
             }
-            Err(late) => self.keep_late(late),
+            Err(late) => self.keep_open(late),
         }
     }
 
-    fn keep_end(&mut self, answer: Result<(), Late>)
+    fn keep_end(&mut self, answer: Result<(), LeftOpen>)
         ensures { self.new ≡ after_result self.old (WriteResult.End answer) }
     {
         match answer {
             Ok(()) => self.job = OtherEnd::Ended,
-            Err(late) => self.keep_late(late),
+            Err(late) => self.keep_open(late),
         }
     }
 
-    fn keep_late(&mut self, late: Late)
-        ensures { self.new ≡ after_late self.old late }
+    fn keep_open(&mut self, late: LeftOpen)
+        ensures { self.new ≡ after_left_open self.old late }
     {
         match late {
-            Late::Scheduled { why, wrote } => {
+            LeftOpen::Scheduled { why, wrote } => {
                 self.job = OtherEnd::Open { why };
                 self.know(wrote);
             }
-            Late::Refused(reply) => self.refuse(reply),
+            LeftOpen::Refused(reply) => self.refuse(reply),
         }
     }
 

@@ -1,6 +1,6 @@
 //! How far the two ends of a write have come, and what that makes of its next stage and its reply.
 ghost use Rattle.std.specs.Prelude.{◌≡◌, ◌⊎◌, IsSome, Some};
-ghost use Rattle.write_plan.specs.Plans.{has_other, inverse_told, reply_after, reply_by, stage_after, written_by};
+ghost use Rattle.write_plan.specs.Plans.{has_other, inverse_said, reply_after, reply_by, stage_after, written_by};
 
 use crate::committed::Committed;
 use crate::stage::WriteStage;
@@ -56,8 +56,8 @@ fn has_other(committed: &Committed) -> bool
 }
 
 /// What became of the inverse of an edge that was written, which has another end or not.
-fn inverse_told(other: bool, job: OtherEnd) -> InverseEnd
-    ensures { result ≡ inverse_told other job }
+fn inverse_said(other: bool, job: OtherEnd) -> InverseEnd
+    ensures { result ≡ inverse_said other job }
 {
     match job {
         OtherEnd::Open { why } => InverseEnd::Scheduled { why },
@@ -90,7 +90,7 @@ fn written_by(retry: bool, told: InverseEnd, entry: &Option<Entry>) -> Written
 fn reply_after(committed: &Committed, job: OtherEnd, hops: u64) -> Reply
     ensures { result ≡ reply_after committed.now job hops }
 {
-    let told = inverse_told(has_other(committed), job);
+    let told = inverse_said(has_other(committed), job);
     Reply::Called(CallReply::Write(WriteReply {
         kind: committed.kind,
         written: written_by(committed.wrote.retry, told, &committed.wrote.entry),

@@ -9,7 +9,7 @@ use shard_tables::Wrote;
 
 /// Why a job was not merged, or not removed.
 #[derive(Drop)]
-pub enum Late {
+pub enum LeftOpen {
     /// The job stays open, and the write goes on. The merge may have been written all the same, as where its answer was lost
     /// on the way back.
     Scheduled {
@@ -25,8 +25,8 @@ pub enum Late {
 pub enum WriteResult {
     Commit(Result<Committed, Reply>),
     /// What the merge wrote at the other end.
-    Inverse(Result<Wrote, Late>),
-    End(Result<(), Late>),
+    Inverse(Result<Wrote, LeftOpen>),
+    End(Result<(), LeftOpen>),
     Relay(Result<(), Reply>),
     Apply(Result<(), Reply>),
 }

@@ -1,6 +1,6 @@
 //! The stages of a write.
 ghost use Rattle.std.specs.Prelude.{◌≡◌};
-ghost use Rattle.write_plan.specs.Stages.{told_stage};
+ghost use Rattle.write_plan.specs.Stages.{stage_said};
 
 use replies::Stage;
 
@@ -24,7 +24,7 @@ pub enum WriteStage {
 impl WriteStage {
     /// How a reply tells the stage; none where nothing is left.
     pub fn told(self) -> Option<Stage>
-        ensures { result ≡ told_stage self }
+        ensures { result ≡ stage_said self }
     {
         match self {
             WriteStage::Commit => Some(Stage::Commit),

@@ -5,10 +5,10 @@ use Rattle.topology.specs.Choices.{serving_follower}
 use Rattle.topology.specs.Counts.{NodeCounts, tier_count}
 use Rattle.topology.specs.States.{is_up}
 use Rattle.core_model.specs.Fleet.{ChangesNode, HasNode, node_names}
-use Rattle.core_model.specs.Messages.{told_of}
+use Rattle.core_model.specs.Messages.{notified_of}
 use Rattle.core_mail.specs.Inboxes.{entry_message}
 use Rattle.core_mail.proofs.InboxLemmas.{names_kept}
-use Rattle.core_mail.proofs.Telling.{SendsRest, all_told, one_down, one_told, told_from, told_there}
+use Rattle.core_mail.proofs.Notifying.{SendsRest, all_notified, one_down, one_notified, notified_from, notified_there}
 use Rattle.core_mail.proofs.mail.send_each.Goals.{then-is_up, else-is_up}
 use Rattle.core_mail.proofs.mail.send_each.Goals as goal
 
@@ -18,7 +18,7 @@ send_at-requires-clause-there c =
     let called : c.serving_follower-follower.result ≡ serving_follower states.regions c.args.region c.loop-tier.tier c.args.shard =
     c.serving_follower-follower.ensures ∙ ap (λ (rs : List NodeCounts). serving_follower rs c.args.region c.loop-tier.tier c.args.shard) (sym c.requires.own) in
     subst (λ name. HasNode name c.loop-tier.inboxes) (sym called)
-    (told_there c.args.config.now states c.args.region c.loop-tier.tier c.args.shard c.loop-tier.inboxes c.requires.own c.loop-tier.invariant.names
+    (notified_there c.args.config.now states c.args.region c.loop-tier.tier c.args.shard c.loop-tier.inboxes c.requires.own c.loop-tier.invariant.names
     (subst (λ name. is_up states name ≡ true) called (sym c.is_up.ensures ∙ c.if-is_up.true)))
 
 pub loop-tier-preserved : goal.loop-tier-preserved
@@ -28,8 +28,8 @@ loop-tier-preserved c =
     let start = c.args.inboxes.now in
     let m = entry_message c.args.shard c.args.entry.now c.args.note.now in
     let name = c.serving_follower-follower.result in
-    let all = told_of states c.args.region c.args.shard in
-    let left : ℕ → List NodeName = told_from states c.args.region c.args.shard in
+    let all = notified_of states c.args.region c.args.shard in
+    let left : ℕ → List NodeName = notified_from states c.args.region c.args.shard in
     let many : c.tier_count-tier-end.result ≡ tier_count states.regions c.args.region =
     c.tier_count-tier-end.ensures ∙ ap (λ (rs : List NodeCounts). tier_count rs c.args.region) (sym c.requires.own) in
     let within : tier < tier_count states.regions c.args.region = omega (arith, c.loop-tier-test.true, many) in
@@ -43,7 +43,7 @@ loop-tier-preserved c =
           record {
             sends =
                 subst (SendsRest all (left (tier + 1)) m start) (sym w.inboxes-is)
-                (one_told states c.args.region c.args.shard m tier start c.loop-tier.inboxes w.send_at.new.inboxes name within called
+                (one_notified states c.args.region c.args.shard m tier start c.loop-tier.inboxes w.send_at.new.inboxes name within called
                 (sym c.is_up.ensures ∙ w.if-is_up.true) change c.loop-tier.invariant.sends);
             names = ap node_names w.inboxes-is ∙ (names_kept (IsSent m) name c.loop-tier.inboxes w.send_at.new.inboxes change ∙ c.loop-tier.invariant.names);
             same = w.note-is ∙ (w.send_at.ensures.note ∙ c.loop-tier.invariant.same);
@@ -64,5 +64,5 @@ returns-clause-sends c =
     let many : c.tier_count-tier-end.result ≡ tier_count states.regions c.args.region =
     c.tier_count-tier-end.ensures ∙ ap (λ (rs : List NodeCounts). tier_count rs c.args.region) (sym c.requires.own) in
     let past : tier_count states.regions c.args.region ≤ c.loop-tier.tier = omega (arith, c.loop-tier-test.false, many) in
-    all_told states c.args.region c.args.shard (entry_message c.args.shard c.args.entry.now c.args.note.now) c.loop-tier.tier c.args.inboxes.now
+    all_notified states c.args.region c.args.shard (entry_message c.args.shard c.args.entry.now c.args.note.now) c.loop-tier.tier c.args.inboxes.now
     c.loop-tier.inboxes past c.loop-tier.invariant.sends

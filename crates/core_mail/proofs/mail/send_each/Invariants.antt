@@ -1,14 +1,14 @@
 use Rattle.std.proofs.Common.{◌≡◌}
 use Rattle.core_model.specs.Fleet.{node_names}
-use Rattle.core_model.specs.Messages.{told_of}
+use Rattle.core_model.specs.Messages.{notified_of}
 use Rattle.core_mail.specs.Inboxes.{cache_names, entry_message}
-use Rattle.core_mail.proofs.Telling.{SendsRest, told_from}
+use Rattle.core_mail.proofs.Notifying.{SendsRest, notified_from}
 use Rattle.core_mail.proofs.mail.send_each.Given as goal
 
 -- what was sent so far, with what is sent from here on, comes to the whole
 abbrev pub invariant-loop-tier : goal.invariant-loop-tier
 invariant-loop-tier l = record {
-  sends : SendsRest (told_of l.topology l.region l.shard) (told_from l.topology l.region l.shard l.tier)
+  sends : SendsRest (notified_of l.topology l.region l.shard) (notified_from l.topology l.region l.shard l.tier)
       (entry_message l.shard l.entry l.fn.note) l.fn.inboxes l.inboxes;
   names : node_names l.inboxes ≡ cache_names l.config;
   same : l.note ≡ l.fn.note;

@@ -11,8 +11,8 @@ use Rattle.core_nodes.proofs.MasterStores.{IsMasterRead, master_read}
 use Rattle.core_nodes.specs.Repairs.{outside}
 use Rattle.core_nodes.proofs.jobs.merge_over.Goals as goal
 
-pub merge_there-requires : goal.merge_there-requires
-merge_there-requires g c =
+pub merge_far-requires : goal.merge_far-requires
+merge_far-requires g c =
     let tells = g.K.Keeper.TELLS in
     let s : Settings = c.args.config.now in
     let tables = (g.K.Keeper.state c.args.keepers.now).told in
@@ -31,23 +31,23 @@ returns g c =
     let s : Settings = c.args.config.now in
     let j = job_on c.args.from c.args.job.now in
     let old = outside (g.K.Keeper.state c.args.keepers.now) (g.L.Link.shown c.args.link.now) in
-    let new = outside (g.K.Keeper.state c.merge_there.new.keeper) (g.L.Link.shown c.merge_there.new.link) in
-    let r = c.merge_there.result in
+    let new = outside (g.K.Keeper.state c.merge_far.new.keeper) (g.L.Link.shown c.merge_far.new.link) in
+    let r = c.merge_far.result in
     let xs = c.args.stores.now in
     let place = c.store_place-place.result in
     let store : Store = slice_index_or xs place c.index-stores-place.result in
-    let made = c.merge_there.new.to in
+    let made = c.merge_far.new.to in
     let is : IsMasterRead tells s old.keepers.told xs (far_shard c.args.job.now) place store =
     master_read tells s old.keepers.told xs c.requires.stores c.masters_are_regions.ensures (far_shard c.args.job.now) c.requires.there _ _ _ _
     c.index-stores-place.result c.store_place-place.ensures c.region_store-at.ensures c.master_of.ensures c.far_shard-shard.ensures in
     let match = subst (λ k. InversesMatch (types_of k)) (ap (λ s. s.schema) c.config.view_is) c.inverses_match.ensures in
     let took : TakesJob tells (job_between c.master_store-from.result store c.args.job.now) old new made r = record {
-      merges = c.merge_there.ensures.merges;
-      to = c.merge_there.ensures.to;
-      grows = c.merge_there.ensures.grows;
-      keeper = c.merge_there.ensures.keeper;
-      carries = c.merge_there.ensures.carries;
-      logs = c.merge_there.ensures.logs;
+      merges = c.merge_far.ensures.merges;
+      to = c.merge_far.ensures.to;
+      grows = c.merge_far.ensures.grows;
+      keeper = c.merge_far.ensures.keeper;
+      carries = c.merge_far.ensures.carries;
+      logs = c.merge_far.ensures.logs;
     } in
     let left = far_merged tells s j c.master_store-from.result xs place store made old new r c.requires.stores c.requires.there c.master_store-from.ensures
     is match c.requires.owed c.requires.given.some took in
@@ -58,5 +58,5 @@ returns g c =
       stores = left.stores;
       rise = left.rise;
       grows = left.grows;
-      calls = c.merge_there.ensures.calls;
+      calls = c.merge_far.ensures.calls;
     }

@@ -4,7 +4,7 @@ use Rattle.core_mail.specs.Inboxes.{AreInboxesOf, HaveArrived}
 use Rattle.core_model.specs.Pens.{pens_of}
 use Rattle.core_nodes.proofs.GrowingLemmas.{stays_stores}
 use Rattle.graph_model.specs.Told.{WhereTold}
-use Rattle.core_steps.proofs.TellLemmas.{arrived_grows}
+use Rattle.core_steps.proofs.NotifyLemmas.{arrived_grows}
 use Rattle.core_plans.proofs.plans.held_stage.Goals as goal
 
 pub returns-in-Read-clause-on : goal.returns-in-Read-clause-on

@@ -7,7 +7,7 @@ use Rattle.core_repairs.specs.Repairs.{FindsFirst, FindsOpenJob, IsNotRepaired}
 use Rattle.core_steps.proofs.PostsLemmas.{can_post_on, posts_trans}
 use Rattle.shard_tables.specs.Written.{StandsIn}
 use Rattle.topology.specs.Config.{Settings}
-use Rattle.core_repairs.proofs.RepairLemmas.{leaves_rest, not_run, posts_asked, posts_told}
+use Rattle.core_repairs.proofs.RepairLemmas.{leaves_rest, not_run, posts_asked, posts_notified}
 use Rattle.core_repairs.proofs.repairs.repair_first.Goals as goal
 
 -- only the keepers were asked
@@ -96,15 +96,15 @@ returns-clause-on g c =
     let asked = world_with c.note_before.new.fleet was.mail was.topology found link in
     let ran = c.merge_and_end in
     let merged = world ran.new.nodes (g.K.Keeper.state ran.new.keepers) (g.L.Link.shown ran.new.link) in
-    let new = world c.tell_of_repair.new.nodes merged.keepers merged.link in
+    let new = world c.notify_of_repair.new.nodes merged.keepers merged.link in
     let on = posts_trans tells s old asked merged
     (posts_asked tells s was before found c.note_before.new.fleet link c.requires.ready (same ∙ finds.same) finds.tables
     (subst (IsConsistent tells s found.told) (sym same) finds.consistent) finds.later) ran.ensures.on in
     let far = c.far_shard-far.result in
     let wrote = c.in_ok-wrote.wrote in
-    let tells_of = c.tell_of_repair.ensures in
+    let tells_of = c.notify_of_repair.ensures in
     posts_trans tells s old merged new on
-    (posts_told tells s ran.new.nodes c.tell_of_repair.new.nodes merged.keepers merged.link far wrote (can_post_on tells s old merged c.requires.ready on)
+    (posts_notified tells s ran.new.nodes c.notify_of_repair.new.nodes merged.keepers merged.link far wrote (can_post_on tells s old merged c.requires.ready on)
     c.masters_are_regions.ensures (subst (λ (n : Settings). far < n.shards) c.config.view_is c.if-far-config.false)
     (subst (λ n. IfSome wrote (StandsIn (pens_of merged.fleet.stores n))) (sym c.far_shard-far.ensures) c.in_ok-wrote.ensures.stands)
     tells_of.told tells_of.inboxes tells_of.rest)

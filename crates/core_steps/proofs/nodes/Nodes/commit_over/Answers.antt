@@ -9,7 +9,7 @@ use Rattle.core_model.specs.Jobs.{CanBeMerged, job_on}
 use Rattle.core_model.specs.Pens.{IsSeen, pens_of}
 use Rattle.core_model.specs.Stores.{master_store}
 use Rattle.core_steps.specs.Replies.{refused_as}
-use Rattle.core_steps.specs.Posting.{PostsOn, TellsOfNew}
+use Rattle.core_steps.specs.Posting.{PostsOn, NotifiesOfNew}
 use Rattle.core_steps.specs.World.{world, world_with}
 use Rattle.core_steps.specs.declared.nodes.Nodes.{Nodes}
 use Rattle.core_steps.specs.Writes.{CanBeApplied, IsCommitted, RefusesCommit, client_call, new_entry, sent_write}
@@ -17,24 +17,24 @@ use Rattle.core_nodes.proofs.GrowingLemmas.{gains_stores}
 use Rattle.core_steps.proofs.LinkLemmas.{carried_on}
 use Rattle.core_steps.proofs.MergeLemmas.{can_merge}
 use Rattle.core_steps.proofs.StepLemmas.{commits}
-use Rattle.core_steps.proofs.TellLemmas.{arrived_grows, arrived_told, of_new}
+use Rattle.core_steps.proofs.NotifyLemmas.{arrived_grows, arrived_notified, of_new}
 use Rattle.core_steps.proofs.WriteLemmas.{refused, seen_there, stands_in_log}
 use Rattle.core_steps.proofs.nodes.Nodes.commit_over.Goals as goal
 
-pub tell_of_new-requires-clause-here : goal.tell_of_new-requires-clause-here
-tell_of_new-requires-clause-here g c = subst (λ n. n < c.args.config.now.shards) (sym c.shard.ensures) c.requires.here
+pub notify_of_new-requires-clause-here : goal.notify_of_new-requires-clause-here
+notify_of_new-requires-clause-here g c = subst (λ n. n < c.args.config.now.shards) (sym c.shard.ensures) c.requires.here
 
-pub tell_of_new-requires-clause-own : goal.tell_of_new-requires-clause-own
-tell_of_new-requires-clause-own g c = c.requires.ready.states.regions
+pub notify_of_new-requires-clause-own : goal.notify_of_new-requires-clause-own
+notify_of_new-requires-clause-own g c = c.requires.ready.states.regions
 
-pub tell_of_new-requires-clause-names : goal.tell_of_new-requires-clause-names
-tell_of_new-requires-clause-names g c = c.requires.ready.inboxes.names
+pub notify_of_new-requires-clause-names : goal.notify_of_new-requires-clause-names
+notify_of_new-requires-clause-names g c = c.requires.ready.inboxes.names
 
-pub tell_of_new-requires-clause-stands : goal.tell_of_new-requires-clause-stands
-tell_of_new-requires-clause-stands g c = c.in-Ok.ensures.done.stands
+pub notify_of_new-requires-clause-stands : goal.notify_of_new-requires-clause-stands
+notify_of_new-requires-clause-stands g c = c.in-Ok.ensures.done.stands
 
-pub tell_of_new-requires-clause-lies : goal.tell_of_new-requires-clause-lies
-tell_of_new-requires-clause-lies g c =
+pub notify_of_new-requires-clause-lies : goal.notify_of_new-requires-clause-lies
+notify_of_new-requires-clause-lies g c =
     subst (λ n. IfSome c.in-Ok.wrote.entry (LiesOn c.in-Ok.wrote.note n)) (sym c.shard.ensures) c.in-Ok.ensures.done.here
 
 pub returns-in-Ok-clause-committed : goal.returns-in-Ok-clause-committed
@@ -47,7 +47,7 @@ returns-in-Ok-clause-committed g c =
     let was = c.args.self.now in
     let link = g.L.Link.shown c.carry.new.link in
     let old = world was (state c.args.keepers.now) (g.L.Link.shown c.args.link.now) in
-    let told = c.tell_of_new.new.self in
+    let told = c.notify_of_new.new.self in
     let mid = record was { fleet = c.commit.new.self; mail = told.mail } in
     let is : IsCommitted g.K.Keeper.TELLS s (sent_write c.args.route call) wrote old (world mid (state c.commit.new.keepers) link) = record {
       commits = commits s (state c.args.keepers.now) (state c.commit.new.keepers) call c.requires.here g.K.Keeper.TELLS wrote.retry wrote.entry
@@ -55,17 +55,17 @@ returns-in-Ok-clause-committed g c =
           (λ told. g.met.K.Keeper.of_entries c.args.keepers.now (master_store s shard) told) c.in-Ok.ensures.done.answer c.in-Ok.ensures.done.tables;
       leader = record { note = wrote.note; takes = c.in-Ok.ensures.node };
       followers = c.in-Ok.ensures.followers;
-      told = subst (λ n. TellsOfNew was.topology c.args.route.leader n (new_entry wrote.retry wrote.entry) was.mail told.mail)
-          c.shard.ensures c.tell_of_new.ensures.told;
+      told = subst (λ n. NotifiesOfNew was.topology c.args.route.leader n (new_entry wrote.retry wrote.entry) was.mail told.mail)
+          c.shard.ensures c.notify_of_new.ensures.told;
       states = refl;
       link = c.in_default.ensures.ok;
       opens = c.in-Ok.ensures.done.job;
       finds = c.in-Ok.ensures.done.found;
     } in
     subst (λ w. IsCommitted g.K.Keeper.TELLS s (sent_write c.args.route call) w old (world told (state c.commit.new.keepers) link))
-    (sym c.tell_of_new.ensures.same)
+    (sym c.notify_of_new.ensures.same)
     (subst (λ n. IsCommitted g.K.Keeper.TELLS s (sent_write c.args.route call) wrote old (world n (state c.commit.new.keepers) link))
-    (sym c.tell_of_new.ensures.rest) is)
+    (sym c.notify_of_new.ensures.rest) is)
 
 pub returns-in-Ok-clause-apply : goal.returns-in-Ok-clause-apply
 returns-in-Ok-clause-apply g c =
@@ -78,15 +78,15 @@ returns-in-Ok-clause-apply g c =
           c.in-Ok.ensures.done.stands;
       here = c.in-Ok.ensures.done.here;
     } in
-    subst (λ (n : Nodes). CanBeApplied call c.tell_of_new.new.wrote n.fleet.stores) (sym c.tell_of_new.ensures.rest)
-    (subst (λ w. CanBeApplied call w stores) (sym c.tell_of_new.ensures.same) can)
+    subst (λ (n : Nodes). CanBeApplied call c.notify_of_new.new.wrote n.fleet.stores) (sym c.notify_of_new.ensures.rest)
+    (subst (λ w. CanBeApplied call w stores) (sym c.notify_of_new.ensures.same) can)
 
 pub returns-in-Ok-clause-job : goal.returns-in-Ok-clause-job
 returns-in-Ok-clause-job g c =
     let tables = (g.K.Keeper.state c.commit.new.keepers).told in
     let shard = write_shard c.args.write.now in
     let s = c.args.config.now in
-    subst (λ w. IfSome w.job (λ job. CanBeMerged g.K.Keeper.TELLS s tables (job_on shard job))) (sym c.tell_of_new.ensures.same)
+    subst (λ w. IfSome w.job (λ job. CanBeMerged g.K.Keeper.TELLS s tables (job_on shard job))) (sym c.notify_of_new.ensures.same)
     (can_merge g.K.Keeper.TELLS s tables shard c.in-Ok.wrote.job c.in-Ok.ensures.done.given c.in-Ok.ensures.owes)
 
 pub returns-in-Ok-clause-on : goal.returns-in-Ok-clause-on
@@ -98,7 +98,7 @@ returns-in-Ok-clause-on g c =
     let tables = (state c.commit.new.keepers).told in
     let wrote = c.in-Ok.wrote in
     let was = c.args.self.now in
-    let told = c.tell_of_new.new.self in
+    let told = c.notify_of_new.new.self in
     let stores = c.commit.new.self.stores in
     let pens = pens_of stores in
     let added = added_entry c.commit.result in
@@ -106,14 +106,14 @@ returns-in-Ok-clause-on g c =
     let old = world was (state c.args.keepers.now) (g.L.Link.shown c.args.link.now) in
     let is : PostsOn tells s old (world_with c.commit.new.self told.mail was.topology (state c.commit.new.keepers) link) = record {
       consistent = c.commit.ensures.consistent;
-      inboxes = c.tell_of_new.ensures.of pens (subst (λ n. IsSeen pens n wrote.note) (sym c.shard.ensures) c.in-Ok.ensures.seen)
+      inboxes = c.notify_of_new.ensures.of pens (subst (λ n. IsSeen pens n wrote.note) (sym c.shard.ensures) c.in-Ok.ensures.seen)
           ((inboxes_stay s (pens_of was.fleet.stores) was.mail).rises pens c.commit.ensures.goes.rise c.requires.ready.inboxes);
-      arrived = arrived_told tells s tables stores shard c.masters_are_regions.ensures c.commit.ensures.consistent.stores c.requires.here
+      arrived = arrived_notified tells s tables stores shard c.masters_are_regions.ensures c.commit.ensures.consistent.stores c.requires.here
           was.topology c.args.route.leader (new_entry wrote.retry wrote.entry) was.mail told.mail c.requires.ready.states
           (of_new (StandsIn (pens shard)) wrote.retry wrote.entry (stands_in_log pens shard wrote.note wrote.entry
           (seen_there pens shard wrote.note wrote.entry c.in-Ok.ensures.seen c.in-Ok.ensures.done.stands)))
-          (subst (λ n. TellsOfNew was.topology c.args.route.leader n (new_entry wrote.retry wrote.entry) was.mail told.mail)
-          c.shard.ensures c.tell_of_new.ensures.told)
+          (subst (λ n. NotifiesOfNew was.topology c.args.route.leader n (new_entry wrote.retry wrote.entry) was.mail told.mail)
+          c.shard.ensures c.notify_of_new.ensures.told)
           (arrived_grows tells (state c.args.keepers.now).told tables was.mail c.commit.ensures.done.logs c.requires.ready.arrived);
       states = refl;
       goes = c.commit.ensures.goes;
@@ -123,7 +123,7 @@ returns-in-Ok-clause-on g c =
       later = record { calls = c.commit.ensures.done.calls.calls; faults = c.commit.ensures.done.calls.faults };
       link = carried_on (g.L.Link.shown c.args.link.now) link c.in_default.ensures.ok;
     } in
-    subst (λ n. PostsOn tells s old (world n (state c.commit.new.keepers) link)) (sym c.tell_of_new.ensures.rest) is
+    subst (λ n. PostsOn tells s old (world n (state c.commit.new.keepers) link)) (sym c.notify_of_new.ensures.rest) is
 
 pub returns-in-Err-commit-clause-refused : goal.returns-in-Err-commit-clause-refused
 returns-in-Err-commit-clause-refused g c =

@@ -7,9 +7,9 @@ use Rattle.core_model.specs.Pens.{IsSeen, pens_of}
 use Rattle.core_model.specs.Stores.{master_store}
 use Rattle.core_nodes.proofs.GrowingLemmas.{gains_stores}
 use Rattle.core_steps.specs.OtherEnds.{StandsThere, TakesMerge, job_way}
-use Rattle.core_steps.specs.Posting.{ChangesNoNode, PostsOn, TellsOfNew}
+use Rattle.core_steps.specs.Posting.{ChangesNoNode, PostsOn, NotifiesOfNew}
 use Rattle.core_steps.specs.World.{world, world_with}
-use Rattle.core_steps.proofs.TellLemmas.{arrived_grows, arrived_told}
+use Rattle.core_steps.proofs.NotifyLemmas.{arrived_grows, arrived_notified}
 use Rattle.core_steps.proofs.WriteLemmas.{seen_there, stands_in_log}
 use Rattle.core_steps.proofs.nodes.Nodes.merge_at.Goals as goal
 
@@ -19,7 +19,7 @@ returns-clause-on g c = λ before after later.
     let state = g.K.Keeper.state in
     let s = c.args.config.now in
     let was = c.args.self.now in
-    let told = c.tell_of.new.self in
+    let told = c.notify_of.new.self in
     let far = far_shard c.args.job.now in
     let tables = (state c.merge.new.keepers).told in
     let wrote = c.in_ok-wrote.wrote in
@@ -29,13 +29,13 @@ returns-clause-on g c = λ before after later.
     let old = world was (state c.args.keepers.now) before in
     let is : PostsOn tells s old (world_with c.merge.new.self told.mail was.topology (state c.merge.new.keepers) after) = record {
       consistent = merges.consistent;
-      inboxes = c.tell_of.ensures.of pens (subst (λ n. IsSeen pens n wrote.note) (sym c.far_shard.ensures) c.in_ok-wrote.ensures.seen)
+      inboxes = c.notify_of.ensures.of pens (subst (λ n. IsSeen pens n wrote.note) (sym c.far_shard.ensures) c.in_ok-wrote.ensures.seen)
           ((inboxes_stay s (pens_of was.fleet.stores) was.mail).rises pens merges.goes.rise c.requires.inboxes);
-      arrived = arrived_told tells s tables stores far c.masters_are_regions.ensures merges.consistent.stores c.requires.here
+      arrived = arrived_notified tells s tables stores far c.masters_are_regions.ensures merges.consistent.stores c.requires.here
           was.topology c.args.leader wrote.entry was.mail told.mail c.requires.states
           (stands_in_log pens far wrote.note wrote.entry
           (seen_there pens far wrote.note wrote.entry c.in_ok-wrote.ensures.seen c.in_ok-wrote.ensures.done.stands))
-          (subst (λ n. TellsOfNew was.topology c.args.leader n wrote.entry was.mail told.mail) c.far_shard.ensures c.tell_of.ensures.told)
+          (subst (λ n. NotifiesOfNew was.topology c.args.leader n wrote.entry was.mail told.mail) c.far_shard.ensures c.notify_of.ensures.told)
           (arrived_grows tells (state c.args.keepers.now).told tables was.mail merges.done.logs c.requires.arrived);
       states = refl;
       goes = merges.goes;
@@ -44,7 +44,7 @@ returns-clause-on g c = λ before after later.
       later = record { calls = merges.done.calls.calls; faults = merges.done.calls.faults };
       link = later;
     } in
-    subst (λ n. PostsOn tells s old (world n (state c.merge.new.keepers) after)) (sym c.tell_of.ensures.rest) is
+    subst (λ n. PostsOn tells s old (world n (state c.merge.new.keepers) after)) (sym c.notify_of.ensures.rest) is
 
 pub returns-in_err-wrote-clause-on : goal.returns-in_err-wrote-clause-on
 returns-in_err-wrote-clause-on g c = λ before after later.

@@ -7,7 +7,7 @@ use Rattle.core_steps.specs.OtherEnds.{job_way}
 use Rattle.core_steps.specs.World.{world}
 use Rattle.core_steps.proofs.LinkLemmas.{back_on, crossed_on, link_trans}
 use Rattle.core_steps.proofs.MergeLemmas.{master_prefers, merges_over}
-use Rattle.core_steps.proofs.TellLemmas.{merges_in}
+use Rattle.core_steps.proofs.NotifyLemmas.{merges_in}
 use Rattle.core_steps.proofs.nodes.Nodes.merge_over.Goals as goal
 
 pub merge_at-merged-requires-clause-leader : goal.merge_at-merged-requires-clause-leader

@@ -1,7 +1,7 @@
 use Rattle.std.proofs.Common.{sym, ◌∙◌}
 use Rattle.core_mail.specs.Inboxes.{entry_message}
-use Rattle.core_steps.proofs.TellLemmas.{besides_up, leader_has, merging_leads}
-use Rattle.core_steps.proofs.nodes.Nodes.tell_besides.Goals as goal
+use Rattle.core_steps.proofs.NotifyLemmas.{besides_up, leader_has, merging_leads}
+use Rattle.core_steps.proofs.nodes.Nodes.notify_besides.Goals as goal
 
 pub tell-requires-clause-there : goal.tell-requires-clause-there
 tell-requires-clause-there c =

@@ -5,7 +5,7 @@ use Rattle.core_model.specs.Pens.{pens_of}
 use Rattle.core_model.specs.Stores.{AreStoresOf}
 use Rattle.shard_tables.specs.Written.{LiesOn, StandsIn}
 use Rattle.core_nodes.proofs.StoresLent.{grown_lent}
-use Rattle.core_nodes.proofs.fleet.Fleet.merge_there.Goals as goal
+use Rattle.core_nodes.proofs.fleet.Fleet.merge_far.Goals as goal
 
 pub merge_over-requires-clause-stores : goal.merge_over-requires-clause-stores
 merge_over-requires-clause-stores g c =

@@ -2,7 +2,7 @@ use Rattle.std.proofs.Common.{◌≡◌, refl, sym, subst, ◌∙◌, arith}
 use Rattle.std.proofs.lemmas.List.{with_items_is}
 use Rattle.core_mail.specs.Inboxes.{AreInboxesOf}
 use Rattle.core_mail.proofs.InboxLemmas.{tell_kept}
-use Rattle.core_mail.proofs.mail.Mail.tell.Goals as goal
+use Rattle.core_mail.proofs.mail.Mail.notify.Goals as goal
 
 pub returns-clause-of : goal.returns-clause-of
 returns-clause-of c pens seen is =

@@ -18,19 +18,19 @@ use Rattle.topology.specs.Config.{Settings}
 use Rattle.topology.specs.Counts.{NodeCounts, leader_count}
 use Rattle.topology.specs.States.{NodeStates, is_cache, is_up}
 use Rattle.write_model.proofs.Growing.{entry_at-within}
-use Rattle.core_mail.proofs.Arrivals.{arrived_stay, told_of_store}
+use Rattle.core_mail.proofs.Arrivals.{arrived_stay, notified_of_store}
 use Rattle.core_mail.proofs.InboxLemmas.{names_kept}
 use Rattle.core_mail.specs.Inboxes.{HaveArrived, Inboxes, Sends, cache_names, entry_message}
 use Rattle.maint_msg.specs.Inbox.{IsSent}
 use Rattle.core_model.proofs.Turns.{choices_serve, named_leader}
 use Rattle.core_model.specs.Fleet.{HasNode, follower_names, leader_names, node_names, regions_of, serves_in_turn}
-use Rattle.core_model.specs.Messages.{told_besides, told_by, told_of}
+use Rattle.core_model.specs.Messages.{notified_besides, notified_by, notified_of}
 use Rattle.core_model.specs.Pens.{pens_of}
 use Rattle.core_model.specs.Serving.{IsLeaderFor, IsLeaderIn}
 use Rattle.core_model.specs.States.{AreStatesOf}
 use Rattle.core_model.specs.Stores.{AreStoresOf, HaveMasterRegions, master_log, master_of, store_length}
 use Rattle.core_steps.proofs.ReadLemmas.{log_is}
-use Rattle.core_steps.specs.Posting.{TellsOfNew}
+use Rattle.core_steps.specs.Posting.{NotifiesOfNew}
 use Rattle.core_steps.specs.Writes.{new_entry}
 
 -- ---- the preferred leader of the master's region
@@ -82,22 +82,23 @@ sends_both (name ∷ a) b m old mid new one two = (one.0, one.1, sends_both a b 
 
 -- the preferred leader is told where it is up
 pub besides_up : (states : NodeStates) (shard region : ℕ) (leader : NodeName) (m : SeenMaint) (old new : Inboxes) → region ≡ master_region states shard
-    → leader ≡ preferred_leader states region shard → is_up states leader ≡ true → Sends (leader ∷ []) m old new → Sends (told_besides states shard) m old new
+    → leader ≡ preferred_leader states region shard → is_up states leader ≡ true → Sends (leader ∷ []) m old new
+    → Sends (notified_besides states shard) m old new
 besides_up states shard region leader m old new region_is is up sends =
     let leads : leader ≡ preferred_leader states (master_region states shard) shard = is ∙ ap (λ r. preferred_leader states r shard) region_is in
     let alone : filter (is_up states) (leader ∷ []) ≡ leader ∷ [] = ap (λ b. if b then leader ∷ [] else []) up in
     subst (λ n. Sends (filter (is_up states) (n ∷ [])) m old new) leads (subst (λ l. Sends l m old new) (sym alone) sends)
 
 -- the followers are told, and the leader that another stands in for
-pub told_more : (s : Settings) (states : NodeStates) (shard region : ℕ) (leader : NodeName) (m : SeenMaint) (old mid new : Inboxes)
+pub notified_more : (s : Settings) (states : NodeStates) (shard region : ℕ) (leader : NodeName) (m : SeenMaint) (old mid new : Inboxes)
     → states.regions ≡ regions_of s → region ≡ master_region states shard → serves_in_turn (regions_of s) leader shard ≡ false
-    → Sends (told_of states region shard) m old mid → Sends (told_besides states shard) m mid new → Sends (told_by states leader shard) m old new
-told_more s states shard region leader m old mid new own region_is serves sent more =
-    let first = told_of states (master_region states shard) shard in
-    let besides : (if serves_in_turn states.regions leader shard then [] else told_besides states shard) ≡ told_besides states shard =
-    ap (λ b. if b then [] else told_besides states shard) (ap (λ (rs : List NodeCounts). serves_in_turn rs leader shard) own ∙ serves) in
+    → Sends (notified_of states region shard) m old mid → Sends (notified_besides states shard) m mid new → Sends (notified_by states leader shard) m old new
+notified_more s states shard region leader m old mid new own region_is serves sent more =
+    let first = notified_of states (master_region states shard) shard in
+    let besides : (if serves_in_turn states.regions leader shard then [] else notified_besides states shard) ≡ notified_besides states shard =
+    ap (λ b. if b then [] else notified_besides states shard) (ap (λ (rs : List NodeCounts). serves_in_turn rs leader shard) own ∙ serves) in
     subst (λ l. Sends l m old new) (sym (ap (λ l. first ++ l) besides))
-    (sends_both first (told_besides states shard) m old mid new (subst (λ r. Sends (told_of states r shard) m old mid) region_is sent) more)
+    (sends_both first (notified_besides states shard) m old mid new (subst (λ r. Sends (notified_of states r shard) m old mid) region_is sent) more)
 
 -- ---- the stores have come to it
 
@@ -116,14 +117,14 @@ module _ (tells : Bool) (s : Settings) (tables : Tables) (stores : List Store) (
       let within = entry_at-within (master_log s tables shard) e.position e at in
       omega (arith, within)
 
-  pub arrived_told : (states : NodeStates) (leader : NodeName) (entry : Option Entry) (old new : Inboxes) → AreStatesOf s states
-      → IfSome entry (StandsIn (pens_of stores shard)) → TellsOfNew states leader shard entry old new → WhereTold tells (HaveArrived tables old)
+  pub arrived_notified : (states : NodeStates) (leader : NodeName) (entry : Option Entry) (old new : Inboxes) → AreStatesOf s states
+      → IfSome entry (StandsIn (pens_of stores shard)) → NotifiesOfNew states leader shard entry old new → WhereTold tells (HaveArrived tables old)
       → WhereTold tells (HaveArrived tables new)
-  arrived_told states leader None old new of stands sent have = subst (λ i. WhereTold tells (HaveArrived tables i)) (sym sent) have
-  arrived_told states leader (Some e) old new of stands sent have = λ told.
+  arrived_notified states leader None old new of stands sent have = subst (λ i. WhereTold tells (HaveArrived tables i)) (sym sent) have
+  arrived_notified states leader (Some e) old new of stands sent have = λ told.
       let m : SeenMaint = entry_message shard e sent.0 in
-      (arrived_stay tables).sends (told_by states leader shard) m old new sent.1
-      ((told_of_store tables states shard m).by leader
+      (arrived_stay tables).sends (notified_by states leader shard) m old new sent.1
+      ((notified_of_store tables states shard m).by leader
       (subst (λ r. e.position ≤ store_length tables r shard) (sym (master_is s states shard of.masters)) (within_master e stands told)))
       (have told)
 

@@ -59,7 +59,7 @@ use Rattle.topology.specs.Config.{Settings}
 use Rattle.write_plan.specs.Plans.{Writing}
 use Rattle.write_plan.specs.declared.results.LeftOpen.{LeftOpen}
 use Rattle.write_plan.specs.declared.results.LeftOpen.TheVariants.{Scheduled}
-use Rattle.write_plan.specs.declared.results.LeftOpen.TheVariants as late
+use Rattle.write_plan.specs.declared.results.LeftOpen.TheVariants as left_open
 use Rattle.write_plan.specs.declared.stage.WriteStage.{WriteStage}
 use Rattle.write_plan.specs.declared.stage.WriteStage.TheVariants.{Commit, Inverse, End, Relay, Apply, Done}
 use Rattle.ask_table.proofs.Tables.{raised_number}
@@ -282,7 +282,7 @@ module _ (tells : Bool) (s : Settings) (way : JobWay) (old new : World) where
   pub merge_same : (result : Result Wrote LeftOpen) → MergesOver tells s way result old new → followers_in new ≡ followers_in old
   merge_same (Ok wrote) is = is.0.followers
   merge_same (Err (Scheduled why wrote)) is = left_same why wrote is
-  merge_same (Err (late.Refused reply)) is = absurd is
+  merge_same (Err (left_open.Refused reply)) is = absurd is
 
 changed_keepers : (old new : World) → ChangesKeepers old new → followers_in new ≡ followers_in old
 changed_keepers old new is = ap followers_in is
@@ -302,7 +302,7 @@ pub end_same : (tells : Bool) (s : Settings) (j : ShardJob) (result : Result ⊤
     → followers_in new ≡ followers_in old
 end_same tells s j (Ok done) old new is = changed_keepers old new is.1
 end_same tells s j (Err (Scheduled why wrote)) old new is = late_same tells s j why wrote old new is
-end_same tells s j (Err (late.Refused reply)) old new is = absurd is
+end_same tells s j (Err (left_open.Refused reply)) old new is = absurd is
 
 -- ---- the stages of a write
 

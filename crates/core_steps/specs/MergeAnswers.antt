@@ -24,7 +24,7 @@ RefusesMerge tells s j (SeqReused at) old new = ⊥
 RefusesMerge tells s j (ShardFull serial) old new = ⊥
 RefusesMerge tells s j (StampFull number) old new = ⊥
 
--- why a job is late that the store refused to merge or to end; what refuses a write alone refuses neither
+-- why a job is left open that the store refused to merge or to end; what refuses a write alone refuses neither
 abbrev pub why_open : StoreRefusal → ScheduledWhy
 why_open KeeperFault = why.KeeperFault
 why_open (LogFull count) = why.LogFull

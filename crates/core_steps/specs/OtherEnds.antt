@@ -90,7 +90,7 @@ LeavesJob tells s way (Refused reply) old new = ⊥
 abbrev pub MergesOver : Bool → Settings → JobWay → Result Wrote LeftOpen → World → World → Type 0
 MergesOver tells s way (Ok wrote) old new =
     TakesMerge tells s way wrote old new × GoesBetween way.leader (merging_leader old.states way) old.link new.link
-MergesOver tells s way (Err late) old new = LeavesJob tells s way late old new
+MergesOver tells s way (Err left) old new = LeavesJob tells s way left old new
 
 -- what was written at the other end, as far as that is known
 abbrev pub known_of : Result Wrote LeftOpen → Option Wrote
@@ -115,7 +115,7 @@ EndsOver tells s j (Ok done) old new = WhereTold tells (EndsOwed s old.keepers.t
 EndsOver tells s j (Err (Scheduled KeeperFault None)) old new = Rose old.keepers.faults new.keepers.faults
     × KeepsTables tells old.keepers new.keepers × ChangesKeepers old new
 EndsOver tells s j (Err (Scheduled Memory None)) old new = KeepsTables tells old.keepers new.keepers × ChangesKeepers old new
-EndsOver tells s j (Err late) old new = ⊥
+EndsOver tells s j (Err left) old new = ⊥
 
 -- ---- what is told of both ends
 

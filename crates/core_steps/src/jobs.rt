@@ -70,7 +70,7 @@ fn carry_between<L: Link>(link: &mut L, from: NodeName, to: NodeName) -> Result<
     carry(link, from, to)
 }
 
-/// Why a job is late that the store refused to merge or to end.
+/// Why a job is left open that the store refused to merge or to end.
 fn why_open(refusal: &StoreRefusal) -> ScheduledWhy
     requires { IsOfMerges refusal.now }
     ensures { result ≡ why_open refusal.now }

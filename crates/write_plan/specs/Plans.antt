@@ -60,7 +60,7 @@ begun_write write origin region tier follower = record {
 
 -- ---- stages
 
--- what a job has before it: its merge, and then its end. One that is late stays as it is
+-- what a job has before it: its merge, and then its end. One that is left open stays as it is
 abbrev pub job_stage : OtherEnd → Option WriteStage
 job_stage Due = Some stage.Inverse
 job_stage Merged = Some stage.End
@@ -114,9 +114,9 @@ abbrev pub after_result : Writing → WriteResult → Writing
 after_result p (came.Commit (Ok c)) = record p { committed = Some c }
 after_result p (came.Commit (Err reply)) = refused_by p reply
 after_result p (came.Inverse (Ok wrote)) = record p { job = Merged; other = written_there p.other (Some wrote) }
-after_result p (came.Inverse (Err late)) = after_left_open p late
+after_result p (came.Inverse (Err left)) = after_left_open p left
 after_result p (came.End (Ok done)) = record p { job = Ended }
-after_result p (came.End (Err late)) = after_left_open p late
+after_result p (came.End (Err left)) = after_left_open p left
 after_result p (came.Relay answer) = after_way p answer Relayed
 after_result p (came.Apply answer) = after_way p answer Applied
 
@@ -145,7 +145,7 @@ when_of (Some entry) = After entry.position
 abbrev pub has_other : Committed → Bool
 has_other c = is_some c.wrote.job || c.paired
 
--- what became of the inverse of an edge that was written: a job that is late is to write it, else it is written where there is one
+-- what became of the inverse of an edge that was written: a job that is left open is to write it, else it is written where there is one
 abbrev pub inverse_said : Bool → OtherEnd → InverseEnd
 inverse_said other (Open why) = inverse.Scheduled why
 inverse_said true job = inverse.Written

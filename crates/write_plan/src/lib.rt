@@ -3,7 +3,7 @@
 //! came of it, so a plan may be held between two stages.
 //!
 //! What it promises. The plan of a write: commit, then the job's merge and end where there is one, the relay
-//! where a leader was passed, the follower's changesets; what is late leaves the job and goes on, a refusal ends
+//! where a leader was passed, the follower's changesets; what is left open leaves the job and goes on, a refusal ends
 //! it. An Ok reply names the entry that the commit answered.
 //!
 //! The contracts that say so: `WritePlan::take`, `finish`; the law `plans_end`.

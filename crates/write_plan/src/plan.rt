@@ -239,7 +239,7 @@ impl WritePlan {
                 self.job = OtherEnd::Merged;
                 self.know(Some(wrote));
             }
-            Err(late) => self.keep_open(late),
+            Err(left) => self.keep_open(left),
         }
     }
 
@@ -248,14 +248,14 @@ impl WritePlan {
     {
         match answer {
             Ok(()) => self.job = OtherEnd::Ended,
-            Err(late) => self.keep_open(late),
+            Err(left) => self.keep_open(left),
         }
     }
 
-    fn keep_open(&mut self, late: LeftOpen)
-        ensures { self.new ≡ after_left_open self.old late }
+    fn keep_open(&mut self, left: LeftOpen)
+        ensures { self.new ≡ after_left_open self.old left }
     {
-        match late {
+        match left {
             LeftOpen::Scheduled { why, wrote } => {
                 self.job = OtherEnd::Open { why };
                 self.know(wrote);

@@ -34,7 +34,7 @@ impl Nodes {
         let leader = self.topology.preferred(self.topology.master(shard), shard);
         if self.topology.is_up(leader) {
             self.mail
-                .tell(self.alloc, config, leader, shard, entry, note);
+                .notify(self.alloc, config, leader, shard, entry, note);
         }
     }
 

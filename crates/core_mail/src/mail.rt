@@ -1,6 +1,7 @@
 //! `Mail`.
 ghost use Rattle.std.specs.Prelude.{◌≡◌, ◌<◌, ◌∷◌, [], IfOk, IfSome, IsTrue};
 ghost use Rattle.core_mail.specs.Inboxes.{AreEmpty, AreInboxesOf, LosesAll, Sends, ShowsInbox, TakesOut, WaitsAt, cache_names, entry_message};
+ghost use Rattle.core_model.specs.Asked.{settings};
 ghost use Rattle.core_model.specs.Fleet.{ChangesNode, HasNode, node_names, regions_of, serves_in_turn};
 ghost use Rattle.core_model.specs.Messages.{IsMessageFor, notified_of};
 ghost use Rattle.core_model.specs.Pens.{IsSeen, Pens};
@@ -8,14 +9,16 @@ ghost use Rattle.shard_tables.specs.Written.{LiesOn, StandsIn};
 ghost use Rattle.topology.specs.Config.{Settings};
 
 use crate::inboxes::{clear_all, clear_at, copy_at, empty_inboxes, send_at, shown, take_at};
-use core_model::{Named, find_node, follower_names, leader_names, serving_follower, tier_count};
+use core_model::{
+    Around, Named, find_node, follower_names, leader_names, serving_follower, tier_count,
+};
 use maint_msg::{Inbox, Maint};
 use node_name::NodeName;
 use replies::Messages;
 use shard_log::Note;
 use std::alloc::Global;
 use std::marker::Model;
-use tao_base::{Entry, OutOfMemory};
+use tao_base::{Entry, OutOfMemory, StoreName};
 use topology::{Config, Topology};
 
 /// Of each leader and follower of a configuration the messages that wait for it, in the order in which they were sent: at most 4,096.
@@ -35,28 +38,26 @@ impl Model for Mail {
     ghost view = { λ m. m.inboxes.items };
 }
 
-/// Sends the followers of a region that serve a shard, and are up, the message of an entry.
+/// Sends the followers of a store's region that serve its shard, and are up, the message of an entry.
 fn send_each(
     inboxes: &mut [Named<Inbox>],
-    alloc: Global,
-    config: &Config,
+    around: &Around<'_>,
     topology: &Topology,
-    region: u16,
-    shard: u16,
+    at: StoreName,
     entry: &Entry,
     note: &mut Note,
 )
-    requires own { topology.now.regions ≡ regions_of config.now }
-    requires names { node_names inboxes.old ≡ cache_names config.now }
+    requires own { topology.now.regions ≡ regions_of (settings around.now) }
+    requires names { node_names inboxes.old ≡ cache_names (settings around.now) }
     requires stands { StandsIn note.old entry.now }
-    requires lies { LiesOn note.old shard entry.now }
-    ensures sends { Sends (notified_of topology.now region shard) (entry_message shard entry.now note.old) inboxes.old inboxes.new }
+    requires lies { LiesOn note.old at.shard entry.now }
+    ensures sends { Sends (notified_of topology.now at.region at.shard) (entry_message at.shard entry.now note.old) inboxes.old inboxes.new }
     ensures note { note.new ≡ note.old }
 {
-    for tier in 0..tier_count(config, region) {
-        let follower = serving_follower(config, region, tier, shard);
+    for tier in 0..tier_count(around.config, at.region) {
+        let follower = serving_follower(around.config, at.region, tier, at.shard);
         if topology.is_up(follower) {
-            send_at(inboxes, follower, alloc, shard, entry, note);
+            send_at(inboxes, follower, around.alloc, at.shard, entry, note);
         }
     }
 }
@@ -74,40 +75,30 @@ impl Mail {
         })
     }
 
-    /// Tells of an entry of a shard's log that the region's store took: of each tier, in order, the follower that serves the shard,
-    /// where it is up, is sent a message with a note of its own, which comes behind the others.
+    /// Tells of an entry of a shard's log that the region's store took: of each tier of the region, in order, the follower that serves
+    /// the shard, where it is up, is sent a message with a note of its own, which comes behind the others.
     ///
     /// With 4,096 messages waiting the message is lost, and so it is without memory for its note, its keys or its place; the others
     /// are sent all the same. Takes no other memory.
     pub fn send(
         &mut self,
-        alloc: Global,
-        config: &Config,
+        around: &Around<'_>,
         topology: &Topology,
-        region: u16,
-        shard: u16,
+        at: StoreName,
         entry: &Entry,
         note: &mut Note,
     )
-        requires own { topology.now.regions ≡ regions_of config.now }
-        requires names { node_names self.old ≡ cache_names config.now }
-        requires here { shard < config.now.shards }
+        requires own { topology.now.regions ≡ regions_of (settings around.now) }
+        requires names { node_names self.old ≡ cache_names (settings around.now) }
+        requires here { at.shard < (settings around.now).shards }
         requires stands { StandsIn note.old entry.now }
-        requires lies { LiesOn note.old shard entry.now }
-        ensures sends { Sends (notified_of topology.now region shard) (entry_message shard entry.now note.old) self.old self.new }
+        requires lies { LiesOn note.old at.shard entry.now }
+        ensures sends { Sends (notified_of topology.now at.region at.shard) (entry_message at.shard entry.now note.old) self.old self.new }
         ensures note { note.new ≡ note.old }
-        ensures of { (pens : Pens) → IsSeen pens shard note.old → AreInboxesOf config.now pens self.old → AreInboxesOf config.now pens self.new }
+        ensures of { (pens : Pens) → IsSeen pens at.shard note.old → AreInboxesOf (settings around.now) pens self.old
+            → AreInboxesOf (settings around.now) pens self.new }
     {
-        send_each(
-            &mut self.inboxes,
-            alloc,
-            config,
-            topology,
-            region,
-            shard,
-            entry,
-            note,
-        );
+        send_each(&mut self.inboxes, around, topology, at, entry, note);
     }
 
     /// Tells one leader or follower of an entry of a shard that it serves: it is sent a message with a note of its own, which comes
@@ -117,24 +108,23 @@ impl Mail {
     /// other memory.
     pub fn notify(
         &mut self,
-        alloc: Global,
-        config: &Config,
+        around: &Around<'_>,
         node: NodeName,
         shard: u16,
         entry: &Entry,
         note: &mut Note,
     )
         requires there { HasNode node self.old }
-        requires here { shard < config.now.shards }
-        requires serves { IsTrue (serves_in_turn (regions_of config.now) node shard) }
+        requires here { shard < (settings around.now).shards }
+        requires serves { IsTrue (serves_in_turn (regions_of (settings around.now)) node shard) }
         requires stands { StandsIn note.old entry.now }
         requires lies { LiesOn note.old shard entry.now }
         ensures sends { Sends (node ∷ []) (entry_message shard entry.now note.old) self.old self.new }
         ensures note { note.new ≡ note.old }
-        ensures of { (pens : Pens) → IsSeen pens shard note.old → AreInboxesOf config.now pens self.old → AreInboxesOf config.now pens self.new }
+        ensures of { (pens : Pens) → IsSeen pens shard note.old → AreInboxesOf (settings around.now) pens self.old
+            → AreInboxesOf (settings around.now) pens self.new }
     {
-        let _ = config;
-        send_at(&mut self.inboxes, node, alloc, shard, entry, note);
+        send_at(&mut self.inboxes, node, around.alloc, shard, entry, note);
     }
 
     /// Takes out all messages of every node. Takes no memory.

@@ -21,11 +21,13 @@
 //! `nodes_serve`, `choices_serve`, `stores_found`, `stores_go_on`, `logs_follow`, `settled_stays`.
 #![tactic(auto)]
 
+mod asked;
 mod jobs;
 pub mod laws;
 mod named;
 mod names;
 
+pub use asked::{Around, AuthoredWrite, ShardJob, Wanted};
 pub use jobs::far_shard;
 pub use named::{Named, find_node, named_place};
 pub use names::{

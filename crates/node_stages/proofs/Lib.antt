@@ -1,3 +1,4 @@
+pub mod LeaderGave
 pub mod NotesSeen
 pub mod Queueing
 pub mod RestLemmas

@@ -11,7 +11,7 @@
 //! keeper's log, sound; a node that catches up with a store has processed just what follows its mark in that store's log.
 //!
 //! The contracts that say so: `look_first`, `open_true`, `ask_leader`, `keep_fill`, `end_open_ask`, `commit_of`, `merge_of`, `apply_of`,
-//! `deliver_to`, `take_refill`, `evict_from`, `empty_out`, `measure_store`, `stand_of`, `catch_up_with`.
+//! `relay_of`, `deliver_to`, `take_refill`, `evict_from`, `empty_out`, `measure_store`, `stand_of`, `catch_up_with`.
 #![tactic(auto)]
 
 mod cache;
@@ -19,6 +19,7 @@ mod catching;
 mod deliveries;
 mod dropping;
 mod reads;
+mod relays;
 mod standing;
 mod writes;
 
@@ -27,5 +28,6 @@ pub use catching::catch_up_with;
 pub use deliveries::{deliver_to, take_refill};
 pub use dropping::{empty_out, evict_from};
 pub use reads::{FirstLook, ask_leader, end_open_ask, keep_fill, look_first, open_true};
+pub use relays::relay_of;
 pub use standing::{Measure, Stand, measure_store, stand_of};
 pub use writes::{apply_of, commit_of, merge_of};

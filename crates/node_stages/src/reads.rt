@@ -2,6 +2,7 @@
 ghost use Rattle.std.specs.Prelude.{◌≡◌, IfErr, IfOk, IfSome, IsSome, OnErr, Some, true};
 ghost use Rattle.cache_items.specs.Kept.{ask_at as open_ask_at};
 ghost use Rattle.cache_node.specs.Answered.{ViewAnswers};
+ghost use Rattle.core_model.specs.Asked.{settings};
 ghost use Rattle.core_model.specs.Reads.{AsksAtOnce, EndsAsk, KeepsFill, taken_fill, wanted};
 ghost use Rattle.leader_tier.specs.LeaderReads.{GivesAnswer, IsLegalAt, asked_read};
 ghost use Rattle.node_stages.specs.Stages.{FollowerDoes, LeaderDoes, LooksTrue, OpensAsk};
@@ -16,11 +17,11 @@ ghost use Rattle.tao_keeper.specs.KeeperState.{CallsKeeper, KeepsTables};
 ghost use Rattle.tao_schema.specs.Schema.{types_of};
 
 use ask_table::AskNo;
+use core_model::{Around, Wanted};
 use follower_cache::{Follower, Kept, Look, followers_are_true};
 use leader_tier::{Leader, leaders_are_true};
 use sealed_item::Fill;
 use shard_tables::{LeaderAnswer, StoreNode, StoreRefusal};
-use std::alloc::Global;
 use tao_base::{Answer, Key, OutOfMemory, Query};
 use tao_keeper::Keeper;
 use tao_schema::Schema;
@@ -100,19 +101,18 @@ pub fn open_true(follower: &mut Follower, key: Key) -> Option<AskNo>
 
 /// The stage `ask`: the leader answers of an item of its own, or of its store.
 pub fn ask_leader<K: Keeper>(
-    alloc: Global,
+    around: &Around<'_>,
     leader: &mut Leader,
     store: &mut StoreNode,
     keepers: &mut K,
-    schema: &Schema,
-    query: &Query,
-    floor: u64,
+    read: &Wanted<'_>,
 ) -> Result<LeaderAnswer, StoreRefusal>
-    requires log { log_at (query_shard query.now) leader.old.served ≡ Some store.old.view.log }
+    requires log { log_at (query_shard read.now.query.now) leader.old.served ≡ Some store.old.view.log }
     requires keeper { IsStoreOf K.TELLS (K.state keepers.old).told store.old }
-    ensures given { IfOk result (λ given. LeaderDoes (λ from to. GivesAnswer (asked_read (types_of schema.now) from query.now floor) store.old given to
+    ensures given { IfOk result (λ given. LeaderDoes (λ from to. GivesAnswer
+        (asked_read (types_of (settings around.now).schema) from read.now.query.now read.now.floor) store.old given to
         (K.state keepers.old) (K.state keepers.new)) leader.old leader.new) }
-    ensures legal { IfOk result (IsLegalAt (types_of schema.now) query.now floor) }
+    ensures legal { IfOk result (IsLegalAt (types_of (settings around.now).schema) read.now.query.now read.now.floor) }
     ensures err { OnErr result (leader.new ≡ leader.old) }
     ensures refused { IfErr result IsOfReads }
     ensures same { store.new ≡ store.old }
@@ -121,8 +121,16 @@ pub fn ask_leader<K: Keeper>(
     ensures keeper { IsStoreOf K.TELLS (K.state keepers.new).told store.new }
     ensures calls { CallsKeeper StoreRefusal.KeeperFault (K.state keepers.old) (K.state keepers.new) result }
 {
+    let config = around.config;
     leaders_are_true(leader);
-    let given = leader.answer(alloc, store, keepers, schema, query, floor);
+    let given = leader.answer(
+        around.alloc,
+        store,
+        keepers,
+        &config.schema,
+        read.query,
+        read.floor,
+    );
     leaders_are_true(leader);
     given
 }

@@ -6,7 +6,7 @@ use Rattle.core_mail.proofs.mail.Mail.notify.Goals as goal
 
 pub returns-clause-of : goal.returns-clause-of
 returns-clause-of c pens seen is =
-    let s = c.args.config.now in
+    let s = c.args.around.now.config.now in
     let own : c.deref_mut.result.now ≡ c.args.self.now = c.deref_mut.ensures.value ∙ c.self.view_is in
     subst (AreInboxesOf s pens) (sym (with_items_is c.self.inside.inboxes c.send_at.new.inboxes (omega arith)))
     (tell_kept s pens c.args.node c.args.shard c.args.entry.now c.args.note.now c.deref_mut.result.now c.send_at.new.inboxes

@@ -1,7 +1,7 @@
 -- A node that processes the rest of a log is still one of its core, and holds what it held that isn't behind its region's store.
 use Rattle.std.proofs.Common.{◌≡◌, ℕ, suc, ◌+◌, ◌<◌, ◌≤◌, Bool, true, false, List, [], ◌∷◌, drop, length, take, Option, Some, None, refl, ap, sym}
 use Rattle.std.proofs.Common.{◌∙◌, subst, inl, inr, arith}
-use Rattle.std.proofs.lemmas.Bool.{and_from, and_parts, cases_Bool, eq-eqb, eqb-false, eqb-true, le-leb, le-ltb, leb-true, ltb-false}
+use Rattle.std.proofs.lemmas.Bool.{and_from, and_parts, cases_Bool, eq-eqb, eqb-false, eqb-true, le-leb, le-ltb, leb-true, ltb-false, ne_eqb}
 use Rattle.std.proofs.lemmas.List.Elements.{All-weaker, recursion_from_All}
 use Rattle.std.proofs.lemmas.Option.{get_or_from_slice_get, slice_get_within}
 use Rattle.std.specs.List.{AllByRecursion, IsDistinct}
@@ -48,6 +48,7 @@ use Rattle.core_model.specs.Fleet.{region_of, regions_of, serves_in_turn}
 use Rattle.core_model.specs.Messages.{Processes}
 use Rattle.core_model.specs.Pens.{Pens, pens_of}
 use Rattle.core_model.specs.Stores.{AreStoresOf, AreWhole, IsConfiguredStore, master_log, region_store, store_length}
+use Rattle.core_nodes.specs.Dues.{KeepsOthers}
 use Rattle.core_nodes.specs.Settling.{CatchesUp, IsAtFirstStores, IsRestOf, MayCatchUp, NodeGoesOn, ReachesStore, SeenLogs}
 use Rattle.core_nodes.specs.Settling.{is_last, keeps_pace, lies_behind, open_numbers, seen_logs}
 use Rattle.node_stages.specs.Catching.{TouchShard}
@@ -327,17 +328,20 @@ module _ (tells : Bool) (s : Settings) (tables : Tables) (stores : List Store) (
       let window : IsWindow some.0.marks = (rw some.1 at marked).window in
       let log : List Entry = (tables (OwnStore shard)).log in
       let end = reaches_end shard log es note old new some.0 does some.1 window (known shard told here).sound.sound (rest ∙ ap (λ n. drop n log) low) in
+      let own : (t : ServedShard) → served_at shard new.served ≡ Some t → t.marks ≡ marks (store_length tables (region_of name) shard) [] =
+      λ t there. (
+      let one : Some end.0 ≡ Some t = sym end.1 ∙ there in
+      let after : end.0 ≡ t = cc in
+      own_end shard new t (may.reached told) there (subst (λ (u : ServedShard). IsWindow u.marks) after end.3)
+      (subst (λ (u : ServedShard). length log ≤ u.marks.low) after end.2)) in
       record {
+        there = own;
         next = λ first. record {
           ends = λ k t lt at. elim (cases_Bool (k == shard)) [
             | inl same ↦ (
                 let k_is : k ≡ shard = eqb-true k shard same in
-                let there : served_at shard new.served ≡ Some t = subst (λ n. served_at n new.served ≡ Some t) k_is at in
-                let one : Some end.0 ≡ Some t = sym end.1 ∙ there in
-                let after : end.0 ≡ t = cc in
-                let marks_are = own_end shard new t (may.reached told) there (subst (λ (u : ServedShard). IsWindow u.marks) after end.3)
-                (subst (λ (u : ServedShard). length log ≤ u.marks.low) after end.2) in
-                subst (λ n. t.marks ≡ marks (store_length tables (region_of name) n) []) (sym k_is) marks_are)
+                subst (λ n. t.marks ≡ marks (store_length tables (region_of name) n) []) (sym k_is)
+                (own t (subst (λ n. served_at n new.served ≡ Some t) k_is at)))
             | inr apart ↦ other_end shard old new k t lt apart (processes_elsewhere shard k es note old new does apart) at first
           ];
         };
@@ -348,19 +352,22 @@ module _ (tells : Bool) (s : Settings) (tables : Tables) (stores : List Store) (
       → IfSome (served_at shard node.served) (λ t. IsLowWater t.marks) → until ≡ store_length tables (region_of name) shard
       → lies_behind s name shard (low_at shard node.served) until ≡ false → ReachesStore tables (OwnStore shard) node node
   reaches_same shard until node told may marked all ahead =
+      let own : (t : ServedShard) → served_at shard node.served ≡ Some t → t.marks ≡ marks (store_length tables (region_of name) shard) [] =
+      λ t there. (
+      let has = has_of node shard t may.node told there in
+      let window : IsWindow t.marks = (rw there at marked).window in
+      let low : low_at shard node.served ≡ t.marks.low = rw there refl in
+      let none : nat_lt (low_at shard node.served) until ≡ false = rw has.serves at ahead in
+      let reached : until ≤ low_at shard node.served = ltb-false (low_at shard node.served) until none in
+      own_end shard node t (may.reached told) there window (omega arith)) in
       record {
+        there = own;
         next = λ first. record {
           ends = λ k t lt at. elim (cases_Bool (k == shard)) [
             | inl same ↦ (
                 let k_is : k ≡ shard = eqb-true k shard same in
-                let there : served_at shard node.served ≡ Some t = subst (λ n. served_at n node.served ≡ Some t) k_is at in
-                let has = has_of node shard t may.node told there in
-                let window : IsWindow t.marks = (rw there at marked).window in
-                let low : low_at shard node.served ≡ t.marks.low = rw there refl in
-                let none : nat_lt (low_at shard node.served) until ≡ false = rw has.serves at ahead in
-                let reached : until ≤ low_at shard node.served = ltb-false (low_at shard node.served) until none in
-                let marks_are = own_end shard node t (may.reached told) there window (omega arith) in
-                subst (λ n. t.marks ≡ marks (store_length tables (region_of name) n) []) (sym k_is) marks_are)
+                subst (λ n. t.marks ≡ marks (store_length tables (region_of name) n) []) (sym k_is)
+                (own t (subst (λ n. served_at n node.served ≡ Some t) k_is at)))
             | inr apart ↦ other_end shard node node k t lt apart refl at first
           ];
         };
@@ -430,9 +437,10 @@ module _ (tells : Bool) (s : Settings) (tables : Tables) (stores : List Store) (
 
 -- ---- at its region's store of a shard
 
--- it has gone on, and come to the end of the store
+-- it has gone on, and come to the end of the store, with what it had of the other shards
 pub record CaughtAt (logs : SeenLogs) (name : NodeName) (at : StoreName) (old new : Node) : Type 0 where
   pub goes : NodeGoesOn logs name old new
+  pub others : KeepsOthers at.shard old new
   pub reaches : WhereTold logs.tells (ReachesStore logs.tables at old new)
 
 -- a node that lies behind serves the shard
@@ -457,6 +465,7 @@ module _ (tells : Bool) (s : Settings) (tables : Tables) (stores : List Store) (
       → CaughtAt There name at old old
   caught_same low until is marked all lies is_lies ahead = record {
     goes = goes_same tells s tables (pens_of stores) name old may;
+    others = record { others = λ k apart. refl };
     reaches = λ told.
         subst (λ n. ReachesStore tables n old old) named_at
         (reaches_same tells s tables stores name are of_regions at.shard until old told may marked
@@ -490,6 +499,7 @@ module _ (tells : Bool) (s : Settings) (tables : Tables) (stores : List Store) (
         let goes = goes_processed tells s tables stores name are of_regions at.shard es note old new may here.shard rest_there does in
         record {
           goes = goes;
+          others = record { others = λ k apart. processes_elsewhere at.shard k es note old new does.does (ne_eqb k at.shard apart) };
           reaches = λ told.
               subst (λ n. ReachesStore tables n old new) named_at
               (reaches_processed tells s tables stores name are of_regions at.shard es note old new told may goes.may here.shard serves marked

@@ -1,8 +1,10 @@
 -- Nodes that catch up, step after step.
-use Rattle.std.proofs.Common.{◌≡◌, ℕ, ◌+◌, Bool, true, List, IfSome, OnErr, OnOk, Result, Ok, Err, length, refl, ap, sym, ◌∙◌, subst}
+use Rattle.std.proofs.Common.{◌≡◌, ℕ, ◌+◌, Bool, true, List, [], IfSome, OnErr, OnOk, Result, Ok, Err, length, refl, ap, sym, ◌∙◌}
+use Rattle.std.proofs.Common.{false, subst, arith}
 use Rattle.cache_items.specs.Node.{Node}
 use Rattle.follower_cache.specs.declared.queue.Refill.{Refill}
 use Rattle.graph_model.specs.Told.{WhereTold}
+use Rattle.low_water.specs.Marks.{marks}
 use Rattle.node_name.specs.declared.NodeName.{NodeName}
 use Rattle.node_stages.specs.Caches.{ChangesAlone}
 use Rattle.node_stages.specs.Catching.{ProcessesRest}
@@ -15,16 +17,20 @@ use Rattle.tao_base.specs.declared.entry.Entry.{Entry}
 use Rattle.tao_base.specs.declared.id.StoreName.{StoreName}
 use Rattle.tao_keeper.specs.Table.{Stays, Table, Tables}
 use Rattle.topology.specs.Config.{Settings}
+use Rattle.core_model.proofs.Turns.{serves_its_turn}
+use Rattle.core_model.specs.Consistent.{IsNodeOf}
 use Rattle.core_model.specs.Fleet.{region_of, regions_of, serves_in_turn}
 use Rattle.core_model.specs.Messages.{Processes}
 use Rattle.core_model.specs.Pens.{Pens, pens_of}
-use Rattle.core_model.specs.Stores.{AreStoresOf, IsConfiguredStore, region_store}
+use Rattle.core_model.specs.Stores.{AreStoresOf, IsConfiguredStore, region_store, store_length}
 use Rattle.core_model.specs.declared.named.Named.{Named}
 use Rattle.core_nodes.specs.Beginning.{AreLengths}
+use Rattle.core_nodes.specs.Dues.{KeepsOthers, LogEnds, is_due}
 use Rattle.core_nodes.specs.Settling.{AreCaches, CacheGoesOn, CachesGoOn, CatchesUp, GoesInTurn, HaveCaughtUp, IsAtFirstStores, IsRestOf, MayCatchUp}
 use Rattle.core_nodes.specs.Settling.{NodeGoesOn, ReachesStore, SeenLogs, seen_logs}
 use Rattle.core_nodes.proofs.AskLemmas.{stores_here}
 use Rattle.core_nodes.proofs.CatchLemmas.{caught_processed, goes_before, goes_on, goes_same, may_before, so_before}
+use Rattle.core_nodes.proofs.DueNodes.{end_not_due}
 use Rattle.core_nodes.proofs.KnownStores.{rest_of}
 use Rattle.core_nodes.proofs.StoreLemmas.{IsReadStore}
 
@@ -68,6 +74,7 @@ module _ {N : Type 0} (node : N → Node) (refills : N → List Refill) (tells :
 
   pub record CaughtWith {T E : Type 0} (r : Result T E) (new : N) : Type 0 where
     pub goes : CacheGoesOn node refills There cache (record cache { node = new })
+    pub others : KeepsOthers at.shard (node cache.node) (node new)
     pub reaches : WhereTold tells (OnOk r (ReachesStore tables at (node cache.node) (node new)))
 
   pub caught_with : {T E : Type 0} (r : Result T E) (new : N) → OnOk r (ProcessesRest node refills tells (tables store.name).log store cache.node new)
@@ -83,10 +90,11 @@ module _ {N : Type 0} (node : N → Node) (refills : N → List Refill) (tells :
       let processed : NodeDoes (Processes at.shard es note old (node new)) old (node new) =
       record { does = there.2.does.by; apart = there.2.apart; asks = there.2.asks; truth = there.2.truth } in
       let caught = caught_processed tells s tables stores cache.name are at here of_region old may serves es note there.0 (node new) there.1 processed in
-      record { goes = record { name_is = refl; goes = caught.goes; rest = there.2.does.rest }; reaches = caught.reaches }
+      record { goes = record { name_is = refl; goes = caught.goes; rest = there.2.does.rest }; others = caught.others; reaches = caught.reaches }
   caught_with (Err stop) new does err = record {
     goes = subst (λ x. CacheGoesOn node refills There cache (record cache { node = x })) (sym err)
         (cache_same node refills tells s tables (pens_of stores) cache may);
+    others = record { others = λ k apart. ap (λ (x : N). served_at k (node x).served) err };
     reaches = λ told. tt;
   }
 
@@ -154,3 +162,20 @@ module _ (tells : Bool) (s : Settings) (before now : Tables) (xs ys : List Store
     pub caught_then : (turn : NodeName → Bool) (from to : List (Named N)) → WhereTold tells (HaveCaughtUp node s now turn from to)
         → WhereTold tells (HaveCaughtUp node s before turn from to)
     caught_then turn from to caught told = so_before (λ t. HaveCaughtUp node s t turn from to) before now (stays told) (caught told)
+
+-- once it has come to the end of a store nothing of its shard is due any more
+pub ends_there : {N T E : Type 0} (node : N → Node) (refills : N → List Refill) (tables : Tables) (pens : Pens) (ends : LogEnds)
+    (at : StoreName) (old new : Named N) (r : Result T E) → ends.tells ≡ true → AreLengths ends.tells ends.settings tables ends.lengths
+    → IsConfiguredStore ends.settings at → region_of old.name ≡ at.region
+    → CacheGoesOn node refills (seen_logs ends.tells ends.settings tables pens) old new
+    → OnOk r (ReachesStore tables at (node old.node) (node new.node)) → OnOk r (is_due ends new.name (node new.node) at.shard ≡ false)
+ends_there node refills tables pens ends at old new (Ok done) told are here of_region goes reaches =
+    let name_is : new.name ≡ old.name = goes.name_is in
+    let region : at.region ≡ region_of new.name = sym of_region ∙ ap region_of (sym name_is) in
+    let in_regions = here.region in
+    let is : IsNodeOf ends.settings pens new.name (node new.node) =
+    subst (λ (n : NodeName). IsNodeOf ends.settings pens n (node new.node)) (sym name_is) goes.goes.may.node in
+    end_not_due ends tables new.name (node new.node) at.shard are told (omega (arith, in_regions, region)) here.shard
+    (λ t found. reaches.there t found ∙ ap (λ k. marks (store_length tables k at.shard) []) region)
+    ((serves_its_turn ends.settings pens new.name (node new.node) at.shard).serves is here.shard)
+ends_there node refills tables pens ends at old new (Err stop) told are here of_region goes reaches = tt

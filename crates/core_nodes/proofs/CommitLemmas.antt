@@ -88,6 +88,7 @@ module _ (tells : Bool) (s : Settings) (name : NodeName) (shard : ℕ) (preferre
     pub goes : GoesOn old new
     pub followers : new.followers ≡ old.followers
     pub seen : IfOk r (λ wrote. IsSeen (pens_of new.stores) shard wrote.note)
+    pub note : IfOk r (λ wrote. wrote.note ≡ as_note (pens_of new.stores shard))
     pub stands : IfOk r (λ wrote. IfSome wrote.entry (IsSeenEntry (pens_of new.stores) shard wrote.note))
 
   module _ (after : Tables) (old : Fleet) (ls : List (Named Node)) (xs : List Store) where
@@ -194,6 +195,7 @@ module _ (tells : Bool) (s : Settings) (name : NodeName) (shard : ℕ) (preferre
           };
           followers = refl;
           seen = seen;
+          note = note;
           stands = stands_seen r seen stands;
         }
 
@@ -210,13 +212,6 @@ module _ (tells : Bool) (s : Settings) (name : NodeName) (shard : ℕ) (preferre
       (commit_step after f ls xs before r regions here region grow reached fleet
       (subst (λ l. ChangesNode name (Written s shard preferred xs r) l ls) own change)
       (subst (λ l. OnErr r (xs ≡ l)) own_stores rest) are (subst (λ l. Rise (pens_of l) (pens_of xs)) own_stores rise) note stands)
-
--- whether a leader serves the shard is known in two ways
-pub taken_so : (s : Settings) (shard : ℕ) (name : NodeName) (a b : Bool) (old new : List (Named Node)) (r : Result Wrote StoreRefusal) → a ≡ b
-    → IfOk r (λ wrote. ChangesNode name (TakesWritten (types_of s.schema) shard (taken_by a wrote.entry) wrote.note) old new)
-    → IfOk r (λ wrote. ChangesNode name (TakesWritten (types_of s.schema) shard (taken_by b wrote.entry) wrote.note) old new)
-taken_so s shard name a b old new r same =
-    subst (λ c. IfOk r (λ wrote. ChangesNode name (TakesWritten (types_of s.schema) shard (taken_by c wrote.entry) wrote.note) old new)) same
 
 -- ---- apply
 

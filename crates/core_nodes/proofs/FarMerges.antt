@@ -13,7 +13,8 @@ use Rattle.core_nodes.proofs.GrowingLemmas.{gains_stores, stays_stores}
 use Rattle.core_nodes.proofs.JobLemmas.{due, is_merged, may_be_merged, merge_keeps, merges_owed}
 use Rattle.core_nodes.proofs.MasterStores.{IsMasterRead, goes_same, pen_is, pens_rise, stores_left}
 use Rattle.core_nodes.proofs.StoreLemmas.{OthersStay, goes_with, others_stay}
-use Rattle.core_nodes.specs.Repairs.{ComesBack, FindsNoRoom, MergesOrRests, MergesFar, Outside, WritesDueEntry, carry_back, carry_there, outside}
+use Rattle.core_nodes.specs.Repairs.{ComesBack, FindsNoRoom, MergesOrRests, MergesFar, WritesDueEntry, carry_back, carry_there}
+use Rattle.core_nodes.specs.Outside.{Outside, outside}
 use Rattle.edge_repair.specs.Calls.{MayTakeJob}
 use Rattle.edge_repair.specs.Carries.{CarriesBack, CarriesBy, FailsAt}
 use Rattle.edge_repair.specs.JobBetween.{JobBetween, job_between, way_back, way_there}

@@ -9,6 +9,9 @@ pub mod CaughtUp
 pub mod CommitLemmas
 pub mod ComparedStores
 pub mod DeliverLemmas
+pub mod DueLemmas
+pub mod DueLists
+pub mod DueNodes
 pub mod EmptyLemmas
 pub mod EvictLemmas
 pub mod FailLemmas
@@ -35,6 +38,7 @@ pub mod OpenedLogs
 pub mod OrderedStores
 pub mod ReadLemmas
 pub mod RegionNames
+pub mod RelayLemmas
 pub mod RestartLemmas
 pub mod ServedRising
 pub mod ServedWithin
@@ -43,5 +47,7 @@ pub mod ShardLengths
 pub mod ShownLemmas
 pub mod StoreLemmas
 pub mod StoresLent
+pub mod StreamLemmas
+pub mod StreamReads
 pub mod UpLemmas
 pub mod ViewLemmas

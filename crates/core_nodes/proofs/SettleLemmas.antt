@@ -1,6 +1,8 @@
 -- What settling asks of keepers and links, step by step, and why it stops.
-use Rattle.std.proofs.Common.{◌≡◌, ℕ, ◌<◌, Bool, Some, ap, refl, sym, ◌∙◌, subst, arith}
+use Rattle.std.proofs.Common.{◌≡◌, ℕ, ◌<◌, Bool, Err, IfErr, Ok, Result, Some, ap, refl, sym, ◌∙◌, subst, arith}
+use Rattle.std.specs.Prelude.{⊤}
 use Rattle.counts.proofs.Rises.{Rose-earlier}
+use Rattle.edge_repair.specs.Carries.{FailsAt}
 use Rattle.node_name.specs.declared.NodeName.{NodeName}
 use Rattle.node_name.specs.declared.NodeName.TheVariants.{Store as StoreName_}
 use Rattle.replies.specs.declared.refusals.UnsettledWhy.TheVariants.{KeeperFault, LinkFault, LogFull}
@@ -8,12 +10,13 @@ use Rattle.tao_keeper.proofs.Later.{keeps_trans, later_self, later_trans}
 use Rattle.tao_base.specs.declared.id.StoreName.{StoreName}
 use Rattle.tao_keeper.specs.KeeperState.{IsLater, KeeperState}
 use Rattle.tao_link.specs.Cuts.{between}
-use Rattle.tao_link.specs.Shown.{LinkShown}
+use Rattle.tao_link.specs.Shown.{LinkShown, after_carry}
 use Rattle.topology.specs.Config.{Settings}
 use Rattle.core_nodes.specs.Opening.{IsUnmade}
 use Rattle.core_model.specs.Fleet.{region_of}
 use Rattle.core_model.specs.Stores.{region_store}
-use Rattle.core_nodes.specs.Repairs.{Outside, outside}
+use Rattle.core_nodes.specs.Dues.{MeetsDue, StopsAtDue, due_at}
+use Rattle.core_nodes.specs.Outside.{Outside, outside}
 use Rattle.core_nodes.specs.Settling.{FailedToReach, IsConfiguredCache, OnlyReads, StopsCarry, StopsCatchUp, StopsLengths, StopsReads, unmade_for}
 use Rattle.core_nodes.specs.declared.settling.SettleStop.{SettleStop}
 use Rattle.core_nodes.specs.declared.settling.SettleStop.TheVariants.{NoServer, OutOfMemory, Unsettled}
@@ -72,8 +75,16 @@ pub carry_stops : (s : Settings) (at from : StoreName) (name : NodeName) (keeper
 carry_stops s at from name keepers old new stop cache of_region here same stops =
     let named : from ≡ region_store (region_of name) at.shard = same ∙ ap (λ r. region_store r at.shard) (sym of_region) in
     let reach : FailedToReach s at.shard new =
-    record { name = name; cache = cache; failed = stops.2 ∙ ap (λ n. Some (between (StoreName_ n) name)) named } in
-    subst (StopsCatchUp s (outside keepers old) (outside keepers new)) (sym stops.0) (here, stops.1, reach)
+    record { name = name; cache = cache; failed = stops.1.failed ∙ ap (λ n. Some (between (StoreName_ n) name)) named } in
+    subst (StopsCatchUp s (outside keepers old) (outside keepers new)) (sym stops.0) (here, stops.1.rose, reach)
+
+-- which is where it stops
+pub carry_stops_here : (at from : StoreName) (name : NodeName) (old new : LinkShown) (stop : SettleStop) → region_of name ≡ at.region → from ≡ at
+    → StopsCarry at.shard from name old new stop → StopsAtDue stop (due_at name at.shard) old new
+carry_stops_here at from name old new stop of_region same stops =
+    let named : from ≡ region_store (region_of name) at.shard = same ∙ ap (λ r. region_store r at.shard) (sym of_region) in
+    subst (λ (e : SettleStop). StopsAtDue e (due_at name at.shard) old new) (sym stops.0)
+    (refl, subst (λ (n : StoreName). FailsAt (between (StoreName_ n) name) old new) named stops.1)
 
 -- the store of that name gives nothing of its log
 pub read_stops : (s : Settings) (at from : StoreName) (old new : KeeperState) (link after : LinkShown) (stop : SettleStop) → at.shard < s.shards → from ≡ at
@@ -84,3 +95,19 @@ read_stops s at from old new link after (Unsettled shard LinkFault) here same st
 read_stops s at from old new link after (Unsettled shard LogFull) here same stops = absurd stops
 read_stops s at from old new link after (NoServer shard) here same stops = absurd stops
 read_stops s at from old new link after OutOfMemory here same stops = tt
+
+-- which is where it stops
+pub read_stops_here : (at from : StoreName) (name : NodeName) (old new : KeeperState) (link after : LinkShown) (stop : SettleStop) → from ≡ at
+    → after ≡ after_carry link → StopsReads from.shard old new stop → StopsAtDue stop (due_at name at.shard) link after
+read_stops_here at from name old new link after (Unsettled shard KeeperFault) same over stops =
+    (stops.0 ∙ ap (λ (n : StoreName). n.shard) same, over)
+read_stops_here at from name old new link after (Unsettled shard LinkFault) same over stops = absurd stops
+read_stops_here at from name old new link after (Unsettled shard LogFull) same over stops = absurd stops
+read_stops_here at from name old new link after (NoServer shard) same over stops = absurd stops
+read_stops_here at from name old new link after OutOfMemory same over stops = over
+
+-- the store gave what it was asked for, or it stops there
+pub meets_here : (at from : StoreName) (name : NodeName) (old new : KeeperState) (link after : LinkShown) (r : Result ⊤ SettleStop) → from ≡ at
+    → after ≡ after_carry link → IfErr r (StopsReads from.shard old new) → MeetsDue (due_at name at.shard) r link after
+meets_here at from name old new link after (Ok done) same over stops = over
+meets_here at from name old new link after (Err stop) same over stops = read_stops_here at from name old new link after stop same over stops

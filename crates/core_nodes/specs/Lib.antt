@@ -1,10 +1,13 @@
 pub mod Beginning
+pub mod Dues
 pub mod Emptying
 pub mod Ends
 pub mod FleetView
 pub mod MasterWrites
 pub mod Opening
+pub mod Outside
 pub mod Repairs
 pub mod Settling
 pub mod Shown
 pub mod Stages
+pub mod Streams

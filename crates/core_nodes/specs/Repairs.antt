@@ -5,6 +5,7 @@ use Rattle.edge_repair.specs.declared.refusal.RepairRefusal.{RepairRefusal}
 use Rattle.edge_repair.specs.declared.refusal.RepairRefusal.TheVariants.{KeeperFault, LinkFault, LogFull, OutOfMemory}
 use Rattle.edge_repair.specs.declared.repairs.RepairOutcome.{RepairOutcome}
 use Rattle.graph_model.specs.Told.{WhereTold}
+use Rattle.core_nodes.specs.Outside.{Outside}
 use Rattle.node_name.specs.declared.NodeName.TheVariants.{Store as StoreName_}
 use Rattle.tao_base.specs.declared.entry.Entry.{Entry}
 use Rattle.tao_keeper.specs.KeeperState.{KeeperState, KeepsTables}
@@ -15,15 +16,6 @@ use Rattle.topology.specs.Config.{Settings}
 use Rattle.write_model.specs.Merges.{merge_of}
 use Rattle.core_model.specs.Jobs.{IsMergedJob, MergesOwed, ShardJob, far_shard}
 use Rattle.core_model.specs.Stores.{master_log, master_store}
-
--- what the keepers and the link show
-pub record Outside : Type 0 where
-  pub keepers : KeeperState
-  pub link : LinkShown
-
--- what the keepers show and what the link shows, together
-abbrev pub outside : KeeperState → LinkShown → Outside
-outside keepers link = record { keepers = keepers; link = link }
 
 -- the carry from the store of a job's shard to the one where it is owed, and the carry back
 abbrev pub carry_there : Settings → ShardJob → Carry

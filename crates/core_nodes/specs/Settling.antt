@@ -1,10 +1,11 @@
 -- Nodes that process the rest of their regions' logs, as a settle makes them.
-use Rattle.std.specs.Prelude.{ℕ, ◌≡◌, ◌≤◌, ◌<◌, ◌+◌, ◌==◌, ◌&&◌, ◌++◌, ⊤, Bool, Contains, List, [], Some, drop, filter, if◌then◌else◌, length, map}
+use Rattle.std.specs.Prelude.{ℕ, ◌≡◌, ◌≤◌, ◌<◌, ◌+◌, ◌==◌, ◌&&◌, ◌++◌, ⊤, Bool, Contains, List, [], Some, drop, filter, length, map}
 use Rattle.std.specs.Prelude.{false, nat_le, nat_lt, slice_get, true}
 use Rattle.std.specs.List.{range_with_len}
 use Rattle.cache_items.specs.Node.{Node}
 use Rattle.cache_items.specs.declared.item.Item.{Item}
 use Rattle.counts.specs.Count.{Rose}
+use Rattle.edge_repair.specs.Carries.{FailsAt}
 use Rattle.follower_cache.specs.Seen.{FollowerState}
 use Rattle.follower_cache.specs.declared.queue.Refill.{Refill}
 use Rattle.graph_model.specs.Log.{version}
@@ -26,7 +27,7 @@ use Rattle.tao_base.specs.declared.id.StoreName.{StoreName}
 use Rattle.tao_keeper.specs.KeeperState.{IsLater, KeeperState, KeepsTables}
 use Rattle.tao_keeper.specs.Table.{Tables}
 use Rattle.tao_link.specs.Cuts.{between}
-use Rattle.tao_link.specs.Shown.{LinkShown, after_carry}
+use Rattle.tao_link.specs.Shown.{LinkShown}
 use Rattle.topology.specs.Config.{Settings}
 use Rattle.topology.specs.States.{NodeStates, is_up}
 use Rattle.core_model.specs.Asks.{AsksGoOn}
@@ -36,7 +37,7 @@ use Rattle.core_model.specs.Fleet.{EachNode, Fleet, follower_names, leader_names
 use Rattle.core_model.specs.Pens.{IsSeen, Pens}
 use Rattle.core_model.specs.Stores.{AreWhole, master_log, region_store, store_length}
 use Rattle.core_model.specs.declared.named.Named.{Named}
-use Rattle.core_nodes.specs.Repairs.{Outside}
+use Rattle.core_nodes.specs.Outside.{Outside}
 use Rattle.core_nodes.specs.declared.settling.SettleStop.{SettleStop}
 use Rattle.core_nodes.specs.declared.settling.SettleStop.TheVariants.{NoServer, OutOfMemory, Unsettled}
 
@@ -131,7 +132,7 @@ StopsReads shard old new (Unsettled at LogFull) = ⊥
 StopsReads shard old new (NoServer at) = ⊥
 StopsReads shard old new OutOfMemory = ⊤
 
--- why the lengths of the logs aren't known
+-- why the lengths of the logs aren't known. Which store was asked last can't be seen, so the shard is one of the configuration's, and no more
 abbrev pub StopsLengths : Settings → KeeperState → KeeperState → SettleStop → Type 0
 StopsLengths s old new (Unsettled shard KeeperFault) = (shard < s.shards) × Rose old.faults new.faults
 StopsLengths s old new (Unsettled shard LinkFault) = ⊥
@@ -166,8 +167,7 @@ unmade_for OutOfMemory = opening.OutOfMemory
 
 -- why nothing is carried from a store to a node
 abbrev pub StopsCarry : ℕ → StoreName → NodeName → LinkShown → LinkShown → SettleStop → Type 0
-StopsCarry shard from to old new stop = (stop ≡ Unsettled shard LinkFault) × Rose old.faults new.faults
-    × (new.failed ≡ Some (between (StoreName_ from) to))
+StopsCarry shard from to old new stop = (stop ≡ Unsettled shard LinkFault) × FailsAt (between (StoreName_ from) to) old new
 
 -- the node serves the shard, and has not processed its log up to this length
 abbrev pub lies_behind : Settings → NodeName → ℕ → ℕ → ℕ → Bool
@@ -176,10 +176,6 @@ lies_behind s name shard low until = serves_in_turn (regions_of s) name shard &&
 -- while those of a region catch up it is the turn of each that is one of these, and up
 abbrev pub is_turn : NodeStates → ℕ → NodeName → Bool
 is_turn states region name = (region_of name == region) && is_up states name
-
--- one carry, where it is needed
-abbrev pub carried : Bool → LinkShown → LinkShown
-carried needed link = if needed then after_carry link else link
 
 -- the logs of a configuration's stores: in the tables, which the keeper tells or not, and as the pens have seen them
 pub record SeenLogs : Type 0 where
@@ -221,8 +217,10 @@ pub record CacheGoesOn {N : Type 0} (node : N → Node) (refills : N → List Re
 pub record IsAtFirstStores (tables : Tables) (region count : ℕ) (node : Node) : Type 0 where
   pub ends : (shard : ℕ) (t : ServedShard) → shard < count → served_at shard node.served ≡ Some t → t.marks ≡ marks (store_length tables region shard) []
 
--- a node that has processed what the stores of the shards below have has then processed what this shard's store has too
+-- the node has processed all that the store has, where it serves its shard, and nothing ahead. One that has processed what the stores of the shards below
+-- have has then processed what this shard's store has too
 pub record ReachesStore (tables : Tables) (at : StoreName) (old new : Node) : Type 0 where
+  pub there : (t : ServedShard) → served_at at.shard new.served ≡ Some t → t.marks ≡ marks (store_length tables at.region at.shard) []
   pub next : IsAtFirstStores tables at.region at.shard old → IsAtFirstStores tables at.region (at.shard + 1) new
 
 -- ---- several nodes on the way

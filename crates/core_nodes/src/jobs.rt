@@ -1,6 +1,7 @@
 //! The stages of a job: it is merged where it is owed, and then ended.
 ghost use Rattle.std.specs.Bool.{OnTrue};
 ghost use Rattle.std.specs.Prelude.{◌≡◌, ◌<◌, IfErr, IfOk, IfSome, OnErr, OnOk, Some};
+ghost use Rattle.core_model.specs.Asked.{lent_job, settings};
 ghost use Rattle.core_model.specs.Consistent.{GoesOn, IsConsistent};
 ghost use Rattle.core_model.specs.Fleet.{ChangesNode, HasNode, serves};
 ghost use Rattle.core_model.specs.Growing.{StoresGrow};
@@ -9,7 +10,8 @@ ghost use Rattle.core_model.specs.Pens.{IsSeen, Rise, pens_of, store_in};
 ghost use Rattle.core_model.specs.Serving.{IsLeaderIn};
 ghost use Rattle.core_model.specs.Stores.{AreStoresOf, master_of, master_store};
 ghost use Rattle.core_nodes.specs.MasterWrites.{job_of_master};
-ghost use Rattle.core_nodes.specs.Repairs.{MergesFar, outside};
+ghost use Rattle.core_nodes.specs.Repairs.{MergesFar};
+ghost use Rattle.core_nodes.specs.Outside.{outside};
 ghost use Rattle.core_nodes.specs.Stages.{NodeIs, taken_by};
 ghost use Rattle.edge_repair.specs.declared.refusal.RepairRefusal.TheVariants as repair;
 ghost use Rattle.graph_model.specs.Told.{WhereTold};
@@ -30,7 +32,8 @@ ghost use Rattle.tao_schema.specs.Schema.{types_of};
 use crate::fleet::Fleet;
 use crate::stores::{master_store, region_store};
 use core_model::{
-    Named, far_shard, master_of, masters_are_regions, named_place, serves_in_turn, store_place,
+    Around, Named, ShardJob, far_shard, master_of, masters_are_regions, named_place,
+    serves_in_turn, store_place,
 };
 use edge_repair::{RepairOutcome, RepairRefusal, merge_far};
 use leader_tier::Leader;
@@ -45,53 +48,45 @@ use topology::Config;
 
 /// Merges the job at the leader of that name and the store of the shard where it is owed.
 fn merge_at<K: Keeper>(
-    alloc: Global,
+    around: &Around<'_>,
     leaders: &mut [Named<Leader>],
     stores: &mut [StoreNode],
     keepers: &mut K,
-    config: &Config,
     name: NodeName,
-    preferred: bool,
-    from: u16,
-    job: &Job,
+    job: &ShardJob<'_>,
 ) -> Result<Wrote, StoreRefusal>
     requires there { HasNode name leaders.old }
-    requires shard { far_shard job.now < config.now.shards }
-    requires logs { OnTrue preferred (NodeIs name (λ node. (store : StoreSeen)
-        → store_in stores.old (master_store config.now (far_shard job.now)) ≡ Some store
-        → log_at (far_shard job.now) node.served ≡ Some store.view.log) leaders.old) }
-    requires stores { AreStoresOf K.TELLS config.now (K.state keepers.old).told stores.old }
-    requires given { IsGivenJob job.now }
-    requires owed { WhereTold K.TELLS (IsOwedJob config.now (K.state keepers.old).told (job_on from job.now)) }
-    ensures node { ChangesNode name (LeaderDoes (TakesWritten (types_of config.now.schema) (far_shard job.now) (taken_entry preferred result)
-        (as_note (pens_of stores.new (far_shard job.now))))) leaders.old leaders.new }
+    requires shard { far_shard job.now.job.now < (settings around.now).shards }
+    requires logs { OnTrue (serves (settings around.now) name (far_shard job.now.job.now)) (NodeIs name (λ node. (store : StoreSeen)
+        → store_in stores.old (master_store (settings around.now) (far_shard job.now.job.now)) ≡ Some store
+        → log_at (far_shard job.now.job.now) node.served ≡ Some store.view.log) leaders.old) }
+    requires stores { AreStoresOf K.TELLS (settings around.now) (K.state keepers.old).told stores.old }
+    requires given { IsGivenJob job.now.job.now }
+    requires owed { WhereTold K.TELLS (IsOwedJob (settings around.now) (K.state keepers.old).told (lent_job job.now)) }
+    ensures node { ChangesNode name (LeaderDoes (TakesWritten (types_of (settings around.now).schema) (far_shard job.now.job.now)
+        (taken_entry (serves (settings around.now) name (far_shard job.now.job.now)) result)
+        (as_note (pens_of stores.new (far_shard job.now.job.now))))) leaders.old leaders.new }
     ensures rest { OnErr result (stores.new ≡ stores.old) }
-    ensures stores { AreStoresOf K.TELLS config.now (K.state keepers.new).told stores.new }
+    ensures stores { AreStoresOf K.TELLS (settings around.now) (K.state keepers.new).told stores.new }
     ensures rise { Rise (pens_of stores.old) (pens_of stores.new) }
-    ensures note { IfOk result (λ wrote. wrote.note ≡ as_note (pens_of stores.new (far_shard job.now))) }
-    ensures done { MergeDone K.TELLS (master_store config.now (far_shard job.now)) (job_of_master config.now (K.state keepers.old).told (job_on from job.now))
-        (K.state keepers.old) (K.state keepers.new) result }
-    ensures step { WhereTold K.TELLS (OnOk result (MergesOwed config.now (K.state keepers.old).told (K.state keepers.new).told (job_on from job.now))) }
-    ensures merged { WhereTold K.TELLS (OnOk result (IsMergedJob config.now (K.state keepers.new).told (job_on from job.now))) }
+    ensures note { IfOk result (λ wrote. wrote.note ≡ as_note (pens_of stores.new (far_shard job.now.job.now))) }
+    ensures done { MergeDone K.TELLS (master_store (settings around.now) (far_shard job.now.job.now))
+        (job_of_master (settings around.now) (K.state keepers.old).told (lent_job job.now)) (K.state keepers.old) (K.state keepers.new) result }
+    ensures step { WhereTold K.TELLS (OnOk result
+        (MergesOwed (settings around.now) (K.state keepers.old).told (K.state keepers.new).told (lent_job job.now))) }
+    ensures merged { WhereTold K.TELLS (OnOk result (IsMergedJob (settings around.now) (K.state keepers.new).told (lent_job job.now))) }
 {
+    let config = around.config;
     masters_are_regions(config);
     inverses_match(&config.schema);
     let spot = named_place(leaders, name);
-    let shard = far_shard(job);
+    let shard = far_shard(job.job);
+    let preferred = serves_in_turn(config, name, shard);
     let at = region_store(master_of(config, shard), shard);
     let place = store_place(config, at);
     let leader = &mut leaders[spot].node;
     let store = &mut stores[place];
-    merge_of(
-        alloc,
-        leader,
-        preferred,
-        store,
-        keepers,
-        &config.schema,
-        from,
-        job,
-    )
+    merge_of(around, leader, preferred, store, keepers, job)
 }
 
 /// Ends the job at its own shard's store.
@@ -155,18 +150,17 @@ fn merge_over<K: Keeper, L: Link>(
     keepers: &mut K,
     link: &mut L,
     config: &Config,
-    from: u16,
-    job: &Job,
+    job: &ShardJob<'_>,
 ) -> Result<RepairOutcome, RepairRefusal>
     requires stores { AreStoresOf K.TELLS config.now (K.state keepers.old).told stores.old }
-    requires here { from < config.now.shards }
-    requires there { far_shard job.now < config.now.shards }
-    requires given { IsGivenJob job.now }
-    requires owed { WhereTold K.TELLS (IsOwedJob config.now (K.state keepers.old).told (job_on from job.now)) }
-    ensures merges { MergesFar K.TELLS config.now (job_on from job.now) result
+    requires here { job.now.shard < config.now.shards }
+    requires there { far_shard job.now.job.now < config.now.shards }
+    requires given { IsGivenJob job.now.job.now }
+    requires owed { WhereTold K.TELLS (IsOwedJob config.now (K.state keepers.old).told (lent_job job.now)) }
+    ensures merges { MergesFar K.TELLS config.now (lent_job job.now) result
         (outside (K.state keepers.old) (L.shown link.old)) (outside (K.state keepers.new) (L.shown link.new)) }
-    ensures stands { IfOk result (λ repaired. IfSome repaired.wrote (StandsIn (pens_of stores.new (far_shard job.now)))) }
-    ensures lies { IfOk result (λ repaired. IfSome repaired.wrote (LiesOn (pens_of stores.new (far_shard job.now)) (far_shard job.now))) }
+    ensures stands { IfOk result (λ repaired. IfSome repaired.wrote (StandsIn (pens_of stores.new (far_shard job.now.job.now)))) }
+    ensures lies { IfOk result (λ repaired. IfSome repaired.wrote (LiesOn (pens_of stores.new (far_shard job.now.job.now)) (far_shard job.now.job.now))) }
     ensures stores { AreStoresOf K.TELLS config.now (K.state keepers.new).told stores.new }
     ensures rise { Rise (pens_of stores.old) (pens_of stores.new) }
     ensures grows { StoresGrow K.TELLS config.now (K.state keepers.old).told (K.state keepers.new).told }
@@ -174,12 +168,12 @@ fn merge_over<K: Keeper, L: Link>(
 {
     masters_are_regions(config);
     inverses_match(&config.schema);
-    let from = master_store(config, from);
-    let shard = far_shard(job);
+    let from = master_store(config, job.shard);
+    let shard = far_shard(job.job);
     let at = region_store(master_of(config, shard), shard);
     let place = store_place(config, at);
     let to = &mut stores[place];
-    merge_far(alloc, from, to, keepers, link, job)
+    merge_far(alloc, from, to, keepers, link, job.job)
 }
 
 impl Fleet {
@@ -194,41 +188,36 @@ impl Fleet {
         config: &Config,
         keepers: &mut K,
         leader: NodeName,
-        from: u16,
-        job: &Job,
+        job: &ShardJob<'_>,
     ) -> Result<Wrote, StoreRefusal>
         requires consistent { IsConsistent K.TELLS config.now (K.state keepers.old).told self.old }
-        requires leader { IsLeaderIn config.now (master_of config.now (far_shard job.now)) leader }
-        requires there { far_shard job.now < config.now.shards }
-        requires given { IsGivenJob job.now }
-        requires owed { WhereTold K.TELLS (IsOwedJob config.now (K.state keepers.old).told (job_on from job.now)) }
+        requires leader { IsLeaderIn config.now (master_of config.now (far_shard job.now.job.now)) leader }
+        requires there { far_shard job.now.job.now < config.now.shards }
+        requires given { IsGivenJob job.now.job.now }
+        requires owed { WhereTold K.TELLS (IsOwedJob config.now (K.state keepers.old).told (lent_job job.now)) }
 
         // What the nodes are then.
-        ensures node { IfOk result (λ wrote. ChangesNode leader (TakesWritten (types_of config.now.schema) (far_shard job.now)
-            (taken_by (serves config.now leader (far_shard job.now)) wrote.entry) wrote.note) self.old.leaders self.new.leaders) }
+        ensures node { IfOk result (λ wrote. ChangesNode leader (TakesWritten (types_of config.now.schema) (far_shard job.now.job.now)
+            (taken_by (serves config.now leader (far_shard job.now.job.now)) wrote.entry) wrote.note) self.old.leaders self.new.leaders) }
         ensures err { OnErr result (self.new ≡ self.old) }
         ensures consistent { IsConsistent K.TELLS config.now (K.state keepers.new).told self.new }
         ensures goes { GoesOn self.old self.new }
         ensures followers { self.new.followers ≡ self.old.followers }
 
         // The answer and the tables, as a merge of the store leaves them: a step of the plain machine.
-        ensures done { MergeDone K.TELLS (master_store config.now (far_shard job.now))
-            (job_of_master config.now (K.state keepers.old).told (job_on from job.now)) (K.state keepers.old) (K.state keepers.new) result }
-        ensures step { WhereTold K.TELLS (OnOk result (MergesOwed config.now (K.state keepers.old).told (K.state keepers.new).told (job_on from job.now))) }
-        ensures merged { WhereTold K.TELLS (OnOk result (IsMergedJob config.now (K.state keepers.new).told (job_on from job.now))) }
-        ensures seen { IfOk result (λ wrote. IsSeen (pens_of self.new.stores) (far_shard job.now) wrote.note) }
+        ensures done { MergeDone K.TELLS (master_store config.now (far_shard job.now.job.now))
+            (job_of_master config.now (K.state keepers.old).told (lent_job job.now)) (K.state keepers.old) (K.state keepers.new) result }
+        ensures step { WhereTold K.TELLS (OnOk result (MergesOwed config.now (K.state keepers.old).told (K.state keepers.new).told (lent_job job.now))) }
+        ensures merged { WhereTold K.TELLS (OnOk result (IsMergedJob config.now (K.state keepers.new).told (lent_job job.now))) }
+        ensures seen { IfOk result (λ wrote. IsSeen (pens_of self.new.stores) (far_shard job.now.job.now) wrote.note) }
     {
         masters_are_regions(config);
-        let preferred = serves_in_turn(config, leader, far_shard(job));
         merge_at(
-            alloc,
+            &Around { alloc, config },
             &mut self.leaders,
             &mut self.stores,
             keepers,
-            config,
             leader,
-            preferred,
-            from,
             job,
         )
     }
@@ -290,24 +279,24 @@ impl Fleet {
         config: &Config,
         keepers: &mut K,
         link: &mut L,
-        from: u16,
-        job: &Job,
+        job: &ShardJob<'_>,
     ) -> Result<RepairOutcome, RepairRefusal>
         requires consistent { IsConsistent K.TELLS config.now (K.state keepers.old).told self.old }
-        requires here { from < config.now.shards }
-        requires there { far_shard job.now < config.now.shards }
-        requires given { IsGivenJob job.now }
-        requires owed { WhereTold K.TELLS (IsOwedJob config.now (K.state keepers.old).told (job_on from job.now)) }
-        ensures merges { MergesFar K.TELLS config.now (job_on from job.now) result
+        requires here { job.now.shard < config.now.shards }
+        requires there { far_shard job.now.job.now < config.now.shards }
+        requires given { IsGivenJob job.now.job.now }
+        requires owed { WhereTold K.TELLS (IsOwedJob config.now (K.state keepers.old).told (lent_job job.now)) }
+        ensures merges { MergesFar K.TELLS config.now (lent_job job.now) result
             (outside (K.state keepers.old) (L.shown link.old)) (outside (K.state keepers.new) (L.shown link.new)) }
-        ensures stands { IfOk result (λ repaired. IfSome repaired.wrote (StandsIn (pens_of self.new.stores (far_shard job.now)))) }
-        ensures lies { IfOk result (λ repaired. IfSome repaired.wrote (LiesOn (pens_of self.new.stores (far_shard job.now)) (far_shard job.now))) }
+        ensures stands { IfOk result (λ repaired. IfSome repaired.wrote (StandsIn (pens_of self.new.stores (far_shard job.now.job.now)))) }
+        ensures lies { IfOk result (λ repaired.
+            IfSome repaired.wrote (LiesOn (pens_of self.new.stores (far_shard job.now.job.now)) (far_shard job.now.job.now))) }
         ensures rest { self.new ≡ record self.old { stores = self.new.stores } }
         ensures consistent { IsConsistent K.TELLS config.now (K.state keepers.new).told self.new }
         ensures goes { GoesOn self.old self.new }
         ensures grows { StoresGrow K.TELLS config.now (K.state keepers.old).told (K.state keepers.new).told }
         ensures calls { CallsKeeper repair.KeeperFault (K.state keepers.old) (K.state keepers.new) result }
     {
-        merge_over(alloc, &mut self.stores, keepers, link, config, from, job)
+        merge_over(alloc, &mut self.stores, keepers, link, config, job)
     }
 }

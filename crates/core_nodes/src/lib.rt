@@ -17,10 +17,15 @@
 //! plain machine, and leave the stores sound and covered; the first job of a shard is its first open one. Nodes
 //! that catch up, which those that are up do, have processed all that their regions' stores have, and hold just what they held
 //! that isn't behind these; where each store has all of its shard's log, they hold last versions alone.
+//! They take one carry for each shard at which a node lies behind, in the order of the nodes, and no other. What stops them is named by the first
+//! that wasn't met: what comes before was met, and nothing behind it has changed (`MeetsDues`). Of a stream into a
+//! region's store it is found which entry comes next, and a slave's store takes an entry of its shard's log exactly where that
+//! comes next, which changes no other table and no other node.
 //!
 //! The contracts that say so: `Fleet::open`, `look`, `ask_at_once`, `ask`, `read_store`, `notes`, `note`, `renew`,
 //! `keep`, `end_ask`, `commit`, `merge`, `merge_far`, `end_job`, `first_job`, `apply`, `evict`, `deliver`,
-//! `next_refill`, `lengths`, `shard_lengths`, `catch_up`, `go_down`, `come_up`, `item`, `mark`; the law `nodes_catch_up`.
+//! `next_refill`, `lengths`, `shard_lengths`, `catch_up`, `go_down`, `come_up`, `next_entry`, `take_streamed`, `relay`, `item`, `mark`; the
+//! law `nodes_catch_up`.
 #![tactic(auto)]
 
 mod beginning;
@@ -36,12 +41,16 @@ mod notes;
 mod opening;
 mod places;
 mod reads;
+mod relays;
 mod settling;
 mod shown;
 mod stores;
+mod streams;
 mod writes;
 
+pub use catching::Ends;
 pub use fleet::Fleet;
 pub use node_stages::FirstLook;
 pub use settling::{SettleStop, shard_lengths};
 pub use stores::{master_store, region_store};
+pub use streams::NextEntry;

@@ -2,8 +2,9 @@
 ghost use Rattle.std.specs.Prelude.{◌≡◌, ◌<◌, IfErr, IfOk, IfSome, IsSome, OnErr, Some, true};
 ghost use Rattle.cache_items.specs.Kept.{ask_at as open_ask_at};
 ghost use Rattle.cache_node.specs.Answered.{ViewAnswers};
+ghost use Rattle.core_model.specs.Asked.{lent_read, settings};
 ghost use Rattle.core_model.specs.Consistent.{GoesOn, IsConsistent, IsFleetOf};
-ghost use Rattle.core_model.specs.Fleet.{ChangesNode, HasAsk, HasNode};
+ghost use Rattle.core_model.specs.Fleet.{ChangesNode, HasAsk, HasNode, region_of};
 ghost use Rattle.core_model.specs.Pens.{pens_of, store_in};
 ghost use Rattle.core_model.specs.Reads.{AsksAtOnce, EndsAsk, IsGivenAnswer, IsGivenFill, IsLegalLook, KeepsFill, LeaderAnswers, LooksFirst};
 ghost use Rattle.core_model.specs.Reads.{store_calls, taken_fill, wanted};
@@ -25,7 +26,7 @@ ghost use Rattle.tao_schema.specs.Schema.{types_of};
 use crate::fleet::Fleet;
 use crate::stores::region_store;
 use ask_table::AskNo;
-use core_model::{Named, named_place, store_place};
+use core_model::{Around, Named, Wanted, named_place, region_of, store_place};
 use follower_cache::{Follower, Kept};
 use leader_tier::Leader;
 use node_name::NodeName;
@@ -65,25 +66,23 @@ fn open_at(followers: &mut [Named<Follower>], name: NodeName, query: &Query) -> 
 }
 
 fn ask_at<K: Keeper>(
-    alloc: Global,
+    around: &Around<'_>,
     leaders: &mut [Named<Leader>],
     stores: &mut [StoreNode],
     keepers: &mut K,
-    config: &Config,
     name: NodeName,
-    region: u16,
-    query: &Query,
-    floor: u64,
+    read: &Wanted<'_>,
 ) -> Result<LeaderAnswer, StoreRefusal>
     requires there { HasNode name leaders.old }
-    requires here { IsConfiguredStore config.now (region_store region (query_shard query.now)) }
-    requires logs { NodeIs name (λ node. (store : Store) → store_in stores.old (region_store region (query_shard query.now)) ≡ Some store
-        → log_at (query_shard query.now) node.served ≡ Some store.view.log) leaders.old }
-    requires stores { AreStoresOf K.TELLS config.now (K.state keepers.old).told stores.old }
+    requires here { IsConfiguredStore (settings around.now) (region_store (region_of name) (query_shard read.now.query.now)) }
+    requires logs { NodeIs name (λ node. (store : Store)
+        → store_in stores.old (region_store (region_of name) (query_shard read.now.query.now)) ≡ Some store
+        → log_at (query_shard read.now.query.now) node.served ≡ Some store.view.log) leaders.old }
+    requires stores { AreStoresOf K.TELLS (settings around.now) (K.state keepers.old).told stores.old }
     ensures given { IfOk result (λ given. ChangesNode name (LeaderDoes
-        (LeaderAnswers (types_of config.now.schema) (wanted query.now floor) given (store_calls region stores.old (K.state keepers.old) (K.state keepers.new))))
-        leaders.old leaders.new) }
-    ensures legal { IfOk result (IsLegalAt (types_of config.now.schema) query.now floor) }
+        (LeaderAnswers (types_of (settings around.now).schema) (lent_read read.now) given
+        (store_calls (region_of name) stores.old (K.state keepers.old) (K.state keepers.new)))) leaders.old leaders.new) }
+    ensures legal { IfOk result (IsLegalAt (types_of (settings around.now).schema) read.now.query.now read.now.floor) }
     ensures err { OnErr result (leaders.new ≡ leaders.old) }
     ensures refused { IfErr result IsOfReads }
     ensures same { stores.new ≡ stores.old }
@@ -92,11 +91,11 @@ fn ask_at<K: Keeper>(
     ensures calls { CallsKeeper StoreRefusal.KeeperFault (K.state keepers.old) (K.state keepers.new) result }
 {
     let spot = named_place(leaders, name);
-    let at = region_store(region, query.shard());
-    let place = store_place(config, at);
+    let at = region_store(region_of(name), read.query.shard());
+    let place = store_place(around.config, at);
     let leader = &mut leaders[spot].node;
     let store = &mut stores[place];
-    ask_leader(alloc, leader, store, keepers, &config.schema, query, floor)
+    ask_leader(around, leader, store, keepers, read)
 }
 
 fn keep_at(
@@ -176,7 +175,7 @@ impl Fleet {
     }
 
     /// The stage `ask`, once it was carried to a leader that serves the shard: the leader answers of an item of its own, or of
-    /// the shard's store, and keeps what the store gave.
+    /// its region's store of the shard, and keeps what the store gave.
     ///
     /// `KeeperFault` comes only where the keepers' count of faults rose, and `OutOfMemory` where there was no memory; no node
     /// has changed then. Costs what `Leader::answer` does.
@@ -186,36 +185,31 @@ impl Fleet {
         config: &Config,
         keepers: &mut K,
         leader: NodeName,
-        region: u16,
-        query: &Query,
-        floor: u64,
+        read: &Wanted<'_>,
     ) -> Result<LeaderAnswer, StoreRefusal>
         requires consistent { IsConsistent K.TELLS config.now (K.state keepers.old).told self.old }
-        requires leader { IsLeaderFor config.now (query_shard query.now) leader }
-        requires here { IsConfiguredStore config.now (region_store region (query_shard query.now)) }
+        requires leader { IsLeaderFor config.now (query_shard read.now.query.now) leader }
+        requires here { IsConfiguredStore config.now (region_store (region_of leader) (query_shard read.now.query.now)) }
         ensures answers { IfOk result (λ given. ChangesNode leader
-            (LeaderAnswers (types_of config.now.schema) (wanted query.now floor) given
-            (store_calls region self.old.stores (K.state keepers.old) (K.state keepers.new))) self.old.leaders self.new.leaders) }
+            (LeaderAnswers (types_of config.now.schema) (lent_read read.now) given
+            (store_calls (region_of leader) self.old.stores (K.state keepers.old) (K.state keepers.new))) self.old.leaders self.new.leaders) }
         ensures rest { self.new ≡ record self.old { leaders = self.new.leaders } }
         ensures err { OnErr result (self.new ≡ self.old) }
         ensures consistent { IsConsistent K.TELLS config.now (K.state keepers.new).told self.new }
         ensures goes { GoesOn self.old self.new }
-        ensures given { IfOk result (IsGivenAnswer (types_of config.now.schema) (pens_of self.new.stores) (wanted query.now floor)) }
+        ensures given { IfOk result (IsGivenAnswer (types_of config.now.schema) (pens_of self.new.stores) (lent_read read.now)) }
         ensures refused { IfErr result IsOfReads }
         ensures tables { KeepsTables K.TELLS (K.state keepers.old) (K.state keepers.new) }
         ensures logs { LogsGrow K.TELLS (K.state keepers.old).told (K.state keepers.new).told }
         ensures calls { CallsKeeper StoreRefusal.KeeperFault (K.state keepers.old) (K.state keepers.new) result }
     {
         ask_at(
-            alloc,
+            &Around { alloc, config },
             &mut self.leaders,
             &mut self.stores,
             keepers,
-            config,
             leader,
-            region,
-            query,
-            floor,
+            read,
         )
     }
 
@@ -227,29 +221,29 @@ impl Fleet {
         &mut self,
         config: &Config,
         follower: NodeName,
-        query: &Query,
-        floor: u64,
+        read: &Wanted<'_>,
         ask: Option<AskNo>,
         fill: Fill,
     ) -> Result<(Answer, Kept), OutOfMemory>
         requires fleet { IsFleetOf config.now self.old }
-        requires follower { IsFollowerFor config.now (query_shard query.now) follower }
-        requires given { IsGivenFill (types_of config.now.schema) (pens_of self.old.stores) (wanted query.now floor) fill }
-        requires ask { IfSome ask (λ number. HasAsk follower number (query_key query.now) self.old.followers) }
+        requires follower { IsFollowerFor config.now (query_shard read.now.query.now) follower }
+        requires given { IsGivenFill (types_of config.now.schema) (pens_of self.old.stores) (lent_read read.now) fill }
+        requires ask { IfSome ask (λ number. HasAsk follower number (query_key read.now.query.now) self.old.followers) }
         ensures keeps { IfOk result (λ r. ChangesNode follower
-            (KeepsFill (types_of config.now.schema) query.now (taken_fill ask fill r.0 r.1)) self.old.followers self.new.followers) }
+            (KeepsFill (types_of config.now.schema) read.now.query.now (taken_fill ask fill r.0 r.1)) self.old.followers self.new.followers) }
         ensures err { OnErr result (ChangesNode follower (EndsAsk ask) self.old.followers self.new.followers) }
         ensures rest { self.new ≡ record self.old { followers = self.new.followers } }
         ensures fleet { IsFleetOf config.now self.new }
         ensures goes { GoesOn self.old self.new }
         ensures legal { IfOk result (λ r.
-            IsLegalIn (types_of config.now.schema) (pens_of self.new.stores (query_shard query.now)) query.now floor r.0 fill.version) }
+            IsLegalIn (types_of config.now.schema) (pens_of self.new.stores (query_shard read.now.query.now)) read.now.query.now read.now.floor r.0
+            fill.version) }
     {
         keep_at(
             &mut self.followers,
             &config.schema,
             follower,
-            query,
+            read.query,
             ask,
             fill,
         )

@@ -4,7 +4,8 @@ ghost use Rattle.std.specs.List.{range_with_len};
 ghost use Rattle.core_model.specs.Consistent.{GoesOn, IsConsistent};
 ghost use Rattle.core_model.specs.Stores.{master_store, store_place};
 ghost use Rattle.core_nodes.specs.Beginning.{AreLengths, length_at};
-ghost use Rattle.core_nodes.specs.Repairs.{outside};
+ghost use Rattle.core_nodes.specs.Dues.{LeavesFleet, MeetsDues, dues_of_fleet, log_ends};
+ghost use Rattle.core_nodes.specs.Outside.{outside};
 ghost use Rattle.core_nodes.specs.Settling.{AllCatchUp, AllProcessOn, OnlyReads, StopsAs, StopsCatchUp, StopsLengths, log_lengths};
 ghost use Rattle.graph_model.specs.Told.{WhereTold};
 ghost use Rattle.shard_tables.specs.Refusals.{IsOfReads};
@@ -13,7 +14,7 @@ ghost use Rattle.tao_keeper.specs.KeeperState.{IsLater, KeepsTables};
 ghost use Rattle.tao_keeper.specs.Table.{Tables};
 
 use crate::beginning::{length_at, log_lengths};
-use crate::catching::catch_up_caches;
+use crate::catching::Ends;
 use crate::fleet::Fleet;
 use crate::stores::master_store;
 use core_model::{masters_are_regions, store_place};
@@ -23,7 +24,7 @@ use std::alloc::Global;
 use tao_base::OutOfMemory;
 use tao_keeper::Keeper;
 use tao_link::Link;
-use topology::{Config, Topology};
+use topology::Config;
 
 /// Why a settle came to no end. What was done before stays.
 #[derive(Clone, Copy, PartialEq, Eq)]
@@ -77,39 +78,38 @@ impl Fleet {
     /// the others. What it holds that is behind the region's store is dropped, and all else stays in its order; no refill is queued. A node that is
     /// down stays as it is.
     ///
-    /// The first fault ends it, and what was done stays: each node then has dropped nothing of a last version. Costs a call of the keeper
-    /// for each entry that a node has yet to process; takes the memory of these entries for one shard at a time.
+    /// The first fault ends it, with no carry more, and what was done stays: each node then has dropped nothing of a last version, and whoever comes
+    /// after the node and shard at which it stopped is as it was. Costs a call of the keeper for each entry that a node has yet to process; takes the
+    /// memory of these entries for one shard at a time.
     pub fn catch_up<K: Keeper, L: Link>(
         &mut self,
-        alloc: Global,
-        config: &Config,
-        topology: &Topology,
+        ends: &Ends,
         keepers: &mut K,
         link: &mut L,
-        lengths: &[u64],
     ) -> Result<(), SettleStop>
-        requires consistent { IsConsistent K.TELLS config.now (K.state keepers.old).told self.old }
-        requires lengths { AreLengths K.TELLS config.now (K.state keepers.old).told lengths.now }
-        ensures caught { WhereTold K.TELLS (OnOk result (AllCatchUp config.now topology.now (K.state keepers.new).told self.old self.new)) }
-        ensures on { AllProcessOn K.TELLS config.now topology.now (K.state keepers.new).told self.old self.new }
-        ensures stop { IfErr result (StopsCatchUp config.now
+        requires consistent { IsConsistent K.TELLS ends.now.config.now (K.state keepers.old).told self.old }
+        requires lengths { AreLengths K.TELLS ends.now.config.now (K.state keepers.old).told ends.now.lengths.now }
+        ensures caught { WhereTold K.TELLS (OnOk result
+            (AllCatchUp ends.now.config.now ends.now.topology.now (K.state keepers.new).told self.old self.new)) }
+        ensures on { AllProcessOn K.TELLS ends.now.config.now ends.now.topology.now (K.state keepers.new).told self.old self.new }
+        ensures meets { MeetsDues
+            (dues_of_fleet (log_ends K.TELLS ends.now.config.now ends.now.lengths.now) ends.now.topology.now self.old) result
+            (L.shown link.old) (L.shown link.new)
+            (LeavesFleet (log_ends K.TELLS ends.now.config.now ends.now.lengths.now) ends.now.topology.now self.old self.new) }
+        ensures stop { IfErr result (StopsCatchUp ends.now.config.now
             (outside (K.state keepers.old) (L.shown link.old)) (outside (K.state keepers.new) (L.shown link.new))) }
         ensures stores { self.new.stores ≡ self.old.stores }
-        ensures consistent { IsConsistent K.TELLS config.now (K.state keepers.new).told self.new }
+        ensures consistent { IsConsistent K.TELLS ends.now.config.now (K.state keepers.new).told self.new }
         ensures goes { GoesOn self.old self.new }
         ensures reads { OnlyReads K.TELLS (outside (K.state keepers.old) (L.shown link.old)) (outside (K.state keepers.new) (L.shown link.new)) }
         ensures logs { LogsGrow K.TELLS (K.state keepers.old).told (K.state keepers.new).told }
     {
-        catch_up_caches(
-            alloc,
+        ends.catch_up_caches(
             &mut self.leaders,
             &mut self.followers,
             &mut self.stores,
             keepers,
             link,
-            config,
-            topology,
-            lengths,
         )
     }
 }

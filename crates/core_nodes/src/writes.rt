@@ -1,6 +1,7 @@
 //! The stages of a write.
 ghost use Rattle.std.specs.Bool.{OnTrue};
 ghost use Rattle.std.specs.Prelude.{◌≡◌, ◌<◌, IfOk, IfSome, IsTrue, OnErr, Some};
+ghost use Rattle.core_model.specs.Asked.{settings};
 ghost use Rattle.core_model.specs.Consistent.{GoesOn, IsConsistent, IsFleetOf};
 ghost use Rattle.core_model.specs.Fleet.{ChangesNode, HasNode, serves};
 ghost use Rattle.core_model.specs.Jobs.{IsOwedJob, job_on};
@@ -24,7 +25,10 @@ ghost use Rattle.tao_schema.specs.Schema.{types_of};
 
 use crate::fleet::Fleet;
 use crate::stores::region_store;
-use core_model::{Named, master_of, masters_are_regions, named_place, serves_in_turn, store_place};
+use core_model::{
+    Around, AuthoredWrite, Named, master_of, masters_are_regions, named_place, serves_in_turn,
+    store_place,
+};
 use follower_cache::Follower;
 use leader_tier::Leader;
 use node_name::NodeName;
@@ -32,60 +36,52 @@ use node_stages::{apply_of, commit_of};
 use shard_log::Note;
 use shard_tables::{StoreNode, StoreRefusal, Wrote, inverses_match};
 use std::alloc::Global;
-use tao_base::{Entry, Origin, Write};
+use tao_base::Entry;
 use tao_keeper::Keeper;
 use tao_schema::Schema;
 use topology::Config;
 
 /// Makes the write at the leader of that name and the shard's store.
 fn commit_at<K: Keeper>(
-    alloc: Global,
+    around: &Around<'_>,
     leaders: &mut [Named<Leader>],
     stores: &mut [StoreNode],
     keepers: &mut K,
-    config: &Config,
     name: NodeName,
-    preferred: bool,
-    origin: Origin,
-    write: &Write,
+    call: &AuthoredWrite<'_>,
 ) -> Result<Wrote, StoreRefusal>
     requires there { HasNode name leaders.old }
-    requires shard { write_shard write.now < config.now.shards }
-    requires logs { OnTrue preferred (NodeIs name (λ node. (store : StoreSeen)
-        → store_in stores.old (master_store config.now (write_shard write.now)) ≡ Some store
-        → log_at (write_shard write.now) node.served ≡ Some store.view.log) leaders.old) }
-    requires stores { AreStoresOf K.TELLS config.now (K.state keepers.old).told stores.old }
-    requires client { IsTrue (is_client origin) }
-    requires changes { ChangesType (types_of config.now.schema) write.now }
-    ensures node { ChangesNode name (LeaderDoes (TakesWritten (types_of config.now.schema) (write_shard write.now) (taken_entry preferred result)
-        (as_note (pens_of stores.new (write_shard write.now))))) leaders.old leaders.new }
+    requires shard { write_shard call.now.write.now < (settings around.now).shards }
+    requires logs { OnTrue (serves (settings around.now) name (write_shard call.now.write.now)) (NodeIs name (λ node. (store : StoreSeen)
+        → store_in stores.old (master_store (settings around.now) (write_shard call.now.write.now)) ≡ Some store
+        → log_at (write_shard call.now.write.now) node.served ≡ Some store.view.log) leaders.old) }
+    requires stores { AreStoresOf K.TELLS (settings around.now) (K.state keepers.old).told stores.old }
+    requires client { IsTrue (is_client call.now.origin) }
+    requires changes { ChangesType (types_of (settings around.now).schema) call.now.write.now }
+    ensures node { ChangesNode name (LeaderDoes (TakesWritten (types_of (settings around.now).schema) (write_shard call.now.write.now)
+        (taken_entry (serves (settings around.now) name (write_shard call.now.write.now)) result)
+        (as_note (pens_of stores.new (write_shard call.now.write.now))))) leaders.old leaders.new }
     ensures rest { OnErr result (stores.new ≡ stores.old) }
-    ensures stores { AreStoresOf K.TELLS config.now (K.state keepers.new).told stores.new }
+    ensures stores { AreStoresOf K.TELLS (settings around.now) (K.state keepers.new).told stores.new }
     ensures rise { Rise (pens_of stores.old) (pens_of stores.new) }
-    ensures note { IfOk result (λ wrote. wrote.note ≡ as_note (pens_of stores.new (write_shard write.now))) }
-    ensures done { WriteDone K.TELLS (master_store config.now (write_shard write.now)) (asked_of_master config.now (K.state keepers.old).told origin write.now)
+    ensures note { IfOk result (λ wrote. wrote.note ≡ as_note (pens_of stores.new (write_shard call.now.write.now))) }
+    ensures done { WriteDone K.TELLS (master_store (settings around.now) (write_shard call.now.write.now))
+        (asked_of_master (settings around.now) (K.state keepers.old).told call.now.origin call.now.write.now)
         (K.state keepers.old) (K.state keepers.new) result }
     ensures owes { WhereTold K.TELLS (IfOk result (λ wrote. IfSome wrote.job (λ job.
-        IsOwedJob config.now (K.state keepers.new).told (job_on (write_shard write.now) job)))) }
+        IsOwedJob (settings around.now) (K.state keepers.new).told (job_on (write_shard call.now.write.now) job)))) }
 {
+    let config = around.config;
     masters_are_regions(config);
     let spot = named_place(leaders, name);
-    let shard = write.shard();
+    let shard = call.write.shard();
+    let preferred = serves_in_turn(config, name, shard);
     let at = region_store(master_of(config, shard), shard);
     let place = store_place(config, at);
     let leader = &mut leaders[spot].node;
     let store = &mut stores[place];
     inverses_match(&config.schema);
-    commit_of(
-        alloc,
-        leader,
-        preferred,
-        store,
-        keepers,
-        &config.schema,
-        origin,
-        write,
-    )
+    commit_of(around, leader, preferred, store, keepers, call)
 }
 
 /// Applies the entry at the follower of that name.
@@ -118,42 +114,39 @@ impl Fleet {
         config: &Config,
         keepers: &mut K,
         leader: NodeName,
-        origin: Origin,
-        write: &Write,
+        call: &AuthoredWrite<'_>,
     ) -> Result<Wrote, StoreRefusal>
         requires consistent { IsConsistent K.TELLS config.now (K.state keepers.old).told self.old }
-        requires leader { IsLeaderIn config.now (master_of config.now (write_shard write.now)) leader }
-        requires here { write_shard write.now < config.now.shards }
-        requires client { IsTrue (is_client origin) }
-        requires changes { ChangesType (types_of config.now.schema) write.now }
+        requires leader { IsLeaderIn config.now (master_of config.now (write_shard call.now.write.now)) leader }
+        requires here { write_shard call.now.write.now < config.now.shards }
+        requires client { IsTrue (is_client call.now.origin) }
+        requires changes { ChangesType (types_of config.now.schema) call.now.write.now }
 
         // What the nodes are then.
-        ensures node { IfOk result (λ wrote. ChangesNode leader (TakesWritten (types_of config.now.schema) (write_shard write.now)
-            (taken_by (serves config.now leader (write_shard write.now)) wrote.entry) wrote.note) self.old.leaders self.new.leaders) }
+        ensures node { IfOk result (λ wrote. ChangesNode leader (TakesWritten (types_of config.now.schema) (write_shard call.now.write.now)
+            (taken_by (serves config.now leader (write_shard call.now.write.now)) wrote.entry) wrote.note) self.old.leaders self.new.leaders) }
         ensures err { OnErr result (self.new ≡ self.old) }
         ensures consistent { IsConsistent K.TELLS config.now (K.state keepers.new).told self.new }
         ensures goes { GoesOn self.old self.new }
         ensures followers { self.new.followers ≡ self.old.followers }
 
         // The answer and the tables, as a write of the store leaves them.
-        ensures done { WriteDone K.TELLS (master_store config.now (write_shard write.now))
-            (asked_of_master config.now (K.state keepers.old).told origin write.now) (K.state keepers.old) (K.state keepers.new) result }
+        ensures done { WriteDone K.TELLS (master_store config.now (write_shard call.now.write.now))
+            (asked_of_master config.now (K.state keepers.old).told call.now.origin call.now.write.now)
+            (K.state keepers.old) (K.state keepers.new) result }
         ensures owes { WhereTold K.TELLS (IfOk result (λ wrote. IfSome wrote.job (λ job.
-            IsOwedJob config.now (K.state keepers.new).told (job_on (write_shard write.now) job)))) }
-        ensures seen { IfOk result (λ wrote. IsSeen (pens_of self.new.stores) (write_shard write.now) wrote.note) }
+            IsOwedJob config.now (K.state keepers.new).told (job_on (write_shard call.now.write.now) job)))) }
+        ensures seen { IfOk result (λ wrote. IsSeen (pens_of self.new.stores) (write_shard call.now.write.now) wrote.note) }
+        ensures note { IfOk result (λ wrote. wrote.note ≡ as_note (pens_of self.new.stores (write_shard call.now.write.now))) }
     {
         masters_are_regions(config);
-        let preferred = serves_in_turn(config, leader, write.shard());
         commit_at(
-            alloc,
+            &Around { alloc, config },
             &mut self.leaders,
             &mut self.stores,
             keepers,
-            config,
             leader,
-            preferred,
-            origin,
-            write,
+            call,
         )
     }
 

@@ -1,6 +1,8 @@
-use Rattle.std.proofs.Common.{◌≡◌, None, IfOk, ap, sym, subst}
+use Rattle.std.proofs.Common.{◌≡◌, None, Some, IfOk, refl, ap, sym, subst, ◌∙◌}
+use Rattle.std.specs.Bool.{OnTrue}
 use Rattle.std.specs.Prelude.{slice_index_or, slice_set}
 use Rattle.leader_tier.specs.TakenWrites.{TakesWritten, taken_entry}
+use Rattle.served_shards.specs.Served.{log_at}
 use Rattle.shard_log.specs.View.{as_note}
 use Rattle.shard_tables.specs.Jobs.{asked_merge}
 use Rattle.shard_tables.specs.StoreView.{Store}
@@ -12,6 +14,7 @@ use Rattle.tao_schema.specs.Schema.{types_of}
 use Rattle.topology.specs.Config.{Settings}
 use Rattle.write_model.specs.MergeLaws.{MayBeMerged}
 use Rattle.core_model.proofs.NamedNodes.{changes_at}
+use Rattle.core_model.specs.Fleet.{serves}
 use Rattle.core_model.specs.Jobs.{far_shard, job_on}
 use Rattle.core_model.specs.Stores.{master_store}
 use Rattle.node_stages.specs.Stages.{LeaderDoes}
@@ -24,36 +27,39 @@ use Rattle.core_nodes.proofs.jobs.merge_at.Goals as goal
 
 pub merge_of-requires-clause-log : goal.merge_of-requires-clause-log
 merge_of-requires-clause-log g c =
-    let s : Settings = c.args.config.now in
-    let shard = far_shard c.args.job.now in
+    let s : Settings = c.args.around.now.config.now in
+    let shard = far_shard c.args.job.now.job.now in
     let store : Store = slice_index_or c.args.stores.now c.store_place-place.result c.index-stores-place.result in
     let told = (g.K.Keeper.state c.args.keepers.now).told in
     let is : IsMasterRead g.K.Keeper.TELLS s told c.args.stores.now shard c.store_place-place.result store =
     master_read g.K.Keeper.TELLS s told c.args.stores.now c.requires.stores c.masters_are_regions.ensures shard c.requires.shard _ _ _ _
     c.index-stores-place.result c.store_place-place.ensures c.region_store-at.ensures c.master_of.ensures c.far_shard-shard.ensures in
-    found_log c.args.preferred c.args.stores.now (master_store s shard) store shard c.args.leaders.now c.args.name c.named_place-spot.result
-    c.index-leaders-spot.result c.named_place-spot.ensures is.found (sym (ap (λ (n : StoreName). n.shard) is.named)) c.requires.logs
+    let leader = (slice_index_or c.args.leaders.now c.named_place-spot.result c.index-leaders-spot.result).node in
+    let turn = c.serves_in_turn-preferred.ensures ∙ ap (serves s c.args.name) c.far_shard-shard.ensures in
+    subst (λ on. OnTrue on (log_at store.name.shard leader.served ≡ Some store.view.log)) (sym turn)
+    (found_log (serves s c.args.name shard) c.args.stores.now (master_store s shard) store shard c.args.leaders.now c.args.name c.named_place-spot.result
+    c.index-leaders-spot.result c.named_place-spot.ensures is.found (sym (ap (λ (n : StoreName). n.shard) is.named)) c.requires.logs)
 
 pub merge_of-requires-clause-master : goal.merge_of-requires-clause-master
 merge_of-requires-clause-master g c =
-    let is = master_read g.K.Keeper.TELLS c.args.config.now (g.K.Keeper.state c.args.keepers.now).told c.args.stores.now c.requires.stores
-    c.masters_are_regions.ensures (far_shard c.args.job.now) c.requires.shard _ _ _ _ c.index-stores-place.result c.store_place-place.ensures
+    let is = master_read g.K.Keeper.TELLS c.args.around.now.config.now (g.K.Keeper.state c.args.keepers.now).told c.args.stores.now c.requires.stores
+    c.masters_are_regions.ensures (far_shard c.args.job.now.job.now) c.requires.shard _ _ _ _ c.index-stores-place.result c.store_place-place.ensures
     c.region_store-at.ensures c.master_of.ensures c.far_shard-shard.ensures in
     is.role
 
 pub merge_of-requires-clause-keeper : goal.merge_of-requires-clause-keeper
 merge_of-requires-clause-keeper g c =
-    let is = master_read g.K.Keeper.TELLS c.args.config.now (g.K.Keeper.state c.args.keepers.now).told c.args.stores.now c.requires.stores
-    c.masters_are_regions.ensures (far_shard c.args.job.now) c.requires.shard _ _ _ _ c.index-stores-place.result c.store_place-place.ensures
+    let is = master_read g.K.Keeper.TELLS c.args.around.now.config.now (g.K.Keeper.state c.args.keepers.now).told c.args.stores.now c.requires.stores
+    c.masters_are_regions.ensures (far_shard c.args.job.now.job.now) c.requires.shard _ _ _ _ c.index-stores-place.result c.store_place-place.ensures
     c.region_store-at.ensures c.master_of.ensures c.far_shard-shard.ensures in
     is.keeper
 
 pub merge_of-requires-clause-may : goal.merge_of-requires-clause-may
 merge_of-requires-clause-may g c = λ told.
-    let s : Settings = c.args.config.now in
+    let s : Settings = c.args.around.now.config.now in
     let tables = (g.K.Keeper.state c.args.keepers.now).told in
-    let j = job_on c.args.from c.args.job.now in
-    let is = master_read g.K.Keeper.TELLS s tables c.args.stores.now c.requires.stores c.masters_are_regions.ensures (far_shard c.args.job.now)
+    let j = job_on c.args.job.now.shard c.args.job.now.job.now in
+    let is = master_read g.K.Keeper.TELLS s tables c.args.stores.now c.requires.stores c.masters_are_regions.ensures (far_shard c.args.job.now.job.now)
     c.requires.shard _ _ _ _ c.index-stores-place.result c.store_place-place.ensures c.region_store-at.ensures c.master_of.ensures c.far_shard-shard.ensures in
     let match = subst (λ k. InversesMatch (types_of k)) (ap (λ s. s.schema) c.config.view_is) c.inverses_match.ensures in
     let may = may_be_merged s tables j c.requires.shard match (c.requires.stores.kept told) c.requires.given.some (c.requires.owed told) in
@@ -62,9 +68,9 @@ merge_of-requires-clause-may g c = λ told.
 pub returns : goal.returns
 returns g c =
     let tells = g.K.Keeper.TELLS in
-    let s : Settings = c.args.config.now in
-    let shard = far_shard c.args.job.now in
-    let j = job_on c.args.from c.args.job.now in
+    let s : Settings = c.args.around.now.config.now in
+    let shard = far_shard c.args.job.now.job.now in
+    let j = job_on c.args.job.now.shard c.args.job.now.job.now in
     let xs = c.args.stores.now in
     let place = c.store_place-place.result in
     let store : Store = slice_index_or xs place c.index-stores-place.result in
@@ -79,16 +85,21 @@ returns g c =
     let goes = goes_with store after (added_entry r) made.store.log made.store.grows in
     let pen = sym (pen_is tells s old.told new.told xs shard place store after c.requires.stores is goes) in
     let from = (slice_index_or c.args.leaders.now c.named_place-spot.result c.index-leaders-spot.result).node in
-    let words = of_master s c.config.inside.schema (ap (λ s. s.schema) c.config.view_is) store shard is.named is.limit in
-    let node = words (λ types most name. LeaderDoes (TakesWritten types name.shard (taken_entry c.args.preferred r) (as_note after.view))
-    from c.merge_of.new.leader) made.node in
-    let done = words (λ types most name. MergeDone tells name (asked_merge most (old.told name).log c.args.from c.args.job.now) old new r) made.done in
-    let left = merge_left tells s old new j r c.requires.shard (words (λ types most name. InversesMatch types) c.inverses_match.ensures)
+    let words = of_master s s.schema refl store shard is.named is.limit in
+    let turn = c.serves_in_turn-preferred.ensures ∙ ap (serves s c.args.name) c.far_shard-shard.ensures in
+    let node = words (λ types most name. LeaderDoes (TakesWritten types name.shard (taken_entry (serves s c.args.name shard) r) (as_note after.view))
+    from c.merge_of.new.leader) (subst (λ on. LeaderDoes (TakesWritten (types_of s.schema) store.name.shard (taken_entry on r) (as_note after.view))
+    from c.merge_of.new.leader) turn made.node) in
+    let done = words (λ types most name. MergeDone tells name (asked_merge most (old.told name).log c.args.job.now.shard c.args.job.now.job.now) old new r)
+    made.done in
+    let left = merge_left tells s old new j r c.requires.shard (subst (λ k. InversesMatch (types_of k)) (ap (λ s. s.schema) c.config.view_is)
+    c.inverses_match.ensures)
     c.requires.stores.kept c.requires.owed done in
     record {
-      node = changes_at (Written s shard c.args.preferred (slice_set xs place after) r) c.args.leaders.now c.args.name c.named_place-spot.result
+      node = changes_at (Written s shard (serves s c.args.name shard) (slice_set xs place after) r) c.args.leaders.now c.args.name c.named_place-spot.result
           c.index-leaders-spot.result c.merge_of.new.leader c.named_place-spot.ensures
-          (subst (λ v. LeaderDoes (TakesWritten (types_of s.schema) shard (taken_entry c.args.preferred r) (as_note v)) from c.merge_of.new.leader) pen node);
+          (subst (λ v. LeaderDoes (TakesWritten (types_of s.schema) shard (taken_entry (serves s c.args.name shard) r) (as_note v))
+          from c.merge_of.new.leader) pen node);
       rest = rest_again xs place store after r is.stands made.store.log;
       stores = stores_left tells s old.told new.told xs shard place store after c.requires.stores is goes made.store.keeper
           (λ is_told. others_stay old.told new.told store.name (added_entry r) None (made.done.tables is_told)) (λ is_told. (left is_told).kept);

@@ -20,7 +20,7 @@ returns g c =
     let done = grown_lent g.K.Keeper.TELLS c.args.config.now (g.K.Keeper.state c.args.keepers.now).told (g.K.Keeper.state c.merge_over.new.keepers).told
     c.self.inside c.args.self.now c.deref_mut.result.now c.merge_over.new.stores c.self.view_is own long c.requires.consistent given.grows.logs given.stores
     given.rise in
-    let shard = far_shard c.args.job.now in
+    let shard = far_shard c.args.job.now.job.now in
     let r = c.merge_over.result in
     record {
       merges = given.merges;

@@ -334,8 +334,7 @@ module _ (tells : Bool) (s : Settings) (leader : NodeName) (p q : Writing) (old 
   stage_opens_none Apply (inl applies) =
       follower_takes_none (types_of s.schema) (way_by leader p) (write_shard p.write) applies.committed.wrote.entry old.fleet new.fleet
       applies.takes
-  stage_opens_none Apply (inr (inl loses)) = alone (ap (λ (f : Fleet). f.followers) loses.fleet)
-  stage_opens_none Apply (inr (inr vain)) = alone (ap followers_in vain.same)
+  stage_opens_none Apply (inr loses) = alone (ap (λ (f : Fleet). f.followers) loses.fleet)
   stage_opens_none Relay does = absurd does
   stage_opens_none Done does = absurd does
 

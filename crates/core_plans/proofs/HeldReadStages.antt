@@ -6,7 +6,7 @@ use Rattle.cache_items.specs.declared.look.Look.{Look}
 use Rattle.cache_items.specs.declared.look.Look.TheVariants.{Hit, Miss}
 use Rattle.core_model.specs.Consistent.{GoesOn, HaveReached, IsConsistent, IsFleetOf}
 use Rattle.core_model.specs.Fleet.{ChangesNode, Fleet, HasAsk}
-use Rattle.core_model.specs.Pens.{pens_of}
+use Rattle.core_model.specs.Pens.{Pens, pens_of}
 use Rattle.core_model.specs.Reads.{AsksAtOnce, EndsAsk, IsGivenFill, IsLegalLook, KeepsFill, LeaderAnswers, LooksFirst, taken_fill, wanted}
 use Rattle.core_model.specs.Stores.{AreStoresOf, HaveMasterRegions}
 use Rattle.core_steps.specs.ReadSteps.{IsGivenOver, IsNotGiven, IsNotRead, IsReadOver, ReadsOn}
@@ -52,6 +52,7 @@ use Rattle.shard_tables.specs.declared.read_out.ReadOut.TheVariants as out
 use Rattle.tao_base.specs.Queries.{query_key, query_shard}
 use Rattle.tao_base.specs.declared.query.Answer.{Answer}
 use Rattle.tao_base.specs.declared.query.Query.{Query}
+use Rattle.tao_base.specs.EdgeTypes.{EdgeTypes}
 use Rattle.tao_keeper.proofs.Later.{later_self}
 use Rattle.tao_keeper.specs.KeeperState.{KeeperState}
 use Rattle.tao_link.specs.Shown.{LinkShown}
@@ -84,6 +85,16 @@ of_handed_out p handed follower query floor out_is of = record {
   query_is = of.query_is ∙ ap (λ (r : Reading). r.query) out_is;
   floor_is = of.floor_is ∙ ap (λ (r : Reading). r.floor) out_is;
 }
+
+-- the fill that is handed out is right for the read as the plan told it
+pub given_fill : (types : EdgeTypes) (pens : Pens) (p handed : Reading) (fill : SealedItem) (follower : NodeName) (query : Query) (floor : ℕ)
+    → StandsSo types pens (wanted_by p) p.at → fill_of p.at ≡ Some fill → handed ≡ fill_handed p → IsOfPlan handed follower query floor
+    → IsGivenFill types pens (wanted query floor) fill
+given_fill types pens p handed fill follower query floor stands found out_is of_handed =
+    let of = of_handed_out p handed follower query floor out_is of_handed in
+    let given : IsGivenFill types pens (wanted_by p) fill = subst (StandsSo types pens (wanted_by p)) (filled p.at fill found) stands in
+    subst (λ q. IsGivenFill types pens (wanted q floor) fill) (sym of.query_is)
+    (subst (λ n. IsGivenFill types pens (wanted p.query n) fill) (sym of.floor_is) given)
 
 -- what it took since
 pub taken_since : (p q : Reading) (outcome : ReadResult) (since : Tally) (old new : World)

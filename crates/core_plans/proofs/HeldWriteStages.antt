@@ -16,6 +16,7 @@ use Rattle.replies.specs.declared.calls.ScheduledWhy.{ScheduledWhy}
 use Rattle.replies.specs.declared.calls.ScheduledWhy.TheVariants.{LinkFault, KeeperFault, LogFull, NoServer, Memory}
 use Rattle.replies.specs.declared.refusals.Refusal.{Refusal}
 use Rattle.replies.specs.declared.reply.Reply.{Reply}
+use Rattle.shard_log.specs.View.{View}
 use Rattle.shard_tables.specs.StoreView.{Store}
 use Rattle.shard_tables.specs.declared.writes.Wrote.{Wrote}
 use Rattle.tao_base.specs.Writes.{write_shard}
@@ -39,7 +40,7 @@ use Rattle.write_plan.specs.declared.results.WriteResult.{WriteResult}
 use Rattle.write_plan.specs.declared.results.WriteResult.TheVariants as came
 use Rattle.write_plan.specs.declared.stage.WriteStage.{WriteStage}
 use Rattle.write_plan.specs.declared.stage.WriteStage.TheVariants.{Commit, Inverse, End, Relay, Apply, Done}
-use Rattle.core_plans.specs.HeldWrites.{DoesWriteStage, IsAnswerTo, IsTakenAs, IsWriteUnderWay, PassesWriteStage, call_of_plan, job_by, way_by}
+use Rattle.core_plans.specs.HeldWrites.{DoesWriteStage, IsAnswerTo, IsBefore, IsTakenAs, IsWriteUnderWay, PassesWriteStage, call_of_plan, job_by, way_by}
 use Rattle.core_plans.specs.LedBy.{led_by}
 use Rattle.core_plans.proofs.WritesGoOn.{write_later}
 
@@ -122,6 +123,29 @@ at_end p is =
     let at = job_ahead p.refused p.committed p.job p.back End refl (λ same. absurd (cc)) is in
     (at.0, is_merged p.job at.1)
 
+back_before : (o : Option Job) (passed : Option NodeName) (job : OtherEnd) (back : WayBack)
+    → unwrap_or (option_and_then (λ _. job_stage job) o) (back_stage passed back) ≡ Apply → IsBefore back
+back_before o passed job Ahead is = tt
+back_before o passed job Relayed is = tt
+back_before None None job Applied is = absurd (cc)
+back_before None (Some leader) job Applied is = absurd (cc)
+back_before (Some j) passed Due Applied is = absurd (cc)
+back_before (Some j) passed Merged Applied is = absurd (cc)
+back_before (Some j) None Ended Applied is = absurd (cc)
+back_before (Some j) (Some leader) Ended Applied is = absurd (cc)
+back_before (Some j) None (Open why) Applied is = absurd (cc)
+back_before (Some j) (Some leader) (Open why) Applied is = absurd (cc)
+
+back_ahead : (refused : Option Reply) (committed : Option Committed) (job : OtherEnd) (back : WayBack) → stage_by refused committed job back ≡ Apply
+    → (refused ≡ None) × IsBefore back × IsSome committed
+back_ahead (Some reply) committed job back is = absurd (cc)
+back_ahead None None job back is = absurd (cc)
+back_ahead None (Some c) job back is = (refl, back_before c.wrote.job c.passed job back is, refl)
+
+-- and at the stage `apply` nothing refused it, its way back isn't done, and its commit was answered
+pub at_apply : (p : Writing) → next_of p ≡ Apply → (p.refused ≡ None) × IsBefore p.back × IsSome p.committed
+at_apply p is = back_ahead p.refused p.committed p.job p.back is
+
 -- ---- it can go on
 
 answered_none : (p : Writing) (job : Job) → answered_job p ≡ Some job → p.committed ≡ None → ⊥
@@ -178,48 +202,53 @@ module _ (tells : Bool) (s : Settings) (tables : Tables) (f : Fleet) (p : Writin
   }
 
   -- whatever became of its job, or of its way back
-  moves : (job : OtherEnd) (other : Option Wrote) (back : WayBack) (refused : Option Reply) (hops : ℕ)
+  moves : (job : OtherEnd) (other : Option Wrote) (back : WayBack) (refused : Option Reply) (spare : Option View) (hops : ℕ)
       → (p.committed ≡ None → (job ≡ Due) × (other ≡ None))
       → (job ≡ Merged → IfSome (answered_job p) (λ j. WhereTold tells (IsMergedJob s tables (job_by p j))))
       → IfSome (answered_job p) (λ j. StandsThere s j other f.stores)
-      → IsWriteUnderWay tells s tables f (record p { job = job; other = other; back = back; refused = refused; hops = hops })
-  moves job other back refused hops begun merged stands = record {
+      → (refused ≡ None → IsBefore back → IfSome p.committed (λ c. spare ≡ Some c.wrote.note))
+      → IsWriteUnderWay tells s tables f (record p { job = job; other = other; back = back; refused = refused; spare = spare; hops = hops })
+  moves job other back refused spare hops begun merged stands noted = record {
     follower = is.follower;
     region = is.region;
     changes = is.changes;
     client = is.client;
     begun = begun;
     committed = IfSome_then p.committed is.committed (answer_stays _ refl refl);
+    spare = noted;
     job = is.job;
     merged = merged;
     other = stands;
   }
 
   -- it was refused
-  refused_still : (reply : Reply) (hops : ℕ) → IsWriteUnderWay tells s tables f (record p { refused = Some reply; hops = hops })
-  refused_still reply hops = moves p.job p.other p.back (Some reply) hops is.begun is.merged is.other
+  refused_still : (reply : Reply) (spare : Option View) (hops : ℕ)
+      → IsWriteUnderWay tells s tables f (record p { refused = Some reply; spare = spare; hops = hops })
+  refused_still reply spare hops = moves p.job p.other p.back (Some reply) spare hops is.begun is.merged is.other (λ none. absurd (cc))
 
   -- it came so far on its way back, or not
   pub applied_still : (outcome : Result ⊤ Reply) (hops : ℕ) → IsWriteUnderWay tells s tables f (after_stage p (came.Apply outcome) hops)
-  applied_still (Ok done) hops = moves p.job p.other Applied p.refused _ is.begun is.merged is.other
-  applied_still (Err reply) hops = refused_still reply _
+  applied_still (Ok done) hops = moves p.job p.other Applied p.refused None _ is.begun is.merged is.other (λ none before. absurd before)
+  applied_still (Err reply) hops = refused_still reply None _
 
   -- it was committed, or not
-  committed_still : (outcome : Result Committed Reply) (hops : ℕ) → p.committed ≡ None
-      → IfOk outcome (IsAnswerTo s f.stores p) → IfOk outcome (λ c. IfSome c.wrote.job (λ j. CanBeMerged tells s tables (job_by p j)))
+  committed_still : (outcome : Result (Committed × View) Reply) (hops : ℕ) → p.committed ≡ None
+      → IfOk outcome (λ a. IsAnswerTo s f.stores p a.0) → IfOk outcome (λ a. a.1 ≡ a.0.wrote.note)
+      → IfOk outcome (λ a. IfSome a.0.wrote.job (λ j. CanBeMerged tells s tables (job_by p j)))
       → IsWriteUnderWay tells s tables f (after_stage p (came.Commit outcome) hops)
-  committed_still (Ok c) hops none answer job = record {
+  committed_still (Ok a) hops none answer noted job = record {
     follower = is.follower;
     region = is.region;
     changes = is.changes;
     client = is.client;
     begun = λ gone. absurd (cc);
-    committed = answer_stays _ refl refl c answer;
+    committed = answer_stays _ refl refl a.0 answer;
+    spare = λ unrefused before. ap Some noted;
     job = job;
     merged = λ at. (let due = (is.begun none).0 in absurd (cc));
-    other = subst (λ o. IfSome c.wrote.job (λ j. StandsThere s j o f.stores)) (sym (is.begun none).1) (none_there s f.stores c.wrote.job);
+    other = subst (λ o. IfSome a.0.wrote.job (λ j. StandsThere s j o f.stores)) (sym (is.begun none).1) (none_there s f.stores a.0.wrote.job);
   }
-  committed_still (Err reply) hops none answer job = refused_still reply _
+  committed_still (Err reply) hops none answer noted job = refused_still reply p.spare _
 
   module _ (job : Job) (at : answered_job p ≡ Some job) where
     not_begun : (due : OtherEnd) (other : Option Wrote) → p.committed ≡ None → (due ≡ Due) × (other ≡ None)
@@ -233,21 +262,22 @@ module _ (tells : Bool) (s : Settings) (tables : Tables) (f : Fleet) (p : Writin
     merged_still : (result : Result Wrote LeftOpen) (hops : ℕ) → WhereTold tells (OnOk result (IsMergedJob s tables (job_by p job)))
         → StandsThere s job (known_of result) f.stores → IsWriteUnderWay tells s tables f (after_stage p (came.Inverse result) hops)
     merged_still (Ok wrote) hops merged stands =
-        moves Merged (written_there p.other (Some wrote)) p.back p.refused _ (not_begun Merged (written_there p.other (Some wrote)))
-        (λ now. subst (λ o. IfSome o (λ j. WhereTold tells (IsMergedJob s tables (job_by p j)))) (sym at) merged) (there (Some wrote) stands)
+        moves Merged (written_there p.other (Some wrote)) p.back p.refused p.spare _ (not_begun Merged (written_there p.other (Some wrote)))
+        (λ now. subst (λ o. IfSome o (λ j. WhereTold tells (IsMergedJob s tables (job_by p j)))) (sym at) merged) (there (Some wrote) stands) is.spare
     merged_still (Err (Scheduled why wrote)) hops merged stands =
-        moves (Open why) (written_there p.other wrote) p.back p.refused _ (not_begun (Open why) (written_there p.other wrote))
-        (λ now. absurd (cc)) (there wrote stands)
-    merged_still (Err (Refused reply)) hops merged stands = refused_still reply _
+        moves (Open why) (written_there p.other wrote) p.back p.refused p.spare _ (not_begun (Open why) (written_there p.other wrote))
+        (λ now. absurd (cc)) (there wrote stands) is.spare
+    merged_still (Err (Refused reply)) hops merged stands = refused_still reply p.spare _
 
     -- it ended, or not
     pub ended_still : (result : Result ⊤ LeftOpen) (hops : ℕ) → late_wrote result ≡ None
         → IsWriteUnderWay tells s tables f (after_stage p (came.End result) hops)
-    ended_still (Ok done) hops none = moves Ended p.other p.back p.refused _ (not_begun Ended p.other) (λ now. absurd (cc)) is.other
+    ended_still (Ok done) hops none =
+        moves Ended p.other p.back p.refused p.spare _ (not_begun Ended p.other) (λ now. absurd (cc)) is.other is.spare
     ended_still (Err (Scheduled why wrote)) hops none =
-        moves (Open why) (written_there p.other wrote) p.back p.refused _ (not_begun (Open why) (written_there p.other wrote))
-        (λ now. absurd (cc)) (there wrote (subst (λ o. StandsThere s job o f.stores) (sym none) tt))
-    ended_still (Err (Refused reply)) hops none = refused_still reply _
+        moves (Open why) (written_there p.other wrote) p.back p.refused p.spare _ (not_begun (Open why) (written_there p.other wrote))
+        (λ now. absurd (cc)) (there wrote (subst (λ o. StandsThere s job o f.stores) (sym none) tt)) is.spare
+    ended_still (Err (Refused reply)) hops none = refused_still reply p.spare _
 
 -- ---- commit
 
@@ -266,18 +296,19 @@ of_write leader p follower origin write P of h =
     (subst (λ w. P (record { follower = follower; leader = leader }) (client_call origin w)) of.write_is h))
 
 -- what a commit came to: its follower may take it, its job may be merged, or it was refused
-pub record ComesOfCommit (tells : Bool) (s : Settings) (sent : SentWrite) (wrote : Result Wrote Refusal) (old new : World) : Type 0 where
-  pub committed : IfOk wrote (λ w. IsCommitted tells s sent w old new)
-  pub apply : IfOk wrote (λ w. CanBeApplied sent.call w new.fleet.stores)
-  pub job : IfOk wrote (λ w. IfSome w.job (λ j. CanBeMerged tells s new.keepers.told (job_on (write_shard sent.call.write) j)))
-  pub refused : IfErr wrote (λ refusal. RefusesCommit tells s sent refusal old new)
+pub record ComesOfCommit (tells : Bool) (s : Settings) (sent : SentWrite) (given : Result (Wrote × View) Refusal) (old new : World) : Type 0 where
+  pub committed : IfOk given (λ g. IsCommitted tells s sent g.0 old new)
+  pub apply : IfOk given (λ g. CanBeApplied sent.call g.0 new.fleet.stores)
+  pub spare : IfOk given (λ g. g.1 ≡ g.0.note)
+  pub job : IfOk given (λ g. IfSome g.0.job (λ j. CanBeMerged tells s new.keepers.told (job_on (write_shard sent.call.write) j)))
+  pub refused : IfErr given (λ refusal. RefusesCommit tells s sent refusal old new)
 
 -- what the leader answered, its follower may take
-answer_of : (s : Settings) (stores : List Store) (p : Writing) (wrote : Result Wrote Refusal) (outcome : Result Committed Reply)
-    → IsTakenAs s p.write wrote outcome → IfOk wrote (λ w. CanBeApplied (call_of_plan p) w stores) → IfOk outcome (IsAnswerTo s stores p)
+answer_of : (s : Settings) (stores : List Store) (p : Writing) (given : Result (Wrote × View) Refusal) (outcome : Result (Committed × View) Reply)
+    → IsTakenAs s p.write given outcome → IfOk given (λ g. CanBeApplied (call_of_plan p) g.0 stores) → IfOk outcome (λ a. IsAnswerTo s stores p a.0)
 answer_of s stores p (Ok w) (Ok c) taken apply = record {
   apply = subst (λ x. CanBeApplied (call_of_plan p) x stores) (sym taken.0) apply;
-  kind = subst (λ (x : Wrote). kind_said p.write x.entry ≡ Some c.kind) (sym taken.0) taken.1;
+  kind = subst (λ (x : Wrote). kind_said p.write x.entry ≡ Some c.0.kind) (sym taken.0) taken.1;
   passed = taken.2;
   paired = taken.3;
 }
@@ -285,22 +316,32 @@ answer_of s stores p (Ok w) (Err reply) taken apply = tt
 answer_of s stores p (Err refusal) (Ok c) taken apply = absurd taken
 answer_of s stores p (Err refusal) (Err reply) taken apply = tt
 
+-- by the second note, which has seen the same
+spare_of_answer : (s : Settings) (write : Write) (given : Result (Wrote × View) Refusal) (outcome : Result (Committed × View) Reply)
+    → IsTakenAs s write given outcome → IfOk given (λ g. g.1 ≡ g.0.note) → IfOk outcome (λ a. a.1 ≡ a.0.wrote.note)
+spare_of_answer s write (Ok w) (Ok c) taken spare = taken.4 ∙ spare ∙ ap (λ (x : Wrote). x.note) (sym taken.0)
+spare_of_answer s write (Ok w) (Err reply) taken spare = tt
+spare_of_answer s write (Err refusal) (Ok c) taken spare = absurd taken
+spare_of_answer s write (Err refusal) (Err reply) taken spare = tt
+
 -- and its job may be merged
-job_of_answer : (s : Settings) (write : Write) (P : Job → Type 0) (wrote : Result Wrote Refusal) (outcome : Result Committed Reply)
-    → IsTakenAs s write wrote outcome → IfOk wrote (λ w. IfSome w.job P) → IfOk outcome (λ c. IfSome c.wrote.job P)
+job_of_answer : (s : Settings) (write : Write) (P : Job → Type 0) (given : Result (Wrote × View) Refusal) (outcome : Result (Committed × View) Reply)
+    → IsTakenAs s write given outcome → IfOk given (λ g. IfSome g.0.job P) → IfOk outcome (λ a. IfSome a.0.wrote.job P)
 job_of_answer s write P (Ok w) (Ok c) taken job = subst (λ (x : Wrote). IfSome x.job P) (sym taken.0) job
 job_of_answer s write P (Ok w) (Err reply) taken job = tt
 job_of_answer s write P (Err refusal) (Ok c) taken job = absurd taken
 job_of_answer s write P (Err refusal) (Err reply) taken job = tt
 
-commits_done : (tells : Bool) (s : Settings) (leader : NodeName) (p q : Writing) (old new : World) (wrote : Result Wrote Refusal)
-    (outcome : Result Committed Reply) → IsTakenAs s p.write wrote outcome → ComesOfCommit tells s (sent_write (way_by leader p) (call_of_plan p)) wrote old new
+commits_done : (tells : Bool) (s : Settings) (leader : NodeName) (p q : Writing) (old new : World) (given : Result (Wrote × View) Refusal)
+    (outcome : Result (Committed × View) Reply) → IsTakenAs s p.write given outcome
+    → ComesOfCommit tells s (sent_write (way_by leader p) (call_of_plan p)) given old new
     → q ≡ after_stage p (came.Commit outcome) (hops_between old.link new.link) → DoesWriteStage (led_by tells s leader) Commit p old q new
 commits_done tells s leader p q old new (Ok w) (Ok c) taken comes then = inl (record {
-  committed = c;
+  committed = c.0;
   commits = subst (λ x. IsCommitted tells s (sent_write (way_by leader p) (call_of_plan p)) x old new) (sym taken.0) comes.committed;
   answer = answer_of s new.fleet.stores p (Ok w) (Ok c) taken comes.apply;
-  then = then;
+  then = then ∙ ap (λ note. after_stage p (came.Commit (Ok (c.0, note))) (hops_between old.link new.link))
+      (spare_of_answer s p.write (Ok w) (Ok c) taken comes.spare);
 })
 commits_done tells s leader p q old new (Err refusal) (Err reply) taken comes then = inr (record {
   refusal = refusal;
@@ -350,19 +391,19 @@ module _ (tells : Bool) (s : Settings) (leader : NodeName) (p q : Writing) (old 
   passes at result then does still =
       record { does = does; write = taken_on tells s new.keepers.told new.fleet p q result hops then still; on = on }
 
-  pub commits_pass : (follower : NodeName) (origin : Origin) (write : Write) (wrote : Result Wrote Refusal) (outcome : Result Committed Reply) (took : ℕ)
-      → next_of p ≡ Commit → IsOfWriting p follower origin write
-      → ComesOfCommit tells s (sent_write (record { follower = follower; leader = leader }) (client_call origin write)) wrote old new
-      → IsTakenAs s p.write wrote outcome → took ≡ hops → q ≡ after_stage p (came.Commit outcome) took
+  pub commits_pass : (follower : NodeName) (origin : Origin) (write : Write) (given : Result (Wrote × View) Refusal)
+      (outcome : Result (Committed × View) Reply) (took : ℕ) → next_of p ≡ Commit → IsOfWriting p follower origin write
+      → ComesOfCommit tells s (sent_write (record { follower = follower; leader = leader }) (client_call origin write)) given old new
+      → IsTakenAs s p.write given outcome → took ≡ hops → q ≡ after_stage p (came.Commit outcome) took
       → PassesWriteStage (led_by tells s leader) Commit p old q new
-  commits_pass follower origin write wrote outcome took at of comes_so taken took_is took_so =
+  commits_pass follower origin write given outcome took at of comes_so taken took_is took_so =
       let tables = new.keepers.told in
       let then = took_so ∙ ap (after_stage p (came.Commit outcome)) took_is in
-      let comes = of_write leader p follower origin write (λ way call. ComesOfCommit tells s (sent_write way call) wrote old new) of comes_so in
-      passes Commit (came.Commit outcome) then (commits_done tells s leader p q old new wrote outcome taken comes then)
+      let comes = of_write leader p follower origin write (λ way call. ComesOfCommit tells s (sent_write way call) given old new) of comes_so in
+      passes Commit (came.Commit outcome) then (commits_done tells s leader p q old new given outcome taken comes then)
       (committed_still tells s tables new.fleet p later outcome hops (before_commit p at)
-      (answer_of s new.fleet.stores p wrote outcome taken comes.apply)
-      (job_of_answer s p.write (λ j. CanBeMerged tells s tables (job_by p j)) wrote outcome taken comes.job))
+      (answer_of s new.fleet.stores p given outcome taken comes.apply) (spare_of_answer s p.write given outcome taken comes.spare)
+      (job_of_answer s p.write (λ j. CanBeMerged tells s tables (job_by p j)) given outcome taken comes.job))
 
   pub merges_pass : (job : Job) (shard : ℕ) (result : Result Wrote LeftOpen) (took : ℕ) → answered_job p ≡ Some job → shard ≡ write_shard p.write
       → MergesOver tells s (job_way leader (job_on shard job)) result old new

@@ -102,15 +102,14 @@ module _ (p q : Writing) (old new : World) where
   hops = hops_between old.link new.link
 
   pub write_same : (led : LedBy) (at : WriteStage) → DoesWriteStage led at p old q new → IsSameWrite p q
-  write_same led Commit (inl commits) = subst (IsSameWrite p) (sym commits.then) (after_same p (came.Commit (Ok commits.committed)) hops)
+  write_same led Commit (inl commits) =
+      subst (IsSameWrite p) (sym commits.then) (after_same p (came.Commit (Ok (commits.committed, commits.committed.wrote.note))) hops)
   write_same led Commit (inr refuses) = subst (IsSameWrite p) (sym refuses.then) (after_same p (came.Commit (Err (Refused_ refuses.refusal))) hops)
   write_same led Inverse merges = subst (IsSameWrite p) (sym merges.then) (after_same p (came.Inverse merges.result) hops)
   write_same led End ends = subst (IsSameWrite p) (sym ends.then) (after_same p (came.End ends.result) 0)
   write_same led Apply (inl applies) = subst (IsSameWrite p) (sym applies.then) (after_same p (came.Apply (Ok tt)) hops)
-  write_same led Apply (inr (inl loses)) =
+  write_same led Apply (inr loses) =
       subst (IsSameWrite p) (sym loses.then) (record { write = refl; origin = refl; region = refl; follower = refl })
-  write_same led Apply (inr (inr vain)) =
-      subst (IsSameWrite p) (sym vain.then) (record { write = refl; origin = refl; region = refl; follower = refl })
   write_same led Relay does = absurd does
   write_same led Done does = absurd does
 

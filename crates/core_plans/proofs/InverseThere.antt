@@ -253,11 +253,8 @@ module _ (s : Settings) (leader : NodeName) (p q : Writing) (old new : World) (s
       (λ ok e. closes does.job e (subst (λ r. EndsOver true s (job_by p does.job) r old new) ok does.ends)) does.then so.jobs
   stage_stands Apply at (inl applies) =
       rests (ap (λ (r : Writing). r.committed) applies.then) (ap (λ (r : Writing). r.job) applies.then) (ap (λ k. k.told) applies.rest.keepers)
-  stage_stands Apply at (inr (inl loses)) =
+  stage_stands Apply at (inr loses) =
       rests (ap (λ (r : Writing). r.committed) loses.then) (ap (λ (r : Writing). r.job) loses.then) (ap (λ k. k.told) loses.rest.keepers)
-  stage_stands Apply at (inr (inr vain)) =
-      rests (ap (λ (r : Writing). r.committed) vain.then) (ap (λ (r : Writing). r.job) vain.then)
-      (ap (λ (x : World). x.keepers.told) vain.same)
   stage_stands Relay at does = absurd does
   stage_stands Done at does = absurd does
 

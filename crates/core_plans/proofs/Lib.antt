@@ -1,4 +1,5 @@
 pub mod AsksHeld
+mod ComingBack
 mod GivenUp
 pub mod HeldReadLemmas
 pub mod HeldReadStages
@@ -12,6 +13,7 @@ pub mod StagesLeft
 pub mod InTurn
 mod InverseThere
 pub mod ReadRefusals
+mod ShortOfMemory
 mod Taking
 mod WholeReads
 pub mod WholeRuns

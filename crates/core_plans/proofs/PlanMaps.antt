@@ -4,7 +4,7 @@ use Rattle.std.specs.BTreeMap.{BTreeMap, WritesThrough, get}
 use Rattle.std.specs.Ordering.{nat_cmp}
 use Rattle.std.specs.Prelude.{IfSome, IsSome, Some}
 use Rattle.core_model.specs.Fleet.{Fleet}
-use Rattle.core_plans.specs.Held.{ChangesPlan, IsUnderWay, Plans, StepsHeld, StepsPlan, plan_at}
+use Rattle.core_plans.specs.Held.{ChangesPlan, GivesUpPlan, IsUnderWay, Plans, StepsHeld, StepsPlan, given_up, learner, plan_at}
 use Rattle.core_plans.specs.declared.held.HeldPlan.{HeldPlan}
 use Rattle.core_plans.specs.LedBy.{led_by}
 use Rattle.core_steps.specs.World.{World}
@@ -31,6 +31,19 @@ steps_plan tells s leader number plans map later before after old new is found s
       stands = sym found;
       steps = steps;
       changes = changes_plan number after map later (subst IsSome found refl) writes;
+    })
+
+-- the plan that was found was given up, and written back
+pub gives_up_plan : (number : ℕ) (plans : Plans) (map later : BTreeMap ℕ HeldPlan) (before after : HeldPlan) → map.entries ≡ plans
+    → Some before ≡ get nat_cmp map number → IsSome (learner before) → after ≡ given_up before
+    → WritesThrough nat_cmp (nat_cmp number) map after later → GivesUpPlan number plans later.entries
+gives_up_plan number plans map later before after is found last given writes =
+    subst (λ seen. GivesUpPlan number seen later.entries) is (record {
+      before = before;
+      stands = sym found;
+      last = last;
+      changes = subst (λ plan. ChangesPlan number plan map.entries later.entries) given
+          (changes_plan number after map later (subst IsSome found refl) writes);
     })
 
 -- the plan that was found was written back as it is then, which can go on where it could

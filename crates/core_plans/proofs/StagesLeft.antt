@@ -39,6 +39,7 @@ use Rattle.replies.specs.declared.calls.ScheduledWhy.{ScheduledWhy}
 use Rattle.write_plan.specs.declared.stage.WriteStage.{WriteStage}
 use Rattle.write_plan.specs.declared.stage.WriteStage.TheVariants.{Apply, Commit, Done, End, Inverse, Relay}
 use Rattle.std.specs.Prelude.{⊤, Result, option_and_then, unwrap_or}
+use Rattle.shard_log.specs.View.{View}
 
 -- ---- reads
 
@@ -129,10 +130,10 @@ applied_left (Some owed) (job.Open why) None back is = omega arith
 applied_left (Some owed) (job.Open why) (Some leader) back is = omega arith
 
 -- a write whose commit was answered, and that nothing refused
-record IsGoing (p : Writing) : Type 0 where
-  committed : Committed
-  answered : p.committed ≡ Some committed
-  unrefused : p.refused ≡ None
+pub record IsGoing (p : Writing) : Type 0 where
+  pub committed : Committed
+  pub answered : p.committed ≡ Some committed
+  pub unrefused : p.refused ≡ None
 
 module _ (p : Writing) (at : WriteStage) (later : at ≡ Commit → ⊥) (left : at ≡ Done → ⊥) (is : next_of p ≡ at) where
   going_by : (refused : Option Reply) (committed : Option Committed) → p.refused ≡ refused → p.committed ≡ committed
@@ -141,7 +142,7 @@ module _ (p : Writing) (at : WriteStage) (later : at ≡ Commit → ⊥) (left :
   going_by None None r c next = absurd (later (sym next))
   going_by None (Some c) r answered next = record { committed = c; answered = answered; unrefused = r }
 
-  going : IsGoing p
+  pub going : IsGoing p
   going = going_by p.refused p.committed refl refl is
 
 -- the stage that follows, where the commit was answered
@@ -183,8 +184,8 @@ module _ (p q : Writing) (hops : ℕ) where
   refused_left reply n refused less =
       subst (λ r. write_stages_left (stage_from r q.committed q.job q.back) < n) (sym refused) less
 
-  commit_left : (c : Committed) → next_of p ≡ Commit → q ≡ after_stage p (came.Commit (Ok c)) hops → left_of q < 5
-  commit_left c is then =
+  commit_left : (c : Committed) (note : View) → next_of p ≡ Commit → q ≡ after_stage p (came.Commit (Ok (c, note))) hops → left_of q < 5
+  commit_left c note is then =
       subst (λ r. left_of r < 5) (sym then) (by p.refused is)
     where
       by : (refused : Option Reply) → stage_from refused p.committed p.job p.back ≡ Commit
@@ -194,7 +195,7 @@ module _ (p q : Writing) (hops : ℕ) where
 
 write_closer : (led : LedBy) (at : WriteStage) (p q : Writing) (old new : World) → next_of p ≡ at → DoesWriteStage led at p old q new
     → left_of q < write_stages_left at
-write_closer led Commit p q old new is (inl commits) = commit_left p q _ commits.committed is commits.then
+write_closer led Commit p q old new is (inl commits) = commit_left p q _ commits.committed _ is commits.then
 write_closer led Commit p q old new is (inr refuses) =
     refused_left p q 0 (Refused_ refuses.refusal) 5 (ap (λ (x : Writing). x.refused) refuses.then) (omega arith)
 write_closer led Inverse p q old new is merges =
@@ -202,8 +203,7 @@ write_closer led Inverse p q old new is merges =
 write_closer led End p q old new is ends = end_left p q 0 ends.result (going p End (λ h. absurd (cc)) (λ h. absurd (cc)) is) ends.then
 write_closer led Apply p q old new is (inl applies) =
     apply_left p q _ (going p Apply (λ h. absurd (cc)) (λ h. absurd (cc)) is) is applies.then
-write_closer led Apply p q old new is (inr (inl loses)) = refused_left p q 0 _ 1 (ap (λ (x : Writing). x.refused) loses.then) (omega arith)
-write_closer led Apply p q old new is (inr (inr vain)) = refused_left p q 0 _ 1 (ap (λ (x : Writing). x.refused) vain.then) (omega arith)
+write_closer led Apply p q old new is (inr loses) = refused_left p q 0 _ 1 (ap (λ (x : Writing). x.refused) loses.then) (omega arith)
 write_closer led Relay p q old new is does = absurd does
 write_closer led Done p q old new is does = absurd does
 

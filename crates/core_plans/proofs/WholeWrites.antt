@@ -32,6 +32,7 @@ use Rattle.write_plan.specs.declared.results.LeftOpen.TheVariants.{Refused, Sche
 use Rattle.write_plan.specs.declared.results.WriteResult.TheVariants as came
 use Rattle.write_plan.specs.declared.stage.WriteStage.{WriteStage}
 use Rattle.write_plan.specs.declared.stage.WriteStage.TheVariants.{Apply, Commit, Done, End, Inverse, Relay}
+use Rattle.core_plans.proofs.ShortOfMemory.{ShortSoFar, begun_short, short_on, short_over}
 
 -- ---- what its stages carried
 
@@ -142,8 +143,7 @@ module _ (led : LedBy) (first : LinkShown) (p q : Writing) (old new : World) (so
   takes Apply (inl applies) =
       adds (once_carried old.link new.link applies.link) (ap (λ (r : Writing). r.hops) applies.then)
       (ap (λ (r : Writing). r.refused) applies.then)
-  takes Apply (inr (inl loses)) = ends _ (ap (λ (r : Writing). r.refused) loses.then)
-  takes Apply (inr (inr vain)) = ends _ (ap (λ (r : Writing). r.refused) vain.then)
+  takes Apply (inr loses) = ends _ (ap (λ (r : Writing). r.refused) loses.then)
   takes Relay does = absurd does
   takes Done does = absurd does
 
@@ -192,4 +192,7 @@ pub whole_writes : (led : LedBy) (p : Writing) (old : World) (q : HeldPlan) (new
 whole_writes led p old q new = record {
   cost = λ begun out reply over. tells_hops old.link q new reply
       (write_keeps led (TakesSoFar old.link) (takes_on led old.link) out.stages p q old new (begun_takes p old begun) out.passes) over;
+  memory = λ begun out position over. short_over led.tells old.keepers q new position
+      (write_keeps led (ShortSoFar led.tells old.keepers) (short_on led old.keepers) out.stages p q old new (begun_short led.tells p old begun) out.passes)
+      over;
 }

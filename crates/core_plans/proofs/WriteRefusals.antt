@@ -1,7 +1,7 @@
 -- A write that is refused is replied no Ok reply.
 use Rattle.std.proofs.Common.{◌≡◌, ℕ, Option, Some, None, Ok, Err, refl, sym, subst, inl, inr}
 use Rattle.std.specs.Prelude.{⊤, IfSome, Result}
-use Rattle.core_plans.specs.HeldWrites.{DoesWriteStage, call_of_plan, job_by, way_by}
+use Rattle.core_plans.specs.HeldWrites.{DoesWriteStage, job_by}
 use Rattle.core_plans.specs.LedBy.{LedBy}
 use Rattle.core_model.specs.Jobs.{ShardJob}
 use Rattle.core_steps.specs.OtherEnds.{EndsOver, JobWay, MergesOver, job_way}
@@ -42,8 +42,7 @@ module _ (led : LedBy) (p q : Writing) (old new : World) (was : IsRefusedSo p.re
   refused_so Inverse merges = merge_so (job_way led.leader (job_by p merges.job)) merges.result _ merges.merges merges.then
   refused_so End ends = end_so (job_by p ends.job) ends.result 0 ends.ends ends.then
   refused_so Apply (inl applies) = subst (λ (x : Writing). IsRefusedSo x.refused) (sym applies.then) was
-  refused_so Apply (inr (inl loses)) = subst (λ (x : Writing). IsRefusedSo x.refused) (sym loses.then) (λ answered is. absurd (cc))
-  refused_so Apply (inr (inr vain)) = subst (λ (x : Writing). IsRefusedSo x.refused) (sym vain.then) (λ answered is. absurd (cc))
+  refused_so Apply (inr loses) = subst (λ (x : Writing). IsRefusedSo x.refused) (sym loses.then) (λ answered is. absurd (cc))
   refused_so Relay does = absurd does
   refused_so Done does = absurd does
 

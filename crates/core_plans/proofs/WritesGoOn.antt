@@ -82,6 +82,7 @@ write_later tells s tables later f g p consistent goes grows is = record {
   client = is.client;
   begun = is.begun;
   committed = IfSome_then p.committed is.committed (answer_later f.stores g.stores goes.rise s p);
+  spare = is.spare;
   job = IfSome_then (answered_job p) is.job (λ job. owed_later tells s tables later grows.logs (job_by p job));
   merged = λ at. IfSome_then (answered_job p) (is.merged at)
       (λ job. merged_later tells s tables later grows.logs consistent.stores.kept (job_by p job));
@@ -98,6 +99,7 @@ same_stores tells s tables f g p same is = record {
   client = is.client;
   begun = is.begun;
   committed = subst (λ stores. IfSome p.committed (IsAnswerTo s stores p)) (sym same) is.committed;
+  spare = is.spare;
   job = is.job;
   merged = is.merged;
   other = subst (λ stores. IfSome (answered_job p) (λ job. StandsThere s job p.other stores)) (sym same) is.other;

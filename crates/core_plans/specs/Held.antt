@@ -32,11 +32,9 @@ use Rattle.topology.specs.Config.{Settings}
 use Rattle.write_plan.specs.Plans.{Writing, answered_job, next_of, reply_of}
 use Rattle.write_plan.specs.Stages.{stage_said}
 use Rattle.write_plan.specs.declared.stage.WriteStage.{WriteStage}
-use Rattle.write_plan.specs.declared.progress.WayBack.{WayBack}
-use Rattle.write_plan.specs.declared.progress.WayBack.TheVariants.{Ahead, Applied, Relayed}
 use Rattle.write_plan.specs.declared.stage.WriteStage.TheVariants.{Apply}
 use Rattle.core_plans.specs.HeldReads.{IsReadUnderWay, StepsRead}
-use Rattle.core_plans.specs.HeldWrites.{DoesWriteStage, IsWriteUnderWay, way_given_up}
+use Rattle.core_plans.specs.HeldWrites.{DoesWriteStage, IsBefore, IsWriteUnderWay, way_given_up}
 use Rattle.core_plans.specs.declared.held.HeldPlan.{HeldPlan}
 use Rattle.core_plans.specs.declared.held.HeldPlan.TheVariants.{Read, Write}
 use Rattle.core_plans.specs.declared.held.LearntEntries.{LearntEntries}
@@ -91,7 +89,7 @@ abbrev pub learner : HeldPlan → Option ℕ
 learner (Write p) = learner_at (next_of p) p.origin
 learner (Read p) = None
 
--- a write of which only the last stage is left ends without it
+-- a write of which only the last stage is left ends without it, for want of memory
 abbrev pub given_up : HeldPlan → HeldPlan
 given_up (Write p) = Write (way_given_up p)
 given_up (Read p) = Read p
@@ -172,6 +170,13 @@ pub record StepsPlan (led : LedBy) (number : ℕ) (plans : Plans) (old : World) 
   pub steps : StepsHeld led before old after new
   pub changes : ChangesPlan number after plans later
 
+-- the plan of that number, a write of which only the last stage is left, ends without it, and no other changes
+pub record GivesUpPlan (number : ℕ) (plans later : Plans) : Type 0 where
+  pub before : HeldPlan
+  pub stands : plan_at plans number ≡ Some before
+  pub last : IsSome (learner before)
+  pub changes : ChangesPlan number (given_up before) plans later
+
 -- ---- asks
 
 -- an ask of that number is open
@@ -207,12 +212,6 @@ HasNoneAt Asking ask = ⊤
 HasNoneAt Mastering ask = ⊤
 HasNoneAt (Keeping given) ask = ⊤
 HasNoneAt (Ended end) ask = ⊤
-
--- the way back of a write isn't done
-abbrev pub IsBefore : WayBack → Type 0
-IsBefore Ahead = ⊤
-IsBefore Relayed = ⊤
-IsBefore Applied = ⊥
 
 -- a read opens no ask before it has looked, and of a write that is held the way back isn't done
 abbrev pub OpensFirst : HeldPlan → Type 0

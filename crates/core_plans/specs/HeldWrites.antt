@@ -17,6 +17,7 @@ use Rattle.replies.specs.declared.refusals.Refusal.TheVariants.{Store, Memory}
 use Rattle.replies.specs.declared.refusals.StoreRefused.TheVariants.{LinkFault}
 use Rattle.replies.specs.declared.reply.Reply.{Reply}
 use Rattle.replies.specs.declared.reply.Reply.TheVariants.{Refused}
+use Rattle.shard_log.specs.View.{View}
 use Rattle.shard_tables.specs.StoreView.{Store as StoreSeen}
 use Rattle.shard_tables.specs.declared.writes.Wrote.{Wrote}
 use Rattle.tao_base.specs.Writes.{ChangesType, write_shard}
@@ -31,6 +32,8 @@ use Rattle.write_plan.specs.Committing.{has_inverse, kind_said}
 use Rattle.write_plan.specs.Plans.{Writing, after_stage, answered_entry, answered_job, when_of}
 use Rattle.write_plan.specs.declared.committed.Committed.{Committed}
 use Rattle.write_plan.specs.declared.progress.OtherEnd.TheVariants.{Due, Merged}
+use Rattle.write_plan.specs.declared.progress.WayBack.{WayBack}
+use Rattle.write_plan.specs.declared.progress.WayBack.TheVariants.{Ahead, Applied, Relayed}
 use Rattle.write_plan.specs.declared.results.LeftOpen.{LeftOpen}
 use Rattle.write_plan.specs.declared.results.WriteResult.TheVariants as came
 use Rattle.write_plan.specs.declared.stage.WriteStage.{WriteStage}
@@ -57,20 +60,28 @@ pub record IsAnswerTo (s : Settings) (stores : List StoreSeen) (p : Writing) (c 
   pub passed : c.passed ≡ None
   pub paired : c.paired ≡ has_inverse (types_of s.schema) p.write
 
--- what the leader answered to a write, as its plan takes it: so it does where it passed no other leader
-abbrev pub IsTakenAs : Settings → Write → Result Wrote Refusal → Result Committed Reply → Type 0
-IsTakenAs s write (Ok wrote) (Ok c) = (c.wrote ≡ wrote) × (kind_said write wrote.entry ≡ Some c.kind) × (c.passed ≡ None)
-    × (c.paired ≡ has_inverse (types_of s.schema) write)
+-- what the leader answered to a write, with a second note, as its plan takes it: so it does where it passed no other leader
+abbrev pub IsTakenAs : Settings → Write → Result (Wrote × View) Refusal → Result (Committed × View) Reply → Type 0
+IsTakenAs s write (Ok given) (Ok answer) =
+    (answer.0.wrote ≡ given.0) × (kind_said write given.0.entry ≡ Some answer.0.kind) × (answer.0.passed ≡ None)
+    × (answer.0.paired ≡ has_inverse (types_of s.schema) write) × (answer.1 ≡ given.1)
 IsTakenAs s write (Err refusal) (Err reply) = reply ≡ Refused refusal
-IsTakenAs s write (Ok wrote) (Err reply) = ⊥
-IsTakenAs s write (Err refusal) (Ok c) = ⊥
+IsTakenAs s write (Ok given) (Err reply) = ⊥
+IsTakenAs s write (Err refusal) (Ok answer) = ⊥
 
 -- the job that its commit answered, as one of its shard
 abbrev pub job_by : Writing → Job → ShardJob
 job_by p job = job_on (write_shard p.write) job
 
+-- the way back of a write isn't done
+abbrev pub IsBefore : WayBack → Type 0
+IsBefore Ahead = ⊤
+IsBefore Relayed = ⊤
+IsBefore Applied = ⊥
+
 -- a write of a client, at a follower that serves its shard, from a region of the configuration. Before its commit nothing is done of its other end.
--- What the commit answered can be applied, and its job merged; a job that was merged can be ended, and what was written at the other end stands there
+-- What the commit answered can be applied, by a second note that is there until it was, and its job merged; a job that was merged can be ended, and what
+-- was written at the other end stands there
 pub record IsWriteUnderWay (tells : Bool) (s : Settings) (tables : Tables) (f : Fleet) (p : Writing) : Type 0 where
   pub follower : IsFollowerFor s (write_shard p.write) p.follower
   pub region : p.region < length s.regions
@@ -78,18 +89,19 @@ pub record IsWriteUnderWay (tells : Bool) (s : Settings) (tables : Tables) (f : 
   pub client : IsTrue (is_client p.origin)
   pub begun : p.committed ≡ None → (p.job ≡ Due) × (p.other ≡ None)
   pub committed : IfSome p.committed (IsAnswerTo s f.stores p)
+  pub spare : p.refused ≡ None → IsBefore p.back → IfSome p.committed (λ c. p.spare ≡ Some c.wrote.note)
   pub job : IfSome (answered_job p) (λ job. CanBeMerged tells s tables (job_by p job))
   pub merged : p.job ≡ Merged → IfSome (answered_job p) (λ job. WhereTold tells (IsMergedJob s tables (job_by p job)))
   pub other : IfSome (answered_job p) (λ job. StandsThere s job p.other f.stores)
 
 -- ---- what its stages do
 
--- `commit`: the leader writes, and the followers are told
+-- `commit`: the leader writes, and the followers are told. The plan keeps a second note of the log, for the way back
 pub record CommitsHeld (led : LedBy) (p : Writing) (old : World) (q : Writing) (new : World) : Type 0 where
   pub committed : Committed
   pub commits : IsCommitted led.tells led.settings (sent_write (way_by led.leader p) (call_of_plan p)) committed.wrote old new
   pub answer : IsAnswerTo led.settings new.fleet.stores p committed
-  pub then : q ≡ after_stage p (came.Commit (Ok committed)) (hops_between old.link new.link)
+  pub then : q ≡ after_stage p (came.Commit (Ok (committed, committed.wrote.note))) (hops_between old.link new.link)
 
 -- `commit` fails: the write was refused, and no node, inbox or table changed
 pub record RefusesHeld (led : LedBy) (p : Writing) (old : World) (q : Writing) (new : World) : Type 0 where
@@ -132,24 +144,20 @@ pub record LosesWayBack (leader : NodeName) (p : Writing) (old : World) (q : Wri
   pub then : q ≡ after_stage p (came.Apply (Err (Refused (Store (LinkFault new.link.faults (when_of committed.wrote.entry))))))
       (hops_between old.link new.link)
 
--- memory was wanting for the way back: the plan ends, at the position of what its commit answered
-abbrev pub way_given_up : Writing → Writing
-way_given_up p = after_stage p (came.Apply (Err (Refused (Memory (entry_position (answered_entry p)))))) 0
-
--- `apply` fails for want of memory: the plan ends, and the write stands as well
-pub record AppliesInVain (p : Writing) (old : World) (q : Writing) (new : World) : Type 0 where
-  pub same : new ≡ old
-  pub then : q ≡ way_given_up p
-
--- what the stage does that follows
+-- what the stage does that follows. Once its entry is written, only the link can refuse the write
 abbrev pub DoesWriteStage : LedBy → WriteStage → Writing → World → Writing → World → Type 0
 DoesWriteStage led Commit p old q new = CommitsHeld led p old q new ⊎ RefusesHeld led p old q new
-DoesWriteStage led Apply p old q new =
-    AppliesHeld led.settings led.leader p old q new ⊎ (LosesWayBack led.leader p old q new ⊎ AppliesInVain p old q new)
+DoesWriteStage led Apply p old q new = AppliesHeld led.settings led.leader p old q new ⊎ LosesWayBack led.leader p old q new
 DoesWriteStage led Inverse p old q new = MergesHeld led p old q new
 DoesWriteStage led End p old q new = EndsHeld led.tells led.settings p old q new
 DoesWriteStage led Relay p old q new = ⊥
 DoesWriteStage led Done p old q new = ⊥
+
+-- ---- without the last stage
+
+-- a held write ends without its last stage, since memory was wanting for what its session is to learn: at the position of its entry, which stands
+abbrev pub way_given_up : Writing → Writing
+way_given_up p = after_stage p (came.Apply (Err (Refused (Memory (entry_position (answered_entry p)))))) 0
 
 -- ---- what each of them keeps
 

@@ -1,5 +1,5 @@
 -- What a call comes to that isn't held: what it took, what it left as it was, and what is so of its inverse.
-use Rattle.std.specs.Prelude.{◌≡◌, All, IfSome, None, false, true}
+use Rattle.std.specs.Prelude.{ℕ, ◌≡◌, All, IfSome, None, false, true}
 use Rattle.core_model.specs.Consistent.{IsConsistent}
 use Rattle.core_model.specs.Stores.{HaveMasterRegions, stores_in}
 use Rattle.core_plans.specs.Held.{IsOver, learnt_with}
@@ -18,7 +18,8 @@ use Rattle.replies.specs.declared.calls.CallReply.TheVariants as called
 use Rattle.replies.specs.declared.calls.InverseEnd.TheVariants.{Written}
 use Rattle.replies.specs.declared.calls.ReadReply.{ReadReply}
 use Rattle.replies.specs.declared.calls.WriteReply.{WriteReply}
-use Rattle.replies.specs.declared.reply.Reply.TheVariants.{Called}
+use Rattle.replies.specs.declared.refusals.Refusal.TheVariants.{Memory}
+use Rattle.replies.specs.declared.reply.Reply.TheVariants.{Called, Refused}
 use Rattle.tao_base.specs.Ids.{shard_of}
 use Rattle.tao_base.specs.declared.entry.Entry.{Entry}
 use Rattle.tao_keeper.specs.KeeperState.{KeepsTables}
@@ -56,10 +57,12 @@ pub record IsBegunWrite (p : Writing) : Type 0 where
   pub unrefused : p.refused ≡ None
   pub hops : p.hops ≡ 0
 
--- a write that does all of its stages: the hops of an Ok reply are the carries that they took
+-- a write that does all of its stages: the hops of an Ok reply are the carries that they took. Where it is refused for want of memory, nothing was written
 pub record WholeWrite (led : LedBy) (p : Writing) (old : World) (q : HeldPlan) (new : World) : Type 0 where
   pub cost : IsBegunWrite p → CarriesOut led (Write p) old q new → (reply : WriteReply) → IsOver q (Called (called.Write reply))
       → reply.hops ≡ hops_between old.link new.link
+  pub memory : IsBegunWrite p → CarriesOut led (Write p) old q new → (position : ℕ) → IsOver q (Refused (Memory position))
+      → (position ≡ 0) × KeepsTables led.tells old.keepers new.keepers
 
 -- each record that the entry owes to another shard is there, or a later one
 abbrev pub HasOtherEnds : Settings → Tables → Entry → Type 0

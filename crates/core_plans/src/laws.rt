@@ -34,7 +34,8 @@ pub fn whole_reads()
     ensures { (led : LedBy) (p : Reading) (old : World) (q : AnyPlan) (new : World) → WholeRead led p old q new }
 {}
 
-/// An Ok reply of a write that does all of its stages tells exactly the carries that they took.
+/// An Ok reply of a write that does all of its stages tells exactly the carries that they took. Such a write that is refused for want of
+/// memory has written nothing.
 #[tactic(auto, using(crate::proofs::WholeWrites::whole_writes))]
 pub fn whole_writes()
     ensures { (led : LedBy) (p : Writing) (old : World) (q : AnyPlan) (new : World) → WholeWrite led p old q new }

@@ -10,15 +10,16 @@
 //! go on whatever is done to the nodes in between; no ask stays open but those of held reads, through each stage,
 //! read and write; a critical read misses nothing that it didn't miss before, so nothing that stood when it
 //! began, and no read does in a stage from nodes that are up, where stores and such nodes have the whole logs; with the Ok reply of a write
-//! come its entry and the one that it wrote at the other end, and a write of which only the last stage is left
-//! can be given up, at the position of its entry.
+//! come its entry and the one that it wrote at the other end; once its entry is written nothing but the link can
+//! refuse it; and a write of which only the last stage is left can be given up, at the position of its entry.
 //!
 //! A plan that is carried out whole does all of its stages, one after another, with nothing between them. Its reply
 //! then tells exactly the carries that they took, and of a read whether a keeper was called; such a read changes no
-//! table and no message; and where a write tells its inverse as written, the other end has it.
+//! table and no message; where a write tells its inverse as written, the other end has it; and a write that is
+//! refused for want of memory has written nothing.
 //!
 //! The contracts that say so: `HeldPlans::step`, `add`, `take`, `give_up`, `read_stage`, `write_stage`,
-//! `HeldPlan::finish`, `carry_out`; `StepsPlan`, `StepsRead`, `MissesNone`, `AsksAreHeld`, `CarriesOut`; the laws
+//! `HeldPlan::finish`, `carry_out`; `StepsPlan`, `GivesUpPlan`, `StepsRead`, `MissesNone`, `AsksAreHeld`, `CarriesOut`; the laws
 //! `asks_stay_held`, `nothing_is_missed_later`, `stages_miss_nothing`, `whole_reads`, `whole_writes`,
 //! `written_is_there`.
 #![tactic(auto)]
@@ -31,7 +32,7 @@ mod whole;
 mod writes;
 
 pub use held::{EndedPlan, HeldPlan, LearntEntries};
-pub use plans::HeldPlans;
-pub use reads::{begin_read, read_stage};
+pub use plans::{HeldPlans, Led};
+pub use reads::{TierPlace, begin_read, read_stage};
 pub use whole::carry_out;
 pub use writes::write_stage;

@@ -18,6 +18,13 @@ use tao_keeper::Keeper;
 use tao_link::Link;
 use topology::Config;
 
+/// The configuration by which the stages of a plan are done, and the leader that does them.
+#[derive(Clone, Copy)]
+pub struct Led<'c> {
+    pub config: &'c Config,
+    pub leader: NodeName,
+}
+
 /// Drops a value. Whatever its type, it is one step to the one who reads on.
 fn let_go<T: Drop>(value: T) {
     drop(value);
@@ -65,9 +72,7 @@ impl Model for HeldPlans {
 impl HeldPlans {
     ghost use Rattle.std.specs.Prelude.{ℕ, ◌≡◌, Bool, IsSome, None, OnErr, OnOk, false, is_some, option_and_then, option_copied, true};
     ghost use Rattle.core_model.specs.Fleet.{Fleet as Fleet_};
-    ghost use Rattle.core_plans.specs.Held.{AddsPlan, TakesPlan, learner, plan_at, plan_count};
-    ghost use Rattle.core_steps.specs.World.{World};
-    ghost use Rattle.node_name.specs.declared.NodeName.{NodeName as NodeName_};
+    ghost use Rattle.core_plans.specs.Held.{AddsPlan, GivesUpPlan, TakesPlan, learner, plan_at, plan_count};
     ghost use Rattle.tao_keeper.specs.Table.{Tables};
     ghost use Rattle.topology.specs.Config.{Settings};
 
@@ -133,8 +138,7 @@ impl HeldPlans {
     /// the position that its reply tells, and nothing changes but the plan, which stays. Takes no memory.
     pub fn give_up(&mut self, number: u32)
         requires { IsSome (option_and_then learner (plan_at self.old number)) }
-        ensures steps { (tells : Bool) (s : Settings) (leader : NodeName_) (now : World)
-            → StepsPlan (led_by tells s leader) number self.old now self.new now }
+        ensures gives_up { GivesUpPlan number self.old self.new }
         ensures under_way { (tells : Bool) (s : Settings) (tables : Tables) (f : Fleet_) → IfSome (plan_at self.old number) (IsUnderWay tells s tables f)
             → IfSome (plan_at self.new number) (IsUnderWay tells s tables f) }
     {
@@ -149,24 +153,23 @@ impl HeldPlans {
     pub fn step<K: Keeper, L: Link>(
         &mut self,
         nodes: &mut Nodes,
-        config: &Config,
+        led: &Led<'_>,
         keepers: &mut K,
         link: &mut L,
-        leader: NodeName,
         number: u32,
     )
-        requires ready { CanPost K.TELLS config.now (world nodes.old (K.state keepers.old) (L.shown link.old)) }
-        requires can { CanStep K.TELLS config.now (K.state keepers.old).told nodes.old.fleet leader (plan_at self.old number) }
-        ensures steps { StepsPlan (led_by K.TELLS config.now leader) number
+        requires ready { CanPost K.TELLS led.now.config.now (world nodes.old (K.state keepers.old) (L.shown link.old)) }
+        requires can { CanStep K.TELLS led.now.config.now (K.state keepers.old).told nodes.old.fleet led.now.leader (plan_at self.old number) }
+        ensures steps { StepsPlan (led_by K.TELLS led.now.config.now led.now.leader) number
             self.old (world nodes.old (K.state keepers.old) (L.shown link.old))
             self.new (world nodes.new (K.state keepers.new) (L.shown link.new)) }
-        ensures under_way { IfSome (plan_at self.new number) (IsUnderWay K.TELLS config.now (K.state keepers.new).told nodes.new.fleet) }
-        ensures on { PostsOn K.TELLS config.now
+        ensures under_way { IfSome (plan_at self.new number) (IsUnderWay K.TELLS led.now.config.now (K.state keepers.new).told nodes.new.fleet) }
+        ensures on { PostsOn K.TELLS led.now.config.now
             (world nodes.old (K.state keepers.old) (L.shown link.old))
             (world nodes.new (K.state keepers.new) (L.shown link.new)) }
     {
         match self.plans.get_mut(&number) {
-            Some(plan) => held_stage(nodes, config, keepers, link, leader, plan),
+            Some(plan) => held_stage(nodes, led.config, keepers, link, led.leader, plan),
             None => unreachable!(),
         }
     }

@@ -11,7 +11,7 @@ ghost use Rattle.read_plan.specs.declared.stages.ReadStage.TheVariants as stage;
 ghost use Rattle.tao_base.specs.Queries.{query_shard};
 
 use cache_items::Look;
-use core_model::masters_are_regions;
+use core_model::{Wanted, masters_are_regions};
 use core_nodes::{FirstLook, Fleet};
 use core_steps::{Nodes, Route, out_of_memory};
 use node_name::NodeName;
@@ -23,20 +23,26 @@ use tao_keeper::Keeper;
 use tao_link::Link;
 use topology::Config;
 
-/// A read that is begun, at a floor, by a session of a tier, whose places are given. Takes no memory.
+/// A tier: the place of its region, and its own in that region.
+#[derive(Clone, Copy)]
+pub struct TierPlace {
+    pub region: u16,
+    pub tier: u16,
+}
+
+/// A read that is begun, at a floor, by a session of a tier. Takes no memory.
 pub fn begin_read(
     config: &Config,
     query: Query,
-    region: u16,
-    tier: u16,
+    of: TierPlace,
     floor: u64,
     critical: bool,
     follower: NodeName,
 ) -> ReadPlan
-    ensures { result ≡ at_bound config.now (new_reading query region tier floor critical follower) }
+    ensures { result ≡ at_bound config.now (new_reading query of.region of.tier floor critical follower) }
 {
     let bound = config.schema.bound_of(&query.key());
-    let mut plan = ReadPlan::begin(query, region, tier, floor, critical, follower);
+    let mut plan = ReadPlan::begin(query, of.region, of.tier, floor, critical, follower);
     plan.set_bound(bound);
     plan
 }
@@ -182,7 +188,8 @@ fn ask_stage<K: Keeper, L: Link>(
         leader,
     };
     let (query, floor) = (plan.query(), plan.floor());
-    match nodes.ask_over(config, keepers, link, route, query, floor) {
+    let read = Wanted { query, floor };
+    match nodes.ask_over(config, keepers, link, route, &read) {
         Ok(given) => take_since(keepers, link, since, plan, ReadResult::Ask(Ok(given))),
         Err(refusal) => {
             let reply = Reply::Refused(refusal);
@@ -239,10 +246,11 @@ fn keep_stage<K: Keeper, L: Link>(
         Some(fill) => {
             fills_are_sealed(&fill);
             let (follower, query) = (plan.follower(), plan.query());
-            match nodes
-                .fleet
-                .keep(config, follower, query, plan.floor(), plan.ask(), fill)
-            {
+            let read = Wanted {
+                query,
+                floor: plan.floor(),
+            };
+            match nodes.fleet.keep(config, follower, &read, plan.ask(), fill) {
                 Ok(found) => plan.take(ReadResult::Keep(Ok(Some(found))), 0, false),
                 Err(OutOfMemory) => plan.take(ReadResult::Keep(Err(out_of_memory())), 0, false),
             }

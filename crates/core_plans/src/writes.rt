@@ -1,16 +1,17 @@
 //! The stages of held writes.
-ghost use Rattle.std.specs.Prelude.{◌≡◌, Bool, IfErr, IfOk, IfSome, IsSome, OnErr, OnOk, true};
+ghost use Rattle.std.specs.Prelude.{◌≡◌, Bool, IfErr, IfOk, IfSome, IsSome, None, OnErr, OnOk, Some, true};
 ghost use Rattle.core_model.specs.Consistent.{GoesOn, HaveReached, IsConsistent, IsFleetOf};
 ghost use Rattle.core_model.specs.Growing.{StoresGrow};
 ghost use Rattle.core_model.specs.Serving.{IsFollowerFor, IsLeaderIn};
 ghost use Rattle.core_model.specs.Stores.{master_of};
-ghost use Rattle.core_plans.specs.HeldWrites.{DoesWriteStage, IsAnswerTo, IsTakenAs, IsWriteUnderWay, PassesWriteStage, entry_position, way_given_up};
+ghost use Rattle.core_plans.specs.HeldWrites.{DoesWriteStage, IsAnswerTo, IsTakenAs, IsWriteUnderWay, PassesWriteStage, call_of_plan, entry_position};
+ghost use Rattle.core_plans.specs.HeldWrites.{way_given_up};
 ghost use Rattle.core_nodes.specs.Settling.{IsLaterLink};
 ghost use Rattle.core_plans.specs.LedBy.{led_by};
 ghost use Rattle.core_steps.specs.Routes.{FailsCarry};
 ghost use Rattle.core_steps.specs.Posting.{CanPost, PostsOn};
 ghost use Rattle.core_steps.specs.World.{world};
-ghost use Rattle.core_steps.specs.Writes.{FollowerTakes};
+ghost use Rattle.core_steps.specs.Writes.{CanBeApplied, FollowerTakes};
 ghost use Rattle.shard_tables.specs.Written.{HasEntry};
 ghost use Rattle.tao_base.specs.Writes.{write_shard};
 ghost use Rattle.tao_keeper.specs.KeeperState.{IsLater, KeeperState};
@@ -22,12 +23,13 @@ ghost use Rattle.write_plan.specs.Plans.{answered_entry, next_of, when_of};
 ghost use Rattle.write_plan.specs.Stages.{stage_said};
 ghost use Rattle.write_plan.specs.declared.stage.WriteStage.TheVariants as stage;
 
-use core_steps::{Nodes, Route, link_fault};
+use core_model::{AuthoredWrite, ShardJob};
+use core_steps::{Nodes, Route, ShardNote, link_fault};
 use node_name::NodeName;
 use replies::{Refusal, Reply, StoreRefused};
 use shard_log::Note;
 use shard_tables::Wrote;
-use tao_base::{OutOfMemory, Write};
+use tao_base::Write;
 use tao_keeper::Keeper;
 use tao_link::{Link, LinkFailed};
 use topology::Config;
@@ -38,14 +40,17 @@ fn answered(
     config: &Config,
     write: &Write,
     leader: NodeName,
-    wrote: Result<Wrote, Refusal>,
-) -> Result<Committed, Reply>
-    requires fits { IfOk wrote (λ w. IfSome w.entry (λ e. FitsWrite e write.now)) }
-    requires entry { IfOk wrote (λ w. HasEntry write.now w.entry) }
-    ensures { IsTakenAs config.now write.now wrote result }
+    given: Result<(Wrote, Note), Refusal>,
+) -> Result<(Committed, Note), Reply>
+    requires fits { IfOk given (λ answer. IfSome answer.0.entry (λ e. FitsWrite e write.now)) }
+    requires entry { IfOk given (λ answer. HasEntry write.now answer.0.entry) }
+    ensures { IsTakenAs config.now write.now given result }
 {
-    match wrote {
-        Ok(wrote) => Ok(Committed::of(&config.schema, write, wrote, leader, None)),
+    match given {
+        Ok((wrote, spare)) => Ok((
+            Committed::of(&config.schema, write, wrote, leader, None),
+            spare,
+        )),
         Err(refusal) => Err(Reply::Refused(refusal)),
     }
 }
@@ -73,8 +78,9 @@ fn commit_stage<K: Keeper, L: Link>(
         leader,
     };
     let (origin, write) = (plan.origin(), plan.write());
-    let wrote = nodes.commit_over(config, keepers, link, route, origin, write);
-    let outcome = answered(config, plan.write(), leader, wrote);
+    let call = AuthoredWrite { origin, write };
+    let given = nodes.commit_over(config, keepers, link, route, &call);
+    let outcome = answered(config, plan.write(), leader, given);
     let hops = link.carries().saturating_sub(carries);
     plan.take(WriteResult::Commit(outcome), hops);
 }
@@ -100,7 +106,7 @@ fn inverse_stage<K: Keeper, L: Link>(
     let Some(job) = plan.job() else {
         unreachable!()
     };
-    let result = nodes.merge_over(config, keepers, link, leader, shard, job);
+    let result = nodes.merge_over(config, keepers, link, leader, &ShardJob { shard, job });
     let hops = link.carries().saturating_sub(carries);
     plan.take(WriteResult::Inverse(result), hops);
 }
@@ -133,7 +139,7 @@ fn end_stage<K: Keeper>(
     plan.take(WriteResult::End(result), 0);
 }
 
-/// The reply that memory is wanting for the way back of what a plan's commit answered: the write stands, at the position that it tells.
+/// The reply that memory is wanting for what the session of a write is to learn: the write stands, at the position that it tells.
 fn out_of_memory_back(plan: &WritePlan) -> Reply
     ensures { result ≡ Reply.Refused (Refusal.Memory (entry_position (answered_entry plan.now))) }
 {
@@ -144,7 +150,7 @@ fn out_of_memory_back(plan: &WritePlan) -> Reply
     Reply::Refused(Refusal::Memory { position })
 }
 
-/// Ends a write of which only the last stage is left, since memory is wanting for its way back.
+/// Ends a write of which only the last stage is left, since memory is wanting for what its session is to learn.
 pub(crate) fn give_up_way(plan: &mut WritePlan)
     requires { next_of plan.old ≡ stage.Apply }
     ensures { plan.new ≡ way_given_up plan.old }
@@ -153,17 +159,16 @@ pub(crate) fn give_up_way(plan: &mut WritePlan)
     plan.take(WriteResult::Apply(Err(reply)), 0);
 }
 
-/// The note in which the answer of a plan's commit stands, a second one; or the reply that memory is wanting for it.
-fn answer_note(plan: &mut WritePlan) -> Result<Note, Reply>
-    requires { IsSome plan.old.committed }
-    ensures same { plan.new ≡ plan.old }
-    ensures note { IfOk result (λ note. IfSome plan.old.committed (λ c. note ≡ c.wrote.note)) }
-    ensures err { IfErr result (λ reply. reply ≡ Reply.Refused (Refusal.Memory (entry_position (answered_entry plan.old)))) }
+/// The second note that came with the answer of a plan's commit, for its follower to meet.
+fn spare_of(plan: &mut WritePlan) -> Note
+    requires committed { IsSome plan.old.committed }
+    requires spare { IfSome plan.old.committed (λ c. plan.old.spare ≡ Some c.wrote.note) }
+    ensures note { IfSome plan.old.committed (λ c. result ≡ c.wrote.note) }
+    ensures rest { plan.new ≡ record plan.old { spare = None } }
 {
-    match plan.note() {
-        Ok(Some(note)) => Ok(note),
-        Ok(None) => unreachable!(),
-        Err(OutOfMemory) => Err(out_of_memory_back(plan)),
+    match plan.spare() {
+        Some(note) => note,
+        None => unreachable!(),
     }
 }
 
@@ -178,7 +183,7 @@ fn carry_back<L: Link>(
 ) -> Result<(), Reply>
     requires fleet { IsFleetOf config.now nodes.old.fleet }
     requires follower { IsFollowerFor config.now (write_shard plan.now.write) plan.now.follower }
-    requires answer { IfSome plan.now.committed (IsAnswerTo config.now nodes.old.fleet.stores plan.now) }
+    requires apply { IfSome plan.now.committed (λ c. CanBeApplied (call_of_plan plan.now) c.wrote nodes.old.fleet.stores) }
     requires route { route.follower ≡ plan.now.follower }
     requires committed { IsSome plan.now.committed }
     requires note { IfSome plan.now.committed (λ c. note ≡ c.wrote.note) }
@@ -200,7 +205,7 @@ fn carry_back<L: Link>(
     };
     let shard = plan.write().shard();
     let entry = &committed.wrote.entry;
-    match nodes.apply_over(config, link, route, shard, entry, note) {
+    match nodes.apply_over(config, link, route, entry, ShardNote { shard, note }) {
         Ok(()) => Ok(()),
         Err(LinkFailed) => Err(Reply::Refused(link_fault(link.faults(), plan.when()))),
     }
@@ -217,6 +222,7 @@ fn apply_stage<L: Link>(
     requires fleet { IsFleetOf config.now nodes.old.fleet }
     requires follower { IsFollowerFor config.now (write_shard plan.old.write) plan.old.follower }
     requires answer { IfSome plan.old.committed (IsAnswerTo config.now nodes.old.fleet.stores plan.old) }
+    requires spare { IfSome plan.old.committed (λ c. plan.old.spare ≡ Some c.wrote.note) }
     requires stage { next_of plan.old ≡ stage.Apply }
     ensures does { (keepers : KeeperState) → DoesWriteStage (led_by true config.now leader) stage.Apply
         plan.old (world nodes.old keepers (L.shown link.old))
@@ -234,10 +240,8 @@ fn apply_stage<L: Link>(
         follower: plan.follower(),
         leader,
     };
-    let outcome = match answer_note(plan) {
-        Ok(note) => carry_back(nodes, config, link, route, plan, note),
-        Err(reply) => Err(reply),
-    };
+    let note = spare_of(plan);
+    let outcome = carry_back(nodes, config, link, route, plan, note);
     let hops = link.carries().saturating_sub(carries);
     plan.take(WriteResult::Apply(outcome), hops);
 }

@@ -35,16 +35,17 @@ use Rattle.core_model.specs.States.{AreStatesOf}
 use Rattle.core_model.specs.Stores.{AreStoresOf, HaveMasterRegions, master_store, store_length}
 use Rattle.core_nodes.proofs.FleetLemmas.{goes_self}
 use Rattle.core_nodes.proofs.GrowingLemmas.{stays_stores}
-use Rattle.core_nodes.specs.Repairs.{ComesBack, MergesFar, Outside, carry_back, carry_there, outside}
+use Rattle.core_nodes.specs.Repairs.{ComesBack, MergesFar, carry_back, carry_there}
+use Rattle.core_nodes.specs.Outside.{Outside, outside}
 use Rattle.core_nodes.specs.Settling.{IsLaterLink}
 use Rattle.core_steps.proofs.LinkLemmas.{both_carries, failed_back, failed_carry, link_self}
 use Rattle.core_steps.proofs.PostsLemmas.{posts_same}
 use Rattle.core_steps.proofs.NotifyLemmas.{arrived_grows, master_is, sends_both, within_master}
 use Rattle.core_steps.specs.Posting.{CanPost, PostsOn}
-use Rattle.core_steps.specs.World.{World, world, world_with}
+use Rattle.core_steps.specs.World.{World, outside_of, world, world_with}
 use Rattle.core_steps.specs.declared.nodes.Nodes.{Nodes}
 use Rattle.core_repairs.specs.Repairs.{FailsAs, FailsToMerge, FindsFirst, FindsOpenJob, IsMergedAlone, IsNotRepaired, IsNotRun}
-use Rattle.core_repairs.specs.Repairs.{LeavesRest, RunsJob, StopsRepair, NotifiesOfRepair, shown_of}
+use Rattle.core_repairs.specs.Repairs.{LeavesRest, RunsJob, StopsRepair, NotifiesOfRepair}
 use Rattle.core_repairs.specs.Repairs.{notified_of_repair}
 use Rattle.core_repairs.specs.declared.repairs.RepairFailed.{RepairFailed}
 use Rattle.core_repairs.specs.declared.repairs.RepairFailed.TheVariants.{NoServer, Refused}
@@ -145,11 +146,11 @@ module _ (tells : Bool) (s : Settings) (shard : ℕ) (old new : World) where
   module _ (job : Job) (found : KeeperState) (finds : FindsOpenJob tells s shard job old.keepers found) where
     -- it was not run
     module _ (rest : LeavesRest old new) where
-      fails_merge : (refusal : RepairRefusal) → MergesFar tells s (job_on shard job) (Err refusal) (outside found old.link) (shown_of new)
+      fails_merge : (refusal : RepairRefusal) → MergesFar tells s (job_on shard job) (Err refusal) (outside found old.link) (outside_of new)
           → FailsToMerge tells s shard refusal old new
       fails_merge refusal merges = record { job = job; found = found; finds = finds; merges = merges; rest = rest }
 
-      stops : (refusal : RepairRefusal) → IsNotRun tells s (job_on shard job) refusal (outside found old.link) (shown_of new)
+      stops : (refusal : RepairRefusal) → IsNotRun tells s (job_on shard job) refusal (outside found old.link) (outside_of new)
           → StopsRepair tells s shard refusal old new
       stops refusal (inl merges) = inr (inl (fails_merge refusal merges))
       stops refusal (inr alone) = inr (inr (record {
@@ -162,7 +163,7 @@ module _ (tells : Bool) (s : Settings) (shard : ℕ) (old new : World) where
         rest = rest;
       }))
 
-      pub not_run : (failed : RepairFailed) → RunsJob tells s (job_on shard job) (Err failed) (outside found old.link) (shown_of new)
+      pub not_run : (failed : RepairFailed) → RunsJob tells s (job_on shard job) (Err failed) (outside found old.link) (outside_of new)
           → IsLater old.keepers found → IsNotRepaired tells s shard failed old new
       not_run (Refused KeeperFault) runs later = (
         Rose-earlier old.keepers.faults found.faults new.keepers.faults later.faults runs.0,

@@ -5,7 +5,8 @@ use Rattle.core_mail.specs.Inboxes.{Inboxes, Sends, entry_message}
 use Rattle.core_model.specs.Jobs.{EndsOwed, IsFirstJobOf, ShardJob, far_shard, job_on}
 use Rattle.core_model.specs.Messages.{notified_besides, notified_of}
 use Rattle.core_model.specs.Stores.{master_store, stores_in}
-use Rattle.core_nodes.specs.Repairs.{MergesFar, Outside, outside}
+use Rattle.core_nodes.specs.Repairs.{MergesFar}
+use Rattle.core_nodes.specs.Outside.{Outside, outside}
 use Rattle.core_nodes.specs.declared.settling.SettleStop.{SettleStop}
 use Rattle.core_nodes.specs.declared.settling.SettleStop.TheVariants as stop
 use Rattle.edge_repair.specs.declared.refusal.RepairRefusal.{RepairRefusal}
@@ -28,7 +29,7 @@ use Rattle.write_model.specs.Merges.{JobSource}
 use Rattle.write_model.specs.Machine.{Settles}
 use Rattle.write_model.specs.Steps.{HaveNoJobs, Settling}
 use Rattle.core_steps.specs.Posting.{ChangesNoNode}
-use Rattle.core_steps.specs.World.{World}
+use Rattle.core_steps.specs.World.{World, outside_of}
 use Rattle.core_repairs.specs.declared.repairs.Ran.{Ran}
 use Rattle.core_repairs.specs.declared.repairs.RepairFailed.{RepairFailed}
 use Rattle.core_repairs.specs.declared.repairs.RepairFailed.TheVariants.{NoServer, Refused}
@@ -45,10 +46,6 @@ NotifiesOfRepair states shard None old new = new ≡ old
 NotifiesOfRepair states shard (Some e) old new = (note : View) × Sends (notified_of_repair states shard) (entry_message shard e note) old new
 
 -- ---- the first job of a shard
-
--- what the keepers and the link of a core show
-abbrev pub shown_of : World → Outside
-shown_of now = outside now.keepers now.link
 
 -- no leader and no follower changed, nor which nodes are up
 pub record LeavesCaches (old new : World) : Type 0 where
@@ -146,7 +143,7 @@ pub record FailsToMerge (tells : Bool) (s : Settings) (shard : ℕ) (refusal : R
   pub job : Job
   pub found : KeeperState
   pub finds : FindsOpenJob tells s shard job old.keepers found
-  pub merges : MergesFar tells s (job_on shard job) (Err refusal) (outside found old.link) (shown_of new)
+  pub merges : MergesFar tells s (job_on shard job) (Err refusal) (outside found old.link) (outside_of new)
   pub rest : LeavesRest old new
 
 -- the first job of the shard was merged, and not ended

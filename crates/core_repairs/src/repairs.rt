@@ -6,7 +6,7 @@ ghost use Rattle.core_model.specs.Jobs.{IsOwedJob, far_shard, job_on};
 ghost use Rattle.core_model.specs.Pens.{pens_of};
 ghost use Rattle.core_model.specs.States.{AreStatesOf};
 ghost use Rattle.core_model.specs.Stores.{AreStores, store_count};
-ghost use Rattle.core_nodes.specs.Repairs.{outside};
+ghost use Rattle.core_nodes.specs.Outside.{outside};
 ghost use Rattle.core_steps.specs.Posting.{CanPost, PostsOn};
 ghost use Rattle.core_steps.specs.World.{world};
 ghost use Rattle.core_repairs.specs.Repairs.{FailsAs, FindsFirst, RepairsFirst, RunsJob, NotifiesOfRepair};
@@ -17,7 +17,7 @@ ghost use Rattle.shard_tables.specs.Written.{LiesOn, StandsIn};
 ghost use Rattle.tao_keeper.specs.Given.{IsGivenJob};
 ghost use Rattle.tao_keeper.specs.KeeperState.{IsLater, KeepsTables};
 
-use core_model::{far_shard, masters_are_regions};
+use core_model::{ShardJob, far_shard, masters_are_regions};
 use core_nodes::Fleet;
 use core_steps::Nodes;
 use edge_repair::{RepairRefusal, passed_on};
@@ -147,9 +147,13 @@ fn merge_and_end<K: Keeper, L: Link>(
         (world nodes.old (K.state keepers.old) (L.shown link.old)) (world nodes.new (K.state keepers.new) (L.shown link.new)) }
 {
     masters_are_regions(config);
-    let repaired = nodes
-        .fleet
-        .merge_far(nodes.alloc, config, keepers, link, shard, job)?;
+    let repaired = nodes.fleet.merge_far(
+        nodes.alloc,
+        config,
+        keepers,
+        link,
+        &ShardJob { shard, job },
+    )?;
     match nodes.fleet.end_job(config, keepers, shard, job) {
         Ok(()) => Ok(repaired.wrote),
         Err(refusal) => Err(failed_for(refusal)),

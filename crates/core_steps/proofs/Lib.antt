@@ -7,5 +7,7 @@ pub mod ReadLemmas
 pub mod ReachLemmas
 pub mod Repeats
 pub mod StepLemmas
+pub mod StreamLemmas
+pub mod StreamSteps
 pub mod NotifyLemmas
 pub mod WriteLemmas

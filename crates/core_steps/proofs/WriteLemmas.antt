@@ -20,6 +20,8 @@ use Rattle.core_steps.specs.World.{World}
 use Rattle.core_steps.specs.Replies.{refused_as}
 use Rattle.core_steps.specs.Writes.{AuthoredWrite, RefusesCommit, RefusesThere, asked_of_log, sent_write}
 use Rattle.core_steps.specs.declared.routes.Route.{Route}
+use Rattle.core_model.specs.Fleet.{Fleet}
+use Rattle.core_steps.specs.declared.nodes.Nodes.{Nodes}
 
 -- ---- committed
 
@@ -42,6 +44,11 @@ pub notified_new : (states : NodeStates) (leader : NodeName) (shard : ℕ) (entr
 notified_new states leader shard entry e note old new is sends =
     let told : NotifiesOfNew states leader shard (Some e) old new = (note, sends) in
     subst (λ found. NotifiesOfNew states leader shard found old new) (sym is) told
+
+-- what a commit leaves of the nodes, once a note was renewed and the messages were sent
+pub left_so : (was : Nodes) (renewed committed : Fleet) (told : Nodes) → renewed ≡ committed
+    → told ≡ record was { fleet = renewed; mail = told.mail } → told ≡ record was { fleet = committed; mail = told.mail }
+left_so was renewed committed told same rest = rest ∙ ap (λ (f : Fleet). record was { fleet = f; mail = told.mail }) same
 
 -- ---- refused
 

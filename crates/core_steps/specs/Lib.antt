@@ -3,7 +3,9 @@ pub mod OtherEnds
 pub mod Posting
 pub mod ReadSteps
 pub mod Reads
+pub mod Relays
 pub mod Replies
 pub mod Routes
 pub mod Writes
+pub mod Streams
 pub mod World

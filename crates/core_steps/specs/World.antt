@@ -1,4 +1,5 @@
 -- What a step sees: the nodes of a core, and what its keepers and its link show.
+use Rattle.core_nodes.specs.Outside.{Outside, outside}
 use Rattle.core_mail.specs.Inboxes.{Inboxes}
 use Rattle.core_model.specs.Fleet.{Fleet}
 use Rattle.tao_keeper.specs.KeeperState.{KeeperState}
@@ -22,3 +23,7 @@ world_with fleet inboxes states keepers link =
 -- the nodes of a core, with what its keepers and its link show
 abbrev pub world : Nodes → KeeperState → LinkShown → World
 world nodes keepers link = world_with nodes.fleet nodes.mail nodes.topology keepers link
+
+-- what the keepers and the link show in a world
+abbrev pub outside_of : World → Outside
+outside_of now = outside now.keepers now.link

@@ -1,6 +1,7 @@
 -- What the commit of a write is answered, and what it does to the log of its shard and to the nodes.
 use Rattle.std.specs.Prelude.{ℕ, ◌≡◌, Bool, true, false, List, Option, Some, None, IfSome, if◌then◌else◌}
 use Rattle.counts.specs.Count.{Rose}
+use Rattle.core_model.specs.declared.asked.AuthoredWrite.{AuthoredWrite as LentWrite}
 use Rattle.core_model.specs.Fleet.{ChangesNode, Fleet}
 use Rattle.core_model.specs.Pens.{pens_of}
 use Rattle.core_model.specs.Stores.{master_store, stores_in}
@@ -45,6 +46,10 @@ pub record AuthoredWrite : Type 0 where
 -- a client's write, under the origin by which a retry is known
 abbrev pub client_call : Origin → Write → AuthoredWrite
 client_call origin write = record { origin = origin; write = write }
+
+-- a client's write that is lent
+abbrev pub lent_call : LentWrite → AuthoredWrite
+lent_call call = client_call call.origin call.write.now
 
 -- the write of a client along a route
 pub record SentWrite : Type 0 where

@@ -1,5 +1,6 @@
 //! What a follower is given that could not answer: by a leader, or by the master's store.
 ghost use Rattle.std.specs.Prelude.{ℕ, ◌≡◌, ◌<◌, IfErr, IfOk, OnErr, OnOk};
+ghost use Rattle.core_model.specs.Asked.{lent_read};
 ghost use Rattle.core_model.specs.Consistent.{GoesOn, IsConsistent};
 ghost use Rattle.core_model.specs.Fleet.{ChangesNode};
 ghost use Rattle.core_model.specs.Pens.{pens_of};
@@ -17,7 +18,7 @@ ghost use Rattle.tao_schema.specs.Schema.{types_of};
 use crate::nodes::Nodes;
 use crate::refusals::{link_fault, refused_as};
 use crate::routes::{Route, carry};
-use core_model::{master_of, masters_are_regions, region_of};
+use core_model::{Wanted, master_of, masters_are_regions};
 use core_nodes::master_store;
 use node_name::NodeName;
 use replies::{Refusal, StoreRefused, When};
@@ -28,7 +29,7 @@ use tao_link::{Link, LinkFailed};
 use topology::Config;
 
 /// A carry, of which a refusal says that it failed.
-fn carried<L: Link>(link: &mut L, from: NodeName, to: NodeName) -> Result<(), Refusal>
+pub(crate) fn carried<L: Link>(link: &mut L, from: NodeName, to: NodeName) -> Result<(), Refusal>
     ensures ok { OnOk result (L.shown link.new ≡ after_carry (L.shown link.old)) }
     ensures fails { IfErr result (λ _. FailsCarry from to (L.shown link.old) (L.shown link.new)) }
     ensures refusal { IfErr result (λ refusal. refusal ≡ Refusal.Store (StoreRefused.LinkFault (L.shown link.new).faults When.Before)) }
@@ -46,17 +47,16 @@ impl Nodes {
         config: &Config,
         keepers: &mut K,
         leader: NodeName,
-        query: &Query,
-        floor: u64,
+        read: &Wanted<'_>,
     ) -> Result<LeaderAnswer, Refusal>
         requires consistent { IsConsistent K.TELLS config.now (K.state keepers.old).told self.old.fleet }
-        requires leader { IsLeaderFor config.now (query_shard query.now) leader }
+        requires leader { IsLeaderFor config.now (query_shard read.now.query.now) leader }
         ensures answers { IfOk result (λ given. ChangesNode leader
-            (LeaderAnswers (types_of config.now.schema) (wanted query.now floor) given
+            (LeaderAnswers (types_of config.now.schema) (lent_read read.now) given
             (leader_calls leader self.old.fleet.stores (K.state keepers.old) (K.state keepers.new)))
             self.old.fleet.leaders self.new.fleet.leaders) }
         ensures rest { self.new ≡ record self.old { fleet = record self.old.fleet { leaders = self.new.fleet.leaders } } }
-        ensures given { IfOk result (IsGivenAnswer (types_of config.now.schema) (pens_of self.new.fleet.stores) (wanted query.now floor)) }
+        ensures given { IfOk result (IsGivenAnswer (types_of config.now.schema) (pens_of self.new.fleet.stores) (lent_read read.now)) }
         ensures err { IfErr result (λ refusal. AskFails refusal (K.state keepers.old) (K.state keepers.new)) }
         ensures same { OnErr result (self.new ≡ self.old) }
         ensures consistent { IsConsistent K.TELLS config.now (K.state keepers.new).told self.new.fleet }
@@ -64,11 +64,7 @@ impl Nodes {
         ensures tables { KeepsTables K.TELLS (K.state keepers.old) (K.state keepers.new) }
         ensures later { IsLater (K.state keepers.old) (K.state keepers.new) }
     {
-        let region = region_of(leader);
-        match self
-            .fleet
-            .ask(self.alloc, config, keepers, leader, region, query, floor)
-        {
+        match self.fleet.ask(self.alloc, config, keepers, leader, read) {
             Ok(given) => Ok(given),
             Err(refusal) => Err(refused_as(refusal, keepers.faults())),
         }
@@ -85,21 +81,20 @@ impl Nodes {
         keepers: &mut K,
         link: &mut L,
         route: Route,
-        query: &Query,
-        floor: u64,
+        read: &Wanted<'_>,
     ) -> Result<LeaderAnswer, Refusal>
         requires consistent { IsConsistent K.TELLS config.now (K.state keepers.old).told self.old.fleet }
-        requires leader { IsLeaderFor config.now (query_shard query.now) route.leader }
-        ensures given { IfOk result (λ given. IsGivenOver config.now route (wanted query.now floor) given
+        requires leader { IsLeaderFor config.now (query_shard read.now.query.now) route.leader }
+        ensures given { IfOk result (λ given. IsGivenOver config.now route (lent_read read.now) given
             (world self.old (K.state keepers.old) (L.shown link.old)) (world self.new (K.state keepers.new) (L.shown link.new))) }
-        ensures err { IfErr result (λ refusal. IsNotGiven config.now route (wanted query.now floor) refusal
+        ensures err { IfErr result (λ refusal. IsNotGiven config.now route (lent_read read.now) refusal
             (world self.old (K.state keepers.old) (L.shown link.old)) (world self.new (K.state keepers.new) (L.shown link.new))) }
         ensures on { ReadsOn K.TELLS config.now (world self.old (K.state keepers.old) (L.shown link.old))
             (world self.new (K.state keepers.new) (L.shown link.new)) }
     {
         let Route { follower, leader } = route;
         carried(link, follower, leader)?;
-        let given = self.asked(config, keepers, leader, query, floor)?;
+        let given = self.asked(config, keepers, leader, read)?;
         carried(link, leader, follower)?;
         Ok(given)
     }

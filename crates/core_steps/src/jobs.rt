@@ -1,6 +1,7 @@
 //! The stages of a write's other end: its job is merged at the other shard, and then ended.
 ghost use Rattle.std.specs.Prelude.{◌≡◌, ◌<◌, IfErr, IfOk, OnErr, OnOk, Some};
 ghost use Rattle.core_mail.specs.Inboxes.{AreInboxesOf, HaveArrived};
+ghost use Rattle.core_model.specs.Asked.{lent_job};
 ghost use Rattle.core_model.specs.Consistent.{IsConsistent};
 ghost use Rattle.core_model.specs.Growing.{StoresGrow};
 ghost use Rattle.core_model.specs.Jobs.{CanBeMerged, IsMergedJob, far_shard, job_on};
@@ -22,7 +23,7 @@ ghost use Rattle.tao_link.specs.Shown.{LinkShown};
 
 use crate::nodes::Nodes;
 use crate::routes::carry;
-use core_model::{far_shard, masters_are_regions};
+use core_model::{ShardJob, far_shard, masters_are_regions};
 use node_name::NodeName;
 use replies::ScheduledWhy;
 use shard_log::Note;
@@ -122,34 +123,31 @@ impl Nodes {
         config: &Config,
         keepers: &mut K,
         leader: NodeName,
-        shard: u16,
-        job: &Job,
+        job: &ShardJob<'_>,
     ) -> Result<Wrote, StoreRefusal>
         requires consistent { IsConsistent K.TELLS config.now (K.state keepers.old).told self.old.fleet }
         requires inboxes { AreInboxesOf config.now (pens_of self.old.fleet.stores) self.old.mail }
         requires arrived { WhereTold K.TELLS (HaveArrived (K.state keepers.old).told self.old.mail) }
         requires states { AreStatesOf config.now self.old.topology }
-        requires here { far_shard job.now < config.now.shards }
-        requires leader { IsLeaderIn config.now (master_of config.now (far_shard job.now)) leader }
-        requires preferred { leader ≡ master_leader self.old.topology (far_shard job.now) }
-        requires job { CanBeMerged K.TELLS config.now (K.state keepers.old).told (job_on shard job.now) }
+        requires here { far_shard job.now.job.now < config.now.shards }
+        requires leader { IsLeaderIn config.now (master_of config.now (far_shard job.now.job.now)) leader }
+        requires preferred { leader ≡ master_leader self.old.topology (far_shard job.now.job.now) }
+        requires job { CanBeMerged K.TELLS config.now (K.state keepers.old).told (lent_job job.now) }
         ensures takes { (by : AnyNode) (before after : LinkShown) → IfOk result (λ wrote.
-            TakesMerge K.TELLS config.now (job_way by (job_on shard job.now)) wrote
+            TakesMerge K.TELLS config.now (job_way by (lent_job job.now)) wrote
             (world self.old (K.state keepers.old) before) (world self.new (K.state keepers.new) after)) }
         ensures refused { IfErr result (λ refusal.
-            RefusesMerge K.TELLS config.now (job_on shard job.now) refusal (K.state keepers.old) (K.state keepers.new)) }
+            RefusesMerge K.TELLS config.now (lent_job job.now) refusal (K.state keepers.old) (K.state keepers.new)) }
         ensures rests { (before after : LinkShown) → OnErr result (ChangesNoNode K.TELLS
             (world self.old (K.state keepers.old) before) (world self.new (K.state keepers.new) after)) }
-        ensures merged { WhereTold K.TELLS (OnOk result (IsMergedJob config.now (K.state keepers.new).told (job_on shard job.now))) }
-        ensures stands { IfOk result (λ wrote. StandsThere config.now job.now (Some wrote) self.new.fleet.stores) }
+        ensures merged { WhereTold K.TELLS (OnOk result (IsMergedJob config.now (K.state keepers.new).told (lent_job job.now))) }
+        ensures stands { IfOk result (λ wrote. StandsThere config.now job.now.job.now (Some wrote) self.new.fleet.stores) }
         ensures on { (before after : LinkShown) → IsLaterLink before after → PostsOn K.TELLS config.now
             (world self.old (K.state keepers.old) before) (world self.new (K.state keepers.new) after) }
     {
         masters_are_regions(config);
-        let mut wrote = self
-            .fleet
-            .merge(self.alloc, config, keepers, leader, shard, job)?;
-        self.notify_of(config, leader, far_shard(job), &mut wrote);
+        let mut wrote = self.fleet.merge(self.alloc, config, keepers, leader, job)?;
+        self.notify_of(config, leader, far_shard(job.job), &mut wrote);
         Ok(wrote)
     }
 
@@ -166,19 +164,18 @@ impl Nodes {
         keepers: &mut K,
         link: &mut L,
         leader: NodeName,
-        shard: u16,
-        job: &Job,
+        job: &ShardJob<'_>,
     ) -> Result<Wrote, LeftOpen>
         requires ready { CanPost K.TELLS config.now (world self.old (K.state keepers.old) (L.shown link.old)) }
-        requires job { CanBeMerged K.TELLS config.now (K.state keepers.old).told (job_on shard job.now) }
-        ensures merges { MergesOver K.TELLS config.now (job_way leader (job_on shard job.now)) result
+        requires job { CanBeMerged K.TELLS config.now (K.state keepers.old).told (lent_job job.now) }
+        ensures merges { MergesOver K.TELLS config.now (job_way leader (lent_job job.now)) result
             (world self.old (K.state keepers.old) (L.shown link.old)) (world self.new (K.state keepers.new) (L.shown link.new)) }
-        ensures merged { WhereTold K.TELLS (OnOk result (IsMergedJob config.now (K.state keepers.new).told (job_on shard job.now))) }
-        ensures stands { StandsThere config.now job.now (known_of result) self.new.fleet.stores }
+        ensures merged { WhereTold K.TELLS (OnOk result (IsMergedJob config.now (K.state keepers.new).told (lent_job job.now))) }
+        ensures stands { StandsThere config.now job.now.job.now (known_of result) self.new.fleet.stores }
         ensures on { PostsOn K.TELLS config.now
             (world self.old (K.state keepers.old) (L.shown link.old)) (world self.new (K.state keepers.new) (L.shown link.new)) }
     {
-        let far = far_shard(job);
+        let far = far_shard(job.job);
         if far >= config.shards {
             return Err(LeftOpen::Scheduled {
                 why: ScheduledWhy::NoServer,
@@ -192,7 +189,7 @@ impl Nodes {
                 wrote: None,
             });
         }
-        let merged = self.merge_at(config, keepers, merging, shard, job);
+        let merged = self.merge_at(config, keepers, merging, job);
         let back = carry_between(link, merging, leader);
         merge_answer(merged, back)
     }

@@ -4,22 +4,28 @@
 //! Which stage follows which, and which nodes are on the route, is not said here.
 //!
 //! What it promises. What a leader gives, or the master's store reads, by one carry there and one back, is right for
-//! the query at its floor. A commit is a step of the plain machine; of a new entry, and of no other, the followers
-//! of the master's region are told, and the leader that another stands in for; where it is refused, no node and no
-//! table changes. A job is merged by the leader of the other shard, two carries away, or none where that is the same
-//! node, and of what it wrote that shard's followers are told; it is ended only once it is merged; what fails leaves
-//! it open, with its cause, and a merge that was refused is carried back all the same. What was committed is carried
-//! back to the follower, which takes the changes. A fault of the link comes only where its count rose at a carry
-//! between the two nodes of the stage. A read that is refused has done what was done before: nothing where its question
-//! was lost, and what the leader did where the answer was. After each of these stages all is consistent, the logs only
-//! grew, no count fell, and what is cut is what was cut (`ReadsOn`, `PostsOn`).
+//! the query at its floor. A commit is a step of the plain machine; of a new entry, and of no other, the followers of
+//! the master's region are told, and the leader that another stands in for; where it is refused, no node and no table
+//! changes. With what was written comes a second note, for the way back, which was taken before. A job is merged by the
+//! leader of the other shard, two carries away, or none where that is the same node, and of what it wrote that shard's
+//! followers are told; it is ended only once it is merged; what fails leaves it open, with its cause, and a merge that
+//! was refused is carried back all the same. What was committed is carried back to the follower, which takes the
+//! changes. A fault of the link comes only where its count rose at a carry between the two nodes of the stage. A read
+//! that is refused has done what was done before: nothing where its question was lost, and what the leader did where
+//! the answer was. After each of these stages all is consistent, the logs only grew, no count fell, and what is cut is
+//! what was cut (`ReadsOn`, `PostsOn`).
 //!
 //! What a stage works on is one value, `Nodes`: the nodes, the messages that wait for them, and which of them are up.
 //! Contracts see it with what the keepers and the link show as one state, `World`.
 //!
-//! The contracts that say so: `Nodes::ask_over`, `read_over`, `commit_over`, `merge_over`, `end_over`, `apply_over`,
-//! `notify_followers`, `notify_besides`; `IsGivenOver`, `IsNotGiven`, `IsReadOver`, `IsNotRead`, `IsCommitted`, `RefusesCommit`,
-//! `NotifiesOfNew`, `MergesOver`, `EndsOver`.
+//! A step of a stream carries one entry from the shard's master store to the store of a slave region, which takes it exactly
+//! where it comes next; then the leader that the region prefers processes it, where that is up, and the region's followers
+//! that serve the shard and are up are told. Where the store has all of the log nothing is carried, and after a refusal no
+//! node, message or table has changed.
+//!
+//! The contracts that say so: `Nodes::ask_over`, `read_over`, `commit_over`, `merge_over`, `end_over`, `relay_over`, `apply_over`,
+//! `stream_over`, `notify_followers`, `notify_besides`; `IsGivenOver`, `IsNotGiven`, `IsReadOver`, `IsNotRead`, `IsCommitted`,
+//! `RefusesCommit`, `NotifiesOfNew`, `MergesOver`, `EndsOver`, `LeaderRelays`, `StreamsOver`.
 #![tactic(auto)]
 
 mod asking;
@@ -27,10 +33,15 @@ mod jobs;
 mod nodes;
 mod notifying;
 mod refusals;
+mod relaying;
 mod routes;
+mod streaming;
 mod writes;
 
 pub use jobs::{LearntEntry, learnt_entry_of, learnt_far};
 pub use nodes::Nodes;
 pub use refusals::{link_fault, out_of_memory, refilled_as, refused_as};
+pub use relaying::pass_over;
 pub use routes::Route;
+pub use streaming::AskedStream;
+pub use writes::ShardNote;

@@ -10,11 +10,11 @@ ghost use Rattle.shard_tables.specs.Written.{LiesOn, StandsIn};
 ghost use Rattle.topology.specs.Choices.{master_region};
 
 use crate::nodes::Nodes;
-use core_model::serves_in_turn;
+use core_model::{Around, serves_in_turn};
 use node_name::NodeName;
 use shard_log::Note;
 use shard_tables::Wrote;
-use tao_base::Entry;
+use tao_base::{Entry, StoreName};
 use topology::Config;
 
 impl Nodes {
@@ -33,8 +33,11 @@ impl Nodes {
     {
         let leader = self.topology.preferred(self.topology.master(shard), shard);
         if self.topology.is_up(leader) {
-            self.mail
-                .notify(self.alloc, config, leader, shard, entry, note);
+            let around = Around {
+                alloc: self.alloc,
+                config,
+            };
+            self.mail.notify(&around, leader, shard, entry, note);
         }
     }
 
@@ -52,16 +55,13 @@ impl Nodes {
         ensures of { (pens : Pens) → IsSeen pens shard note.old → AreInboxesOf config.now pens self.old.mail
             → AreInboxesOf config.now pens self.new.mail }
     {
-        let region = self.topology.master(shard);
-        self.mail.send(
-            self.alloc,
+        let around = Around {
+            alloc: self.alloc,
             config,
-            &self.topology,
-            region,
-            shard,
-            entry,
-            note,
-        );
+        };
+        let region = self.topology.master(shard);
+        let at = StoreName { region, shard };
+        self.mail.send(&around, &self.topology, at, entry, note);
     }
 
     /// Tells those who see a shard's log of an entry that a leader wrote there: the followers of the master's region, and the leader that it

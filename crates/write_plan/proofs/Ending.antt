@@ -7,6 +7,7 @@ use Rattle.node_name.specs.declared.NodeName.{NodeName}
 use Rattle.replies.specs.declared.calls.InverseEnd.{InverseEnd}
 use Rattle.replies.specs.declared.calls.InverseEnd.TheVariants as inverse
 use Rattle.replies.specs.declared.reply.Reply.{Reply}
+use Rattle.shard_log.specs.View.{View}
 use Rattle.shard_tables.specs.declared.writes.Wrote.{Wrote}
 use Rattle.tao_base.specs.declared.entry.Entry.{Entry}
 use Rattle.tao_base.specs.declared.entry.Origin.{Origin}
@@ -117,20 +118,24 @@ before_part n x cs q G H good part = record {
 abbrev going : Writing → Committed → OtherEnd → Option Wrote → WayBack → ℕ → Writing
 going b c j o k h = record b { committed = Some c; job = j; other = o; back = k; refused = None; hops = h }
 
+-- its follower took the changes, and nobody needs the second note
+abbrev came_back : Writing → Committed → OtherEnd → Option Wrote → ℕ → Writing
+came_back b c j o h = going (record b { spare = None }) c j o Applied h
+
 record AppliedFrom (b : Writing) (c : Committed) (j : OtherEnd) (o : Option Wrote) (cs : List Came) (q : Writing) : Type 0 where
   hops : ℕ
   way : Applies cs
-  is : q ≡ going b c j o Applied hops
+  is : q ≡ came_back b c j o hops
 
 done_apply : stage.Done ≡ stage.Apply → ⊥
 done_apply is = cc
 
 module _ (b : Writing) (c : Committed) (j : OtherEnd) (o : Option Wrote) where
   apply_first : (k : WayBack) (h : ℕ) (r : WriteResult) (n : ℕ) (rest : List Came) (q : Writing) → next_of (going b c j o k h) ≡ stage.Apply
-      → next_of (going b c j o Applied h) ≡ stage.Done → TakesResults (going b c j o k h) (came r n ∷ rest) q
+      → next_of (came_back b c j o h) ≡ stage.Done → TakesResults (going b c j o k h) (came r n ∷ rest) q
       → Part 1 (came r n ∷ rest) q (AppliedFrom b c j o (came r n ∷ rest) q)
   apply_first k h (Apply (Ok done)) n rest q next last takes =
-      let none = no_more (going b c j o Applied (hops_after h n)) rest q last takes.1 in
+      let none = no_more (came_back b c j o (hops_after h n)) rest q last takes.1 in
       let empty : length rest ≡ 0 = ap length none.0 in
       record {
         few = omega arith;
@@ -144,7 +149,7 @@ module _ (b : Writing) (c : Committed) (j : OtherEnd) (o : Option Wrote) where
   apply_first k h (Relay answer) n rest q next last takes = let is : stage.Relay ≡ stage.Apply = takes.0 ∙ next in cc
 
   apply_part : (k : WayBack) (h : ℕ) (cs : List Came) (q : Writing) → next_of (going b c j o k h) ≡ stage.Apply
-      → next_of (going b c j o Applied h) ≡ stage.Done → TakesResults (going b c j o k h) cs q → Part 1 cs q (AppliedFrom b c j o cs q)
+      → next_of (came_back b c j o h) ≡ stage.Done → TakesResults (going b c j o k h) cs q → Part 1 cs q (AppliedFrom b c j o cs q)
   apply_part k h [] q next last takes =
       record { few = omega arith; done = λ d. not_yet (going b c j o k h) q stage.Apply done_apply next takes d }
   apply_part k h (x ∷ rest) q next last takes = apply_first k h x.result x.hops rest q next last takes
@@ -152,14 +157,14 @@ module _ (b : Writing) (c : Committed) (j : OtherEnd) (o : Option Wrote) where
 record WentBack (b : Writing) (c : Committed) (j : OtherEnd) (o : Option Wrote) (cs : List Came) (q : Writing) : Type 0 where
   hops : ℕ
   way : CameBack c.passed cs
-  is : q ≡ going b c j o Applied hops
+  is : q ≡ came_back b c j o hops
 
 done_relay : stage.Done ≡ stage.Relay → ⊥
 done_relay is = cc
 
 module _ (b : Writing) (c : Committed) (j : OtherEnd) (o : Option Wrote) where
   relay_first : (leader : NodeName) (h : ℕ) (r : WriteResult) (n : ℕ) (rest : List Came) (q : Writing) → c.passed ≡ Some leader
-      → next_of (going b c j o Ahead h) ≡ stage.Relay → next_of (going b c j o Relayed h) ≡ stage.Apply → next_of (going b c j o Applied h) ≡ stage.Done
+      → next_of (going b c j o Ahead h) ≡ stage.Relay → next_of (going b c j o Relayed h) ≡ stage.Apply → next_of (came_back b c j o h) ≡ stage.Done
       → TakesResults (going b c j o Ahead h) (came r n ∷ rest) q → Part 2 (came r n ∷ rest) q (WentBack b c j o (came r n ∷ rest) q)
   relay_first leader h (Relay (Ok done)) n rest q passed next after last takes =
       before_part 1 (came (Relay (Ok done)) n) rest q (AppliedFrom b c j o rest q) _
@@ -213,7 +218,7 @@ record DidJob (b : Writing) (c : Committed) (cs : List Came) (q : Writing) : Typ
   came_is : cs ≡ of_job ++ of_way
   told : CameOfJob c.wrote.job c.paired of_job other (inverse_said (has_other c) job)
   way : CameBack c.passed of_way
-  is : q ≡ going b c job other Applied hops
+  is : q ≡ came_back b c job other hops
 
 told_of_paired : (paired : Bool) → inverse_said paired Due ≡ (if paired then inverse.Written else inverse.None)
 told_of_paired true = refl
@@ -356,9 +361,9 @@ tells_by : (retry : Bool) (told : InverseEnd) (found : Option Entry)
 tells_by retry told (Some e) = ((refl, refl, refl), tt, refl)
 tells_by retry told None = (tt, (refl, refl, refl), refl)
 
-carried_out : (b : Writing) (c : Committed) (n : ℕ) (cs : List Came) (q : Writing) → q.hops ≡ min (n + carries_of cs) most_hops → DidJob b c cs q
-    → IsCarriedOut (came (Commit (Ok c)) n ∷ cs) q
-carried_out b c n cs q sum g =
+carried_out : (b : Writing) (c : Committed) (note : View) (n : ℕ) (cs : List Came) (q : Writing) → q.hops ≡ min (n + carries_of cs) most_hops → DidJob b c cs q
+    → IsCarriedOut (came (Commit (Ok (c, note))) n ∷ cs) q
+carried_out b c note n cs q sum g =
     let told = inverse_said (has_other c) g.job in
     let tells = tells_by c.wrote.retry told c.wrote.entry in
     record {
@@ -367,10 +372,11 @@ carried_out b c n cs q sum g =
       reply = record { kind = c.kind; written = written_by c.wrote.retry told c.wrote.entry; hops = g.hops };
       answered = ap (λ p. p.committed) g.is;
       stages = record {
+        note = note;
         commits = n;
         of_job = g.of_job;
         of_way = g.of_way;
-        came_is = ap (λ l. came (Commit (Ok c)) n ∷ l) g.came_is;
+        came_is = ap (λ l. came (Commit (Ok (c, note))) n ∷ l) g.came_is;
         job = subst (λ o. CameOfJob c.wrote.job c.paired g.of_job o told) (sym (ap (λ p. p.other) g.is)) g.told;
         way = g.way;
       };
@@ -390,10 +396,12 @@ module _ (write : Write) (origin : Origin) (region tier : ℕ) (follower : NodeN
 
   commit_first : (r : WriteResult) (n : ℕ) (rest : List Came) (q : Writing) → TakesResults (begun_write write origin region tier follower) (came r n ∷ rest) q
       → Part 5 (came r n ∷ rest) q (IsCarriedOut (came r n ∷ rest) q)
-  commit_first (Commit (Ok c)) n rest q takes =
-      before_part 4 (came (Commit (Ok c)) n) rest q (DidJob (begun_write write origin region tier follower) c rest q) _
-      (carried_out (begun_write write origin region tier follower) c n rest q (all_hops (came (Commit (Ok c)) n ∷ rest) q takes))
-      (job_by (begun_write write origin region tier follower) c c.wrote.job refl (hops_after 0 n) rest q takes.1)
+  commit_first (Commit (Ok answer)) n rest q takes =
+      let c = answer.0 in
+      let begun = record (begun_write write origin region tier follower) { spare = Some answer.1 } in
+      before_part 4 (came (Commit (Ok answer)) n) rest q (DidJob begun c rest q) _
+      (carried_out begun c answer.1 n rest q (all_hops (came (Commit (Ok answer)) n ∷ rest) q takes))
+      (job_by begun c c.wrote.job refl (hops_after 0 n) rest q takes.1)
   commit_first (Commit (Err reply)) n rest q takes =
       refused_here 4 (came (Commit (Err reply)) n) rest (after_stage (begun_write write origin region tier follower) (Commit (Err reply)) n) q reply _
       refl refl refl takes.1

@@ -10,6 +10,7 @@ use Rattle.replies.specs.declared.calls.ScheduledWhy.{ScheduledWhy}
 use Rattle.replies.specs.declared.calls.WriteReply.{WriteReply}
 use Rattle.replies.specs.declared.reply.Reply.{Reply}
 use Rattle.replies.specs.declared.reply.Reply.TheVariants.{Called}
+use Rattle.shard_log.specs.View.{View}
 use Rattle.shard_tables.specs.declared.writes.Wrote.{Wrote}
 use Rattle.tao_base.specs.declared.entry.Origin.{Origin}
 use Rattle.tao_base.specs.declared.write.Write.{Write}
@@ -92,12 +93,13 @@ abbrev pub CameBack : Option NodeName → List Came → Type 0
 CameBack None cs = Applies cs
 CameBack (Some leader) cs = RelaysAndApplies cs
 
--- the commit answered this; then came the stages of its job, and then the way back
+-- the commit answered this, with a note for its way back; then came the stages of its job, and then the way back
 pub record CameInOrder (c : Committed) (cs : List Came) (other : Option Wrote) (told : InverseEnd) : Type 0 where
+  pub note : View
   pub commits : ℕ
   pub of_job : List Came
   pub of_way : List Came
-  pub came_is : cs ≡ came (Commit (Ok c)) commits ∷ (of_job ++ of_way)
+  pub came_is : cs ≡ came (Commit (Ok (c, note))) commits ∷ (of_job ++ of_way)
   pub job : CameOfJob c.wrote.job c.paired of_job other told
   pub way : CameBack c.passed of_way
 

@@ -10,6 +10,7 @@ use Rattle.replies.specs.declared.refusals.When.{When}
 use Rattle.replies.specs.declared.refusals.When.TheVariants.{Before, After}
 use Rattle.replies.specs.declared.reply.Reply.{Reply}
 use Rattle.replies.specs.declared.reply.Reply.TheVariants.{Called}
+use Rattle.shard_log.specs.View.{View}
 use Rattle.shard_tables.specs.declared.writes.Wrote.{Wrote}
 use Rattle.tao_base.specs.declared.entry.Entry.{Entry}
 use Rattle.tao_base.specs.declared.entry.Origin.{Origin}
@@ -27,8 +28,9 @@ use Rattle.write_plan.specs.declared.results.WriteResult.TheVariants as came
 use Rattle.write_plan.specs.declared.stage.WriteStage.{WriteStage}
 use Rattle.write_plan.specs.declared.stage.WriteStage.TheVariants as stage
 
--- a write, who asked for it, from which tier, and at which follower; what its commit answered; how far its job has come, and what was
--- written at the other end; how far the way back has come; the reply that refuses it; and the carries so far
+-- a write, who asked for it, from which tier, and at which follower; what its commit answered, and the second note that came with that, until it is
+-- handed out; how far its job has come, and what was written at the other end; how far the way back has come; the reply that refuses it; and the
+-- carries so far
 pub record Writing : Type 0 where
   pub write : Write
   pub origin : Origin
@@ -36,6 +38,7 @@ pub record Writing : Type 0 where
   pub tier : ℕ
   pub follower : NodeName
   pub committed : Option Committed
+  pub spare : Option View
   pub job : OtherEnd
   pub other : Option Wrote
   pub back : WayBack
@@ -51,6 +54,7 @@ begun_write write origin region tier follower = record {
   tier = tier;
   follower = follower;
   committed = None;
+  spare = None;
   job = Due;
   other = None;
   back = Ahead;
@@ -111,14 +115,14 @@ after_way p (Err reply) back = refused_by p reply
 
 -- what the plan keeps of a result
 abbrev pub after_result : Writing → WriteResult → Writing
-after_result p (came.Commit (Ok c)) = record p { committed = Some c }
+after_result p (came.Commit (Ok answer)) = record p { committed = Some answer.0; spare = Some answer.1 }
 after_result p (came.Commit (Err reply)) = refused_by p reply
 after_result p (came.Inverse (Ok wrote)) = record p { job = Merged; other = written_there p.other (Some wrote) }
 after_result p (came.Inverse (Err left)) = after_left_open p left
 after_result p (came.End (Ok done)) = record p { job = Ended }
 after_result p (came.End (Err left)) = after_left_open p left
 after_result p (came.Relay answer) = after_way p answer Relayed
-after_result p (came.Apply answer) = after_way p answer Applied
+after_result p (came.Apply answer) = after_way (record p { spare = None }) answer Applied
 
 -- the plan after a result with its carries
 abbrev pub after_stage : Writing → WriteResult → ℕ → Writing

@@ -1,5 +1,5 @@
 //! `WritePlan`, the plan of a write.
-ghost use Rattle.std.specs.Prelude.{◌≡◌, ◌≢◌, IfOk, Some, option_copied, option_map};
+ghost use Rattle.std.specs.Prelude.{◌≡◌, ◌≢◌, None, Some, option_copied};
 
 use crate::committed::Committed;
 use crate::progress::{OtherEnd, WayBack, reply_by, stage_after};
@@ -10,7 +10,7 @@ use replies::{Reply, When};
 use shard_log::Note;
 use shard_tables::Wrote;
 use std::marker::Model;
-use tao_base::{Entry, Origin, OutOfMemory, Write};
+use tao_base::{Entry, Origin, Write};
 use tao_keeper::Job;
 
 /// What a write leaves at its end.
@@ -25,7 +25,7 @@ pub struct EndedWrite {
 
 /// The plan of a write: what came of the stages that were done, from which the next one and in the end the reply follow.
 ///
-/// `note` alone takes memory, and each call costs constant time.
+/// No call takes memory, and each costs constant time.
 #[derive(Drop)]
 pub struct WritePlan {
     write: Write,
@@ -34,6 +34,7 @@ pub struct WritePlan {
     tier: u16,
     follower: NodeName,
     committed: Option<Committed>,
+    spare: Option<Note>,
     job: OtherEnd,
     other: Option<Wrote>,
     back: WayBack,
@@ -74,6 +75,7 @@ impl WritePlan {
             tier,
             follower,
             committed: None,
+            spare: None,
             job: OtherEnd::Due,
             other: None,
             back: WayBack::Ahead,
@@ -184,16 +186,13 @@ impl WritePlan {
         self.hops
     }
 
-    /// A second note of what was seen of the log of the write's shard, in which the answered entry stands; none exactly where
-    /// there is no answer of a commit. The one error is want of memory.
-    pub fn note(&mut self) -> Result<Option<Note>, OutOfMemory>
-        ensures same { self.new ≡ self.old }
-        ensures view { IfOk result (λ note. note ≡ option_map (λ c. c.wrote.note) self.old.committed) }
+    /// Hands out the second note that came with the answer of the commit, for its follower to meet; none exactly where none came, or
+    /// it was handed out.
+    pub fn spare(&mut self) -> Option<Note>
+        ensures note { result ≡ self.old.spare }
+        ensures rest { self.new ≡ record self.old { spare = None } }
     {
-        match &mut self.committed {
-            Some(committed) => Ok(Some(committed.wrote.note.split()?)),
-            None => Ok(None),
-        }
+        self.spare.take()
     }
 
     /// Takes what came of the stage that is next, and how many carries it took. What came of another stage changes nothing.
@@ -218,15 +217,18 @@ impl WritePlan {
             WriteResult::Inverse(answer) => self.keep_inverse(answer),
             WriteResult::End(answer) => self.keep_end(answer),
             WriteResult::Relay(answer) => self.keep_way(answer, WayBack::Relayed),
-            WriteResult::Apply(answer) => self.keep_way(answer, WayBack::Applied),
+            WriteResult::Apply(answer) => self.keep_applied(answer),
         }
     }
 
-    fn keep_commit(&mut self, answer: Result<Committed, Reply>)
+    fn keep_commit(&mut self, answer: Result<(Committed, Note), Reply>)
         ensures { self.new ≡ after_result self.old (WriteResult.Commit answer) }
     {
         match answer {
-            Ok(committed) => self.committed = Some(committed),
+            Ok((committed, spare)) => {
+                self.committed = Some(committed);
+                self.spare = Some(spare);
+            }
             Err(reply) => self.refuse(reply),
         }
     }
@@ -262,6 +264,14 @@ impl WritePlan {
             }
             LeftOpen::Refused(reply) => self.refuse(reply),
         }
+    }
+
+    /// Keeps what came of the last stage, after which nobody needs the second note.
+    fn keep_applied(&mut self, answer: Result<(), Reply>)
+        ensures { self.new ≡ after_result self.old (WriteResult.Apply answer) }
+    {
+        self.spare = None;
+        self.keep_way(answer, WayBack::Applied);
     }
 
     fn keep_way(&mut self, answer: Result<(), Reply>, back: WayBack)

@@ -5,6 +5,7 @@ ghost use Rattle.write_plan.specs.Stages.{result_stage};
 use crate::committed::Committed;
 use crate::stage::WriteStage;
 use replies::{Reply, ScheduledWhy};
+use shard_log::Note;
 use shard_tables::Wrote;
 
 /// Why a job was not merged, or not removed.
@@ -23,7 +24,8 @@ pub enum LeftOpen {
 /// What came of a stage. A reply in place of an answer is the one that refuses the write.
 #[derive(Drop)]
 pub enum WriteResult {
-    Commit(Result<Committed, Reply>),
+    /// What was committed, with a second note of the log in which it stands, for its way back.
+    Commit(Result<(Committed, Note), Reply>),
     /// What the merge wrote at the other end.
     Inverse(Result<Wrote, LeftOpen>),
     End(Result<(), LeftOpen>),

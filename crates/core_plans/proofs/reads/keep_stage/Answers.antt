@@ -1,9 +1,17 @@
 use Rattle.std.proofs.Common.{◌∙◌, sym}
+use Rattle.core_model.specs.Pens.{pens_of}
 use Rattle.core_model.specs.Reads.{wanted}
 use Rattle.core_steps.proofs.ReachLemmas.{end_reaches, keep_reaches}
-use Rattle.core_plans.proofs.HeldReadStages.{hands_done, keeps_done, keeps_lost}
+use Rattle.core_plans.proofs.HeldReadStages.{given_fill, hands_done, keeps_done, keeps_lost}
 use Rattle.core_plans.proofs.reads.keep_stage.Goals as goal
 use Rattle.tao_schema.specs.Schema.{types_of}
+
+pub keep-requires-clause-given : goal.keep-requires-clause-given
+keep-requires-clause-given g c =
+    given_fill (types_of c.args.config.now.schema) (pens_of c.args.nodes.now.fleet.stores) c.args.plan.now c.fill.new.self c.in-Some.fill
+    c.follower-follower.result c.query-query.result.now c.floor.result c.requires.read.stands (sym c.fill.ensures.fill ∙ c.in-Some.is)
+    c.fill.ensures.handed
+    (record { follower_is = c.follower-follower.ensures; query_is = c.query-query.ensures; floor_is = c.floor.ensures })
 
 pub returns-in-Ok : goal.returns-in-Ok
 returns-in-Ok g c =

@@ -11,9 +11,9 @@ returns g c =
     let shown = g.L.Link.shown in
     let s = c.args.config.now in
     let p = c.args.plan.now in
-    let end = c.commit_over-wrote.new in
-    let wrote = c.commit_over-wrote.result in
-    let over = c.commit_over-wrote.ensures in
+    let end = c.commit_over-given.new in
+    let given = c.commit_over-given.result in
+    let over = c.commit_over-given.ensures in
     let outcome = c.answered-outcome.result in
     let old : World = world c.args.nodes.now (state c.args.keepers.now) (shown c.args.link.now) in
     let new : World = world end.self (state end.keepers) (shown end.link) in
@@ -21,8 +21,8 @@ returns g c =
     omega (arith, c.saturating_sub-hops.ensures, c.carries.ensures, c.carries-carries.ensures) in
     commits_pass g.K.Keeper.TELLS s c.args.leader p c.take.new.self old new c.requires.write
     over.on
-    c.follower.result c.origin-origin.result c.write-write.result.now wrote outcome c.saturating_sub-hops.result c.requires.stage
+    c.follower.result c.origin-origin.result c.write-write.result.now given outcome c.saturating_sub-hops.result c.requires.stage
     (record { follower_is = c.follower.ensures; origin_is = c.origin-origin.ensures; write_is = c.write-write.ensures })
-    (record { committed = over.committed; apply = over.apply; job = over.job; refused = over.refused })
-    (subst (λ w. IsTakenAs s w wrote outcome) c.write.ensures c.answered-outcome.ensures)
+    (record { committed = over.committed; apply = over.apply; spare = over.spare; job = over.job; refused = over.refused })
+    (subst (λ w. IsTakenAs s w given outcome) c.write.ensures c.answered-outcome.ensures)
     hops (c.take.ensures.next (sym c.requires.stage))

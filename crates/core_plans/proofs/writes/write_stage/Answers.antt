@@ -1,11 +1,16 @@
-use Rattle.std.proofs.Common.{ap, refl}
-use Rattle.core_nodes.specs.Settling.{IsLaterLink}
+use Rattle.std.proofs.Common.{◌∙◌, ap, refl, sym}
 use Rattle.core_steps.specs.Posting.{AppliesAlone}
 use Rattle.core_steps.specs.World.{world}
 use Rattle.core_steps.specs.declared.nodes.Nodes.{Nodes}
 use Rattle.core_steps.proofs.LinkLemmas.{link_self}
 use Rattle.core_steps.proofs.PostsLemmas.{posts_applied, posts_same}
+use Rattle.core_plans.proofs.HeldWriteStages.{at_apply}
 use Rattle.core_plans.proofs.writes.write_stage.Goals as goal
+
+pub apply_stage-requires-clause-spare : goal.apply_stage-requires-clause-spare
+apply_stage-requires-clause-spare g c =
+    let at = at_apply c.args.plan.now (sym c.next.ensures ∙ c.in-Apply.is) in
+    c.requires.write.spare at.0 at.1
 
 pub returns-in-End-clause-on : goal.returns-in-End-clause-on
 returns-in-End-clause-on g c =

@@ -1,10 +1,9 @@
 use Rattle.std.proofs.Common.{ap, subst, sym}
 use Rattle.std.specs.Prelude.{IsSome, option_and_then}
-use Rattle.core_plans.specs.Held.{IsUnderWay, StepsHeld, learner, plan_at}
-use Rattle.core_plans.proofs.GivenUp.{gives_up, no_learner, under_way_still}
-use Rattle.core_plans.proofs.PlanMaps.{steps_plan, still_under_way}
+use Rattle.core_plans.specs.Held.{IsUnderWay, learner, plan_at}
+use Rattle.core_plans.proofs.GivenUp.{no_learner, under_way_still}
+use Rattle.core_plans.proofs.PlanMaps.{gives_up_plan, still_under_way}
 use Rattle.core_plans.proofs.plans.HeldPlans.give_up.Goals as goal
-use Rattle.core_plans.specs.LedBy.{led_by}
 
 pub give_up-requires : goal.give_up-requires
 give_up-requires c =
@@ -16,16 +15,14 @@ unreachable-requires c =
     no_learner (option_and_then learner (plan_at c.self.inside.plans.entries c.args.number)) (ap (option_and_then learner) (sym c.in-None.ensures.value))
     (subst (λ seen. IsSome (option_and_then learner (plan_at seen c.args.number))) (sym c.self.view_is) c.requires)
 
-pub returns-clause-steps : goal.returns-clause-steps
-returns-clause-steps c tells s leader now =
+pub returns-clause-gives_up : goal.returns-clause-gives_up
+returns-clause-gives_up c =
     let before = c.in-Some.plan.now in
     let after = c.give_up.new.self in
     let learns : IsSome (learner before) = subst (λ plan. IsSome (option_and_then learner plan)) (sym c.in-Some.ensures.value)
     (subst (λ seen. IsSome (option_and_then learner (plan_at seen c.args.number))) (sym c.self.view_is) c.requires) in
-    steps_plan tells s leader c.args.number c.args.self.now c.self.inside.plans (c.get_mut.follows.lender after) before after now now
-    c.self.view_is c.in-Some.ensures.value
-    (subst (λ plan. StepsHeld (led_by tells s leader) before now plan now) (sym c.give_up.ensures) (gives_up tells s leader before now learns))
-    (c.get_mut.follows.holds after)
+    gives_up_plan c.args.number c.args.self.now c.self.inside.plans (c.get_mut.follows.lender after) before after c.self.view_is c.in-Some.ensures.value
+    learns c.give_up.ensures (c.get_mut.follows.holds after)
 
 pub returns-clause-under_way : goal.returns-clause-under_way
 returns-clause-under_way c tells s tables f =

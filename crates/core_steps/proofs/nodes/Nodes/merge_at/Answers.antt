@@ -20,7 +20,7 @@ returns-clause-on g c = λ before after later.
     let s = c.args.config.now in
     let was = c.args.self.now in
     let told = c.notify_of.new.self in
-    let far = far_shard c.args.job.now in
+    let far = far_shard c.args.job.now.job.now in
     let tables = (state c.merge.new.keepers).told in
     let wrote = c.in_ok-wrote.wrote in
     let stores = c.merge.new.self.stores in
@@ -52,7 +52,7 @@ returns-in_err-wrote-clause-on g c = λ before after later.
     let state = g.K.Keeper.state in
     let s = c.args.config.now in
     let was = c.args.self.now in
-    let far = far_shard c.args.job.now in
+    let far = far_shard c.args.job.now.job.now in
     let merges = c.merge.ensures in
     record {
       consistent = merges.consistent;

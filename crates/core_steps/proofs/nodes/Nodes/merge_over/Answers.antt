@@ -23,7 +23,8 @@ merge_at-merged-requires-clause-here g c =
 
 pub merge_at-merged-requires-clause-preferred : goal.merge_at-merged-requires-clause-preferred
 merge_at-merged-requires-clause-preferred g c =
-    master_prefers c.args.self.now.topology (far_shard c.args.job.now) c.far_shard-far.result c.master.result c.preferred-merging.result c.far_shard-far.ensures
+    master_prefers c.args.self.now.topology (far_shard c.args.job.now.job.now) c.far_shard-far.result c.master.result c.preferred-merging.result
+    c.far_shard-far.ensures
     c.master.ensures.master c.preferred-merging.ensures.preferred
 
 pub returns-clause-on : goal.returns-clause-on
@@ -43,13 +44,13 @@ returns-clause-merges g c =
     let state = g.K.Keeper.state in
     let shown = g.L.Link.shown in
     let s = c.args.config.now in
-    let way = job_way c.args.leader (job_on c.args.shard c.args.job.now) in
+    let way = job_way c.args.leader (job_on c.args.job.now.shard c.args.job.now.job.now) in
     let merged = c.merge_at-merged in
     let before = shown c.args.link.now in
     let after = shown c.carry_between-back.new.link in
     let old = world c.args.self.now (state c.args.keepers.now) before in
     let new = world merged.new.self (state merged.new.keepers) after in
-    let to_is = master_prefers c.args.self.now.topology (far_shard c.args.job.now) c.far_shard-far.result c.master.result c.preferred-merging.result
+    let to_is = master_prefers c.args.self.now.topology (far_shard c.args.job.now.job.now) c.far_shard-far.result c.master.result c.preferred-merging.result
     c.far_shard-far.ensures c.master.ensures.master c.preferred-merging.ensures.preferred in
     merges_over g.K.Keeper.TELLS s way old new (shown c.carry_between.new.link) c.preferred-merging.result to_is c.in_default.ensures.crosses
     c.merge_answer.result merged.result c.carry_between-back.result c.merge_answer.ensures (merged.ensures.takes c.args.leader before after)

@@ -1,0 +1,141 @@
+-- A write that does all of its stages, and is refused for want of memory, has written nothing.
+use Rattle.std.proofs.Common.{◌≡◌, ◌∙◌, ℕ, Bool, Option, Some, None, Ok, Err, refl, sym, ap, subst, inl, inr}
+use Rattle.std.specs.Prelude.{⊤, IfSome, Result}
+use Rattle.core_model.specs.Jobs.{ShardJob}
+use Rattle.core_steps.specs.OtherEnds.{EndsOver, JobWay, MergesOver, job_way}
+use Rattle.core_steps.specs.World.{World}
+use Rattle.core_steps.specs.Writes.{RefusesCommit, sent_write}
+use Rattle.replies.specs.declared.refusals.Refusal.{Refusal}
+use Rattle.replies.specs.declared.refusals.Refusal.TheVariants as refusal
+use Rattle.replies.specs.declared.reply.Reply.{Reply}
+use Rattle.replies.specs.declared.reply.Reply.TheVariants as replied
+use Rattle.shard_tables.specs.declared.writes.Wrote.{Wrote}
+use Rattle.tao_keeper.proofs.Later.{keeps_trans}
+use Rattle.tao_keeper.specs.KeeperState.{KeeperState, KeepsTables}
+use Rattle.write_plan.specs.Plans.{Writing, after_stage, next_of, reply_by, stage_from}
+use Rattle.write_plan.specs.declared.committed.Committed.{Committed}
+use Rattle.write_plan.specs.declared.progress.OtherEnd.{OtherEnd}
+use Rattle.write_plan.specs.declared.progress.WayBack.{WayBack}
+use Rattle.write_plan.specs.declared.results.LeftOpen.{LeftOpen}
+use Rattle.write_plan.specs.declared.results.LeftOpen.TheVariants.{Refused, Scheduled}
+use Rattle.write_plan.specs.declared.results.WriteResult.TheVariants as came
+use Rattle.write_plan.specs.declared.stage.WriteStage.{WriteStage}
+use Rattle.write_plan.specs.declared.stage.WriteStage.TheVariants.{Apply, Commit, Done, End, Inverse, Relay}
+use Rattle.core_plans.specs.Held.{IsOver}
+use Rattle.core_plans.specs.HeldWrites.{DoesWriteStage, call_of_plan, job_by, way_by}
+use Rattle.core_plans.specs.LedBy.{LedBy}
+use Rattle.core_plans.specs.WholeCalls.{PassesStage}
+use Rattle.core_plans.specs.WholeLaws.{IsBegunWrite}
+use Rattle.core_plans.specs.declared.held.HeldPlan.{HeldPlan}
+use Rattle.core_plans.specs.declared.held.HeldPlan.TheVariants.{Read, Write}
+use Rattle.core_plans.proofs.HeldWriteStages.{before_commit}
+use Rattle.core_plans.proofs.StagesLeft.{IsGoing, going}
+use Rattle.core_plans.proofs.WholeRuns.{OfWrite}
+
+-- where memory was wanting, nothing was written
+abbrev IsShort : Bool → KeeperState → KeeperState → Option Reply → Type 0
+IsShort tells first now refused =
+    IfSome refused (λ reply. (position : ℕ) → reply ≡ replied.Refused (refusal.Memory position) → (position ≡ 0) × KeepsTables tells first now)
+
+-- so it is of a write that did some of its stages; before its commit nothing is written
+pub record ShortSoFar (tells : Bool) (first : KeeperState) (p : Writing) (now : World) : Type 0 where
+  unwritten : p.refused ≡ None → p.committed ≡ None → KeepsTables tells first now.keepers
+  short : IsShort tells first now.keepers p.refused
+
+unrefused_by : (refused : Option Reply) (committed : Option Committed) (job : OtherEnd) (back : WayBack) → stage_from refused committed job back ≡ Commit
+    → refused ≡ None
+unrefused_by None committed job back is = refl
+unrefused_by (Some reply) committed job back is = absurd (cc)
+
+module _ (led : LedBy) (first : KeeperState) (p q : Writing) (old new : World) (so : ShortSoFar led.tells first p old) where
+  abbrev Now : Option Reply → Type 0
+  Now = IsShort led.tells first new.keepers
+
+  abbrev Then : Type 0
+  Then = ShortSoFar led.tells first q new
+
+  -- nothing refused it, and its commit was answered
+  goes_on : (c : Committed) → q.refused ≡ None → q.committed ≡ Some c → Then
+  goes_on c unrefused answered = record {
+    unwritten = λ fine none. (let no : Some c ≡ None = sym answered ∙ none in absurd (cc));
+    short = subst Now (sym unrefused) tt;
+  }
+
+  -- it was refused, for another cause than memory, or by its commit
+  refused_so : (reply : Reply) → q.refused ≡ Some reply
+      → ((position : ℕ) → reply ≡ replied.Refused (refusal.Memory position) → (position ≡ 0) × KeepsTables led.tells first new.keepers) → Then
+  refused_so reply is short = record {
+    unwritten = λ fine none. (let no : Some reply ≡ None = sym is ∙ fine in absurd (cc));
+    short = subst Now (sym is) short;
+  }
+
+  commit_short : next_of p ≡ Commit → (why : Refusal) → RefusesCommit led.tells led.settings (sent_write (way_by led.leader p) (call_of_plan p)) why old new
+      → (position : ℕ) → replied.Refused why ≡ replied.Refused (refusal.Memory position) → (position ≡ 0) × KeepsTables led.tells first new.keepers
+  commit_short at (refusal.Memory given) refuses position is =
+      let same : given ≡ position = cc in (
+        sym same ∙ refuses.0,
+        keeps_trans led.tells first old.keepers new.keepers
+            (so.unwritten (unrefused_by p.refused p.committed p.job p.back at) (before_commit p at)) refuses.1.same.tables,
+      )
+  commit_short at (refusal.Store refused) refuses position is = absurd (cc)
+  commit_short at why refuses position is = absurd refuses
+
+  module _ (g : IsGoing p) where
+    merge_short : (way : JobWay) (result : Result Wrote LeftOpen) (hops : ℕ) → MergesOver led.tells led.settings way result old new
+        → q ≡ after_stage p (came.Inverse result) hops → Then
+    merge_short way (Ok wrote) hops merges then =
+        goes_on g.committed (ap (λ (x : Writing). x.refused) then ∙ g.unrefused) (ap (λ (x : Writing). x.committed) then ∙ g.answered)
+    merge_short way (Err (Scheduled why wrote)) hops merges then =
+        goes_on g.committed (ap (λ (x : Writing). x.refused) then ∙ g.unrefused) (ap (λ (x : Writing). x.committed) then ∙ g.answered)
+    merge_short way (Err (Refused reply)) hops merges then = absurd merges
+
+    end_short : (j : ShardJob) (result : Result ⊤ LeftOpen) (hops : ℕ) → EndsOver led.tells led.settings j result old new
+        → q ≡ after_stage p (came.End result) hops → Then
+    end_short j (Ok done) hops ends then =
+        goes_on g.committed (ap (λ (x : Writing). x.refused) then ∙ g.unrefused) (ap (λ (x : Writing). x.committed) then ∙ g.answered)
+    end_short j (Err (Scheduled why wrote)) hops ends then =
+        goes_on g.committed (ap (λ (x : Writing). x.refused) then ∙ g.unrefused) (ap (λ (x : Writing). x.committed) then ∙ g.answered)
+    end_short j (Err (Refused reply)) hops ends then = absurd ends
+
+  stage_short : (at : WriteStage) → next_of p ≡ at → DoesWriteStage led at p old q new → Then
+  stage_short Commit at (inl commits) =
+      goes_on commits.committed (ap (λ (x : Writing). x.refused) commits.then ∙ unrefused_by p.refused p.committed p.job p.back at)
+      (ap (λ (x : Writing). x.committed) commits.then)
+  stage_short Commit at (inr refuses) =
+      refused_so (replied.Refused refuses.refusal) (ap (λ (x : Writing). x.refused) refuses.then) (commit_short at refuses.refusal refuses.refuses)
+  stage_short Inverse at merges =
+      merge_short (going p Inverse (λ h. absurd (cc)) (λ h. absurd (cc)) at) (job_way led.leader (job_by p merges.job)) merges.result _ merges.merges
+      merges.then
+  stage_short End at ends =
+      end_short (going p End (λ h. absurd (cc)) (λ h. absurd (cc)) at) (job_by p ends.job) ends.result 0 ends.ends ends.then
+  stage_short Apply at (inl applies) =
+      let g = going p Apply (λ h. absurd (cc)) (λ h. absurd (cc)) at in
+      goes_on g.committed (ap (λ (x : Writing). x.refused) applies.then ∙ g.unrefused) (ap (λ (x : Writing). x.committed) applies.then ∙ g.answered)
+  stage_short Apply at (inr loses) = refused_so _ (ap (λ (x : Writing). x.refused) loses.then) (λ position is. absurd (cc))
+  stage_short Relay at does = absurd does
+  stage_short Done at does = absurd does
+
+pub short_on : (led : LedBy) (first : KeeperState) (p q : Writing) (old new : World) → ShortSoFar led.tells first p old
+    → PassesStage led (Write p) old (Write q) new → ShortSoFar led.tells first q new
+short_on led first p q old new so stage = stage_short led first p q old new so (next_of p) refl stage.steps
+
+pub begun_short : (tells : Bool) (p : Writing) (now : World) → IsBegunWrite p → ShortSoFar tells now.keepers p now
+begun_short tells p now is = record {
+  unwritten = λ fine none told at. refl;
+  short = subst (IsShort tells now.keepers now.keepers) (sym is.unrefused) tt;
+}
+
+-- its reply, once it is over
+short_by : (tells : Bool) (first now : KeeperState) (refused : Option Reply) (committed : Option Committed) (job : OtherEnd) (hops position : ℕ)
+    → IsShort tells first now refused → reply_by refused committed job hops ≡ Some (replied.Refused (refusal.Memory position))
+    → (position ≡ 0) × KeepsTables tells first now
+short_by tells first now (Some reply) committed job hops position short is =
+    (let same : reply ≡ replied.Refused (refusal.Memory position) = cc in short position same)
+short_by tells first now None None job hops position short is = absurd (cc)
+short_by tells first now None (Some c) job hops position short is = absurd (cc)
+
+pub short_over : (tells : Bool) (first : KeeperState) (q : HeldPlan) (now : World) (position : ℕ) → OfWrite (ShortSoFar tells first) q now
+    → IsOver q (replied.Refused (refusal.Memory position)) → (position ≡ 0) × KeepsTables tells first now.keepers
+short_over tells first (Write q) now position so over =
+    short_by tells first now.keepers q.refused q.committed q.job q.hops position so.short over
+short_over tells first (Read q) now position so over = absurd so

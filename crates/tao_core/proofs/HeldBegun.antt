@@ -75,6 +75,7 @@ begun_under_way tells keepers core session follower (call.Write write) of is cho
   client = refl;
   begun = λ none. (refl, refl);
   committed = tt;
+  spare = λ none before. tt;
   job = tt;
   merged = λ is. tt;
   other = tt;

@@ -20,8 +20,6 @@ use Rattle.core_plans.specs.Held.{
   OpensFirst,
   Plans,
   SetsPlan,
-  StepsHeld,
-  StepsPlan,
   TakesPlan,
   next_stage,
   plan_at,
@@ -54,11 +52,11 @@ use Rattle.topology.specs.States.{is_cache}
 use Rattle.words.specs.declared.PlanWord.{PlanWord}
 use Rattle.tao_core.specs.Calls.{world_at, world_of}
 use Rattle.tao_core.specs.Core.{CoreState, IsConsistentCore, IsCoreOf, IsOfSession, IsSessionOf, Moment, moment}
-use Rattle.tao_core.specs.HeldCalls.{DoesStage, EndsPlan, IsOfRegion, Leaves, LearnsOf, StepsAt, held_seen, held_in, next_at, numbered_plan}
-use Rattle.tao_core.specs.HeldCalls.{plan_leader}
-use Rattle.tao_core.proofs.HeldLearning.{author_stays, learns_ours, of_session_still}
-use Rattle.tao_core.proofs.HeldSteps.{MayHold, StepsAsks, held_after, kept, steps_asks}
-use Rattle.tao_core.proofs.Reaching.{held_reaches}
+use Rattle.tao_core.specs.HeldCalls.{Advances, AdvancesPlan, DoesStage, EndsPlan, IsOfRegion, Leaves, LearnsOf, StepsAt, held_seen, held_in, next_at}
+use Rattle.tao_core.specs.HeldCalls.{numbered_plan, plan_leader}
+use Rattle.tao_core.proofs.HeldLearning.{author_advances, learns_ours, of_session_still}
+use Rattle.tao_core.proofs.HeldSteps.{MayHold, StepsAsks, advance_asks, held_after, kept}
+use Rattle.tao_core.proofs.Reaching.{advance_reaches}
 use Rattle.tao_core.proofs.NamesOnce.{stand_alone}
 use Rattle.tao_core.proofs.Told.{sessions_later}
 use Rattle.tao_core.proofs.Ways.{leads_at, region_within}
@@ -245,7 +243,7 @@ module _ (tells : Bool) (number : ℕ) (old mid : Moment) (does : DoesStage tell
   module _ (of : IsCoreOf tells old.keepers.told old.core) where
     asks_of : StepsAsks (Some does.steps.before) (held_after After) old.core.fleet.followers mid.core.fleet.followers
     asks_of =
-        steps_asks tells old.core.settings (plan_leader old.core does.plan) does.steps.before After (world_of old) (world_of mid)
+        advance_asks (led_by tells old.core.settings (plan_leader old.core does.plan)) does.steps.before After (world_of old) (world_of mid)
         (stand_alone old.core.settings old.core.fleet.followers of.is_consistent.consistent.fleet.follower_names)
         (of.plans.begun number does.steps.before does.steps.stands) does.steps.steps
 
@@ -274,8 +272,8 @@ module _ (tells : Bool) (number : ℕ) (old mid : Moment) (does : DoesStage tell
 
     author_after : IsOfSession old.core.sessions After
     author_after =
-        author_stays tells old.core.settings (plan_leader old.core does.plan) does.steps.before After (world_of old) (world_of mid) old.core.sessions
-        does.steps.steps (of.authors number does.steps.before does.steps.stands)
+        author_advances (led_by tells old.core.settings (plan_leader old.core does.plan)) does.steps.before After (world_of old) (world_of mid)
+        old.core.sessions does.steps.steps (of.authors number does.steps.before does.steps.stands)
 
     pub author_held : (sessions : List Session) → old.core.sessions ≡ sessions → (other : ℕ) (plan : HeldPlan) → plan_at mid.core.plans other ≡ Some plan
         → IsOfSession sessions plan
@@ -350,9 +348,9 @@ module _ (tells : Bool) (number : ℕ) (old mid : Moment) (does : DoesStage tell
   same_plan : does.plan ≡ does.steps.before
   same_plan = one_some does.plan does.steps.before (sym does.stands ∙ does.steps.stands)
 
-  steps_before : StepsHeld (led_by tells old.core.settings (plan_leader old.core does.steps.before)) does.steps.before (world_of old) After (world_of mid)
+  steps_before : Advances (led_by tells old.core.settings (plan_leader old.core does.steps.before)) does.steps.before (world_of old) After (world_of mid)
   steps_before =
-      subst (λ p. StepsHeld (led_by tells old.core.settings (plan_leader old.core p)) does.steps.before (world_of old) After (world_of mid)) same_plan
+      subst (λ p. Advances (led_by tells old.core.settings (plan_leader old.core p)) does.steps.before (world_of old) After (world_of mid)) same_plan
       does.steps.steps
 
   -- it is held before the stage that follows
@@ -394,7 +392,7 @@ module _ (tells : Bool) (number : ℕ) (old mid : Moment) (does : DoesStage tell
 pub does_stage : (tells : Bool) (number : ℕ) (core : CoreState) (end : Nodes) (plans : Plans) (before now : KeeperState)
     (from to : LinkShown) (plan : HeldPlan) (leader : NodeName) → end.topology ≡ core.states → IsLaterLink from to
     → plan_at core.plans number ≡ Some plan → leader ≡ plan_leader core plan
-    → StepsPlan (led_by tells core.settings leader) number core.plans (world_at core before from) plans
+    → AdvancesPlan (led_by tells core.settings leader) number core.plans (world_at core before from) plans
     (world end now to)
     → HaveMasterRegions core.settings → IsConsistent tells core.settings now.told end.fleet
     → IfSome (plan_at plans number) (IsUnderWay tells core.settings now.told end.fleet)
@@ -409,10 +407,10 @@ does_stage tells number core end plans before now from to plan leader same link 
         before = steps.before;
         after = steps.after;
         stands = steps.stands;
-        steps = subst (λ l. StepsHeld (led_by tells core.settings l) steps.before old steps.after new) leads steps.steps;
+        steps = subst (λ l. Advances (led_by tells core.settings l) steps.before old steps.after new) leads steps.steps;
         changes = steps.changes;
       };
-      reaches = held_reaches tells core.settings leader steps.before steps.after old new now.told end.fleet steps.steps masters consistent
+      reaches = advance_reaches (led_by tells core.settings leader) steps.before steps.after old new now.told end.fleet steps.steps masters consistent
           (if_some_at (IsUnderWay tells core.settings now.told end.fleet) (plan_at plans number) steps.after under
           (set_here number (Some steps.after) core.plans plans steps.changes.sets));
       link = link;

@@ -8,11 +8,11 @@ use Rattle.core_model.specs.Pens.{pens_of}
 use Rattle.core_model.specs.Stores.{AreStoresOf, HaveMasterRegions}
 use Rattle.core_model.specs.Writes.{IsSeenEntry}
 use Rattle.core_plans.specs.Held.{
-  IsBefore,
   IsOver,
   IsUnderWay,
   OpensFirst,
   StepsHeld,
+  given_up,
   learner,
   learner_at,
   next_stage,
@@ -20,17 +20,14 @@ use Rattle.core_plans.specs.Held.{
   learnt_of_write,
   learnt_with,
 }
-use Rattle.core_plans.specs.HeldWrites.{DoesWriteStage, IsAnswerTo, IsWriteUnderWay, call_of_plan, way_by}
+use Rattle.core_plans.specs.HeldWrites.{DoesWriteStage, IsAnswerTo, IsBefore, IsWriteUnderWay, way_given_up}
 use Rattle.core_plans.specs.declared.held.HeldPlan.{HeldPlan}
 use Rattle.core_plans.specs.declared.held.HeldPlan.TheVariants.{Read, Write}
 use Rattle.core_plans.specs.declared.held.LearntEntries.{LearntEntries}
-use Rattle.core_plans.specs.LedBy.{led_by}
+use Rattle.core_plans.specs.LedBy.{led_by, LedBy}
 use Rattle.core_sessions.specs.Sessions.{HasRoomForBoth, Session, is_open, sessions_of}
 use Rattle.core_steps.specs.OtherEnds.{StandsThere, learnt_far}
 use Rattle.core_steps.specs.World.{World}
-use Rattle.core_steps.specs.Writes.{AuthoredWrite, RefusesCommit, sent_write}
-use Rattle.core_steps.specs.declared.routes.Route.{Route}
-use Rattle.counts.specs.Count.{after_one}
 use Rattle.graph_model.proofs.Members.{if_some_at}
 use Rattle.graph_model.specs.Soundness.{is_client}
 use Rattle.node_name.specs.declared.NodeName.{NodeName}
@@ -47,7 +44,6 @@ use Rattle.tao_base.specs.declared.entry.Origin.{Origin}
 use Rattle.tao_base.specs.declared.entry.Origin.TheVariants.{Client, Merge}
 use Rattle.tao_keeper.specs.Table.{Tables}
 use Rattle.tao_keeper.specs.declared.jobs.Job.{Job}
-use Rattle.tao_link.specs.Shown.{LinkShown}
 use Rattle.topology.specs.Config.{Settings}
 use Rattle.write_plan.specs.Plans.{Writing, answered_job, next_of, reply_by, reply_of}
 use Rattle.write_plan.specs.Stages.{stage_said}
@@ -56,7 +52,7 @@ use Rattle.write_plan.specs.declared.stage.WriteStage.{WriteStage}
 use Rattle.write_plan.specs.declared.stage.WriteStage.TheVariants.{Commit, Inverse, End, Relay, Apply, Done}
 use Rattle.tao_core.specs.Calls.{LearnsBoth, learn_through_note}
 use Rattle.tao_core.specs.Core.{IsOfSession, author}
-use Rattle.tao_core.specs.HeldCalls.{HasRoomFor, LearnsOf, MayLearn, MayLearnNow, MayLearnOf, learns_of}
+use Rattle.tao_core.specs.HeldCalls.{HasRoomFor, LearnsOf, MayLearn, MayLearnNow, MayLearnOf, learns_of, Advances}
 use Rattle.tao_core.proofs.LearningBoth.{AreOurs, AreLearntOf, IsLearntOf, both_open, both_ours, may_both, now_ready}
 use Rattle.tao_core.proofs.WriteStages.{KeepsOn, end_keeps, inverse_keeps, stage_left, unrefused}
 
@@ -69,8 +65,7 @@ pub origin_stays : (tells : Bool) (s : Settings) (by : NodeName) (at : WriteStag
 origin_stays tells s by Commit p q old new (inl commits) = ap (λ (x : Writing). x.origin) commits.then
 origin_stays tells s by Commit p q old new (inr refuses) = ap (λ (x : Writing). x.origin) refuses.then
 origin_stays tells s by Apply p q old new (inl applies) = ap (λ (x : Writing). x.origin) applies.then
-origin_stays tells s by Apply p q old new (inr (inl loses)) = ap (λ (x : Writing). x.origin) loses.then
-origin_stays tells s by Apply p q old new (inr (inr vain)) = ap (λ (x : Writing). x.origin) vain.then
+origin_stays tells s by Apply p q old new (inr loses) = ap (λ (x : Writing). x.origin) loses.then
 origin_stays tells s by Inverse p q old new does = (inverse_keeps tells s by p q old new does).keeps.origin
 origin_stays tells s by End p q old new does = (end_keeps tells s p q old new does).keeps.origin
 origin_stays tells s by Relay p q old new does = absurd does
@@ -83,6 +78,17 @@ author_stays tells s by (Write p) (Write q) old new sessions steps is =
     subst (λ o. is_open sessions (author o) ≡ true) (sym (origin_stays tells s by (next_of p) p q old new steps)) is
 author_stays tells s by (Read p) (Write q) old new sessions steps is = absurd steps
 author_stays tells s by (Write p) (Read q) old new sessions steps is = tt
+
+-- also of one that ends without its last stage
+given_author : (sessions : List Session) (before : HeldPlan) → IsOfSession sessions before → IsOfSession sessions (given_up before)
+given_author sessions (Read p) is = tt
+given_author sessions (Write p) is = is
+
+pub author_advances : (led : LedBy) (before after : HeldPlan) (old new : World) (sessions : List Session) → Advances led before old after new
+    → IsOfSession sessions before → IsOfSession sessions after
+author_advances led before after old new sessions (inl steps) is = author_stays led.tells led.settings led.leader before after old new sessions steps is
+author_advances led before after old new sessions (inr ends) is =
+    subst (IsOfSession sessions) (sym ends.then) (given_author sessions before is)
 
 learner_author : (at : WriteStage) (o : Origin) (session : ℕ) → learner_at at o ≡ Some session → author o ≡ session
 learner_author Apply (Client session seq) found h = one_some session found h
@@ -157,32 +163,10 @@ room_after tells s tables f by (Write p) (Write q) old new passes first under st
 room_after tells s tables f by (Read p) (Write q) old new passes first under steps room = absurd steps
 room_after tells s tables f by (Write p) (Read q) old new passes first under steps room = tt
 
--- a plan that was given up is told with nothing: a link that showed no carry shows none still
-none_carried : 0 ≡ after_one 0 → ⊥
-none_carried h = absurd (cc)
-
-no_learner : (at : WriteStage) (p : Writing) → next_of p ≡ at → learner_at at p.origin ≡ None → IsSome (learner (Write p)) → ⊥
-no_learner at p is none some = (let e : false ≡ true = subst IsSome (ap (λ n. learner_at n p.origin) is ∙ none) some in absurd (cc))
-
-given_up_room : (tells : Bool) (s : Settings) (by : NodeName) (at : WriteStage) (p q : Writing) (now : World) (passes : List SeenPass) → next_of p ≡ at
-    → now.link.carries ≡ 0 → IsSome (learner (Write p)) → DoesWriteStage (led_by tells s by) at p now q now → HasRoomFor (Write q) passes
-given_up_room tells s by Apply p q now passes is still some (inl applies) =
-    absurd (none_carried (sym still ∙ ap (λ (l : LinkShown). l.carries) applies.link ∙ ap after_one still))
-given_up_room tells s by Apply p q now passes is still some (inr (inl loses)) =
-    refused_room q _ passes (ap (λ (x : Writing). x.refused) loses.then) (λ called same. absurd (cc))
-given_up_room tells s by Apply p q now passes is still some (inr (inr vain)) =
-    refused_room q _ passes (ap (λ (x : Writing). x.refused) vain.then) (λ called same. absurd (cc))
-given_up_room tells s by Commit p q now passes is still some does = absurd (no_learner Commit p is refl some)
-given_up_room tells s by Inverse p q now passes is still some does = absurd (no_learner Inverse p is refl some)
-given_up_room tells s by End p q now passes is still some does = absurd (no_learner End p is refl some)
-given_up_room tells s by Relay p q now passes is still some does = absurd does
-given_up_room tells s by Done p q now passes is still some does = absurd does
-
-pub room_given_up : (tells : Bool) (s : Settings) (by : NodeName) (before after : HeldPlan) (now : World) (passes : List SeenPass)
-    → now.link.carries ≡ 0 → IsSome (learner before) → StepsHeld (led_by tells s by) before now after now → HasRoomFor after passes
-room_given_up tells s by (Read p) after now passes still some steps = absurd (cc)
-room_given_up tells s by (Write p) (Write q) now passes still some steps = given_up_room tells s by (next_of p) p q now passes refl still some steps
-room_given_up tells s by (Write p) (Read q) now passes still some steps = tt
+-- a plan that was given up is told with nothing
+pub given_up_room : (before : HeldPlan) (passes : List SeenPass) → HasRoomFor (given_up before) passes
+given_up_room (Read p) passes = tt
+given_up_room (Write p) passes = refused_room (way_given_up p) _ passes refl (λ called same. absurd (cc))
 
 -- ---- what is told was seen
 

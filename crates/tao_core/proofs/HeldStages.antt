@@ -1,10 +1,10 @@
 -- What a stage of a held plan leaves, where the plan is held on, and where it is over.
-use Rattle.std.proofs.Common.{◌≡◌, ℕ, Bool, List, Option, Some, None, ap, refl, sym, subst}
-use Rattle.std.specs.Prelude.{All, IfSome, IsSome, option_and_then}
+use Rattle.std.proofs.Common.{◌≡◌, ℕ, Bool, List, Option, Some, None, ap, inl, inr, refl, sym, subst}
+use Rattle.std.specs.Prelude.{All, IfSome, option_and_then}
 use Rattle.core_mail.specs.Inboxes.{Inboxes}
 use Rattle.core_model.specs.Fleet.{Fleet}
 use Rattle.core_model.specs.Pens.{pens_of}
-use Rattle.core_plans.specs.Held.{CanStep, ChangesPlan, IsUnderWay, OpensFirst, Plans, StepsPlan, learner, plan_at}
+use Rattle.core_plans.specs.Held.{CanStep, ChangesPlan, GivesUpPlan, IsUnderWay, OpensFirst, Plans, StepsPlan, given_up, learner, plan_at}
 use Rattle.core_plans.specs.declared.held.HeldPlan.{HeldPlan}
 use Rattle.core_plans.specs.LedBy.{led_by}
 use Rattle.core_sessions.specs.Sessions.{HasRoomForBoth, Session, sessions_of}
@@ -25,17 +25,13 @@ use Rattle.topology.specs.Config.{Settings}
 use Rattle.topology.specs.States.{NodeStates}
 use Rattle.words.specs.declared.PlanWord.{PlanWord}
 use Rattle.tao_core.specs.Core.{CoreState, IsConsistentCore, IsCoreOf, IsOfSession, IsSessionOf, Moment, StaysUsable, moment}
-use Rattle.tao_core.specs.HeldCalls.{DoesStage, EndsPlan, HasRoomFor, MayLearn, StepsAt, held_seen, next_at, plan_leader}
+use Rattle.tao_core.specs.HeldCalls.{AdvancesPlan, DoesStage, EndsPlan, HasRoomFor, MayLearn, StepsAt, held_seen, next_at, plan_leader}
 use Rattle.tao_core.proofs.HeldOn.{none_come}
 use Rattle.tao_core.proofs.HeldKeeping.{author_held, does_stage, end_steps, ends_core, next_core, next_steps, set_here, stepped_core}
-use Rattle.tao_core.proofs.HeldLearning.{may_learn, room_after, room_given_up}
+use Rattle.tao_core.proofs.HeldLearning.{given_up_room, may_learn, room_after}
 use Rattle.tao_core.specs.Calls.{world_at}
 
 -- ---- a stage, or the end without it
-
--- a link that showed no carry
-abbrev pub fresh_link : LinkShown
-fresh_link = record { cuts = None; carries = 0; faults = 0; failed = None }
 
 pub can_under : (tells : Bool) (s : Settings) (tables : Tables) (f : Fleet) (leader : NodeName) (plan : Option HeldPlan)
     → CanStep tells s tables f leader plan → IfSome plan (IsUnderWay tells s tables f)
@@ -57,11 +53,23 @@ module _ (tells : Bool) (s : Settings) (leader : NodeName) (number : ℕ) (plans
       (if_some_at (IsUnderWay tells s tables f) (plan_at plans number) steps.before (can_under tells s tables f leader (plan_at plans number) can) steps.stands)
       steps.steps (subst (λ o. IfSome (option_and_then learner o) (λ n. HasRoomForBoth n passes)) steps.stands room))
 
-  pub room_given : (now : World) → StepsPlan (led_by tells s leader) number plans (record now { link = fresh_link }) later (record now { link = fresh_link })
-      → IsSome (option_and_then learner (plan_at plans number)) → IfSome (plan_at later number) (λ one. HasRoomFor one passes)
-  room_given now steps some = room_there steps.after steps.changes
-      (room_given_up tells s leader steps.before steps.after (record now { link = fresh_link }) passes refl
-      (subst (λ o. IsSome (option_and_then learner o)) steps.stands some) steps.steps)
+  pub room_given : GivesUpPlan number plans later → IfSome (plan_at later number) (λ one. HasRoomFor one passes)
+  room_given gives = room_there (given_up gives.before) gives.changes (given_up_room gives.before passes)
+
+  -- a plan that did a stage, or ended without its last
+  pub advances : (old new : World) → StepsPlan (led_by tells s leader) number plans old later new
+      → AdvancesPlan (led_by tells s leader) number plans old later new
+  advances old new steps =
+      record { before = steps.before; after = steps.after; stands = steps.stands; steps = inl steps.steps; changes = steps.changes }
+
+  pub ends_without : (now : World) → GivesUpPlan number plans later → AdvancesPlan (led_by tells s leader) number plans now later now
+  ends_without now gives = record {
+    before = gives.before;
+    after = given_up gives.before;
+    stands = gives.stands;
+    steps = inr (record { last = gives.last; then = refl; same = refl });
+    changes = gives.changes;
+  }
 
 -- ---- the replies
 
@@ -73,7 +81,7 @@ pub record StageLeaves (tells : Bool) (asked : PlanWord) (number : ℕ) (old : M
 module _ (tells : Bool) (number : ℕ) (core seen : CoreState) (own : core ≡ seen) (end : Nodes) (plans : Plans) (sessions : List Session)
     (before now : KeeperState) (from to : LinkShown) (plan : HeldPlan) (leader : NodeName)
     (of_seen : IsCoreOf tells before.told seen) (stands : plan_at core.plans number ≡ Some plan) (leads_seen : leader ≡ plan_leader seen plan)
-    (steps : StepsPlan (led_by tells core.settings leader) number core.plans (world_at core before from) plans
+    (steps : AdvancesPlan (led_by tells core.settings leader) number core.plans (world_at core before from) plans
     (world end now to))
     (under : IfSome (plan_at plans number) (IsUnderWay tells core.settings now.told end.fleet))
     (posts : PostsOn tells core.settings (world_at core before from) (world end now to))

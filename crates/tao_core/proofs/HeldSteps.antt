@@ -1,19 +1,19 @@
 -- What the stage of a held plan does to the asks that are open.
 use Rattle.std.proofs.Common.{◌≡◌, ◌⊎◌, ℕ, Bool, true, false, Option, Some, None, Ok, refl, ap, sym, ◌∙◌, subst, inl, inr, arith}
-use Rattle.std.specs.Prelude.{⊤, slice_get, slice_set}
+use Rattle.std.specs.Prelude.{⊤, slice_get, slice_set, IsSome}
 use Rattle.cache_items.specs.declared.look.Look.{Look}
 use Rattle.cache_items.specs.declared.look.Look.TheVariants.{Hit, Miss}
 use Rattle.cache_items.specs.Node.{Node}
 use Rattle.core_model.specs.Fleet.{ChangesNode, Fleet, HasAsk, named}
 use Rattle.core_model.specs.Reads.{AfterLook, AsksAtOnce, EndsAsk, KeepsFill, LooksFirst, taken_fill, Wanted}
 use Rattle.core_model.proofs.Places.{get_set, one_some}
-use Rattle.core_plans.specs.Held.{HasNoneAt, HoldsAsk, IsBefore, IsOpenAt, OpensFirst, OpensNone, StepsHeld, is_open_ask, next_stage}
+use Rattle.core_plans.specs.Held.{HasNoneAt, HoldsAsk, IsOpenAt, OpensFirst, OpensNone, StepsHeld, is_open_ask, next_stage, given_up, learner}
 use Rattle.core_plans.specs.HeldLaws.{Followers}
 use Rattle.core_plans.specs.HeldReads.{DoesLook, DoesReadStage, DoesKeep, wanted_by, EndsItsAsk}
-use Rattle.core_plans.specs.HeldWrites.{DoesWriteStage}
+use Rattle.core_plans.specs.HeldWrites.{DoesWriteStage, IsBefore, way_given_up}
 use Rattle.core_plans.specs.declared.held.HeldPlan.{HeldPlan}
 use Rattle.core_plans.specs.declared.held.HeldPlan.TheVariants.{Read, Write}
-use Rattle.core_plans.specs.LedBy.{led_by}
+use Rattle.core_plans.specs.LedBy.{led_by, LedBy}
 use Rattle.core_plans.proofs.AsksHeld.{
   EndsOpen,
   change_opens_none,
@@ -53,6 +53,7 @@ use Rattle.replies.specs.declared.refusals.Refusal.{Refusal}
 use Rattle.core_steps.specs.ReadSteps.{IsNotGiven, IsNotRead}
 use Rattle.core_steps.specs.declared.routes.Route.{Route}
 use Rattle.tao_base.specs.declared.query.Query.{Query}
+use Rattle.tao_core.specs.HeldCalls.{Advances}
 
 -- ---- a plan that did a stage
 
@@ -322,8 +323,7 @@ write_may tells s by Commit p q old new is before (inl commits) = same_back p q 
 write_may tells s by Commit p q old new is before (inr refuses) = same_back p q (ap (λ (x : Writing). x.back) refuses.then) before
 write_may tells s by Apply p q old new is before (inl applies) =
     subst (λ n. MayHold (kept n (Write q))) (sym (applied_over p q _ is applies.then)) tt
-write_may tells s by Apply p q old new is before (inr (inl loses)) = same_back p q (ap (λ (x : Writing). x.back) loses.then) before
-write_may tells s by Apply p q old new is before (inr (inr vain)) = same_back p q (ap (λ (x : Writing). x.back) vain.then) before
+write_may tells s by Apply p q old new is before (inr loses) = same_back p q (ap (λ (x : Writing). x.back) loses.then) before
 write_may tells s by Inverse p q old new is before does = same_back p q (inverse_keeps tells s by p q old new does).keeps.back before
 write_may tells s by End p q old new is before does = same_back p q (end_keeps tells s p q old new does).keeps.back before
 write_may tells s by Relay p q old new is before does = absurd does
@@ -342,3 +342,20 @@ steps_asks tells s by (Write p) (Write q) old new alone first steps =
     (write_may tells s by (next_of p) p q old new refl first steps)
 steps_asks tells s by (Read p) (Write q) old new alone first steps = absurd steps
 steps_asks tells s by (Write p) (Read q) old new alone first steps = absurd steps
+
+-- a write that ends without its last stage opens none
+given_asks : (before : HeldPlan) (old new : World) → OpensFirst before → IsSome (learner before) → new ≡ old
+    → StepsAsks (Some before) (held_after (given_up before)) old.fleet.followers new.fleet.followers
+given_asks (Read p) old new first last same = absurd (cc)
+given_asks (Write p) old new first last same =
+    let q = way_given_up p in
+    holds_none (Some (Write p)) (held_after (Write q)) old.fleet.followers new.fleet.followers
+    (same_opens_none old.fleet.followers new.fleet.followers (ap (λ (x : World). x.fleet.followers) same)) (λ name number h. h)
+    (λ name number h. kept_holds (next_stage (Write q)) (Write q) name number h) (same_back p q refl first)
+
+pub advance_asks : (led : LedBy) (before after : HeldPlan) (old new : World) → StandAlone old.fleet.followers → OpensFirst before
+    → Advances led before old after new → StepsAsks (Some before) (held_after after) old.fleet.followers new.fleet.followers
+advance_asks led before after old new alone first (inl steps) = steps_asks led.tells led.settings led.leader before after old new alone first steps
+advance_asks led before after old new alone first (inr ends) =
+    subst (λ plan. StepsAsks (Some before) (held_after plan) old.fleet.followers new.fleet.followers) (sym ends.then)
+    (given_asks before old new first ends.last ends.same)

@@ -14,10 +14,10 @@ use Rattle.core_model.specs.Consistent.{IsConsistent, IsNodeOf}
 use Rattle.core_model.specs.Fleet.{Fleet, IsFirstAt, named}
 use Rattle.core_model.specs.Pens.{Pens, pens_of}
 use Rattle.core_model.specs.Stores.{HaveMasterRegions, master_log}
-use Rattle.core_plans.specs.Held.{IsUnderWay, StepsHeld}
+use Rattle.core_plans.specs.Held.{IsUnderWay, StepsHeld, given_up, learner}
 use Rattle.core_plans.specs.declared.held.HeldPlan.{HeldPlan}
 use Rattle.core_plans.specs.declared.held.HeldPlan.TheVariants as held
-use Rattle.core_plans.specs.LedBy.{led_by}
+use Rattle.core_plans.specs.LedBy.{led_by, LedBy}
 use Rattle.core_steps.specs.World.{World}
 use Rattle.follower_cache.specs.Seen.{FollowerState}
 use Rattle.graph_model.specs.Log.{version}
@@ -36,7 +36,7 @@ use Rattle.tao_keeper.specs.Table.{Tables}
 use Rattle.tao_schema.specs.Schema.{types_of}
 use Rattle.topology.specs.Config.{Settings}
 use Rattle.tao_core.specs.Calls.{ReachesMark}
-use Rattle.tao_core.specs.HeldCalls.{HeldReaches}
+use Rattle.tao_core.specs.HeldCalls.{HeldReaches, Advances}
 use Rattle.core_steps.proofs.ReadLemmas.{log_is}
 
 take_within : (low n : ℕ) (xs : List Entry) → low ≤ n → take low (take n xs) ≡ take low xs
@@ -107,3 +107,16 @@ held_reaches tells s leader (held.Read p) (held.Read q) old new tables f steps m
 held_reaches tells s leader (held.Write p) (held.Write q) old new tables f steps masters consistent under = tt
 held_reaches tells s leader (held.Read p) (held.Write q) old new tables f steps masters consistent under = tt
 held_reaches tells s leader (held.Write p) (held.Read q) old new tables f steps masters consistent under = absurd steps
+
+-- a write that ends without its last stage says nothing of what is kept
+given_reaches : (tells : Bool) (s : Settings) (before : HeldPlan) (new : World) → IsSome (learner before) → HeldReaches tells s (given_up before) new
+given_reaches tells s (held.Read p) new last = absurd (cc)
+given_reaches tells s (held.Write p) new last = tt
+
+pub advance_reaches : (led : LedBy) (before after : HeldPlan) (old new : World) (tables : Tables) (f : Fleet) → Advances led before old after new
+    → HaveMasterRegions led.settings → IsConsistent led.tells led.settings new.keepers.told new.fleet → IsUnderWay led.tells led.settings tables f after
+    → HeldReaches led.tells led.settings after new
+advance_reaches led before after old new tables f (inl steps) masters consistent under =
+    held_reaches led.tells led.settings led.leader before after old new tables f steps masters consistent under
+advance_reaches led before after old new tables f (inr ends) masters consistent under =
+    subst (λ plan. HeldReaches led.tells led.settings plan new) (sym ends.then) (given_reaches led.tells led.settings before new ends.last)

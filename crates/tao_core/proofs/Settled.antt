@@ -2,7 +2,7 @@
 use Rattle.std.proofs.Common.{◌≡◌, ◌||◌, ◌∙◌, ℕ, Bool, true, List, [], ◌∷◌, Option, Some, None, Result, Ok, Err, ap, refl, subst, sym, inl, inr, arith}
 use Rattle.std.proofs.lemmas.Bool.{cases_Bool}
 use Rattle.std.specs.List.{list_any}
-use Rattle.std.specs.Prelude.{◌==◌, map}
+use Rattle.std.specs.Prelude.{⊤, ◌==◌, map}
 use Rattle.ask_table.specs.declared.ask.Ask.{Ask}
 use Rattle.core_mail.proofs.Arrivals.{arrived_stay}
 use Rattle.core_mail.specs.Inboxes.{AreEmpty, AreInboxesOf, HaveArrived, Inboxes}
@@ -14,9 +14,13 @@ use Rattle.core_model.specs.Pens.{pens_of}
 use Rattle.core_model.specs.Stores.{stores_in}
 use Rattle.core_model.specs.declared.named.Named.{Named}
 use Rattle.core_nodes.proofs.CatchLemmas.{so_before}
+use Rattle.core_nodes.proofs.CatchSteps.{lengths_stay}
 use Rattle.core_nodes.proofs.CaughtUp.{nodes_catch_up}
+use Rattle.core_nodes.proofs.DueLemmas.{all_met}
 use Rattle.core_nodes.proofs.GrowingLemmas.{stores_in_turn, stays_stores}
-use Rattle.core_nodes.specs.Repairs.{outside}
+use Rattle.core_nodes.specs.Beginning.{AreLengths}
+use Rattle.core_nodes.specs.Dues.{LeavesFleet, MeetsDues, after_carries, dues_of_fleet, log_ends}
+use Rattle.core_nodes.specs.Outside.{outside}
 use Rattle.core_nodes.specs.Settling.{AllCatchUp, AllProcessOn, ByNode, IsLaterLink, OnlyReads, ProcessesOn, StopsCatchUp, StopsLengths}
 use Rattle.core_nodes.specs.Settling.{WhereUp, log_lengths}
 use Rattle.core_nodes.specs.declared.settling.SettleStop.{SettleStop}
@@ -237,11 +241,21 @@ module _ (tells : Bool) (core seen : CoreState) (own : core ≡ seen) (before ra
             later = later_trans before mid now (later_trans before ran mid later read_later) reads.keepers;
           }
 
-      pub stops_at_node : (given : SettleStop) → StopsCatchUp core.settings (outside mid to) (outside now last) given
+      still_measured : (lengths : List ℕ) → AreLengths tells core.settings mid.told lengths → AreLengths tells core.settings now.told lengths
+      still_measured lengths measured = lengths_stay tells core.settings mid.told now.told lengths reads.tables measured
+
+      pub stops_at_node : (given : SettleStop) (lengths : List ℕ) → AreLengths tells core.settings mid.told lengths
+          → MeetsDues (dues_of_fleet (log_ends tells core.settings lengths) end.topology same) (Err given) to last
+          (LeavesFleet (log_ends tells core.settings lengths) end.topology same next)
+          → StopsCatchUp core.settings (outside mid to) (outside now last) given
           → SettleLeaves tells (IsUnsettled tells given) (moment seen before from) (moment (left_core core end.topology next end.mail) now last)
-      stops_at_node given stops = leaves_so (IsUnsettled tells given) now last next end.mail (inr (inr (record {
+      stops_at_node given lengths measured meets stops = leaves_so (IsUnsettled tells given) now last next end.mail (inr (inr (record {
         ran = moment (left_core core end.topology end.fleet end.mail) ran to;
         jobs = has_run;
+        lengths = lengths;
+        measured = still_measured lengths measured;
+        meets = subst (λ f. MeetsDues (dues_of_fleet (log_ends tells core.settings lengths) end.topology f) (Err given) to last
+            (LeavesFleet (log_ends tells core.settings lengths) end.topology f next)) fleet_is meets;
         asked = keeps_trans tells ran mid now tables reads.tables;
         stops = cause_before core.settings ran mid now to last given read_later stops;
         link = reads.link;
@@ -258,13 +272,21 @@ module _ (tells : Bool) (core seen : CoreState) (own : core ≡ seen) (before ra
       caught_from all = subst (λ f. AllCatchUp core.settings end.topology now.told f next) fleet_is all
 
       -- it came to its end
-      pub settles_core : (logs : List ℕ) (left : Inboxes) → WhereTold tells (logs ≡ log_lengths core.settings mid.told) → AreEmpty left
+      pub settles_core : (logs lengths : List ℕ) (left : Inboxes) (done : ⊤) → AreLengths tells core.settings mid.told lengths
+          → MeetsDues (dues_of_fleet (log_ends tells core.settings lengths) end.topology same) (Ok done) to last
+          (LeavesFleet (log_ends tells core.settings lengths) end.topology same next)
+          → WhereTold tells (logs ≡ log_lengths core.settings mid.told) → AreEmpty left
           → (AreInboxesOf core.settings (pens_of end.fleet.stores) end.mail → AreInboxesOf core.settings (pens_of end.fleet.stores) left)
           → WhereTold tells (AllCatchUp core.settings end.topology now.told same next) → InversesMatch (types_of core.settings.schema)
           → SettleLeaves tells (SettlesCore tells logs) (moment seen before from) (moment (left_core core end.topology next left) now last)
-      settles_core logs left lengths empty stays all match = leaves_so (SettlesCore tells logs) now last next left (record {
+      settles_core logs lengths left done measured meets own empty stays all match = leaves_so (SettlesCore tells logs) now last next left (record {
         ran = moment (left_core core end.topology end.fleet end.mail) ran to;
         jobs = has_run;
+        lengths = lengths;
+        measured = still_measured lengths measured;
+        link = subst (λ f. last ≡ after_carries (dues_of_fleet (log_ends tells core.settings lengths) end.topology f) to) fleet_is
+            (all_met (dues_of_fleet (log_ends tells core.settings lengths) end.topology same) done to last
+            (LeavesFleet (log_ends tells core.settings lengths) end.topology same next) meets).link;
         reads = record {
           tables = keeps_trans tells ran mid now tables reads.tables;
           keepers = later_trans ran mid now read_later reads.keepers;
@@ -278,7 +300,7 @@ module _ (tells : Bool) (core seen : CoreState) (own : core ≡ seen) (before ra
             record {
               none = none;
               paired = no_jobs_are_paired.paired (types_of core.settings.schema) (stores_in core.settings now.told) match (caught.stores.kept told) none;
-              lengths = so_before (λ t. logs ≡ log_lengths core.settings t) now.told mid.told (λ at. sym (reads.tables told at)) (lengths told);
+              lengths = so_before (λ t. logs ≡ log_lengths core.settings t) now.told mid.told (λ at. sym (reads.tables told at)) (own told);
               ends = (nodes_catch_up core.settings now.told).caught end.topology same next (all told);
             };
         rest = ap (λ n. left_core core n next left) still_up;

@@ -10,7 +10,7 @@ use Rattle.core_model.specs.Stores.{AreWhole}
 use Rattle.core_nodes.proofs.CaughtUp.{nodes_catch_up}
 use Rattle.core_nodes.proofs.GrowingLemmas.{stays_stores}
 use Rattle.core_plans.proofs.WholeStages.{stages_miss_nothing}
-use Rattle.core_plans.specs.Held.{IsUnderWay, StepsHeld}
+use Rattle.core_plans.specs.Held.{IsUnderWay, StepsHeld, given_up, learner}
 use Rattle.core_plans.specs.LedBy.{led_by}
 use Rattle.core_plans.specs.declared.held.HeldPlan.TheVariants as of
 use Rattle.core_plans.specs.declared.held.HeldPlan.{HeldPlan}
@@ -23,11 +23,12 @@ use Rattle.replies.specs.declared.reply.Reply.TheVariants.{Called}
 use Rattle.request_check.specs.declared.checked.CheckedRead.{CheckedRead}
 use Rattle.tao_base.specs.Queries.{query_shard}
 use Rattle.tao_core.specs.Calls.{world_of}
-use Rattle.tao_core.specs.HeldCalls.{AnswersCall, DoesAtOnce, call_floor, plan_leader}
+use Rattle.tao_core.specs.HeldCalls.{AnswersCall, DoesAtOnce, call_floor, plan_leader, Advances}
 use Rattle.tao_core.proofs.SettledReads.{read_last}
 use Rattle.tao_core.specs.Core.{ComeUp, IsConsistentCore, IsCoreOf, Moment}
 use Rattle.tao_core.specs.Laws.{AreAllUp, IsSettled, MissesNoMore, SettledUntilACommit, last_version}
 use Rattle.tao_core.proofs.Ways.{session_placed}
+use Rattle.std.specs.Prelude.{IsSome}
 
 -- ---- reads
 
@@ -64,6 +65,19 @@ stage_whole (of.Read p) (of.Write q) old new are settled up under steps = tt
 stage_whole (of.Write p) (of.Read q) old new are settled up under steps = tt
 stage_whole (of.Write p) (of.Write q) old new are settled up under steps = tt
 
+-- nor does one that ends without its last stage
+given_whole : (before : HeldPlan) (old new : Moment) → IsSome (learner before) → MissesNoMore before old (given_up before) new
+given_whole (of.Read p) old new last = absurd (cc)
+given_whole (of.Write p) old new last = tt
+
+advance_whole : (before after : HeldPlan) (old new : Moment) → IsCoreOf true old.keepers.told old.core → IsSettled old → AreAllUp old
+    → IsUnderWay true old.core.settings old.keepers.told old.core.fleet before
+    → Advances (led_by true old.core.settings (plan_leader old.core before)) before (world_of old) after (world_of new)
+    → MissesNoMore before old after new
+advance_whole before after old new are settled up under (inl steps) = stage_whole before after old new are settled up under steps
+advance_whole before after old new are settled up under (inr ends) =
+    subst (λ plan. MissesNoMore before old plan new) (sym ends.then) (given_whole before old new ends.last)
+
 -- ---- settled
 
 -- in a configuration of one region each store is its shard's master
@@ -97,5 +111,5 @@ settled_until_a_commit = record {
   stays = stays_settled;
   reads = reads_last;
   stages = λ old new asked number reply are settled up steps.
-      stage_whole steps.before steps.after old new are settled up (are.plans.under_way number steps.before steps.stands) steps.steps;
+      advance_whole steps.before steps.after old new are settled up (are.plans.under_way number steps.before steps.stands) steps.steps;
 }

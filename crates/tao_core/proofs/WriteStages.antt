@@ -2,8 +2,8 @@
 use Rattle.std.proofs.Common.{◌≡◌, ℕ, Bool, Option, Some, None, Result, Ok, Err, ap, refl, subst, sym, ◌∙◌}
 use Rattle.std.specs.Prelude.{⊤, IsSome, option_and_then, unwrap_or}
 use Rattle.core_model.specs.Jobs.{ShardJob}
-use Rattle.core_plans.specs.Held.{IsBefore, next_stage}
-use Rattle.core_plans.specs.HeldWrites.{EndsHeld, MergesHeld, job_by}
+use Rattle.core_plans.specs.Held.{next_stage}
+use Rattle.core_plans.specs.HeldWrites.{EndsHeld, IsBefore, MergesHeld, job_by}
 use Rattle.core_plans.specs.declared.held.HeldPlan.TheVariants.{Write}
 use Rattle.core_plans.specs.LedBy.{led_by}
 use Rattle.core_steps.specs.OtherEnds.{EndsOver, JobWay, MergesOver, job_way}

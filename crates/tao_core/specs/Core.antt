@@ -1,4 +1,5 @@
 -- What contracts see of a core.
+use Rattle.core_nodes.specs.Outside.{Outside, outside}
 use Rattle.std.specs.Prelude.{ℕ, ◌≡◌, ◌<◌, ◌≤◌, ⊤, List, [], Bool, true, All, Some, length}
 use Rattle.core_mail.specs.Inboxes.{AreEmpty, AreInboxesOf, HaveArrived, Inboxes}
 use Rattle.core_model.specs.Consistent.{GoesOn, IsConsistent}
@@ -125,3 +126,11 @@ pub record Moment : Type 0 where
 -- a core at a moment, with what the keepers and the link show then
 abbrev pub moment : CoreState → KeeperState → LinkShown → Moment
 moment core keepers link = record { core = core; keepers = keepers; link = link }
+
+-- a core at a moment, with what stands outside of it then
+abbrev pub moment_of : CoreState → Outside → Moment
+moment_of core around = moment core around.keepers around.link
+
+-- what the keepers and the link show at a moment
+abbrev pub outside_at : Moment → Outside
+outside_at m = outside m.keepers m.link

@@ -1,15 +1,16 @@
 -- What the replies to calls say, held or not, and to `advance`.
-use Rattle.std.specs.Prelude.{ℕ, ◌≡◌, ◌<◌, ◌⊎◌, ⊤, Bool, true, length, IfSome, List, Option, Some, None, option_and_then}
+use Rattle.std.specs.Prelude.{ℕ, ◌≡◌, ◌<◌, ◌⊎◌, ⊤, Bool, true, length, IfSome, IsSome, List, Option, Some, None, option_and_then}
 use Rattle.session_pass.specs.Passes.{IsNoteOf, SeenPass}
 use Rattle.graph_model.specs.Log.{entry_at}
 use Rattle.graph_model.specs.Told.{WhereTold}
 use Rattle.core_nodes.specs.Settling.{IsLaterLink}
-use Rattle.core_plans.specs.Held.{AddsPlan, ChangesPlan, IsOver, Plans, StepsHeld, StepsPlan, TakesPlan, next_stage, plan_at, learnt_of_write, learnt_with}
+use Rattle.core_plans.specs.Held.{AddsPlan, ChangesPlan, IsOver, Plans, StepsHeld, TakesPlan, given_up, learner, next_stage, plan_at, learnt_of_write}
+use Rattle.core_plans.specs.Held.{learnt_with}
 use Rattle.core_plans.specs.HeldReads.{at_bound}
 use Rattle.core_plans.specs.declared.held.HeldPlan.{HeldPlan}
 use Rattle.core_plans.specs.declared.held.HeldPlan.TheVariants as of
 use Rattle.core_plans.specs.declared.held.LearntEntries.{LearntEntries}
-use Rattle.core_plans.specs.LedBy.{led_by}
+use Rattle.core_plans.specs.LedBy.{LedBy, led_by}
 use Rattle.core_plans.specs.WholeCalls.{CarriesOut}
 use Rattle.core_sessions.specs.Sessions.{HasRoom, HasRoomForBoth, Session, is_open, session_at, sessions_of}
 use Rattle.core_steps.specs.World.{World}
@@ -169,20 +170,39 @@ HeldReaches tells s (of.Read q) new = (reply : ReadReply) → EndsWith q (Called
     → KeptReaches tells s q.follower q.query (Called (called.Read reply)) new
 HeldReaches tells s (of.Write q) new = ⊤
 
--- the plan of that number did the stage that follows, and is there as it is then
+-- a write of which only the last stage is left ends without it, and nothing else changes: memory was wanting for what its session is to learn
+pub record EndsWithout (before : HeldPlan) (old : World) (after : HeldPlan) (new : World) : Type 0 where
+  pub last : IsSome (learner before)
+  pub then : after ≡ given_up before
+  pub same : new ≡ old
+
+-- a held plan did the stage that follows, or ends without its last one
+abbrev pub Advances : LedBy → HeldPlan → World → HeldPlan → World → Type 0
+Advances led before old after new = StepsHeld led before old after new ⊎ EndsWithout before old after new
+
+-- the plan of that number does, and no other
+pub record AdvancesPlan (led : LedBy) (number : ℕ) (plans : Plans) (old : World) (later : Plans) (new : World) : Type 0 where
+  pub before : HeldPlan
+  pub after : HeldPlan
+  pub stands : plan_at plans number ≡ Some before
+  pub steps : Advances led before old after new
+  pub changes : ChangesPlan number after plans later
+
+-- the plan of that number did the stage that follows, or ended without its last, and is there as it is then
 pub record DoesStage (tells : Bool) (number : ℕ) (old new : Moment) : Type 0 where
   pub plan : HeldPlan
   pub stands : plan_at old.core.plans number ≡ Some plan
-  pub steps : StepsPlan (led_by tells old.core.settings (plan_leader old.core plan)) number old.core.plans (world_of old) new.core.plans (world_of new)
+  pub steps : AdvancesPlan (led_by tells old.core.settings (plan_leader old.core plan)) number old.core.plans (world_of old) new.core.plans (world_of new)
   pub reaches : HeldReaches tells old.core.settings steps.after (world_of new)
   pub link : IsLaterLink old.link new.link
 
--- the plan of that number did the stage that follows, and is held on or gone; no count of the link fell, and what is cut stays so
+-- the plan of that number did the stage that follows, or ended without its last, and is held on or gone; no count of the link fell, and what is cut stays
+-- so
 pub record StepsAt (tells : Bool) (asked : PlanWord) (number : ℕ) (old : Moment) (reply : Reply) (new : Moment) : Type 0 where
   pub before : HeldPlan
   pub after : HeldPlan
   pub stands : plan_at old.core.plans number ≡ Some before
-  pub steps : StepsHeld (led_by tells old.core.settings (plan_leader old.core before)) before (world_of old) after (world_of new)
+  pub steps : Advances (led_by tells old.core.settings (plan_leader old.core before)) before (world_of old) after (world_of new)
   pub reaches : HeldReaches tells old.core.settings after (world_of new)
   pub leaves : Leaves asked (numbered_plan number after) (next_stage after) (held_in old.core) reply (held_in new.core)
   pub link : IsLaterLink old.link new.link
@@ -190,7 +210,7 @@ pub record StepsAt (tells : Bool) (asked : PlanWord) (number : ℕ) (old : Momen
 
 -- ---- advance
 
--- what the reply to `advance` says: the plan did the stage that follows
+-- what the reply to `advance` says: the plan did the stage that follows, or ended without its last
 abbrev pub AnswersAdvance : Bool → ℕ → Moment → Reply → Moment → Type 0
 AnswersAdvance tells number old reply new = StepsAt tells word.Advance number old reply new
 

@@ -3,7 +3,8 @@ use Rattle.std.specs.Prelude.{ℕ, ◌≡◌, ◌⊎◌, Bool, false, List, Opti
 use Rattle.core_mail.specs.Inboxes.{AreEmpty}
 use Rattle.core_model.specs.States.{AreUpAtStores, nodes_now}
 use Rattle.core_model.specs.Stores.{stores_in}
-use Rattle.core_nodes.specs.Repairs.{outside}
+use Rattle.core_nodes.specs.Beginning.{AreLengths}
+use Rattle.core_nodes.specs.Dues.{LeavesFleet, MeetsDues, after_carries, dues_of_fleet, log_ends}
 use Rattle.core_nodes.specs.Settling.{AllCatchUp, AllProcessOn, IsLaterLink, OnlyReads, StopsCatchUp, StopsLengths, log_lengths}
 use Rattle.core_nodes.specs.declared.settling.SettleStop.{SettleStop}
 use Rattle.core_nodes.specs.declared.settling.SettleStop.TheVariants as stop
@@ -27,7 +28,7 @@ use Rattle.topology.specs.States.{NodeStates}
 use Rattle.write_model.specs.Machine.{ArePaired}
 use Rattle.write_model.specs.Steps.{HaveNoJobs}
 use Rattle.tao_core.specs.Calls.{world_of}
-use Rattle.tao_core.specs.Core.{Moment}
+use Rattle.tao_core.specs.Core.{Moment, outside_at}
 
 -- ---- repairs
 
@@ -67,12 +68,15 @@ pub record LeavesSettled (logs : List ℕ) (new : Moment) : Type 0 where
   pub lengths : logs ≡ log_lengths new.core.settings new.keepers.told
   pub ends : AreUpAtStores new.keepers.told (nodes_now new.core.fleet new.core.states)
 
--- all open jobs were run, then each node that is up caught up with its region's stores, and then all messages were taken out; sessions and held calls
--- stay
+-- all open jobs were run, then each node that is up caught up with its region's stores, with one carry for each shard at which it lay behind and no other,
+-- and then all messages were taken out; sessions and held calls stay
 pub record SettlesCore (tells : Bool) (logs : List ℕ) (old new : Moment) : Type 0 where
   pub ran : Moment
   pub jobs : HasRunJobs tells old ran
-  pub reads : OnlyReads tells (outside ran.keepers ran.link) (outside new.keepers new.link)
+  pub lengths : List ℕ
+  pub measured : AreLengths tells new.core.settings new.keepers.told lengths
+  pub link : new.link ≡ after_carries (dues_of_fleet (log_ends tells ran.core.settings lengths) ran.core.states ran.core.fleet) ran.link
+  pub reads : OnlyReads tells (outside_at ran) (outside_at new)
   pub on : AllProcessOn tells new.core.settings new.core.states new.keepers.told ran.core.fleet new.core.fleet
   pub caught : WhereTold tells (AllCatchUp new.core.settings new.core.states new.keepers.told ran.core.fleet new.core.fleet)
   pub empty : AreEmpty new.core.mail
@@ -93,12 +97,16 @@ pub record StopsAtLengths (tells : Bool) (given : SettleStop) (old new : Moment)
   pub tables : KeepsTables tells ran.keepers new.keepers
   pub same : new ≡ record ran { keepers = new.keepers }
 
--- a settle stopped at a node that couldn't catch up: those before it have
+-- a settle stopped at a node that couldn't catch up at a shard: what was due before it was met, in the order of the nodes, and nothing behind it
 pub record StopsAtNode (tells : Bool) (given : SettleStop) (old new : Moment) : Type 0 where
   pub ran : Moment
   pub jobs : HasRunJobs tells old ran
+  pub lengths : List ℕ
+  pub measured : AreLengths tells new.core.settings new.keepers.told lengths
+  pub meets : MeetsDues (dues_of_fleet (log_ends tells ran.core.settings lengths) ran.core.states ran.core.fleet) (Err given) ran.link new.link
+      (LeavesFleet (log_ends tells ran.core.settings lengths) ran.core.states ran.core.fleet new.core.fleet)
   pub asked : KeepsTables tells ran.keepers new.keepers
-  pub stops : StopsCatchUp old.core.settings (outside ran.keepers ran.link) (outside new.keepers new.link) given
+  pub stops : StopsCatchUp old.core.settings (outside_at ran) (outside_at new) given
   pub link : IsLaterLink ran.link new.link
   pub on : AllProcessOn tells new.core.settings new.core.states new.keepers.told ran.core.fleet new.core.fleet
   pub rest : new.core ≡ record ran.core { fleet = new.core.fleet }

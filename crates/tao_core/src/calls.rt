@@ -12,7 +12,7 @@ ghost use Rattle.topology.specs.States.{is_cache};
 use crate::refusals::no_server;
 use crate::serving::Core;
 use crate::teaching::learn_both;
-use core_plans::{EndedPlan, HeldPlan, begin_read, carry_out};
+use core_plans::{EndedPlan, HeldPlan, TierPlace, begin_read, carry_out};
 use core_sessions::{OpenSession, Sessions};
 use core_steps::out_of_memory;
 use node_name::NodeName;
@@ -100,8 +100,7 @@ fn begun_plan(
         CheckedCall::Read(call) => HeldPlan::Read(begin_read(
             config,
             call.query,
-            region,
-            tier,
+            TierPlace { region, tier },
             floor,
             call.critical,
             follower,

@@ -17,7 +17,7 @@ use crate::refusals::{no_message, no_refill};
 use crate::serving::Core;
 use cache_items::Item;
 use core_model::region_of;
-use core_plans::{HeldPlan, begin_read, carry_out};
+use core_plans::{HeldPlan, TierPlace, begin_read, carry_out};
 use core_steps::{out_of_memory, refilled_as};
 use follower_cache::Refill;
 use maint_msg::Maint;
@@ -214,7 +214,8 @@ impl<'c> Core<'c> {
     {
         let Refill { query, floor } = refill;
         let (region, tier) = (region_of(node), home_tier(node));
-        let read = begin_read(self.config, query, region, tier, floor, false, node);
+        let of = TierPlace { region, tier };
+        let read = begin_read(self.config, query, of, floor, false, node);
         let mut plan = HeldPlan::Read(read);
         let leader = self.plan_leader(&plan);
         carry_out(

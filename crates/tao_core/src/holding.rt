@@ -1,31 +1,29 @@
 //! Calls that are held, and go stage by stage.
 ghost use Rattle.std.specs.Prelude.{◌≡◌, IfSome, IsSome, None, OnErr, OnOk, Some, option_and_then};
-ghost use Rattle.core_plans.specs.Held.{CanStep, IsUnderWay, OpensFirst, StepsPlan, learner, plan_at};
+ghost use Rattle.core_plans.specs.Held.{CanStep, IsUnderWay, OpensFirst, learner, plan_at};
 ghost use Rattle.core_plans.specs.LedBy.{led_by};
 ghost use Rattle.core_sessions.specs.Sessions.{HasRoomForBoth, sessions_of};
 ghost use Rattle.core_steps.specs.Posting.{CanPost, PostsOn};
 ghost use Rattle.core_steps.specs.World.{world};
 ghost use Rattle.tao_core.specs.Asked.{CallCanBeDone, PlanCanBeDone};
 ghost use Rattle.tao_core.specs.Core.{IsCoreOf, IsOfSession, StaysUsable, author, moment};
-ghost use Rattle.tao_core.specs.HeldCalls.{AnswersHold, AnswersPlan, EndsPlan, HasRoomFor, MayLearn, StepsAt};
+ghost use Rattle.tao_core.specs.HeldCalls.{AdvancesPlan, AnswersHold, AnswersPlan, EndsPlan, HasRoomFor, MayLearn, StepsAt};
 ghost use Rattle.tao_core.specs.HeldCalls.{held_seen, next_at, plan_leader, numbered_reply};
 
 use crate::calls::{begin_plan, finish_plan};
 use crate::serving::Core;
-use core_plans::HeldPlans;
+use core_plans::{HeldPlans, Led};
 use core_sessions::Sessions;
 use core_steps::{Nodes, out_of_memory};
-use node_name::NodeName;
 use replies::{PlanReply, Reply, Stage};
 use request_check::{CheckedCall, CheckedPlan};
 use tao_base::OutOfMemory;
 use tao_keeper::Keeper;
 use tao_link::Link;
-use topology::Config;
 use words::PlanWord;
 
 /// The reply of a plan that is over.
-fn notified_by(number: u32, reply: Reply) -> Reply
+fn with_number(number: u32, reply: Reply) -> Reply
     ensures { result ≡ numbered_reply number reply }
 {
     match reply {
@@ -53,7 +51,7 @@ fn end_plan(plans: &mut HeldPlans, sessions: &mut Sessions, number: u32) -> Repl
         EndsPlan number plan (held_seen plans.old (sessions_of sessions.old)) result (held_seen plans.new (sessions_of sessions.new))) }
 {
     match plans.take(number) {
-        Some(plan) => notified_by(number, finish_plan(sessions, plan)),
+        Some(plan) => with_number(number, finish_plan(sessions, plan)),
         None => unreachable!(),
     }
 }
@@ -79,35 +77,40 @@ fn room_for_last(plans: &HeldPlans, sessions: &mut Sessions, number: u32) -> Res
     }
 }
 
+/// A stage of a held plan that is due: by what it is led, and the plan's number.
+#[derive(Clone, Copy)]
+struct DueStage<'c> {
+    led: Led<'c>,
+    number: u32,
+}
+
 /// Does the stage of a held plan that follows. Before the last stage of a write room is made for what its session is to learn; where
-/// memory is wanting for that, the plan is over.
+/// memory is wanting for that, the plan ends without it.
 fn step_or_give_up<K: Keeper, L: Link>(
     plans: &mut HeldPlans,
     sessions: &mut Sessions,
     nodes: &mut Nodes,
-    config: &Config,
+    due: &DueStage<'_>,
     keepers: &mut K,
     link: &mut L,
-    leader: NodeName,
-    number: u32,
 )
-    requires ready { CanPost K.TELLS config.now (world nodes.old (K.state keepers.old) (L.shown link.old)) }
-    requires can { CanStep K.TELLS config.now (K.state keepers.old).told nodes.old.fleet leader (plan_at plans.old number) }
-    requires author { IfSome (plan_at plans.old number) (IsOfSession (sessions_of sessions.old)) }
-    requires begun { IfSome (plan_at plans.old number) OpensFirst }
-    ensures steps { StepsPlan (led_by K.TELLS config.now leader) number
+    requires ready { CanPost K.TELLS due.now.led.config.now (world nodes.old (K.state keepers.old) (L.shown link.old)) }
+    requires can { CanStep K.TELLS due.now.led.config.now (K.state keepers.old).told nodes.old.fleet due.now.led.leader (plan_at plans.old due.now.number) }
+    requires author { IfSome (plan_at plans.old due.now.number) (IsOfSession (sessions_of sessions.old)) }
+    requires begun { IfSome (plan_at plans.old due.now.number) OpensFirst }
+    ensures steps { AdvancesPlan (led_by K.TELLS due.now.led.config.now due.now.led.leader) due.now.number
         plans.old (world nodes.old (K.state keepers.old) (L.shown link.old))
         plans.new (world nodes.new (K.state keepers.new) (L.shown link.new)) }
-    ensures under_way { IfSome (plan_at plans.new number) (IsUnderWay K.TELLS config.now (K.state keepers.new).told nodes.new.fleet) }
-    ensures on { PostsOn K.TELLS config.now
+    ensures under_way { IfSome (plan_at plans.new due.now.number) (IsUnderWay K.TELLS due.now.led.config.now (K.state keepers.new).told nodes.new.fleet) }
+    ensures on { PostsOn K.TELLS due.now.led.config.now
         (world nodes.old (K.state keepers.old) (L.shown link.old))
         (world nodes.new (K.state keepers.new) (L.shown link.new)) }
     ensures same { sessions_of sessions.new ≡ sessions_of sessions.old }
-    ensures room { IfSome (plan_at plans.new number) (λ plan. HasRoomFor plan sessions.new) }
+    ensures room { IfSome (plan_at plans.new due.now.number) (λ plan. HasRoomFor plan sessions.new) }
 {
-    match room_for_last(plans, sessions, number) {
-        Ok(()) => plans.step(nodes, config, keepers, link, leader, number),
-        Err(OutOfMemory) => plans.give_up(number),
+    match room_for_last(plans, sessions, due.number) {
+        Ok(()) => plans.step(nodes, &due.led, keepers, link, due.number),
+        Err(OutOfMemory) => plans.give_up(due.number),
     }
 }
 
@@ -130,15 +133,17 @@ impl<'c> Core<'c> {
             unreachable!()
         };
         let leader = self.plan_leader(plan);
+        let led = Led {
+            config: self.config,
+            leader,
+        };
         step_or_give_up(
             &mut self.plans,
             &mut self.sessions,
             &mut self.nodes,
-            self.config,
+            &DueStage { led, number },
             keepers,
             link,
-            leader,
-            number,
         );
         match next_at(&self.plans, number) {
             Some(next) => Reply::Plan(PlanReply::Next {

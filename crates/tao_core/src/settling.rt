@@ -11,7 +11,7 @@ ghost use Rattle.tao_keeper.specs.KeeperState.{IsLater, KeepsTables};
 
 use crate::refusals::no_server;
 use crate::serving::Core;
-use core_nodes::{Fleet, SettleStop, shard_lengths};
+use core_nodes::{Ends, Fleet, SettleStop, shard_lengths};
 use core_repairs::{Ran, RepairFailed, repair_first, run_jobs};
 use core_steps::{link_fault, out_of_memory};
 use edge_repair::RepairRefusal;
@@ -122,8 +122,12 @@ impl<'c> Core<'c> {
     /// that it serves, where it drops what is behind its region's stores and nothing else; and empties all inboxes. Then no job is open, every edge has its
     /// inverse, and where every store has all of its shard's log, until the next commit every read that begins answers as that log.
     ///
-    /// The first fault, and the first full log, ends it as `unsettled`, and want of memory as `memory`: what was done stays. `no_server` comes where what is
-    /// owed lies on a shard that isn't configured.
+    /// It carries a job there and back, and then once to each node for each shard at which that lies behind its region's store, in the order of the nodes:
+    /// region by region, leaders before followers.
+    ///
+    /// The first fault, and the first full log, ends it as `unsettled`, and want of memory as `memory`: what was done stays, and whoever comes after is as it
+    /// was. The shard is the job's or the node's; where a store doesn't tell the length of its log, any. `no_server` comes where what is owed lies on a shard
+    /// that isn't configured.
     ///
     /// Costs what the jobs do, two calls of the keeper for each store, and one for each entry that a node has yet to process.
     pub fn settle<K: Keeper, L: Link>(&mut self, keepers: &mut K, link: &mut L) -> Reply
@@ -160,11 +164,13 @@ impl<'c> Core<'c> {
         run_jobs(&mut self.nodes, config, keepers, link)?;
         let measured = measure(self.nodes.alloc, &mut self.nodes.fleet, config, keepers)?;
         let lengths = measured.stores.as_slice();
-        let alloc = self.nodes.alloc;
-        let topology = &self.nodes.topology;
-        self.nodes
-            .fleet
-            .catch_up(alloc, config, topology, keepers, link, lengths)?;
+        let ends = Ends {
+            alloc: self.nodes.alloc,
+            config,
+            topology: &self.nodes.topology,
+            lengths,
+        };
+        self.nodes.fleet.catch_up(&ends, keepers, link)?;
         self.nodes.mail.clear();
         Ok(measured.shards)
     }

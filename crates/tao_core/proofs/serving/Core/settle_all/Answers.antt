@@ -1,7 +1,9 @@
-use Rattle.std.proofs.Common.{ap, subst, sym}
+use Rattle.std.proofs.Common.{Err, ap, subst, sym}
 use Rattle.std.proofs.lemmas.Result.{err_from_is_err_and}
 use Rattle.core_model.specs.Pens.{pens_of}
-use Rattle.core_nodes.specs.Repairs.{outside}
+use Rattle.core_nodes.specs.Beginning.{AreLengths}
+use Rattle.core_nodes.specs.Dues.{LeavesFleet, MeetsDues, dues_of_fleet, log_ends}
+use Rattle.core_nodes.specs.Outside.{outside}
 use Rattle.core_nodes.specs.Settling.{StopsCatchUp, StopsLengths}
 use Rattle.core_repairs.specs.Repairs.{StopsRun}
 use Rattle.core_steps.specs.World.{world}
@@ -80,12 +82,20 @@ returns-in_err-catch_up g c =
     let read = c.measure in
     let caught = c.catch_up in
     let p = err_from_is_err_and c.from_residual-in_err-catch_up.result c.from_residual-in_err-catch_up.ensures.1 in
+    let states = ran.new.nodes.topology in
+    let lengths = c.as_slice-lengths.result.now in
+    let measured = subst (AreLengths g.K.Keeper.TELLS core.settings (state read.new.keepers).told) (sym c.as_slice-lengths.ensures.value)
+    c.in_ok-measured.ensures.stores in
+    let ends = log_ends g.K.Keeper.TELLS core.settings lengths in
     let done =
     stops_at_node g.K.Keeper.TELLS core c.args.self.now c.self.view_is (state c.args.keepers.now) (state ran.new.keepers) (shown c.args.link.now)
     (shown ran.new.link) ran.new.nodes on.states c.requires.keepers on.consistent on.inboxes on.arrived on.goes ran.ensures.rest
     on.grows on.later c.in_ok-run_jobs.ensures.runs on.link (state read.new.keepers) read.new.fleet read.ensures.same
     read.ensures.consistent read.ensures.tables read.ensures.later (state caught.new.keepers) (shown caught.new.link) caught.new.self
     caught.ensures.stores caught.ensures.consistent caught.ensures.goes caught.ensures.on caught.ensures.reads p.0
+    lengths measured
+    (subst (λ e. MeetsDues (dues_of_fleet ends states read.new.fleet) (Err e) (shown ran.new.link) (shown caught.new.link)
+    (LeavesFleet ends states read.new.fleet caught.new.self)) (sym p.2) c.in_err-catch_up.ensures.meets)
     (subst (StopsCatchUp core.settings (outside (state read.new.keepers) (shown ran.new.link)) (outside (state caught.new.keepers) (shown caught.new.link)))
     (sym p.2) c.in_err-catch_up.ensures.stop) in
     record {
@@ -105,6 +115,9 @@ returns g c =
     let on = ran.ensures.on in
     let read = c.measure in
     let caught = c.catch_up in
+    let lengths = c.as_slice-lengths.result.now in
+    let measured = subst (AreLengths g.K.Keeper.TELLS core.settings (state read.new.keepers).told) (sym c.as_slice-lengths.ensures.value)
+    c.in_ok-measured.ensures.stores in
     let match = subst (λ k. InversesMatch (types_of k)) (ap (λ (s : Settings). s.schema) c.config.view_is) c.inverses_match.ensures in
     let done =
     settles_core g.K.Keeper.TELLS core c.args.self.now c.self.view_is (state c.args.keepers.now) (state ran.new.keepers) (shown c.args.link.now)
@@ -112,7 +125,7 @@ returns g c =
     on.grows on.later c.in_ok-run_jobs.ensures.runs on.link (state read.new.keepers) read.new.fleet read.ensures.same
     read.ensures.consistent read.ensures.tables read.ensures.later (state caught.new.keepers) (shown caught.new.link) caught.new.self
     caught.ensures.stores caught.ensures.consistent caught.ensures.goes caught.ensures.on caught.ensures.reads c.in_ok-measured.measured.shards.items
-    c.clear.new.self
+    lengths c.clear.new.self tt measured c.in_ok-catch_up.ensures.meets
     c.in_ok-measured.ensures.shards c.clear.ensures.empty (c.clear.ensures.of core.settings (pens_of ran.new.nodes.fleet.stores))
     c.in_ok-catch_up.ensures.caught match in
     record {

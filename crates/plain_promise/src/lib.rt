@@ -1,7 +1,7 @@
 //! What a run promises to its caller, in the words of the plain graph: legal reads, acknowledged writes, settled and paired.
 //!
-//! What it promises. What a run is to promise is one page, `specs/Promise.antt`; that a run keeps it is not proved so far. By it an entry that
-//! stands after one line stands from then on.
+//! What it promises. What a run promises is one page, `specs/Promise.antt`; that each line of a core keeps it stands in `promise_kept`, that a run
+//! does in `tao_top`. By it an entry that stands after one line stands from then on.
 //!
 //! The contracts that say so: its laws. A worked run is in `specs/Example.antt`.
 #![tactic(auto)]

@@ -1,0 +1,55 @@
+-- A line that is no call and opens no session, as a step of the promise: by what its reply says and what becomes of the logs.
+use Rattle.std.proofs.Common.{◌≡◌, ℕ, [], Option, Some, append-nil, refl, sym, ap, subst}
+use Rattle.plain_promise.specs.Promise.{ChangesLogs, EachGrows, Logs, Plain, SaysRightly, held_after, settled_after}
+use Rattle.promise_kept.proofs.Going.{kept_now, logs_grow}
+use Rattle.promise_kept.proofs.Resting.{plain_rests}
+use Rattle.promise_kept.specs.Lines.{GoesOnUsable, StepsPlainly}
+use Rattle.promise_kept.specs.Seen.{IsPlainOf, IsSettledSince, stores_at, terms_of}
+use Rattle.replies.specs.declared.reply.Reply.{Reply}
+use Rattle.request_check.specs.declared.checked.Checked.{Checked}
+use Rattle.tao_core.specs.Core.{CoreState, Moment}
+use Rattle.tao_schema.specs.Schema.{types_of}
+use Rattle.write_model.specs.Merges.{Stores}
+
+-- the sessions, the calls that are held, and which nodes are up stay
+pub record KeepsCalls (old new : Moment) : Type 0 where
+  pub sessions : new.core.sessions ≡ old.core.sessions
+  pub plans : new.core.plans ≡ old.core.plans
+  pub states : new.core.states ≡ old.core.states
+
+-- so they do where only nodes and their messages change
+pub keeps_calls : (old new : Moment) → new.core ≡ record old.core { fleet = new.core.fleet; mail = new.core.mail } → KeepsCalls old new
+keeps_calls old new rest = record {
+  sessions = ap (λ (c : CoreState). c.sessions) rest;
+  plans = ap (λ (c : CoreState). c.plans) rest;
+  states = ap (λ (c : CoreState). c.states) rest;
+}
+
+-- the plain state after it, with what is remembered of settles
+abbrev pub plain_with : Plain → Moment → Option Logs → Plain
+plain_with plain new settled = record plain { stores = stores_at new; settled = settled }
+
+module _ (old new : Moment) (plain : Plain) (is : IsPlainOf old plain) (on : GoesOnUsable old new) (keeps : KeepsCalls old new) where
+  seen_with : (settled : Option Logs) → IsSettledSince new settled → IsPlainOf new (plain_with plain new settled)
+  seen_with settled since =
+      let rests = plain_rests old new on plain is keeps.sessions keeps.plans keeps.states in
+      record { stores = refl; learnt = rests.learnt; held = rests.held; settled = since; up = rests.up }
+
+  pub steps_so : (asked : Checked) (reply : Reply)
+      → SaysRightly (terms_of old.core.settings) plain asked reply (plain_with plain new (settled_after plain reply (stores_at new).logs))
+      → ChangesLogs (types_of old.core.settings.schema) plain asked (stores_at new).logs
+      → ((plan : ℕ) → plain.held plan ≡ held_after plain asked plan) → IsSettledSince new (settled_after plain reply (stores_at new).logs)
+      → StepsPlainly (Some asked) old plain reply new
+  steps_so asked reply says changes held since = record {
+    after = plain_with plain new (settled_after plain reply (stores_at new).logs);
+    says = record {
+      says = says;
+      changes = changes;
+      grows = subst (λ (st : Stores). EachGrows st.logs (stores_at new).logs) (sym is.stores) (logs_grow old new on);
+      well_kept = kept_now old new on;
+      learnt = λ session. ([], sym (append-nil (plain.learnt session)));
+      held = held;
+      settled = refl;
+    };
+    seen = seen_with (settled_after plain reply (stores_at new).logs) since;
+  }

@@ -1,0 +1,271 @@
+-- The lines that hold a call and advance it keep the promise.
+use Rattle.std.proofs.Common.{◌≡◌, ◌∙◌, ◌++◌, [], ℕ, zero, suc, true, List, Option, Some, None, append-nil, refl, sym, ap, subst, inl}
+use Rattle.std.proofs.Common.{inr, if◌then◌else◌}
+use Rattle.std.proofs.lemmas.Bool.{cases_eq, eq-eqb, ne_eqb}
+use Rattle.std.specs.Option.{option_map_or}
+use Rattle.std.specs.Prelude.{◌==◌}
+use Rattle.core_model.proofs.Places.{one_some}
+use Rattle.core_model.specs.Stores.{stores_in}
+use Rattle.core_plans.specs.Held.{IsUnderWay, plan_at}
+use Rattle.core_plans.specs.HeldReads.{at_bound}
+use Rattle.core_plans.specs.declared.held.HeldPlan.{HeldPlan}
+use Rattle.core_sessions.specs.Sessions.{Session}
+use Rattle.graph_model.specs.Legal.{floor}
+use Rattle.plain_promise.specs.Promise.{Begun, CallsAlone, IsWellKept, Logs, Plain, RefusesAt, SaysOfCall, Terms, begun_now, refused_at}
+use Rattle.promise_kept.proofs.AtOnce.{read_begins, write_begins}
+use Rattle.promise_kept.proofs.CallLines.{alone_same, not_begun, unbegun_says}
+use Rattle.promise_kept.proofs.Going.{grows_same, kept_now, stores_are}
+use Rattle.promise_kept.proofs.HeldLines.{StepKept, step_kept}
+use Rattle.promise_kept.proofs.Resting.{grows_then, held_rests, seen_then}
+use Rattle.promise_kept.proofs.Saying.{not_settled, plain_at}
+use Rattle.promise_kept.specs.Lines.{GoesOnUsable, IsLine, StepsPlainly}
+use Rattle.promise_kept.specs.Seen.{AreBegun, FloorsAre, IsPlainOf, IsPlanOf, IsSettledSince, IsUnderWayFor, floors_of, terms_of}
+use Rattle.read_plan.specs.Readings.{Reading, new_reading}
+use Rattle.replies.specs.declared.plans.PlanReply.TheVariants.{Ended, Next}
+use Rattle.replies.specs.declared.reply.Reply.{Reply}
+use Rattle.replies.specs.declared.reply.Reply.TheVariants.{Called, Plan as OfPlan, Refused}
+use Rattle.request_check.specs.declared.checked.Checked.TheVariants as asks
+use Rattle.request_check.specs.declared.checked.CheckedCall.{CheckedCall}
+use Rattle.request_check.specs.declared.checked.CheckedCall.TheVariants as call
+use Rattle.request_check.specs.declared.plans.CheckedPlan.{CheckedPlan}
+use Rattle.request_check.specs.declared.plans.CheckedPlan.TheVariants.{Advance, Hold}
+use Rattle.session_pass.specs.Floors.{floor_at}
+use Rattle.tao_base.specs.Queries.{query_key}
+use Rattle.tao_base.specs.declared.entry.Entry.{Entry}
+use Rattle.tao_base.specs.declared.entry.Origin.TheVariants.{Client}
+use Rattle.tao_core.proofs.HeldBegun.{begun_core, is_under_way}
+use Rattle.tao_core.proofs.HeldKeeping.{set_here}
+use Rattle.tao_core.specs.Asked.{CallCanBeDone}
+use Rattle.tao_core.specs.Core.{Moment}
+use Rattle.tao_core.specs.HeldCalls.{HoldGoes, IsBegun, RefusesCall}
+use Rattle.tao_schema.specs.Schema.{types_of}
+use Rattle.topology.specs.Config.{Settings}
+use Rattle.words.specs.declared.PlanWord.TheVariants as word
+use Rattle.write_model.specs.Merges.{Stores}
+use Rattle.write_plan.specs.Plans.{Writing, begun_write}
+
+-- ---- advance
+
+advance_line : (old new : Moment) (learnt : ℕ → List Entry) (held : ℕ → Option Begun) (settled : Option Logs) (number : ℕ) (reply : Reply)
+    → IsPlainOf old (plain_at old.core.settings old.keepers.told learnt held settled) → IsLine (asks.Plan (Advance number)) old reply new
+    → StepsPlainly (Some (asks.Plan (Advance number))) old (plain_at old.core.settings old.keepers.told learnt held settled) reply new
+advance_line old new learnt held settled number reply was line =
+    let s = old.core.settings in
+    let steps = line.answers in
+    let begun = was.held number steps.before steps.stands in
+    let kept : StepKept old new learnt held settled was line.on word.Advance number reply begun.0 =
+    step_kept old new learnt held settled was line.on word.Advance number reply steps begun.0 begun.2 begun.1 in
+    let after : Plain = plain_at s new.keepers.told kept.learnt_now held settled in
+    record {
+      after = after;
+      says = record {
+        says = record { began = begun.0; holds = begun.1; says = kept.says; changes = kept.changes };
+        changes = tt;
+        grows = grows_then old new line.on;
+        well_kept = subst (IsWellKept (types_of s.schema)) (stores_are old new line.on) (kept_now old new line.on);
+        learnt = kept.more;
+        held = λ plan. refl;
+        settled = sym (not_settled (terms_of s) begun.0 (plain_at s old.keepers.told learnt held settled) after reply after.stores.logs kept.says);
+      };
+      seen = kept.seen;
+    }
+
+-- ---- what a line says is of the stores before it alone
+
+refuses_alike : (asked : CheckedCall) (old other new : Plain) → other.stores ≡ old.stores → (n : ℕ) → RefusesAt n asked old new → RefusesAt n asked other new
+refuses_alike asked old other new same zero refuses = refuses ∙ ap (λ (st : Stores). st.logs) (sym same)
+refuses_alike (call.Write write) old other new same (suc n) refuses = refuses
+refuses_alike (call.Read read) old other new same (suc n) refuses = refuses ∙ ap (λ (st : Stores). st.logs) (sym same)
+
+says_alike : (terms : Terms) (began : Begun) (old other new : Plain) → other.stores ≡ old.stores → (reply : Reply) → SaysOfCall terms began old reply new
+    → SaysOfCall terms began other reply new
+says_alike terms began old other new same (Called reply) says = says
+says_alike terms began old other new same (OfPlan (Ended number reply)) says = says
+says_alike terms began old other new same (OfPlan (Next word number stage)) says = tt
+says_alike terms began old other new same (Refused refusal) says = refuses_alike began.call old other new same (refused_at refusal) says
+says_alike terms began old other new same reply says = absurd says
+
+-- ---- hold
+
+module _ (old new : Moment) (learnt : ℕ → List Entry) (held : ℕ → Option Begun) (settled : Option Logs)
+    (was : IsPlainOf old (plain_at old.core.settings old.keepers.told learnt held settled)) (number : ℕ) (asked : CheckedCall) (reply : Reply)
+    (line : IsLine (asks.Plan (Hold number asked)) old reply new) where
+  abbrev s : Settings
+  s = old.core.settings
+
+  abbrev Before : Plain
+  Before = plain_at old.core.settings old.keepers.told learnt held settled
+
+  abbrev Began : Begun
+  Began = begun_now Before asked
+
+  abbrev held_now : ℕ → Option Begun
+  held_now n = if n == number then Some Began else held n
+
+  abbrev After : (ℕ → List Entry) → Plain
+  After learnt_now = plain_at old.core.settings new.keepers.told learnt_now held_now settled
+
+  abbrev Was : Stores
+  Was = stores_in old.core.settings old.keepers.told
+
+  abbrev Now : Stores
+  Now = stores_in old.core.settings new.keepers.told
+
+  abbrev Steps : Type 0
+  Steps = StepsPlainly (Some (asks.Plan (Hold number asked))) old Before reply new
+
+  hold_keeps : (learnt_now : ℕ → List Entry) → ((n : ℕ) → (es : List Entry) × (learnt_now n ≡ learnt n ++ es))
+      → SaysOfCall (terms_of s) Began Before reply (After learnt_now) → CallsAlone (types_of s.schema) asked Was Now.logs
+      → IsPlainOf new (After learnt_now) → Steps
+  hold_keeps learnt_now more says changes seen = record {
+    after = After learnt_now;
+    says = record {
+      says = says;
+      changes = changes;
+      grows = grows_then old new line.on;
+      well_kept = subst (IsWellKept (types_of s.schema)) (stores_are old new line.on) (kept_now old new line.on);
+      learnt = more;
+      held = λ plan. refl;
+      settled = sym (not_settled (terms_of s) Began Before (After learnt_now) reply Now.logs says);
+    };
+    seen = seen;
+  }
+
+  -- what is remembered of the number, and of each other
+  held_here : (n : ℕ) → n ≡ number → held_now n ≡ Some Began
+  held_here n is = ap (λ b. if b then Some Began else held n) (eq-eqb n number is)
+
+  held_there : (n : ℕ) → (n ≡ number → ⊥) → held_now n ≡ held n
+  held_there n apart = ap (λ b. if b then Some Began else held n) (ne_eqb n number apart)
+
+  -- ---- no plan was begun
+
+  refused_hold : RefusesCall asked old reply new → Steps
+  refused_hold refuses =
+      let same = refuses.same in
+      let logs : Now.logs ≡ Was.logs = ap (λ (m : Moment). (stores_in s m.keepers.told).logs) same in
+      hold_keeps learnt (λ n. ([], sym (append-nil (learnt n))))
+      (unbegun_says Began Before (After learnt) s reply (not_begun old.core.states old.core.sessions asked reply refuses.refused) logs)
+      (alone_same s old new asked logs)
+      (seen_then old new line.on Before learnt held_now was
+      (λ n. subst (λ (m : Moment). FloorsAre (learnt n) (floors_of m.core.sessions n)) (sym same) (was.learnt n))
+      (λ n plan at.
+      let there = subst (λ (m : Moment). plan_at m.core.plans n ≡ Some plan) same at in
+      elim (cases_eq n number) [
+        | inl is ↦
+            let gone : None ≡ Some plan = sym line.can.0 ∙ ap (plan_at old.core.plans) (sym is) ∙ there in
+            absurd (cc)
+        | inr apart ↦
+            let rests = held_rests old new line.on held was.held n plan there in
+            (rests.0, held_there n apart ∙ rests.1, rests.2)
+      ])
+      (ap (λ (m : Moment). m.core.states) same))
+
+  -- ---- a plan was begun
+
+  module _ (goes : HoldGoes true number asked old reply new) where
+    abbrev Added : Moment
+    Added = record old { core = record old.core { plans = goes.added } }
+
+    abbrev plan : HeldPlan
+    plan = goes.plan
+
+    can : CallCanBeDone old.core.settings old.core.sessions asked
+    can = line.can.1
+
+    under : IsUnderWay true s old.keepers.told old.core.fleet plan
+    under = is_under_way true old.keepers old.core line.on.before.is_consistent asked plan goes.begun can
+
+    on_added : GoesOnUsable Added new
+    on_added = record {
+      before = begun_core true old.keepers old.core line.on.before.is_consistent asked plan goes.begun can number goes.added line.on.before line.can.0
+          goes.adds;
+      after = record {
+        settings = line.on.after.settings;
+        keepers = line.on.after.keepers;
+        goes = line.on.after.goes;
+        comes = line.on.after.comes;
+        grows = line.on.after.grows;
+        later = line.on.after.later;
+      };
+    }
+
+    since_added : (last : Option Logs) → IsSettledSince old last → IsSettledSince Added last
+    since_added last is = record { grows = is.grows; rests = is.rests }
+
+    plan_added : (one : HeldPlan) (first : Begun) → IsPlanOf old one first → IsPlanOf Added one first
+    plan_added one first is = record { under_way = is.under_way; grows = is.grows; settled = since_added first.settled is.settled }
+
+    -- the plan is that of the call
+    begun_for : (one : CheckedCall) → IsBegun s old.core.states old.core.sessions one plan
+        → IsUnderWayFor s old.keepers (begun_now Before one) one plan
+    begun_for (call.Read read) begun =
+        let key = query_key read.query in
+        let session = begun.session in
+        let p : Reading = at_bound s (new_reading read.query session.region session.tier (floor_at session.floors key) read.critical begun.follower) in
+        let own = subst (IsUnderWay true s old.keepers.told old.core.fleet) begun.plan_is under in
+        let floors : floors_of old.core.sessions read.session ≡ session.floors =
+        ap (λ o. option_map_or (λ (x : Session). x.floors) o []) begun.found in
+        let least = subst (λ fs. floor_at fs key ≡ floor (learnt read.session) key) floors ((was.learnt read.session).at key) in
+        subst (IsUnderWayFor s old.keepers (begun_now Before (call.Read read)) (call.Read read)) (sym begun.plan_is)
+        (read_begins s old.keepers (begun_now Before (call.Read read)) read p own.follower.here refl refl refl least refl)
+    begun_for (call.Write write) begun =
+        let session = begun.session in
+        let p : Writing = begun_write write.write (Client write.session write.seq) session.region session.tier begun.follower in
+        subst (IsUnderWayFor s old.keepers (begun_now Before (call.Write write)) (call.Write write)) (sym begun.plan_is)
+        (write_begins s old.keepers (begun_now Before (call.Write write)) write p refl refl refl refl).for_call
+
+    is_plan : IsPlanOf Added plan Began
+    is_plan = record {
+      under_way = begun_for asked goes.begun;
+      grows = grows_same Was.logs Was.logs refl;
+      settled = since_added settled was.settled;
+    }
+
+    begun_added : AreBegun Added held_now
+    begun_added n one at =
+        let found : (if n == number then Some plan else plan_at old.core.plans n) ≡ Some one = sym (goes.adds.sets n) ∙ at in
+        elim (cases_eq n number) [
+          | inl is ↦
+              let own : Some plan ≡ Some one =
+              subst (λ b. (if b then Some plan else plan_at old.core.plans n) ≡ Some one) (eq-eqb n number is) found in
+              (Began, held_here n is, subst (λ x. IsPlanOf Added x Began) (one_some plan one own) is_plan)
+          | inr apart ↦
+              let other : plan_at old.core.plans n ≡ Some one =
+              subst (λ b. (if b then Some plan else plan_at old.core.plans n) ≡ Some one) (ne_eqb n number apart) found in
+              let before = was.held n one other in
+              (before.0, held_there n apart ∙ before.1, plan_added one before.0 before.2)
+        ]
+
+    was_added : IsPlainOf Added (plain_at old.core.settings old.keepers.told learnt held_now settled)
+    was_added = record {
+      stores = refl;
+      learnt = was.learnt;
+      held = begun_added;
+      settled = since_added settled was.settled;
+      up = record { followers = was.up.followers; leaders = was.up.leaders };
+    }
+
+    own_before : plan ≡ goes.steps.before
+    own_before = one_some plan goes.steps.before (sym (set_here number (Some plan) old.core.plans goes.added goes.adds.sets) ∙ goes.steps.stands)
+
+    kept : StepKept Added new learnt held_now settled was_added on_added word.Hold number reply Began
+    kept = step_kept Added new learnt held_now settled was_added on_added word.Hold number reply goes.steps Began
+        (subst (λ x. IsPlanOf Added x Began) own_before is_plan) (held_here number refl)
+
+    goes_hold : Steps
+    goes_hold = hold_keeps kept.learnt_now kept.more
+        (says_alike (terms_of s) Began (plain_at old.core.settings old.keepers.told learnt held_now settled) Before (After kept.learnt_now) refl reply
+        kept.says)
+        kept.changes kept.seen
+
+  hold_line : Steps
+  hold_line = elim line.answers [ inl goes ↦ goes_hold goes | inr refuses ↦ refused_hold refuses ]
+
+-- ---- whatever is asked of a plan
+
+pub plan_line : (old new : Moment) (learnt : ℕ → List Entry) (held : ℕ → Option Begun) (settled : Option Logs) (asked : CheckedPlan) (reply : Reply)
+    → IsPlainOf old (plain_at old.core.settings old.keepers.told learnt held settled) → IsLine (asks.Plan asked) old reply new
+    → StepsPlainly (Some (asks.Plan asked)) old (plain_at old.core.settings old.keepers.told learnt held settled) reply new
+plan_line old new learnt held settled (Hold number asked) reply was line = hold_line old new learnt held settled was number asked reply line
+plan_line old new learnt held settled (Advance number) reply was line = advance_line old new learnt held settled number reply was line

@@ -1,0 +1,103 @@
+-- A read that ends without an answer ends with a refusal, and no stage of a read changes a table.
+use Rattle.std.proofs.Common.{◌≡◌, ℕ, Bool, true, false, Option, Some, None, refl, sym, ◌∙◌, subst, inl, inr}
+use Rattle.std.specs.Prelude.{⊤}
+use Rattle.cache_items.specs.declared.look.Kept.{Kept as KeptWhy}
+use Rattle.cache_items.specs.declared.look.Look.{Look}
+use Rattle.cache_items.specs.declared.look.Look.TheVariants.{Hit, Miss}
+use Rattle.core_plans.proofs.WholeRuns.{OfRead, read_keeps}
+use Rattle.core_plans.specs.HeldReads.{DoesKeep, DoesLook, DoesReadStage}
+use Rattle.core_plans.specs.LedBy.{LedBy, led_by}
+use Rattle.core_plans.specs.WholeCalls.{CarriesOut, PassesStage}
+use Rattle.core_plans.specs.declared.held.HeldPlan.{HeldPlan}
+use Rattle.core_plans.specs.declared.held.HeldPlan.TheVariants as of
+use Rattle.core_steps.specs.World.{World}
+use Rattle.node_name.specs.declared.NodeName.{NodeName}
+use Rattle.read_plan.specs.Readings.{Reading}
+use Rattle.read_plan.specs.Standings.{after_ask, after_keep, after_look, after_master}
+use Rattle.read_plan.specs.declared.end.ReadEnd.TheVariants as ended
+use Rattle.read_plan.specs.declared.standing.Given.{Given}
+use Rattle.read_plan.specs.declared.standing.Given.TheVariants.{Fill, HandedOut, Past}
+use Rattle.read_plan.specs.declared.standing.Standing.{Standing}
+use Rattle.read_plan.specs.declared.standing.Standing.TheVariants.{Looking, Asking, Mastering, Keeping, Ended}
+use Rattle.replies.specs.declared.refusals.Refusal.{Refusal}
+use Rattle.replies.specs.declared.reply.Reply.TheVariants.{Refused}
+use Rattle.shard_tables.specs.declared.leader_answer.LeaderAnswer.{LeaderAnswer}
+use Rattle.shard_tables.specs.declared.leader_answer.LeaderAnswer.TheVariants as leads
+use Rattle.shard_tables.specs.declared.read_out.ReadOut.{ReadOut}
+use Rattle.shard_tables.specs.declared.read_out.ReadOut.TheVariants as store
+use Rattle.tao_keeper.specs.Table.{Stays}
+use Rattle.topology.specs.Config.{Settings}
+
+-- a read that has ended without an answer was refused
+abbrev pub EndsRefused : Standing → Type 0
+EndsRefused (Ended (ended.Refused reply)) = (refusal : Refusal) × (reply ≡ Refused refusal)
+EndsRefused (Ended (ended.Answered answer version held)) = ⊤
+EndsRefused Looking = ⊤
+EndsRefused Asking = ⊤
+EndsRefused Mastering = ⊤
+EndsRefused (Keeping given) = ⊤
+
+-- ---- one stage
+
+look_so : (critical : Bool) (look : Look) → EndsRefused (after_look critical look)
+look_so true look = tt
+look_so false (Hit answer version) = tt
+look_so false Miss = tt
+
+ask_so : (given : LeaderAnswer) → EndsRefused (after_ask given)
+ask_so (leads.Filled fill) = tt
+ask_so (leads.Past answer version total note) = tt
+ask_so (leads.Behind version) = tt
+
+master_so : (out : ReadOut) → EndsRefused (after_master out)
+master_so (store.Filled fill) = tt
+master_so (store.Past answer version total note) = tt
+
+-- what is so of where a read stands is so where it is the same
+at_then : (q r : Reading) → q ≡ r → EndsRefused r.at → EndsRefused q.at
+at_then q r same so = subst (λ (x : Reading). EndsRefused x.at) (sym same) so
+
+keep_so : (s : Settings) (p q : Reading) (given : Given) (old new : World) → p.at ≡ Keeping given → DoesKeep s p given old q new → EndsRefused q.at
+keep_so s p q (Fill fill) old new at (inl from) =
+    at_then q _ from.then (subst (λ a. EndsRefused (after_keep p.bound a (Some (from.answer, from.kept)))) (sym at) tt)
+keep_so s p q (Fill fill) old new at (inr vain) = at_then q _ vain.then (_, refl)
+keep_so s p q (Past answer version total seen) old new at on = at_then q _ on.then (subst (λ a. EndsRefused (after_keep p.bound a None)) (sym at) tt)
+keep_so s p q (HandedOut version) old new at on = absurd on
+
+stage_so : (led : LedBy) (at : Standing) (p q : Reading) (old new : World) → p.at ≡ at → DoesReadStage led at p old q new → EndsRefused q.at
+stage_so led Looking p q old new is does = by p.critical does
+  where
+    by : (critical : Bool) → DoesLook led.settings critical p old q new → EndsRefused q.at
+    by false (inl looks) = at_then q _ looks.then (look_so p.critical looks.look)
+    by false (inr vain) = at_then q _ vain.then (_, refl)
+    by true looks = at_then q _ looks.then (look_so p.critical Miss)
+stage_so led Asking p q old new is (inl asks) = at_then q _ asks.then (ask_so asks.given)
+stage_so led Asking p q old new is (inr vain) = at_then q _ vain.then (_, refl)
+stage_so led Mastering p q old new is (inl asks) = at_then q _ asks.then (master_so asks.out)
+stage_so led Mastering p q old new is (inr vain) = at_then q _ vain.then (_, refl)
+stage_so led (Keeping given) p q old new is does = keep_so led.settings p q given old new is does
+stage_so led (Ended end) p q old new is does = absurd does
+
+pub stage_refuses : (led : LedBy) (p q : Reading) (old new : World) → DoesReadStage led p.at p old q new → EndsRefused q.at
+stage_refuses led p q old new does = stage_so led p.at p q old new refl does
+
+-- ---- all stages
+
+-- no table changed since the first, and one that ended without an answer was refused
+pub record ReadRests (first : World) (q : Reading) (now : World) : Type 0 where
+  pub tables : Stays first.keepers.told now.keepers.told
+  pub refused : EndsRefused q.at
+
+module _ (s : Settings) (leader : NodeName) (first : World) where
+  rests_on : (p q : Reading) (old new : World) → ReadRests first p old → PassesStage (led_by true s leader) (of.Read p) old (of.Read q) new
+      → ReadRests first q new
+  rests_on p q old new so stage = record {
+    tables = λ at. stage.steps.tables refl at ∙ so.tables at;
+    refused = stage_refuses (led_by true s leader) p q old new stage.steps.steps.does;
+  }
+
+  pub read_rests : (p : Reading) (q : HeldPlan) (new : World) → p.at ≡ Looking → CarriesOut (led_by true s leader) (of.Read p) first q new
+      → OfRead (ReadRests first) q new
+  read_rests p q new begun out =
+      read_keeps (led_by true s leader) (ReadRests first) rests_on out.stages p q first new
+      (record { tables = λ at. refl; refused = subst EndsRefused (sym begun) tt }) out.passes

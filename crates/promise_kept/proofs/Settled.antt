@@ -1,0 +1,102 @@
+-- What a settle merges and says, in the words of the promise.
+use Rattle.std.proofs.Common.{◌≡◌, ℕ, zero, suc, ◌+◌, true, List, ◌∷◌, Some, length, map, inl, inr, refl, sym, ap, ◌∙◌, subst}
+use Rattle.std.proofs.lemmas.Option.{same_Some}
+use Rattle.std.specs.List.{range_with_len}
+use Rattle.core_model.specs.Stores.{master_log, stores_in}
+use Rattle.core_nodes.specs.Settling.{log_lengths}
+use Rattle.core_nodes.specs.declared.settling.SettleStop.{SettleStop}
+use Rattle.core_repairs.specs.Repairs.{SettlesLogs}
+use Rattle.master_tables.specs.Masters.{each_shard}
+use Rattle.plain_promise.specs.Promise.{IsSettledNow}
+use Rattle.promise_kept.proofs.Going.{grows_same, stores_are}
+use Rattle.promise_kept.proofs.Others.{KeepsCalls, keeps_calls}
+use Rattle.promise_kept.specs.Lines.{GoesOnUsable}
+use Rattle.promise_kept.specs.Seen.{IsSettledSince, stores_at}
+use Rattle.tao_base.specs.declared.entry.Entry.{Entry}
+use Rattle.tao_core.proofs.SettledLaws.{settled_until_a_commit}
+use Rattle.tao_core.specs.Core.{CoreState, Moment}
+use Rattle.tao_core.specs.Settling.{HasRunJobs, IsUnsettled, SettlesCore}
+use Rattle.tao_keeper.specs.KeeperState.{KeeperState, KeepsTables}
+use Rattle.tao_keeper.specs.Table.{Tables}
+use Rattle.tao_schema.specs.Schema.{types_of}
+use Rattle.topology.specs.Config.{Settings}
+use Rattle.write_model.specs.Machine.{ArePaired, Settles}
+use Rattle.write_model.specs.Merges.{Stores}
+
+-- ---- the lengths
+
+-- one shard after another
+each_lengths : (log : ℕ → List Entry) (from n : ℕ) → map length (each_shard log from n) ≡ map (λ shard. length (log shard)) (range_with_len from n)
+each_lengths log from zero = refl
+each_lengths log from (suc n) = ap (λ more. length (log from) ∷ more) (each_lengths log (from + 1) n)
+
+lengths_are : (s : Settings) (tables : Tables) → map length (stores_in s tables).logs ≡ log_lengths s tables
+lengths_are s tables = each_lengths (master_log s tables) 0 s.shards
+
+-- ---- what was merged
+
+-- tables that were only read
+settles_kept : (s : Settings) (start : Tables) (old new : KeeperState) → KeepsTables true old new → SettlesLogs s start old.told → SettlesLogs s start new.told
+settles_kept s start old new tables settles = let same : old.told ≡ new.told = λ i at. sym (tables refl at) i in subst (SettlesLogs s start) same settles
+
+module _ (old new : Moment) where
+  abbrev s : Settings
+  s = old.core.settings
+
+  -- so does one that came to no end
+  pub unsettled : (given : SettleStop) → IsUnsettled true given old new → SettlesLogs s old.keepers.told new.keepers.told
+  unsettled given (inl stops) = stops.stops.settles refl
+  unsettled given (inr (inl stops)) =
+      settles_kept s old.keepers.told stops.ran.keepers new.keepers stops.tables (stops.jobs.runs.settles refl)
+  unsettled given (inr (inr stops)) =
+      settles_kept s old.keepers.told stops.ran.keepers new.keepers stops.asked (stops.jobs.runs.settles refl)
+
+  settled_whole : (logs : List ℕ) → SettlesCore true logs old new → SettlesLogs s old.keepers.told new.keepers.told
+  settled_whole logs is = settles_kept s old.keepers.told is.ran.keepers new.keepers is.reads.tables (is.jobs.runs.settles refl)
+
+  -- ---- what stays
+
+  -- the core of a settle under way
+  ran_keeps : (ran : Moment) → HasRunJobs true old ran → KeepsCalls old ran
+  ran_keeps ran jobs = keeps_calls old ran jobs.rest
+
+  pub unsettled_keeps : (given : SettleStop) → IsUnsettled true given old new → KeepsCalls old new
+  unsettled_keeps given (inl stops) = keeps_calls old new stops.rest
+  unsettled_keeps given (inr (inl stops)) =
+      let ran = ran_keeps stops.ran stops.jobs in record {
+        sessions = ap (λ (m : Moment). m.core.sessions) stops.same ∙ ran.sessions;
+        plans = ap (λ (m : Moment). m.core.plans) stops.same ∙ ran.plans;
+        states = ap (λ (m : Moment). m.core.states) stops.same ∙ ran.states;
+      }
+  unsettled_keeps given (inr (inr stops)) =
+      let ran = ran_keeps stops.ran stops.jobs in record {
+        sessions = ap (λ (c : CoreState). c.sessions) stops.rest ∙ ran.sessions;
+        plans = ap (λ (c : CoreState). c.plans) stops.rest ∙ ran.plans;
+        states = ap (λ (c : CoreState). c.states) stops.rest ∙ ran.states;
+      }
+
+  -- ---- what it says
+
+  module _ (on : GoesOnUsable old new) where
+    -- the logs are those of a settle of the promise
+    pub settles_now : SettlesLogs s old.keepers.told new.keepers.told → Settles (types_of s.schema) (stores_at old) (stores_at new).logs
+    settles_now settles = subst (λ (st : Stores). Settles (types_of s.schema) (stores_at old) st.logs) (sym (stores_are old new on)) settles
+
+    pub settled_changes : (logs : List ℕ) → SettlesCore true logs old new → Settles (types_of s.schema) (stores_at old) (stores_at new).logs
+    settled_changes logs is = settles_now (settled_whole logs is)
+
+    pub settled_says : (logs : List ℕ) → SettlesCore true logs old new → IsSettledNow (types_of s.schema) logs (stores_at new)
+    settled_says logs is =
+        let left = is.settled refl in record {
+          none = left.none;
+          paired = subst (λ x. ArePaired (types_of x.schema) (stores_at new).logs) on.after.settings left.paired;
+          lengths_are = left.lengths ∙ sym (lengths_are new.core.settings new.keepers.told);
+        }
+
+    -- and nodes and stores are settled since
+    pub settled_now : (logs : List ℕ) → SettlesCore true logs old new → IsSettledSince new (Some (stores_at new).logs)
+    settled_now logs is = record {
+      grows = λ left same. grows_same left (stores_at new).logs (same_Some (stores_at new).logs left same);
+      rests = λ left few same still.
+          settled_until_a_commit.settles logs old new is (settled_until_a_commit.whole new on.after.keepers.is_consistent few);
+    }

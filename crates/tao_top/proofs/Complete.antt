@@ -4,7 +4,7 @@ use Rattle.tao_io.specs.Lines.{lines_of}
 use Rattle.core_model.specs.Stores.{store_count}
 use Rattle.core_nodes.proofs.OpenLemmas.{all_first}
 use Rattle.core_nodes.specs.Opening.{AreReady}
-use Rattle.core_nodes.specs.Repairs.{Outside}
+use Rattle.core_nodes.specs.Outside.{Outside}
 use Rattle.tao_top.specs.Served.{AreLines, LinesBegin, RefusesConfiguration, IsConfigurationRefused}
 use Rattle.tao_top.specs.Status.{IsGood, IsStatus, NoFault}
 use Rattle.tao_top.specs.Step.{Configures, ended}

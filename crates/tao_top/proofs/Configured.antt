@@ -27,10 +27,11 @@ use Rattle.topology.specs.Named.{are_different, in_range}
 use Rattle.topology.specs.Regions.{are_regions, is_region}
 use Rattle.topology.specs.declared.regions.Region.{Region}
 
--- there is a shard, and one region, which is each shard's master
+-- there is a shard, and one region, which is each shard's master and has a leader
 pub record IsTaken (s : Settings) : Type 0 where
   pub shards : 0 < s.shards
   pub some : 0 < length s.regions
+  pub leads : IsTrue (list_all is_region s.regions)
   pub one : length s.regions ≤ 1
   pub masters : HaveMasterRegions s
 
@@ -86,6 +87,7 @@ config_taken d =
     taken_unless (strange_at field_names d) _ (record {
       shards = in_range_some shards (number_at_range (codes "shards") 1 64 shards d (said_of (codes "shards") _ shards shards_is));
       some = some;
+      leads = count.1;
       one = leb-true (length regions) 1 built.1;
       masters = λ shard. subst (λ n. n < length regions) (sym (unwrap_or-slice_get masters (shard % length masters) 0))
           (masters_so regions masters (shard % length masters) some all);

@@ -17,10 +17,11 @@ use Rattle.tao_io.specs.declared.lines.NextLine.{NextLine}
 use Rattle.tao_io.specs.declared.lines.NextLine.TheVariants.{End}
 use Rattle.tao_top.proofs.GoingOn.{GivesLines-all, GivesLines-begin, part_none, part_one, served_one, still_refl}
 use Rattle.tao_top.proofs.OneLine.{no_configuration}
-use Rattle.tao_top.specs.Begun.{BegunInPart, EndsAtFirst, GivesOne, RefusesFirst, RefusesFor, RefusesInPart, RefusesLine}
-use Rattle.core_nodes.specs.Repairs.{Outside, outside}
+use Rattle.tao_top.specs.Begun.{EndsAtFirst, GivesOne, RefusesFirst, RefusesFor, RefusesInPart, RefusesLine, ConfiguredInPart}
+use Rattle.core_nodes.specs.Outside.{Outside, outside}
 use Rattle.tao_top.specs.Served.{AppendsPart, AreLines, EndsInPart, OpensInPart, RefusesConfiguration, Served, StopsOpening, refusal_line, serves}
-use Rattle.tao_top.specs.Served.{start, streams, traces}
+use Rattle.tao_top.specs.Served.{AtOpeningOrLater}
+use Rattle.tao_top.specs.Served.{start, streams}
 use Rattle.tao_top.specs.Step.{State, ended, Configures, Replies, Step, reply_line, serving}
 use Rattle.topology.specs.Config.{Settings}
 
@@ -124,12 +125,12 @@ module _ (tells : Bool) (old now : Outside) (line : List ℕ) (s : Settings) (co
     pub begun_silent : (core : CoreState) → core.settings ≡ s → IsNewCore core → IsCoreOf tells now.keepers.told core
         → WhereTold tells (AreAtStores now.keepers.told core.fleet)
         → WhereTold tells (IsOpened s line old.keepers.told now.keepers.told) → AppendsPart before after (reply_line (serving core) Configured)
-        → (code : ℕ) → BegunInPart code tells (traces old before) (traces now after) line
+        → (code : ℕ) → AtOpeningOrLater code (OpensInPart tells old now line before after) (ConfiguredInPart tells old now line before after)
     begun_silent core is begun of_core ends opened written code =
         inr (serves core now, (Configured, takes core is begun of_core ends opened, written), still_refl tells now (serves core now) refl)
 
     pub begun_other : WhereTold tells (IsOtherLine s line old.keepers.told now.keepers.told) → AppendsPart before after (refusal_line (codes "file"))
-        → (code : ℕ) → BegunInPart code tells (traces old before) (traces now after) line
+        → (code : ℕ) → AtOpeningOrLater code (OpensInPart tells old now line before after) (ConfiguredInPart tells old now line before after)
     begun_other other written code = inr (
       refusing now,
       (BadConfiguration (codes "file"), record { does = other_line other; later = later }, written),
@@ -150,7 +151,8 @@ pub begun_whatever : (tells : Bool) (old now : KeeperState) (line : List ℕ) (s
     → core.settings ≡ s → IsNewCore core → IsCoreOf tells now.told core → WhereTold tells (AreAtStores now.told core.fleet)
     → WhereTold tells (IsOpened s line old.told now.told)
     → AppendsPart before after (reply_line (serving core) Configured)
-    → (code : ℕ) (link : LinkShown) → BegunInPart code tells (traces (outside old link) before) (traces (outside now link) after) line
+    → (code : ℕ) (link : LinkShown) → AtOpeningOrLater code (OpensInPart tells (outside old link) (outside now link) line before after)
+    (ConfiguredInPart tells (outside old link) (outside now link) line before after)
 begun_whatever tells old now line s configured later before after core is begun of_core ends opened written code link =
     begun_silent tells (outside old link) (outside now link) line s configured later refl before after core is begun of_core ends opened written code
 
@@ -160,8 +162,8 @@ module _ (tells : Bool) (old now : Outside) (left rest before after : Option (Li
   pub stops_opening : OpensInPart tells old now line before after → StopsOpening tells old now left before after
   stops_opening opens = (line, GivesLines-begin left rest (line ∷ []) read, opens)
 
-  pub begun_part : (code : ℕ) → BegunInPart code tells (traces old before) (traces now after) line
-      → EndsInPart code tells (traces old before) (traces now after) left
+  pub begun_part : (code : ℕ) → AtOpeningOrLater code (OpensInPart tells old now line before after) (ConfiguredInPart tells old now line before after)
+      → EndsInPart code tells old now (streams left before) after
   begun_part code (inl opens) = inl (opens.0, stops_opening opens.1)
   begun_part code (inr said) = inr (inr (part_one tells (start old) said.0 now left rest before after line read said.1 said.2))
 

@@ -7,7 +7,7 @@ use Rattle.std.specs.Io.KnownBytes.{Appends, IsAtEnd}
 use Rattle.std.proofs.KnownBytes.{Appends-trans, Appends-nil}
 use Rattle.tao_io.proofs.GivenLines.{GivesLines-nil, GivesLines-trans}
 use Rattle.tao_io.specs.Lines.{lines_of, GivesLines}
-use Rattle.core_nodes.specs.Repairs.{Outside}
+use Rattle.core_nodes.specs.Outside.{Outside}
 use Rattle.tao_top.specs.Served.{AreLines, LinesBegin, AppendsPart, IsStill, Served, ServedAll, ServedInPart, joined, streams}
 use Rattle.tao_top.specs.Step.{State, Replies, RunsLines, reply_line}
 use Rattle.tao_io.proofs.LineLaws.{lines_of-nil}

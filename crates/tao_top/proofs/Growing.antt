@@ -5,7 +5,7 @@ use Rattle.config_json.specs.Config.{config_in}
 use Rattle.replies.specs.declared.reply.Reply.{Reply}
 use Rattle.requests.specs.declared.request.Request.{Request}
 use Rattle.tao_base.specs.declared.id.StoreName.{StoreName}
-use Rattle.tao_core.specs.Core.{ComeUp, CoreState, IsCoreOf}
+use Rattle.tao_core.specs.Core.{ComeUp, CoreState, IsCoreOf, moment_of}
 use Rattle.core_model.proofs.KeptStores.{kept_stays}
 use Rattle.core_model.specs.Consistent.{GoesOn}
 use Rattle.core_model.specs.Growing.{StoresGrow}
@@ -16,8 +16,7 @@ use Rattle.tao_keeper.specs.Table.{Tables, OpensAs}
 use Rattle.tao_keeper.specs.declared.keeper.Opened.TheVariants.{Ready}
 use Rattle.tao_top.proofs.Configured.{taken_rules}
 use Rattle.tao_top.specs.Kept.{AreOpenedWith, LeavesTables, MayServe, StillBegin}
-use Rattle.core_nodes.specs.Repairs.{Outside}
-use Rattle.tao_top.specs.Moments.{moment_of}
+use Rattle.core_nodes.specs.Outside.{Outside}
 use Rattle.tao_top.specs.Step.{AnswersLine, KeepsServing}
 use Rattle.topology.specs.Config.{Settings}
 

@@ -7,3 +7,5 @@ pub mod Keeping
 pub mod OneLine
 pub mod RunLaws
 pub mod WholeRun
+pub mod AllUp
+pub mod Promised

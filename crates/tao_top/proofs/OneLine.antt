@@ -13,14 +13,13 @@ use Rattle.replies.specs.declared.reply.Reply.{Reply}
 use Rattle.replies.specs.declared.reply.Reply.TheVariants.{Refused}
 use Rattle.request_json.specs.Requests.{request_in}
 use Rattle.request_json.specs.declared.refusal.LineRefusal.TheVariants.{BadLine}
-use Rattle.tao_core.specs.Core.{CoreState}
+use Rattle.tao_core.specs.Core.{CoreState, moment_of}
 use Rattle.tao_io.specs.Lines.{GivesLines, IsTooLong, NextLineIs}
 use Rattle.tao_io.specs.declared.lines.NextLine.{NextLine}
 use Rattle.tao_io.specs.declared.lines.NextLine.TheVariants.{Line, TooLong, End}
 use Rattle.tao_top.proofs.GoingOn.{part_none, part_one, served_one, still_refl}
 use Rattle.tao_top.specs.Begun.{RepliesInPart}
-use Rattle.core_nodes.specs.Repairs.{Outside}
-use Rattle.tao_top.specs.Moments.{moment_of}
+use Rattle.core_nodes.specs.Outside.{Outside}
 use Rattle.tao_top.specs.Served.{AppendsPart, Served, ServedInPart, serves, streams}
 use Rattle.tao_top.specs.Step.{AnswersLine, State, Replies, Step, reply_line, serving}
 

@@ -1,14 +1,13 @@
 -- A run that may go on may go on after each of its lines.
 use Rattle.std.proofs.Common.{ℕ, Bool, List, [], ◌∷◌, Result, Ok, Err, sym, subst}
-use Rattle.core_nodes.specs.Repairs.{Outside}
+use Rattle.core_nodes.specs.Outside.{Outside}
 use Rattle.replies.specs.declared.reply.Reply.{Reply}
 use Rattle.replies.specs.declared.reply.Reply.TheVariants.{Audited, BadConfiguration, BadStores, Called, Configured, Node, Opened, Plan, Refused, Settled}
 use Rattle.request_json.specs.Requests.{request_in}
 use Rattle.request_json.specs.declared.refusal.LineRefusal.{LineRefusal}
 use Rattle.requests.specs.declared.request.Request.{Request}
-use Rattle.tao_core.specs.Core.{CoreState, IsCoreOf, Moment}
+use Rattle.tao_core.specs.Core.{CoreState, IsCoreOf, Moment, moment_of}
 use Rattle.tao_top.specs.Laws.{MayGoOn, MayServeAt, RunsGoOn}
-use Rattle.tao_top.specs.Moments.{moment_of}
 use Rattle.tao_top.specs.Step.{AnswersLine, Configures, RunsLines, RunStage, State, Step, StepIn, ended, serving, waiting}
 
 -- the first line

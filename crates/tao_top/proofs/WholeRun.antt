@@ -14,11 +14,11 @@ use Rattle.tao_io.specs.Lines.{CountsTaken, GivesLines}
 use Rattle.tao_keeper.specs.Table.{Tables}
 use Rattle.tao_top.proofs.FirstLine.{begun, begun_part, refuses_line, stops_opening}
 use Rattle.tao_top.proofs.GoingOn.{GivesLines-begin, served_then_all, served_then_part, served_all_part}
-use Rattle.tao_top.specs.Begun.{BegunInPart, EndsAtFirst, GivesOne, RefusesFirst, RefusesLine}
+use Rattle.tao_top.specs.Begun.{EndsAtFirst, GivesOne, RefusesFirst, RefusesLine, ConfiguredInPart}
 use Rattle.tao_top.specs.Kept.{MayRun}
-use Rattle.core_nodes.specs.Repairs.{Outside}
-use Rattle.tao_top.specs.Served.{Done, DoneInPart, EndsInPart, FailsOpening, LinesBegin, OpensInPart, RefusesConfiguration, Served, ServedAll}
-use Rattle.tao_top.specs.Served.{ServedInPart, StopsOpening, serves, start, streams, traces}
+use Rattle.core_nodes.specs.Outside.{Outside}
+use Rattle.tao_top.specs.Served.{Done, DoneInPart, EndsInPart, FailsOpening, LinesBegin, OpensInPart, RefusesConfiguration, Served, ServedAll, AtOpeningOrLater}
+use Rattle.tao_top.specs.Served.{ServedInPart, StopsOpening, serves, start, streams}
 use Rattle.tao_top.specs.Step.{Replies}
 use Rattle.tao_top.specs.Stop.{Faults, FaultsGrow, InterruptHasCause, StopHasCause, stop_code}
 use Rattle.tao_top.specs.Taken.{Takes, TakesFirst}
@@ -44,11 +44,11 @@ module _ (tells : Bool) (around : Outside) (known left before after : Option (Li
 -- it was read, and nothing was written until its reply
 module _ (tells : Bool) (old mid : Outside) (known left rest before silent after : Option (List ℕ)) (line : List ℕ) (is : known ≡ left) (same : silent ≡ before)
     (read : GivesLines known rest (line ∷ [])) where
-  pub begun_in_part : (code : ℕ) → BegunInPart code tells (traces old silent) (traces mid after) line
-      → EndsInPart code tells (traces old before) (traces mid after) left
+  pub begun_in_part : (code : ℕ) → AtOpeningOrLater code (OpensInPart tells old mid line silent after) (ConfiguredInPart tells old mid line silent after)
+      → EndsInPart code tells old mid (streams left before) after
   begun_in_part code part =
-      subst (λ l. EndsInPart code tells (traces old before) (traces mid after) l) is
-      (subst (λ w. EndsInPart code tells (traces old w) (traces mid after) known) same (begun_part tells old mid known rest silent after line read code part))
+      subst (λ l. EndsInPart code tells old mid (streams l before) after) is
+      (subst (λ w. EndsInPart code tells old mid (streams known w) after) same (begun_part tells old mid known rest silent after line read code part))
 
   pub begun_opening : OpensInPart tells old mid line silent after → StopsOpening tells old mid left before after
   begun_opening opens =

@@ -6,8 +6,8 @@ use Rattle.config_json.specs.declared.refusal.ConfigRefusal.TheVariants.{BadConf
 use Rattle.counts.specs.Count.{Rose}
 use Rattle.replies.specs.declared.reply.Reply.TheVariants.{BadConfiguration}
 use Rattle.tao_io.specs.Lines.{GivesLines}
-use Rattle.core_nodes.specs.Repairs.{Outside}
-use Rattle.tao_top.specs.Served.{AppendsPart, DoneInPart, IsOpeningStatus, IsStill, OpensInPart, RefusesConfiguration, Traces, refusal_line, start}
+use Rattle.core_nodes.specs.Outside.{Outside}
+use Rattle.tao_top.specs.Served.{AppendsPart, DoneInPart, IsStill, RefusesConfiguration, refusal_line, start}
 use Rattle.tao_top.specs.Step.{State, ended, Configures, Replies}
 use Rattle.tao_top.specs.Stop.{InterruptsWriting}
 use Rattle.tao_top.specs.declared.stop.Stop.{Stop}
@@ -33,10 +33,9 @@ RefusesFirst left before after = (tells : Bool) (around : Outside) → RefusesCo
 abbrev pub GivesOne : Option (List ℕ) → Option (List ℕ) → Type 0
 GivesOne left rest = (lines : List (List ℕ)) × (length lines ≤ 1) × GivesLines left rest lines
 
--- the configuration got a reply of which a front was written, and since then no table changed; or its stores were opened in part, which ends with 6 and 7 alone
-abbrev pub BegunInPart : ℕ → Bool → Traces → Traces → List ℕ → Type 0
-BegunInPart code tells old now line = (IsOpeningStatus code × OpensInPart tells old.outside now.outside line old.written now.written)
-    ⊎ ((last : State) × Replies tells (start old.outside) line last (AppendsPart old.written now.written) × IsStill tells last now.outside)
+-- the configuration got a reply of which a front was written, and since then no table changed
+abbrev pub ConfiguredInPart : Bool → Outside → Outside → List ℕ → Option (List ℕ) → Option (List ℕ) → Type 0
+ConfiguredInPart tells old now line before after = (last : State) × Replies tells (start old) line last (AppendsPart before after) × IsStill tells last now
 
 -- the line was refused as the configuration, and the line that says so was written
 pub record RefusesLine (tells : Bool) (old now : Outside) (line : List ℕ) (before after : Option (List ℕ)) : Type 0 where

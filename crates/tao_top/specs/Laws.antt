@@ -2,7 +2,7 @@
 use Rattle.std.specs.Prelude.{ℕ, ⊤, Bool, List}
 use Rattle.tao_core.specs.Core.{IsCoreOf}
 use Rattle.tao_top.specs.Step.{RunsLines, RunStage, State, ended, serving, waiting}
-use Rattle.core_nodes.specs.Repairs.{Outside}
+use Rattle.core_nodes.specs.Outside.{Outside}
 
 -- the core that serves may be used with the keepers' tables, at a stage
 abbrev pub MayServeAt : Bool → RunStage → Outside → Type 0

@@ -1,9 +1,10 @@
 pub mod Kept
 pub mod Laws
-pub mod Moments
 pub mod Step
 pub mod Stop
 pub mod Served
 pub mod Begun
 pub mod Status
 pub mod Taken
+pub mod Promised
+pub mod PromisedLaws

@@ -10,7 +10,7 @@ use Rattle.replies.specs.declared.reply.Reply.TheVariants.{BadConfiguration}
 use Rattle.tao_core.specs.Core.{CoreState}
 use Rattle.core_nodes.specs.Opening.{IsOpenedInPart}
 use Rattle.tao_io.specs.Lines.{lines_of, GivesLines}
-use Rattle.core_nodes.specs.Repairs.{Outside}
+use Rattle.core_nodes.specs.Outside.{Outside}
 use Rattle.tao_top.specs.Step.{State, waiting, serving, ended, Configures, RunsLines, reply_line}
 use Rattle.topology.specs.Config.{Settings}
 
@@ -122,20 +122,15 @@ pub record FailsOpening (tells : Bool) (old now : Outside) (left before after : 
 abbrev pub IsOpeningStatus : ℕ → Type 0
 IsOpeningStatus code = (code ≡ 6) ⊎ (code ≡ 7)
 
--- what a run leaves: what the keepers and the link show, and what the sink took where it is known
-pub record Traces : Type 0 where
-  pub outside : Outside
-  pub written : Option (List ℕ)
+-- the first at the opening of the stores, which ends with 6 and 7 alone, or else the other
+abbrev pub AtOpeningOrLater : ℕ → Type 0 → Type 0 → Type 0
+AtOpeningOrLater code opening later = (IsOpeningStatus code × opening) ⊎ later
 
--- what keepers and a link show, with what the sink took
-abbrev pub traces : Outside → Option (List ℕ) → Traces
-traces around written = record { outside = around; written = written }
-
--- what a run has done that ends with this status: a part of its lines, or of the opening of its stores with 6 and 7 alone
-abbrev pub EndsInPart : ℕ → Bool → Traces → Traces → Option (List ℕ) → Type 0
-EndsInPart code tells old now left =
-    (IsOpeningStatus code × StopsOpening tells old.outside now.outside left old.written now.written)
-    ⊎ DoneInPart tells old.outside now.outside left old.written now.written
+-- what a run has done that ends with this status, from what the source had left and the sink had taken on: a part of the opening of its stores, or of its
+-- lines
+abbrev pub EndsInPart : ℕ → Bool → Outside → Outside → Streams → Option (List ℕ) → Type 0
+EndsInPart code tells old now before after =
+    AtOpeningOrLater code (StopsOpening tells old now before.left before.written after) (DoneInPart tells old now before.left before.written after)
 
 -- the first line is refused as the configuration, or the input has none
 abbrev pub IsConfigurationRefused : Bool → Outside → Outside → Option (List ℕ) → List ℕ → Type 0

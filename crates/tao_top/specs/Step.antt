@@ -16,11 +16,10 @@ use Rattle.request_json.specs.Requests.{request_in}
 use Rattle.request_json.specs.declared.refusal.LineRefusal.{LineRefusal}
 use Rattle.request_json.specs.declared.refusal.LineRefusal.TheVariants.{BadLine, TooLarge, OutOfMemory}
 use Rattle.requests.specs.declared.request.Request.{Request}
-use Rattle.tao_core.specs.Core.{ComeUp, CoreState, IsCoreOf, IsNewCore, Moment}
+use Rattle.tao_core.specs.Core.{ComeUp, CoreState, IsCoreOf, IsNewCore, Moment, moment_of}
 use Rattle.core_nodes.specs.Opening.{IsOpened, IsOtherLine}
 use Rattle.tao_core.specs.Replies.{AnswersRequest}
-use Rattle.core_nodes.specs.Repairs.{Outside}
-use Rattle.tao_top.specs.Moments.{moment_of}
+use Rattle.core_nodes.specs.Outside.{Outside}
 use Rattle.topology.specs.Config.{Settings}
 
 -- ---- states

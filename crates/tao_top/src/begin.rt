@@ -6,11 +6,11 @@ ghost use Rattle.graph_model.specs.Told.{WhereTold};
 ghost use Rattle.core_nodes.specs.Opening.{MayOpen};
 ghost use Rattle.tao_io.specs.LineReader.{most_ahead, to_come};
 ghost use Rattle.tao_io.specs.Lines.{CountsTaken, GivesLines};
-ghost use Rattle.tao_top.specs.Begun.{BegunInPart, EndsAtFirst, GivesOne, RefusesFirst, RefusesFor, RefusesInPart, RefusesLine, StopsBeginning};
+ghost use Rattle.tao_top.specs.Begun.{EndsAtFirst, GivesOne, RefusesFirst, RefusesFor, RefusesInPart, RefusesLine, StopsBeginning, ConfiguredInPart};
 ghost use Rattle.tao_link.specs.Shown.{LinkShown};
 ghost use Rattle.tao_top.specs.Kept.{LeavesTables, MayServe};
-ghost use Rattle.core_nodes.specs.Repairs.{outside};
-ghost use Rattle.tao_top.specs.Served.{OpensInPart, serves, start, traces};
+ghost use Rattle.core_nodes.specs.Outside.{outside};
+ghost use Rattle.tao_top.specs.Served.{OpensInPart, serves, start, AtOpeningOrLater};
 ghost use Rattle.tao_top.specs.Step.{Replies};
 ghost use Rattle.tao_top.specs.Stop.{FaultsGrow, StopHasCause, faults, stop_code};
 
@@ -93,9 +93,11 @@ pub(crate) fn begin<'c, S: Sink, K: Keeper>(
     ensures ok { IfOk result (λ serving. (link : LinkShown) → Replies K.TELLS (start (outside (K.state keepers.old) link)) first.now.line.items
         (serves serving (outside (K.state keepers.new) link)) (Appends (S.taken output.old) (S.taken output.new))) }
     ensures serving { IfOk result (λ serving. MayServe K.TELLS serving (K.state keepers.new).told) }
-    ensures err { IfErr result (λ stop. (link : LinkShown) → BegunInPart (stop_code stop) K.TELLS
-        (traces (outside (K.state keepers.old) link) (S.taken output.old))
-        (traces (outside (K.state keepers.new) link) (S.taken output.new)) first.now.line.items) }
+    ensures err { IfErr result (λ stop. (link : LinkShown) → AtOpeningOrLater (stop_code stop)
+        (OpensInPart K.TELLS (outside (K.state keepers.old) link) (outside (K.state keepers.new) link) first.now.line.items
+        (S.taken output.old) (S.taken output.new))
+        (ConfiguredInPart K.TELLS (outside (K.state keepers.old) link) (outside (K.state keepers.new) link) first.now.line.items
+        (S.taken output.old) (S.taken output.new))) }
     ensures keepers { result ≡ Err Stop.Keepers → (link : LinkShown) → OpensInPart K.TELLS
         (outside (K.state keepers.old) link) (outside (K.state keepers.new) link) first.now.line.items
         (S.taken output.old) (S.taken output.new) }
@@ -109,7 +111,7 @@ pub(crate) fn begin<'c, S: Sink, K: Keeper>(
     match Serving::open(alloc, &first.config, &first.line, keepers) {
         Ok(serving) => {
             let reply = Reply::Configured;
-            let said = serving.say(alloc, output, &reply);
+            let said = serving.say(output, &reply);
             drop(reply);
             match said {
                 Ok(()) => Ok(serving),

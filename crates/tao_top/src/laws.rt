@@ -1,9 +1,16 @@
 //! What holds at each state of a run.
 ghost use Rattle.std.specs.Prelude.{Bool};
 ghost use Rattle.tao_top.specs.Laws.{RunsGoOn};
+ghost use Rattle.tao_top.specs.PromisedLaws.{RunsArePromised};
 
 /// After every line the core that serves may be used with the keepers' tables: its nodes are consistent, and the logs sound and covered.
 #[tactic(auto, using(crate::proofs::RunLaws::runs_go_on))]
 pub fn runs_go_on()
     ensures { (tells : Bool) → RunsGoOn tells }
+{}
+
+/// The lines that a run answers, and the texts of their replies, are as promised: each a step of the promise, one after another.
+#[tactic(auto, using(crate::proofs::Promised::runs_are_promised))]
+pub fn runs_are_promised()
+    ensures { RunsArePromised }
 {}

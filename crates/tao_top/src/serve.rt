@@ -4,13 +4,12 @@ ghost use Rattle.std.specs.Io.KnownBytes.{IsAtEnd};
 ghost use Rattle.tao_io.specs.LineReader.{may_give, to_come};
 ghost use Rattle.tao_io.specs.Lines.{CountsTaken};
 ghost use Rattle.tao_top.specs.Kept.{LeavesTables, MayServe};
-ghost use Rattle.core_nodes.specs.Repairs.{outside};
+ghost use Rattle.core_nodes.specs.Outside.{outside};
 ghost use Rattle.tao_top.specs.Served.{Served, ServedAll, ServedInPart, serves, streams};
 ghost use Rattle.tao_top.specs.Stop.{FaultsGrow, InterruptHasCause, faults};
 
 use crate::serving::Serving;
 use crate::stop::Interrupt;
-use std::alloc::Global;
 use tao_io::{LineReader, NextLine, Sink, Source};
 use tao_keeper::Keeper;
 use tao_link::Link;
@@ -18,7 +17,6 @@ use tao_link::Link;
 /// Reads a line, answers it, and writes the reply. Says whether there was a line.
 #[tactic(auto, using(crate::proofs::Keeping::leaves_same))]
 fn serve_line<R: Source, S: Sink, K: Keeper, L: Link>(
-    alloc: Global,
     serving: &mut Serving<'_>,
     reader: &mut LineReader,
     input: &mut R,
@@ -46,15 +44,15 @@ fn serve_line<R: Source, S: Sink, K: Keeper, L: Link>(
     ensures limited { reader.new.taken ≤ 2 ^ 40 }
     ensures later { FaultsGrow (faults (R.faults input.old) (S.faults output.old)) (faults (R.faults input.new) (S.faults output.new)) }
 {
-    let mut line = Vec::new(alloc);
+    let mut line = serving.no_line();
     match reader.next(input, &mut line)? {
         NextLine::End => Ok(false),
         NextLine::TooLong => {
-            serving.refuse_line(alloc, output)?;
+            serving.refuse_line(output)?;
             Ok(true)
         }
         NextLine::Line => {
-            serving.answer_line(alloc, keepers, link, output, &line)?;
+            serving.answer_line(keepers, link, output, &line)?;
             Ok(true)
         }
     }
@@ -62,7 +60,6 @@ fn serve_line<R: Source, S: Sink, K: Keeper, L: Link>(
 
 /// Serves each line that is left.
 pub(crate) fn serve<R: Source, S: Sink, K: Keeper, L: Link>(
-    alloc: Global,
     serving: &mut Serving<'_>,
     reader: &mut LineReader,
     input: &mut R,
@@ -89,7 +86,7 @@ pub(crate) fn serve<R: Source, S: Sink, K: Keeper, L: Link>(
     ensures later { FaultsGrow (faults (R.faults input.old) (S.faults output.old)) (faults (R.faults input.new) (S.faults output.new)) }
 {
     'lines: loop {
-        if !serve_line(alloc, serving, reader, input, output, keepers, link)? {
+        if !serve_line(serving, reader, input, output, keepers, link)? {
             return Ok(());
         }
     }

@@ -10,7 +10,7 @@ ghost use Rattle.core_nodes.specs.Beginning.{AreAtStores};
 ghost use Rattle.core_nodes.specs.Opening.{IsOpened, MayOpen, RefusesOpening};
 ghost use Rattle.tao_top.specs.Begun.{RepliesInPart};
 ghost use Rattle.tao_top.specs.Kept.{LeavesTables, MayServe};
-ghost use Rattle.core_nodes.specs.Repairs.{outside};
+ghost use Rattle.core_nodes.specs.Outside.{outside};
 ghost use Rattle.tao_top.specs.Served.{AppendsPart, serves};
 ghost use Rattle.tao_top.specs.Step.{AnswersLine, Replies, reply_line, serving};
 ghost use Rattle.tao_top.specs.Stop.{InterruptsWriting};
@@ -27,9 +27,10 @@ use tao_link::Link;
 use tao_wire::{LineRefusal, LineRefused, OpenRefusal, Refusal, Reply, Request, read_request};
 use topology::Config;
 
-/// A core, beside the configuration that it serves by and that spells the names in its replies.
+/// A core, beside whence lines and replies take memory, and the configuration that it serves by and that spells the names in its replies.
 #[derive(Drop)]
 pub(crate) struct Serving<'c> {
+    alloc: Global,
     config: &'c Config,
     core: Core<'c>,
 }
@@ -74,28 +75,33 @@ impl<'c> Serving<'c> {
         ensures later { IsLater (K.state keepers.old) (K.state keepers.new) }
     {
         let core = Core::open(alloc, config, line, keepers)?;
-        Ok(Serving { config, core })
+        Ok(Serving {
+            alloc,
+            config,
+            core,
+        })
+    }
+
+    /// A line of which nothing is read yet.
+    pub(crate) fn no_line(&self) -> Vec<u8>
+        ensures { result.items ≡ [] }
+    {
+        Vec::new(self.alloc)
     }
 
     /// Writes the line of a reply.
-    pub(crate) fn say<S: Sink>(
-        &self,
-        alloc: Global,
-        output: &mut S,
-        reply: &Reply,
-    ) -> Result<(), Interrupt>
+    pub(crate) fn say<S: Sink>(&self, output: &mut S, reply: &Reply) -> Result<(), Interrupt>
         ensures ok { OnOk result (Appends (S.taken output.old) (S.taken output.new) (reply_line (serving self.now) reply.now)) }
         ensures err { OnErr result (AppendsPart (S.taken output.old) (S.taken output.new) (reply_line (serving self.now) reply.now)) }
         ensures cause { IfErr result (InterruptsWriting (S.faults output.old) (S.faults output.new)) }
         ensures later { S.faults output.old ≤ S.faults output.new }
     {
-        say(alloc, self.config, output, reply)
+        say(self.alloc, self.config, output, reply)
     }
 
     /// The core's reply to a request.
     fn call<K: Keeper, L: Link>(
         &mut self,
-        alloc: Global,
         keepers: &mut K,
         link: &mut L,
         request: &Request,
@@ -107,14 +113,13 @@ impl<'c> Serving<'c> {
         ensures tables { LeavesTables K.TELLS (K.state keepers.old) (K.state keepers.new) }
         ensures later { IsLater (K.state keepers.old) (K.state keepers.new) }
     {
-        self.core.call(alloc, keepers, link, request)
+        self.core.call(self.alloc, keepers, link, request)
     }
 
     /// The reply to a line.
     #[tactic(auto, using(crate::proofs::Keeping::leaves_same))]
     fn answer<K: Keeper, L: Link>(
         &mut self,
-        alloc: Global,
         keepers: &mut K,
         link: &mut L,
         line: &[u8],
@@ -127,9 +132,9 @@ impl<'c> Serving<'c> {
         ensures tables { LeavesTables K.TELLS (K.state keepers.old) (K.state keepers.new) }
         ensures later { IsLater (K.state keepers.old) (K.state keepers.new) }
     {
-        match read_request(alloc, line) {
+        match read_request(self.alloc, line) {
             Ok(request) => {
-                let reply = self.call(alloc, keepers, link, &request);
+                let reply = self.call(keepers, link, &request);
                 drop(request);
                 Ok(reply)
             }
@@ -146,7 +151,6 @@ impl<'c> Serving<'c> {
     /// Answers a line, and writes the reply.
     pub(crate) fn answer_line<S: Sink, K: Keeper, L: Link>(
         &mut self,
-        alloc: Global,
         keepers: &mut K,
         link: &mut L,
         output: &mut S,
@@ -162,18 +166,14 @@ impl<'c> Serving<'c> {
         ensures cause { IfErr result (InterruptsWriting (S.faults output.old) (S.faults output.new)) }
         ensures later { S.faults output.old ≤ S.faults output.new }
     {
-        let reply = self.answer(alloc, keepers, link, line)?;
-        let said = self.say(alloc, output, &reply);
+        let reply = self.answer(keepers, link, line)?;
+        let said = self.say(output, &reply);
         drop(reply);
         said
     }
 
     /// Refuses a line that is too long.
-    pub(crate) fn refuse_line<S: Sink>(
-        &self,
-        alloc: Global,
-        output: &mut S,
-    ) -> Result<(), Interrupt>
+    pub(crate) fn refuse_line<S: Sink>(&self, output: &mut S) -> Result<(), Interrupt>
         ensures ok { OnOk result (Appends
             (S.taken output.old) (S.taken output.new) (reply_line (serving self.now) (Reply.Refused (Refusal.Line (LineRefused.BadLine []))))) }
         ensures err { OnErr result (AppendsPart
@@ -181,8 +181,8 @@ impl<'c> Serving<'c> {
         ensures cause { IfErr result (InterruptsWriting (S.faults output.old) (S.faults output.new)) }
         ensures later { S.faults output.old ≤ S.faults output.new }
     {
-        let reply = too_long(alloc)?;
-        let said = self.say(alloc, output, &reply);
+        let reply = too_long(self.alloc)?;
+        let said = self.say(output, &reply);
         drop(reply);
         said
     }

@@ -7,8 +7,9 @@ ghost use Rattle.counts.specs.Count.{Rose};
 ghost use Rattle.graph_model.specs.Told.{WhereTold};
 ghost use Rattle.tao_keeper.specs.Growing.{LogsGrow};
 ghost use Rattle.tao_top.specs.Kept.{LeavesTables, MayRun, StillBegin};
-ghost use Rattle.core_nodes.specs.Repairs.{outside};
-ghost use Rattle.tao_top.specs.Served.{Done, EndsInPart, FailsOpening, RefusesConfiguration, StopsOpening, traces};
+ghost use Rattle.core_nodes.specs.Outside.{outside};
+ghost use Rattle.tao_top.specs.Promised.{RunKeepsPromise};
+ghost use Rattle.tao_top.specs.Served.{Done, EndsInPart, FailsOpening, RefusesConfiguration, StopsOpening, streams};
 ghost use Rattle.tao_top.specs.Stop.{StopHasCause, faults, stop_code};
 ghost use Rattle.tao_top.specs.declared.stop.Interrupt.TheVariants.{InputTooLong};
 ghost use Rattle.tao_top.specs.Status.{IsGood, IsStatus, NoFault};
@@ -39,8 +40,8 @@ fn go<R: Source, S: Sink, K: Keeper, L: Link>(
         (S.taken output.old) (S.taken output.new)) }
     ensures short { OnOk result (IfSome (R.left input.old) (λ bytes. length bytes < 2 ^ 40)) }
     ensures err { IfErr result (λ stop. EndsInPart (stop_code stop) K.TELLS
-        (traces (outside (K.state keepers.old) (L.shown link.old)) (S.taken output.old))
-        (traces (outside (K.state keepers.new) (L.shown link.new)) (S.taken output.new)) (R.left input.old)) }
+        (outside (K.state keepers.old) (L.shown link.old)) (outside (K.state keepers.new) (L.shown link.new))
+        (streams (R.left input.old) (S.taken output.old)) (S.taken output.new)) }
     ensures keepers { result ≡ Err Stop.Keepers → StopsOpening K.TELLS
         (outside (K.state keepers.old) (L.shown link.old)) (outside (K.state keepers.new) (L.shown link.new)) (R.left input.old)
         (S.taken output.old) (S.taken output.new) }
@@ -59,15 +60,7 @@ fn go<R: Source, S: Sink, K: Keeper, L: Link>(
     let mut reader = LineReader::new(alloc)?;
     let first = read_first(alloc, &mut reader, input, output)?;
     let mut serving = begin(alloc, &first, output, keepers)?;
-    let served = serve(
-        alloc,
-        &mut serving,
-        &mut reader,
-        input,
-        output,
-        keepers,
-        link,
-    );
+    let served = serve(&mut serving, &mut reader, input, output, keepers, link);
     drop(serving);
     served?;
     Ok(())
@@ -111,6 +104,11 @@ pub fn run<R: Source, S: Sink, K: Keeper, L: Link>(
 ) -> Status
     // Where every store takes the first line, their logs are sound with it, and covered. A later run may begin with each line with which this one might.
     requires kept { WhereTold K.TELLS (MayRun (R.left input.old) (K.state keepers.old).told) }
+
+    // What a caller is promised: each line of the input and its reply are a step of it, one after another.
+    ensures promise { WhereTold K.TELLS (RunKeepsPromise result.code
+        (K.state keepers.old).told (K.state keepers.new).told (R.left input.old) (S.taken output.old) (S.taken output.new)) }
+
     ensures still { WhereTold K.TELLS (StillBegin (K.state keepers.old).told (K.state keepers.new).told) }
     ensures histories { LogsGrow K.TELLS (K.state keepers.old).told (K.state keepers.new).told }
 
@@ -118,8 +116,8 @@ pub fn run<R: Source, S: Sink, K: Keeper, L: Link>(
         (outside (K.state keepers.old) (L.shown link.old)) (outside (K.state keepers.new) (L.shown link.new)) (R.left input.old)
         (S.taken output.old) (S.taken output.new) }
     ensures in_part { EndsInPart result.code K.TELLS
-        (traces (outside (K.state keepers.old) (L.shown link.old)) (S.taken output.old))
-        (traces (outside (K.state keepers.new) (L.shown link.new)) (S.taken output.new)) (R.left input.old) }
+        (outside (K.state keepers.old) (L.shown link.old)) (outside (K.state keepers.new) (L.shown link.new))
+        (streams (R.left input.old) (S.taken output.old)) (S.taken output.new) }
 
     ensures words { result.code ≡ 2 → words_in (map string_bytes words.now) ≡ Err Usage }
     ensures usage { words_in (map string_bytes words.now) ≡ Err Usage → (result.code ≡ 2) ⊎ (result.code ≡ 7) }

@@ -3,7 +3,7 @@ use Rattle.graph_model.specs.Told.{WhereTold}
 use Rattle.core_nodes.specs.Opening.{IsOpened, IsOtherLine, MayOpen, RefusesOpening}
 use Rattle.tao_top.proofs.Configured.{no_slave}
 use Rattle.tao_top.proofs.FirstLine.{begins, begun_other, begun_whatever, refuses_other}
-use Rattle.core_nodes.specs.Repairs.{outside}
+use Rattle.core_nodes.specs.Outside.{outside}
 use Rattle.tao_top.specs.Stop.{interrupt_code, stop_code}
 use Rattle.tao_top.specs.declared.stop.Stop.TheVariants.{Configuration}
 use Rattle.tao_top.proofs.begin.begin.Goals as goal

@@ -1,5 +1,5 @@
 use Rattle.tao_top.proofs.OneLine.{OnErr-any, line_of_Line, line_of_TooLong, part_answered, part_refused, part_unread, served_answered, served_refused}
-use Rattle.core_nodes.specs.Repairs.{outside}
+use Rattle.core_nodes.specs.Outside.{outside}
 use Rattle.tao_top.specs.Served.{serves}
 use Rattle.tao_top.proofs.serve.serve_line.Goals as goal
 

@@ -6,8 +6,8 @@ use Rattle.tao_top.proofs.Keeping.{leaves_then}
 use Rattle.tao_top.proofs.OneLine.{IfErr-any, part_unread}
 use Rattle.tao_top.proofs.WholeRun.{begun_in_part, begun_opening, begun_refused, begun_well, done, done_part, end_of_source, first_in_part}
 use Rattle.tao_top.proofs.WholeRun.{first_refused, fresh, interrupt_later, long_input, may_open, short_input, takes_counted, takes_first, takes_none}
-use Rattle.core_nodes.specs.Repairs.{outside}
-use Rattle.tao_top.specs.Served.{EndsInPart, start, traces}
+use Rattle.core_nodes.specs.Outside.{outside}
+use Rattle.tao_top.specs.Served.{EndsInPart, start, streams}
 use Rattle.tao_top.specs.Stop.{FaultsGrow, InterruptHasCause, StopHasCause, faults, stop_code}
 use Rattle.tao_top.specs.declared.stop.Interrupt.TheVariants.{InputTooLong}
 use Rattle.tao_top.specs.declared.stop.Stop.TheVariants.{Configuration, Keepers}
@@ -41,8 +41,8 @@ returns-in_err-serving-clause-err g c =
     (stop_code c.in_err-serving.field-0.0)
     (c.in_err-serving.ensures.err (g.L.Link.shown c.args.link.now)) in
     rw p.1 (subst
-    (λ stop. EndsInPart (stop_code stop) g.K.Keeper.TELLS (traces before (g.S.Sink.taken c.args.output.now)) (traces begun (g.S.Sink.taken c.begin.new.output))
-    (g.R.Source.left c.args.input.now))
+    (λ stop. EndsInPart (stop_code stop) g.K.Keeper.TELLS before begun (streams (g.R.Source.left c.args.input.now) (g.S.Sink.taken c.args.output.now))
+    (g.S.Sink.taken c.begin.new.output))
     (sym p.2) part)
 
 pub returns-in_err-serving-clause-refused : goal.returns-in_err-serving-clause-refused

@@ -1,10 +1,15 @@
-use Rattle.std.proofs.Common.{◌≡◌, ◌⊎◌, ℕ, Err, ap, inl, inr, lit<, refl, subst, sym, ◌∙◌}
+use Rattle.std.proofs.Common.{◌≡◌, ◌⊎◌, ℕ, Err, ap, arith, inl, inr, lit<, refl, subst, sym, ◌∙◌}
 use Rattle.tao_top.proofs.Complete.{known_status}
 use Rattle.tao_top.proofs.OneLine.{part_unread}
+use Rattle.tao_top.proofs.Promised.{keeps_promise, runs_are_promised}
 use Rattle.tao_top.proofs.WholeRun.{done_whole, fails_opening, takes_none}
-use Rattle.core_nodes.specs.Repairs.{outside}
-use Rattle.tao_top.specs.Served.{EndsInPart, start, traces}
+use Rattle.core_nodes.specs.Outside.{outside}
+use Rattle.tao_top.specs.Served.{EndsInPart, start, streams}
 use Rattle.tao_top.specs.Status.{IsStatus}
+use Rattle.tao_top.specs.Stop.{stop_code}
+use Rattle.tao_top.specs.declared.stop.Interrupt.TheVariants.{InputTooLong, Memory, Sink, Source}
+use Rattle.tao_top.specs.declared.stop.Stop.{Stop}
+use Rattle.tao_top.specs.declared.stop.Stop.TheVariants.{Configuration, Interrupted, Keepers}
 use Rattle.tao_top.proofs.top.run.Goals as goal
 
 pub returns-in-Some-clause-in_part : goal.returns-in-Some-clause-in_part
@@ -21,9 +26,50 @@ pub returns-in-Err-clause-in_part : goal.returns-in-Err-clause-in_part
 returns-in-Err-clause-in_part g c =
     let before = outside (g.K.Keeper.state c.args.keepers.now) (g.L.Link.shown c.args.link.now) in
     let after = outside (g.K.Keeper.state c.go.new.keepers) (g.L.Link.shown c.go.new.link) in
-    subst (λ code. EndsInPart code g.K.Keeper.TELLS (traces before (g.S.Sink.taken c.args.output.now)) (traces after (g.S.Sink.taken c.go.new.output))
-    (g.R.Source.left c.args.input.now))
+    subst
+    (λ code. EndsInPart code g.K.Keeper.TELLS before after (streams (g.R.Source.left c.args.input.now) (g.S.Sink.taken c.args.output.now))
+    (g.S.Sink.taken c.go.new.output))
     (sym c.code.ensures) c.in-Err.ensures.err
+
+-- ---- the promise
+
+-- a stop has a status of its own
+stop_some : (stop : Stop) → stop_code stop ≡ 0 → ⊥
+stop_some Configuration is = absurd (omega arith)
+stop_some Keepers is = absurd (omega arith)
+stop_some (Interrupted Source) is = absurd (omega arith)
+stop_some (Interrupted Sink) is = absurd (omega arith)
+stop_some (Interrupted Memory) is = absurd (omega arith)
+stop_some (Interrupted InputTooLong) is = absurd (omega arith)
+
+-- nor is it asked for in vain with 0
+some_refusal : (code : ℕ) → (code ≡ 2) ⊎ (code ≡ 7) → code ≡ 0 → ⊥
+some_refusal code (inl two) is = absurd (omega (arith, two, is))
+some_refusal code (inr seven) is = absurd (omega (arith, seven, is))
+
+pub returns-in-Some-clause-promise : goal.returns-in-Some-clause-promise
+returns-in-Some-clause-promise g c =
+    let before = outside (g.K.Keeper.state c.args.keepers.now) (g.L.Link.shown c.args.link.now) in
+    keeps_promise runs_are_promised g.K.Keeper.TELLS c.in-Some.code before before (g.R.Source.left c.args.input.now)
+    (g.S.Sink.taken c.args.output.now) (g.S.Sink.taken c.args.output.now) (returns-in-Some-clause-in_part g c)
+    (λ ok. absurd (some_refusal c.in-Some.code c.in-Some.ensures.code ok))
+
+pub returns-in-Ok-clause-promise : goal.returns-in-Ok-clause-promise
+returns-in-Ok-clause-promise g c =
+    let before = outside (g.K.Keeper.state c.args.keepers.now) (g.L.Link.shown c.args.link.now) in
+    let after = outside (g.K.Keeper.state c.go.new.keepers) (g.L.Link.shown c.go.new.link) in
+    keeps_promise runs_are_promised g.K.Keeper.TELLS 0 before after (g.R.Source.left c.args.input.now)
+    (g.S.Sink.taken c.args.output.now) (g.S.Sink.taken c.go.new.output) (returns-in-Ok-clause-in_part g c) (λ ok. c.in-Ok.ensures.ok)
+
+pub returns-in-Err-clause-promise : goal.returns-in-Err-clause-promise
+returns-in-Err-clause-promise g c =
+    let before = outside (g.K.Keeper.state c.args.keepers.now) (g.L.Link.shown c.args.link.now) in
+    let after = outside (g.K.Keeper.state c.go.new.keepers) (g.L.Link.shown c.go.new.link) in
+    keeps_promise runs_are_promised g.K.Keeper.TELLS c.code.result before after (g.R.Source.left c.args.input.now)
+    (g.S.Sink.taken c.args.output.now) (g.S.Sink.taken c.go.new.output) (returns-in-Err-clause-in_part g c)
+    (λ ok. absurd (stop_some c.in-Err.stop (sym c.code.ensures ∙ ok)))
+
+-- ----
 
 pub returns-in-Err-clause-keepers : goal.returns-in-Err-clause-keepers
 returns-in-Err-clause-keepers g c = λ is.

@@ -1,5 +1,5 @@
 use Rattle.tao_top.proofs.OneLine.{replies_err, replies_ok}
-use Rattle.core_nodes.specs.Repairs.{outside}
+use Rattle.core_nodes.specs.Outside.{outside}
 use Rattle.tao_top.specs.Served.{serves}
 use Rattle.tao_top.proofs.serving.Serving.answer_line.Goals as goal
 

@@ -1,5 +1,5 @@
 use Rattle.tao_top.proofs.Growing.{call_answers, call_leaves, call_serves_on}
-use Rattle.core_nodes.specs.Repairs.{outside}
+use Rattle.core_nodes.specs.Outside.{outside}
 use Rattle.tao_top.proofs.serving.Serving.call.Goals as goal
 
 pub returns-clause-does : goal.returns-clause-does

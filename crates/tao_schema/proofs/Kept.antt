@@ -1,11 +1,16 @@
 -- Where no entry breaks a rule, each keeps them.
-use Rattle.std.proofs.Common.{◌≡◌, ℕ, ◌+◌, Bool, true, suc, zero, nat_le, List, [], ◌∷◌, length, nat_eq, Option, Some, None, Ok, refl, ap, inl, inr, arith}
+use Rattle.std.proofs.Common.{◌≡◌, ◌≤◌, ℕ, ◌+◌, Bool, true, suc, zero, nat_le, List, [], ◌∷◌, length, nat_eq, Option, Some, None, Ok, refl, ap, inl, inr, arith}
 use Rattle.std.specs.Prelude.{slice_get, ◌&&◌}
 use Rattle.std.specs.Option.{option_eq}
 use Rattle.std.proofs.lemmas.Bool.{cases_Bool, eqb-true}
+use Rattle.std.proofs.lemmas.Bool.Decides.{nat_tests}
 use Rattle.std.proofs.lemmas.Option.{none-some}
+use Rattle.tao_schema.specs.AssocTypes.{assocs_of, keeps_assoc_rules}
+use Rattle.tao_schema.specs.ObjectTypes.{keeps_object_rules, objects_of}
 use Rattle.tao_schema.specs.Rules.{broken_from, broken, unless_broken}
+use Rattle.tao_schema.specs.declared.lines.AssocLine.{AssocLine}
 use Rattle.tao_schema.specs.declared.refusal.SchemaField.{SchemaField}
+use Rattle.tao_schema.specs.declared.refusal.SchemaField.TheVariants.{Objects, Assocs}
 
 kept_from : {A : Type 0} (keeps : ℕ → A → Bool) (start : ℕ) (entries : List A) (place : ℕ) (entry : A) → broken_from keeps start entries ≡ None
     → slice_get entries place ≡ Some entry → keeps (start + place) entry ≡ true
@@ -43,3 +48,19 @@ kept_at field keeps entries taken place entry is at =
 pub same_place : (o : Option ℕ) (place : ℕ) → option_eq nat_eq o (Some place) ≡ true → o ≡ Some place
 same_place None place is = cc
 same_place (Some p) place is = ap Some (eqb-true p place is)
+
+-- a list that is taken has 1 to 64 entries
+few_taken : {A : Type 0} (field : SchemaField) (keeps : ℕ → A → Bool) (entries taken : List A) → unless_broken field entries (broken keeps entries) ≡ Ok taken
+    → (1 ≤ length entries) × (length entries ≤ 64)
+few_taken field keeps entries taken is =
+    let none : broken keeps entries ≡ None = none_broken field entries taken (broken keeps entries) is in
+    elim (cases_Bool (nat_le 1 (length entries) && nat_le (length entries) 64)) [
+      | inl fits ↦ grind (arith, nat_tests)
+      | inr other ↦ grind arith
+    ]
+
+pub few_objects : (names : List (List ℕ)) → objects_of names ≡ Ok names → (1 ≤ length names) × (length names ≤ 64)
+few_objects names taken = few_taken Objects (keeps_object_rules names) names names taken
+
+pub few_assocs : (lines : List AssocLine) → assocs_of lines ≡ Ok lines → (1 ≤ length lines) × (length lines ≤ 64)
+few_assocs lines taken = few_taken Assocs (keeps_assoc_rules lines) lines lines taken

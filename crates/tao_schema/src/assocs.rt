@@ -28,7 +28,7 @@ impl Model for AssocTypes {
 }
 
 impl AssocTypes {
-    ghost use Rattle.std.specs.Prelude.{◌≡◌, ◌≢◌, ◌≤◌, Ok, Err, IfOk, IfErr, option_map};
+    ghost use Rattle.std.specs.Prelude.{◌≡◌, ◌≢◌, ◌≤◌, length, Ok, Err, IfOk, IfErr, option_map};
     ghost use Rattle.tao_base.specs.EdgeTypes.{InversesMatch};
     ghost use Rattle.tao_schema.specs.Names.{AreFound, place_of};
     ghost use Rattle.tao_schema.specs.AssocTypes.{assocs_of, names_of, atype_at, edge_types};
@@ -46,6 +46,16 @@ impl AssocTypes {
             Some(place) => Err(bad(place)),
             None => Ok(AssocTypes { lines }),
         }
+    }
+
+    /// The lines, each at the place of its type.
+    #[tactic(auto, using(crate::proofs::Kept::few_assocs))]
+    pub fn as_slice(&self) -> &[AssocLine]
+        ensures value { result.now ≡ self.now }
+        ensures some { 1 ≤ length result.now }
+        ensures few { length result.now ≤ 64 }
+    {
+        self.lines.as_slice()
     }
 
     /// The type of a name.

@@ -6,10 +6,10 @@
 //!
 //! What it promises. A schema is read exactly where its lists keep the rules, else refused at the first place
 //! that breaks one; the inverse of the inverse is the type itself; bounds are 1 to 6,000; names are found exactly
-//! where they stand, by a map.
+//! where they stand, by a map; each list has 1 to 64 entries, and is seen in its order.
 //!
 //! The contracts that say so: `Schema::read`, `Schema::inverse`, `Schema::bound`, `Schema::atype`,
-//! `Schema::otype`, `Schema::otype_name`.
+//! `Schema::otype`, `Schema::otype_name`, `ObjectTypes::as_slice`, `AssocTypes::as_slice`.
 #![tactic(auto)]
 
 pub mod assocs;

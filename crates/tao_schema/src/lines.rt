@@ -62,6 +62,12 @@ impl Lines {
         })
     }
 
+    pub fn as_slice(&self) -> &[AssocLine]
+        ensures { result.now ≡ self.now }
+    {
+        self.lines.as_slice()
+    }
+
     pub fn find(&self, name: &str) -> Option<AType>
         ensures { result ≡ option_map atype_at (place_of (names_of self.now) name.now) }
     {

@@ -31,7 +31,7 @@ impl Model for ObjectTypes {
 }
 
 impl ObjectTypes {
-    ghost use Rattle.std.specs.Prelude.{◌≡◌, ◌≢◌, Ok, Err, IfOk, IfErr, option_map, unwrap_or, slice_get, []};
+    ghost use Rattle.std.specs.Prelude.{◌≡◌, ◌≢◌, ◌≤◌, length, Ok, Err, IfOk, IfErr, option_map, unwrap_or, slice_get, []};
     ghost use Rattle.tao_schema.specs.Names.{AreFound, place_of};
     ghost use Rattle.tao_schema.specs.ObjectTypes.{objects_of, otype_at};
 
@@ -60,6 +60,16 @@ impl ObjectTypes {
         ensures value { result ≡ option_map otype_at (place_of self.now name.now) }
     {
         self.places.get(name).map(|place| OType(*place))
+    }
+
+    /// The names, each at the place of its type.
+    #[tactic(auto, using(crate::proofs::Kept::few_objects))]
+    pub fn as_slice(&self) -> &[Text]
+        ensures value { result.now ≡ self.now }
+        ensures some { 1 ≤ length result.now }
+        ensures few { length result.now ≤ 64 }
+    {
+        self.names.as_slice()
     }
 
     /// The name of a type; the empty text where there is no such type.

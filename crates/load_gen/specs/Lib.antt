@@ -1,0 +1,9 @@
+pub mod Calls
+pub mod Draws
+pub mod Examples
+pub mod Kinds
+pub mod Left
+pub mod Names
+pub mod NamesView
+pub mod Nodes
+pub mod Requests

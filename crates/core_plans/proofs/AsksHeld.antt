@@ -25,12 +25,13 @@ use Rattle.core_model.specs.declared.named.Named.{Named}
 use Rattle.core_model.proofs.Places.{get_set, one_some}
 use Rattle.core_plans.specs.HeldLaws.{AsksStayHeld}
 use Rattle.core_plans.specs.Held.{AsksAreHeld, OpensNone, Plans, is_open_ask}
-use Rattle.core_plans.specs.HeldWrites.{DoesWriteStage, call_of_plan, job_by, way_by}
-use Rattle.core_plans.specs.LedBy.{led_by}
+use Rattle.core_plans.specs.HeldWrites.{DoesWriteStage, job_by, last_leader, way_by}
+use Rattle.core_plans.specs.LedBy.{LedBy}
+use Rattle.core_plans.proofs.RefusedWrites.{refused_none}
 use Rattle.core_steps.specs.OtherEnds.{ChangesKeepers, EndsOver, JobWay, LeavesJob, MergesOver, job_way}
 use Rattle.core_steps.specs.Posting.{ChangesNoNode}
 use Rattle.core_steps.specs.World.{World}
-use Rattle.core_steps.specs.Writes.{FollowerTakes, NotCommitted, RefusesCommit, sent_write}
+use Rattle.core_steps.specs.Writes.{FollowerTakes}
 use Rattle.core_steps.specs.declared.routes.Route.{Route}
 use Rattle.follower_cache.specs.Seen.{FollowerState}
 use Rattle.follower_cache.specs.declared.queue.Refill.{Refill}
@@ -41,10 +42,6 @@ use Rattle.node_name.specs.declared.NodeName.{NodeName}
 use Rattle.replies.specs.declared.calls.ScheduledWhy.{ScheduledWhy}
 use Rattle.replies.specs.declared.calls.ScheduledWhy.TheVariants.{NoServer}
 use Rattle.replies.specs.declared.calls.ScheduledWhy.TheVariants as why
-use Rattle.replies.specs.declared.refusals.Refusal.{Refusal}
-use Rattle.replies.specs.declared.refusals.Refusal.TheVariants.{Store, Memory}
-use Rattle.replies.specs.declared.refusals.StoreRefused.{StoreRefused}
-use Rattle.replies.specs.declared.refusals.StoreRefused.TheVariants.{SeqReused, ShardFull, StampFull, LogFull, KeeperFault, LinkFault, Unsettled}
 use Rattle.sealed_item.specs.Fills.{SealedItem}
 use Rattle.shard_log.specs.View.{View}
 use Rattle.shard_tables.specs.declared.writes.Wrote.{Wrote}
@@ -307,35 +304,22 @@ end_same tells s j (Err (left_open.Refused reply)) old new is = absurd is
 -- ---- the stages of a write
 
 -- no stage of a write opens one
-module _ (tells : Bool) (s : Settings) (leader : NodeName) (p q : Writing) (old new : World) where
-  refusal_none : (refused : StoreRefused) → NotCommitted tells s (sent_write (way_by leader p) (call_of_plan p)) refused old new → ChangesNoNode tells old new
-  refusal_none (LinkFault count when) is = is.1.same
-  refusal_none (SeqReused position) is = is.1.same
-  refusal_none (ShardFull serial) is = is.1.same
-  refusal_none (StampFull number) is = is.1.same
-  refusal_none (LogFull count) is = is.1.same
-  refusal_none (KeeperFault count) is = is.1.same
-  refusal_none (Unsettled at why) is = is.1.same
-
-  uncommitted_none : (refusal : Refusal) → RefusesCommit tells s (sent_write (way_by leader p) (call_of_plan p)) refusal old new
-      → ChangesNoNode tells old new
-  uncommitted_none (Store refused) is = refusal_none refused is
-  uncommitted_none (Memory position) is = is.1.same
-  uncommitted_none refusal is = absurd is
-
+module _ (led : LedBy) (p q : Writing) (old new : World) where
   alone : followers_in new ≡ followers_in old → OpensNone (followers_in old) (followers_in new)
   alone = same_opens_none (followers_in old) (followers_in new)
 
-  pub stage_opens_none : (at : WriteStage) → DoesWriteStage (led_by tells s leader) at p old q new → OpensNone (followers_in old) (followers_in new)
+  pub stage_opens_none : (at : WriteStage) → DoesWriteStage led at p old q new → OpensNone (followers_in old) (followers_in new)
   stage_opens_none Commit (inl commits) = alone commits.commits.followers
-  stage_opens_none Commit (inr refuses) = alone (ap (λ (f : Fleet). f.followers) (uncommitted_none refuses.refusal refuses.refuses).fleet)
-  stage_opens_none Inverse merges = alone (merge_same tells s (job_way leader (job_by p merges.job)) old new merges.result merges.merges)
-  stage_opens_none End ends = alone (end_same tells s (job_by p ends.job) ends.result old new ends.ends)
+  stage_opens_none Commit (inr refuses) = alone (ap (λ (f : Fleet). f.followers) (refused_none led p old new refuses.refusal refuses.refuses).fleet)
+  stage_opens_none Inverse merges = alone (merge_same led.tells led.settings (job_way led.leader (job_by p merges.job)) old new merges.result merges.merges)
+  stage_opens_none End ends = alone (end_same led.tells led.settings (job_by p ends.job) ends.result old new ends.ends)
   stage_opens_none Apply (inl applies) =
-      follower_takes_none (types_of s.schema) (way_by leader p) (write_shard p.write) applies.committed.wrote.entry old.fleet new.fleet
+      follower_takes_none (types_of led.settings.schema) (way_by (last_leader led.leader applies.committed) p) (write_shard p.write)
+      applies.committed.wrote.entry old.fleet new.fleet
       applies.takes
   stage_opens_none Apply (inr loses) = alone (ap (λ (f : Fleet). f.followers) loses.fleet)
-  stage_opens_none Relay does = absurd does
+  stage_opens_none Relay (inl relays) = alone (ap (λ (f : Fleet). f.followers) relays.rest.fleet)
+  stage_opens_none Relay (inr loses) = alone (ap (λ (f : Fleet). f.followers) loses.fleet)
   stage_opens_none Done does = absurd does
 
 -- ---- what is held
@@ -362,5 +346,5 @@ asks_stay_held = record {
     evicts = evict_opens_none name old new;
     empties = empty_opens_none name old new;
   };
-  stages = λ tells s leader at p q old new. stage_opens_none tells s leader p q old new at;
+  stages = λ led at p q old new. stage_opens_none led p q old new at;
 }

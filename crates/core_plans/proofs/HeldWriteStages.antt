@@ -1,27 +1,27 @@
 -- What each stage of a held write comes to.
 use Rattle.std.proofs.Common.{◌≡◌, ℕ, false, true, Bool, List, Option, Some, None, refl, sym, ap, ◌∙◌, subst, inl, inr}
 use Rattle.std.proofs.lemmas.Option.{IfSome_then}
-use Rattle.std.specs.Prelude.{⊤, Err, IfErr, IfOk, IfSome, IsSome, Ok, OnOk, Result, option_and_then, unwrap_or}
+use Rattle.std.specs.Option.{option_map}
+use Rattle.std.specs.Prelude.{⊤, Err, IfOk, IfSome, IsSome, Ok, OnOk, Result, option_and_then, unwrap_or}
 use Rattle.core_model.specs.Fleet.{Fleet}
 use Rattle.core_model.specs.Jobs.{CanBeMerged, IsMergedJob, ShardJob, job_on}
 use Rattle.core_steps.specs.OtherEnds.{EndsOver, MergesOver, StandsThere, job_way, known_of}
 use Rattle.core_steps.specs.Posting.{PostsOn}
 use Rattle.core_steps.specs.World.{World}
 use Rattle.core_steps.specs.Routes.{hops_between}
-use Rattle.core_steps.specs.Writes.{AuthoredWrite, CanBeApplied, IsCommitted, RefusesCommit, SentWrite, client_call, sent_write}
-use Rattle.core_steps.specs.declared.routes.Route.{Route}
+use Rattle.core_steps.specs.Writes.{CanBeApplied, client_call}
+use Rattle.graph_model.proofs.Members.{if_some_at}
 use Rattle.graph_model.specs.Told.{WhereTold}
 use Rattle.node_name.specs.declared.NodeName.{NodeName}
 use Rattle.replies.specs.declared.calls.ScheduledWhy.{ScheduledWhy}
 use Rattle.replies.specs.declared.calls.ScheduledWhy.TheVariants.{LinkFault, KeeperFault, LogFull, NoServer, Memory}
 use Rattle.replies.specs.declared.refusals.Refusal.{Refusal}
 use Rattle.replies.specs.declared.reply.Reply.{Reply}
+use Rattle.replies.specs.declared.reply.Reply.TheVariants as replied
 use Rattle.shard_log.specs.View.{View}
 use Rattle.shard_tables.specs.StoreView.{Store}
 use Rattle.shard_tables.specs.declared.writes.Wrote.{Wrote}
 use Rattle.tao_base.specs.Writes.{write_shard}
-use Rattle.tao_base.specs.declared.entry.Origin.{Origin}
-use Rattle.tao_base.specs.declared.write.Write.{Write}
 use Rattle.tao_keeper.specs.Table.{Tables}
 use Rattle.tao_keeper.specs.declared.jobs.Job.{Job}
 use Rattle.tao_link.specs.Shown.{LinkShown}
@@ -34,14 +34,17 @@ use Rattle.write_plan.specs.declared.progress.OtherEnd.{OtherEnd}
 use Rattle.write_plan.specs.declared.progress.OtherEnd.TheVariants.{Due, Merged, Ended, Open}
 use Rattle.write_plan.specs.declared.progress.WayBack.{WayBack}
 use Rattle.write_plan.specs.declared.progress.WayBack.TheVariants.{Ahead, Relayed, Applied}
+use Rattle.write_plan.specs.declared.results.CommitAnswer.{CommitAnswer}
 use Rattle.write_plan.specs.declared.results.LeftOpen.{LeftOpen}
 use Rattle.write_plan.specs.declared.results.LeftOpen.TheVariants.{Scheduled, Refused}
 use Rattle.write_plan.specs.declared.results.WriteResult.{WriteResult}
 use Rattle.write_plan.specs.declared.results.WriteResult.TheVariants as came
 use Rattle.write_plan.specs.declared.stage.WriteStage.{WriteStage}
 use Rattle.write_plan.specs.declared.stage.WriteStage.TheVariants.{Commit, Inverse, End, Relay, Apply, Done}
-use Rattle.core_plans.specs.HeldWrites.{DoesWriteStage, IsAnswerTo, IsBefore, IsTakenAs, IsWriteUnderWay, PassesWriteStage, call_of_plan, job_by, way_by}
+use Rattle.core_plans.specs.HeldWrites.{ComesOfCommit, DoesWriteStage, IsAnswerTo, IsBefore, IsWriteUnderWay, PassesWriteStage, job_by, taken_as}
+use Rattle.core_plans.specs.HeldWrites.{with_notes}
 use Rattle.core_plans.specs.LedBy.{led_by}
+use Rattle.core_plans.specs.declared.leaders.Leaders.{Leaders}
 use Rattle.core_plans.proofs.WritesGoOn.{write_later}
 
 -- ---- where a write stands
@@ -146,6 +149,57 @@ back_ahead None (Some c) job back is = (refl, back_before c.wrote.job c.passed j
 pub at_apply : (p : Writing) → next_of p ≡ Apply → (p.refused ≡ None) × IsBefore p.back × IsSome p.committed
 at_apply p is = back_ahead p.refused p.committed p.job p.back is
 
+way_ahead : (passed : Option NodeName) (back : WayBack) → back_stage passed back ≡ Relay → (back ≡ Ahead) × IsSome passed
+way_ahead None Ahead is = absurd (cc)
+way_ahead (Some leader) Ahead is = (refl, refl)
+way_ahead None Relayed is = absurd (cc)
+way_ahead (Some leader) Relayed is = absurd (cc)
+way_ahead None Applied is = absurd (cc)
+way_ahead (Some leader) Applied is = absurd (cc)
+
+relay_ahead : (o : Option Job) (passed : Option NodeName) (job : OtherEnd) (back : WayBack)
+    → unwrap_or (option_and_then (λ _. job_stage job) o) (back_stage passed back) ≡ Relay → (back ≡ Ahead) × IsSome passed
+relay_ahead None passed job back is = way_ahead passed back is
+relay_ahead (Some j) passed Due back is = absurd (cc)
+relay_ahead (Some j) passed Merged back is = absurd (cc)
+relay_ahead (Some j) passed Ended back is = way_ahead passed back is
+relay_ahead (Some j) passed (Open why) back is = way_ahead passed back is
+
+-- nothing refused a write, its way back is all ahead, and its commit was answered, by way of a leader that it passed
+pub record IsToRelay (refused : Option Reply) (committed : Option Committed) (back : WayBack) : Type 0 where
+  pub unrefused : refused ≡ None
+  pub ahead : back ≡ Ahead
+  pub answered : IsSome committed
+  pub passed : IsSome (option_and_then (λ c. c.passed) committed)
+
+to_relay : (refused : Option Reply) (committed : Option Committed) (job : OtherEnd) (back : WayBack) → stage_by refused committed job back ≡ Relay
+    → IsToRelay refused committed back
+to_relay (Some reply) committed job back is = absurd (cc)
+to_relay None None job back is = absurd (cc)
+to_relay None (Some c) job back is =
+    let at = relay_ahead c.wrote.job c.passed job back is in
+    record { unrefused = refl; ahead = at.0; answered = refl; passed = at.1 }
+
+-- and at the stage `relay` it is to be relayed
+pub at_relay : (p : Writing) → next_of p ≡ Relay → IsToRelay p.refused p.committed p.back
+at_relay p is = to_relay p.refused p.committed p.job p.back is
+
+-- the leader that a write passed, and the note for it
+passed_now : {P : Type 0} (passed : Option NodeName) → IsSome passed → IfSome passed (λ _. P) → P
+passed_now None some is = absurd (cc)
+passed_now (Some leader) some is = is
+
+pub relay_now : (committed : Option Committed) (relay : Option View) → IsSome (option_and_then (λ c. c.passed) committed)
+    → IfSome committed (λ c. IfSome c.passed (λ _. relay ≡ Some c.wrote.note)) → IfSome committed (λ c. relay ≡ Some c.wrote.note)
+relay_now None relay some is = tt
+relay_now (Some c) relay some is = passed_now c.passed some is
+
+-- which is one of the configuration's
+pub passed_named : (P : NodeName → Type 0) (committed : Option Committed) (leader : NodeName) → option_and_then (λ c. c.passed) committed ≡ Some leader
+    → IfSome committed (λ c. IfSome c.passed P) → P leader
+passed_named P None leader is named = absurd (cc)
+passed_named P (Some c) leader is named = if_some_at P c.passed leader named is
+
 -- ---- it can go on
 
 answered_none : (p : Writing) (job : Job) → answered_job p ≡ Some job → p.committed ≡ None → ⊥
@@ -190,6 +244,12 @@ pub taken_on : (tells : Bool) (s : Settings) (tables : Tables) (f : Fleet) (p q 
     → IsWriteUnderWay tells s tables f (after_stage p result hops) → IsWriteUnderWay tells s tables f q
 taken_on tells s tables f p q result hops then = subst (IsWriteUnderWay tells s tables f) (sym then)
 
+-- the note for the leader that was passed is there where one was passed
+relay_there : (passed : Option NodeName) (note : View) (relay : Option View) → relay ≡ option_map (λ _. note) passed
+    → IfSome passed (λ _. relay ≡ Some note)
+relay_there None note relay is = tt
+relay_there (Some leader) note relay is = is
+
 module _ (tells : Bool) (s : Settings) (tables : Tables) (f : Fleet) (p : Writing) (is : IsWriteUnderWay tells s tables f p) where
   -- what its commit answered stays that
   answer_stays : (q : Writing) → q.write ≡ p.write → q.origin ≡ p.origin → (c : Committed) → IsAnswerTo s f.stores p c → IsAnswerTo s f.stores q c
@@ -202,13 +262,15 @@ module _ (tells : Bool) (s : Settings) (tables : Tables) (f : Fleet) (p : Writin
   }
 
   -- whatever became of its job, or of its way back
-  moves : (job : OtherEnd) (other : Option Wrote) (back : WayBack) (refused : Option Reply) (spare : Option View) (hops : ℕ)
+  moves : (job : OtherEnd) (other : Option Wrote) (back : WayBack) (refused : Option Reply) (relay spare : Option View) (hops : ℕ)
       → (p.committed ≡ None → (job ≡ Due) × (other ≡ None))
       → (job ≡ Merged → IfSome (answered_job p) (λ j. WhereTold tells (IsMergedJob s tables (job_by p j))))
       → IfSome (answered_job p) (λ j. StandsThere s j other f.stores)
       → (refused ≡ None → IsBefore back → IfSome p.committed (λ c. spare ≡ Some c.wrote.note))
-      → IsWriteUnderWay tells s tables f (record p { job = job; other = other; back = back; refused = refused; spare = spare; hops = hops })
-  moves job other back refused spare hops begun merged stands noted = record {
+      → (refused ≡ None → back ≡ Ahead → IfSome p.committed (λ c. IfSome c.passed (λ _. relay ≡ Some c.wrote.note)))
+      → IsWriteUnderWay tells s tables f
+      (record p { job = job; other = other; back = back; refused = refused; relay = relay; spare = spare; hops = hops })
+  moves job other back refused relay spare hops begun merged stands noted relayed = record {
     follower = is.follower;
     region = is.region;
     changes = is.changes;
@@ -216,25 +278,34 @@ module _ (tells : Bool) (s : Settings) (tables : Tables) (f : Fleet) (p : Writin
     begun = begun;
     committed = IfSome_then p.committed is.committed (answer_stays _ refl refl);
     spare = noted;
+    relay = relayed;
     job = is.job;
     merged = merged;
     other = stands;
   }
 
   -- it was refused
-  refused_still : (reply : Reply) (spare : Option View) (hops : ℕ)
-      → IsWriteUnderWay tells s tables f (record p { refused = Some reply; spare = spare; hops = hops })
-  refused_still reply spare hops = moves p.job p.other p.back (Some reply) spare hops is.begun is.merged is.other (λ none. absurd (cc))
+  refused_still : (reply : Reply) (relay spare : Option View) (hops : ℕ)
+      → IsWriteUnderWay tells s tables f (record p { refused = Some reply; relay = relay; spare = spare; hops = hops })
+  refused_still reply relay spare hops =
+      moves p.job p.other p.back (Some reply) relay spare hops is.begun is.merged is.other (λ none. absurd (cc)) (λ none. absurd (cc))
 
   -- it came so far on its way back, or not
   pub applied_still : (outcome : Result ⊤ Reply) (hops : ℕ) → IsWriteUnderWay tells s tables f (after_stage p (came.Apply outcome) hops)
-  applied_still (Ok done) hops = moves p.job p.other Applied p.refused None _ is.begun is.merged is.other (λ none before. absurd before)
-  applied_still (Err reply) hops = refused_still reply None _
+  applied_still (Ok done) hops =
+      moves p.job p.other Applied p.refused p.relay None _ is.begun is.merged is.other (λ none before. absurd before) (λ none ahead. absurd (cc))
+  applied_still (Err reply) hops = refused_still reply p.relay None _
+
+  -- it came to the leader that it passed, or not
+  pub relayed_still : (outcome : Result ⊤ Reply) (hops : ℕ) → IsBefore p.back → IsWriteUnderWay tells s tables f (after_stage p (came.Relay outcome) hops)
+  relayed_still (Ok done) hops before =
+      moves p.job p.other Relayed p.refused None p.spare _ is.begun is.merged is.other (λ none _. is.spare none before) (λ none ahead. absurd (cc))
+  relayed_still (Err reply) hops before = refused_still reply None p.spare _
 
   -- it was committed, or not
-  committed_still : (outcome : Result (Committed × View) Reply) (hops : ℕ) → p.committed ≡ None
-      → IfOk outcome (λ a. IsAnswerTo s f.stores p a.0) → IfOk outcome (λ a. a.1 ≡ a.0.wrote.note)
-      → IfOk outcome (λ a. IfSome a.0.wrote.job (λ j. CanBeMerged tells s tables (job_by p j)))
+  committed_still : (outcome : Result CommitAnswer Reply) (hops : ℕ) → p.committed ≡ None
+      → IfOk outcome (λ a. IsAnswerTo s f.stores p a.committed) → IfOk outcome (λ a. a ≡ with_notes a.committed)
+      → IfOk outcome (λ a. IfSome a.committed.wrote.job (λ j. CanBeMerged tells s tables (job_by p j)))
       → IsWriteUnderWay tells s tables f (after_stage p (came.Commit outcome) hops)
   committed_still (Ok a) hops none answer noted job = record {
     follower = is.follower;
@@ -242,13 +313,15 @@ module _ (tells : Bool) (s : Settings) (tables : Tables) (f : Fleet) (p : Writin
     changes = is.changes;
     client = is.client;
     begun = λ gone. absurd (cc);
-    committed = answer_stays _ refl refl a.0 answer;
-    spare = λ unrefused before. ap Some noted;
+    committed = answer_stays _ refl refl a.committed answer;
+    spare = λ unrefused before. ap (λ (x : CommitAnswer). Some x.spare) noted;
+    relay = λ unrefused ahead. relay_there a.committed.passed a.committed.wrote.note a.relay (ap (λ (x : CommitAnswer). x.relay) noted);
     job = job;
     merged = λ at. (let due = (is.begun none).0 in absurd (cc));
-    other = subst (λ o. IfSome a.0.wrote.job (λ j. StandsThere s j o f.stores)) (sym (is.begun none).1) (none_there s f.stores a.0.wrote.job);
+    other = subst (λ o. IfSome a.committed.wrote.job (λ j. StandsThere s j o f.stores)) (sym (is.begun none).1)
+        (none_there s f.stores a.committed.wrote.job);
   }
-  committed_still (Err reply) hops none answer noted job = refused_still reply p.spare _
+  committed_still (Err reply) hops none answer noted job = refused_still reply p.relay p.spare _
 
   module _ (job : Job) (at : answered_job p ≡ Some job) where
     not_begun : (due : OtherEnd) (other : Option Wrote) → p.committed ≡ None → (due ≡ Due) × (other ≡ None)
@@ -262,94 +335,22 @@ module _ (tells : Bool) (s : Settings) (tables : Tables) (f : Fleet) (p : Writin
     merged_still : (result : Result Wrote LeftOpen) (hops : ℕ) → WhereTold tells (OnOk result (IsMergedJob s tables (job_by p job)))
         → StandsThere s job (known_of result) f.stores → IsWriteUnderWay tells s tables f (after_stage p (came.Inverse result) hops)
     merged_still (Ok wrote) hops merged stands =
-        moves Merged (written_there p.other (Some wrote)) p.back p.refused p.spare _ (not_begun Merged (written_there p.other (Some wrote)))
-        (λ now. subst (λ o. IfSome o (λ j. WhereTold tells (IsMergedJob s tables (job_by p j)))) (sym at) merged) (there (Some wrote) stands) is.spare
+        moves Merged (written_there p.other (Some wrote)) p.back p.refused p.relay p.spare _ (not_begun Merged (written_there p.other (Some wrote)))
+        (λ now. subst (λ o. IfSome o (λ j. WhereTold tells (IsMergedJob s tables (job_by p j)))) (sym at) merged) (there (Some wrote) stands) is.spare is.relay
     merged_still (Err (Scheduled why wrote)) hops merged stands =
-        moves (Open why) (written_there p.other wrote) p.back p.refused p.spare _ (not_begun (Open why) (written_there p.other wrote))
-        (λ now. absurd (cc)) (there wrote stands) is.spare
-    merged_still (Err (Refused reply)) hops merged stands = refused_still reply p.spare _
+        moves (Open why) (written_there p.other wrote) p.back p.refused p.relay p.spare _ (not_begun (Open why) (written_there p.other wrote))
+        (λ now. absurd (cc)) (there wrote stands) is.spare is.relay
+    merged_still (Err (Refused reply)) hops merged stands = refused_still reply p.relay p.spare _
 
     -- it ended, or not
     pub ended_still : (result : Result ⊤ LeftOpen) (hops : ℕ) → late_wrote result ≡ None
         → IsWriteUnderWay tells s tables f (after_stage p (came.End result) hops)
     ended_still (Ok done) hops none =
-        moves Ended p.other p.back p.refused p.spare _ (not_begun Ended p.other) (λ now. absurd (cc)) is.other is.spare
+        moves Ended p.other p.back p.refused p.relay p.spare _ (not_begun Ended p.other) (λ now. absurd (cc)) is.other is.spare is.relay
     ended_still (Err (Scheduled why wrote)) hops none =
-        moves (Open why) (written_there p.other wrote) p.back p.refused p.spare _ (not_begun (Open why) (written_there p.other wrote))
-        (λ now. absurd (cc)) (there wrote (subst (λ o. StandsThere s job o f.stores) (sym none) tt)) is.spare
-    ended_still (Err (Refused reply)) hops none = refused_still reply p.spare _
-
--- ---- commit
-
--- what a plan says of itself
-pub record IsOfWriting (p : Writing) (follower : NodeName) (origin : Origin) (write : Write) : Type 0 where
-  pub follower_is : follower ≡ p.follower
-  pub origin_is : origin ≡ p.origin
-  pub write_is : write ≡ p.write
-
-of_write : (leader : NodeName) (p : Writing) (follower : NodeName) (origin : Origin) (write : Write) (P : Route → AuthoredWrite → Type 0)
-    → IsOfWriting p follower origin write → P (record { follower = follower; leader = leader }) (client_call origin write)
-    → P (way_by leader p) (call_of_plan p)
-of_write leader p follower origin write P of h =
-    subst (λ f. P (record { follower = f; leader = leader }) (call_of_plan p)) of.follower_is
-    (subst (λ o. P (record { follower = follower; leader = leader }) (client_call o p.write)) of.origin_is
-    (subst (λ w. P (record { follower = follower; leader = leader }) (client_call origin w)) of.write_is h))
-
--- what a commit came to: its follower may take it, its job may be merged, or it was refused
-pub record ComesOfCommit (tells : Bool) (s : Settings) (sent : SentWrite) (given : Result (Wrote × View) Refusal) (old new : World) : Type 0 where
-  pub committed : IfOk given (λ g. IsCommitted tells s sent g.0 old new)
-  pub apply : IfOk given (λ g. CanBeApplied sent.call g.0 new.fleet.stores)
-  pub spare : IfOk given (λ g. g.1 ≡ g.0.note)
-  pub job : IfOk given (λ g. IfSome g.0.job (λ j. CanBeMerged tells s new.keepers.told (job_on (write_shard sent.call.write) j)))
-  pub refused : IfErr given (λ refusal. RefusesCommit tells s sent refusal old new)
-
--- what the leader answered, its follower may take
-answer_of : (s : Settings) (stores : List Store) (p : Writing) (given : Result (Wrote × View) Refusal) (outcome : Result (Committed × View) Reply)
-    → IsTakenAs s p.write given outcome → IfOk given (λ g. CanBeApplied (call_of_plan p) g.0 stores) → IfOk outcome (λ a. IsAnswerTo s stores p a.0)
-answer_of s stores p (Ok w) (Ok c) taken apply = record {
-  apply = subst (λ x. CanBeApplied (call_of_plan p) x stores) (sym taken.0) apply;
-  kind = subst (λ (x : Wrote). kind_said p.write x.entry ≡ Some c.0.kind) (sym taken.0) taken.1;
-  passed = taken.2;
-  paired = taken.3;
-}
-answer_of s stores p (Ok w) (Err reply) taken apply = tt
-answer_of s stores p (Err refusal) (Ok c) taken apply = absurd taken
-answer_of s stores p (Err refusal) (Err reply) taken apply = tt
-
--- by the second note, which has seen the same
-spare_of_answer : (s : Settings) (write : Write) (given : Result (Wrote × View) Refusal) (outcome : Result (Committed × View) Reply)
-    → IsTakenAs s write given outcome → IfOk given (λ g. g.1 ≡ g.0.note) → IfOk outcome (λ a. a.1 ≡ a.0.wrote.note)
-spare_of_answer s write (Ok w) (Ok c) taken spare = taken.4 ∙ spare ∙ ap (λ (x : Wrote). x.note) (sym taken.0)
-spare_of_answer s write (Ok w) (Err reply) taken spare = tt
-spare_of_answer s write (Err refusal) (Ok c) taken spare = absurd taken
-spare_of_answer s write (Err refusal) (Err reply) taken spare = tt
-
--- and its job may be merged
-job_of_answer : (s : Settings) (write : Write) (P : Job → Type 0) (given : Result (Wrote × View) Refusal) (outcome : Result (Committed × View) Reply)
-    → IsTakenAs s write given outcome → IfOk given (λ g. IfSome g.0.job P) → IfOk outcome (λ a. IfSome a.0.wrote.job P)
-job_of_answer s write P (Ok w) (Ok c) taken job = subst (λ (x : Wrote). IfSome x.job P) (sym taken.0) job
-job_of_answer s write P (Ok w) (Err reply) taken job = tt
-job_of_answer s write P (Err refusal) (Ok c) taken job = absurd taken
-job_of_answer s write P (Err refusal) (Err reply) taken job = tt
-
-commits_done : (tells : Bool) (s : Settings) (leader : NodeName) (p q : Writing) (old new : World) (given : Result (Wrote × View) Refusal)
-    (outcome : Result (Committed × View) Reply) → IsTakenAs s p.write given outcome
-    → ComesOfCommit tells s (sent_write (way_by leader p) (call_of_plan p)) given old new
-    → q ≡ after_stage p (came.Commit outcome) (hops_between old.link new.link) → DoesWriteStage (led_by tells s leader) Commit p old q new
-commits_done tells s leader p q old new (Ok w) (Ok c) taken comes then = inl (record {
-  committed = c.0;
-  commits = subst (λ x. IsCommitted tells s (sent_write (way_by leader p) (call_of_plan p)) x old new) (sym taken.0) comes.committed;
-  answer = answer_of s new.fleet.stores p (Ok w) (Ok c) taken comes.apply;
-  then = then ∙ ap (λ note. after_stage p (came.Commit (Ok (c.0, note))) (hops_between old.link new.link))
-      (spare_of_answer s p.write (Ok w) (Ok c) taken comes.spare);
-})
-commits_done tells s leader p q old new (Err refusal) (Err reply) taken comes then = inr (record {
-  refusal = refusal;
-  refuses = comes.refused;
-  then = then ∙ ap (λ r. after_stage p (came.Commit (Err r)) (hops_between old.link new.link)) taken;
-})
-commits_done tells s leader p q old new (Ok w) (Err reply) taken comes then = absurd taken
-commits_done tells s leader p q old new (Err refusal) (Ok c) taken comes then = absurd taken
+        moves (Open why) (written_there p.other wrote) p.back p.refused p.relay p.spare _ (not_begun (Open why) (written_there p.other wrote))
+        (λ now. absurd (cc)) (there wrote (subst (λ o. StandsThere s job o f.stores) (sym none) tt)) is.spare is.relay
+    ended_still (Err (Refused reply)) hops none = refused_still reply p.relay p.spare _
 
 -- ---- its job
 
@@ -377,7 +378,7 @@ ended_on tells s tables f p job result old new is at ends =
 
 -- ---- a stage was done
 
-module _ (tells : Bool) (s : Settings) (leader : NodeName) (p q : Writing) (old new : World)
+module _ (tells : Bool) (s : Settings) (leaders : Leaders) (p q : Writing) (old new : World)
     (is : IsWriteUnderWay tells s old.keepers.told old.fleet p) (on : PostsOn tells s old new) where
   abbrev hops : ℕ
   hops = hops_between old.link new.link
@@ -385,31 +386,37 @@ module _ (tells : Bool) (s : Settings) (leader : NodeName) (p q : Writing) (old 
   later : IsWriteUnderWay tells s new.keepers.told new.fleet p
   later = write_later tells s old.keepers.told new.keepers.told old.fleet new.fleet p on.consistent on.goes on.grows is
 
-  passes : (at : WriteStage) (result : WriteResult) → q ≡ after_stage p result hops → DoesWriteStage (led_by tells s leader) at p old q new
+  passes : (at : WriteStage) (result : WriteResult) → q ≡ after_stage p result hops → DoesWriteStage (led_by tells s leaders) at p old q new
       → IsWriteUnderWay tells s new.keepers.told new.fleet (after_stage p result hops)
-      → PassesWriteStage (led_by tells s leader) at p old q new
+      → PassesWriteStage (led_by tells s leaders) at p old q new
   passes at result then does still =
       record { does = does; write = taken_on tells s new.keepers.told new.fleet p q result hops then still; on = on }
 
-  pub commits_pass : (follower : NodeName) (origin : Origin) (write : Write) (given : Result (Wrote × View) Refusal)
-      (outcome : Result (Committed × View) Reply) (took : ℕ) → next_of p ≡ Commit → IsOfWriting p follower origin write
-      → ComesOfCommit tells s (sent_write (record { follower = follower; leader = leader }) (client_call origin write)) given old new
-      → IsTakenAs s p.write given outcome → took ≡ hops → q ≡ after_stage p (came.Commit outcome) took
-      → PassesWriteStage (led_by tells s leader) Commit p old q new
-  commits_pass follower origin write given outcome took at of comes_so taken took_is took_so =
-      let tables = new.keepers.told in
-      let then = took_so ∙ ap (after_stage p (came.Commit outcome)) took_is in
-      let comes = of_write leader p follower origin write (λ way call. ComesOfCommit tells s (sent_write way call) given old new) of comes_so in
-      passes Commit (came.Commit outcome) then (commits_done tells s leader p q old new given outcome taken comes then)
-      (committed_still tells s tables new.fleet p later outcome hops (before_commit p at)
-      (answer_of s new.fleet.stores p given outcome taken comes.apply) (spare_of_answer s p.write given outcome taken comes.spare)
-      (job_of_answer s p.write (λ j. CanBeMerged tells s tables (job_by p j)) given outcome taken comes.job))
+  commits_done : (given : Result CommitAnswer Refusal) → next_of p ≡ Commit → ComesOfCommit (led_by tells s leaders) p given old new
+      → q ≡ after_stage p (came.Commit (taken_as given)) hops → PassesWriteStage (led_by tells s leaders) Commit p old q new
+  commits_done (Ok answer) at comes then =
+      passes Commit (came.Commit (Ok answer)) then (inl (record {
+        committed = answer.committed;
+        passed = comes.passed;
+        commits = comes.commits;
+        answer = comes.is;
+        then = then ∙ ap (λ a. after_stage p (came.Commit (Ok a)) hops) comes.notes;
+      }))
+      (committed_still tells s new.keepers.told new.fleet p later (Ok answer) hops (before_commit p at) comes.is comes.notes comes.job)
+  commits_done (Err refusal) at comes then =
+      passes Commit (came.Commit (Err (replied.Refused refusal))) then (inr (record { refusal = refusal; refuses = comes; then = then }))
+      (committed_still tells s new.keepers.told new.fleet p later (Err (replied.Refused refusal)) hops (before_commit p at) tt tt tt)
+
+  pub commits_pass : (given : Result CommitAnswer Refusal) (took : ℕ) → next_of p ≡ Commit → ComesOfCommit (led_by tells s leaders) p given old new
+      → took ≡ hops → q ≡ after_stage p (came.Commit (taken_as given)) took → PassesWriteStage (led_by tells s leaders) Commit p old q new
+  commits_pass given took at comes took_is then =
+      commits_done given at comes (then ∙ ap (after_stage p (came.Commit (taken_as given))) took_is)
 
   pub merges_pass : (job : Job) (shard : ℕ) (result : Result Wrote LeftOpen) (took : ℕ) → answered_job p ≡ Some job → shard ≡ write_shard p.write
-      → MergesOver tells s (job_way leader (job_on shard job)) result old new
+      → MergesOver tells s (job_way leaders.leader (job_on shard job)) result old new
       → WhereTold tells (OnOk result (IsMergedJob s new.keepers.told (job_on shard job)))
       → StandsThere s job (known_of result) new.fleet.stores
-      → took ≡ hops → q ≡ after_stage p (came.Inverse result) took → PassesWriteStage (led_by tells s leader) Inverse p old q new
+      → took ≡ hops → q ≡ after_stage p (came.Inverse result) took → PassesWriteStage (led_by tells s leaders) Inverse p old q new
   merges_pass job shard result took answered shard_is merges merged stands took_is took_so =
       let tables = new.keepers.told in
       let then = took_so ∙ ap (after_stage p (came.Inverse result)) took_is in
@@ -418,7 +425,7 @@ module _ (tells : Bool) (s : Settings) (leader : NodeName) (p q : Writing) (old 
         job = job;
         answered = answered;
         result = result;
-        merges = to_job (λ j. MergesOver tells s (job_way leader j) result old new) p job shard shard_is merges;
+        merges = to_job (λ j. MergesOver tells s (job_way leaders.leader j) result old new) p job shard shard_is merges;
         then = then;
       })
       (merged_still tells s tables new.fleet p later job answered result hops

@@ -7,14 +7,14 @@ use Rattle.core_plans.specs.Held.{IsLeaderOf, IsUnderWay, StepsHeld, next_stage}
 use Rattle.core_plans.specs.WholeCalls.{PassesStages}
 use Rattle.core_steps.proofs.PostsLemmas.{posts_none, posts_trans}
 use Rattle.core_plans.specs.HeldReads.{DoesKeep, DoesLook, DoesReadStage}
-use Rattle.core_plans.specs.HeldWrites.{DoesWriteStage}
+use Rattle.core_plans.specs.HeldWrites.{DoesWriteStage, with_notes}
 use Rattle.core_plans.specs.LedBy.{LedBy}
+use Rattle.core_plans.specs.declared.leaders.Leaders.{Leaders}
 use Rattle.core_plans.specs.declared.held.HeldPlan.{HeldPlan}
 use Rattle.core_plans.specs.declared.held.HeldPlan.TheVariants.{Read, Write}
 use Rattle.core_steps.specs.Posting.{CanPost, PostsOn}
 use Rattle.core_steps.specs.World.{World}
 use Rattle.core_steps.specs.Routes.{hops_between}
-use Rattle.node_name.specs.declared.NodeName.{NodeName}
 use Rattle.read_plan.specs.Readings.{Reading}
 use Rattle.read_plan.specs.Standings.{stage_named, stage_of}
 use Rattle.read_plan.specs.declared.standing.Given.{Given}
@@ -103,14 +103,16 @@ module _ (p q : Writing) (old new : World) where
 
   pub write_same : (led : LedBy) (at : WriteStage) → DoesWriteStage led at p old q new → IsSameWrite p q
   write_same led Commit (inl commits) =
-      subst (IsSameWrite p) (sym commits.then) (after_same p (came.Commit (Ok (commits.committed, commits.committed.wrote.note))) hops)
+      subst (IsSameWrite p) (sym commits.then) (after_same p (came.Commit (Ok (with_notes commits.committed))) hops)
   write_same led Commit (inr refuses) = subst (IsSameWrite p) (sym refuses.then) (after_same p (came.Commit (Err (Refused_ refuses.refusal))) hops)
   write_same led Inverse merges = subst (IsSameWrite p) (sym merges.then) (after_same p (came.Inverse merges.result) hops)
   write_same led End ends = subst (IsSameWrite p) (sym ends.then) (after_same p (came.End ends.result) 0)
   write_same led Apply (inl applies) = subst (IsSameWrite p) (sym applies.then) (after_same p (came.Apply (Ok tt)) hops)
   write_same led Apply (inr loses) =
       subst (IsSameWrite p) (sym loses.then) (record { write = refl; origin = refl; region = refl; follower = refl })
-  write_same led Relay does = absurd does
+  write_same led Relay (inl relays) = subst (IsSameWrite p) (sym relays.then) (after_same p (came.Relay (Ok tt)) hops)
+  write_same led Relay (inr loses) =
+      subst (IsSameWrite p) (sym loses.then) (record { write = refl; origin = refl; region = refl; follower = refl })
   write_same led Done does = absurd does
 
 -- a write that did a stage had one before it
@@ -120,7 +122,7 @@ write_goes led Commit p q old new is does = subst (λ a. IsSome (stage_said a)) 
 write_goes led Inverse p q old new is does = subst (λ a. IsSome (stage_said a)) (sym is) refl
 write_goes led End p q old new is does = subst (λ a. IsSome (stage_said a)) (sym is) refl
 write_goes led Apply p q old new is does = subst (λ a. IsSome (stage_said a)) (sym is) refl
-write_goes led Relay p q old new is does = absurd does
+write_goes led Relay p q old new is does = subst (λ a. IsSome (stage_said a)) (sym is) refl
 write_goes led Done p q old new is does = absurd does
 
 -- ---- plans
@@ -133,29 +135,33 @@ goes_on led (Read p) (Write q) old new steps = absurd steps
 goes_on led (Write p) (Read q) old new steps = absurd steps
 
 -- who may lead a plan's stage may lead the next
-pub leads_on : (led : LedBy) (s : Settings) (leader : NodeName) (p q : HeldPlan) (old new : World) → StepsHeld led p old q new → IsLeaderOf s leader p
-    → IsLeaderOf s leader q
-leads_on led s leader (Read p) (Read q) old new steps leads =
-    subst (λ query. IsLeaderFor s (query_shard query) leader) (sym (read_same p q old new led p.at steps.steps.does).query) leads
-leads_on led s leader (Write p) (Write q) old new steps leads =
-    subst (λ write. IsLeaderIn s (master_of s (write_shard write)) leader) (sym (write_same p q old new led (next_of p) steps).write) leads
-leads_on led s leader (Read p) (Write q) old new steps leads = absurd steps
-leads_on led s leader (Write p) (Read q) old new steps leads = absurd steps
+pub leads_on : (led : LedBy) (s : Settings) (leaders : Leaders) (p q : HeldPlan) (old new : World) → StepsHeld led p old q new → IsLeaderOf s leaders p
+    → IsLeaderOf s leaders q
+leads_on led s leaders (Read p) (Read q) old new steps leads =
+    subst (λ query. IsLeaderFor s (query_shard query) leaders.leader) (sym (read_same p q old new led p.at steps.steps.does).query) leads
+leads_on led s leaders (Write p) (Write q) old new steps leads =
+    record {
+      leader = subst (λ write. IsLeaderIn s (master_of s (write_shard write)) leaders.leader) (sym (write_same p q old new led (next_of p) steps).write)
+          leads.leader;
+      passed = leads.passed;
+    }
+leads_on led s leaders (Read p) (Write q) old new steps leads = absurd steps
+leads_on led s leaders (Write p) (Read q) old new steps leads = absurd steps
 
 -- ---- all stages
 
 -- so many stages were done from where the plan began, and it can go on
-pub record CarriesOn (led : LedBy) (p : HeldPlan) (old : World) (q : HeldPlan) (new : World) : Type 0 where
+pub record CarriesOn (led : LedBy) (leaders : Leaders) (p : HeldPlan) (old : World) (q : HeldPlan) (new : World) : Type 0 where
   pub stages : ℕ
   pub passes : PassesStages led stages p old q new
   pub under_way : IsUnderWay led.tells led.settings new.keepers.told new.fleet q
-  pub leader : IsLeaderOf led.settings led.leader q
+  pub leader : IsLeaderOf led.settings leaders q
   pub on : PostsOn led.tells led.settings old new
 
 -- none was done yet
-pub none_carried : (led : LedBy) (p : HeldPlan) (old : World) → CanPost led.tells led.settings old
-    → IsUnderWay led.tells led.settings old.keepers.told old.fleet p → IsLeaderOf led.settings led.leader p → CarriesOn led p old p old
-none_carried led p old ready under leader = record {
+pub none_carried : (led : LedBy) (leaders : Leaders) (p : HeldPlan) (old : World) → CanPost led.tells led.settings old
+    → IsUnderWay led.tells led.settings old.keepers.told old.fleet p → IsLeaderOf led.settings leaders p → CarriesOn led leaders p old p old
+none_carried led leaders p old ready under leader = record {
   stages = 0;
   passes = (refl, refl);
   under_way = under;
@@ -164,12 +170,12 @@ none_carried led p old ready under leader = record {
 }
 
 -- one more was
-pub one_carried : (led : LedBy) (p m q : HeldPlan) (old mid new : World) → CarriesOn led p old m mid → StepsHeld led m mid q new
-    → IsUnderWay led.tells led.settings new.keepers.told new.fleet q → PostsOn led.tells led.settings mid new → CarriesOn led p old q new
-one_carried led p m q old mid new so_far steps under on = record {
+pub one_carried : (led : LedBy) (leaders : Leaders) (p m q : HeldPlan) (old mid new : World) → CarriesOn led leaders p old m mid → StepsHeld led m mid q new
+    → IsUnderWay led.tells led.settings new.keepers.told new.fleet q → PostsOn led.tells led.settings mid new → CarriesOn led leaders p old q new
+one_carried led leaders p m q old mid new so_far steps under on = record {
   stages = suc so_far.stages;
   passes = (m, mid, so_far.passes, record { steps = steps; under_way = under; on = on });
   under_way = under;
-  leader = leads_on led led.settings led.leader m q mid new steps so_far.leader;
+  leader = leads_on led led.settings leaders m q mid new steps so_far.leader;
   on = posts_trans led.tells led.settings old mid new so_far.on on;
 }

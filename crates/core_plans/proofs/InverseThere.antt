@@ -48,6 +48,7 @@ use Rattle.core_model.specs.Stores.{HaveMasterRegions, master_store, masters_of,
 use Rattle.core_plans.specs.Held.{IsOver, next_stage, learnt_with}
 use Rattle.core_plans.specs.HeldWrites.{CommitsHeld, DoesWriteStage, IsAnswerTo, IsWriteUnderWay, call_of_plan, job_by}
 use Rattle.core_plans.specs.LedBy.{led_by}
+use Rattle.core_plans.specs.declared.leaders.Leaders.{Leaders}
 use Rattle.core_plans.specs.WholeCalls.{PassesStage}
 use Rattle.core_plans.specs.WholeLaws.{HasOtherEnds, IsBegunWrite, WrittenIsThere}
 use Rattle.core_plans.specs.declared.held.HeldPlan.{HeldPlan}
@@ -62,7 +63,6 @@ use Rattle.core_steps.specs.OtherEnds.{EndsOver, MergesOver, job_way, learnt_ent
 use Rattle.core_steps.specs.World.{World}
 use Rattle.core_steps.specs.Writes.{StepsAs, asked_of_log}
 use Rattle.core_steps.specs.declared.jobs.LearntEntry.{LearntEntry}
-use Rattle.node_name.specs.declared.NodeName.{NodeName}
 
 -- ---- an entry whose job isn't open
 
@@ -194,7 +194,7 @@ record StandsSoFar (s : Settings) (p : Writing) (now : World) : Type 0 where
   jobs : JobsStand s (write_shard p.write) p.committed p.job now.keepers.told
   never : IsRefusedSo p.refused
 
-module _ (s : Settings) (leader : NodeName) (p q : Writing) (old new : World) (so : StandsSoFar s p old) where
+module _ (s : Settings) (leaders : Leaders) (p q : Writing) (old new : World) (so : StandsSoFar s p old) where
   abbrev shard : ℕ
   shard = write_shard p.write
 
@@ -204,7 +204,7 @@ module _ (s : Settings) (leader : NodeName) (p q : Writing) (old new : World) (s
   abbrev after : Tables
   after = new.keepers.told
 
-  module _ (is : CommitsHeld (led_by true s leader) p old q new) where
+  module _ (is : CommitsHeld (led_by true s leaders) p old q new) where
     abbrev answer : Wrote
     answer = is.committed.wrote
 
@@ -239,14 +239,14 @@ module _ (s : Settings) (leader : NodeName) (p q : Writing) (old new : World) (s
       subst (λ n. (stores_in s after).job n e.position ≡ None) ends.of.shard_is
       (subst (λ at. (stores_in s after).job ends.owed.shard at ≡ None) (ends.of.position_is ∙ position) ends.ends.ends.here)
 
-  stage_stands : (at : WriteStage) → next_of p ≡ at → DoesWriteStage (led_by true s leader) at p old q new → JobsStand s shard q.committed q.job after
+  stage_stands : (at : WriteStage) → next_of p ≡ at → DoesWriteStage (led_by true s leaders) at p old q new → JobsStand s shard q.committed q.job after
   stage_stands Commit at (inl commits) = commits_stand commits at
   stage_stands Commit at (inr refuses) =
       subst (λ (r : Writing). JobsStand s shard r.committed r.job after) (sym refuses.then)
       (subst (λ c. JobsStand s shard c p.job after) (sym (before_commit p at)) tt)
   stage_stands Inverse at does =
       merges s shard p q does.job does.result _ before after does.answered (at_inverse p at).1
-      (λ reply is. subst (λ r. MergesOver true s (job_way leader (job_by p does.job)) r old new) is does.merges) does.then so.jobs
+      (λ reply is. subst (λ r. MergesOver true s (job_way leaders.leader (job_by p does.job)) r old new) is does.merges) does.then so.jobs
   stage_stands End at does =
       ends s shard p q does.job does.result 0 before after does.answered (at_end p at).1
       (λ reply is. subst (λ r. EndsOver true s (job_by p does.job) r old new) is does.ends)
@@ -255,18 +255,21 @@ module _ (s : Settings) (leader : NodeName) (p q : Writing) (old new : World) (s
       rests (ap (λ (r : Writing). r.committed) applies.then) (ap (λ (r : Writing). r.job) applies.then) (ap (λ k. k.told) applies.rest.keepers)
   stage_stands Apply at (inr loses) =
       rests (ap (λ (r : Writing). r.committed) loses.then) (ap (λ (r : Writing). r.job) loses.then) (ap (λ k. k.told) loses.rest.keepers)
-  stage_stands Relay at does = absurd does
+  stage_stands Relay at (inl relays) =
+      rests (ap (λ (r : Writing). r.committed) relays.then) (ap (λ (r : Writing). r.job) relays.then) (ap (λ k. k.told) relays.rest.keepers)
+  stage_stands Relay at (inr loses) =
+      rests (ap (λ (r : Writing). r.committed) loses.then) (ap (λ (r : Writing). r.job) loses.then) (ap (λ k. k.told) loses.rest.keepers)
   stage_stands Done at does = absurd does
 
-stands_on : (s : Settings) (leader : NodeName) (p q : Writing) (old new : World) → StandsSoFar s p old
-    → PassesStage (led_by true s leader) (Write p) old (Write q) new → StandsSoFar s q new
-stands_on s leader p q old new so stage = record {
+stands_on : (s : Settings) (leaders : Leaders) (p q : Writing) (old new : World) → StandsSoFar s p old
+    → PassesStage (led_by true s leaders) (Write p) old (Write q) new → StandsSoFar s q new
+stands_on s leaders p q old new so stage = record {
   under_way = stage.under_way;
   are = stage.on.consistent;
   jobs = subst (λ w. JobsStand s (write_shard w) q.committed q.job new.keepers.told)
-      (sym (write_same p q old new (led_by true s leader) (next_of p) stage.steps).write)
-      (stage_stands s leader p q old new so (next_of p) refl stage.steps);
-  never = refused_so (led_by true s leader) p q old new so.never (next_of p) stage.steps;
+      (sym (write_same p q old new (led_by true s leaders) (next_of p) stage.steps).write)
+      (stage_stands s leaders p q old new so (next_of p) refl stage.steps);
+  never = refused_so (led_by true s leaders) p q old new so.never (next_of p) stage.steps;
 }
 
 -- ---- once it is over
@@ -358,9 +361,9 @@ begun_stands s p now begun under_way are = record {
   never = subst IsRefusedSo (sym begun.unrefused) tt;
 }
 
-pub written_is_there : (s : Settings) (leader : NodeName) (p : Writing) (old : World) (q : HeldPlan) (new : World) → WrittenIsThere s leader p old q new
-written_is_there s leader p old q new = record {
+pub written_is_there : (s : Settings) (leaders : Leaders) (p : Writing) (old : World) (q : HeldPlan) (new : World) → WrittenIsThere s leaders p old q new
+written_is_there s leaders p old q new = record {
   there = λ regions begun under_way are out reply over told. ended_there s q new reply regions
-      (write_keeps (led_by true s leader) (StandsSoFar s) (stands_on s leader) out.stages p q old new (begun_stands s p old begun under_way are) out.passes)
+      (write_keeps (led_by true s leaders) (StandsSoFar s) (stands_on s leaders) out.stages p q old new (begun_stands s p old begun under_way are) out.passes)
       over out.over told;
 }

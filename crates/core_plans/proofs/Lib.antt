@@ -1,5 +1,6 @@
 pub mod AsksHeld
 mod ComingBack
+mod CommitLemmas
 mod GivenUp
 pub mod HeldReadLemmas
 pub mod HeldReadStages
@@ -13,9 +14,11 @@ pub mod StagesLeft
 pub mod InTurn
 mod InverseThere
 pub mod ReadRefusals
+pub mod RefusedWrites
 mod ShortOfMemory
 mod Taking
 mod WholeReads
 pub mod WholeRuns
+mod WholeWays
 mod WholeWrites
 pub mod WriteRefusals

@@ -4,7 +4,10 @@ use Rattle.std.specs.Prelude.{⊤, IfSome, Result}
 use Rattle.core_model.specs.Jobs.{ShardJob}
 use Rattle.core_steps.specs.OtherEnds.{EndsOver, JobWay, MergesOver, job_way}
 use Rattle.core_steps.specs.World.{World}
-use Rattle.core_steps.specs.Writes.{RefusesCommit, sent_write}
+use Rattle.core_steps.specs.Relays.{RefusesPassing}
+use Rattle.core_steps.specs.Writes.{RefusesCommit}
+use Rattle.core_steps.specs.declared.routes.Route.{Route}
+use Rattle.node_name.specs.declared.NodeName.{NodeName}
 use Rattle.replies.specs.declared.refusals.Refusal.{Refusal}
 use Rattle.replies.specs.declared.refusals.Refusal.TheVariants as refusal
 use Rattle.replies.specs.declared.reply.Reply.{Reply}
@@ -22,7 +25,7 @@ use Rattle.write_plan.specs.declared.results.WriteResult.TheVariants as came
 use Rattle.write_plan.specs.declared.stage.WriteStage.{WriteStage}
 use Rattle.write_plan.specs.declared.stage.WriteStage.TheVariants.{Apply, Commit, Done, End, Inverse, Relay}
 use Rattle.core_plans.specs.Held.{IsOver}
-use Rattle.core_plans.specs.HeldWrites.{DoesWriteStage, call_of_plan, job_by, way_by}
+use Rattle.core_plans.specs.HeldWrites.{DoesWriteStage, RefusesOnWay, RefusesWrite, come_past, job_by, sent_by, way_by}
 use Rattle.core_plans.specs.LedBy.{LedBy}
 use Rattle.core_plans.specs.WholeCalls.{PassesStage}
 use Rattle.core_plans.specs.WholeLaws.{IsBegunWrite}
@@ -42,7 +45,7 @@ pub record ShortSoFar (tells : Bool) (first : KeeperState) (p : Writing) (now : 
   unwritten : p.refused ≡ None → p.committed ≡ None → KeepsTables tells first now.keepers
   short : IsShort tells first now.keepers p.refused
 
-unrefused_by : (refused : Option Reply) (committed : Option Committed) (job : OtherEnd) (back : WayBack) → stage_from refused committed job back ≡ Commit
+pub unrefused_by : (refused : Option Reply) (committed : Option Committed) (job : OtherEnd) (back : WayBack) → stage_from refused committed job back ≡ Commit
     → refused ≡ None
 unrefused_by None committed job back is = refl
 unrefused_by (Some reply) committed job back is = absurd (cc)
@@ -69,16 +72,35 @@ module _ (led : LedBy) (first : KeeperState) (p q : Writing) (old new : World) (
     short = subst Now (sym is) short;
   }
 
-  commit_short : next_of p ≡ Commit → (why : Refusal) → RefusesCommit led.tells led.settings (sent_write (way_by led.leader p) (call_of_plan p)) why old new
-      → (position : ℕ) → replied.Refused why ≡ replied.Refused (refusal.Memory position) → (position ≡ 0) × KeepsTables led.tells first new.keepers
-  commit_short at (refusal.Memory given) refuses position is =
-      let same : given ≡ position = cc in (
-        sym same ∙ refuses.0,
-        keeps_trans led.tells first old.keepers new.keepers
-            (so.unwritten (unrefused_by p.refused p.committed p.job p.back at) (before_commit p at)) refuses.1.same.tables,
-      )
-  commit_short at (refusal.Store refused) refuses position is = absurd (cc)
-  commit_short at why refuses position is = absurd refuses
+  -- how a reply refuses it: where memory was wanting, nothing was written
+  abbrev Short : Refusal → Type 0
+  Short why = (position : ℕ) → replied.Refused why ≡ replied.Refused (refusal.Memory position)
+      → (position ≡ 0) × KeepsTables led.tells first new.keepers
+
+  unwritten_yet : next_of p ≡ Commit → KeepsTables led.tells first old.keepers
+  unwritten_yet at = so.unwritten (unrefused_by p.refused p.committed p.job p.back at) (before_commit p at)
+
+  passing_short : next_of p ≡ Commit → (route : Route) (why : Refusal) → RefusesPassing led.tells route why old new → Short why
+  passing_short at route (refusal.Memory given) refuses position is =
+      let same : given ≡ position = cc in
+      (sym same ∙ refuses.0, subst (λ (x : World). KeepsTables led.tells first x.keepers) (sym refuses.1) (unwritten_yet at))
+  passing_short at route (refusal.Store refused) refuses position is = absurd (cc)
+  passing_short at route why refuses position is = absurd refuses
+
+  on_way_short : next_of p ≡ Commit → (passed : Option NodeName) (why : Refusal) → RefusesOnWay led.tells passed p why old new → Short why
+  on_way_short at None why refuses = absurd refuses
+  on_way_short at (Some leader) why refuses = passing_short at (way_by leader p) why refuses
+
+  there_short : next_of p ≡ Commit → (why : Refusal) → RefusesCommit led.tells led.settings (sent_by led p) why (come_past led old) new → Short why
+  there_short at (refusal.Memory given) refuses position is =
+      let same : given ≡ position = cc in
+      (sym same ∙ refuses.0, keeps_trans led.tells first old.keepers new.keepers (unwritten_yet at) refuses.1.same.tables)
+  there_short at (refusal.Store refused) refuses position is = absurd (cc)
+  there_short at why refuses position is = absurd refuses
+
+  commit_short : next_of p ≡ Commit → (why : Refusal) → RefusesWrite led p why old new → Short why
+  commit_short at why (inl stops) = on_way_short at led.passed why stops
+  commit_short at why (inr refuses) = there_short at why refuses
 
   module _ (g : IsGoing p) where
     merge_short : (way : JobWay) (result : Result Wrote LeftOpen) (hops : ℕ) → MergesOver led.tells led.settings way result old new
@@ -112,7 +134,10 @@ module _ (led : LedBy) (first : KeeperState) (p q : Writing) (old new : World) (
       let g = going p Apply (λ h. absurd (cc)) (λ h. absurd (cc)) at in
       goes_on g.committed (ap (λ (x : Writing). x.refused) applies.then ∙ g.unrefused) (ap (λ (x : Writing). x.committed) applies.then ∙ g.answered)
   stage_short Apply at (inr loses) = refused_so _ (ap (λ (x : Writing). x.refused) loses.then) (λ position is. absurd (cc))
-  stage_short Relay at does = absurd does
+  stage_short Relay at (inl relays) =
+      let g = going p Relay (λ h. absurd (cc)) (λ h. absurd (cc)) at in
+      goes_on g.committed (ap (λ (x : Writing). x.refused) relays.then ∙ g.unrefused) (ap (λ (x : Writing). x.committed) relays.then ∙ g.answered)
+  stage_short Relay at (inr loses) = refused_so _ (ap (λ (x : Writing). x.refused) loses.then) (λ position is. absurd (cc))
   stage_short Done at does = absurd does
 
 pub short_on : (led : LedBy) (first : KeeperState) (p q : Writing) (old new : World) → ShortSoFar led.tells first p old

@@ -4,7 +4,7 @@ use Rattle.cache_items.specs.declared.look.Look.{Look}
 use Rattle.cache_items.specs.declared.look.Look.TheVariants.{Hit, Miss}
 use Rattle.core_plans.specs.Held.{StepsHeld}
 use Rattle.core_plans.specs.HeldReads.{DoesKeep, DoesLook, DoesReadStage}
-use Rattle.core_plans.specs.HeldWrites.{DoesWriteStage}
+use Rattle.core_plans.specs.HeldWrites.{DoesWriteStage, with_notes}
 use Rattle.core_plans.specs.LedBy.{LedBy}
 use Rattle.core_plans.specs.WholeCalls.{read_stages_left, stages_left, write_stages_left}
 use Rattle.core_plans.specs.declared.held.HeldPlan.{HeldPlan}
@@ -32,6 +32,7 @@ use Rattle.write_plan.specs.declared.progress.OtherEnd.{OtherEnd}
 use Rattle.write_plan.specs.declared.progress.OtherEnd.TheVariants as job
 use Rattle.write_plan.specs.declared.progress.WayBack.{WayBack}
 use Rattle.write_plan.specs.declared.progress.WayBack.TheVariants.{Ahead, Applied, Relayed}
+use Rattle.write_plan.specs.declared.results.CommitAnswer.{CommitAnswer}
 use Rattle.write_plan.specs.declared.results.LeftOpen.{LeftOpen}
 use Rattle.write_plan.specs.declared.results.LeftOpen.TheVariants.{Refused, Scheduled}
 use Rattle.write_plan.specs.declared.results.WriteResult.TheVariants as came
@@ -39,7 +40,6 @@ use Rattle.replies.specs.declared.calls.ScheduledWhy.{ScheduledWhy}
 use Rattle.write_plan.specs.declared.stage.WriteStage.{WriteStage}
 use Rattle.write_plan.specs.declared.stage.WriteStage.TheVariants.{Apply, Commit, Done, End, Inverse, Relay}
 use Rattle.std.specs.Prelude.{⊤, Result, option_and_then, unwrap_or}
-use Rattle.shard_log.specs.View.{View}
 
 -- ---- reads
 
@@ -129,6 +129,17 @@ applied_left (Some owed) job.Ended (Some leader) back is = omega arith
 applied_left (Some owed) (job.Open why) None back is = omega arith
 applied_left (Some owed) (job.Open why) (Some leader) back is = omega arith
 
+relayed_left : (owed : Option Job) (state : OtherEnd) (passed : Option NodeName) (back : WayBack) → following owed state passed back ≡ Relay
+    → write_stages_left (following owed state passed Relayed) < 2
+relayed_left None state None back is = omega arith
+relayed_left None state (Some leader) back is = omega arith
+relayed_left (Some owed) job.Due passed back is = absurd (cc)
+relayed_left (Some owed) job.Merged passed back is = absurd (cc)
+relayed_left (Some owed) job.Ended None back is = omega arith
+relayed_left (Some owed) job.Ended (Some leader) back is = omega arith
+relayed_left (Some owed) (job.Open why) None back is = omega arith
+relayed_left (Some owed) (job.Open why) (Some leader) back is = omega arith
+
 -- a write whose commit was answered, and that nothing refused
 pub record IsGoing (p : Writing) : Type 0 where
   pub committed : Committed
@@ -180,22 +191,27 @@ module _ (p q : Writing) (hops : ℕ) where
       subst (λ r. left_of r < 1) (sym then)
       (next_left g p.job Applied 1 (applied_left g.committed.wrote.job p.job g.committed.passed p.back (sym (going_next p g p.job p.back) ∙ is)))
 
+  relay_left : IsGoing p → next_of p ≡ Relay → q ≡ after_stage p (came.Relay (Ok tt)) hops → left_of q < 2
+  relay_left g is then =
+      subst (λ r. left_of r < 2) (sym then)
+      (next_left g p.job Relayed 2 (relayed_left g.committed.wrote.job p.job g.committed.passed p.back (sym (going_next p g p.job p.back) ∙ is)))
+
   refused_left : (reply : Reply) (n : ℕ) → q.refused ≡ Some reply → 0 < n → left_of q < n
   refused_left reply n refused less =
       subst (λ r. write_stages_left (stage_from r q.committed q.job q.back) < n) (sym refused) less
 
-  commit_left : (c : Committed) (note : View) → next_of p ≡ Commit → q ≡ after_stage p (came.Commit (Ok (c, note))) hops → left_of q < 5
-  commit_left c note is then =
+  commit_left : (answer : CommitAnswer) → next_of p ≡ Commit → q ≡ after_stage p (came.Commit (Ok answer)) hops → left_of q < 5
+  commit_left answer is then =
       subst (λ r. left_of r < 5) (sym then) (by p.refused is)
     where
       by : (refused : Option Reply) → stage_from refused p.committed p.job p.back ≡ Commit
-          → write_stages_left (stage_from refused (Some c) p.job p.back) < 5
-      by None next = following_left c.wrote.job p.job c.passed p.back
+          → write_stages_left (stage_from refused (Some answer.committed) p.job p.back) < 5
+      by None next = following_left answer.committed.wrote.job p.job answer.committed.passed p.back
       by (Some reply) next = absurd (cc)
 
 write_closer : (led : LedBy) (at : WriteStage) (p q : Writing) (old new : World) → next_of p ≡ at → DoesWriteStage led at p old q new
     → left_of q < write_stages_left at
-write_closer led Commit p q old new is (inl commits) = commit_left p q _ commits.committed _ is commits.then
+write_closer led Commit p q old new is (inl commits) = commit_left p q _ (with_notes commits.committed) is commits.then
 write_closer led Commit p q old new is (inr refuses) =
     refused_left p q 0 (Refused_ refuses.refusal) 5 (ap (λ (x : Writing). x.refused) refuses.then) (omega arith)
 write_closer led Inverse p q old new is merges =
@@ -204,7 +220,9 @@ write_closer led End p q old new is ends = end_left p q 0 ends.result (going p E
 write_closer led Apply p q old new is (inl applies) =
     apply_left p q _ (going p Apply (λ h. absurd (cc)) (λ h. absurd (cc)) is) is applies.then
 write_closer led Apply p q old new is (inr loses) = refused_left p q 0 _ 1 (ap (λ (x : Writing). x.refused) loses.then) (omega arith)
-write_closer led Relay p q old new is does = absurd does
+write_closer led Relay p q old new is (inl relays) =
+    relay_left p q _ (going p Relay (λ h. absurd (cc)) (λ h. absurd (cc)) is) is relays.then
+write_closer led Relay p q old new is (inr loses) = refused_left p q 0 _ 2 (ap (λ (x : Writing). x.refused) loses.then) (omega arith)
 write_closer led Done p q old new is does = absurd does
 
 -- ---- plans

@@ -8,7 +8,6 @@ use Rattle.core_model.specs.Reads.{LooksFirst}
 use Rattle.core_model.specs.States.{AreSettled, nodes_now}
 use Rattle.core_steps.specs.World.{World}
 use Rattle.core_steps.proofs.LastVersions.{GivesLast, given_last, hit_last}
-use Rattle.node_name.specs.declared.NodeName.{NodeName}
 use Rattle.read_plan.specs.Readings.{Reading}
 use Rattle.read_plan.specs.Standings.{after_ask, after_keep, after_look}
 use Rattle.read_plan.specs.declared.standing.Given.{Given}
@@ -26,6 +25,7 @@ use Rattle.core_plans.specs.HeldLaws.{StagesMissNothing}
 use Rattle.core_plans.specs.HeldReads.{DoesLook, DoesReadStage, HasComeTo, DoesKeep, version_now, wanted_by}
 use Rattle.core_plans.proofs.Missing.{store_comes, version_later}
 use Rattle.core_plans.specs.LedBy.{led_by}
+use Rattle.core_plans.specs.declared.leaders.Leaders.{Leaders}
 
 given_comes : (floor last least now : ℕ) (given : LeaderAnswer) → GivesLast floor last given → least ≤ last → last ≤ now
     → HasComeTo least now (after_ask given)
@@ -33,9 +33,9 @@ given_comes floor last least now (leads.Filled fill) gives le on = omega (arith,
 given_comes floor last least now (leads.Past answer version total note) gives le on = omega (arith, gives, le)
 given_comes floor last least now (leads.Behind version) gives le on = omega (arith, le, on)
 
-module _ (s : Settings) (leader : NodeName) (p q : Reading) (old new : World) (states : NodeStates)
+module _ (s : Settings) (leaders : Leaders) (p q : Reading) (old new : World) (states : NodeStates)
     (are : IsConsistent true s old.keepers.told old.fleet) (settled : AreSettled s old.keepers.told (nodes_now old.fleet states))
-    (follower_up : is_up states p.follower ≡ true) (leader_up : is_up states leader ≡ true)
+    (follower_up : is_up states p.follower ≡ true) (leader_up : is_up states leaders.leader ≡ true)
     (grows : LogsGrow true old.keepers.told new.keepers.told) (least : ℕ) where
   abbrev last : ℕ
   last = version_now s p old.keepers
@@ -84,11 +84,11 @@ module _ (s : Settings) (leader : NodeName) (p q : Reading) (old new : World) (s
 
   -- ---- each stage
 
-  stage_comes : (at : Standing) → p.at ≡ at → DoesReadStage (led_by true s leader) at p old q new → HasComeTo least last at → Comes q
+  stage_comes : (at : Standing) → p.at ≡ at → DoesReadStage (led_by true s leaders) at p old q new → HasComeTo least last at → Comes q
   stage_comes Looking at does come = looks_come p.critical refl does come
   stage_comes Asking at does come = elim does [
     | inl asks ↦
-        let gave = given_last s (wanted_by p) old.keepers old.fleet states are settled leader asks.given new.keepers new.fleet.leaders leader_up
+        let gave = given_last s (wanted_by p) old.keepers old.fleet states are settled leaders.leader asks.given new.keepers new.fleet.leaders leader_up
         asks.over.gives.asks in
         subst Comes (sym asks.then) (given_comes p.floor last least now asks.given gave come on)
     | inr vain ↦ subst Comes (sym vain.then) tt
@@ -102,8 +102,8 @@ module _ (s : Settings) (leader : NodeName) (p q : Reading) (old new : World) (s
   stage_comes (Keeping given) at does come = keeps_come given at does come
   stage_comes (Ended end) at does come = absurd does
 
-pub stages_miss_nothing : (s : Settings) (leader : NodeName) (p q : Reading) (old new : World) → StagesMissNothing s leader p old q new
-stages_miss_nothing s leader p q old new = record {
+pub stages_miss_nothing : (s : Settings) (leaders : Leaders) (p q : Reading) (old new : World) → StagesMissNothing s leaders p old q new
+stages_miss_nothing s leaders p q old new = record {
   whole = λ states steps are settled follower_up leader_up grows least come.
-      stage_comes s leader p q old new states are settled follower_up leader_up grows least p.at refl steps.does come;
+      stage_comes s leaders p q old new states are settled follower_up leader_up grows least p.at refl steps.does come;
 }

@@ -10,11 +10,13 @@ use Rattle.core_plans.specs.declared.held.HeldPlan.{HeldPlan}
 use Rattle.core_plans.specs.declared.held.HeldPlan.TheVariants.{Read, Write}
 use Rattle.core_plans.proofs.StagesLeft.{stage_closer}
 use Rattle.core_plans.proofs.Taking.{CarriesFew, HasTaken, both_carried, lost_back, lost_there, none_between, none_carried, once_carried, takes_more}
+use Rattle.core_plans.proofs.WholeWays.{OnItsWay, begun_way, its_way, way_on}
 use Rattle.core_plans.proofs.WholeRuns.{OfWrite, write_keeps}
 use Rattle.core_plans.proofs.WriteRefusals.{IsRefusedSo, answered_write, refused_so}
 use Rattle.core_model.specs.Jobs.{ShardJob}
 use Rattle.core_steps.specs.OtherEnds.{ChangesKeepers, EndsOver, GoesBetween, JobWay, LeavesJob, MayComeBack, MergesOver, job_way}
 use Rattle.core_steps.specs.World.{World}
+use Rattle.core_steps.specs.Relays.{link_past}
 use Rattle.core_steps.specs.Routes.{hops_between}
 use Rattle.hop_count.specs.Hops.{hops_after}
 use Rattle.node_name.specs.declared.NodeName.{NodeName}
@@ -25,7 +27,7 @@ use Rattle.replies.specs.declared.calls.WriteReply.{WriteReply}
 use Rattle.replies.specs.declared.reply.Reply.{Reply}
 use Rattle.replies.specs.declared.reply.Reply.TheVariants.{Called, Refused as Refused_}
 use Rattle.shard_tables.specs.declared.writes.Wrote.{Wrote}
-use Rattle.tao_link.specs.Shown.{LinkShown}
+use Rattle.tao_link.specs.Shown.{LinkShown, after_carry}
 use Rattle.write_plan.specs.Plans.{Writing, after_stage, next_of}
 use Rattle.write_plan.specs.declared.results.LeftOpen.{LeftOpen}
 use Rattle.write_plan.specs.declared.results.LeftOpen.TheVariants.{Refused, Scheduled}
@@ -35,6 +37,11 @@ use Rattle.write_plan.specs.declared.stage.WriteStage.TheVariants.{Apply, Commit
 use Rattle.core_plans.proofs.ShortOfMemory.{ShortSoFar, begun_short, short_on, short_over}
 
 -- ---- what its stages carried
+
+-- its commit carried once, or twice where it passed a leader
+commit_few : (passed : Option NodeName) (old new : LinkShown) → new ≡ after_carry (link_past passed old) → CarriesFew old new
+commit_few None old new is = once_carried old new is
+commit_few (Some leader) old new is = both_carried old new is
 
 module _ (from to : NodeName) (old new : LinkShown) where
   between_few : GoesBetween from to old new → CarriesFew old new
@@ -135,7 +142,7 @@ module _ (led : LedBy) (first : LinkShown) (p q : Writing) (old new : World) (so
 
   takes : (at : WriteStage) → DoesWriteStage led at p old q new → q.refused ≡ None → HasHops first q new.link
   takes Commit (inl commits) =
-      adds (once_carried old.link new.link commits.commits.link) (ap (λ (r : Writing). r.hops) commits.then)
+      adds (commit_few led.passed old.link new.link commits.commits.link) (ap (λ (r : Writing). r.hops) commits.then)
       (ap (λ (r : Writing). r.refused) commits.then)
   takes Commit (inr refuses) = ends (Refused_ refuses.refusal) (ap (λ (r : Writing). r.refused) refuses.then)
   takes Inverse merges = merges_on (job_way led.leader (job_by p merges.job)) merges.result merges.merges merges.then
@@ -144,7 +151,10 @@ module _ (led : LedBy) (first : LinkShown) (p q : Writing) (old new : World) (so
       adds (once_carried old.link new.link applies.link) (ap (λ (r : Writing). r.hops) applies.then)
       (ap (λ (r : Writing). r.refused) applies.then)
   takes Apply (inr loses) = ends _ (ap (λ (r : Writing). r.refused) loses.then)
-  takes Relay does = absurd does
+  takes Relay (inl relays) =
+      adds (once_carried old.link new.link relays.link) (ap (λ (r : Writing). r.hops) relays.then)
+      (ap (λ (r : Writing). r.refused) relays.then)
+  takes Relay (inr loses) = ends _ (ap (λ (r : Writing). r.refused) loses.then)
   takes Done does = absurd does
 
 takes_on : (led : LedBy) (first : LinkShown) (p q : Writing) (old new : World) → TakesSoFar first p old → PassesStage led (Write p) old (Write q) new
@@ -192,6 +202,9 @@ pub whole_writes : (led : LedBy) (p : Writing) (old : World) (q : HeldPlan) (new
 whole_writes led p old q new = record {
   cost = λ begun out reply over. tells_hops old.link q new reply
       (write_keeps led (TakesSoFar old.link) (takes_on led old.link) out.stages p q old new (begun_takes p old begun) out.passes) over;
+  way = λ begun ahead out reply over r is. its_way led old.link q new reply
+      (write_keeps led (OnItsWay led.passed old.link) (way_on led old.link) out.stages p q old new (begun_way led.passed p old begun ahead) out.passes)
+      over out.over r is;
   memory = λ begun out position over. short_over led.tells old.keepers q new position
       (write_keeps led (ShortSoFar led.tells old.keepers) (short_on led old.keepers) out.stages p q old new (begun_short led.tells p old begun) out.passes)
       over;

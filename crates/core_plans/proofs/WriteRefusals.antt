@@ -43,7 +43,8 @@ module _ (led : LedBy) (p q : Writing) (old new : World) (was : IsRefusedSo p.re
   refused_so End ends = end_so (job_by p ends.job) ends.result 0 ends.ends ends.then
   refused_so Apply (inl applies) = subst (λ (x : Writing). IsRefusedSo x.refused) (sym applies.then) was
   refused_so Apply (inr loses) = subst (λ (x : Writing). IsRefusedSo x.refused) (sym loses.then) (λ answered is. absurd (cc))
-  refused_so Relay does = absurd does
+  refused_so Relay (inl relays) = subst (λ (x : Writing). IsRefusedSo x.refused) (sym relays.then) was
+  refused_so Relay (inr loses) = subst (λ (x : Writing). IsRefusedSo x.refused) (sym loses.then) (λ answered is. absurd (cc))
   refused_so Done does = absurd does
 
 -- a write that was carried out, by its Ok reply

@@ -6,8 +6,7 @@ use Rattle.std.specs.Ordering.{nat_cmp}
 use Rattle.ask_table.specs.Asks.{Asks}
 use Rattle.std.specs.List.{list_any}
 use Rattle.core_model.specs.Fleet.{Fleet, named}
-use Rattle.core_model.specs.Serving.{IsLeaderFor, IsLeaderIn}
-use Rattle.core_model.specs.Stores.{master_of}
+use Rattle.core_model.specs.Serving.{IsLeaderFor}
 use Rattle.core_model.specs.declared.named.Named.{Named}
 use Rattle.core_steps.specs.OtherEnds.{learnt_entry_of, learnt_far}
 use Rattle.core_steps.specs.World.{World}
@@ -34,11 +33,12 @@ use Rattle.write_plan.specs.Stages.{stage_said}
 use Rattle.write_plan.specs.declared.stage.WriteStage.{WriteStage}
 use Rattle.write_plan.specs.declared.stage.WriteStage.TheVariants.{Apply}
 use Rattle.core_plans.specs.HeldReads.{IsReadUnderWay, StepsRead}
-use Rattle.core_plans.specs.HeldWrites.{DoesWriteStage, IsBefore, IsWriteUnderWay, way_given_up}
+use Rattle.core_plans.specs.HeldWrites.{DoesWriteStage, IsBefore, IsWriteUnderWay, LeadWrite, way_given_up}
 use Rattle.core_plans.specs.declared.held.HeldPlan.{HeldPlan}
 use Rattle.core_plans.specs.declared.held.HeldPlan.TheVariants.{Read, Write}
 use Rattle.core_plans.specs.declared.held.LearntEntries.{LearntEntries}
 use Rattle.core_plans.specs.declared.plans.HeldPlans.TheInside.{Inside}
+use Rattle.core_plans.specs.declared.leaders.Leaders.{Leaders}
 use Rattle.core_plans.specs.LedBy.{LedBy}
 
 -- ---- one plan
@@ -133,21 +133,22 @@ pub record ChangesPlan (number : ℕ) (plan : HeldPlan) (old new : Plans) : Type
 
 -- ---- one step
 
--- the leader may lead the plan's stages: for a read it serves the shard, for a write it is one of the master's region, and may stand in for another
-abbrev pub IsLeaderOf : Settings → NodeName → HeldPlan → Type 0
-IsLeaderOf s leader (Read p) = IsLeaderFor s (query_shard p.query) leader
-IsLeaderOf s leader (Write p) = IsLeaderIn s (master_of s (write_shard p.write)) leader
+-- the leaders may lead the plan's stages: for a read the first serves the shard, for a write it is one of the master's region, which may stand in for
+-- another, and the leader that the write passes, where it passes one, is one of the configuration's
+abbrev pub IsLeaderOf : Settings → Leaders → HeldPlan → Type 0
+IsLeaderOf s leaders (Read p) = IsLeaderFor s (query_shard p.query) leaders.leader
+IsLeaderOf s leaders (Write p) = LeadWrite s leaders p
 
--- a plan is there that can go on, and the leader may lead it
-pub record IsThere (tells : Bool) (s : Settings) (tables : Tables) (f : Fleet) (leader : NodeName) (plan : HeldPlan) : Type 0 where
+-- a plan is there that can go on, and the leaders may lead it
+pub record IsThere (tells : Bool) (s : Settings) (tables : Tables) (f : Fleet) (leaders : Leaders) (plan : HeldPlan) : Type 0 where
   pub under_way : IsUnderWay tells s tables f plan
   pub goes_on : IsSome (next_stage plan)
-  pub leader_is : IsLeaderOf s leader plan
+  pub leader_is : IsLeaderOf s leaders plan
 
--- a plan is held there, and that leader may lead its next stage
-abbrev pub CanStep : Bool → Settings → Tables → Fleet → NodeName → Option HeldPlan → Type 0
-CanStep tells s tables f leader None = ⊥
-CanStep tells s tables f leader (Some plan) = IsThere tells s tables f leader plan
+-- a plan is held there, and those leaders may lead its next stage
+abbrev pub CanStep : Bool → Settings → Tables → Fleet → Leaders → Option HeldPlan → Type 0
+CanStep tells s tables f leaders None = ⊥
+CanStep tells s tables f leaders (Some plan) = IsThere tells s tables f leaders plan
 
 -- a read's stage changes no table and no message
 pub record StepsReadAlone (led : LedBy) (p : Reading) (old : World) (q : Reading) (new : World) : Type 0 where

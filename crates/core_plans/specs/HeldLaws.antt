@@ -15,7 +15,8 @@ use Rattle.core_model.specs.declared.named.Named.{Named}
 use Rattle.core_plans.specs.Held.{AsksAreHeld, OpensNone, Plans}
 use Rattle.core_plans.specs.HeldReads.{HasComeTo, MissesNone, StepsRead, version_now}
 use Rattle.core_plans.specs.HeldWrites.{DoesWriteStage}
-use Rattle.core_plans.specs.LedBy.{led_by}
+use Rattle.core_plans.specs.LedBy.{LedBy, led_by}
+use Rattle.core_plans.specs.declared.leaders.Leaders.{Leaders}
 use Rattle.core_steps.specs.World.{World}
 use Rattle.follower_cache.specs.Seen.{FollowerState}
 use Rattle.follower_cache.specs.declared.queue.Refill.{Refill}
@@ -62,8 +63,8 @@ pub record AsksStayHeld : Type 0 where
   pub same : (old new : Followers) → new ≡ old → OpensNone old new
   pub on : (old mid new : Followers) → OpensNone old mid → OpensNone mid new → OpensNone old new
   pub changes : (name : NodeName) (old new : Followers) → ChangesOpenNone name old new
-  pub stages : (tells : Bool) (s : Settings) (leader : NodeName) (at : WriteStage) (p q : Writing) (old new : World)
-      → DoesWriteStage (led_by tells s leader) at p old q new → OpensNone old.fleet.followers new.fleet.followers
+  pub stages : (led : LedBy) (at : WriteStage) (p q : Writing) (old new : World) → DoesWriteStage led at p old q new
+      → OpensNone old.fleet.followers new.fleet.followers
 
 -- what a critical read doesn't miss it doesn't miss later: logs only grow
 pub record NothingIsMissedLater : Type 0 where
@@ -75,8 +76,8 @@ pub record NothingIsMissedLater : Type 0 where
 
 -- no stage of any read misses anything that the read didn't before, where each store has its shard's whole log, and the read's follower and leader
 -- are up and have processed it: a hit of its look, and what its leader gives, have the last version
-pub record StagesMissNothing (s : Settings) (leader : NodeName) (p : Reading) (old : World) (q : Reading) (new : World) : Type 0 where
-  pub whole : (states : NodeStates) → StepsRead (led_by true s leader) p old q new → IsConsistent true s old.keepers.told old.fleet
-      → AreSettled s old.keepers.told (nodes_now old.fleet states) → is_up states p.follower ≡ true → is_up states leader ≡ true
+pub record StagesMissNothing (s : Settings) (leaders : Leaders) (p : Reading) (old : World) (q : Reading) (new : World) : Type 0 where
+  pub whole : (states : NodeStates) → StepsRead (led_by true s leaders) p old q new → IsConsistent true s old.keepers.told old.fleet
+      → AreSettled s old.keepers.told (nodes_now old.fleet states) → is_up states p.follower ≡ true → is_up states leaders.leader ≡ true
       → LogsGrow true old.keepers.told new.keepers.told
       → (least : ℕ) → HasComeTo least (version_now s p old.keepers) p.at → HasComeTo least (version_now s q new.keepers) q.at

@@ -1,13 +1,16 @@
 -- A write that is held between its stages, and what each stage does.
-use Rattle.std.specs.Prelude.{ℕ, ◌≡◌, ◌<◌, ◌⊎◌, ⊤, Bool, IfSome, IsTrue, List, Option, None, Some, Result, Ok, Err, length}
-use Rattle.core_model.specs.Fleet.{Fleet}
+use Rattle.std.specs.Prelude.{ℕ, ◌≡◌, ◌<◌, ◌⊎◌, ⊤, Bool, Contains, IfSome, IsTrue, List, Option, None, Some, Result, Ok, Err, length, unwrap_or}
+use Rattle.std.specs.Option.{option_map}
+use Rattle.core_model.specs.Fleet.{Fleet, leader_names}
 use Rattle.core_model.specs.Jobs.{CanBeMerged, IsMergedJob, ShardJob, job_on}
-use Rattle.core_model.specs.Serving.{IsFollowerFor}
+use Rattle.core_model.specs.Serving.{IsFollowerFor, IsLeaderIn}
+use Rattle.core_model.specs.Stores.{master_of}
 use Rattle.core_steps.specs.Routes.{FailsCarry, hops_between}
 use Rattle.core_steps.specs.World.{World}
 use Rattle.core_steps.specs.OtherEnds.{EndsOver, MergesOver, StandsThere, job_way}
 use Rattle.core_steps.specs.Posting.{AppliesAlone, PostsOn}
-use Rattle.core_steps.specs.Writes.{AuthoredWrite, CanBeApplied, FollowerTakes, IsCommitted, RefusesCommit, client_call, sent_write}
+use Rattle.core_steps.specs.Relays.{LeaderRelays, RefusesPassing, RelaysAlone, link_past}
+use Rattle.core_steps.specs.Writes.{AuthoredWrite, CanBeApplied, FollowerTakes, IsCommitted, RefusesCommit, SentWrite, client_call, sent_write}
 use Rattle.core_steps.specs.declared.routes.Route.{Route}
 use Rattle.graph_model.specs.Soundness.{is_client}
 use Rattle.graph_model.specs.Told.{WhereTold}
@@ -17,12 +20,10 @@ use Rattle.replies.specs.declared.refusals.Refusal.TheVariants.{Store, Memory}
 use Rattle.replies.specs.declared.refusals.StoreRefused.TheVariants.{LinkFault}
 use Rattle.replies.specs.declared.reply.Reply.{Reply}
 use Rattle.replies.specs.declared.reply.Reply.TheVariants.{Refused}
-use Rattle.shard_log.specs.View.{View}
 use Rattle.shard_tables.specs.StoreView.{Store as StoreSeen}
 use Rattle.shard_tables.specs.declared.writes.Wrote.{Wrote}
 use Rattle.tao_base.specs.Writes.{ChangesType, write_shard}
 use Rattle.tao_base.specs.declared.entry.Entry.{Entry}
-use Rattle.tao_base.specs.declared.write.Write.{Write}
 use Rattle.tao_keeper.specs.Table.{Tables}
 use Rattle.tao_keeper.specs.declared.jobs.Job.{Job}
 use Rattle.tao_link.specs.Shown.{after_carry}
@@ -34,11 +35,13 @@ use Rattle.write_plan.specs.declared.committed.Committed.{Committed}
 use Rattle.write_plan.specs.declared.progress.OtherEnd.TheVariants.{Due, Merged}
 use Rattle.write_plan.specs.declared.progress.WayBack.{WayBack}
 use Rattle.write_plan.specs.declared.progress.WayBack.TheVariants.{Ahead, Applied, Relayed}
+use Rattle.write_plan.specs.declared.results.CommitAnswer.{CommitAnswer}
 use Rattle.write_plan.specs.declared.results.LeftOpen.{LeftOpen}
 use Rattle.write_plan.specs.declared.results.WriteResult.TheVariants as came
 use Rattle.write_plan.specs.declared.stage.WriteStage.{WriteStage}
 use Rattle.write_plan.specs.declared.stage.WriteStage.TheVariants.{Commit, Inverse, End, Relay, Apply, Done}
 use Rattle.core_plans.specs.LedBy.{LedBy}
+use Rattle.core_plans.specs.declared.leaders.Leaders.{Leaders}
 
 -- the client's write that a plan carries out, under its origin
 abbrev pub call_of_plan : Writing → AuthoredWrite
@@ -53,21 +56,18 @@ abbrev pub entry_position : Option Entry → ℕ
 entry_position None = 0
 entry_position (Some e) = e.position
 
--- what its commit answered: its follower may take it, and it passed no other leader
+-- the leaders may lead a write's stages: the one that commits it is of the master's region, and may stand in for another; the one that it passes, where
+-- it passes one, is one of the configuration's
+pub record LeadWrite (s : Settings) (leaders : Leaders) (p : Writing) : Type 0 where
+  pub leader : IsLeaderIn s (master_of s (write_shard p.write)) leaders.leader
+  pub passed : IfSome leaders.passed (Contains (leader_names s))
+
+-- what its commit answered: its follower may take it, and so may the leader that it passed, where it passed one, which is one of the configuration's
 pub record IsAnswerTo (s : Settings) (stores : List StoreSeen) (p : Writing) (c : Committed) : Type 0 where
   pub apply : CanBeApplied (call_of_plan p) c.wrote stores
   pub kind : kind_said p.write c.wrote.entry ≡ Some c.kind
-  pub passed : c.passed ≡ None
+  pub passed : IfSome c.passed (Contains (leader_names s))
   pub paired : c.paired ≡ has_inverse (types_of s.schema) p.write
-
--- what the leader answered to a write, with a second note, as its plan takes it: so it does where it passed no other leader
-abbrev pub IsTakenAs : Settings → Write → Result (Wrote × View) Refusal → Result (Committed × View) Reply → Type 0
-IsTakenAs s write (Ok given) (Ok answer) =
-    (answer.0.wrote ≡ given.0) × (kind_said write given.0.entry ≡ Some answer.0.kind) × (answer.0.passed ≡ None)
-    × (answer.0.paired ≡ has_inverse (types_of s.schema) write) × (answer.1 ≡ given.1)
-IsTakenAs s write (Err refusal) (Err reply) = reply ≡ Refused refusal
-IsTakenAs s write (Ok given) (Err reply) = ⊥
-IsTakenAs s write (Err refusal) (Ok answer) = ⊥
 
 -- the job that its commit answered, as one of its shard
 abbrev pub job_by : Writing → Job → ShardJob
@@ -80,8 +80,8 @@ IsBefore Relayed = ⊤
 IsBefore Applied = ⊥
 
 -- a write of a client, at a follower that serves its shard, from a region of the configuration. Before its commit nothing is done of its other end.
--- What the commit answered can be applied, by a second note that is there until it was, and its job merged; a job that was merged can be ended, and what
--- was written at the other end stands there
+-- What the commit answered can be applied, by a second note that is there until it was, and relayed where a leader was passed, by a third one, and its job
+-- merged; a job that was merged can be ended, and what was written at the other end stands there
 pub record IsWriteUnderWay (tells : Bool) (s : Settings) (tables : Tables) (f : Fleet) (p : Writing) : Type 0 where
   pub follower : IsFollowerFor s (write_shard p.write) p.follower
   pub region : p.region < length s.regions
@@ -90,23 +90,48 @@ pub record IsWriteUnderWay (tells : Bool) (s : Settings) (tables : Tables) (f : 
   pub begun : p.committed ≡ None → (p.job ≡ Due) × (p.other ≡ None)
   pub committed : IfSome p.committed (IsAnswerTo s f.stores p)
   pub spare : p.refused ≡ None → IsBefore p.back → IfSome p.committed (λ c. p.spare ≡ Some c.wrote.note)
+  pub relay : p.refused ≡ None → p.back ≡ Ahead → IfSome p.committed (λ c. IfSome c.passed (λ _. p.relay ≡ Some c.wrote.note))
   pub job : IfSome (answered_job p) (λ job. CanBeMerged tells s tables (job_by p job))
   pub merged : p.job ≡ Merged → IfSome (answered_job p) (λ job. WhereTold tells (IsMergedJob s tables (job_by p job)))
   pub other : IfSome (answered_job p) (λ job. StandsThere s job p.other f.stores)
 
 -- ---- what its stages do
 
--- `commit`: the leader writes, and the followers are told. The plan keeps a second note of the log, for the way back
+-- the write, as it is sent to the leader that commits it: from its follower, or from the leader that it passes
+abbrev pub sent_by : LedBy → Writing → SentWrite
+sent_by led p = sent_write (record { follower = unwrap_or led.passed p.follower; leader = led.leader }) (call_of_plan p)
+
+-- the world in which it is sent from there: a leader that it passes is one carry from its follower
+abbrev pub come_past : LedBy → World → World
+come_past led old = record old { link = link_past led.passed old.link }
+
+-- what a commit answered, with the notes for its way back, which have seen what it wrote
+abbrev pub with_notes : Committed → CommitAnswer
+with_notes c = record { committed = c; relay = option_map (λ _. c.wrote.note) c.passed; spare = c.wrote.note }
+
+-- `commit`: by one carry from its follower, or by two, where it passes a leader on the way, the write comes to the leader that writes, and the followers
+-- are told. The plan keeps notes of the log for the way back
 pub record CommitsHeld (led : LedBy) (p : Writing) (old : World) (q : Writing) (new : World) : Type 0 where
   pub committed : Committed
-  pub commits : IsCommitted led.tells led.settings (sent_write (way_by led.leader p) (call_of_plan p)) committed.wrote old new
+  pub passed : committed.passed ≡ led.passed
+  pub commits : IsCommitted led.tells led.settings (sent_by led p) committed.wrote (come_past led old) new
   pub answer : IsAnswerTo led.settings new.fleet.stores p committed
-  pub then : q ≡ after_stage p (came.Commit (Ok (committed, committed.wrote.note))) (hops_between old.link new.link)
+  pub then : q ≡ after_stage p (came.Commit (Ok (with_notes committed))) (hops_between old.link new.link)
+
+-- the write is refused on the way to the leader that it passes
+abbrev pub RefusesOnWay : Bool → Option NodeName → Writing → Refusal → World → World → Type 0
+RefusesOnWay tells None p refusal old new = ⊥
+RefusesOnWay tells (Some leader) p refusal old new = RefusesPassing tells (way_by leader p) refusal old new
+
+-- the write is refused, with nothing changed: on the way to the leader that it passes, or after that as a commit is
+abbrev pub RefusesWrite : LedBy → Writing → Refusal → World → World → Type 0
+RefusesWrite led p refusal old new =
+    RefusesOnWay led.tells led.passed p refusal old new ⊎ RefusesCommit led.tells led.settings (sent_by led p) refusal (come_past led old) new
 
 -- `commit` fails: the write was refused, and no node, inbox or table changed
 pub record RefusesHeld (led : LedBy) (p : Writing) (old : World) (q : Writing) (new : World) : Type 0 where
   pub refusal : Refusal
-  pub refuses : RefusesCommit led.tells led.settings (sent_write (way_by led.leader p) (call_of_plan p)) refusal old new
+  pub refuses : RefusesWrite led p refusal old new
   pub then : q ≡ after_stage p (came.Commit (Err (Refused refusal))) (hops_between old.link new.link)
 
 -- `inverse`: the job is carried to the leader of the other shard, which merges it, and the answer back
@@ -125,11 +150,39 @@ pub record EndsHeld (tells : Bool) (s : Settings) (p : Writing) (old : World) (q
   pub ends : EndsOver tells s (job_by p job) result old new
   pub then : q ≡ after_stage p (came.End result) 0
 
--- `apply`: the answer is carried back, and the follower takes the changes
+-- `relay`: the answer is carried from the leader that wrote to the one that the write passed, which takes the changes and marks nothing
+pub record RelaysHeld (s : Settings) (leader : NodeName) (p : Writing) (old : World) (q : Writing) (new : World) : Type 0 where
+  pub committed : Committed
+  pub answered : p.committed ≡ Some committed
+  pub passed : NodeName
+  pub passed_is : committed.passed ≡ Some passed
+  pub relays : LeaderRelays s passed (write_shard p.write) committed.wrote.entry old.fleet new.fleet
+  pub link : new.link ≡ after_carry old.link
+  pub rest : RelaysAlone old new
+  pub then : q ≡ after_stage p (came.Relay (Ok tt)) (hops_between old.link new.link)
+
+-- `relay` fails on its way: the write stands, at the position that the reply tells where there is an entry
+pub record LosesRelay (leader : NodeName) (p : Writing) (old : World) (q : Writing) (new : World) : Type 0 where
+  pub committed : Committed
+  pub answered : p.committed ≡ Some committed
+  pub passed : NodeName
+  pub passed_is : committed.passed ≡ Some passed
+  pub carry : FailsCarry leader passed old.link new.link
+  pub fleet : new.fleet ≡ old.fleet
+  pub rest : RelaysAlone old new
+  pub then : q ≡ after_stage p (came.Relay (Err (Refused (Store (LinkFault new.link.faults (when_of committed.wrote.entry))))))
+      (hops_between old.link new.link)
+
+-- the last leader on the way back to the follower: the one that the write passed, or else the one that wrote
+abbrev pub last_leader : NodeName → Committed → NodeName
+last_leader leader c = unwrap_or c.passed leader
+
+-- `apply`: the answer is carried from the last leader of its way to the follower, which takes the changes
 pub record AppliesHeld (s : Settings) (leader : NodeName) (p : Writing) (old : World) (q : Writing) (new : World) : Type 0 where
   pub committed : Committed
   pub answered : p.committed ≡ Some committed
-  pub takes : FollowerTakes (types_of s.schema) (way_by leader p) (write_shard p.write) committed.wrote.entry old.fleet new.fleet
+  pub takes : FollowerTakes (types_of s.schema) (way_by (last_leader leader committed) p) (write_shard p.write) committed.wrote.entry
+      old.fleet new.fleet
   pub link : new.link ≡ after_carry old.link
   pub rest : AppliesAlone old new
   pub then : q ≡ after_stage p (came.Apply (Ok tt)) (hops_between old.link new.link)
@@ -138,7 +191,7 @@ pub record AppliesHeld (s : Settings) (leader : NodeName) (p : Writing) (old : W
 pub record LosesWayBack (leader : NodeName) (p : Writing) (old : World) (q : Writing) (new : World) : Type 0 where
   pub committed : Committed
   pub answered : p.committed ≡ Some committed
-  pub carry : FailsCarry leader p.follower old.link new.link
+  pub carry : FailsCarry (last_leader leader committed) p.follower old.link new.link
   pub fleet : new.fleet ≡ old.fleet
   pub rest : AppliesAlone old new
   pub then : q ≡ after_stage p (came.Apply (Err (Refused (Store (LinkFault new.link.faults (when_of committed.wrote.entry))))))
@@ -150,7 +203,7 @@ DoesWriteStage led Commit p old q new = CommitsHeld led p old q new ⊎ RefusesH
 DoesWriteStage led Apply p old q new = AppliesHeld led.settings led.leader p old q new ⊎ LosesWayBack led.leader p old q new
 DoesWriteStage led Inverse p old q new = MergesHeld led p old q new
 DoesWriteStage led End p old q new = EndsHeld led.tells led.settings p old q new
-DoesWriteStage led Relay p old q new = ⊥
+DoesWriteStage led Relay p old q new = RelaysHeld led.settings led.leader p old q new ⊎ LosesRelay led.leader p old q new
 DoesWriteStage led Done p old q new = ⊥
 
 -- ---- without the last stage
@@ -158,6 +211,26 @@ DoesWriteStage led Done p old q new = ⊥
 -- a held write ends without its last stage, since memory was wanting for what its session is to learn: at the position of its entry, which stands
 abbrev pub way_given_up : Writing → Writing
 way_given_up p = after_stage p (came.Apply (Err (Refused (Memory (entry_position (answered_entry p)))))) 0
+
+-- ---- what comes of a commit
+
+-- the write was committed, and the answer has the notes for its way back: its follower may take it, and its job may be merged
+pub record AnswersCommit (led : LedBy) (p : Writing) (answer : CommitAnswer) (old new : World) : Type 0 where
+  pub passed : answer.committed.passed ≡ led.passed
+  pub commits : IsCommitted led.tells led.settings (sent_by led p) answer.committed.wrote (come_past led old) new
+  pub is : IsAnswerTo led.settings new.fleet.stores p answer.committed
+  pub notes : answer ≡ with_notes answer.committed
+  pub job : IfSome answer.committed.wrote.job (λ job. CanBeMerged led.tells led.settings new.keepers.told (job_by p job))
+
+-- the write was committed, or refused
+abbrev pub ComesOfCommit : LedBy → Writing → Result CommitAnswer Refusal → World → World → Type 0
+ComesOfCommit led p (Ok answer) old new = AnswersCommit led p answer old new
+ComesOfCommit led p (Err refusal) old new = RefusesWrite led p refusal old new
+
+-- what came of a commit, as its plan takes it
+abbrev pub taken_as : Result CommitAnswer Refusal → Result CommitAnswer Reply
+taken_as (Ok answer) = Ok answer
+taken_as (Err refusal) = Err (Refused refusal)
 
 -- ---- what each of them keeps
 

@@ -1,5 +1,5 @@
 -- What a call comes to that isn't held: what it took, what it left as it was, and what is so of its inverse.
-use Rattle.std.specs.Prelude.{ℕ, ◌≡◌, All, IfSome, None, false, true}
+use Rattle.std.specs.Prelude.{ℕ, ◌≡◌, ◌≤◌, ◌+◌, All, IfSome, Option, None, Some, false, max, min, true}
 use Rattle.core_model.specs.Consistent.{IsConsistent}
 use Rattle.core_model.specs.Stores.{HaveMasterRegions, stores_in}
 use Rattle.core_plans.specs.Held.{IsOver, learnt_with}
@@ -8,9 +8,11 @@ use Rattle.core_plans.specs.LedBy.{LedBy, led_by}
 use Rattle.core_plans.specs.WholeCalls.{CarriesOut}
 use Rattle.core_plans.specs.declared.held.HeldPlan.{HeldPlan}
 use Rattle.core_plans.specs.declared.held.HeldPlan.TheVariants.{Read, Write}
+use Rattle.core_plans.specs.declared.leaders.Leaders.{Leaders}
 use Rattle.core_steps.specs.World.{World}
 use Rattle.core_steps.specs.Routes.{hops_between, was_called}
 use Rattle.graph_model.specs.Records.{HasStamp}
+use Rattle.hop_count.specs.Hops.{most_hops}
 use Rattle.node_name.specs.declared.NodeName.{NodeName}
 use Rattle.read_plan.specs.Readings.{Reading}
 use Rattle.read_plan.specs.declared.standing.Standing.TheVariants.{Looking}
@@ -24,10 +26,13 @@ use Rattle.tao_base.specs.Ids.{shard_of}
 use Rattle.tao_base.specs.declared.entry.Entry.{Entry}
 use Rattle.tao_keeper.specs.KeeperState.{KeepsTables}
 use Rattle.tao_keeper.specs.Table.{Tables}
+use Rattle.tao_keeper.specs.declared.jobs.Job.{Job}
+use Rattle.tao_link.specs.Shown.{LinkShown}
 use Rattle.tao_schema.specs.Schema.{types_of}
 use Rattle.topology.specs.Config.{Settings}
 use Rattle.write_model.specs.Merges.{job_of, log_of}
-use Rattle.write_plan.specs.Plans.{Writing}
+use Rattle.write_plan.specs.Plans.{Writing, answered_job}
+use Rattle.write_plan.specs.declared.progress.WayBack.TheVariants.{Ahead}
 
 -- ---- reads
 
@@ -57,10 +62,29 @@ pub record IsBegunWrite (p : Writing) : Type 0 where
   pub unrefused : p.refused ≡ None
   pub hops : p.hops ≡ 0
 
--- a write that does all of its stages: the hops of an Ok reply are the carries that they took. Where it is refused for want of memory, nothing was written
+-- how many carries the way of a write takes, there and back: one each way, and one more each way where it passes a leader
+abbrev pub way_carries : Option NodeName → ℕ
+way_carries None = 2
+way_carries (Some leader) = 4
+
+-- a count of carries with so many more; from its last value on it stands still
+abbrev pub carries_after : ℕ → ℕ → ℕ
+carries_after count more = max count (min (count + more) most_hops)
+
+-- the carries between the two scenes are those of its way, and two more at most, for the other end: none more where its commit answered no job
+pub record TakesItsWay (passed : Option NodeName) (job : Option Job) (old new : LinkShown) : Type 0 where
+  pub more : ℕ
+  pub few : more ≤ 2
+  pub alone : job ≡ None → more ≡ 0
+  pub carries : new.carries ≡ carries_after old.carries (way_carries passed + more)
+
+-- a write that does all of its stages: the hops of an Ok reply are the carries that they took, which are those of its way, and of the way to its other end.
+-- Where it is refused for want of memory, nothing was written
 pub record WholeWrite (led : LedBy) (p : Writing) (old : World) (q : HeldPlan) (new : World) : Type 0 where
   pub cost : IsBegunWrite p → CarriesOut led (Write p) old q new → (reply : WriteReply) → IsOver q (Called (called.Write reply))
       → reply.hops ≡ hops_between old.link new.link
+  pub way : IsBegunWrite p → p.back ≡ Ahead → CarriesOut led (Write p) old q new → (reply : WriteReply) → IsOver q (Called (called.Write reply))
+      → (r : Writing) → q ≡ Write r → TakesItsWay led.passed (answered_job r) old.link new.link
   pub memory : IsBegunWrite p → CarriesOut led (Write p) old q new → (position : ℕ) → IsOver q (Refused (Memory position))
       → (position ≡ 0) × KeepsTables led.tells old.keepers new.keepers
 
@@ -69,8 +93,8 @@ abbrev pub HasOtherEnds : Settings → Tables → Entry → Type 0
 HasOtherEnds s tables e = All (λ u. HasStamp (log_of (stores_in s tables).logs (shard_of u.0)) u) (job_of (types_of s.schema) e)
 
 -- a write that does all of its stages, over keepers that tell their tables: where its Ok reply tells the inverse as written, the other end has it
-pub record WrittenIsThere (s : Settings) (leader : NodeName) (p : Writing) (old : World) (q : HeldPlan) (new : World) : Type 0 where
+pub record WrittenIsThere (s : Settings) (leaders : Leaders) (p : Writing) (old : World) (q : HeldPlan) (new : World) : Type 0 where
   pub there : HaveMasterRegions s → IsBegunWrite p → IsWriteUnderWay true s old.keepers.told old.fleet p
-      → IsConsistent true s old.keepers.told old.fleet → CarriesOut (led_by true s leader) (Write p) old q new
+      → IsConsistent true s old.keepers.told old.fleet → CarriesOut (led_by true s leaders) (Write p) old q new
       → (reply : WriteReply) → IsOver q (Called (called.Write reply)) → reply.written.inverse ≡ Written
       → IfSome (learnt_with (Called (called.Write reply)) q).here (λ t. HasOtherEnds s new.keepers.told t.entry)

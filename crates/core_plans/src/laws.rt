@@ -4,7 +4,7 @@ ghost use Rattle.core_plans.specs.LedBy.{LedBy};
 ghost use Rattle.core_plans.specs.WholeLaws.{WholeRead, WholeWrite, WrittenIsThere};
 ghost use Rattle.core_plans.specs.declared.held.HeldPlan.{HeldPlan as AnyPlan};
 ghost use Rattle.core_steps.specs.World.{World};
-ghost use Rattle.node_name.specs.declared.NodeName.{NodeName as AnyNode};
+ghost use Rattle.core_plans.specs.declared.leaders.Leaders.{Leaders as AnyLeaders};
 ghost use Rattle.read_plan.specs.Readings.{Reading};
 ghost use Rattle.topology.specs.Config.{Settings};
 ghost use Rattle.write_plan.specs.Plans.{Writing};
@@ -24,7 +24,7 @@ pub fn nothing_is_missed_later()
 /// A stage of a held read misses nothing that the read didn't miss before, where stores and nodes are settled and its follower and leader are up.
 #[tactic(auto, using(crate::proofs::WholeStages::stages_miss_nothing))]
 pub fn stages_miss_nothing()
-    ensures { (s : Settings) (leader : AnyNode) (p q : Reading) (old new : World) → StagesMissNothing s leader p old q new }
+    ensures { (s : Settings) (leaders : AnyLeaders) (p q : Reading) (old new : World) → StagesMissNothing s leaders p old q new }
 {}
 
 /// An answer of a read that does all of its stages tells exactly the carries that they took, and whether they called a keeper. Such a read
@@ -34,7 +34,8 @@ pub fn whole_reads()
     ensures { (led : LedBy) (p : Reading) (old : World) (q : AnyPlan) (new : World) → WholeRead led p old q new }
 {}
 
-/// An Ok reply of a write that does all of its stages tells exactly the carries that they took. Such a write that is refused for want of
+/// An Ok reply of a write that does all of its stages tells exactly the carries that they took: two, or four where it passes a leader, and two more
+/// at most for its other end. Such a write that is refused for want of
 /// memory has written nothing.
 #[tactic(auto, using(crate::proofs::WholeWrites::whole_writes))]
 pub fn whole_writes()
@@ -45,5 +46,5 @@ pub fn whole_writes()
 /// is there, or a later one.
 #[tactic(auto, using(crate::proofs::InverseThere::written_is_there))]
 pub fn written_is_there()
-    ensures { (s : Settings) (leader : AnyNode) (p : Writing) (old : World) (q : AnyPlan) (new : World) → WrittenIsThere s leader p old q new }
+    ensures { (s : Settings) (leaders : AnyLeaders) (p : Writing) (old : World) (q : AnyPlan) (new : World) → WrittenIsThere s leaders p old q new }
 {}

@@ -10,7 +10,8 @@
 //! go on whatever is done to the nodes in between; no ask stays open but those of held reads, through each stage,
 //! read and write; a critical read misses nothing that it didn't miss before, so nothing that stood when it
 //! began, and no read does in a stage from nodes that are up, where stores and such nodes have the whole logs; with the Ok reply of a write
-//! come its entry and the one that it wrote at the other end; once its entry is written nothing but the link can
+//! come its entry and the one that it wrote at the other end; a write of another region than the master's goes by the leader of its own that it
+//! passes, there and back; once its entry is written nothing but the link can
 //! refuse it; and a write of which only the last stage is left can be given up, at the position of its entry.
 //!
 //! A plan that is carried out whole does all of its stages, one after another, with nothing between them. Its reply
@@ -24,14 +25,18 @@
 //! `written_is_there`.
 #![tactic(auto)]
 
+mod committing;
 mod held;
 pub mod laws;
+mod leaders;
 mod plans;
 mod reads;
+mod way_back;
 mod whole;
 mod writes;
 
 pub use held::{EndedPlan, HeldPlan, LearntEntries};
+pub use leaders::Leaders;
 pub use plans::{HeldPlans, Led};
 pub use reads::{TierPlace, begin_read, read_stage};
 pub use whole::carry_out;

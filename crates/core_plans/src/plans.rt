@@ -6,10 +6,10 @@ ghost use Rattle.core_steps.specs.Posting.{CanPost, PostsOn};
 ghost use Rattle.core_steps.specs.World.{world};
 
 use crate::held::HeldPlan;
+use crate::leaders::Leaders;
 use crate::reads::read_stage;
 use crate::writes::write_stage;
 use core_steps::Nodes;
-use node_name::NodeName;
 use std::alloc::Global;
 use std::collections::BTreeMap;
 use std::marker::Model;
@@ -18,11 +18,11 @@ use tao_keeper::Keeper;
 use tao_link::Link;
 use topology::Config;
 
-/// The configuration by which the stages of a plan are done, and the leader that does them.
+/// The configuration by which the stages of a plan are done, and the leaders that they are done with.
 #[derive(Clone, Copy)]
 pub struct Led<'c> {
     pub config: &'c Config,
-    pub leader: NodeName,
+    pub leaders: Leaders,
 }
 
 /// Drops a value. Whatever its type, it is one step to the one who reads on.
@@ -36,12 +36,12 @@ pub(crate) fn held_stage<K: Keeper, L: Link>(
     config: &Config,
     keepers: &mut K,
     link: &mut L,
-    leader: NodeName,
+    leaders: Leaders,
     plan: &mut HeldPlan,
 )
     requires ready { CanPost K.TELLS config.now (world nodes.old (K.state keepers.old) (L.shown link.old)) }
-    requires there { IsThere K.TELLS config.now (K.state keepers.old).told nodes.old.fleet leader plan.old }
-    ensures steps { StepsHeld (led_by K.TELLS config.now leader)
+    requires there { IsThere K.TELLS config.now (K.state keepers.old).told nodes.old.fleet leaders plan.old }
+    ensures steps { StepsHeld (led_by K.TELLS config.now leaders)
         plan.old (world nodes.old (K.state keepers.old) (L.shown link.old))
         plan.new (world nodes.new (K.state keepers.new) (L.shown link.new)) }
     ensures under_way { IsUnderWay K.TELLS config.now (K.state keepers.new).told nodes.new.fleet plan.new }
@@ -50,8 +50,8 @@ pub(crate) fn held_stage<K: Keeper, L: Link>(
         (world nodes.new (K.state keepers.new) (L.shown link.new)) }
 {
     match plan {
-        HeldPlan::Read(plan) => read_stage(nodes, config, keepers, link, leader, plan),
-        HeldPlan::Write(plan) => write_stage(nodes, config, keepers, link, leader, plan),
+        HeldPlan::Read(plan) => read_stage(nodes, config, keepers, link, leaders, plan),
+        HeldPlan::Write(plan) => write_stage(nodes, config, keepers, link, leaders, plan),
     }
 }
 
@@ -148,8 +148,10 @@ impl HeldPlans {
         }
     }
 
-    /// Does the stage of the plan of that number that follows, with a leader: for a read one that serves its shard, for a write one of the
-    /// master's region. The plan stays, also where it is over then. Costs what the stage does in `core_steps`.
+    /// Does the stage of the plan of that number that follows, with its leaders: for a read one that serves its shard, for a write one of the
+    /// master's region, and the one that it passes where its own region is another. The plan stays, also where it is over then.
+    ///
+    /// Costs what the stage does in `core_steps`.
     pub fn step<K: Keeper, L: Link>(
         &mut self,
         nodes: &mut Nodes,
@@ -159,8 +161,8 @@ impl HeldPlans {
         number: u32,
     )
         requires ready { CanPost K.TELLS led.now.config.now (world nodes.old (K.state keepers.old) (L.shown link.old)) }
-        requires can { CanStep K.TELLS led.now.config.now (K.state keepers.old).told nodes.old.fleet led.now.leader (plan_at self.old number) }
-        ensures steps { StepsPlan (led_by K.TELLS led.now.config.now led.now.leader) number
+        requires can { CanStep K.TELLS led.now.config.now (K.state keepers.old).told nodes.old.fleet led.now.leaders (plan_at self.old number) }
+        ensures steps { StepsPlan (led_by K.TELLS led.now.config.now led.now.leaders) number
             self.old (world nodes.old (K.state keepers.old) (L.shown link.old))
             self.new (world nodes.new (K.state keepers.new) (L.shown link.new)) }
         ensures under_way { IfSome (plan_at self.new number) (IsUnderWay K.TELLS led.now.config.now (K.state keepers.new).told nodes.new.fleet) }
@@ -169,7 +171,7 @@ impl HeldPlans {
             (world nodes.new (K.state keepers.new) (L.shown link.new)) }
     {
         match self.plans.get_mut(&number) {
-            Some(plan) => held_stage(nodes, led.config, keepers, link, led.leader, plan),
+            Some(plan) => held_stage(nodes, led.config, keepers, link, led.leaders, plan),
             None => unreachable!(),
         }
     }

@@ -10,6 +10,7 @@ ghost use Rattle.read_plan.specs.Standings.{IsAnsweredFrom, came_of, stage_named
 ghost use Rattle.read_plan.specs.declared.stages.ReadStage.TheVariants as stage;
 ghost use Rattle.tao_base.specs.Queries.{query_shard};
 
+use crate::leaders::Leaders;
 use cache_items::Look;
 use core_model::{Wanted, masters_are_regions};
 use core_nodes::{FirstLook, Fleet};
@@ -97,14 +98,14 @@ fn look_past<K: Keeper, L: Link>(
     config: &Config,
     keepers: &K,
     link: &L,
-    leader: NodeName,
+    leaders: Leaders,
     plan: &mut ReadPlan,
 )
     requires consistent { IsConsistent K.TELLS config.now (K.state keepers.now).told nodes.old.fleet }
     requires read { IsReadUnderWay K.TELLS config.now (K.state keepers.now).told nodes.old.fleet plan.old }
     requires stage { stage_of plan.old.at ≡ stage.Look }
     requires critical { plan.old.critical ≡ true }
-    ensures { PassesReadStage (led_by K.TELLS config.now leader) plan.old (world nodes.old (K.state keepers.now) (L.shown link.now))
+    ensures { PassesReadStage (led_by K.TELLS config.now leaders) plan.old (world nodes.old (K.state keepers.now) (L.shown link.now))
         plan.new (world nodes.new (K.state keepers.now) (L.shown link.now)) }
 {
     masters_are_regions(config);
@@ -121,14 +122,14 @@ fn look_first<K: Keeper, L: Link>(
     config: &Config,
     keepers: &K,
     link: &L,
-    leader: NodeName,
+    leaders: Leaders,
     plan: &mut ReadPlan,
 )
     requires consistent { IsConsistent K.TELLS config.now (K.state keepers.now).told nodes.old.fleet }
     requires read { IsReadUnderWay K.TELLS config.now (K.state keepers.now).told nodes.old.fleet plan.old }
     requires stage { stage_of plan.old.at ≡ stage.Look }
     requires plain { plan.old.critical ≡ false }
-    ensures { PassesReadStage (led_by K.TELLS config.now leader) plan.old (world nodes.old (K.state keepers.now) (L.shown link.now))
+    ensures { PassesReadStage (led_by K.TELLS config.now leaders) plan.old (world nodes.old (K.state keepers.now) (L.shown link.now))
         plan.new (world nodes.new (K.state keepers.now) (L.shown link.now)) }
 {
     masters_are_regions(config);
@@ -150,19 +151,19 @@ fn look_stage<K: Keeper, L: Link>(
     config: &Config,
     keepers: &K,
     link: &L,
-    leader: NodeName,
+    leaders: Leaders,
     plan: &mut ReadPlan,
 )
     requires consistent { IsConsistent K.TELLS config.now (K.state keepers.now).told nodes.old.fleet }
     requires read { IsReadUnderWay K.TELLS config.now (K.state keepers.now).told nodes.old.fleet plan.old }
     requires stage { stage_of plan.old.at ≡ stage.Look }
-    ensures { PassesReadStage (led_by K.TELLS config.now leader) plan.old (world nodes.old (K.state keepers.now) (L.shown link.now))
+    ensures { PassesReadStage (led_by K.TELLS config.now leaders) plan.old (world nodes.old (K.state keepers.now) (L.shown link.now))
         plan.new (world nodes.new (K.state keepers.now) (L.shown link.now)) }
 {
     if plan.is_critical() {
-        look_past(nodes, config, keepers, link, leader, plan);
+        look_past(nodes, config, keepers, link, leaders, plan);
     } else {
-        look_first(nodes, config, keepers, link, leader, plan);
+        look_first(nodes, config, keepers, link, leaders, plan);
     }
 }
 
@@ -172,20 +173,20 @@ fn ask_stage<K: Keeper, L: Link>(
     config: &Config,
     keepers: &mut K,
     link: &mut L,
-    leader: NodeName,
+    leaders: Leaders,
     plan: &mut ReadPlan,
 )
     requires consistent { IsConsistent K.TELLS config.now (K.state keepers.old).told nodes.old.fleet }
-    requires leader { IsLeaderFor config.now (query_shard plan.old.query) leader }
+    requires leader { IsLeaderFor config.now (query_shard plan.old.query) leaders.leader }
     requires read { IsReadUnderWay K.TELLS config.now (K.state keepers.old).told nodes.old.fleet plan.old }
     requires stage { stage_of plan.old.at ≡ stage.Ask }
-    ensures { PassesReadStage (led_by K.TELLS config.now leader) plan.old (world nodes.old (K.state keepers.old) (L.shown link.old))
+    ensures { PassesReadStage (led_by K.TELLS config.now leaders) plan.old (world nodes.old (K.state keepers.old) (L.shown link.old))
         plan.new (world nodes.new (K.state keepers.new) (L.shown link.new)) }
 {
     let since = so_far(keepers, link);
     let route = Route {
         follower: plan.follower(),
-        leader,
+        leader: leaders.leader,
     };
     let (query, floor) = (plan.query(), plan.floor());
     let read = Wanted { query, floor };
@@ -205,13 +206,13 @@ fn master_stage<K: Keeper, L: Link>(
     config: &Config,
     keepers: &mut K,
     link: &mut L,
-    leader: NodeName,
+    leaders: Leaders,
     plan: &mut ReadPlan,
 )
     requires consistent { IsConsistent K.TELLS config.now (K.state keepers.old).told nodes.old.fleet }
     requires read { IsReadUnderWay K.TELLS config.now (K.state keepers.old).told nodes.old.fleet plan.old }
     requires stage { stage_of plan.old.at ≡ stage.Master }
-    ensures { PassesReadStage (led_by K.TELLS config.now leader) plan.old (world nodes.old (K.state keepers.old) (L.shown link.old))
+    ensures { PassesReadStage (led_by K.TELLS config.now leaders) plan.old (world nodes.old (K.state keepers.old) (L.shown link.old))
         plan.new (world nodes.new (K.state keepers.new) (L.shown link.new)) }
 {
     let since = so_far(keepers, link);
@@ -232,13 +233,13 @@ fn keep_stage<K: Keeper, L: Link>(
     config: &Config,
     keepers: &K,
     link: &L,
-    leader: NodeName,
+    leaders: Leaders,
     plan: &mut ReadPlan,
 )
     requires consistent { IsConsistent K.TELLS config.now (K.state keepers.now).told nodes.old.fleet }
     requires read { IsReadUnderWay K.TELLS config.now (K.state keepers.now).told nodes.old.fleet plan.old }
     requires stage { stage_of plan.old.at ≡ stage.Keep }
-    ensures { PassesReadStage (led_by K.TELLS config.now leader) plan.old (world nodes.old (K.state keepers.now) (L.shown link.now))
+    ensures { PassesReadStage (led_by K.TELLS config.now leaders) plan.old (world nodes.old (K.state keepers.now) (L.shown link.now))
         plan.new (world nodes.new (K.state keepers.now) (L.shown link.now)) }
 {
     masters_are_regions(config);
@@ -271,21 +272,21 @@ pub fn read_stage<K: Keeper, L: Link>(
     config: &Config,
     keepers: &mut K,
     link: &mut L,
-    leader: NodeName,
+    leaders: Leaders,
     plan: &mut ReadPlan,
 )
     requires consistent { IsConsistent K.TELLS config.now (K.state keepers.old).told nodes.old.fleet }
-    requires leader { IsLeaderFor config.now (query_shard plan.old.query) leader }
+    requires leader { IsLeaderFor config.now (query_shard plan.old.query) leaders.leader }
     requires read { IsReadUnderWay K.TELLS config.now (K.state keepers.old).told nodes.old.fleet plan.old }
     requires goes_on { IsSome (stage_named (stage_of plan.old.at)) }
-    ensures { PassesReadStage (led_by K.TELLS config.now leader) plan.old (world nodes.old (K.state keepers.old) (L.shown link.old))
+    ensures { PassesReadStage (led_by K.TELLS config.now leaders) plan.old (world nodes.old (K.state keepers.old) (L.shown link.old))
         plan.new (world nodes.new (K.state keepers.new) (L.shown link.new)) }
 {
     match plan.next() {
-        ReadStage::Look => look_stage(nodes, config, keepers, link, leader, plan),
-        ReadStage::Ask => ask_stage(nodes, config, keepers, link, leader, plan),
-        ReadStage::Master => master_stage(nodes, config, keepers, link, leader, plan),
-        ReadStage::Keep => keep_stage(nodes, config, keepers, link, leader, plan),
+        ReadStage::Look => look_stage(nodes, config, keepers, link, leaders, plan),
+        ReadStage::Ask => ask_stage(nodes, config, keepers, link, leaders, plan),
+        ReadStage::Master => master_stage(nodes, config, keepers, link, leaders, plan),
+        ReadStage::Keep => keep_stage(nodes, config, keepers, link, leaders, plan),
         ReadStage::Done => unreachable!(),
     }
 }

@@ -5,6 +5,7 @@ pub mod MergeLemmas
 pub mod PostsLemmas
 pub mod ReadLemmas
 pub mod ReachLemmas
+pub mod RelayLemmas
 pub mod Repeats
 pub mod StepLemmas
 pub mod StreamLemmas

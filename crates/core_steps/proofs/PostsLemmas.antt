@@ -13,7 +13,10 @@ use Rattle.tao_keeper.proofs.Later.{later_self, later_trans}
 use Rattle.tao_keeper.specs.KeeperState.{IsLater, KeeperState}
 use Rattle.topology.specs.Config.{Settings}
 use Rattle.core_steps.specs.Posting.{AppliesAlone, CanPost, PostsOn}
-use Rattle.core_steps.specs.World.{World}
+use Rattle.core_steps.specs.Relays.{RelaysAlone}
+use Rattle.core_steps.specs.World.{World, world}
+use Rattle.core_steps.specs.declared.nodes.Nodes.{Nodes}
+use Rattle.tao_link.specs.Shown.{LinkShown}
 use Rattle.core_nodes.specs.Settling.{IsLaterLink}
 use Rattle.core_steps.proofs.LinkLemmas.{link_self, link_trans}
 use Rattle.core_steps.proofs.ReachLemmas.{consistent_on}
@@ -74,26 +77,50 @@ module _ (tells : Bool) (s : Settings) where
     link = link;
   }
 
-  -- a step that changes followers alone
-  pub posts_applied : (old new : World) → IsConsistent tells s old.keepers.told old.fleet
+  -- a step that changes leaders and followers alone
+  posts_nodes : (old new : World) → IsConsistent tells s old.keepers.told old.fleet
       → AreInboxesOf s (pens_of old.fleet.stores) old.inboxes → WhereTold tells (HaveArrived old.keepers.told old.inboxes)
-      → AppliesAlone old new → IsFleetOf s new.fleet
+      → new.fleet.stores ≡ old.fleet.stores → new.keepers ≡ old.keepers → new.inboxes ≡ old.inboxes → new.states ≡ old.states → IsFleetOf s new.fleet
       → GoesOn old.fleet new.fleet
       → (HaveReached old.keepers.told old.fleet → HaveReached old.keepers.told new.fleet) → IsLaterLink old.link new.link → PostsOn tells s old new
-  posts_applied old new consistent inboxes arrived alone fleet goes reaches link =
-      let stores = ap (λ (f : Fleet). f.stores) alone.fleet in
-      let keepers = sym alone.keepers in
+  posts_nodes old new consistent inboxes arrived stores same mail states fleet goes reaches link =
+      let keepers = sym same in
       record {
         consistent = subst (λ (k : KeeperState). IsConsistent tells s k.told new.fleet) keepers
-            (consistent_on tells s old.keepers.told old.fleet new.fleet alone.fleet fleet reaches consistent);
-        inboxes = subst (AreInboxesOf s (pens_of new.fleet.stores)) (sym alone.inboxes)
+            (consistent_on tells s old.keepers.told old.fleet new.fleet stores fleet reaches consistent);
+        inboxes = subst (AreInboxesOf s (pens_of new.fleet.stores)) (sym mail)
             (subst (λ xs. AreInboxesOf s (pens_of xs) old.inboxes) (sym stores) inboxes);
         arrived = subst (λ (k : KeeperState). WhereTold tells (HaveArrived k.told new.inboxes)) keepers
-            (subst (λ i. WhereTold tells (HaveArrived old.keepers.told i)) (sym alone.inboxes) arrived);
-        states = alone.states;
+            (subst (λ i. WhereTold tells (HaveArrived old.keepers.told i)) (sym mail) arrived);
+        states = states;
         goes = goes;
         grows = subst (λ (k : KeeperState). StoresGrow tells s old.keepers.told k.told) keepers
             (stays_stores tells s old.keepers old.keepers (λ told at. refl));
         later = subst (IsLater old.keepers) keepers (later_self old.keepers);
         link = link;
       }
+
+  -- one that changes followers alone
+  pub posts_applied : (old new : World) → IsConsistent tells s old.keepers.told old.fleet
+      → AreInboxesOf s (pens_of old.fleet.stores) old.inboxes → WhereTold tells (HaveArrived old.keepers.told old.inboxes)
+      → AppliesAlone old new → IsFleetOf s new.fleet
+      → GoesOn old.fleet new.fleet
+      → (HaveReached old.keepers.told old.fleet → HaveReached old.keepers.told new.fleet) → IsLaterLink old.link new.link → PostsOn tells s old new
+  posts_applied old new consistent inboxes arrived alone =
+      posts_nodes old new consistent inboxes arrived (ap (λ (f : Fleet). f.stores) alone.fleet) alone.keepers alone.inboxes alone.states
+
+  -- one that changes leaders alone
+  pub posts_relayed : (old new : World) → IsConsistent tells s old.keepers.told old.fleet
+      → AreInboxesOf s (pens_of old.fleet.stores) old.inboxes → WhereTold tells (HaveArrived old.keepers.told old.inboxes)
+      → RelaysAlone old new → IsFleetOf s new.fleet
+      → GoesOn old.fleet new.fleet
+      → (HaveReached old.keepers.told old.fleet → HaveReached old.keepers.told new.fleet) → IsLaterLink old.link new.link → PostsOn tells s old new
+  posts_relayed old new consistent inboxes arrived alone =
+      posts_nodes old new consistent inboxes arrived (ap (λ (f : Fleet). f.stores) alone.fleet) alone.keepers alone.inboxes alone.states
+
+  -- one that changes no more than what the link shows
+  pub posts_carried : (nodes : Nodes) (keepers : KeeperState) (old new : LinkShown) → CanPost tells s (world nodes keepers old) → IsLaterLink old new
+      → PostsOn tells s (world nodes keepers old) (world nodes keepers new)
+  posts_carried nodes keepers old new ready later =
+      posts_same (world nodes keepers old) (world nodes keepers new) ready.inboxes ready.arrived refl refl refl ready.consistent
+      (stays_stores tells s keepers keepers (λ told at. refl)) (later_self keepers) later

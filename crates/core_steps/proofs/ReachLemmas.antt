@@ -1,5 +1,5 @@
 -- What a follower does alone leaves what is consistent so: it marks nothing that its region's store hasn't.
-use Rattle.std.proofs.Common.{◌≡◌, ℕ, suc, Bool, false, Option, Some, None, ap, refl, sym, subst, arith}
+use Rattle.std.proofs.Common.{◌≡◌, ℕ, suc, Bool, false, Option, Some, None, refl, sym, subst, arith}
 use Rattle.std.proofs.lemmas.Bool.Decides.{nat_tests}
 use Rattle.std.specs.Prelude.{nat_le}
 use Rattle.cache_items.specs.Look.{look_of}
@@ -82,10 +82,10 @@ module _ (tables : Tables) (name : NodeName) (old new : Fleet) (rest : new ≡ r
       follower_reaches (AppliesTo types shard entry note) change ((nodes_reach tables (region_of name)).applies types shard entry note)
 
 -- so is all of the nodes and stores
-pub consistent_on : (tells : Bool) (s : Settings) (tables : Tables) (old new : Fleet) → new ≡ record old { followers = new.followers } → IsFleetOf s new
+pub consistent_on : (tells : Bool) (s : Settings) (tables : Tables) (old new : Fleet) → new.stores ≡ old.stores → IsFleetOf s new
     → (HaveReached tables old → HaveReached tables new) → IsConsistent tells s tables old → IsConsistent tells s tables new
-consistent_on tells s tables old new rest fleet reaches is = record {
-  stores = subst (AreStoresOf tells s tables) (sym (ap (λ (f : Fleet). f.stores) rest)) is.stores;
+consistent_on tells s tables old new same fleet reaches is = record {
+  stores = subst (AreStoresOf tells s tables) (sym same) is.stores;
   fleet = fleet;
   reached = λ told. reaches (is.reached told);
 }

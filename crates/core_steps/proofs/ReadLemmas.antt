@@ -66,7 +66,7 @@ pub on_after : (tells : Bool) (s : Settings) (old mid : World) (end : Fleet) →
     → IsFleetOf s end → GoesOn mid.fleet end → (HaveReached mid.keepers.told mid.fleet → HaveReached mid.keepers.told end)
     → ReadsOn tells s old (record mid { fleet = end })
 on_after tells s old mid end on rest fleet goes reaches = record {
-  consistent = consistent_on tells s mid.keepers.told mid.fleet end rest fleet reaches on.consistent;
+  consistent = consistent_on tells s mid.keepers.told mid.fleet end (ap (λ (f : Fleet). f.stores) rest) fleet reaches on.consistent;
   goes = goes_trans old.fleet mid.fleet end on.goes goes;
   inboxes = on.inboxes;
   states = on.states;

@@ -23,9 +23,9 @@
 //! that serve the shard and are up are told. Where the store has all of the log nothing is carried, and after a refusal no
 //! node, message or table has changed.
 //!
-//! The contracts that say so: `Nodes::ask_over`, `read_over`, `commit_over`, `merge_over`, `end_over`, `relay_over`, `apply_over`,
-//! `stream_over`, `notify_followers`, `notify_besides`; `IsGivenOver`, `IsNotGiven`, `IsReadOver`, `IsNotRead`, `IsCommitted`,
-//! `RefusesCommit`, `NotifiesOfNew`, `MergesOver`, `EndsOver`, `LeaderRelays`, `StreamsOver`.
+//! The contracts that say so: `Nodes::ask_over`, `read_over`, `pass_with_note`, `commit_over`, `merge_over`, `end_over`, `relay_over`,
+//! `apply_over`, `stream_over`, `notify_followers`, `notify_besides`; `IsGivenOver`, `IsNotGiven`, `IsReadOver`, `IsNotRead`, `IsCommitted`,
+//! `RefusesPassing`, `RefusesCommit`, `NotifiesOfNew`, `MergesOver`, `EndsOver`, `LeaderRelays`, `StreamsOver`.
 #![tactic(auto)]
 
 mod asking;
@@ -41,7 +41,6 @@ mod writes;
 pub use jobs::{LearntEntry, learnt_entry_of, learnt_far};
 pub use nodes::Nodes;
 pub use refusals::{link_fault, out_of_memory, refilled_as, refused_as};
-pub use relaying::pass_over;
 pub use routes::Route;
 pub use streaming::AskedStream;
 pub use writes::ShardNote;

@@ -39,7 +39,7 @@ pub struct ShardNote {
 
 impl Nodes {
     /// A note of a shard's log for the way back of a write, taken before that is made, since nothing may fail for memory after it.
-    fn spare_note(&mut self, config: &Config, shard: u16) -> Result<Note, Refusal>
+    pub(crate) fn spare_note(&mut self, config: &Config, shard: u16) -> Result<Note, Refusal>
         requires stores { AreStores config.now (store_count config.now) self.old.fleet.stores }
         requires here { shard < config.now.shards }
         ensures view { IfOk result (λ note. note ≡ as_note (pens_of self.old.fleet.stores shard)) }
@@ -111,8 +111,8 @@ impl Nodes {
     /// the shard it takes what was written; one that stands in for another stays as it is. Of a new entry each follower of that region that
     /// serves the shard and is up is told, by a message, and so is the leader that another stands in for.
     ///
-    /// With what was written comes a second note that has seen it, for its way back. It was taken before the write, so that nothing fails for memory
-    /// after that.
+    /// With what was written comes a second note that has seen all of the shard's log, as the first one has, for its way back. It was taken before the
+    /// write, so that nothing fails for memory after that.
     ///
     /// Refused as the store refuses it, with nothing changed; `LinkFault` comes only where the link's count of faults rose at the carry.
     /// Costs what `Leader::write` does, a note, and a message for each tier of the region.
@@ -133,6 +133,7 @@ impl Nodes {
             (world self.old (K.state keepers.old) (L.shown link.old)) (world self.new (K.state keepers.new) (L.shown link.new))) }
         ensures apply { IfOk result (λ answer. CanBeApplied (lent_call call.now) answer.0 self.new.fleet.stores) }
         ensures spare { IfOk result (λ answer. answer.1 ≡ answer.0.note) }
+        ensures all { IfOk result (λ answer. answer.0.note ≡ as_note (pens_of self.new.fleet.stores (write_shard call.now.write.now))) }
         ensures job { IfOk result (λ answer. IfSome answer.0.job (λ job.
             CanBeMerged K.TELLS config.now (K.state keepers.new).told (job_on (write_shard call.now.write.now) job))) }
         ensures refused { IfErr result (λ refusal. RefusesCommit K.TELLS config.now (sent_write route (lent_call call.now)) refusal

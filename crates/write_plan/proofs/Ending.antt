@@ -23,6 +23,7 @@ use Rattle.write_plan.specs.declared.progress.OtherEnd.{OtherEnd}
 use Rattle.write_plan.specs.declared.progress.OtherEnd.TheVariants.{Due, Merged, Ended, Open}
 use Rattle.write_plan.specs.declared.progress.WayBack.{WayBack}
 use Rattle.write_plan.specs.declared.progress.WayBack.TheVariants.{Ahead, Relayed, Applied}
+use Rattle.write_plan.specs.declared.results.CommitAnswer.{CommitAnswer}
 use Rattle.write_plan.specs.declared.results.LeftOpen.TheVariants.{Scheduled, Refused}
 use Rattle.write_plan.specs.declared.results.WriteResult.{WriteResult}
 use Rattle.write_plan.specs.declared.results.WriteResult.TheVariants.{Commit, Inverse, End, Relay, Apply}
@@ -154,10 +155,12 @@ module _ (b : Writing) (c : Committed) (j : OtherEnd) (o : Option Wrote) where
       record { few = omega arith; done = λ d. not_yet (going b c j o k h) q stage.Apply done_apply next takes d }
   apply_part k h (x ∷ rest) q next last takes = apply_first k h x.result x.hops rest q next last takes
 
+-- it went all its way back, whatever became of the note for the leader that was passed
 record WentBack (b : Writing) (c : Committed) (j : OtherEnd) (o : Option Wrote) (cs : List Came) (q : Writing) : Type 0 where
   hops : ℕ
+  relay : Option View
   way : CameBack c.passed cs
-  is : q ≡ came_back b c j o hops
+  is : q ≡ came_back (record b { relay = relay }) c j o hops
 
 done_relay : stage.Done ≡ stage.Relay → ⊥
 done_relay is = cc
@@ -167,14 +170,15 @@ module _ (b : Writing) (c : Committed) (j : OtherEnd) (o : Option Wrote) where
       → next_of (going b c j o Ahead h) ≡ stage.Relay → next_of (going b c j o Relayed h) ≡ stage.Apply → next_of (came_back b c j o h) ≡ stage.Done
       → TakesResults (going b c j o Ahead h) (came r n ∷ rest) q → Part 2 (came r n ∷ rest) q (WentBack b c j o (came r n ∷ rest) q)
   relay_first leader h (Relay (Ok done)) n rest q passed next after last takes =
-      before_part 1 (came (Relay (Ok done)) n) rest q (AppliedFrom b c j o rest q) _
+      before_part 1 (came (Relay (Ok done)) n) rest q (AppliedFrom (record b { relay = None }) c j o rest q) _
       (λ a. record {
         hops = a.hops;
+        relay = None;
         way = subst (λ p. CameBack p (came (Relay (Ok done)) n ∷ rest)) (sym passed)
             (record { relays = n; applies = a.way.applies; came_is = ap (λ l. came (Relay (Ok tt)) n ∷ l) a.way.came_is });
         is = a.is;
       })
-      (apply_part b c j o Relayed (hops_after h n) rest q after last takes.1)
+      (apply_part (record b { relay = None }) c j o Relayed (hops_after h n) rest q after last takes.1)
   relay_first leader h (Relay (Err reply)) n rest q passed next after last takes =
       refused_here 1 (came (Relay (Err reply)) n) rest (after_stage (going b c j o Ahead h) (Relay (Err reply)) n) q reply _ refl refl refl takes.1
   relay_first leader h (Commit answer) n rest q passed next after last takes = let is : stage.Commit ≡ stage.Relay = takes.0 ∙ next in cc
@@ -194,7 +198,7 @@ module _ (b : Writing) (c : Committed) (j : OtherEnd) (o : Option Wrote) where
         record {
           few = let low : length cs ≤ 1 = part.few in omega arith;
           done = λ d. elim (part.done d) [
-            | inl a ↦ inl (record { hops = a.hops; way = subst (λ p. CameBack p cs) (sym e) a.way; is = a.is })
+            | inl a ↦ inl (record { hops = a.hops; relay = b.relay; way = subst (λ p. CameBack p cs) (sym e) a.way; is = a.is })
             | inr r ↦ inr r
           ];
         }
@@ -213,12 +217,13 @@ record DidJob (b : Writing) (c : Committed) (cs : List Came) (q : Writing) : Typ
   job : OtherEnd
   other : Option Wrote
   hops : ℕ
+  relay : Option View
   of_job : List Came
   of_way : List Came
   came_is : cs ≡ of_job ++ of_way
   told : CameOfJob c.wrote.job c.paired of_job other (inverse_said (has_other c) job)
   way : CameBack c.passed of_way
-  is : q ≡ came_back b c job other hops
+  is : q ≡ came_back (record b { relay = relay }) c job other hops
 
 told_of_paired : (paired : Bool) → inverse_said paired Due ≡ (if paired then inverse.Written else inverse.None)
 told_of_paired true = refl
@@ -243,6 +248,7 @@ module _ (b : Writing) (c : Committed) where
             job = Due;
             other = None;
             hops = w.hops;
+            relay = w.relay;
             of_job = [];
             of_way = cs;
             came_is = refl;
@@ -276,6 +282,7 @@ module _ (b : Writing) (c : Committed) where
       job = j;
       other = o;
       hops = w.hops;
+      relay = w.relay;
       of_job = of_job;
       of_way = cs;
       came_is = is;
@@ -361,9 +368,10 @@ tells_by : (retry : Bool) (told : InverseEnd) (found : Option Entry)
 tells_by retry told (Some e) = ((refl, refl, refl), tt, refl)
 tells_by retry told None = (tt, (refl, refl, refl), refl)
 
-carried_out : (b : Writing) (c : Committed) (note : View) (n : ℕ) (cs : List Came) (q : Writing) → q.hops ≡ min (n + carries_of cs) most_hops → DidJob b c cs q
-    → IsCarriedOut (came (Commit (Ok (c, note))) n ∷ cs) q
-carried_out b c note n cs q sum g =
+carried_out : (b : Writing) (answer : CommitAnswer) (n : ℕ) (cs : List Came) (q : Writing) → q.hops ≡ min (n + carries_of cs) most_hops
+    → DidJob b answer.committed cs q → IsCarriedOut (came (Commit (Ok answer)) n ∷ cs) q
+carried_out b answer n cs q sum g =
+    let c = answer.committed in
     let told = inverse_said (has_other c) g.job in
     let tells = tells_by c.wrote.retry told c.wrote.entry in
     record {
@@ -372,11 +380,12 @@ carried_out b c note n cs q sum g =
       reply = record { kind = c.kind; written = written_by c.wrote.retry told c.wrote.entry; hops = g.hops };
       answered = ap (λ p. p.committed) g.is;
       stages = record {
-        note = note;
+        answer = answer;
+        answer_is = refl;
         commits = n;
         of_job = g.of_job;
         of_way = g.of_way;
-        came_is = ap (λ l. came (Commit (Ok (c, note))) n ∷ l) g.came_is;
+        came_is = ap (λ l. came (Commit (Ok answer)) n ∷ l) g.came_is;
         job = subst (λ o. CameOfJob c.wrote.job c.paired g.of_job o told) (sym (ap (λ p. p.other) g.is)) g.told;
         way = g.way;
       };
@@ -397,10 +406,10 @@ module _ (write : Write) (origin : Origin) (region tier : ℕ) (follower : NodeN
   commit_first : (r : WriteResult) (n : ℕ) (rest : List Came) (q : Writing) → TakesResults (begun_write write origin region tier follower) (came r n ∷ rest) q
       → Part 5 (came r n ∷ rest) q (IsCarriedOut (came r n ∷ rest) q)
   commit_first (Commit (Ok answer)) n rest q takes =
-      let c = answer.0 in
-      let begun = record (begun_write write origin region tier follower) { spare = Some answer.1 } in
+      let c = answer.committed in
+      let begun = record (begun_write write origin region tier follower) { relay = answer.relay; spare = Some answer.spare } in
       before_part 4 (came (Commit (Ok answer)) n) rest q (DidJob begun c rest q) _
-      (carried_out begun c answer.1 n rest q (all_hops (came (Commit (Ok answer)) n ∷ rest) q takes))
+      (carried_out begun answer n rest q (all_hops (came (Commit (Ok answer)) n ∷ rest) q takes))
       (job_by begun c c.wrote.job refl (hops_after 0 n) rest q takes.1)
   commit_first (Commit (Err reply)) n rest q takes =
       refused_here 4 (came (Commit (Err reply)) n) rest (after_stage (begun_write write origin region tier follower) (Commit (Err reply)) n) q reply _

@@ -10,7 +10,6 @@ use Rattle.replies.specs.declared.calls.ScheduledWhy.{ScheduledWhy}
 use Rattle.replies.specs.declared.calls.WriteReply.{WriteReply}
 use Rattle.replies.specs.declared.reply.Reply.{Reply}
 use Rattle.replies.specs.declared.reply.Reply.TheVariants.{Called}
-use Rattle.shard_log.specs.View.{View}
 use Rattle.shard_tables.specs.declared.writes.Wrote.{Wrote}
 use Rattle.tao_base.specs.declared.entry.Origin.{Origin}
 use Rattle.tao_base.specs.declared.write.Write.{Write}
@@ -18,6 +17,7 @@ use Rattle.tao_keeper.specs.declared.jobs.Job.{Job}
 use Rattle.write_plan.specs.Plans.{Writing, after_stage, begun_write, next_of, reply_of}
 use Rattle.write_plan.specs.Stages.{result_stage}
 use Rattle.write_plan.specs.declared.committed.Committed.{Committed}
+use Rattle.write_plan.specs.declared.results.CommitAnswer.{CommitAnswer}
 use Rattle.write_plan.specs.declared.results.LeftOpen.TheVariants.{Scheduled, Refused}
 use Rattle.write_plan.specs.declared.results.WriteResult.{WriteResult}
 use Rattle.write_plan.specs.declared.results.WriteResult.TheVariants.{Commit, Inverse, End, Relay, Apply}
@@ -93,13 +93,14 @@ abbrev pub CameBack : Option NodeName → List Came → Type 0
 CameBack None cs = Applies cs
 CameBack (Some leader) cs = RelaysAndApplies cs
 
--- the commit answered this, with a note for its way back; then came the stages of its job, and then the way back
+-- the commit answered this, with notes for its way back; then came the stages of its job, and then the way back
 pub record CameInOrder (c : Committed) (cs : List Came) (other : Option Wrote) (told : InverseEnd) : Type 0 where
-  pub note : View
+  pub answer : CommitAnswer
+  pub answer_is : answer.committed ≡ c
   pub commits : ℕ
   pub of_job : List Came
   pub of_way : List Came
-  pub came_is : cs ≡ came (Commit (Ok (c, note))) commits ∷ (of_job ++ of_way)
+  pub came_is : cs ≡ came (Commit (Ok answer)) commits ∷ (of_job ++ of_way)
   pub job : CameOfJob c.wrote.job c.paired of_job other told
   pub way : CameBack c.passed of_way
 

@@ -11,6 +11,7 @@ plan_seen p = record {
   tier = p.tier;
   follower = p.follower;
   committed = p.committed;
+  relay = p.relay;
   spare = p.spare;
   job = p.job;
   other = p.other;

@@ -28,9 +28,9 @@ use Rattle.write_plan.specs.declared.results.WriteResult.TheVariants as came
 use Rattle.write_plan.specs.declared.stage.WriteStage.{WriteStage}
 use Rattle.write_plan.specs.declared.stage.WriteStage.TheVariants as stage
 
--- a write, who asked for it, from which tier, and at which follower; what its commit answered, and the second note that came with that, until it is
--- handed out; how far its job has come, and what was written at the other end; how far the way back has come; the reply that refuses it; and the
--- carries so far
+-- a write, who asked for it, from which tier, and at which follower; what its commit answered, and the notes that came with that for its way back, one for
+-- the leader that was passed and one for the follower, until they are handed out; how far its job has come, and what was written at the other end; how far
+-- the way back has come; the reply that refuses it; and the carries so far
 pub record Writing : Type 0 where
   pub write : Write
   pub origin : Origin
@@ -38,6 +38,7 @@ pub record Writing : Type 0 where
   pub tier : ℕ
   pub follower : NodeName
   pub committed : Option Committed
+  pub relay : Option View
   pub spare : Option View
   pub job : OtherEnd
   pub other : Option Wrote
@@ -54,6 +55,7 @@ begun_write write origin region tier follower = record {
   tier = tier;
   follower = follower;
   committed = None;
+  relay = None;
   spare = None;
   job = Due;
   other = None;
@@ -115,13 +117,13 @@ after_way p (Err reply) back = refused_by p reply
 
 -- what the plan keeps of a result
 abbrev pub after_result : Writing → WriteResult → Writing
-after_result p (came.Commit (Ok answer)) = record p { committed = Some answer.0; spare = Some answer.1 }
+after_result p (came.Commit (Ok answer)) = record p { committed = Some answer.committed; relay = answer.relay; spare = Some answer.spare }
 after_result p (came.Commit (Err reply)) = refused_by p reply
 after_result p (came.Inverse (Ok wrote)) = record p { job = Merged; other = written_there p.other (Some wrote) }
 after_result p (came.Inverse (Err left)) = after_left_open p left
 after_result p (came.End (Ok done)) = record p { job = Ended }
 after_result p (came.End (Err left)) = after_left_open p left
-after_result p (came.Relay answer) = after_way p answer Relayed
+after_result p (came.Relay answer) = after_way (record p { relay = None }) answer Relayed
 after_result p (came.Apply answer) = after_way (record p { spare = None }) answer Applied
 
 -- the plan after a result with its carries
@@ -137,6 +139,10 @@ answered_entry p = option_and_then (λ c. c.wrote.entry) p.committed
 -- the job that the commit answered
 abbrev pub answered_job : Writing → Option Job
 answered_job p = option_and_then (λ c. c.wrote.job) p.committed
+
+-- the leader that the write passed on the way to its commit
+abbrev pub answered_passed : Writing → Option NodeName
+answered_passed p = option_and_then (λ c. c.passed) p.committed
 
 -- whether a refusal comes after an entry stands, and where it does
 abbrev pub when_of : Option Entry → When

@@ -19,5 +19,5 @@ mod stage;
 pub use committed::{Committed, kind_said};
 pub use plan::{EndedWrite, WritePlan};
 pub use progress::{OtherEnd, WayBack};
-pub use results::{LeftOpen, WriteResult};
+pub use results::{CommitAnswer, LeftOpen, WriteResult};
 pub use stage::WriteStage;

@@ -3,7 +3,7 @@ ghost use Rattle.std.specs.Prelude.{◌≡◌, ◌≢◌, None, Some, option_cop
 
 use crate::committed::Committed;
 use crate::progress::{OtherEnd, WayBack, reply_by, stage_after};
-use crate::results::{LeftOpen, WriteResult};
+use crate::results::{CommitAnswer, LeftOpen, WriteResult};
 use crate::stage::WriteStage;
 use node_name::NodeName;
 use replies::{Reply, When};
@@ -34,6 +34,7 @@ pub struct WritePlan {
     tier: u16,
     follower: NodeName,
     committed: Option<Committed>,
+    relay: Option<Note>,
     spare: Option<Note>,
     job: OtherEnd,
     other: Option<Wrote>,
@@ -53,7 +54,8 @@ impl Model for WritePlan {
 
 impl WritePlan {
     ghost use Rattle.replies.specs.declared.reply.Reply.{Reply};
-    ghost use Rattle.write_plan.specs.Plans.{after_left_open, after_result, after_stage, after_way, answered_entry, answered_job, begun_write, next_of};
+    ghost use Rattle.write_plan.specs.Plans.{after_left_open, after_result, after_stage, after_way, answered_entry, answered_job, answered_passed};
+    ghost use Rattle.write_plan.specs.Plans.{begun_write, next_of};
     ghost use Rattle.write_plan.specs.Plans.{refused_by, reply_of, when_of, written_there};
     ghost use Rattle.write_plan.specs.Stages.{result_stage};
     ghost use Rattle.write_plan.specs.declared.stage.WriteStage.TheVariants.{Done};
@@ -75,6 +77,7 @@ impl WritePlan {
             tier,
             follower,
             committed: None,
+            relay: None,
             spare: None,
             job: OtherEnd::Due,
             other: None,
@@ -139,6 +142,16 @@ impl WritePlan {
         self.committed.as_ref()
     }
 
+    /// The leader that the write passed on the way to its commit; none exactly where it passed none, and before the commit was answered.
+    pub fn passed(&self) -> Option<NodeName>
+        ensures { result ≡ answered_passed self.now }
+    {
+        match &self.committed {
+            Some(committed) => committed.passed,
+            None => None,
+        }
+    }
+
     /// The entry in the answer of the commit; none exactly where it had none.
     pub fn entry(&self) -> Option<&Entry>
         ensures { option_copied result ≡ answered_entry self.now }
@@ -186,8 +199,16 @@ impl WritePlan {
         self.hops
     }
 
-    /// Hands out the second note that came with the answer of the commit, for its follower to meet; none exactly where none came, or
-    /// it was handed out.
+    /// Hands out the note that came with the answer of the commit for the leader that was passed; none exactly where none came, or it
+    /// was handed out.
+    pub fn relay(&mut self) -> Option<Note>
+        ensures note { result ≡ self.old.relay }
+        ensures rest { self.new ≡ record self.old { relay = None } }
+    {
+        self.relay.take()
+    }
+
+    /// Hands out the note that came with the answer of the commit for its follower; none exactly where none came, or it was handed out.
     pub fn spare(&mut self) -> Option<Note>
         ensures note { result ≡ self.old.spare }
         ensures rest { self.new ≡ record self.old { spare = None } }
@@ -216,17 +237,24 @@ impl WritePlan {
             WriteResult::Commit(answer) => self.keep_commit(answer),
             WriteResult::Inverse(answer) => self.keep_inverse(answer),
             WriteResult::End(answer) => self.keep_end(answer),
-            WriteResult::Relay(answer) => self.keep_way(answer, WayBack::Relayed),
+            WriteResult::Relay(answer) => self.keep_relayed(answer),
             WriteResult::Apply(answer) => self.keep_applied(answer),
         }
     }
 
-    fn keep_commit(&mut self, answer: Result<(Committed, Note), Reply>)
+    fn keep_commit(&mut self, answer: Result<CommitAnswer, Reply>)
         ensures { self.new ≡ after_result self.old (WriteResult.Commit answer) }
     {
         match answer {
-            Ok((committed, spare)) => {
+            Ok(
+                CommitAnswer {
+                    committed,
+                    relay,
+                    spare,
+                },
+            ) => {
                 self.committed = Some(committed);
+                self.relay = relay;
                 self.spare = Some(spare);
             }
             Err(reply) => self.refuse(reply),
@@ -266,7 +294,15 @@ impl WritePlan {
         }
     }
 
-    /// Keeps what came of the last stage, after which nobody needs the second note.
+    /// Keeps what came of the way back to the leader that was passed, after which nobody needs its note.
+    fn keep_relayed(&mut self, answer: Result<(), Reply>)
+        ensures { self.new ≡ after_result self.old (WriteResult.Relay answer) }
+    {
+        self.relay = None;
+        self.keep_way(answer, WayBack::Relayed);
+    }
+
+    /// Keeps what came of the last stage, after which nobody needs the follower's note.
     fn keep_applied(&mut self, answer: Result<(), Reply>)
         ensures { self.new ≡ after_result self.old (WriteResult.Apply answer) }
     {

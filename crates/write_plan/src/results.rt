@@ -21,11 +21,21 @@ pub enum LeftOpen {
     Refused(Reply),
 }
 
+/// What a commit answered, with notes of the log in which it stands, for its way back.
+#[derive(Drop)]
+pub struct CommitAnswer {
+    pub committed: Committed,
+    /// For the leader that was passed; none is needed where none was.
+    pub relay: Option<Note>,
+    /// For the follower.
+    pub spare: Note,
+}
+
 /// What came of a stage. A reply in place of an answer is the one that refuses the write.
 #[derive(Drop)]
 pub enum WriteResult {
-    /// What was committed, with a second note of the log in which it stands, for its way back.
-    Commit(Result<(Committed, Note), Reply>),
+    /// What was committed, with the notes for its way back.
+    Commit(Result<CommitAnswer, Reply>),
     /// What the merge wrote at the other end.
     Inverse(Result<Wrote, LeftOpen>),
     End(Result<(), LeftOpen>),

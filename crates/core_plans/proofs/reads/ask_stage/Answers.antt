@@ -10,7 +10,7 @@ returns-in-Ok g c =
     let end = c.ask_over.new in
     let old : World = world c.args.nodes.now (g.K.Keeper.state c.args.keepers.now) (g.L.Link.shown c.args.link.now) in
     let new : World = world end.self (g.K.Keeper.state end.keepers) (g.L.Link.shown end.link) in
-    asks_done g.K.Keeper.TELLS c.args.config.now c.args.leader c.args.plan.now c.take_since.new.plan old new c.requires.read c.ask_over.ensures.on
+    asks_done g.K.Keeper.TELLS c.args.config.now c.args.leaders c.args.plan.now c.take_since.new.plan old new c.requires.read c.ask_over.ensures.on
     c.in-Ok.given c.follower.result c.query-query.result.now c.floor-floor.result c.requires.stage
     (record { follower_is = c.follower.ensures; query_is = c.query-query.ensures; floor_is = c.floor-floor.ensures }) c.in-Ok.ensures.given
     (taken_since c.args.plan.now c.take_since.new.plan (came.Ask (Ok c.in-Ok.given)) c.so_far-since.result old new c.so_far-since.ensures
@@ -21,7 +21,7 @@ returns-in-Err g c =
     let end = c.ask_over.new in
     let old : World = world c.args.nodes.now (g.K.Keeper.state c.args.keepers.now) (g.L.Link.shown c.args.link.now) in
     let mid : World = world end.self (g.K.Keeper.state end.keepers) (g.L.Link.shown end.link) in
-    asks_lost g.K.Keeper.TELLS c.args.config.now c.args.leader c.args.plan.now c.take_since-in-Err.new.plan old mid c.end_ask_of.new.fleet
+    asks_lost g.K.Keeper.TELLS c.args.config.now c.args.leaders c.args.plan.now c.take_since-in-Err.new.plan old mid c.end_ask_of.new.fleet
     c.requires.read c.ask_over.ensures.on c.end_ask_of.ensures c.in-Err.refusal c.follower.result c.query-query.result.now c.floor-floor.result
     c.requires.stage (record { follower_is = c.follower.ensures; query_is = c.query-query.ensures; floor_is = c.floor-floor.ensures })
     c.in-Err.ensures.err

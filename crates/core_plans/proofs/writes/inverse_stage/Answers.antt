@@ -29,7 +29,7 @@ returns g c =
     let new : World = world end.self (state end.keepers) (shown end.link) in
     let hops : c.saturating_sub-hops.result ≡ hops_between old.link new.link =
     omega (arith, c.saturating_sub-hops.ensures, c.carries.ensures, c.carries-carries.ensures) in
-    merges_pass g.K.Keeper.TELLS c.args.config.now c.args.leader p c.take.new.self old new c.requires.write
+    merges_pass g.K.Keeper.TELLS c.args.config.now c.args.leaders p c.take.new.self old new c.requires.write
     over.on
     c.in-Some.job.now c.shard-shard.result result c.saturating_sub-hops.result (sym c.job.ensures ∙ ap option_copied c.in-Some.is)
     (c.shard-shard.ensures ∙ ap write_shard c.write.ensures) over.merges over.merged over.stands

@@ -116,6 +116,13 @@ returns-in-Ok-clause-spare g c =
     c.renew-spare.ensures.view ∙ ap (λ n. as_note (pens_of c.commit.new.self.stores n)) c.shard-shard.ensures ∙ sym c.in-Ok.ensures.note
     ∙ ap (λ (w : Wrote). w.note) (sym c.notify_of_new.ensures.same)
 
+pub returns-in-Ok-clause-all : goal.returns-in-Ok-clause-all
+returns-in-Ok-clause-all g c =
+    let shard = write_shard c.args.call.now.write.now in
+    ap (λ (w : Wrote). w.note) c.notify_of_new.ensures.same ∙ c.in-Ok.ensures.note
+    ∙ ap (λ (n : Nodes). as_note (pens_of n.fleet.stores shard)) (sym (left_so c.spare_note.new.self c.renew-spare.new.self c.commit.new.self
+    c.notify_of_new.new.self c.renew-spare.ensures.same c.notify_of_new.ensures.rest))
+
 pub returns-in-Ok-clause-job : goal.returns-in-Ok-clause-job
 returns-in-Ok-clause-job g c =
     let tables = (g.K.Keeper.state c.commit.new.keepers).told in

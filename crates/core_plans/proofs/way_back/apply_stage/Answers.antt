@@ -1,13 +1,13 @@
-use Rattle.std.proofs.Common.{◌≡◌, ◌∙◌, Option, Some, None, ap, arith, refl, subst, sym}
+use Rattle.std.proofs.Common.{◌≡◌, ◌∙◌, ap, arith, refl, subst, sym}
 use Rattle.std.proofs.lemmas.Option.{IfSome_then}
 use Rattle.std.proofs.lemmas.Result.{on_err_weaker}
-use Rattle.std.specs.Prelude.{IfErr, IfSome, IsSome, OnOk}
+use Rattle.std.specs.Prelude.{IfErr, IfSome, IsSome, OnOk, unwrap_or}
 use Rattle.core_model.specs.Serving.{IsFollowerFor}
 use Rattle.core_plans.specs.HeldWrites.{call_of_plan}
 use Rattle.core_plans.proofs.ComingBack.{ComesBack, applies_done}
 use Rattle.core_plans.proofs.HeldWriteStages.{applied_still, at_apply, taken_on}
 use Rattle.core_plans.proofs.WritesGoOn.{same_stores}
-use Rattle.core_plans.proofs.writes.apply_stage.Goals as goal
+use Rattle.core_plans.proofs.way_back.apply_stage.Goals as goal
 use Rattle.core_steps.specs.Routes.{FailsCarry, hops_between}
 use Rattle.core_steps.specs.World.{World, world}
 use Rattle.core_steps.specs.Writes.{CanBeApplied, FollowerTakes}
@@ -46,7 +46,8 @@ pub returns : goal.returns
 returns g c =
     let shown = g.L.Link.shown in
     let s = c.args.config.now in
-    let leader = c.args.leader in
+    let leaders = c.args.leaders in
+    let last = c.unwrap_or.result in
     let p = c.args.plan.now in
     let mid = c.spare_of-note.new.plan in
     let is = c.spare_of-note.ensures.rest in
@@ -65,11 +66,11 @@ returns g c =
           let old : World = world was keepers from in
           let new : World = world end keepers to in
           let hops : took ≡ hops_between old.link new.link = omega (arith, c.saturating_sub-hops.ensures, c.carries.ensures, c.carries-carries.ensures) in
-          let comes : ComesBack s leader mid outcome old new = record {
+          let comes : ComesBack s last mid outcome old new = record {
             carried = back.carried;
-            takes = subst (λ f. OnOk outcome (IfSome mid.committed (λ a. FollowerTakes (types_of s.schema) (record { follower = f; leader = leader })
+            takes = subst (λ f. OnOk outcome (IfSome mid.committed (λ a. FollowerTakes (types_of s.schema) (record { follower = f; leader = last })
                 (write_shard mid.write) a.wrote.entry was.fleet end.fleet))) follower back.takes;
-            failed = subst (λ f. IfErr outcome (λ _. FailsCarry leader f from to)) follower back.failed;
+            failed = subst (λ f. IfErr outcome (λ _. FailsCarry last f from to)) follower back.failed;
             reply = back.reply;
             stays = on_err_weaker outcome (ap (λ (n : Nodes). n.fleet)) back.stays;
             rest = record {
@@ -79,7 +80,8 @@ returns g c =
               states = ap (λ (n : Nodes). n.topology) back.rest;
             };
           } in
-          applies_done s leader p mid c.take.new.self old new outcome is (at_apply p c.requires.stage).2 comes
+          applies_done s leaders p mid c.take.new.self old new outcome is (at_apply p c.requires.stage).2
+          (subst (λ l. ComesBack s l mid outcome old new) (c.unwrap_or.ensures ∙ ap (λ o. unwrap_or o leaders.leader) c.passed.ensures) comes)
           (then ∙ ap (after_stage mid (came.Apply outcome)) hops);
       write = λ tells tables under.
           taken_on tells s tables end.fleet p c.take.new.self (came.Apply outcome) took

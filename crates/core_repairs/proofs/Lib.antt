@@ -1,2 +1,3 @@
 mod RepairLemmas
 mod RunLemmas
+mod StreamEnds

@@ -1,7 +1,8 @@
-//! Repairs: the jobs of other ends are merged from store to store and then ended, a shard's first one, or all of them for a settle.
+//! Repairs and streams: the jobs of other ends are merged from store to store and then ended, a shard's first one, or all of them for a settle;
+//! and then a settle moves every stream to its end.
 //!
-//! Each call says which jobs were run, stage by stage, who is told of what they wrote, and what a refusal left; what was consistent
-//! stays so.
+//! Each call says which jobs were run, stage by stage, who is told of what they wrote, which steps streams made, and what a refusal left; what was
+//! consistent stays so.
 //!
 //! What it promises. A shard's first open job is merged from store to store with two carries, then ended, and
 //! then those who see its records are told as after a write, or it stays open, at most merged, with its cause. The
@@ -9,11 +10,17 @@
 //! open jobs are run so, shard by shard, each shard's in order, which is the plain machine's settle; one that stops at a
 //! shard has left no job open on a lower one.
 //!
-//! The contracts that say so: `repair_first`, `run_jobs`; `RepairsFirst`, `RunsJobs`.
+//! Every stream is moved to its end, region by region, and in each region shard by shard: each step carries the entry that a slave's store takes
+//! next, with one carry, and nothing else is done but that keepers are read. Then every store has all of its shard's log; the shards' own logs and
+//! open jobs are as they were. One that stops at a store has moved the streams before it to their ends.
+//!
+//! The contracts that say so: `repair_first`, `run_jobs`, `run_streams`; `RepairsFirst`, `RunsJobs`, `RunsStreams`.
 #![tactic(auto)]
 
 mod repairs;
 mod runs;
+mod streams;
 
 pub use repairs::{Ran, RepairFailed, repair_first};
 pub use runs::run_jobs;
+pub use streams::run_streams;

@@ -1,6 +1,7 @@
 -- The pass of a session that is open, at its place.
 use Rattle.std.proofs.Common.{◌≡◌, ℕ, zero, suc, ◌+◌, ◌<◌, ◌≤◌, Bool, true, false, cond, List, [], ◌∷◌, length, get_or, map, Option, Some, None}
 use Rattle.std.proofs.Common.{IfSome, refl, ap, sym, ◌∙◌, subst, arith, inl, inr, slice_set}
+use Rattle.std.specs.Option.{option_map}
 use Rattle.std.specs.Prelude.{◌==◌, nat_lt, slice_get}
 use Rattle.std.specs.List.{find, AllByRecursion}
 use Rattle.std.proofs.lemmas.Bool.{cases_lt, false≢true, eq-eqb}
@@ -8,11 +9,14 @@ use Rattle.std.proofs.lemmas.Bool.Decides.{nat_tests}
 use Rattle.std.proofs.lemmas.Option.{slice_get_past, slice_get_read}
 use Rattle.core_sessions.proofs.InOrder.{IsPlace, above_first, found_at, is_found, other_number, rest_in_order}
 use Rattle.core_sessions.specs.Sessions.{HaveRisingNumbers, HasRoom, HasRoomForBoth, Session, SessionLearns, is_open, session_at, session_of}
-use Rattle.core_sessions.specs.Sessions.{sessions_of, with_changed}
+use Rattle.core_sessions.specs.Sessions.{sessions_of, start_of, with_changed}
+use Rattle.core_sessions.specs.declared.sessions.CallStart.{CallStart}
+use Rattle.session_pass.specs.Floors.{floor_at}
 use Rattle.session_pass.specs.Passes.{LearnsEntry, SeenPass}
 use Rattle.shard_log.specs.View.{View}
 use Rattle.tao_base.specs.Ids.{IsRising}
 use Rattle.tao_base.specs.declared.entry.Entry.{Entry}
+use Rattle.tao_base.specs.declared.id.Key.{Key}
 use Rattle.tao_base.proofs.Tests.{eqb-same}
 
 -- the session's pass stands at the place
@@ -174,3 +178,9 @@ open_is n xs slice i o lent up point at = ap (is_found n) (sym at) ∙ found_at 
 pub stands_found : (n : ℕ) (xs : List SeenPass) (i : ℕ) (p : SeenPass) → HaveRisingNumbers xs → slice_get xs i ≡ Some p → (p.session == n) ≡ true
     → StandsAt n xs i p
 stands_found n xs i p up at same = record { up = up; at = at; number = eqb-same p.session n same }
+
+-- where a session's read begins tells the session's floor
+pub floor_started : (key : Key) (session : Option Session) (start : Option CallStart) → start ≡ option_map (start_of key) session
+    → option_map (λ b. b.floor) start ≡ option_map (λ s. floor_at s.floors key) session
+floor_started key None start is = ap (option_map (λ b. b.floor)) is
+floor_started key (Some s) start is = ap (option_map (λ b. b.floor)) is

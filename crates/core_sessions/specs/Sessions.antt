@@ -1,12 +1,13 @@
 -- Open sessions, in the order of their numbers, and what they were told of.
 use Rattle.std.specs.Prelude.{ℕ, ◌≡◌, ◌≤◌, Bool, List, [], ◌∷◌, ◌++◌, ◌==◌, IfSome, Option, Some, filter, find, map, nat_lt, if◌then◌else◌}
 use Rattle.std.specs.List.{list_any}
-use Rattle.session_pass.specs.Floors.{LearnsTouches, learnt_touches}
+use Rattle.session_pass.specs.Floors.{LearnsTouches, floor_at, learnt_touches}
 use Rattle.session_pass.specs.Passes.{SeenPass, after_meeting}
 use Rattle.shard_log.specs.View.{View}
 use Rattle.tao_base.specs.Ids.{IsRising}
 use Rattle.tao_base.specs.declared.entry.Entry.{Entry}
 use Rattle.tao_base.specs.declared.id.Key.{Key}
+use Rattle.core_sessions.specs.declared.sessions.CallStart.{CallStart}
 use Rattle.core_sessions.specs.declared.sessions.OpenSession.{OpenSession}
 
 -- a session: its number, its region and its tier; its floors, each under its key; and what it has seen of each shard's log
@@ -28,6 +29,10 @@ sessions_of passes = map session_of passes
 -- the number of a session, and its place: region and tier
 abbrev pub opening_of : Session → OpenSession
 opening_of s = record { session = s.session; region = s.region; tier = s.tier }
+
+-- where a session's read of a key begins: at its place, and at its floor of the key
+abbrev pub start_of : Key → Session → CallStart
+start_of key s = record { place = opening_of s; floor = floor_at s.floors key }
 
 -- the numbers rise
 abbrev pub HaveRisingNumbers : List SeenPass → Type 0

@@ -1,13 +1,13 @@
 //! The sessions that are open, each with its pass: what it was told of, and so how far its reads must have come.
 //!
 //! What it promises. The open sessions, each once, in the order of their numbers, each with its place and its
-//! pass: one is opened with no floors; what one learns no other does; a floor is answered as it stands, and none
-//! exactly where the session isn't open.
+//! pass: one is opened with no floors; what one learns no other does; a floor is answered as it stands, alone or with
+//! the session's place, and none exactly where the session isn't open.
 //!
-//! The contracts that say so: `Sessions::add`, `learn`, `reserve`, `note`, `floor`, `at`, `is_open`;
+//! The contracts that say so: `Sessions::add`, `learn`, `reserve`, `note`, `start`, `floor`, `at`, `is_open`;
 //! `SessionLearns`.
 #![tactic(auto)]
 
 mod sessions;
 
-pub use sessions::{OpenSession, Sessions};
+pub use sessions::{CallStart, OpenSession, Sessions};

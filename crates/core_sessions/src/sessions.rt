@@ -2,7 +2,7 @@
 ghost use Rattle.std.specs.Prelude.{◌≡◌, ◌≤◌, OnErr, OnOk, false, length, nat_lt, true};
 ghost use Rattle.std.specs.List.{insert};
 ghost use Rattle.std.specs.List.Sorted.{IsPartitionPoint};
-ghost use Rattle.core_sessions.specs.Sessions.{HaveRisingNumbers};
+ghost use Rattle.core_sessions.specs.Sessions.{HaveRisingNumbers, opening_of, session_of};
 
 use session_pass::Pass;
 use shard_log::Note;
@@ -16,6 +16,13 @@ pub struct OpenSession {
     pub session: u32,
     pub region: u16,
     pub tier: u16,
+}
+
+/// Where a call of a session begins: at the session's place, and the version that its reads of a key have at least.
+#[derive(Clone, Copy, Debug, PartialEq, Eq)]
+pub struct CallStart {
+    pub place: OpenSession,
+    pub floor: u64,
 }
 
 /// The passes of the open sessions, in the order of their numbers.
@@ -40,7 +47,7 @@ impl Sessions {
     ghost use Rattle.std.specs.Option.{option_map};
     ghost use Rattle.std.specs.Prelude.{◌≡◌, ◌<◌, [], length, true, false, IfOk, IfSome, IsSomeAnd, OnOk, OnErr, Some, slice_get};
     ghost use Rattle.core_sessions.specs.Sessions.{HasRoom, HasRoomForBoth, SessionLearns, is_open, new_session, opening_of, session_at, sessions_of};
-    ghost use Rattle.core_sessions.specs.Sessions.{with_session};
+    ghost use Rattle.core_sessions.specs.Sessions.{start_of, with_session};
     ghost use Rattle.graph_model.specs.Log.{entry_at};
     ghost use Rattle.graph_model.specs.Told.{WhereTold};
     ghost use Rattle.session_pass.specs.Floors.{floor_at};
@@ -79,10 +86,21 @@ impl Sessions {
         ensures { IsSomeAnd (session_at (sessions_of self.now) session) (λ s. result ≡ opening_of s) }
     {
         let pass = &self.passes[place_of(&self.passes, session)];
-        OpenSession {
-            session: pass.session(),
-            region: pass.region(),
-            tier: pass.tier(),
+        opening_of(pass)
+    }
+
+    /// Where the session's read of the key begins: its place, and the version that its reads of the key have at least, 0 where it was told
+    /// of none. None exactly where the session isn't open. A binary search, and a look-up.
+    pub fn start(&self, session: u32, key: Key) -> Option<CallStart>
+        ensures { result ≡ option_map (start_of key) (session_at (sessions_of self.now) session) }
+    {
+        let place = place_of(&self.passes, session);
+        match self.passes.get(place) {
+            Some(found) if found.session() == session => Some(CallStart {
+                place: opening_of(found),
+                floor: found.floor(key),
+            }),
+            _ => None,
         }
     }
 
@@ -91,10 +109,9 @@ impl Sessions {
     pub fn floor(&self, session: u32, key: Key) -> Option<u64>
         ensures { result ≡ option_map (λ s. floor_at s.floors key) (session_at (sessions_of self.now) session) }
     {
-        let place = place_of(&self.passes, session);
-        match self.passes.get(place) {
-            Some(found) if found.session() == session => Some(found.floor(key)),
-            _ => None,
+        match self.start(session, key) {
+            Some(start) => Some(start.floor),
+            None => None,
         }
     }
 
@@ -154,6 +171,17 @@ impl Sessions {
     {
         let place = place_of(&self.passes, session);
         self.passes[place].learn_entry(shard, entry, note);
+    }
+}
+
+/// The number of the session of a pass, and its place.
+fn opening_of(pass: &Pass) -> OpenSession
+    ensures { result ≡ opening_of (session_of pass.now) }
+{
+    OpenSession {
+        session: pass.session(),
+        region: pass.region(),
+        tier: pass.tier(),
     }
 }
 

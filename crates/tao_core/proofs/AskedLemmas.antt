@@ -1,5 +1,5 @@
 -- What is asked can be done.
-use Rattle.std.proofs.Common.{◌≡◌, ℕ, Bool, true, false, Contains, List, Result, Ok, Err, IfOk, Option, Some, None, refl, subst, sym, inl, inr}
+use Rattle.std.proofs.Common.{◌≡◌, ℕ, Bool, true, false, Contains, List, Result, Ok, Err, IfOk, Option, Some, None, refl, subst, inl, inr}
 use Rattle.std.specs.Prelude.{IsSome, is_some, not, ⊤}
 use Rattle.std.proofs.lemmas.Bool.{cases_Bool}
 use Rattle.outcomes.specs.Results.{◌>>=◌, Gives, refused_unless}
@@ -18,7 +18,6 @@ use Rattle.replies.specs.declared.refusals.NameRefused.{NameRefused}
 use Rattle.replies.specs.declared.refusals.Refusal.{Refusal}
 use Rattle.requests.specs.HealthWords.{health_word}
 use Rattle.requests.specs.RequestWords.{request_word}
-use Rattle.requests.specs.StoreWords.{store_word}
 use Rattle.requests.specs.declared.calls.Call.{Call}
 use Rattle.requests.specs.declared.calls.Call.TheVariants as call
 use Rattle.requests.specs.declared.calls.ReadCall.{ReadCall}
@@ -30,7 +29,6 @@ use Rattle.requests.specs.declared.plans.PlanRequest.TheVariants as plan
 use Rattle.requests.specs.declared.request.Request.{Request}
 use Rattle.requests.specs.declared.request.Request.TheVariants as request
 use Rattle.request_check.proofs.Placing.{whatever}
-use Rattle.request_check.proofs.PlacingStores.{stores_say}
 use Rattle.request_check.specs.Caches.{checked_cache}
 use Rattle.request_check.specs.Calls.{checked_call, checked_query, checked_write}
 use Rattle.request_check.specs.Links.{checked_link}
@@ -39,17 +37,14 @@ use Rattle.request_check.specs.Placed.{IsPlacedCall, IsPlacedFollower, IsPlacedN
 use Rattle.request_check.specs.Plans.{IsPlacedPlan, checked_plan}
 use Rattle.request_check.specs.Refusal.{for_name, replied, reply_unless_memory}
 use Rattle.request_check.specs.Requests.{IsPlaced, checked_of}
-use Rattle.request_check.specs.Stores.{checked_store, checked_store_word}
+use Rattle.request_check.specs.Stores.{checked_store}
 use Rattle.request_check.specs.declared.checked.Checked.{Checked}
 use Rattle.request_check.specs.declared.checked.Checked.TheVariants as checked
 use Rattle.request_check.specs.declared.checked.CheckedCall.{CheckedCall}
 use Rattle.request_check.specs.declared.checked.CheckedCall.TheVariants as of_call
-use Rattle.request_check.specs.declared.plans.CheckedPlan.{CheckedPlan}
 use Rattle.request_check.specs.declared.plans.CheckedPlan.TheVariants as of_plan
 use Rattle.request_check.specs.declared.refusal.CheckRefusal.{CheckRefusal}
-use Rattle.request_check.specs.declared.stores.CheckedStore.{CheckedStore}
-use Rattle.words.specs.declared.Word.{Word}
-use Rattle.tao_core.specs.Asked.{CallCanBeDone, CanBeDone, PlanCanBeDone, StoreCanBeDone, admitted, asking_session, fresh_plan, fresh_session, held_plan}
+use Rattle.tao_core.specs.Asked.{CallCanBeDone, CanBeDone, PlanCanBeDone, admitted, asking_session, fresh_plan, fresh_session}
 use Rattle.tao_core.specs.Asked.{is_built, not_built, open_session, plan_for, session_for}
 
 -- ---- nodes
@@ -157,12 +152,6 @@ module _ (s : Settings) (sessions : List Session) (plans : Plans) where
       hold_can number (checked_call s asked) (not_held plans number free) (call_can asked (is_so_open sessions (asking_session asked) there))
   plan_can (plan.Advance number) held there = λ here. some_found (plan_at plans number) _ held
 
-  -- what is asked of a store, whose word is served
-  store_can : (word : Word) (found : Result CheckedStore NameRefused) → is_built word ≡ true → IfOk found (λ c. checked_store_word c ≡ word)
-      → IfOk (placed_as checked.Store found) (λ c. IsPlaced s c → CanBeDone s sessions plans c)
-  store_can word (Ok c) built says = λ here. record { built = subst (λ w. is_built w ≡ true) (sym says) built; placed = here }
-  store_can word (Err refused) built says = tt
-
   -- what a family asks is done where it can be
   family_can : {A : Type 0} (asks : A → Checked) (found : Result A NameRefused) → IfOk found (λ c. IsPlaced s (asks c) → CanBeDone s sessions plans (asks c))
       → IfOk (placed_as asks found) (λ c. IsPlaced s c → CanBeDone s sessions plans c)
@@ -186,8 +175,7 @@ module _ (s : Settings) (sessions : List Session) (plans : Plans) where
       let rest = rest_admitted sessions plans (request.Plan asked) h in
       family_can checked.Plan (checked_plan s asked) (plan_can asked rest.0 rest.1)
   by_family (request.Cache asked) h = always_can checked.Cache (checked_cache s asked) (λ c here. here)
-  by_family (request.Store asked) h =
-      store_can (store_word asked) (checked_store s asked) (word_built sessions plans (request.Store asked) h) (stores_say s asked)
+  by_family (request.Store asked) h = always_can checked.Store (checked_store s asked) (λ c here. here)
   by_family (request.Health asked) h =
       absurd (unserved asked (word_built sessions plans (request.Health asked) h))
   by_family (request.Link asked) h = always_can checked.Link (checked_link s asked) (λ c here. tt)

@@ -12,6 +12,7 @@ use Rattle.core_plans.specs.HeldLaws.{Followers}
 use Rattle.core_plans.specs.LedBy.{LedBy, led_by}
 use Rattle.core_plans.specs.WholeCalls.{CarriesOut, PassesStages}
 use Rattle.core_plans.specs.declared.held.HeldPlan.{HeldPlan}
+use Rattle.core_plans.specs.declared.leaders.Leaders.{Leaders}
 use Rattle.core_plans.specs.declared.held.HeldPlan.TheVariants.{Read, Write}
 use Rattle.core_plans.proofs.InTurn.{write_same}
 use Rattle.core_sessions.specs.Sessions.{HasRoomForBoth, Session, sessions_of}
@@ -28,7 +29,7 @@ use Rattle.topology.specs.Config.{Settings}
 use Rattle.read_plan.specs.Readings.{Reading}
 use Rattle.write_plan.specs.Plans.{next_of}
 use Rattle.tao_core.specs.Core.{CoreState, IsConsistentCore, IsOfSession, IsSessionOf, LeavesCore, author, moment}
-use Rattle.tao_core.specs.HeldCalls.{DoesAtOnce, HasRoomAlready, HasRoomFor, HeldReaches, LearnsOf, MayLearn, plan_leader}
+use Rattle.tao_core.specs.HeldCalls.{DoesAtOnce, HasRoomAlready, HasRoomFor, HeldReaches, LearnsOf, MayLearn, plan_leaders}
 use Rattle.tao_core.proofs.HeldKeeping.{stepped_core, with_sessions}
 use Rattle.tao_core.proofs.HeldLearning.{author_stays, learns_open, learns_ours, may_learn}
 use Rattle.tao_core.proofs.StayOpen.{StayOpen}
@@ -52,9 +53,9 @@ room_for (Read p) passes room = tt
 pub learns_stay : (plan : HeldPlan) (told : LearntEntries) (old new : List Session) → LearnsOf plan told old new → StayOpen old new
 learns_stay plan told old new learns = record { stays = λ n there. learns_open plan told old new learns n ∙ there }
 
-module _ (tells : Bool) (s : Settings) (leader : NodeName) where
+module _ (tells : Bool) (s : Settings) (leaders : Leaders) where
   abbrev Led : LedBy
-  Led = led_by tells s leader
+  Led = led_by tells s leaders
 
   -- ---- who learns
 
@@ -62,7 +63,7 @@ module _ (tells : Bool) (s : Settings) (leader : NodeName) where
       → IsOfSession sessions q
   author_then zero p q old new sessions passes is = subst (IsOfSession sessions) (sym passes.0) is
   author_then (suc n) p q old new sessions passes is =
-      author_stays tells s leader passes.0 q passes.1 new sessions passes.3.steps (author_then n p passes.0 old passes.1 sessions passes.2 is)
+      author_stays Led passes.0 q passes.1 new sessions passes.3.steps (author_then n p passes.0 old passes.1 sessions passes.2 is)
 
   room_stays : (p q : HeldPlan) (old new : World) (passes : List SeenPass) → StepsHeld Led p old q new → HasRoomAlready p passes → HasRoomAlready q passes
   room_stays (Read p) (Read q) old new passes steps room = tt
@@ -102,7 +103,7 @@ module _ (tells : Bool) (s : Settings) (leader : NodeName) where
       let e : false ≡ true = subst IsSome none goes in
       absurd (cc)
   reaches_then (suc n) p q old new masters goes passes over =
-      held_reaches tells s leader passes.0 q passes.1 new new.keepers.told new.fleet passes.3.steps masters passes.3.on.consistent
+      held_reaches Led passes.0 q passes.1 new new.keepers.told new.fleet passes.3.steps masters passes.3.on.consistent
       passes.3.under_way
 
   -- ---- asks
@@ -128,7 +129,7 @@ module _ (tells : Bool) (s : Settings) (leader : NodeName) where
       let so_far = opens_then n p m old mid is first passes.2 in
       let here : held_after m ≡ Some m = kept_here (next_stage m) m (goes_on Led m q mid new passes.3.steps) in
       let alone = stand_alone s mid.fleet.followers (consistent_then n p m old mid is passes.2).fleet.follower_names in
-      let asks = steps_asks tells s leader m q mid new alone (subst MayHold here so_far.1) passes.3.steps in (
+      let asks = steps_asks Led m q mid new alone (subst MayHold here so_far.1) passes.3.steps in (
         (λ name number h. elim (asks.still name number h) [
           | inl own ↦ inl own
           | inr both ↦ elim (so_far.0 name number both.0) [
@@ -154,8 +155,8 @@ module _ (tells : Bool) (s : Settings) (leader : NodeName) where
 -- ---- a core whose call was carried out
 
 module _ (tells : Bool) (core : CoreState) (end : Nodes) (before now : KeeperState) (from to : LinkShown) (plan after : HeldPlan)
-    (leader : NodeName) (of : IsConsistentCore tells before.told core) (first : OpensFirst plan) (goes : IsSome (next_stage plan))
-    (carries : CarriesOut (led_by tells core.settings leader) plan (world_at core before from)
+    (leaders : Leaders) (of : IsConsistentCore tells before.told core) (first : OpensFirst plan) (goes : IsSome (next_stage plan))
+    (carries : CarriesOut (led_by tells core.settings leaders) plan (world_at core before from)
     after (world end now to))
     (under : IsUnderWay tells core.settings now.told end.fleet after)
     (on : PostsOn tells core.settings (world_at core before from) (world end now to)) where
@@ -176,8 +177,8 @@ module _ (tells : Bool) (core : CoreState) (end : Nodes) (before now : KeeperSta
   carried_learns passes same author room =
       may_learn tells core.settings now.told end.fleet after passes under
       (subst (λ xs. IsOfSession xs after) (sym same)
-      (author_then tells core.settings leader carries.stages plan after Old New core.sessions carries.passes author))
-      (room_for after passes (room_then tells core.settings leader carries.stages plan after Old New passes carries.passes room))
+      (author_then tells core.settings leaders carries.stages plan after Old New core.sessions carries.passes author))
+      (room_for after passes (room_then tells core.settings leaders carries.stages plan after Old New passes carries.passes room))
       (subst (All (IsSessionOf tells core.settings now.told (pens_of end.fleet.stores))) (sym same) is_mid.sessions)
 
   pub carried_leaves : (sessions : List Session) (reply : Reply) → LearnsOf after (learnt_with reply after) core.sessions sessions
@@ -185,20 +186,20 @@ module _ (tells : Bool) (core : CoreState) (end : Nodes) (before now : KeeperSta
   carried_leaves sessions reply learns = record {
     is_consistent = with_sessions tells now.told Mid core.plans sessions is_mid
         (learns_ours tells core.settings now.told end.fleet after reply core.sessions sessions of.masters on.consistent.stores under learns is_mid.sessions);
-    on = record { goes = on.goes; opens = opens_none tells core.settings leader plan after Old New of.consistent first carries };
+    on = record { goes = on.goes; opens = opens_none tells core.settings leaders plan after Old New of.consistent first carries };
     comes = none_come tells now.told core (record Mid { sessions = sessions }) on.states;
     grows = on.grows;
     later = on.later;
   }
 
-  pub carried_does : (sessions : List Session) (reply : Reply) → leader ≡ plan_leader core plan → IsOver after reply
+  pub carried_does : (sessions : List Session) (reply : Reply) → leaders ≡ plan_leaders core plan → IsOver after reply
       → LearnsOf after (learnt_with reply after) core.sessions sessions
       → DoesAtOnce tells plan (moment core before from) reply (moment (record Mid { sessions = sessions }) now to)
   carried_does sessions reply leads over learns = record {
     after = after;
     carries = subst (λ name. CarriesOut (led_by tells core.settings name) plan Old after New) leads carries;
     over = over;
-    reaches = reaches_then tells core.settings leader carries.stages plan after Old New of.masters goes carries.passes carries.over;
+    reaches = reaches_then tells core.settings leaders carries.stages plan after Old New of.masters goes carries.passes carries.over;
     learns = learns;
     link = on.link;
     rest = ap (λ (n : NodeStates). record Mid { sessions = sessions; states = n }) on.states;

@@ -27,7 +27,6 @@ use Rattle.graph_model.specs.Told.{WhereTold}
 use Rattle.maint_msg.specs.Maints.{SeenMaint}
 use Rattle.node_name.specs.declared.NodeName.{NodeName}
 use Rattle.node_name.specs.declared.NodeName.TheVariants.{Store as StoreName_, Leader, Follower}
-use Rattle.replies.specs.declared.calls.CallReply.TheVariants as called
 use Rattle.replies.specs.declared.lists.Message.{Message}
 use Rattle.replies.specs.declared.nodes.CacheReply.TheVariants.{Delivered}
 use Rattle.replies.specs.declared.nodes.NodeReply.TheVariants.{Cache}

@@ -1,5 +1,5 @@
 -- Sessions that are open are found, and the other way round.
-use Rattle.std.proofs.Common.{◌≡◌, ℕ, Bool, true, List, [], ◌∷◌, Option, Some, None, refl, subst, inl, inr}
+use Rattle.std.proofs.Common.{◌≡◌, ℕ, Bool, true, List, [], ◌∷◌, Option, Some, None, refl, ap, subst, sym, inl, inr}
 use Rattle.std.proofs.lemmas.Bool.{cases_Bool}
 use Rattle.std.proofs.lemmas.List.Elements.{recursion_from_All}
 use Rattle.std.specs.List.{AllByRecursion}
@@ -7,7 +7,10 @@ use Rattle.std.specs.Option.{option_map}
 use Rattle.std.specs.Prelude.{◌==◌, All, IsSomeAnd, find}
 use Rattle.core_model.proofs.Places.{one_some}
 use Rattle.core_sessions.specs.Sessions.{Session, is_open, opening_of, session_at}
+use Rattle.core_sessions.specs.declared.sessions.CallStart.{CallStart}
 use Rattle.core_sessions.specs.declared.sessions.OpenSession.{OpenSession}
+use Rattle.request_check.specs.declared.checked.CheckedCall.{CheckedCall}
+use Rattle.tao_core.specs.HeldCalls.{call_session, call_start}
 
 pub found_open : (sessions : List Session) (number : ℕ) → is_open sessions number ≡ true → (session : Session) × (session_at sessions number ≡ Some session)
 found_open [] number is = absurd (cc)
@@ -40,21 +43,35 @@ session_is P sessions number session all h = found_too P (λ o. o.session == num
 
 -- ---- what was looked up
 
-pub mapped_there : {X : Type 0} (f : X → ℕ) (o : Option X) (x : X) → o ≡ Some x → option_map f o ≡ None → ⊥
-mapped_there f None x is none = absurd (cc)
-mapped_there f (Some y) x is none = absurd (cc)
+pub mapped_there : {X : Type 0} (f : Session → X) (o : Option Session) (s : Session) → o ≡ Some s → option_map f o ≡ None → ⊥
+mapped_there f None s is none = absurd (cc)
+mapped_there f (Some other) s is none = absurd (cc)
+
+-- what a look-up answered is of the session that was found
+pub mapped_is : {X : Type 0} (f : Session → X) (o : Option Session) (x : X) → option_map f o ≡ Some x → IsSomeAnd o (λ s. x ≡ f s)
+mapped_is f None x is = absurd (cc)
+mapped_is f (Some s) x is = sym (one_some (f s) x is)
+
+abbrev pub with_no_floor : OpenSession → CallStart
+with_no_floor place = record { place = place; floor = 0 }
+
+pub placed_there : (o : Option Session) (place : OpenSession) → IsSomeAnd o (λ s. place ≡ opening_of s)
+    → IsSomeAnd o (λ s. with_no_floor place ≡ with_no_floor (opening_of s))
+placed_there None place h = absurd h
+placed_there (Some s) place h = ap with_no_floor h
 
 some_there : {X : Type 0} (P : X → Type 0) (o : Option X) → IsSomeAnd o P → (x : X) × (o ≡ Some x) × P x
 some_there P None h = absurd h
 some_there P (Some x) h = (x, refl, h)
 
--- the session of a place that was found
-pub record FoundAt (sessions : List Session) (number : ℕ) (place : OpenSession) : Type 0 where
+-- the session of a call that begins there
+pub record FoundStart (sessions : List Session) (asked : CheckedCall) (start : CallStart) : Type 0 where
   pub session : Session
-  pub at : session_at sessions number ≡ Some session
-  pub is : place ≡ opening_of session
+  pub at : session_at sessions (call_session asked) ≡ Some session
+  pub is : start ≡ call_start asked session
 
-pub found_at : (sessions : List Session) (number : ℕ) (place : OpenSession)
-    → IsSomeAnd (session_at sessions number) (λ s. place ≡ opening_of s) → FoundAt sessions number place
-found_at sessions number place found =
-    let one = some_there (λ s. place ≡ opening_of s) (session_at sessions number) found in record { session = one.0; at = one.1; is = one.2 }
+pub found_start : (sessions : List Session) (asked : CheckedCall) (start : CallStart)
+    → IsSomeAnd (session_at sessions (call_session asked)) (λ s. start ≡ call_start asked s) → FoundStart sessions asked start
+found_start sessions asked start found =
+    let one = some_there (λ s. start ≡ call_start asked s) (session_at sessions (call_session asked)) found in
+    record { session = one.0; at = one.1; is = one.2 }

@@ -10,7 +10,8 @@ use Rattle.core_plans.specs.declared.held.HeldPlan.{HeldPlan}
 use Rattle.core_plans.specs.declared.held.HeldPlan.TheVariants as held
 use Rattle.core_plans.proofs.AsksHeld.{same_opens_none}
 use Rattle.core_nodes.proofs.GrowingLemmas.{stays_stores}
-use Rattle.core_sessions.specs.Sessions.{Session, is_open, opening_of, session_at}
+use Rattle.core_sessions.specs.Sessions.{Session, is_open, session_at}
+use Rattle.core_sessions.specs.declared.sessions.CallStart.{CallStart}
 use Rattle.core_sessions.specs.declared.sessions.OpenSession.{OpenSession}
 use Rattle.follower_cache.specs.Seen.{FollowerState}
 use Rattle.node_name.specs.declared.NodeName.{NodeName}
@@ -29,12 +30,12 @@ use Rattle.topology.specs.Config.{Settings}
 use Rattle.words.specs.declared.PlanWord.TheVariants as word
 use Rattle.tao_core.specs.Asked.{CallCanBeDone}
 use Rattle.tao_core.specs.Core.{CoreState, IsConsistentCore, IsCoreOf, IsOfSession, IsSessionOf}
-use Rattle.tao_core.specs.HeldCalls.{HasRoomAlready, HasRoomForCall, IsBegun, IsNotBegun}
-use Rattle.tao_core.specs.HeldCalls.{begun_plan, call_floor, call_session, call_shard}
+use Rattle.tao_core.specs.HeldCalls.{BeginsAt, HasRoomAlready, HasRoomForCall, IsBegun, IsNotBegun}
+use Rattle.tao_core.specs.HeldCalls.{begun_plan, call_session, call_shard, call_start}
 use Rattle.session_pass.specs.Passes.{SeenPass}
 use Rattle.topology.specs.States.{NodeStates}
 use Rattle.tao_core.proofs.HeldKeeping.{plans_set, set_each, with_plans}
-use Rattle.tao_core.proofs.Found.{found_at, open_found, session_is}
+use Rattle.tao_core.proofs.Found.{FoundStart, found_start, open_found, session_is}
 use Rattle.tao_core.proofs.HeldSteps.{MayHold, StepsAsks, holds_none}
 use Rattle.tao_core.proofs.Ways.{follower_for}
 
@@ -76,6 +77,7 @@ begun_under_way tells keepers core session follower (call.Write write) of is cho
   begun = λ none. (refl, refl);
   committed = tt;
   spare = λ none before. tt;
+  relay = λ none ahead. tt;
   job = tt;
   merged = λ is. tt;
   other = tt;
@@ -150,50 +152,51 @@ module _ (tells : Bool) (keepers : KeeperState) (core : CoreState) (of : IsConsi
 
 -- ---- what begins a call
 
--- the session of a call, at a place, and the floor of its call
-record IsFound (sessions : List Session) (asked : CheckedCall) (place : OpenSession) : Type 0 where
-  session : Session
-  found : session_at sessions (call_session asked) ≡ Some session
-  place_is : place ≡ opening_of session
-
-module _ (states : NodeStates) (sessions : List Session) (asked : CheckedCall) (place : OpenSession) (called shard : ℕ)
-    (called_is : called ≡ call_session asked) (at_place : IsSomeAnd (session_at sessions called) (λ o. place ≡ opening_of o))
-    (shard_is : shard ≡ call_shard asked) where
-  found_for : IsFound sessions asked place
-  found_for =
-      let one = found_at sessions called place at_place in
-      record { session = one.session; found = subst (λ n. session_at sessions n ≡ Some one.session) called_is one.at; place_is = one.is }
+module _ (states : NodeStates) (sessions : List Session) (asked : CheckedCall) (start : CallStart) (shard : ℕ)
+    (starts : IsSomeAnd (session_at sessions (call_session asked)) (λ o. start ≡ call_start asked o)) (shard_is : shard ≡ call_shard asked) where
+  found_for : FoundStart sessions asked start
+  found_for = found_start sessions asked start starts
 
   -- who is chosen for its place
-  chosen_for : (follower : Option NodeName) → follower ≡ chosen_follower states place.region place.tier shard
+  chosen_for : (follower : Option NodeName) → follower ≡ chosen_follower states start.place.region start.place.tier shard
       → follower ≡ chosen_follower states found_for.session.region found_for.session.tier (call_shard asked)
   chosen_for follower chosen =
-      subst (λ (o : OpenSession). follower ≡ chosen_follower states o.region o.tier (call_shard asked)) found_for.place_is
-      (subst (λ n. follower ≡ chosen_follower states place.region place.tier n) shard_is chosen)
+      subst (λ (o : OpenSession). follower ≡ chosen_follower states o.region o.tier (call_shard asked))
+      (ap (λ (at : CallStart). at.place) found_for.is)
+      (subst (λ n. follower ≡ chosen_follower states start.place.region start.place.tier n) shard_is chosen)
 
-  -- its plan was begun
-  pub begun_for : (s : Settings) (floor : ℕ) (follower : NodeName) (plan : HeldPlan)
-      → IsSomeAnd (session_at sessions (call_session asked)) (λ o. floor ≡ call_floor o asked)
-      → Some follower ≡ chosen_follower states place.region place.tier shard
-      → ((session : Session) → place ≡ opening_of session → floor ≡ call_floor session asked → plan ≡ begun_plan s session follower asked)
-      → IsBegun s states sessions asked plan
-  begun_for s floor follower plan at_floor chosen begins = record {
+  -- its plan begins there
+  pub begins_at : (follower : NodeName) → Some follower ≡ chosen_follower states start.place.region start.place.tier shard
+      → BeginsAt states sessions asked start follower
+  begins_at follower chosen = record {
     session = found_for.session;
-    follower = follower;
-    found = found_for.found;
+    found = found_for.at;
+    start_is = found_for.is;
     chosen = sym (chosen_for (Some follower) chosen);
-    plan_is = begins found_for.session found_for.place_is
-        (subst (λ o. IsSomeAnd o (λ (one : Session). floor ≡ call_floor one asked)) found_for.found at_floor);
   }
 
   -- none could be chosen
-  pub none_for : None ≡ chosen_follower states place.region place.tier shard → IsNotBegun states sessions asked (Refused (Node (NoServer place.region)))
+  pub none_for : None ≡ chosen_follower states start.place.region start.place.tier shard
+      → IsNotBegun states sessions asked (Refused (Node (NoServer start.place.region)))
   none_for none = record {
     session = found_for.session;
-    found = found_for.found;
-    region_is = ap (λ (o : OpenSession). o.region) found_for.place_is;
+    found = found_for.at;
+    region_is = ap (λ (at : CallStart). at.place.region) found_for.is;
     none = sym (chosen_for None none);
   }
+
+-- the plan that is made of it is begun
+pub is_begun : (s : Settings) (states : NodeStates) (sessions : List Session) (asked : CheckedCall) (start : CallStart) (follower : NodeName)
+    (plan : HeldPlan) → BeginsAt states sessions asked start follower
+    → ((session : Session) → start ≡ call_start asked session → plan ≡ begun_plan s session follower asked)
+    → IsBegun s states sessions asked plan
+is_begun s states sessions asked start follower plan begins made = record {
+  session = begins.session;
+  follower = follower;
+  found = begins.found;
+  chosen = begins.chosen;
+  plan_is = made begins.session begins.start_is;
+}
 
 -- there is room for what its session learns
 pub room_begun : (s : Settings) (states : NodeStates) (sessions : List Session) (asked : CheckedCall) (plan : HeldPlan) (passes : List SeenPass)

@@ -1,10 +1,10 @@
 -- A core whose held plan did a stage, or took one more, may be used.
 use Rattle.std.proofs.Common.{◌≡◌, ℕ, Bool, true, false, List, Option, Some, None, refl, ap, sym, ◌∙◌, subst, inl, inr}
-use Rattle.std.specs.Prelude.{◌==◌, All, IfSome, IsSome, IsTrue, if◌then◌else◌, option_and_then}
+use Rattle.std.specs.Prelude.{◌==◌, All, Contains, IfSome, IsSome, IsTrue, if◌then◌else◌, option_and_then}
 use Rattle.std.proofs.lemmas.Bool.{cases_Bool, eq-eqb, eqb-true}
 use Rattle.core_mail.specs.Inboxes.{AreInboxesOf, HaveArrived, Inboxes}
 use Rattle.core_model.specs.Consistent.{GoesOn, IsConsistent}
-use Rattle.core_model.specs.Fleet.{Fleet, HasAsk}
+use Rattle.core_model.specs.Fleet.{Fleet, HasAsk, leader_names}
 use Rattle.core_model.specs.Stores.{HaveMasterRegions}
 use Rattle.core_model.specs.Growing.{StoresGrow}
 use Rattle.core_model.specs.Pens.{pens_of}
@@ -26,6 +26,7 @@ use Rattle.core_plans.specs.Held.{
   learnt_with,
 }
 use Rattle.core_plans.specs.declared.held.HeldPlan.{HeldPlan}
+use Rattle.core_plans.specs.declared.leaders.Leaders.{Leaders}
 use Rattle.core_plans.specs.declared.held.HeldPlan.TheVariants.{Read, Write}
 use Rattle.core_sessions.specs.Sessions.{Session}
 use Rattle.core_plans.proofs.WritesGoOn.{plan_later}
@@ -46,14 +47,14 @@ use Rattle.tao_base.specs.declared.id.Key.{Key}
 use Rattle.tao_keeper.specs.KeeperState.{KeeperState}
 use Rattle.tao_keeper.specs.Table.{Tables}
 use Rattle.tao_link.specs.Shown.{LinkShown}
-use Rattle.topology.specs.Choices.{master_region}
+use Rattle.topology.specs.Choices.{master_region, preferred_leader}
 use Rattle.topology.specs.Config.{Settings}
 use Rattle.topology.specs.States.{is_cache}
 use Rattle.words.specs.declared.PlanWord.{PlanWord}
 use Rattle.tao_core.specs.Calls.{world_at, world_of}
 use Rattle.tao_core.specs.Core.{CoreState, IsConsistentCore, IsCoreOf, IsOfSession, IsSessionOf, Moment, moment}
-use Rattle.tao_core.specs.HeldCalls.{Advances, AdvancesPlan, DoesStage, EndsPlan, IsOfRegion, Leaves, LearnsOf, StepsAt, held_seen, held_in, next_at}
-use Rattle.tao_core.specs.HeldCalls.{numbered_plan, plan_leader}
+use Rattle.tao_core.specs.HeldCalls.{Advances, AdvancesPlan, AreLeaders, DoesStage, EndsPlan, IsOfRegion, Leaves, LearnsOf, StepsAt, held_seen, held_in, next_at}
+use Rattle.tao_core.specs.HeldCalls.{numbered_plan, passed_from, plan_leaders}
 use Rattle.tao_core.proofs.HeldLearning.{author_advances, learns_ours, of_session_still}
 use Rattle.tao_core.proofs.HeldSteps.{MayHold, StepsAsks, advance_asks, held_after, kept}
 use Rattle.tao_core.proofs.Reaching.{advance_reaches}
@@ -155,32 +156,46 @@ module _ (tells : Bool) (s : Settings) (before later : Tables) (f g : Fleet) (nu
 -- ---- a plan can do its stage
 
 module _ (tells : Bool) (tables : Tables) (core : CoreState) (of : IsConsistentCore tells tables core) where
-  leads_plan : (plan : HeldPlan) → IsUnderWay tells core.settings tables core.fleet plan
-      → (IsOfRegion core.states plan → IsTrue (is_cache core.states.regions (plan_leader core plan))) → IsLeaderOf core.settings (plan_leader core plan) plan
-  leads_plan (Read p) is known =
-      leads_at tells tables core of p.region (query_shard p.query) is.follower.here
-      (known (region_within tells tables core of p.region is.region))
-  leads_plan (Write p) is known =
-      merges_in core.settings core.states (master_region core.states (write_shard p.write)) (write_shard p.write) (plan_leader core (Write p))
-      of.states refl refl (known tt)
+  of_region : (plan : HeldPlan) → IsUnderWay tells core.settings tables core.fleet plan → IsOfRegion core.states plan
+  of_region (Read p) is = region_within tells tables core of p.region is.region
+  of_region (Write p) is = region_within tells tables core of p.region is.region
 
-  -- whoever is preferred for it leads it
-  pub leads_it : (plan : HeldPlan) (leader : NodeName) → IsUnderWay tells core.settings tables core.fleet plan → leader ≡ plan_leader core plan
-      → (IsOfRegion core.states plan → IsTrue (is_cache core.states.regions leader)) → IsLeaderOf core.settings leader plan
-  leads_it plan leader under is known =
-      subst (λ (n : NodeName). IsLeaderOf core.settings n plan) (sym is)
-      (leads_plan plan under (λ within. subst (λ (n : NodeName). IsTrue (is_cache core.states.regions n)) is (known within)))
+  -- the leader of its own region that a write passes, where that isn't the master's
+  passed_leads : (home : Bool) (name : NodeName) → (IsTrue (is_cache core.states.regions name) → Contains (leader_names core.settings) name)
+      → IfSome (passed_from home name) (λ one. IsTrue (is_cache core.states.regions one))
+      → IfSome (passed_from home name) (Contains (leader_names core.settings))
+  passed_leads true name leads known = tt
+  passed_leads false name leads known = leads known
+
+  leads_plan : (plan : HeldPlan) → IsUnderWay tells core.settings tables core.fleet plan → AreLeaders core.states (plan_leaders core plan)
+      → IsLeaderOf core.settings (plan_leaders core plan) plan
+  leads_plan (Read p) is known = leads_at tells tables core of p.region (query_shard p.query) is.follower.here known.leader
+  leads_plan (Write p) is known =
+      let shard = write_shard p.write in
+      let home = master_region core.states shard in
+      let own = preferred_leader core.states p.region shard in
+      record {
+        leader = merges_in core.settings core.states home shard (preferred_leader core.states home shard) of.states refl refl known.leader;
+        passed = passed_leads (p.region == home) own (λ there. (leads_at tells tables core of p.region shard is.follower.here there).configured) known.passed;
+      }
+
+  -- those that are preferred for it lead it
+  pub leads_it : (plan : HeldPlan) (leaders : Leaders) → IsUnderWay tells core.settings tables core.fleet plan → leaders ≡ plan_leaders core plan
+      → (IsOfRegion core.states plan → AreLeaders core.states leaders) → IsLeaderOf core.settings leaders plan
+  leads_it plan leaders under is known =
+      subst (λ (n : Leaders). IsLeaderOf core.settings n plan) (sym is)
+      (leads_plan plan under (subst (AreLeaders core.states) is (known (of_region plan under))))
 
 module _ (tells : Bool) (tables : Tables) (core : CoreState) (of : IsCoreOf tells tables core) where
-  pub can_step : (number : ℕ) (plan : HeldPlan) (leader : NodeName) → plan_at core.plans number ≡ Some plan → leader ≡ plan_leader core plan
-      → (IsOfRegion core.states plan → IsTrue (is_cache core.states.regions leader))
-      → CanStep tells core.settings tables core.fleet leader (plan_at core.plans number)
-  can_step number plan leader at is known =
+  pub can_step : (number : ℕ) (plan : HeldPlan) (leaders : Leaders) → plan_at core.plans number ≡ Some plan → leaders ≡ plan_leaders core plan
+      → (IsOfRegion core.states plan → AreLeaders core.states leaders)
+      → CanStep tells core.settings tables core.fleet leaders (plan_at core.plans number)
+  can_step number plan leaders at is known =
       let under = of.plans.under_way number plan at in
-      subst (CanStep tells core.settings tables core.fleet leader) (sym at) (record {
+      subst (CanStep tells core.settings tables core.fleet leaders) (sym at) (record {
         under_way = under;
         goes_on = of.plans.goes_on number plan at;
-        leader_is = leads_it tells tables core of.is_consistent plan leader under is known;
+        leader_is = leads_it tells tables core of.is_consistent plan leaders under is known;
       })
 
 -- the nodes and their messages are as consistent with other plans
@@ -243,7 +258,7 @@ module _ (tells : Bool) (number : ℕ) (old mid : Moment) (does : DoesStage tell
   module _ (of : IsCoreOf tells old.keepers.told old.core) where
     asks_of : StepsAsks (Some does.steps.before) (held_after After) old.core.fleet.followers mid.core.fleet.followers
     asks_of =
-        advance_asks (led_by tells old.core.settings (plan_leader old.core does.plan)) does.steps.before After (world_of old) (world_of mid)
+        advance_asks (led_by tells old.core.settings (plan_leaders old.core does.plan)) does.steps.before After (world_of old) (world_of mid)
         (stand_alone old.core.settings old.core.fleet.followers of.is_consistent.consistent.fleet.follower_names)
         (of.plans.begun number does.steps.before does.steps.stands) does.steps.steps
 
@@ -272,7 +287,7 @@ module _ (tells : Bool) (number : ℕ) (old mid : Moment) (does : DoesStage tell
 
     author_after : IsOfSession old.core.sessions After
     author_after =
-        author_advances (led_by tells old.core.settings (plan_leader old.core does.plan)) does.steps.before After (world_of old) (world_of mid)
+        author_advances (led_by tells old.core.settings (plan_leaders old.core does.plan)) does.steps.before After (world_of old) (world_of mid)
         old.core.sessions does.steps.steps (of.authors number does.steps.before does.steps.stands)
 
     pub author_held : (sessions : List Session) → old.core.sessions ≡ sessions → (other : ℕ) (plan : HeldPlan) → plan_at mid.core.plans other ≡ Some plan
@@ -348,9 +363,9 @@ module _ (tells : Bool) (number : ℕ) (old mid : Moment) (does : DoesStage tell
   same_plan : does.plan ≡ does.steps.before
   same_plan = one_some does.plan does.steps.before (sym does.stands ∙ does.steps.stands)
 
-  steps_before : Advances (led_by tells old.core.settings (plan_leader old.core does.steps.before)) does.steps.before (world_of old) After (world_of mid)
+  steps_before : Advances (led_by tells old.core.settings (plan_leaders old.core does.steps.before)) does.steps.before (world_of old) After (world_of mid)
   steps_before =
-      subst (λ p. Advances (led_by tells old.core.settings (plan_leader old.core p)) does.steps.before (world_of old) After (world_of mid)) same_plan
+      subst (λ p. Advances (led_by tells old.core.settings (plan_leaders old.core p)) does.steps.before (world_of old) After (world_of mid)) same_plan
       does.steps.steps
 
   -- it is held before the stage that follows
@@ -390,14 +405,14 @@ module _ (tells : Bool) (number : ℕ) (old mid : Moment) (does : DoesStage tell
 -- ---- a stage is done
 
 pub does_stage : (tells : Bool) (number : ℕ) (core : CoreState) (end : Nodes) (plans : Plans) (before now : KeeperState)
-    (from to : LinkShown) (plan : HeldPlan) (leader : NodeName) → end.topology ≡ core.states → IsLaterLink from to
-    → plan_at core.plans number ≡ Some plan → leader ≡ plan_leader core plan
-    → AdvancesPlan (led_by tells core.settings leader) number core.plans (world_at core before from) plans
+    (from to : LinkShown) (plan : HeldPlan) (leaders : Leaders) → end.topology ≡ core.states → IsLaterLink from to
+    → plan_at core.plans number ≡ Some plan → leaders ≡ plan_leaders core plan
+    → AdvancesPlan (led_by tells core.settings leaders) number core.plans (world_at core before from) plans
     (world end now to)
     → HaveMasterRegions core.settings → IsConsistent tells core.settings now.told end.fleet
     → IfSome (plan_at plans number) (IsUnderWay tells core.settings now.told end.fleet)
     → DoesStage tells number (moment core before from) (moment (record core { fleet = end.fleet; mail = end.mail; states = end.topology; plans = plans }) now to)
-does_stage tells number core end plans before now from to plan leader same link stands leads steps masters consistent under =
+does_stage tells number core end plans before now from to plan leaders same link stands leads steps masters consistent under =
     let old = world_at core before from in
     let new = world end now to in
     record {
@@ -410,7 +425,7 @@ does_stage tells number core end plans before now from to plan leader same link 
         steps = subst (λ l. Advances (led_by tells core.settings l) steps.before old steps.after new) leads steps.steps;
         changes = steps.changes;
       };
-      reaches = advance_reaches (led_by tells core.settings leader) steps.before steps.after old new now.told end.fleet steps.steps masters consistent
+      reaches = advance_reaches (led_by tells core.settings leaders) steps.before steps.after old new now.told end.fleet steps.steps masters consistent
           (if_some_at (IsUnderWay tells core.settings now.told end.fleet) (plan_at plans number) steps.after under
           (set_here number (Some steps.after) core.plans plans steps.changes.sets));
       link = link;

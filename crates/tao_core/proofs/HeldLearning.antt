@@ -24,14 +24,12 @@ use Rattle.core_plans.specs.HeldWrites.{DoesWriteStage, IsAnswerTo, IsBefore, Is
 use Rattle.core_plans.specs.declared.held.HeldPlan.{HeldPlan}
 use Rattle.core_plans.specs.declared.held.HeldPlan.TheVariants.{Read, Write}
 use Rattle.core_plans.specs.declared.held.LearntEntries.{LearntEntries}
-use Rattle.core_plans.specs.LedBy.{led_by, LedBy}
+use Rattle.core_plans.specs.LedBy.{LedBy}
 use Rattle.core_sessions.specs.Sessions.{HasRoomForBoth, Session, is_open, sessions_of}
 use Rattle.core_steps.specs.OtherEnds.{StandsThere, learnt_far}
 use Rattle.core_steps.specs.World.{World}
 use Rattle.graph_model.proofs.Members.{if_some_at}
 use Rattle.graph_model.specs.Soundness.{is_client}
-use Rattle.node_name.specs.declared.NodeName.{NodeName}
-use Rattle.read_plan.specs.Readings.{Reading}
 use Rattle.replies.specs.declared.calls.CallReply.{CallReply}
 use Rattle.replies.specs.declared.reply.Reply.{Reply}
 use Rattle.replies.specs.declared.reply.Reply.TheVariants.{Called, Refused}
@@ -50,34 +48,35 @@ use Rattle.write_plan.specs.Stages.{stage_said}
 use Rattle.write_plan.specs.declared.committed.Committed.{Committed}
 use Rattle.write_plan.specs.declared.stage.WriteStage.{WriteStage}
 use Rattle.write_plan.specs.declared.stage.WriteStage.TheVariants.{Commit, Inverse, End, Relay, Apply, Done}
-use Rattle.tao_core.specs.Calls.{LearnsBoth, learn_through_note}
+use Rattle.tao_core.specs.Calls.{learn_through_note}
 use Rattle.tao_core.specs.Core.{IsOfSession, author}
-use Rattle.tao_core.specs.HeldCalls.{HasRoomFor, LearnsOf, MayLearn, MayLearnNow, MayLearnOf, learns_of, Advances}
+use Rattle.tao_core.specs.HeldCalls.{HasRoomFor, LearnsOf, MayLearn, MayLearnNow, MayLearnOf, Advances}
 use Rattle.tao_core.proofs.LearningBoth.{AreOurs, AreLearntOf, IsLearntOf, both_open, both_ours, may_both, now_ready}
 use Rattle.tao_core.proofs.WriteStages.{KeepsOn, end_keeps, inverse_keeps, stage_left, unrefused}
 
 -- ---- the session of a write
 
 -- a write stays that of its client
-pub origin_stays : (tells : Bool) (s : Settings) (by : NodeName) (at : WriteStage) (p q : Writing) (old new : World)
-    → DoesWriteStage (led_by tells s by) at p old q new
+pub origin_stays : (led : LedBy) (at : WriteStage) (p q : Writing) (old new : World)
+    → DoesWriteStage led at p old q new
     → q.origin ≡ p.origin
-origin_stays tells s by Commit p q old new (inl commits) = ap (λ (x : Writing). x.origin) commits.then
-origin_stays tells s by Commit p q old new (inr refuses) = ap (λ (x : Writing). x.origin) refuses.then
-origin_stays tells s by Apply p q old new (inl applies) = ap (λ (x : Writing). x.origin) applies.then
-origin_stays tells s by Apply p q old new (inr loses) = ap (λ (x : Writing). x.origin) loses.then
-origin_stays tells s by Inverse p q old new does = (inverse_keeps tells s by p q old new does).keeps.origin
-origin_stays tells s by End p q old new does = (end_keeps tells s p q old new does).keeps.origin
-origin_stays tells s by Relay p q old new does = absurd does
-origin_stays tells s by Done p q old new does = absurd does
+origin_stays led Commit p q old new (inl commits) = ap (λ (x : Writing). x.origin) commits.then
+origin_stays led Commit p q old new (inr refuses) = ap (λ (x : Writing). x.origin) refuses.then
+origin_stays led Apply p q old new (inl applies) = ap (λ (x : Writing). x.origin) applies.then
+origin_stays led Apply p q old new (inr loses) = ap (λ (x : Writing). x.origin) loses.then
+origin_stays led Inverse p q old new does = (inverse_keeps led p q old new does).keeps.origin
+origin_stays led End p q old new does = (end_keeps led.tells led.settings p q old new does).keeps.origin
+origin_stays led Relay p q old new (inl relays) = ap (λ (x : Writing). x.origin) relays.then
+origin_stays led Relay p q old new (inr loses) = ap (λ (x : Writing). x.origin) loses.then
+origin_stays led Done p q old new does = absurd does
 
-pub author_stays : (tells : Bool) (s : Settings) (by : NodeName) (before after : HeldPlan) (old new : World) (sessions : List Session)
-    → StepsHeld (led_by tells s by) before old after new → IsOfSession sessions before → IsOfSession sessions after
-author_stays tells s by (Read p) (Read q) old new sessions steps is = tt
-author_stays tells s by (Write p) (Write q) old new sessions steps is =
-    subst (λ o. is_open sessions (author o) ≡ true) (sym (origin_stays tells s by (next_of p) p q old new steps)) is
-author_stays tells s by (Read p) (Write q) old new sessions steps is = absurd steps
-author_stays tells s by (Write p) (Read q) old new sessions steps is = tt
+pub author_stays : (led : LedBy) (before after : HeldPlan) (old new : World) (sessions : List Session)
+    → StepsHeld led before old after new → IsOfSession sessions before → IsOfSession sessions after
+author_stays led (Read p) (Read q) old new sessions steps is = tt
+author_stays led (Write p) (Write q) old new sessions steps is =
+    subst (λ o. is_open sessions (author o) ≡ true) (sym (origin_stays led (next_of p) p q old new steps)) is
+author_stays led (Read p) (Write q) old new sessions steps is = absurd steps
+author_stays led (Write p) (Read q) old new sessions steps is = tt
 
 -- also of one that ends without its last stage
 given_author : (sessions : List Session) (before : HeldPlan) → IsOfSession sessions before → IsOfSession sessions (given_up before)
@@ -86,7 +85,7 @@ given_author sessions (Write p) is = is
 
 pub author_advances : (led : LedBy) (before after : HeldPlan) (old new : World) (sessions : List Session) → Advances led before old after new
     → IsOfSession sessions before → IsOfSession sessions after
-author_advances led before after old new sessions (inl steps) is = author_stays led.tells led.settings led.leader before after old new sessions steps is
+author_advances led before after old new sessions (inl steps) is = author_stays led before after old new sessions steps is
 author_advances led before after old new sessions (inr ends) is =
     subst (IsOfSession sessions) (sym ends.then) (given_author sessions before is)
 
@@ -129,7 +128,7 @@ refused_room q reply passes refused never = λ over called is.
 left_room : (q : Writing) (passes : List SeenPass) → IsSome (next_stage (Write q)) → HasRoomFor (Write q) passes
 left_room q passes some = λ over called is. (let e : false ≡ true = subst IsSome over some in absurd (cc))
 
-module _ (tells : Bool) (s : Settings) (by : NodeName) (p q : Writing) (old new : World) (passes : List SeenPass) where
+module _ (led : LedBy) (p q : Writing) (old new : World) (passes : List SeenPass) where
   applied_room : next_of p ≡ Apply → IsTrue (is_client p.origin) → IfSome (learner (Write p)) (λ n. HasRoomForBoth n passes) → q.origin ≡ p.origin
       → HasRoomFor (Write q) passes
   applied_room is client room same = λ over called told. subst (λ o. HasRoomForBoth (author o) passes) (sym same) (learner_room p passes is client room)
@@ -139,7 +138,7 @@ module _ (tells : Bool) (s : Settings) (by : NodeName) (p q : Writing) (old new 
       left_room q passes (stage_left q on.committed (on.keeps.refused ∙ unrefused p.refused p.committed p.job p.back some) on.answered
       (subst IsBefore (sym on.keeps.back) before))
 
-  room_then : (at : WriteStage) → next_of p ≡ at → OpensFirst (Write p) → IsTrue (is_client p.origin) → DoesWriteStage (led_by tells s by) at p old q new
+  room_then : (at : WriteStage) → next_of p ≡ at → OpensFirst (Write p) → IsTrue (is_client p.origin) → DoesWriteStage led at p old q new
       → IfSome (learner (Write p)) (λ n. HasRoomForBoth n passes) → HasRoomFor (Write q) passes
   room_then Commit is first client (inl commits) room =
       let some : IsSome (next_stage (Write p)) = subst (λ x. IsSome (stage_said x)) (sym is) refl in
@@ -148,20 +147,26 @@ module _ (tells : Bool) (s : Settings) (by : NodeName) (p q : Writing) (old new 
       (ap (λ (x : Writing). x.committed) commits.then) (subst IsBefore (sym (ap (λ (x : Writing). x.back) commits.then)) first))
   room_then Commit is first client (inr refuses) room =
       refused_room q (Refused refuses.refusal) passes (ap (λ (x : Writing). x.refused) refuses.then) (λ called same. absurd (cc))
-  room_then Apply is first client does room = applied_room is client room (origin_stays tells s by Apply p q old new does)
-  room_then Inverse is first client does room = kept_room (subst (λ x. IsSome (stage_said x)) (sym is) refl) first (inverse_keeps tells s by p q old new does)
-  room_then End is first client does room = kept_room (subst (λ x. IsSome (stage_said x)) (sym is) refl) first (end_keeps tells s p q old new does)
-  room_then Relay is first client does room = absurd does
+  room_then Apply is first client does room = applied_room is client room (origin_stays led Apply p q old new does)
+  room_then Inverse is first client does room = kept_room (subst (λ x. IsSome (stage_said x)) (sym is) refl) first (inverse_keeps led p q old new does)
+  room_then End is first client does room = kept_room (subst (λ x. IsSome (stage_said x)) (sym is) refl) first (end_keeps led.tells led.settings p q old new does)
+  room_then Relay is first client (inl relays) room =
+      let some : IsSome (next_stage (Write p)) = subst (λ x. IsSome (stage_said x)) (sym is) refl in
+      left_room q passes (stage_left q relays.committed
+      (ap (λ (x : Writing). x.refused) relays.then ∙ unrefused p.refused p.committed p.job p.back some)
+      (ap (λ (x : Writing). x.committed) relays.then ∙ relays.answered) (subst IsBefore (sym (ap (λ (x : Writing). x.back) relays.then)) tt))
+  room_then Relay is first client (inr loses) room =
+      refused_room q _ passes (ap (λ (x : Writing). x.refused) loses.then) (λ called same. absurd (cc))
   room_then Done is first client does room = absurd does
 
-pub room_after : (tells : Bool) (s : Settings) (tables : Tables) (f : Fleet) (by : NodeName) (before after : HeldPlan) (old new : World)
-    (passes : List SeenPass) → OpensFirst before → IsUnderWay tells s tables f before → StepsHeld (led_by tells s by) before old after new
+pub room_after : (led : LedBy) (tables : Tables) (f : Fleet) (before after : HeldPlan) (old new : World)
+    (passes : List SeenPass) → OpensFirst before → IsUnderWay led.tells led.settings tables f before → StepsHeld led before old after new
     → IfSome (learner before) (λ n. HasRoomForBoth n passes) → HasRoomFor after passes
-room_after tells s tables f by (Read p) (Read q) old new passes first under steps room = tt
-room_after tells s tables f by (Write p) (Write q) old new passes first under steps room =
-    room_then tells s by p q old new passes (next_of p) refl first under.client steps room
-room_after tells s tables f by (Read p) (Write q) old new passes first under steps room = absurd steps
-room_after tells s tables f by (Write p) (Read q) old new passes first under steps room = tt
+room_after led tables f (Read p) (Read q) old new passes first under steps room = tt
+room_after led tables f (Write p) (Write q) old new passes first under steps room =
+    room_then led p q old new passes (next_of p) refl first under.client steps room
+room_after led tables f (Read p) (Write q) old new passes first under steps room = absurd steps
+room_after led tables f (Write p) (Read q) old new passes first under steps room = tt
 
 -- a plan that was given up is told with nothing
 pub given_up_room : (before : HeldPlan) (passes : List SeenPass) → HasRoomFor (given_up before) passes
@@ -244,24 +249,7 @@ of_session_still ended told old new plan learns = of_session_by old new plan (le
 none_now : (number : ℕ) (passes : List SeenPass) → MayLearnNow number nothing_learnt passes
 none_now number passes = record { ready = (tt, tt); may = record { here = tt; other = tt } }
 
-read_untold : (p : Reading) (reply : Reply) → learnt_with reply (Read p) ≡ nothing_learnt
-read_untold p (Called reply) = refl
-read_untold p reply = refl
-
-write_now : (p : Writing) (reply : Reply) (passes : List SeenPass) → next_stage (Write p) ≡ None → reply_of p ≡ Some reply → MayLearnOf p passes
+pub learns_now : (p : Writing) (reply : Reply) (passes : List SeenPass) → next_stage (Write p) ≡ None → IsOver (Write p) reply → MayLearnOf p passes
     → MayLearnNow (author p.origin) (learnt_with reply (Write p)) passes
-write_now p (Called reply) passes over is may = now_ready (author p.origin) (learnt_of_write p) passes may.author_is (may.room over reply is) may.told
-write_now p reply passes over is may = none_now (author p.origin) passes
-
-pub learns_now : (plan : HeldPlan) (reply : Reply) (passes : List SeenPass) → next_stage plan ≡ None → IsOver plan reply → MayLearn plan passes
-    → MayLearnNow (learns_of plan) (learnt_with reply plan) passes
-learns_now (Read p) reply passes over is may =
-    subst (λ told. MayLearnNow 0 told passes) (sym (read_untold p reply)) (none_now 0 passes)
-learns_now (Write p) reply passes over is may = write_now p reply passes over is may
-
-pub learnt_of : (plan : HeldPlan) (reply : Reply) (old new : List Session) → LearnsBoth (learns_of plan) (learnt_with reply plan) old new
-    → LearnsOf plan (learnt_with reply plan) old new
-learnt_of (Read p) reply old new learns =
-    let none : LearnsBoth 0 nothing_learnt old new = subst (λ told. LearnsBoth 0 told old new) (read_untold p reply) learns in
-    none.other ∙ none.here
-learnt_of (Write p) reply old new learns = learns
+learns_now p (Called reply) passes over is may = now_ready (author p.origin) (learnt_of_write p) passes may.author_is (may.room over reply is) may.told
+learns_now p reply passes over is may = none_now (author p.origin) passes

@@ -79,6 +79,13 @@ core_goes_on tells before now old new of leaves own same stay = record {
   later = leaves.later;
 }
 
+-- so does one that changes nothing of it but its nodes and their messages
+pub nodes_go_on : (tells : Bool) (before now : KeeperState) (old new : CoreState) → IsCoreOf tells before.told old → LeavesCore tells before now old new
+    → new ≡ record old { fleet = new.fleet; mail = new.mail } → StaysUsable tells before now old new
+nodes_go_on tells before now old new of leaves rest =
+    core_goes_on tells before now old new of leaves (ap (λ (x : CoreState). x.settings) rest) (ap (λ (x : CoreState). x.plans) rest)
+    (same_open old.sessions new.sessions (ap (λ (x : CoreState). x.sessions) rest))
+
 -- nothing was done
 pub core_unchanged : (tells : Bool) (keepers : KeeperState) (core : CoreState) → IsCoreOf tells keepers.told core
     → StaysUsable tells keepers keepers core core
@@ -96,16 +103,14 @@ pub core_held : (tells : Bool) (before now : KeeperState) (old new : CoreState) 
     → IsConsistentCore tells now.told new → StaysHeld old.fleet new.fleet → KeepsTables tells before now → IsLater before now
     → new ≡ record old { fleet = new.fleet; mail = new.mail } → StaysUsable tells before now old new
 core_held tells before now old new of is on stays later rest =
-    core_goes_on tells before now old new of
+    nodes_go_on tells before now old new of
     (record {
       is_consistent = is;
       on = on;
       comes = none_come tells now.told old new (ap (λ (x : CoreState). x.states) rest);
       grows = stays_stores tells old.settings before now stays;
       later = later;
-    })
-    (ap (λ (x : CoreState). x.settings) rest) (ap (λ (x : CoreState). x.plans) rest)
-    (same_open old.sessions new.sessions (ap (λ (x : CoreState). x.sessions) rest))
+    }) rest
 
 -- no keeper was called
 pub core_kept : (tells : Bool) (keepers : KeeperState) (old new : CoreState) → IsCoreOf tells keepers.told old → IsConsistentCore tells keepers.told new

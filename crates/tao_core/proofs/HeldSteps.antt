@@ -13,7 +13,7 @@ use Rattle.core_plans.specs.HeldReads.{DoesLook, DoesReadStage, DoesKeep, wanted
 use Rattle.core_plans.specs.HeldWrites.{DoesWriteStage, IsBefore, way_given_up}
 use Rattle.core_plans.specs.declared.held.HeldPlan.{HeldPlan}
 use Rattle.core_plans.specs.declared.held.HeldPlan.TheVariants.{Read, Write}
-use Rattle.core_plans.specs.LedBy.{led_by, LedBy}
+use Rattle.core_plans.specs.LedBy.{LedBy}
 use Rattle.core_plans.proofs.AsksHeld.{
   EndsOpen,
   change_opens_none,
@@ -251,7 +251,7 @@ not_read_rests s follower query refusal old mid (inl lost) = ap (λ (x : World).
 not_read_rests s follower query refusal old mid (inr (inl none)) = ap (λ (x : World). x.fleet.followers) none.rest
 not_read_rests s follower query refusal old mid (inr (inr lost)) = ap (λ (f : Fleet). f.followers) lost.same
 
-module _ (tells : Bool) (s : Settings) (by : NodeName) (p q : Reading) (old new : World) (alone : StandAlone old.fleet.followers) where
+module _ (led : LedBy) (p q : Reading) (old new : World) (alone : StandAlone old.fleet.followers) where
   abbrev Asks : Reading → Type 0
   Asks r = StepsAsks (Some (Read p)) (held_after (Read r)) old.fleet.followers new.fleet.followers
 
@@ -264,15 +264,15 @@ module _ (tells : Bool) (s : Settings) (by : NodeName) (p q : Reading) (old new 
       → StepsAsks (Some (Read p)) None old.fleet.followers new.fleet.followers
   ended_after mid same ends = ended (subst (λ fs. ChangesNode p.follower (EndsAsk p.ask) fs new.fleet.followers) same ends)
 
-  over_given : (given : Given) → p.at ≡ Keeping given → DoesKeep s p given old q new → Asks q
+  over_given : (given : Given) → p.at ≡ Keeping given → DoesKeep led.settings p given old q new → Asks q
   over_given (Fill fill) at (inl from) =
       let r : Reading = taken (came.Keep (Ok (Some (from.answer, from.kept)))) 0 false p in
       let over : held_after (Read r) ≡ None =
       ap (λ a. kept (stage_named (stage_of (after_keep p.bound a (Some (from.answer, from.kept))))) (Read r)) at in
       subst Asks (sym from.then) (subst (λ held. StepsAsks (Some (Read p)) held old.fleet.followers new.fleet.followers) (sym over)
       (ask_ended p old.fleet.followers new.fleet.followers
-      (KeepsFill (types_of s.schema) p.query (taken_fill p.ask fill from.answer from.kept)) alone from.keeps
-      (keeps_open (types_of s.schema) p.query p.ask fill from.answer from.kept)))
+      (KeepsFill (types_of led.settings.schema) p.query (taken_fill p.ask fill from.answer from.kept)) alone from.keeps
+      (keeps_open (types_of led.settings.schema) p.query p.ask fill from.answer from.kept)))
   over_given (Fill fill) at (inr vain) = subst Asks (sym vain.then) (ended vain.ends)
   over_given (Past answer version total seen) at on =
       let r : Reading = taken (came.Keep (Ok None)) 0 false p in
@@ -280,9 +280,9 @@ module _ (tells : Bool) (s : Settings) (by : NodeName) (p q : Reading) (old new 
       subst Asks (sym on.then) (subst (λ held. StepsAsks (Some (Read p)) held old.fleet.followers new.fleet.followers) (sym over) (ended on.ends))
   over_given (HandedOut version) at on = absurd on
 
-  look_asks : (critical : Bool) → p.ask ≡ None → DoesLook s critical p old q new → Asks q
+  look_asks : (critical : Bool) → p.ask ≡ None → DoesLook led.settings critical p old q new → Asks q
   look_asks false none (inl looks) =
-      subst Asks (sym looks.then) (looks_asks (types_of s.schema) p looks.look looks.ask old.fleet.followers new.fleet.followers none looks.looks)
+      subst Asks (sym looks.then) (looks_asks (types_of led.settings.schema) p looks.look looks.ask old.fleet.followers new.fleet.followers none looks.looks)
   look_asks false none (inr vain) =
       subst Asks (sym vain.then)
       (holds_none (Some (Read p)) None old.fleet.followers new.fleet.followers
@@ -292,7 +292,7 @@ module _ (tells : Bool) (s : Settings) (by : NodeName) (p q : Reading) (old new 
       subst Asks (sym looks.then)
       (missed_asks (AsksAtOnce (query_key p.query) looks.ask) p looks.ask old.fleet.followers new.fleet.followers (λ from to asks. asks.node) none looks.asks)
 
-  read_asks : (at : Standing) → p.at ≡ at → HasNoneAt at p.ask → DoesReadStage (led_by tells s by) at p old q new → Asks q
+  read_asks : (at : Standing) → p.at ≡ at → HasNoneAt at p.ask → DoesReadStage led at p old q new → Asks q
   read_asks Looking at none does = look_asks p.critical none does
   read_asks Asking at none (inl asks) =
       let r : Reading = taken (came.Ask (Ok asks.given)) _ _ p in
@@ -300,14 +300,14 @@ module _ (tells : Bool) (s : Settings) (by : NodeName) (p q : Reading) (old new 
       subst Asks (sym asks.then) (subst (λ held. StepsAsks (Some (Read p)) held old.fleet.followers new.fleet.followers) (sym (asked_goes asks.given (Read r)))
       (ask_stays p old.fleet.followers new.fleet.followers r same refl refl (asked_first asks.given p.ask)))
   read_asks Asking at none (inr vain) =
-      subst Asks (sym vain.then) (ended_after vain.mid (not_given_rests s _ _ vain.refusal old vain.mid vain.fails) vain.ends)
+      subst Asks (sym vain.then) (ended_after vain.mid (not_given_rests led.settings _ _ vain.refusal old vain.mid vain.fails) vain.ends)
   read_asks Mastering at none (inl asks) =
       let r : Reading = taken (came.Master (Ok asks.out)) _ _ p in
       let same : new.fleet.followers ≡ old.fleet.followers = ap (λ (f : Fleet). f.followers) asks.over.same in
       subst Asks (sym asks.then) (subst (λ held. StepsAsks (Some (Read p)) held old.fleet.followers new.fleet.followers) (sym (mastered_goes asks.out (Read r)))
       (ask_stays p old.fleet.followers new.fleet.followers r same refl refl (mastered_first asks.out p.ask)))
   read_asks Mastering at none (inr vain) =
-      subst Asks (sym vain.then) (ended_after vain.mid (not_read_rests s p.follower p.query vain.refusal old vain.mid vain.fails) vain.ends)
+      subst Asks (sym vain.then) (ended_after vain.mid (not_read_rests led.settings p.follower p.query vain.refusal old vain.mid vain.fails) vain.ends)
   read_asks (Keeping given) at none does = over_given given at does
   read_asks (Ended end) at none does = absurd does
 
@@ -317,31 +317,33 @@ module _ (tells : Bool) (s : Settings) (by : NodeName) (p q : Reading) (old new 
 same_back : (p q : Writing) → q.back ≡ p.back → IsBefore p.back → MayHold (held_after (Write q))
 same_back p q same before = kept_may (next_stage (Write q)) (Write q) (subst IsBefore (sym same) before)
 
-write_may : (tells : Bool) (s : Settings) (by : NodeName) (at : WriteStage) (p q : Writing) (old new : World) → next_of p ≡ at → IsBefore p.back
-    → DoesWriteStage (led_by tells s by) at p old q new → MayHold (held_after (Write q))
-write_may tells s by Commit p q old new is before (inl commits) = same_back p q (ap (λ (x : Writing). x.back) commits.then) before
-write_may tells s by Commit p q old new is before (inr refuses) = same_back p q (ap (λ (x : Writing). x.back) refuses.then) before
-write_may tells s by Apply p q old new is before (inl applies) =
+write_may : (led : LedBy) (at : WriteStage) (p q : Writing) (old new : World) → next_of p ≡ at → IsBefore p.back
+    → DoesWriteStage led at p old q new → MayHold (held_after (Write q))
+write_may led Commit p q old new is before (inl commits) = same_back p q (ap (λ (x : Writing). x.back) commits.then) before
+write_may led Commit p q old new is before (inr refuses) = same_back p q (ap (λ (x : Writing). x.back) refuses.then) before
+write_may led Apply p q old new is before (inl applies) =
     subst (λ n. MayHold (kept n (Write q))) (sym (applied_over p q _ is applies.then)) tt
-write_may tells s by Apply p q old new is before (inr loses) = same_back p q (ap (λ (x : Writing). x.back) loses.then) before
-write_may tells s by Inverse p q old new is before does = same_back p q (inverse_keeps tells s by p q old new does).keeps.back before
-write_may tells s by End p q old new is before does = same_back p q (end_keeps tells s p q old new does).keeps.back before
-write_may tells s by Relay p q old new is before does = absurd does
-write_may tells s by Done p q old new is before does = absurd does
+write_may led Apply p q old new is before (inr loses) = same_back p q (ap (λ (x : Writing). x.back) loses.then) before
+write_may led Inverse p q old new is before does = same_back p q (inverse_keeps led p q old new does).keeps.back before
+write_may led End p q old new is before does = same_back p q (end_keeps led.tells led.settings p q old new does).keeps.back before
+write_may led Relay p q old new is before (inl relays) =
+    kept_may (next_stage (Write q)) (Write q) (subst IsBefore (sym (ap (λ (x : Writing). x.back) relays.then)) tt)
+write_may led Relay p q old new is before (inr loses) = same_back p q (ap (λ (x : Writing). x.back) loses.then) before
+write_may led Done p q old new is before does = absurd does
 
 -- ---- the stage of a plan
 
-pub steps_asks : (tells : Bool) (s : Settings) (by : NodeName) (before after : HeldPlan) (old new : World) → StandAlone old.fleet.followers
-    → OpensFirst before → StepsHeld (led_by tells s by) before old after new
+pub steps_asks : (led : LedBy) (before after : HeldPlan) (old new : World) → StandAlone old.fleet.followers
+    → OpensFirst before → StepsHeld led before old after new
     → StepsAsks (Some before) (held_after after) old.fleet.followers new.fleet.followers
-steps_asks tells s by (Read p) (Read q) old new alone first steps = read_asks tells s by p q old new alone p.at refl first steps.steps.does
-steps_asks tells s by (Write p) (Write q) old new alone first steps =
+steps_asks led (Read p) (Read q) old new alone first steps = read_asks led p q old new alone p.at refl first steps.steps.does
+steps_asks led (Write p) (Write q) old new alone first steps =
     holds_none (Some (Write p)) (held_after (Write q)) old.fleet.followers new.fleet.followers
-    (stage_opens_none tells s by p q old new (next_of p) steps) (λ name number h. h)
+    (stage_opens_none led p q old new (next_of p) steps) (λ name number h. h)
     (λ name number h. kept_holds (next_stage (Write q)) (Write q) name number h)
-    (write_may tells s by (next_of p) p q old new refl first steps)
-steps_asks tells s by (Read p) (Write q) old new alone first steps = absurd steps
-steps_asks tells s by (Write p) (Read q) old new alone first steps = absurd steps
+    (write_may led (next_of p) p q old new refl first steps)
+steps_asks led (Read p) (Write q) old new alone first steps = absurd steps
+steps_asks led (Write p) (Read q) old new alone first steps = absurd steps
 
 -- a write that ends without its last stage opens none
 given_asks : (before : HeldPlan) (old new : World) → OpensFirst before → IsSome (learner before) → new ≡ old
@@ -355,7 +357,7 @@ given_asks (Write p) old new first last same =
 
 pub advance_asks : (led : LedBy) (before after : HeldPlan) (old new : World) → StandAlone old.fleet.followers → OpensFirst before
     → Advances led before old after new → StepsAsks (Some before) (held_after after) old.fleet.followers new.fleet.followers
-advance_asks led before after old new alone first (inl steps) = steps_asks led.tells led.settings led.leader before after old new alone first steps
+advance_asks led before after old new alone first (inl steps) = steps_asks led before after old new alone first steps
 advance_asks led before after old new alone first (inr ends) =
     subst (λ plan. StepsAsks (Some before) (held_after plan) old.fleet.followers new.fleet.followers) (sym ends.then)
     (given_asks before old new first ends.last ends.same)

@@ -15,7 +15,6 @@ use Rattle.core_sessions.specs.Sessions.{Session, new_session, with_session}
 use Rattle.core_sessions.specs.declared.sessions.OpenSession.{OpenSession}
 use Rattle.core_steps.proofs.NotifyLemmas.{arrived_grows}
 use Rattle.core_steps.specs.Posting.{CanPost}
-use Rattle.core_steps.specs.World.{world}
 use Rattle.graph_model.specs.Told.{WhereTold}
 use Rattle.node_name.specs.declared.NodeName.{NodeName}
 use Rattle.node_name.specs.declared.NodeName.TheVariants.{Store as StoreName_, Leader, Follower}

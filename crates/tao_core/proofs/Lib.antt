@@ -17,6 +17,7 @@ pub mod NamesOnce
 pub mod Settled
 pub mod SettledLaws
 pub mod StayOpen
+pub mod Streamed
 pub mod Told
 pub mod Learning
 pub mod LearningBoth

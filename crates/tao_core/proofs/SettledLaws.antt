@@ -23,7 +23,7 @@ use Rattle.replies.specs.declared.reply.Reply.TheVariants.{Called}
 use Rattle.request_check.specs.declared.checked.CheckedRead.{CheckedRead}
 use Rattle.tao_base.specs.Queries.{query_shard}
 use Rattle.tao_core.specs.Calls.{world_of}
-use Rattle.tao_core.specs.HeldCalls.{AnswersCall, DoesAtOnce, call_floor, plan_leader, Advances}
+use Rattle.tao_core.specs.HeldCalls.{AnswersCall, DoesAtOnce, call_floor, plan_leaders, Advances}
 use Rattle.tao_core.proofs.SettledReads.{read_last}
 use Rattle.tao_core.specs.Core.{ComeUp, IsConsistentCore, IsCoreOf, Moment}
 use Rattle.tao_core.specs.Laws.{AreAllUp, IsSettled, MissesNoMore, SettledUntilACommit, last_version}
@@ -45,7 +45,7 @@ reads_last old new call reply are settled up (inl goes) =
     let follower = (choices_serve core.settings core.states).follower_up session.region session.tier shard goes.begun.follower goes.begun.chosen in
     let placed =
     session_placed true core.settings old.keepers.told (pens_of core.fleet.stores) core.sessions call.session session are.sessions goes.begun.found in
-    read_last core.settings (plan_leader core (of.Read p)) p (world_of old) are.masters follower (up.leaders session.region shard placed)
+    read_last core.settings (plan_leaders core (of.Read p)) p (world_of old) are.masters follower (up.leaders session.region shard placed)
     does.carries.stages does.after (world_of new) reply refl are.consistent settled does.carries.passes does.over
 
 -- ---- stages
@@ -53,12 +53,12 @@ reads_last old new call reply are settled up (inl goes) =
 -- a stage of a held read changes no table
 stage_whole : (before after : HeldPlan) (old new : Moment) → IsCoreOf true old.keepers.told old.core → IsSettled old → AreAllUp old
     → IsUnderWay true old.core.settings old.keepers.told old.core.fleet before
-    → StepsHeld (led_by true old.core.settings (plan_leader old.core before)) before (world_of old) after (world_of new)
+    → StepsHeld (led_by true old.core.settings (plan_leaders old.core before)) before (world_of old) after (world_of new)
     → MissesNoMore before old after new
 stage_whole (of.Read p) (of.Read q) old new are settled up under steps =
     let core = old.core in
     let grows = stays_stores true core.settings old.keepers new.keepers steps.tables in
-    (stages_miss_nothing core.settings (plan_leader core (of.Read p)) p q (world_of old) (world_of new)).whole core.states steps.steps
+    (stages_miss_nothing core.settings (plan_leaders core (of.Read p)) p q (world_of old) (world_of new)).whole core.states steps.steps
     are.is_consistent.consistent settled (up.followers p.follower under.follower.configured)
     (up.leaders p.region (query_shard p.query) under.region) grows.logs
 stage_whole (of.Read p) (of.Write q) old new are settled up under steps = tt
@@ -72,7 +72,7 @@ given_whole (of.Write p) old new last = tt
 
 advance_whole : (before after : HeldPlan) (old new : Moment) → IsCoreOf true old.keepers.told old.core → IsSettled old → AreAllUp old
     → IsUnderWay true old.core.settings old.keepers.told old.core.fleet before
-    → Advances (led_by true old.core.settings (plan_leader old.core before)) before (world_of old) after (world_of new)
+    → Advances (led_by true old.core.settings (plan_leaders old.core before)) before (world_of old) after (world_of new)
     → MissesNoMore before old after new
 advance_whole before after old new are settled up under (inl steps) = stage_whole before after old new are settled up under steps
 advance_whole before after old new are settled up under (inr ends) =
@@ -99,7 +99,7 @@ stays_settled old new was are same goes comes grows logs settled =
 
 pub settled_until_a_commit : SettledUntilACommit
 settled_until_a_commit = record {
-  settles = λ logs old new settles whole. record { whole = whole; ends = (settles.settled refl).ends };
+  settles = λ logs old new settles. record { whole = (settles.settled refl).whole; ends = (settles.settled refl).ends };
   whole = whole_alone;
   begins = λ m ends whole. record {
     whole = whole;

@@ -10,6 +10,7 @@ use Rattle.core_plans.proofs.ReadRefusals.{NeverCalled, stage_never}
 use Rattle.core_plans.proofs.WholeStages.{stages_miss_nothing}
 use Rattle.core_plans.specs.Held.{IsOver}
 use Rattle.core_plans.specs.HeldReads.{HasComeTo, version_now}
+use Rattle.core_plans.specs.declared.leaders.Leaders.{Leaders}
 use Rattle.core_plans.specs.LedBy.{LedBy, led_by}
 use Rattle.core_plans.specs.WholeCalls.{PassesStage, PassesStages}
 use Rattle.core_plans.specs.declared.held.HeldPlan.{HeldPlan}
@@ -17,7 +18,6 @@ use Rattle.core_plans.specs.declared.held.HeldPlan.TheVariants as of
 use Rattle.core_steps.specs.World.{World}
 use Rattle.graph_model.proofs.Exact.{version_take}
 use Rattle.graph_model.specs.Log.{version}
-use Rattle.node_name.specs.declared.NodeName.{NodeName}
 use Rattle.read_plan.specs.Ends.{EndsAt}
 use Rattle.read_plan.specs.Readings.{Reading}
 use Rattle.read_plan.specs.declared.end.ReadEnd.TheVariants as ended
@@ -65,10 +65,10 @@ record ComesSoFar (s : Settings) (p : Reading) (old : World) (plan : HeldPlan) (
   settled : AreSettled s now.keepers.told (nodes_now now.fleet old.states)
   come : HasComeTo (version_now s p old.keepers) (version_now s q now.keepers) q.at
 
-module _ (s : Settings) (leader : NodeName) (p : Reading) (old : World) (masters : HaveMasterRegions s)
-    (follower_up : is_up old.states p.follower ≡ true) (leader_up : is_up old.states leader ≡ true) where
+module _ (s : Settings) (leaders : Leaders) (p : Reading) (old : World) (masters : HaveMasterRegions s)
+    (follower_up : is_up old.states p.follower ≡ true) (leader_up : is_up old.states leaders.leader ≡ true) where
   abbrev Led : LedBy
-  Led = led_by true s leader
+  Led = led_by true s leaders
 
   comes_by : (q : Reading) (plan : HeldPlan) (x y : World) → IsSameRead p q → Stays old.keepers.told x.keepers.told
       → IsConsistent true s x.keepers.told x.fleet → AreSettled s x.keepers.told (nodes_now x.fleet old.states)
@@ -98,7 +98,7 @@ module _ (s : Settings) (leader : NodeName) (p : Reading) (old : World) (masters
               followers = λ place name node at comes. absurd (comes_not name old.states old.states refl comes);
             })
             grows (λ shard here. ap (λ t. t.log) (stays (master_store s shard))) settled;
-        come = (stages_miss_nothing s leader q r x y).whole old.states steps.steps are settled
+        come = (stages_miss_nothing s leaders q r x y).whole old.states steps.steps are settled
             (subst (λ name. is_up old.states name ≡ true) (sym same.follower) follower_up) leader_up grows.logs (version_now s p old.keepers) come;
       }
   comes_by q (of.Write w) x y same tables are settled come stage = absurd stage.steps

@@ -5,7 +5,7 @@ use Rattle.core_model.specs.Jobs.{ShardJob}
 use Rattle.core_plans.specs.Held.{next_stage}
 use Rattle.core_plans.specs.HeldWrites.{EndsHeld, IsBefore, MergesHeld, job_by}
 use Rattle.core_plans.specs.declared.held.HeldPlan.TheVariants.{Write}
-use Rattle.core_plans.specs.LedBy.{led_by}
+use Rattle.core_plans.specs.LedBy.{LedBy}
 use Rattle.core_steps.specs.OtherEnds.{EndsOver, JobWay, MergesOver, job_way}
 use Rattle.core_steps.specs.World.{World}
 use Rattle.hop_count.specs.Hops.{hops_after}
@@ -68,9 +68,9 @@ pub record KeepsOn (p q : Writing) : Type 0 where
   pub committed : Committed
   pub answered : q.committed ≡ Some committed
 
-pub inverse_keeps : (tells : Bool) (s : Settings) (by : NodeName) (p q : Writing) (old new : World) → MergesHeld (led_by tells s by) p old q new → KeepsOn p q
-inverse_keeps tells s by p q old new merges =
-    let keeps = merged_keeps tells s old new p q _ (job_way by (job_by p merges.job)) merges.result merges.merges merges.then in
+pub inverse_keeps : (led : LedBy) (p q : Writing) (old new : World) → MergesHeld led p old q new → KeepsOn p q
+inverse_keeps led p q old new merges =
+    let keeps = merged_keeps led.tells led.settings old new p q _ (job_way led.leader (job_by p merges.job)) merges.result merges.merges merges.then in
     let one = answered p.committed merges.job merges.answered in
     record { keeps = keeps; committed = one.0; answered = keeps.committed ∙ one.1 }
 

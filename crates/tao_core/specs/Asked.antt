@@ -25,7 +25,7 @@ use Rattle.request_check.specs.Health.{checked_health_word}
 use Rattle.request_check.specs.Placed.{IsPlacedKey, IsPlacedWrite}
 use Rattle.request_check.specs.Refusal.{for_name}
 use Rattle.request_check.specs.Requests.{checked_of}
-use Rattle.request_check.specs.Stores.{IsPlacedStore, checked_store_word}
+use Rattle.request_check.specs.Stores.{IsPlacedStore}
 use Rattle.request_check.specs.declared.checked.Checked.{Checked}
 use Rattle.request_check.specs.declared.checked.Checked.TheVariants as checked
 use Rattle.request_check.specs.declared.checked.CheckedCall.{CheckedCall}
@@ -34,15 +34,13 @@ use Rattle.request_check.specs.declared.plans.CheckedPlan.{CheckedPlan}
 use Rattle.request_check.specs.declared.plans.CheckedPlan.TheVariants as checked_plan
 use Rattle.request_check.specs.declared.refusal.CheckRefusal.{CheckRefusal}
 use Rattle.request_check.specs.declared.refusal.CheckRefusal.TheVariants as check
-use Rattle.request_check.specs.declared.stores.CheckedStore.{CheckedStore}
 use Rattle.words.specs.declared.Word.{Word}
 use Rattle.words.specs.declared.Word.TheVariants as word
 
 -- ---- what is built
 
--- whether the word is served: all are but `stream` and those that change the health of a node
+-- whether the word is served: all are but those that change the health of a node
 abbrev pub is_built : Word → Bool
-is_built word.Stream = false
 is_built (word.Health which) = false
 is_built other = true
 
@@ -125,18 +123,13 @@ abbrev pub PlanCanBeDone : Settings → List Session → Plans → CheckedPlan �
 PlanCanBeDone s sessions plans (checked_plan.Hold number asked) = (plan_at plans number ≡ None) × CallCanBeDone s sessions asked
 PlanCanBeDone s sessions plans (checked_plan.Advance number) = IsSome (plan_at plans number)
 
--- what is asked of stores is served, and is of regions and shards of the configuration
-pub record StoreCanBeDone (s : Settings) (asked : CheckedStore) : Type 0 where
-  pub built : is_built (checked_store_word asked) ≡ true
-  pub placed : IsPlacedStore s asked
-
 -- what is asked is served, each shard, key and node is configured, and a session that is to be opened isn't open, and is of a region
 abbrev pub CanBeDone : Settings → List Session → Plans → Checked → Type 0
 CanBeDone s sessions plans (checked.Open session region tier) = (is_open sessions session ≡ false) × (region < length s.regions)
 CanBeDone s sessions plans (checked.Call asked) = CallCanBeDone s sessions asked
 CanBeDone s sessions plans (checked.Plan asked) = PlanCanBeDone s sessions plans asked
 CanBeDone s sessions plans (checked.Cache asked) = IsPlacedCache s asked
-CanBeDone s sessions plans (checked.Store asked) = StoreCanBeDone s asked
+CanBeDone s sessions plans (checked.Store asked) = IsPlacedStore s asked
 CanBeDone s sessions plans (checked.Health asked) = is_built (word.Health (checked_health_word asked)) ≡ true
 CanBeDone s sessions plans (checked.Link asked) = ⊤
 

@@ -1,5 +1,6 @@
 -- What the replies to calls say, held or not, and to `advance`.
-use Rattle.std.specs.Prelude.{ℕ, ◌≡◌, ◌<◌, ◌⊎◌, ⊤, Bool, true, length, IfSome, IsSome, List, Option, Some, None, option_and_then}
+use Rattle.std.specs.Prelude.{ℕ, ◌≡◌, ◌<◌, ◌==◌, ◌⊎◌, ⊤, Bool, false, true, length, IfSome, IsSome, IsTrue, List, Option, Some, None}
+use Rattle.std.specs.Prelude.{option_and_then}
 use Rattle.session_pass.specs.Passes.{IsNoteOf, SeenPass}
 use Rattle.graph_model.specs.Log.{entry_at}
 use Rattle.graph_model.specs.Told.{WhereTold}
@@ -10,9 +11,11 @@ use Rattle.core_plans.specs.HeldReads.{at_bound}
 use Rattle.core_plans.specs.declared.held.HeldPlan.{HeldPlan}
 use Rattle.core_plans.specs.declared.held.HeldPlan.TheVariants as of
 use Rattle.core_plans.specs.declared.held.LearntEntries.{LearntEntries}
+use Rattle.core_plans.specs.declared.leaders.Leaders.{Leaders}
 use Rattle.core_plans.specs.LedBy.{LedBy, led_by}
 use Rattle.core_plans.specs.WholeCalls.{CarriesOut}
-use Rattle.core_sessions.specs.Sessions.{HasRoom, HasRoomForBoth, Session, is_open, session_at, sessions_of}
+use Rattle.core_sessions.specs.Sessions.{HasRoom, HasRoomForBoth, Session, is_open, opening_of, session_at, sessions_of}
+use Rattle.core_sessions.specs.declared.sessions.CallStart.{CallStart}
 use Rattle.core_steps.specs.World.{World}
 use Rattle.core_steps.specs.declared.jobs.LearntEntry.{LearntEntry}
 use Rattle.node_name.specs.declared.NodeName.{NodeName}
@@ -38,7 +41,7 @@ use Rattle.tao_base.specs.Writes.{write_shard}
 use Rattle.tao_base.specs.declared.entry.Origin.TheVariants.{Client}
 use Rattle.topology.specs.Config.{Settings}
 use Rattle.topology.specs.Choices.{chosen_follower, master_region, preferred_leader}
-use Rattle.topology.specs.States.{NodeStates}
+use Rattle.topology.specs.States.{NodeStates, is_cache}
 use Rattle.words.specs.declared.PlanWord.{PlanWord}
 use Rattle.words.specs.declared.PlanWord.TheVariants as word
 use Rattle.write_plan.specs.Plans.{Writing, begun_write, reply_of}
@@ -47,15 +50,38 @@ use Rattle.tao_core.specs.Core.{CoreState, Moment, author}
 
 -- ---- one stage
 
--- the leader of a plan's stages: for a read the one that its region prefers, for a write the one that the master's does
-abbrev pub plan_leader : CoreState → HeldPlan → NodeName
-plan_leader core (of.Read p) = preferred_leader core.states p.region (query_shard p.query)
-plan_leader core (of.Write p) = preferred_leader core.states (master_region core.states (write_shard p.write)) (write_shard p.write)
+-- the leader that answers a region's reads of a shard: the one that it prefers
+abbrev pub read_leaders : NodeStates → ℕ → ℕ → Leaders
+read_leaders states region shard = record { leader = preferred_leader states region shard; passed = None }
 
--- a read is of a region of the configuration
+-- the leader of its own region that a write passes: none where it is at home, in the master's region
+abbrev pub passed_from : Bool → NodeName → Option NodeName
+passed_from true own = None
+passed_from false own = Some own
+
+-- the leader that a region's writes of a shard pass, which is the one that the region prefers
+abbrev pub passed_leader : NodeStates → ℕ → ℕ → Option NodeName
+passed_leader states region shard = passed_from (region == master_region states shard) (preferred_leader states region shard)
+
+-- the leaders of a region's writes of a shard: the one that the master's region prefers, and the one that they pass
+abbrev pub write_leaders : NodeStates → ℕ → ℕ → Leaders
+write_leaders states region shard =
+    record { leader = preferred_leader states (master_region states shard) shard; passed = passed_leader states region shard }
+
+-- the leaders of a plan's stages
+abbrev pub plan_leaders : CoreState → HeldPlan → Leaders
+plan_leaders core (of.Read p) = read_leaders core.states p.region (query_shard p.query)
+plan_leaders core (of.Write p) = write_leaders core.states p.region (write_shard p.write)
+
+-- a plan is of a region of the configuration
 abbrev pub IsOfRegion : NodeStates → HeldPlan → Type 0
 IsOfRegion states (of.Read p) = p.region < length states.regions
-IsOfRegion states (of.Write p) = ⊤
+IsOfRegion states (of.Write p) = p.region < length states.regions
+
+-- they are caches of the configuration
+pub record AreLeaders (states : NodeStates) (leaders : Leaders) : Type 0 where
+  pub leader : IsTrue (is_cache states.regions leaders.leader)
+  pub passed : IfSome leaders.passed (λ one. IsTrue (is_cache states.regions one))
 
 -- the plans that are held, and the sessions
 pub record Held : Type 0 where
@@ -127,11 +153,6 @@ abbrev pub MayLearn : HeldPlan → List SeenPass → Type 0
 MayLearn (of.Read p) passes = ⊤
 MayLearn (of.Write p) passes = MayLearnOf p passes
 
--- whose session learns what is told with the reply of a plan
-abbrev pub learns_of : HeldPlan → ℕ
-learns_of (of.Write p) = author p.origin
-learns_of (of.Read p) = 0
-
 -- a plan that is over is told and taken out, and its session learns what it wrote
 pub record EndsPlan (number : ℕ) (plan : HeldPlan) (old : Held) (reply : Reply) (new : Held) : Type 0 where
   pub ended : Reply
@@ -192,7 +213,7 @@ pub record AdvancesPlan (led : LedBy) (number : ℕ) (plans : Plans) (old : Worl
 pub record DoesStage (tells : Bool) (number : ℕ) (old new : Moment) : Type 0 where
   pub plan : HeldPlan
   pub stands : plan_at old.core.plans number ≡ Some plan
-  pub steps : AdvancesPlan (led_by tells old.core.settings (plan_leader old.core plan)) number old.core.plans (world_of old) new.core.plans (world_of new)
+  pub steps : AdvancesPlan (led_by tells old.core.settings (plan_leaders old.core plan)) number old.core.plans (world_of old) new.core.plans (world_of new)
   pub reaches : HeldReaches tells old.core.settings steps.after (world_of new)
   pub link : IsLaterLink old.link new.link
 
@@ -202,7 +223,7 @@ pub record StepsAt (tells : Bool) (asked : PlanWord) (number : ℕ) (old : Momen
   pub before : HeldPlan
   pub after : HeldPlan
   pub stands : plan_at old.core.plans number ≡ Some before
-  pub steps : Advances (led_by tells old.core.settings (plan_leader old.core before)) before (world_of old) after (world_of new)
+  pub steps : Advances (led_by tells old.core.settings (plan_leaders old.core before)) before (world_of old) after (world_of new)
   pub reaches : HeldReaches tells old.core.settings after (world_of new)
   pub leaves : Leaves asked (numbered_plan number after) (next_stage after) (held_in old.core) reply (held_in new.core)
   pub link : IsLaterLink old.link new.link
@@ -231,6 +252,10 @@ abbrev pub call_floor : Session → CheckedCall → ℕ
 call_floor session (call.Write write) = 0
 call_floor session (call.Read read) = floor_at session.floors (query_key read.query)
 
+-- where a session's call begins: at its place, and at its floor
+abbrev pub call_start : CheckedCall → Session → CallStart
+call_start asked session = record { place = opening_of session; floor = call_floor session asked }
+
 -- the plan of a session's call, of which nothing is done
 abbrev pub begun_plan : Settings → Session → NodeName → CheckedCall → HeldPlan
 begun_plan s session follower (call.Write write) =
@@ -250,6 +275,13 @@ pub record IsBegun (s : Settings) (states : NodeStates) (sessions : List Session
   pub found : session_at sessions (call_session asked) ≡ Some session
   pub chosen : chosen_follower states session.region session.tier (call_shard asked) ≡ Some follower
   pub plan_is : plan ≡ begun_plan s session follower asked
+
+-- the call's session is open, its call begins there, and the follower is chosen for it
+pub record BeginsAt (states : NodeStates) (sessions : List Session) (asked : CheckedCall) (start : CallStart) (follower : NodeName) : Type 0 where
+  pub session : Session
+  pub found : session_at sessions (call_session asked) ≡ Some session
+  pub start_is : start ≡ call_start asked session
+  pub chosen : chosen_follower states session.region session.tier (call_shard asked) ≡ Some follower
 
 -- the session of that number is open, and no follower of its region can be chosen for the shard
 pub record HasNoServer (states : NodeStates) (sessions : List Session) (number shard region : ℕ) : Type 0 where
@@ -285,10 +317,10 @@ AnswersHold tells number asked old reply new = HoldGoes tells number asked old r
 
 -- ---- calls that aren't held
 
--- a plan does all of its stages at once, with the leader that is preferred for it. Its session learns what is told with its reply
+-- a plan does all of its stages at once, with the leaders that are preferred for it. Its session learns what is told with its reply
 pub record DoesAtOnce (tells : Bool) (plan : HeldPlan) (old : Moment) (reply : Reply) (new : Moment) : Type 0 where
   pub after : HeldPlan
-  pub carries : CarriesOut (led_by tells old.core.settings (plan_leader old.core plan)) plan (world_of old) after (world_of new)
+  pub carries : CarriesOut (led_by tells old.core.settings (plan_leaders old.core plan)) plan (world_of old) after (world_of new)
   pub over : IsOver after reply
   pub reaches : HeldReaches tells old.core.settings after (world_of new)
   pub learns : LearnsOf after (learnt_with reply after) old.core.sessions new.core.sessions

@@ -47,12 +47,12 @@ MissesNoMore before old after new = ⊤
 
 -- between moments of keepers that tell their tables
 pub record SettledUntilACommit : Type 0 where
-  -- a settle leaves nodes and stores settled, where every store has all of its shard's log
-  pub settles : (logs : List ℕ) (old new : Moment) → SettlesCore true logs old new → AreWhole new.core.settings new.keepers.told → IsSettled new
-  -- as each has in a configuration of one region
+  -- a settle leaves nodes and stores settled
+  pub settles : (logs : List ℕ) (old new : Moment) → SettlesCore true logs old new → IsSettled new
+  -- in a configuration of one region every store has all of its shard's log
   pub whole : (m : Moment) → IsConsistentCore true m.keepers.told m.core → length m.core.settings.regions ≤ 1
       → AreWhole m.core.settings m.keepers.told
-  -- so they are at an opening
+  -- nodes and stores are settled at an opening where every store has all of its shard's log
   pub begins : (m : Moment) → AreAtStores m.keepers.told m.core.fleet → AreWhole m.core.settings m.keepers.told → IsSettled m
   -- they stay so, whatever is asked, until a log grows
   pub stays : (old new : Moment) → IsConsistentCore true old.keepers.told old.core → IsConsistentCore true new.keepers.told new.core

@@ -8,4 +8,5 @@ pub mod Laws
 pub mod LinkReplies
 pub mod Replies
 pub mod StoreReplies
+pub mod Streams
 pub mod Settling

@@ -25,6 +25,7 @@ use Rattle.tao_schema.specs.Schema.{types_of}
 use Rattle.topology.specs.Config.{Settings}
 use Rattle.tao_core.specs.Core.{Moment}
 use Rattle.tao_core.specs.Settling.{AnswersRepair, AnswersSettle}
+use Rattle.tao_core.specs.Streams.{AnswersStream, asked_stream}
 
 -- ---- refusals
 
@@ -72,8 +73,8 @@ AnswersAudit tells s old call reply new = ⊥
 
 -- what the reply to what is asked of stores says
 abbrev pub AnswersStore : Bool → CheckedStore → Moment → Reply → Moment → Type 0
+AnswersStore tells (asked.Stream region shard position) old reply new = AnswersStream tells (asked_stream region shard position) old reply new
 AnswersStore tells (asked.Repair shard) old reply new = AnswersRepair tells shard old reply new
 AnswersStore tells asked.Settle old reply new = AnswersSettle tells old reply new
 AnswersStore tells (asked.Audit call) old reply new =
     AnswersAudit tells old.core.settings old.keepers call reply new.keepers × (new ≡ record old { keepers = new.keepers })
-AnswersStore tells other old reply new = ⊥

@@ -217,13 +217,13 @@ impl<'c> Core<'c> {
         let of = TierPlace { region, tier };
         let read = begin_read(self.config, query, of, floor, false, node);
         let mut plan = HeldPlan::Read(read);
-        let leader = self.plan_leader(&plan);
+        let leaders = self.plan_leaders(&plan);
         carry_out(
             &mut self.nodes,
             self.config,
             keepers,
             link,
-            leader,
+            leaders,
             &mut plan,
         );
         plan.finish().reply

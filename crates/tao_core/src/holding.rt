@@ -8,9 +8,9 @@ ghost use Rattle.core_steps.specs.World.{world};
 ghost use Rattle.tao_core.specs.Asked.{CallCanBeDone, PlanCanBeDone};
 ghost use Rattle.tao_core.specs.Core.{IsCoreOf, IsOfSession, StaysUsable, author, moment};
 ghost use Rattle.tao_core.specs.HeldCalls.{AdvancesPlan, AnswersHold, AnswersPlan, EndsPlan, HasRoomFor, MayLearn, StepsAt};
-ghost use Rattle.tao_core.specs.HeldCalls.{held_seen, next_at, plan_leader, numbered_reply};
+ghost use Rattle.tao_core.specs.HeldCalls.{held_seen, next_at, numbered_reply};
 
-use crate::calls::{begin_plan, finish_plan};
+use crate::calls::{begin_plan, begun_plan, finish_plan};
 use crate::serving::Core;
 use core_plans::{HeldPlans, Led};
 use core_sessions::Sessions;
@@ -95,10 +95,10 @@ fn step_or_give_up<K: Keeper, L: Link>(
     link: &mut L,
 )
     requires ready { CanPost K.TELLS due.now.led.config.now (world nodes.old (K.state keepers.old) (L.shown link.old)) }
-    requires can { CanStep K.TELLS due.now.led.config.now (K.state keepers.old).told nodes.old.fleet due.now.led.leader (plan_at plans.old due.now.number) }
+    requires can { CanStep K.TELLS due.now.led.config.now (K.state keepers.old).told nodes.old.fleet due.now.led.leaders (plan_at plans.old due.now.number) }
     requires author { IfSome (plan_at plans.old due.now.number) (IsOfSession (sessions_of sessions.old)) }
     requires begun { IfSome (plan_at plans.old due.now.number) OpensFirst }
-    ensures steps { AdvancesPlan (led_by K.TELLS due.now.led.config.now due.now.led.leader) due.now.number
+    ensures steps { AdvancesPlan (led_by K.TELLS due.now.led.config.now due.now.led.leaders) due.now.number
         plans.old (world nodes.old (K.state keepers.old) (L.shown link.old))
         plans.new (world nodes.new (K.state keepers.new) (L.shown link.new)) }
     ensures under_way { IfSome (plan_at plans.new due.now.number) (IsUnderWay K.TELLS due.now.led.config.now (K.state keepers.new).told nodes.new.fleet) }
@@ -115,7 +115,7 @@ fn step_or_give_up<K: Keeper, L: Link>(
 }
 
 impl<'c> Core<'c> {
-    /// Does the stage of a held plan that follows, with the leader that is preferred for it.
+    /// Does the stage of a held plan that follows, with the leaders that are preferred for it.
     pub(crate) fn step_plan<K: Keeper, L: Link>(
         &mut self,
         keepers: &mut K,
@@ -132,10 +132,10 @@ impl<'c> Core<'c> {
         let Some(plan) = self.plans.at(number) else {
             unreachable!()
         };
-        let leader = self.plan_leader(plan);
+        let leaders = self.plan_leaders(plan);
         let led = Led {
             config: self.config,
-            leader,
+            leaders,
         };
         step_or_give_up(
             &mut self.plans,
@@ -170,10 +170,14 @@ impl<'c> Core<'c> {
             (moment self.new (K.state keepers.new) (L.shown link.new)) }
         ensures usable { StaysUsable K.TELLS (K.state keepers.old) (K.state keepers.new) self.old self.new }
     {
-        let plan = match begin_plan(&mut self.sessions, &self.nodes.topology, self.config, call) {
-            Ok(plan) => plan,
-            Err(reply) => return reply,
+        let from = match begin_plan(&mut self.sessions, &self.nodes.topology, &call) {
+            Ok(from) => from,
+            Err(reply) => {
+                drop(call);
+                return reply;
+            }
         };
+        let plan = begun_plan(self.config, from, call);
         match self.plans.add(number, plan) {
             Ok(()) => self.step_plan(keepers, link, PlanWord::Hold, number),
             Err(OutOfMemory) => out_of_memory(),

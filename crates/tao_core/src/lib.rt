@@ -7,11 +7,13 @@
 //! answer legal at its session's floor, its hops the carries that it took, and what is kept answers again and has
 //! come as far as its follower's mark; a critical one misses nothing; a write that was carried out, held or not,
 //! teaches its session its entry and the one that it wrote at the other end, and nothing else a session; `cut`
-//! and `mend` change the one direction that they name; a repair is of the first open job of its shard, and tells
-//! that one and whether an entry was written; a settle runs all jobs, lets every node that is up catch up with its
-//! region's stores, empties the inboxes and tells the lengths of the logs: then no job is open, every edge has its
-//! inverse, and where every store has its shard's whole log, each such node holds exactly what it held of last
-//! versions; one that stops says why, where, and what it did; an audit's
+//! and `mend` change the one direction that they name; a step of a stream carries an entry from its shard's master
+//! store to a slave's, which takes it where it comes next, tells its verdict and the position that comes next then,
+//! and is refused into a master's store; a repair is of the first open job of its shard, and tells
+//! that one and whether an entry was written; a settle runs all jobs, moves every stream to its end, lets every node
+//! that is up catch up with its region's stores, empties the inboxes and tells the lengths of the logs: then no job is
+//! open, every edge has its inverse, every store has its shard's whole log, and each such node holds exactly what it
+//! held of last versions; one that stops says why, where, and what it did; an audit's
 //! answer is the whole log's with its length; a message that is delivered, or delivered again, is the one at its
 //! place, and its node has processed it and then has the mark that is told; one that is dropped is lost alone; a
 //! refill is the oldest of its follower, read at its floor; `hold` and `advance` do one stage each, and tell the
@@ -27,7 +29,7 @@
 //! The contracts that say so: `Core::open`, `Core::call`, `Core::settle`, `Core::item`, `Core::mark`,
 //! `Core::floor`; `AnswersRequest`, `AnswersCall`, `AnswersDeliver`, `AnswersSecond`,
 //! `AnswersLoss`, `AnswersRefill`, `AnswersShow`, `AnswersInbox`, `AnswersHold`, `AnswersAdvance`,
-//! `AnswersRepair`, `AnswersSettle`, `IsAudit`, `IsCoreOf`; the law `settled_until_a_commit`.
+//! `AnswersRepair`, `AnswersStream`, `AnswersSettle`, `IsAudit`, `IsCoreOf`; the law `settled_until_a_commit`.
 #![tactic(auto)]
 
 mod audits;
@@ -42,6 +44,7 @@ mod resolving;
 mod serving;
 mod settling;
 mod stores;
+mod streams;
 mod teaching;
 
 pub use core_sessions::OpenSession;

@@ -5,6 +5,7 @@ ghost use Rattle.tao_core.specs.StoreReplies.{failed_as};
 use core_steps::out_of_memory;
 use node_name::NodeName;
 use replies::{NodeRefused, Refusal, Reply, StoreRefused};
+use tao_base::StoreName;
 use tao_keeper::KeepFail;
 
 /// A keeper's failure, where the keepers have counted so many faults.
@@ -38,4 +39,11 @@ pub(crate) fn no_refill(node: NodeName) -> Reply
     ensures { result ≡ Reply.Refused (Refusal.Node (NodeRefused.NoRefill node)) }
 {
     Reply::Refused(Refusal::Node(NodeRefused::NoRefill { node }))
+}
+
+/// The store is its shard's master's, which no stream goes into.
+pub(crate) fn is_master(store: StoreName) -> Reply
+    ensures { result ≡ Reply.Refused (Refusal.Node (NodeRefused.IsMaster store)) }
+{
+    Reply::Refused(Refusal::Node(NodeRefused::IsMaster { store }))
 }

@@ -53,11 +53,11 @@ fn admit(sessions: &Sessions, plans: &HeldPlans, request: &Request) -> Result<()
 
 // ---- what is built
 
-/// Whether the word is served: all are but `stream` and those that change the health of a node.
+/// Whether the word is served: all are but those that change the health of a node.
 fn is_built(word: Word) -> bool
     ensures { result ≡ is_built word }
 {
-    !matches!(word, Word::Stream | Word::Health(_))
+    !matches!(word, Word::Health(_))
 }
 
 /// That the request's word isn't built yet.

@@ -1,5 +1,5 @@
 //! The core.
-ghost use Rattle.std.specs.Prelude.{◌≡◌, ◌<◌, Bool, Ok, IfOk, IfErr, false, length, option_copied, true};
+ghost use Rattle.std.specs.Prelude.{◌≡◌, ◌<◌, Bool, Ok, IfOk, IfErr, false, length, option_copied};
 ghost use Rattle.core_nodes.specs.Shown.{IsHeldAt, IsMarkAt};
 ghost use Rattle.core_nodes.specs.Opening.{IsOpened, MayOpen, RefusesOpening};
 ghost use Rattle.graph_model.specs.Told.{WhereTold};
@@ -107,7 +107,7 @@ impl<'c> Core<'c> {
     }
 
     /// Answers a request: opens a session, makes a write, answers a read or an audit, does a stage of a held call, delivers a message,
-    /// drops an item of a node, cuts or mends a link, runs a job, or settles; or refuses it. A write's one entry is committed before it is
+    /// drops an item of a node, cuts or mends a link, streams an entry, runs a job, or settles; or refuses it. A write's one entry is committed before it is
     /// answered, and its session learns it with the answer. After a refusal no log has changed, but where it tells the position of a write
     /// that stands, and but for the jobs that a repair or a settle had merged. Logs only grow.
     ///

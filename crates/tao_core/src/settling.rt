@@ -12,7 +12,7 @@ ghost use Rattle.tao_keeper.specs.KeeperState.{IsLater, KeepsTables};
 use crate::refusals::no_server;
 use crate::serving::Core;
 use core_nodes::{Ends, Fleet, SettleStop, shard_lengths};
-use core_repairs::{Ran, RepairFailed, repair_first, run_jobs};
+use core_repairs::{Ran, RepairFailed, repair_first, run_jobs, run_streams};
 use core_steps::{link_fault, out_of_memory};
 use edge_repair::RepairRefusal;
 use replies::{Lengths, NodeReply, Refusal, Repaired, Reply, StoreRefused, When};
@@ -118,18 +118,19 @@ impl<'c> Core<'c> {
         repaired_as(&outcome, region, keepers.faults(), link.faults())
     }
 
-    /// Runs all open jobs, shard by shard, each shard's in order of position; lets each leader and follower that is up process the rest of its region's logs
-    /// that it serves, where it drops what is behind its region's stores and nothing else; and empties all inboxes. Then no job is open, every edge has its
-    /// inverse, and where every store has all of its shard's log, until the next commit every read that begins answers as that log.
+    /// Runs all open jobs, shard by shard, each shard's in order of position; moves every stream to its end, region by region, and in each region shard by
+    /// shard; lets each leader and follower that is up process the rest of its region's logs that it serves, where it drops what is behind its region's
+    /// stores and nothing else; and empties all inboxes. Then no job is open, every edge has its inverse, every store has all of its shard's log, and until
+    /// the next commit every read that begins answers as that log.
     ///
-    /// It carries a job there and back, and then once to each node for each shard at which that lies behind its region's store, in the order of the nodes:
-    /// region by region, leaders before followers.
+    /// It carries a job there and back, each entry that a slave's store lacks once from the master's store, and then once to each node for each shard at
+    /// which that lies behind its region's store, in the order of the nodes: region by region, leaders before followers.
     ///
     /// The first fault, and the first full log, ends it as `unsettled`, and want of memory as `memory`: what was done stays, and whoever comes after is as it
-    /// was. The shard is the job's or the node's; where a store doesn't tell the length of its log, any. `no_server` comes where what is owed lies on a shard
-    /// that isn't configured.
+    /// was. The shard is the job's, the stream's or the node's; where a store doesn't tell the length of its log, any. `no_server` comes where what is owed
+    /// lies on a shard that isn't configured.
     ///
-    /// Costs what the jobs do, two calls of the keeper for each store, and one for each entry that a node has yet to process.
+    /// Costs what the jobs and the streams do, two calls of the keeper for each store, and one for each entry that a node has yet to process.
     pub fn settle<K: Keeper, L: Link>(&mut self, keepers: &mut K, link: &mut L) -> Reply
         requires keepers { IsCoreOf K.TELLS (K.state keepers.old).told self.old }
         ensures does { AnswersSettle K.TELLS (moment self.old (K.state keepers.old) (L.shown link.old)) result
@@ -162,6 +163,7 @@ impl<'c> Core<'c> {
         let config = self.config;
         inverses_match(&config.schema);
         run_jobs(&mut self.nodes, config, keepers, link)?;
+        run_streams(&mut self.nodes, config, keepers, link)?;
         let measured = measure(self.nodes.alloc, &mut self.nodes.fleet, config, keepers)?;
         let lengths = measured.stores.as_slice();
         let ends = Ends {

@@ -1,30 +1,31 @@
-use Rattle.std.proofs.Common.{◌≡◌, ap, false, refl, subst, sym, true}
-use Rattle.tao_core.specs.Asked.{StoreCanBeDone}
+use Rattle.std.proofs.Common.{ap, refl, subst, sym}
+use Rattle.core_model.specs.Stores.{IsConfiguredStore}
+use Rattle.request_check.specs.Stores.{IsPlacedStore}
 use Rattle.tao_core.specs.Core.{CoreState, moment}
 use Rattle.tao_core.specs.StoreReplies.{AnswersAudit, AnswersStore}
-use Rattle.tao_core.proofs.HeldOn.{core_goes_on, core_held, same_held}
+use Rattle.tao_core.proofs.HeldOn.{core_held, nodes_go_on, same_held}
 use Rattle.tao_core.proofs.Keeping.{core_stays}
-use Rattle.tao_core.proofs.StayOpen.{same_open}
 use Rattle.tao_core.proofs.serving.Core.perform_store.Goals as goal
 
--- `stream` isn't served
-pub unreachable-requires : goal.unreachable-requires
-unreachable-requires g c =
-    let no : false ≡ true = (subst (StoreCanBeDone c.args.self.now.settings) c.in-Stream.is c.requires.can).built in
-    absurd (cc)
+pub stream-requires-clause-here : goal.stream-requires-clause-here
+stream-requires-clause-here g c =
+    let here = subst (IsPlacedStore c.args.self.now.settings) c.in-Stream.is c.requires.can in
+    subst (IsConfiguredStore c.args.self.now.settings) (sym c.region_store-at.ensures) (record { region = here.0; shard = here.1 })
+
+pub returns-in-Stream-clause-usable : goal.returns-in-Stream-clause-usable
+returns-in-Stream-clause-usable g c =
+    let ends = c.stream.ensures in
+    nodes_go_on g.K.Keeper.TELLS (g.K.Keeper.state c.args.keepers.now) (g.K.Keeper.state c.stream.new.keepers) c.args.self.now c.stream.new.self
+    c.requires.keepers ends.leaves ends.rest
 
 pub repair-requires-clause-here : goal.repair-requires-clause-here
-repair-requires-clause-here g c = (subst (StoreCanBeDone c.args.self.now.settings) c.in-Repair.is c.requires.can).placed
+repair-requires-clause-here g c = subst (IsPlacedStore c.args.self.now.settings) c.in-Repair.is c.requires.can
 
 pub returns-in-Repair-clause-usable : goal.returns-in-Repair-clause-usable
 returns-in-Repair-clause-usable g c =
-    let core = c.args.self.now in
     let ends = c.repair.ensures in
-    let new = c.repair.new.self in
-    core_goes_on g.K.Keeper.TELLS (g.K.Keeper.state c.args.keepers.now) (g.K.Keeper.state c.repair.new.keepers) core new c.requires.keepers
-    ends.leaves
-    (ap (λ (x : CoreState). x.settings) ends.does.rest) (ap (λ (x : CoreState). x.plans) ends.does.rest)
-    (same_open core.sessions new.sessions (ap (λ (x : CoreState). x.sessions) ends.does.rest))
+    nodes_go_on g.K.Keeper.TELLS (g.K.Keeper.state c.args.keepers.now) (g.K.Keeper.state c.repair.new.keepers) c.args.self.now c.repair.new.self
+    c.requires.keepers ends.leaves ends.does.rest
 
 pub returns-in-Audit : goal.returns-in-Audit
 returns-in-Audit g c =

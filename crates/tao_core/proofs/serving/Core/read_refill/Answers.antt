@@ -5,11 +5,9 @@ use Rattle.core_model.specs.Pens.{pens_of}
 use Rattle.core_plans.specs.Held.{IsUnderWay}
 use Rattle.core_plans.specs.declared.held.HeldPlan.TheVariants as of
 use Rattle.tao_core.specs.Core.{CoreState, IsConsistentCore, core_state}
-use Rattle.tao_core.specs.HeldCalls.{IsOfRegion, plan_leader}
+use Rattle.tao_core.specs.HeldCalls.{AreLeaders, IsOfRegion, plan_leaders}
 use Rattle.tao_core.proofs.HeldKeeping.{leads_it}
 use Rattle.core_plans.specs.declared.held.HeldPlan.{HeldPlan}
-use Rattle.std.specs.Prelude.{IsTrue}
-use Rattle.topology.specs.States.{is_cache}
 use Rattle.tao_core.proofs.AnsweredAtOnce.{refill_is, refill_reads}
 use Rattle.tao_core.proofs.Delivering.{refill_under_way}
 use Rattle.tao_core.proofs.Keeping.{core_can_post}
@@ -38,18 +36,18 @@ carry_out-requires-clause-leader g c =
     let keepers = g.K.Keeper.state c.args.keepers.now in
     let core = core_state c.self.inside in
     let plan : HeldPlan = of.Read c.begin_read-read.result in
-    let leader = c.plan_leader-leader.result in
+    let leaders = c.plan_leaders-leaders.result in
     let consistent = subst (IsConsistentCore g.K.Keeper.TELLS keepers.told) (sym c.self.view_is) c.requires.keepers in
-    leads_it g.K.Keeper.TELLS keepers.told core consistent plan leader
+    leads_it g.K.Keeper.TELLS keepers.told core consistent plan leaders
     (subst (IsUnderWay g.K.Keeper.TELLS core.settings keepers.told core.fleet)
     (sym (refill_is core.settings c.args.node c.args.refill c.region_of-region.result c.home_tier-tier.result c.begin_read-read.result
     c.begin_read-read.ensures c.region_of-region.ensures c.home_tier-tier.ensures))
     (refill_under_way g.K.Keeper.TELLS keepers core c.args.node c.args.refill consistent
     (subst (λ (x : CoreState). Contains (follower_names x.settings) c.args.node) (sym c.self.view_is) c.requires.node)
     (subst (λ (x : CoreState). IsRefillFor x.settings (pens_of x.fleet.stores) c.args.node c.args.refill) (sym c.self.view_is) c.requires.refill)))
-    (subst (λ (x : CoreState). leader ≡ plan_leader x plan) (sym c.self.view_is) c.plan_leader-leader.ensures.is)
-    (subst (λ (x : CoreState). IsOfRegion x.states plan → IsTrue (is_cache x.states.regions leader)) (sym c.self.view_is)
-    c.plan_leader-leader.ensures.configured)
+    (subst (λ (x : CoreState). leaders ≡ plan_leaders x plan) (sym c.self.view_is) c.plan_leaders-leaders.ensures.is)
+    (subst (λ (x : CoreState). IsOfRegion x.states plan → AreLeaders x.states leaders) (sym c.self.view_is)
+    c.plan_leaders-leaders.ensures.configured)
 
 pub returns : goal.returns
 returns g c =
@@ -60,9 +58,9 @@ returns g c =
     let done =
     refill_reads g.K.Keeper.TELLS c.args.node c.args.refill core c.args.self.now c.self.view_is (state c.args.keepers.now) (state went.new.keepers)
     (shown c.args.link.now) (shown went.new.link) c.requires.keepers went.new.nodes c.begin_read-read.result went.new.plan
-    c.plan_leader-leader.result
+    c.plan_leaders-leaders.result
     (refill_is core.settings c.args.node c.args.refill c.region_of-region.result c.home_tier-tier.result c.begin_read-read.result c.begin_read-read.ensures
     c.region_of-region.ensures c.home_tier-tier.ensures)
-    (subst (λ (x : CoreState). c.plan_leader-leader.result ≡ plan_leader x (of.Read c.begin_read-read.result)) (sym c.self.view_is)
-    c.plan_leader-leader.ensures.is) went.ensures.does went.ensures.under_way went.ensures.on c.finish.result.reply c.finish.ensures.over in
+    (subst (λ (x : CoreState). c.plan_leaders-leaders.result ≡ plan_leaders x (of.Read c.begin_read-read.result)) (sym c.self.view_is)
+    c.plan_leaders-leaders.ensures.is) went.ensures.does went.ensures.under_way went.ensures.on c.finish.result.reply c.finish.ensures.over in
     record { does = done.does; leaves = done.leaves; sessions = ap (λ (x : CoreState). x.sessions) c.self.view_is }

@@ -1,15 +1,16 @@
--- The worked run is one of the promise, and the four replies are none.
-use Rattle.std.proofs.Common.{◌≡◌, ◌<◌, ◌≤◌, ◌∷◌, [], ℕ, zero, suc, Bool, true, false, List, Option, Some, None, length, sym, refl, subst, arith}
+-- The worked run is one of the promise, and the five replies are none.
+use Rattle.std.proofs.Common.{◌≡◌, ◌<◌, ◌≤◌, ◌∷◌, [], ℕ, zero, suc, Bool, true, false, List, Option, Some, None, length, ap, sym, refl, subst, arith}
 use Rattle.std.proofs.Common.{append-nil, inl, inr}
-use Rattle.std.specs.Prelude.{filter_map, not}
+use Rattle.std.specs.Prelude.{Contains, filter_map, not, slice_index_or}
 use Rattle.std.proofs.lemmas.List.{take_all}
 use Rattle.std.proofs.lemmas.List.Elements.{Contains-get_or}
 use Rattle.graph_model.specs.Legal.{floor}
 use Rattle.graph_model.specs.Log.{entry_at}
 use Rattle.graph_model.specs.Soundness.{EdgeUpdate, other_end, updates_of}
-use Rattle.plain_promise.specs.Example.{FourAreRefused, SixLinesRun, added_at_1, adds, at_first, list_from_store, list_kept, once_settled}
-use Rattle.plain_promise.specs.Example.{once_written, one_region, reads_list, with_log}
+use Rattle.plain_promise.specs.Example.{FiveAreRefused, SixLinesRun, added_at_1, adds, at_first, both_ends, list_from_store, list_kept}
+use Rattle.plain_promise.specs.Example.{once_settled, once_written, reads_list, with_log}
 use Rattle.plain_promise.specs.Promise.{AnswersSameAgain, AreSameReplies, EachGrows, HasEachOnce, IsWellKept, KeepsPromise, Logs, RunsPlainly, Said}
+use Rattle.plain_promise.specs.Promise.{gained}
 use Rattle.replies.specs.declared.calls.CallReply.TheVariants as called
 use Rattle.replies.specs.declared.calls.ReadReply.{ReadReply}
 use Rattle.replies.specs.declared.reply.Reply.TheVariants.{Audited, Called, Opened, Settled}
@@ -19,13 +20,13 @@ use Rattle.request_check.specs.declared.checked.CheckedCall.TheVariants.{Read}
 use Rattle.request_check.specs.declared.checked.CheckedRead.{CheckedRead}
 use Rattle.tao_base.specs.Queries.{query_key}
 use Rattle.tao_base.specs.declared.entry.Entry.{Entry}
-use Rattle.tao_base.specs.declared.entry.Kind.TheVariants.{AssocAdd as AssocAdded}
+use Rattle.tao_base.specs.declared.entry.Kind.TheVariants.{AssocAdd as AssocAdded, Merge as Merged}
 use Rattle.tao_base.specs.declared.entry.Change.TheVariants.{SetEdge}
-use Rattle.tao_base.specs.declared.entry.Origin.TheVariants.{Client}
+use Rattle.tao_base.specs.declared.entry.Origin.TheVariants.{Client, Merge}
 use Rattle.tao_base.specs.declared.id.Key.TheVariants.{List as Assocs}
 use Rattle.tao_base.specs.declared.query.Answer.TheVariants.{Edges as EdgesAre}
 use Rattle.write_model.proofs.Growing.{entry_at-within}
-use Rattle.write_model.specs.Examples.{edge, first_add, likes, one_type}
+use Rattle.write_model.specs.Examples.{edge, far, far_follow, first_add, followed_by, likes, one_type}
 use Rattle.write_model.specs.Merges.{AreThere, job_of, log_of}
 use Rattle.write_model.specs.Writes.{is_near, when}
 
@@ -75,6 +76,9 @@ grows_none logs shard = sym (take_all (length (log_of logs shard)) (log_of logs 
 one_long : length first_add ≤ 1
 one_long = (let n : length first_add ≡ 1 = refl in omega (arith, n))
 
+one_short : 0 < length first_add
+one_short = (let n : length first_add ≡ 1 = refl in omega (arith, n))
+
 abbrev first_entry : Entry
 first_entry = record {
   position = 1;
@@ -83,7 +87,7 @@ first_entry = record {
   touches = record { key = Assocs 1 likes; change = SetEdge (edge 2 5 1) None; version = 1 } ∷ [];
 }
 
-opened : KeepsPromise one_region at_first (asks.Open 1 0 0) (Opened 1) at_first
+opened : KeepsPromise one_type at_first (asks.Open 1 0 0) (Opened 1) at_first
 opened = record {
   says = tt;
   changes = refl;
@@ -98,18 +102,24 @@ grows_first : EachGrows ([] ∷ []) (first_add ∷ [])
 grows_first zero = refl
 grows_first (suc n) = refl
 
-added_is : KeepsPromise one_region at_first adds (Called (called.Write added_at_1)) once_written
+first_there : Contains first_add first_entry
+first_there = Contains-get_or first_add 0 first_entry one_short
+
+added_is : KeepsPromise one_type at_first adds (Called (called.Write added_at_1)) once_written
 added_is = record {
-  says = inl (
-    first_entry,
-    record {
-      stands = record { stands = refl; origin_is = refl; fits = record { kind_is = refl; named = (record { number = 1; shard = 0 }, None, refl, refl) } };
-      position_is = refl;
-      id_is = tt;
-      other_ends = λ is. absurd (cc (is));
-    },
-    Contains-get_or first_add 0 first_entry (let n : length first_add ≡ 1 = refl in omega (arith, n)),
-  );
+  says = record {
+    done = inl (
+      first_entry,
+      record {
+        stands = record { stands = refl; origin_is = refl; fits = record { kind_is = refl; named = (record { number = 1; shard = 0 }, None, refl, refl) } };
+        position_is = refl;
+        id_is = tt;
+        other_ends = λ is. absurd (cc (is));
+      },
+      first_there,
+    );
+    learns = λ e there. subst (λ es. Contains es e) (append-nil first_add) there;
+  };
   changes = inr (first_entry, 0, inl (record { between = first_add ∷ []; commits = record { is = refl; gained = (omega arith, refl) }; merges = inl refl }));
   grows = grows_first;
   well_kept = well_kept first_add one_long;
@@ -119,7 +129,7 @@ added_is = record {
 }
 
 reads_so : (reply : ReadReply) → reply.answer ≡ EdgesAre (edge 2 5 1 ∷ []) → reply.version ≡ 1
-    → KeepsPromise one_region once_written (asks.Call (Read reads_list)) (Called (called.Read reply)) once_written
+    → KeepsPromise one_type once_written (asks.Call (Read reads_list)) (Called (called.Read reply)) once_written
 reads_so reply answer version = record {
   says = record {
     legal = record {
@@ -129,7 +139,7 @@ reads_so reply answer version = record {
       reached = (let least : floor first_add (query_key reads_list.query) ≡ 1 = refl in omega (arith, least, version));
     };
     whole = λ critical. absurd (cc (critical));
-    last = λ logs few settled same. absurd (cc (settled));
+    last = λ logs settled same. absurd (cc (settled));
   };
   changes = refl;
   grows = grows_none (first_add ∷ []);
@@ -139,7 +149,7 @@ reads_so reply answer version = record {
   settled = refl;
 }
 
-audited : KeepsPromise one_region once_written (asks.Store (Audit reads_list)) (Audited (EdgesAre (edge 2 5 1 ∷ [])) 1) once_written
+audited : KeepsPromise one_type once_written (asks.Store (Audit reads_list)) (Audited (EdgesAre (edge 2 5 1 ∷ [])) 1) once_written
 audited = record {
   says = record { reply_is = refl };
   changes = refl;
@@ -150,7 +160,7 @@ audited = record {
   settled = refl;
 }
 
-settled_is : KeepsPromise one_region once_written (asks.Store Settle) (Settled (1 ∷ [])) once_settled
+settled_is : KeepsPromise one_type once_written (asks.Store Settle) (Settled (1 ∷ [])) once_settled
 settled_is = record {
   says = record { none = λ shard position. refl; paired = λ id1 atype inverse id2 has. absurd (cc (has)); lengths_are = refl };
   changes = record {
@@ -179,7 +189,7 @@ kept_so a b one two =
     subst (λ x. AreSameReplies x b) first (subst (AreSameReplies list_from_store) second (record { answer = refl; version = refl; hops = refl; store = refl }))
 
 -- the lines from the last one on, the two last ones, and so on
-from_settle : RunsPlainly one_region once_written (record { asked = Some (asks.Store Settle); reply = Settled (1 ∷ []) } ∷ []) once_settled
+from_settle : RunsPlainly one_type once_written (record { asked = Some (asks.Store Settle); reply = Settled (1 ∷ []) } ∷ []) once_settled
 from_settle = (once_settled, settled_is, tt, refl)
 
 pub six_lines_run : SixLinesRun
@@ -212,15 +222,34 @@ six_lines_run = record {
   );
 }
 
--- ---- four replies that are refused
+-- ---- five replies that are refused
 
-pub four_are_refused : FourAreRefused
-four_are_refused = record {
+abbrev merged_entry : Entry
+merged_entry = record {
+  position = 1;
+  kind = Merged;
+  origin = Merge 0 1;
+  touches = record { key = Assocs far followed_by; change = SetEdge (edge 1 7 1) None; version = 1 } ∷ [];
+}
+
+merged_within : 1 < length (gained ([] ∷ [] ∷ []) both_ends)
+merged_within = (let n : length (gained ([] ∷ [] ∷ []) both_ends) ≡ 2 = refl in omega (arith, n))
+
+-- the log of the entry has no merge
+far_alone : Contains far_follow merged_entry → ⊥
+far_alone there = by there.0 there.1 there.2
+  where
+    by : (k : ℕ) → k < length far_follow → slice_index_or far_follow k merged_entry ≡ merged_entry → ⊥
+    by zero within is = (let same : Client 1 1 ≡ Merge 0 1 = ap (λ (e : Entry). e.origin) is in absurd (cc (same)))
+    by (suc n) within is = absurd (let one : length far_follow ≡ 1 = refl in omega (arith, one, within))
+
+pub five_are_refused : FiveAreRefused
+five_are_refused = record {
   below_floor = λ new says.
       let reached : floor first_add (query_key reads_list.query) ≤ 0 = says.says.legal.reached in
       let least : floor first_add (query_key reads_list.query) ≡ 1 = refl in
       absurd (omega (arith, reached, least));
-  not_standing = λ new stores says. elim says.says [
+  not_standing = λ new stores says. elim says.says.done [
     | inl stood ↦ (
         let at : stood.0.position ≡ 1 = sym stood.1.position_is in
         let stands = subst (λ s. entry_at (log_of s.logs 0) stood.0.position ≡ Some stood.0) stores stood.1.stands.stands in
@@ -232,4 +261,7 @@ four_are_refused = record {
       let none : Some us ≡ None = subst (λ s. s.job 0 0 ≡ None) stores (says.says.none 0 0) in
       absurd (cc (none));
   front_audited = λ new says. (let same = says.says.reply_is in absurd (cc (same)));
+  end_untold = λ new logs learnt says.
+      let there = says.says.learns merged_entry (subst (λ l. Contains (gained ([] ∷ [] ∷ []) l) merged_entry) (sym logs) (1, merged_within, refl)) in
+      far_alone (subst (λ es. Contains es merged_entry) learnt there);
 }

@@ -1,6 +1,6 @@
--- A run of six lines, worked: a session opens, adds an edge, reads it twice, audits its list, and settles. And four replies that are no step of the promise.
+-- A run of six lines, worked: a session opens, adds an edge, reads it twice, audits its list, and settles. And five replies that are no step of the promise.
 use Rattle.std.specs.Prelude.{◌≡◌, ◌∷◌, ◌==◌, [], true, false, List, Some, None, if◌then◌else◌}
-use Rattle.plain_promise.specs.Promise.{Plain, RunsPlainly, Said, SaysPlainly, Terms}
+use Rattle.plain_promise.specs.Promise.{Logs, Plain, RunsPlainly, Said, SaysPlainly}
 use Rattle.replies.specs.declared.calls.CallReply.TheVariants as called
 use Rattle.replies.specs.declared.calls.InverseEnd.TheVariants as inverse
 use Rattle.replies.specs.declared.calls.ReadReply.{ReadReply}
@@ -16,14 +16,11 @@ use Rattle.request_check.specs.declared.checked.CheckedRead.{CheckedRead}
 use Rattle.tao_base.specs.declared.entry.Entry.{Entry}
 use Rattle.tao_base.specs.declared.query.Answer.TheVariants.{Edges as EdgesAre}
 use Rattle.tao_base.specs.declared.query.Query.TheVariants.{AssocRange}
+use Rattle.tao_base.specs.declared.write.Write.TheVariants.{AssocAdd}
 use Rattle.words.specs.declared.ReadWord.TheVariants as word
-use Rattle.write_model.specs.Examples.{add, edge, first_add, likes, one_type}
+use Rattle.write_model.specs.Examples.{add, after_merges, edge, far, far_follow, first_add, follows, four_types, likes, one_type}
 use Rattle.write_model.specs.Merges.{Stores, no_epochs}
 use Rattle.graph_model.specs.Soundness.{EdgeUpdate}
-
--- one region, and one type of edges, without an inverse
-abbrev pub one_region : Terms
-one_region = record { types = one_type; regions = 1 }
 
 -- the stores of one shard with this log, and no open job
 abbrev pub with_log : List Entry → Stores
@@ -78,7 +75,7 @@ six_lines =
 
 -- they are a run of the promise
 pub record SixLinesRun : Type 0 where
-  pub run : RunsPlainly one_region at_first six_lines once_settled
+  pub run : RunsPlainly one_type at_first six_lines once_settled
 
 -- a read that tells an empty list, where its session has learnt of the edge
 abbrev pub list_before : ReadReply
@@ -88,13 +85,33 @@ list_before = record { word = word.AssocRange; answer = EdgesAre []; version = 0
 abbrev pub job_left : List EdgeUpdate → Stores
 job_left us = record (with_log first_add) { job = λ shard position. Some us }
 
--- these four replies are no step of the promise, whatever state they lead to
-pub record FourAreRefused : Type 0 where
+-- before the first line, where there are two shards
+abbrev pub two_shards : Plain
+two_shards = record at_first { stores = record (with_log []) { logs = [] ∷ [] ∷ [] } }
+
+-- session 1 adds an edge from id 1 to an id of the other shard
+abbrev pub follows_far : Checked
+follows_far = asks.Call (Write (record { session = 1; seq = 1; write = AssocAdd 1 follows far 7 [] }))
+
+-- its reply: the entry is at position 1, and the inverse is written
+abbrev pub followed_at_1 : WriteReply
+followed_at_1 = record { kind = kind.AssocAdd; written = record { changed = true; inverse = inverse.Written; position = 1; retry = false }; hops = 4 }
+
+-- both ends of it: the entry, and the merge at the other shard
+abbrev pub both_ends : Logs
+both_ends = far_follow ∷ after_merges 0 [] far_follow ∷ []
+
+-- these five replies are no step of the promise, whatever state they lead to
+pub record FiveAreRefused : Type 0 where
   -- a read below its session's floor
-  pub below_floor : (new : Plain) → SaysPlainly one_region once_written (Some (asks.Call (Read reads_list))) (Called (called.Read list_before)) new → ⊥
+  pub below_floor : (new : Plain) → SaysPlainly one_type once_written (Some (asks.Call (Read reads_list))) (Called (called.Read list_before)) new → ⊥
   -- a write that is acknowledged and doesn't stand
-  pub not_standing : (new : Plain) → new.stores ≡ with_log [] → SaysPlainly one_region at_first (Some adds) (Called (called.Write added_at_1)) new → ⊥
+  pub not_standing : (new : Plain) → new.stores ≡ with_log [] → SaysPlainly one_type at_first (Some adds) (Called (called.Write added_at_1)) new → ⊥
   -- a settle that leaves an open job
-  pub job_open : (new : Plain) (us : List EdgeUpdate) → new.stores ≡ job_left us → SaysPlainly one_region once_written (Some (asks.Store Settle)) (Settled (1 ∷ [])) new → ⊥
+  pub job_open : (new : Plain) (us : List EdgeUpdate) → new.stores ≡ job_left us
+      → SaysPlainly one_type once_written (Some (asks.Store Settle)) (Settled (1 ∷ [])) new → ⊥
   -- an audit of a front of the log
-  pub front_audited : (new : Plain) → SaysPlainly one_region once_written (Some (asks.Store (Audit reads_list))) (Audited (EdgesAre []) 0) new → ⊥
+  pub front_audited : (new : Plain) → SaysPlainly one_type once_written (Some (asks.Store (Audit reads_list))) (Audited (EdgesAre []) 0) new → ⊥
+  -- a write whose session wasn't told of the entry that its line added at the other end
+  pub end_untold : (new : Plain) → new.stores.logs ≡ both_ends → new.learnt 1 ≡ far_follow
+      → SaysPlainly four_types two_shards (Some follows_far) (Called (called.Write followed_at_1)) new → ⊥

@@ -1,7 +1,8 @@
 -- What a run promises to its caller, line by line. Nothing here speaks of caches, links or messages: only of the log of each shard with its open jobs, of
 -- the entries that each session has learnt of, and of the calls that are under way.
 use Rattle.std.specs.Prelude.{ℕ, zero, suc, ◌≡◌, ◌≤◌, ◌⊎◌, ◌++◌, ◌∷◌, [], ◌==◌, true, false, List, Contains, IsSomeAnd, Option, Some, None, ⊤}
-use Rattle.std.specs.Prelude.{if◌then◌else◌, length, map, slice_get, take}
+use Rattle.std.specs.Option.{option_map}
+use Rattle.std.specs.Prelude.{drop, if◌then◌else◌, length, map, slice_get, take}
 use Rattle.graph_model.specs.Answers.{answer}
 use Rattle.graph_model.specs.Legal.{IsLegal, MissesNothing, floor}
 use Rattle.graph_model.specs.Log.{entry_at, version}
@@ -13,7 +14,7 @@ use Rattle.replies.specs.declared.calls.ReadReply.{ReadReply}
 use Rattle.replies.specs.declared.calls.WriteKind.{WriteKind}
 use Rattle.replies.specs.declared.calls.WriteKind.TheVariants as kind
 use Rattle.replies.specs.declared.calls.WriteReply.{WriteReply}
-use Rattle.replies.specs.declared.nodes.CacheReply.TheVariants.{Shown as ShownReply}
+use Rattle.replies.specs.declared.nodes.CacheReply.TheVariants.{Refilled, Shown as ShownReply}
 use Rattle.replies.specs.declared.nodes.KeptOrNot.TheVariants.{Kept}
 use Rattle.replies.specs.declared.nodes.NodeReply.TheVariants.{Cache, Repaired}
 use Rattle.replies.specs.declared.nodes.Shown.TheVariants.{Held}
@@ -28,7 +29,7 @@ use Rattle.replies.specs.declared.reply.Reply.{Reply}
 use Rattle.replies.specs.declared.reply.Reply.TheVariants.{Audited, Called, Node, Plan, Refused, Settled}
 use Rattle.request_check.specs.declared.checked.Checked.{Checked}
 use Rattle.request_check.specs.declared.checked.Checked.TheVariants as asks
-use Rattle.request_check.specs.declared.caches.CheckedCache.TheVariants.{Show}
+use Rattle.request_check.specs.declared.caches.CheckedCache.TheVariants.{Refill, Show}
 use Rattle.request_check.specs.declared.plans.CheckedPlan.TheVariants.{Advance, Hold}
 use Rattle.request_check.specs.declared.stores.CheckedStore.TheVariants.{Audit, Repair, Settle}
 use Rattle.request_check.specs.declared.checked.CheckedCall.{CheckedCall}
@@ -54,12 +55,14 @@ use Rattle.write_model.specs.Writes.{forward_entry}
 abbrev pub Logs : Type 0
 Logs = List (List Entry)
 
--- a call that is under way: what it asks; and of the moment at which it began the logs, what its session has learnt of, and the logs of the last settle
+-- a call that is under way: what it asks; of the moment at which it began the logs, what its session has learnt of, and the logs of the last settle; and
+-- the entries that its lines have added to logs since
 pub record Begun : Type 0 where
   pub call : CheckedCall
   pub logs : Logs
   pub learnt : List Entry
   pub settled : Option Logs
+  pub added : List Entry
 
 -- between two lines: the logs of all shards with their open jobs, the entries that each session has learnt of, the call that each plan holds, and the logs as
 -- the last settle left them, if there was one
@@ -69,14 +72,15 @@ pub record Plain : Type 0 where
   pub held : ℕ → Option Begun
   pub settled : Option Logs
 
+-- the entries that logs have gained, shard by shard
+abbrev pub gained : Logs → Logs → List Entry
+gained old [] = []
+gained [] (now ∷ new) = now ++ gained [] new
+gained (was ∷ old) (now ∷ new) = drop (length was) now ++ gained old new
+
 -- each log is the same
 abbrev pub AreSameLogs : Logs → Logs → Type 0
 AreSameLogs old new = (shard : ℕ) → log_of new shard ≡ log_of old shard
-
--- what a configuration fixes of the promise: what it says of each type of edges, and how many regions there are
-pub record Terms : Type 0 where
-  pub types : EdgeTypes
-  pub regions : ℕ
 
 -- the session of a call
 abbrev pub caller : CheckedCall → ℕ
@@ -85,7 +89,12 @@ caller (Write call) = call.session
 
 -- a call that begins now
 abbrev pub begun_now : Plain → CheckedCall → Begun
-begun_now state call = record { call = call; logs = state.stores.logs; learnt = state.learnt (caller call); settled = state.settled }
+begun_now state call =
+    record { call = call; logs = state.stores.logs; learnt = state.learnt (caller call); settled = state.settled; added = [] }
+
+-- a call goes on by a line: what that added to the logs is the call's
+abbrev pub went_on : Logs → Logs → Begun → Begun
+went_on old new began = record began { added = began.added ++ gained old new }
 
 -- ---- reads
 
@@ -94,11 +103,11 @@ abbrev pub log_read : Logs → CheckedRead → List Entry
 log_read logs call = log_of logs (query_shard call.query)
 
 -- a read answers as some beginning of its shard's log, which has all that its session has learnt of before the read began. A critical read misses nothing
--- that stood when it began. One that began after a settle, since which no log has grown, has the last version, where there is one region
-pub record ReadsRightly (terms : Terms) (began : Begun) (call : CheckedRead) (reply : ReadReply) (now : Logs) : Type 0 where
-  pub legal : IsLegal terms.types (log_read now call) call.query (floor began.learnt (query_key call.query)) reply.answer reply.version
+-- that stood when it began. One that began after a settle, since which no log has grown, has the last version
+pub record ReadsRightly (types : EdgeTypes) (began : Begun) (call : CheckedRead) (reply : ReadReply) (now : Logs) : Type 0 where
+  pub legal : IsLegal types (log_read now call) call.query (floor began.learnt (query_key call.query)) reply.answer reply.version
   pub whole : call.critical ≡ true → MissesNothing (log_read began.logs call) call.query reply.version
-  pub last : (logs : Logs) → terms.regions ≤ 1 → began.settled ≡ Some logs → AreSameLogs logs now
+  pub last : (logs : Logs) → began.settled ≡ Some logs → AreSameLogs logs now
       → reply.version ≡ version (log_read now call) (query_key call.query)
 
 -- ---- writes
@@ -141,11 +150,16 @@ pub record FoundNothing (types : EdgeTypes) (began : Begun) (stores : Stores) (c
   pub nothing : forward_entry types (client_write_of stores call).epoch (take n (log_written stores.logs call)) (Client call.session call.seq) call.write ≡ None
   pub position_is : reply.written.position ≡ 0
 
--- a write that is acknowledged stands, and its session has learnt of it; or there was nothing to change
-abbrev pub IsAcknowledged : EdgeTypes → Begun → CheckedWrite → WriteReply → Plain → Type 0
-IsAcknowledged types began call reply new =
-    ((entry : Entry) × StandsAsLearnt types new.stores call reply entry × Contains (new.learnt call.session) entry)
-    ⊎ FoundNothing types began new.stores call reply
+-- a session has learnt of each of the entries
+abbrev pub HasLearntEach : List Entry → List Entry → Type 0
+HasLearntEach learnt entries = (entry : Entry) → Contains entries entry → Contains learnt entry
+
+-- a write that is acknowledged stands, and its session has learnt of it; or there was nothing to change. The session has learnt of each entry that the
+-- write's lines have added to any log: of its own, and of the merge at the other end where one of these lines added that
+pub record IsAcknowledged (types : EdgeTypes) (began : Begun) (call : CheckedWrite) (reply : WriteReply) (old : Logs) (new : Plain) : Type 0 where
+  pub done : ((entry : Entry) × StandsAsLearnt types new.stores call reply entry × Contains (new.learnt call.session) entry)
+      ⊎ FoundNothing types began new.stores call reply
+  pub learns : HasLearntEach (new.learnt call.session) (began.added ++ gained old new.stores.logs)
 
 -- the position that a refusal tells: that of an entry which stands all the same, or 0
 abbrev pub refused_at : Refusal → ℕ
@@ -154,28 +168,27 @@ refused_at (Store (LinkFault count (After position))) = position
 refused_at other = 0
 
 -- a line of a call was refused, with this position: with 0 no log changed, and else the write's entry stands there
-abbrev pub RefusesAt : ℕ → CheckedCall → Plain → Plain → Type 0
-RefusesAt zero call old new = new.stores.logs ≡ old.stores.logs
-RefusesAt (suc n) (Write call) old new =
-    (entry : Entry) × StandsFor new.stores.logs (client_write_of new.stores call) entry × (entry.position ≡ suc n)
-RefusesAt (suc n) (Read call) old new = new.stores.logs ≡ old.stores.logs
+abbrev pub RefusesAt : ℕ → CheckedCall → Logs → Stores → Type 0
+RefusesAt zero call old new = new.logs ≡ old
+RefusesAt (suc n) (Write call) old new = (entry : Entry) × StandsFor new.logs (client_write_of new call) entry × (entry.position ≡ suc n)
+RefusesAt (suc n) (Read call) old new = new.logs ≡ old
 
 -- ---- calls, held or not
 
 -- a call was carried out, in this line or over several
-abbrev pub IsCarriedOutRightly : Terms → Begun → CheckedCall → CallReply → Plain → Type 0
-IsCarriedOutRightly terms began (Read call) (called.Read reply) new = ReadsRightly terms began call reply new.stores.logs
-IsCarriedOutRightly terms began (Write call) (called.Write reply) new = IsAcknowledged terms.types began call reply new
-IsCarriedOutRightly terms began (Read call) (called.Write reply) new = ⊥
-IsCarriedOutRightly terms began (Write call) (called.Read reply) new = ⊥
+abbrev pub IsCarriedOutRightly : EdgeTypes → Begun → CheckedCall → CallReply → Logs → Plain → Type 0
+IsCarriedOutRightly types began (Read call) (called.Read reply) old new = ReadsRightly types began call reply new.stores.logs
+IsCarriedOutRightly types began (Write call) (called.Write reply) old new = IsAcknowledged types began call reply old new
+IsCarriedOutRightly types began (Read call) (called.Write reply) old new = ⊥
+IsCarriedOutRightly types began (Write call) (called.Read reply) old new = ⊥
 
--- what the reply to a line of a call says
-abbrev pub SaysOfCall : Terms → Begun → Plain → Reply → Plain → Type 0
-SaysOfCall terms began old (Called reply) new = IsCarriedOutRightly terms began began.call reply new
-SaysOfCall terms began old (Plan (Ended number reply)) new = IsCarriedOutRightly terms began began.call reply new
-SaysOfCall terms began old (Plan (Next word number stage)) new = ⊤
-SaysOfCall terms began old (Refused refusal) new = RefusesAt (refused_at refusal) began.call old new
-SaysOfCall terms began old other new = ⊥
+-- what the reply to a line of a call says, where the logs were these before it
+abbrev pub SaysOfCall : EdgeTypes → Begun → Logs → Reply → Plain → Type 0
+SaysOfCall types began old (Called reply) new = IsCarriedOutRightly types began began.call reply old new
+SaysOfCall types began old (Plan (Ended number reply)) new = IsCarriedOutRightly types began began.call reply old new
+SaysOfCall types began old (Plan (Next word number stage)) new = ⊤
+SaysOfCall types began old (Refused refusal) new = RefusesAt (refused_at refusal) began.call old new.stores
+SaysOfCall types began old other new = ⊥
 
 -- one line of a call: reads change no log
 abbrev pub CallsAlone : EdgeTypes → CheckedCall → Stores → Logs → Type 0
@@ -183,11 +196,11 @@ CallsAlone types (Read call) old new = new ≡ old.logs
 CallsAlone types (Write call) old new = WritesAlone types old call new
 
 -- what the call that a plan holds is said and done in a line
-pub record AdvancesCall (terms : Terms) (plan : ℕ) (old : Plain) (reply : Reply) (new : Plain) : Type 0 where
+pub record AdvancesCall (types : EdgeTypes) (plan : ℕ) (old : Plain) (reply : Reply) (new : Plain) : Type 0 where
   pub began : Begun
   pub holds : old.held plan ≡ Some began
-  pub says : SaysOfCall terms began old reply new
-  pub changes : CallsAlone terms.types began.call old.stores new.stores.logs
+  pub says : SaysOfCall types began old.stores.logs reply new
+  pub changes : CallsAlone types began.call old.stores new.stores.logs
 
 -- ---- repairs, settles and what is shown
 
@@ -217,19 +230,26 @@ IsShownOf log (Assocs id1 atype) at (shown.List edges total) = IsExactList log i
 IsShownOf log (Obj id) at (shown.List edges total) = ⊥
 IsShownOf log (Assocs id1 atype) at (shown.Object found) = ⊥
 
+-- the version is one that some key had: that of the key at some beginning of its shard's log
+pub record IsVersionOfSome (logs : Logs) (given : ℕ) : Type 0 where
+  pub key : Key
+  pub n : ℕ
+  pub version_is : given ≡ version (take n (log_of logs (key_shard key))) key
+
 -- ---- a line
 
 -- what the reply says
-abbrev pub SaysRightly : Terms → Plain → Checked → Reply → Plain → Type 0
-SaysRightly terms old (asks.Call call) reply new = SaysOfCall terms (begun_now old call) old reply new
-SaysRightly terms old (asks.Plan (Hold plan call)) reply new = SaysOfCall terms (begun_now old call) old reply new
-SaysRightly terms old (asks.Plan (Advance plan)) reply new = AdvancesCall terms plan old reply new
-SaysRightly terms old (asks.Store (Repair shard)) (Node (Repaired reply)) new = IsRepairedUpTo shard reply.job new.stores
-SaysRightly terms old (asks.Store Settle) (Settled lengths) new = IsSettledNow terms.types lengths new.stores
-SaysRightly terms old (asks.Store (Audit call)) (Audited given position) new = IsAuditOf terms.types old.stores.logs call (Audited given position)
-SaysRightly terms old (asks.Cache (Show node key)) (Node (Cache (ShownReply mark (Held at item)))) new =
+abbrev pub SaysRightly : EdgeTypes → Plain → Checked → Reply → Plain → Type 0
+SaysRightly types old (asks.Call call) reply new = SaysOfCall types (begun_now old call) old.stores.logs reply new
+SaysRightly types old (asks.Plan (Hold plan call)) reply new = SaysOfCall types (begun_now old call) old.stores.logs reply new
+SaysRightly types old (asks.Plan (Advance plan)) reply new = AdvancesCall types plan old reply new
+SaysRightly types old (asks.Store (Repair shard)) (Node (Repaired reply)) new = IsRepairedUpTo shard reply.job new.stores
+SaysRightly types old (asks.Store Settle) (Settled lengths) new = IsSettledNow types lengths new.stores
+SaysRightly types old (asks.Store (Audit call)) (Audited given position) new = IsAuditOf types old.stores.logs call (Audited given position)
+SaysRightly types old (asks.Cache (Show node key)) (Node (Cache (ShownReply mark (Held at item)))) new =
     IsShownOf (log_of old.stores.logs (key_shard key)) key at item
-SaysRightly terms old asked reply new = ⊤
+SaysRightly types old (asks.Cache (Refill node)) (Node (Cache (Refilled reply))) new = IsVersionOfSome new.stores.logs reply.version
+SaysRightly types old asked reply new = ⊤
 
 -- how a line may change the logs: only as what it asks does
 abbrev pub ChangesLogs : EdgeTypes → Plain → Checked → Logs → Type 0
@@ -240,10 +260,13 @@ ChangesLogs types old (asks.Store (Repair shard)) new = RepairsAlone types old.s
 ChangesLogs types old (asks.Store Settle) new = Settles types old.stores new
 ChangesLogs types old other new = new ≡ old.stores.logs
 
--- what each plan holds after a line: a `hold` begins a call, and nothing else changes one
-abbrev pub held_after : Plain → Checked → ℕ → Option Begun
-held_after old (asks.Plan (Hold plan call)) number = if number == plan then Some (begun_now old call) else old.held number
-held_after old other number = old.held number
+-- what each plan holds after a line: a `hold` begins a call, an `advance` goes on with one, and nothing else changes one
+abbrev pub held_after : Plain → Checked → Logs → ℕ → Option Begun
+held_after old (asks.Plan (Hold plan call)) new number =
+    if number == plan then Some (went_on old.stores.logs new (begun_now old call)) else old.held number
+held_after old (asks.Plan (Advance plan)) new number =
+    if number == plan then option_map (went_on old.stores.logs new) (old.held number) else old.held number
+held_after old other new number = old.held number
 
 -- the logs of the last settle after a line: those that a settle's Ok reply leaves
 abbrev pub settled_after : Plain → Reply → Logs → Option Logs
@@ -265,13 +288,13 @@ EachGrows old new = (shard : ℕ) → log_of old shard ≡ take (length (log_of 
 
 -- a line that asks something. Its reply is right. The logs changed only as what it asks does, each of them at its end, and are well kept. A session that was
 -- told of an entry stays so, and a plan holds its call
-pub record KeepsPromise (terms : Terms) (old : Plain) (asked : Checked) (reply : Reply) (new : Plain) : Type 0 where
-  pub says : SaysRightly terms old asked reply new
-  pub changes : ChangesLogs terms.types old asked new.stores.logs
+pub record KeepsPromise (types : EdgeTypes) (old : Plain) (asked : Checked) (reply : Reply) (new : Plain) : Type 0 where
+  pub says : SaysRightly types old asked reply new
+  pub changes : ChangesLogs types old asked new.stores.logs
   pub grows : EachGrows old.stores.logs new.stores.logs
-  pub well_kept : IsWellKept terms.types new.stores
+  pub well_kept : IsWellKept types new.stores
   pub learnt : (session : ℕ) → (more : List Entry) × (new.learnt session ≡ old.learnt session ++ more)
-  pub held : (plan : ℕ) → new.held plan ≡ held_after old asked plan
+  pub held : (plan : ℕ) → new.held plan ≡ held_after old asked new.stores.logs plan
   pub settled : new.settled ≡ settled_after old reply new.stores.logs
 
 -- ---- a run
@@ -288,9 +311,9 @@ pub record IsRefusedBefore (old : Plain) (reply : Reply) (new : Plain) : Type 0 
   pub same : new ≡ old
 
 -- one line and its reply
-abbrev pub SaysPlainly : Terms → Plain → Option Checked → Reply → Plain → Type 0
-SaysPlainly terms old (Some asked) reply new = KeepsPromise terms old asked reply new
-SaysPlainly terms old None reply new = IsRefusedBefore old reply new
+abbrev pub SaysPlainly : EdgeTypes → Plain → Option Checked → Reply → Plain → Type 0
+SaysPlainly types old (Some asked) reply new = KeepsPromise types old asked reply new
+SaysPlainly types old None reply new = IsRefusedBefore old reply new
 
 -- two replies to one read are the same; the second took no hop, and no keeper was called
 pub record AreSameReplies (first second : ReadReply) : Type 0 where
@@ -310,15 +333,15 @@ AnswersNext said [] = ⊤
 AnswersNext said (next ∷ more) = AnswersSameAgain said next
 
 -- one line after another
-abbrev pub RunsPlainly : Terms → Plain → List Said → Plain → Type 0
-RunsPlainly terms old [] new = new ≡ old
-RunsPlainly terms old (said ∷ more) new =
-    (between : Plain) × SaysPlainly terms old said.asked said.reply between × AnswersNext said more × RunsPlainly terms between more new
+abbrev pub RunsPlainly : EdgeTypes → Plain → List Said → Plain → Type 0
+RunsPlainly types old [] new = new ≡ old
+RunsPlainly types old (said ∷ more) new =
+    (between : Plain) × SaysPlainly types old said.asked said.reply between × AnswersNext said more × RunsPlainly types between more new
 
 -- ---- what follows
 
 -- an entry that stands after one line stands after all later ones, and who has learnt of it stays so
-pub record StandsFromThenOn (terms : Terms) (old : Plain) (saids : List Said) (new : Plain) : Type 0 where
-  pub stands : (shard position : ℕ) (entry : Entry) → RunsPlainly terms old saids new → entry_at (log_of old.stores.logs shard) position ≡ Some entry
+pub record StandsFromThenOn (types : EdgeTypes) (old : Plain) (saids : List Said) (new : Plain) : Type 0 where
+  pub stands : (shard position : ℕ) (entry : Entry) → RunsPlainly types old saids new → entry_at (log_of old.stores.logs shard) position ≡ Some entry
       → entry_at (log_of new.stores.logs shard) position ≡ Some entry
-  pub learnt : (session : ℕ) (entry : Entry) → RunsPlainly terms old saids new → Contains (old.learnt session) entry → Contains (new.learnt session) entry
+  pub learnt : (session : ℕ) (entry : Entry) → RunsPlainly types old saids new → Contains (old.learnt session) entry → Contains (new.learnt session) entry

@@ -7,13 +7,14 @@
 #![tactic(auto)]
 
 ghost use Rattle.std.specs.Prelude.{List};
-ghost use Rattle.plain_promise.specs.Example.{FourAreRefused, SixLinesRun};
-ghost use Rattle.plain_promise.specs.Promise.{Plain, Said, StandsFromThenOn, Terms};
+ghost use Rattle.plain_promise.specs.Example.{FiveAreRefused, SixLinesRun};
+ghost use Rattle.plain_promise.specs.Promise.{Plain, Said, StandsFromThenOn};
+ghost use Rattle.tao_base.specs.EdgeTypes.{EdgeTypes};
 
 /// An entry that stands after one line of a run stands after all later ones, and who has learnt of it stays so.
 #[tactic(auto, using(crate::proofs::PromiseLaws::stands_from_then_on))]
 pub fn stands_from_then_on()
-    ensures { (terms : Terms) (old : Plain) (saids : List Said) (new : Plain) → StandsFromThenOn terms old saids new }
+    ensures { (types : EdgeTypes) (old : Plain) (saids : List Said) (new : Plain) → StandsFromThenOn types old saids new }
 {}
 
 /// The worked run of six lines is one of the promise.
@@ -22,8 +23,9 @@ pub fn six_lines_run()
     ensures { SixLinesRun }
 {}
 
-/// A read below its session's floor, an acknowledged write that doesn't stand, a settle that leaves a job and an audit of a front are none.
-#[tactic(auto, using(crate::proofs::ExampleLemmas::four_are_refused))]
-pub fn four_are_refused()
-    ensures { FourAreRefused }
+/// A read below its session's floor, an acknowledged write that doesn't stand, or whose other end its session wasn't told of, a settle that leaves a job
+/// and an audit of a front are none.
+#[tactic(auto, using(crate::proofs::ExampleLemmas::five_are_refused))]
+pub fn five_are_refused()
+    ensures { FiveAreRefused }
 {}

@@ -1,5 +1,5 @@
 -- A call that isn't held: all of its stages, from its beginning to its reply.
-use Rattle.std.proofs.Common.{◌≡◌, ◌<◌, ◌∙◌, ℕ, true, List, Option, Some, None, refl, sym, ap, subst, arith}
+use Rattle.std.proofs.Common.{◌≡◌, ◌<◌, ◌∙◌, ℕ, true, List, [], Option, Some, None, refl, sym, ap, subst, arith}
 use Rattle.std.specs.Option.{option_map}
 use Rattle.std.specs.Prelude.{Contains, IfSome, option_and_then}
 use Rattle.core_model.specs.Consistent.{IsConsistent}
@@ -14,20 +14,21 @@ use Rattle.core_plans.specs.LedBy.{led_by}
 use Rattle.core_plans.specs.WholeCalls.{CarriesOut, PassesStage}
 use Rattle.core_plans.specs.declared.held.HeldPlan.{HeldPlan}
 use Rattle.core_plans.specs.declared.held.HeldPlan.TheVariants as of
+use Rattle.core_plans.specs.declared.leaders.Leaders.{Leaders}
 use Rattle.core_steps.specs.OtherEnds.{learnt_entry_of}
 use Rattle.core_steps.specs.World.{World}
 use Rattle.graph_model.specs.Legal.{floor}
 use Rattle.graph_model.specs.Log.{version}
-use Rattle.node_name.specs.declared.NodeName.{NodeName}
 use Rattle.plain_promise.specs.Promise.{Begun, EachGrows, Logs, log_read}
+use Rattle.promise_kept.proofs.Adding.{adds_same, none_in}
 use Rattle.promise_kept.proofs.Commits.{write_of}
 use Rattle.promise_kept.proofs.Entries.{HasFewTouches, entry_few}
 use Rattle.promise_kept.proofs.Going.{each_grows, grows_on, log_is}
 use Rattle.promise_kept.proofs.Learning.{AreFewTold, as_told, has_learnt, learnt_after}
-use Rattle.promise_kept.proofs.ReadLemmas.{IsRefusedAt, stage_so}
+use Rattle.promise_kept.proofs.Refusing.{EndsRefused, stage_refuses}
 use Rattle.promise_kept.proofs.WriteStages.{IsRefusedSo, Ran, WritesSoFar}
 use Rattle.promise_kept.proofs.WritesOn.{writes_on}
-use Rattle.promise_kept.specs.Seen.{HasLast, HasWritten, IsAnsweredFor, IsReadFor}
+use Rattle.promise_kept.specs.Seen.{HasLast, HasWritten, IsAnsweredFor, IsReadFor, IsToldOf}
 use Rattle.read_plan.specs.Ends.{EndsAt}
 use Rattle.read_plan.specs.Readings.{Reading}
 use Rattle.read_plan.specs.declared.standing.Standing.TheVariants.{Looking}
@@ -53,11 +54,11 @@ use Rattle.write_plan.specs.declared.committed.Committed.{Committed}
 -- ---- a read
 
 -- one stage of a read keeps what is so of it; that it has the last version is another matter
-pub read_steps : (s : Settings) (leader : NodeName) (p q : Reading) (old new : World) (began : Begun) (read : CheckedRead)
-    → IsReadFor s old.keepers began read p → HasLast s new.keepers began.settled q → StepsReadAlone (led_by true s leader) p old q new
+pub read_steps : (s : Settings) (leaders : Leaders) (p q : Reading) (old new : World) (began : Begun) (read : CheckedRead)
+    → IsReadFor s old.keepers began read p → HasLast s new.keepers began.settled q → StepsReadAlone (led_by true s leaders) p old q new
     → IsReadFor s new.keepers began read q
-read_steps s leader p q old new began read under last steps =
-    let same = read_same p q old new (led_by true s leader) p.at steps.steps.does in
+read_steps s leaders p q old new began read under last steps =
+    let same = read_same p q old new (led_by true s leaders) p.at steps.steps.does in
     record {
       query_is = same.query ∙ under.query_is;
       critical_is = same.critical ∙ under.critical_is;
@@ -68,21 +69,21 @@ read_steps s leader p q old new began read under last steps =
 
 -- where nothing was settled there is nothing to have
 unsettled_last : (s : Settings) (keepers : KeeperState) (q : Reading) → HasLast s keepers None q
-unsettled_last s keepers q logs few is same = absurd (cc)
+unsettled_last s keepers q logs is same = absurd (cc)
 
 -- what is so of a read after each of its stages, where no settle counts
 pub record ReadsSoFar (s : Settings) (began : Begun) (read : CheckedRead) (start : World) (q : Reading) (now : World) : Type 0 where
   pub for_call : IsReadFor s now.keepers (record began { settled = None }) read q
   pub legal : EndsLegally true s q now
-  pub so : IsRefusedAt q.at
+  pub so : EndsRefused q.at
   pub tables : KeepsTables true start.keepers now.keepers
 
-reads_on : (s : Settings) (leader : NodeName) (began : Begun) (read : CheckedRead) (start : World) (p q : Reading) (old new : World)
-    → ReadsSoFar s began read start p old → PassesStage (led_by true s leader) (of.Read p) old (of.Read q) new → ReadsSoFar s began read start q new
-reads_on s leader began read start p q old new so stage = record {
-  for_call = read_steps s leader p q old new (record began { settled = None }) read so.for_call (unsettled_last s new.keepers q) stage.steps;
+reads_on : (s : Settings) (leaders : Leaders) (began : Begun) (read : CheckedRead) (start : World) (p q : Reading) (old new : World)
+    → ReadsSoFar s began read start p old → PassesStage (led_by true s leaders) (of.Read p) old (of.Read q) new → ReadsSoFar s began read start q new
+reads_on s leaders began read start p q old new so stage = record {
+  for_call = read_steps s leaders p q old new (record began { settled = None }) read so.for_call (unsettled_last s new.keepers q) stage.steps;
   legal = stage.steps.steps.legal;
-  so = stage_so (led_by true s leader) p.at p q old new refl stage.steps.steps.does;
+  so = stage_refuses (led_by true s leaders) p q old new stage.steps.steps.does;
   tables = keeps_trans true start.keepers old.keepers new.keepers so.tables stage.steps.tables;
 }
 
@@ -101,18 +102,18 @@ read_begins s keepers began read p here logs query critical least at =
       critical_is = critical;
       floor_is = least;
       whole = nothing_is_missed_later.begun true s (version (log_read began.logs read) key) p keepers at (omega (arith, stands));
-      last = λ settled few is same. subst (HasComeTo (version_now s p keepers) (version_now s p keepers)) (sym at) (omega arith);
+      last = λ settled is same. subst (HasComeTo (version_now s p keepers) (version_now s p keepers)) (sym at) (omega arith);
     }
 
-pub reads_at_once : (s : Settings) (leader : NodeName) (began : Begun) (read : CheckedRead) (p : Reading) (start : World) (q : HeldPlan) (end : World)
+pub reads_at_once : (s : Settings) (leaders : Leaders) (began : Begun) (read : CheckedRead) (p : Reading) (start : World) (q : HeldPlan) (end : World)
     → IsReadFor s start.keepers (record began { settled = None }) read p → p.at ≡ Looking
-    → CarriesOut (led_by true s leader) (of.Read p) start q end → OfRead (ReadsSoFar s began read start) q end
-reads_at_once s leader began read p start q end begins at carries =
-    read_keeps (led_by true s leader) (ReadsSoFar s began read start) (reads_on s leader began read start) carries.stages p q start end
+    → CarriesOut (led_by true s leaders) (of.Read p) start q end → OfRead (ReadsSoFar s began read start) q end
+reads_at_once s leaders began read p start q end begins at carries =
+    read_keeps (led_by true s leaders) (ReadsSoFar s began read start) (reads_on s leaders began read start) carries.stages p q start end
     (record {
       for_call = begins;
       legal = λ reply ends. absurd (subst (λ a. EndsAt a p (Called (called.Read reply))) at ends);
-      so = subst IsRefusedAt (sym at) tt;
+      so = subst EndsRefused (sym at) tt;
       tables = λ told here. refl;
     }) carries.passes
 
@@ -125,24 +126,24 @@ pub record WritesThrough (s : Settings) (began : Begun) (write : CheckedWrite) (
   pub are : IsConsistent true s now.keepers.told now.fleet
   pub grew : EachGrows began.logs (stores_in s now.keepers.told).logs
 
-goes_through : (s : Settings) (leader : NodeName) (began : Begun) (write : CheckedWrite) (start : Logs) (p q : Writing) (old new : World)
-    → WritesThrough s began write start p old → PassesStage (led_by true s leader) (of.Write p) old (of.Write q) new
+goes_through : (s : Settings) (leaders : Leaders) (began : Begun) (write : CheckedWrite) (start : Logs) (p q : Writing) (old new : World)
+    → WritesThrough s began write start p old → PassesStage (led_by true s leaders) (of.Write p) old (of.Write q) new
     → WritesThrough s began write start q new
-goes_through s leader began write start p q old new through stage =
+goes_through s leaders began write start p q old new through stage =
     let grows = each_grows s old.keepers.told new.keepers.told stage.on.grows.logs in
     record {
-      so = writes_on s leader p q old new began write start through.so
+      so = writes_on s leaders p q old new began write start through.so
           (record { grows = grows; was = through.are.stores.kept refl; now = stage.on.consistent.stores.kept refl }) through.under through.grew stage.steps;
       under = stage.under_way;
       are = stage.on.consistent;
       grew = grows_on began.logs (stores_in s old.keepers.told).logs (stores_in s new.keepers.told).logs through.grew grows;
     }
 
-pub writes_at_once : (s : Settings) (leader : NodeName) (began : Begun) (write : CheckedWrite) (start : Logs) (p : Writing) (old : World) (q : HeldPlan)
-    (new : World) → WritesThrough s began write start p old → CarriesOut (led_by true s leader) (of.Write p) old q new
+pub writes_at_once : (s : Settings) (leaders : Leaders) (began : Begun) (write : CheckedWrite) (start : Logs) (p : Writing) (old : World) (q : HeldPlan)
+    (new : World) → WritesThrough s began write start p old → CarriesOut (led_by true s leaders) (of.Write p) old q new
     → OfWrite (WritesThrough s began write start) q new
-writes_at_once s leader began write start p old q new begins carries =
-    write_keeps (led_by true s leader) (WritesThrough s began write start) (goes_through s leader began write start) carries.stages p q old new begins
+writes_at_once s leaders began write start p old q new begins carries =
+    write_keeps (led_by true s leaders) (WritesThrough s began write start) (goes_through s leaders began write start) carries.stages p q old new begins
     carries.passes
 
 -- ---- what a write tells its session
@@ -175,30 +176,29 @@ pub few_with : (reply : Reply) (q : Writing) → AreFewTold (learnt_of_write q) 
 few_with (Called reply) q few = few
 few_with reply q few = record { here = tt; other = tt }
 
--- the session of a write that was carried out has learnt of its entry
+-- the session of a write that was carried out has learnt of what it tells
 pub has_told : (s : Settings) (began : Begun) (write : CheckedWrite) (start : Logs) (q : Writing) (keepers : KeeperState)
-    → WritesSoFar s began write start q keepers → (reply : Reply) (learnt : ℕ → List Entry) (c : Committed) → q.committed ≡ Some c
-    → reply ≡ reply_after c q.job q.hops → (e : Entry) → c.wrote.entry ≡ Some e
+    → WritesSoFar s began write start q keepers → (reply : Reply) (learnt : ℕ → List Entry) (c : Committed) → reply ≡ reply_after c q.job q.hops
+    → (e : Entry) → IsToldOf (learnt_of_write q) e
     → Contains (learnt_after (author q.origin) (learnt_with reply (of.Write q)) learnt write.session) e
-has_told s began write start q keepers so reply learnt c committed_is reply_is e entry_is =
-    let told = learnt_with reply (of.Write q) in
-    let here : told.here ≡ Some (as_told (write_shard q.write) c.wrote.note e) =
-    ap (λ r. (learnt_with r (of.Write q)).here) reply_is
-    ∙ ap (option_and_then (λ (x : Committed). learnt_entry_of (write_shard q.write) x.wrote)) committed_is
-    ∙ ap (option_map (as_told (write_shard q.write) c.wrote.note)) entry_is in
-    subst (λ n. Contains (learnt_after (author q.origin) told learnt n) e) (ap author so.for_call.origin_is)
-    (has_learnt (author q.origin) told learnt (as_told (write_shard q.write) c.wrote.note e) here)
+has_told s began write start q keepers so reply learnt c reply_is e told =
+    subst (λ n. Contains (learnt_after (author q.origin) (learnt_with reply (of.Write q)) learnt n) e) (ap author so.for_call.origin_is)
+    (has_learnt (author q.origin) (learnt_with reply (of.Write q)) learnt e
+    (subst (λ r. IsToldOf (learnt_with r (of.Write q)) e) (sym reply_is) told))
 
 -- a write of which nothing was done
 pub write_begins : (s : Settings) (keepers : KeeperState) (began : Begun) (write : CheckedWrite) (p : Writing) → p.write ≡ write.write
-    → p.origin ≡ Client write.session write.seq → p.committed ≡ None → p.refused ≡ None
+    → p.origin ≡ Client write.session write.seq → p.committed ≡ None → p.refused ≡ None → p.other ≡ None → began.added ≡ []
     → WritesSoFar s began write (stores_in s keepers.told).logs p keepers
-write_begins s keepers began write p write_is origin_is none unrefused = record {
+write_begins s keepers began write p write_is origin_is none unrefused unknown nothing = record {
   for_call = record {
     write_is = write_is;
     origin_is = origin_is;
     answered = subst (λ c. IfSome c (IsAnsweredFor s (stores_in s keepers.told) began write p.job)) (sym none) tt;
+    added = λ e has. absurd (none_in e (subst (λ es. Contains es e) nothing has));
+    due = λ is. unknown;
   };
   ran = subst (λ c. Ran (types_of s.schema) (stores_in s keepers.told).logs (write_of write) (stores_in s keepers.told).logs c p.job) (sym none) refl;
+  adds = adds_same (stores_in s keepers.told).logs (stores_in s keepers.told).logs (learnt_of_write p) refl;
   refused = subst (λ r. IfSome r (IsRefusedSo (stores_in s keepers.told).logs write (stores_in s keepers.told).logs)) (sym unrefused) tt;
 }

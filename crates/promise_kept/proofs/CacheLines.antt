@@ -1,6 +1,6 @@
 -- The lines of cache nodes and of the link: no log changes, and what is shown of a key is what its log says.
 use Rattle.std.proofs.Common.{◌≡◌, ℕ, ◌<◌, Bool, true, false, List, Option, Some, None, refl, sym, ap, ◌∙◌, subst, inl, inr}
-use Rattle.core_model.specs.Stores.{master_log}
+use Rattle.core_model.specs.Stores.{master_log, stores_in}
 use Rattle.core_plans.proofs.WholeRuns.{OfRead}
 use Rattle.core_plans.specs.Held.{IsOver, learnt_with}
 use Rattle.core_plans.specs.declared.held.HeldPlan.{HeldPlan}
@@ -8,24 +8,26 @@ use Rattle.core_plans.specs.declared.held.HeldPlan.TheVariants as of
 use Rattle.core_steps.specs.Replies.{refilled_as}
 use Rattle.cache_items.specs.declared.item.Item.{Item}
 use Rattle.node_name.specs.declared.NodeName.{NodeName}
-use Rattle.plain_promise.specs.Promise.{IsShownOf, Logs, Plain, SaysRightly, settled_after}
-use Rattle.promise_kept.proofs.Going.{log_is, settled_rests}
+use Rattle.plain_promise.specs.Promise.{IsShownOf, IsVersionOfSome, Logs, Plain, SaysRightly, settled_after}
+use Rattle.promise_kept.proofs.Going.{log_is, settled_rests, stores_are}
 use Rattle.promise_kept.proofs.Others.{KeepsCalls, keeps_calls, plain_with, steps_so}
 use Rattle.promise_kept.proofs.Refusing.{EndsRefused, ReadRests, read_rests}
 use Rattle.promise_kept.proofs.StoreLines.{same_stores, store_line}
 use Rattle.promise_kept.specs.Lines.{GoesOnUsable, KeepsLine, OthersKeepPromise, StepsPlainly}
-use Rattle.promise_kept.specs.Seen.{IsPlainOf, IsSettledSince, stores_at, terms_of}
+use Rattle.promise_kept.specs.Seen.{IsPlainOf, IsSettledSince, stores_at}
 use Rattle.read_plan.specs.Ends.{EndsAt}
 use Rattle.read_plan.specs.Readings.{Reading}
 use Rattle.read_plan.specs.declared.end.ReadEnd.TheVariants as ended
 use Rattle.read_plan.specs.declared.standing.Standing.{Standing}
 use Rattle.read_plan.specs.declared.standing.Standing.TheVariants.{Looking, Asking, Mastering, Keeping, Ended}
-use Rattle.replies.specs.declared.nodes.CacheReply.TheVariants.{Shown}
+use Rattle.replies.specs.declared.calls.CallReply.TheVariants as called
+use Rattle.replies.specs.declared.calls.ReadReply.{ReadReply}
+use Rattle.replies.specs.declared.nodes.CacheReply.TheVariants.{Refilled, Shown}
 use Rattle.replies.specs.declared.nodes.NodeReply.TheVariants.{Cache, Link}
 use Rattle.replies.specs.declared.nodes.Shown.TheVariants.{Held, Nothing}
 use Rattle.replies.specs.declared.refusals.Refusal.TheVariants.{Memory}
 use Rattle.replies.specs.declared.reply.Reply.{Reply}
-use Rattle.replies.specs.declared.reply.Reply.TheVariants.{Node, Refused, Settled}
+use Rattle.replies.specs.declared.reply.Reply.TheVariants.{Called, Node, Refused, Settled}
 use Rattle.request_check.specs.declared.caches.CheckedCache.{CheckedCache}
 use Rattle.request_check.specs.declared.caches.CheckedCache.TheVariants as cache
 use Rattle.request_check.specs.declared.checked.Checked.TheVariants as asks
@@ -35,6 +37,7 @@ use Rattle.request_check.specs.declared.links.LinkPlace.{LinkPlace}
 use Rattle.sealed_item.specs.Fills.{IsExactContent}
 use Rattle.sealed_item.specs.declared.content.Content.{Content}
 use Rattle.sealed_item.specs.declared.content.Content.TheVariants as content
+use Rattle.tao_base.specs.EdgeTypes.{EdgeTypes}
 use Rattle.tao_base.specs.Keys.{key_shard}
 use Rattle.tao_base.specs.declared.entry.Entry.{Entry}
 use Rattle.tao_base.specs.declared.id.Key.{Key}
@@ -44,9 +47,11 @@ use Rattle.tao_core.specs.CacheReplies.{AnswersEvict, OnlyNodesChange}
 use Rattle.tao_core.specs.Core.{CoreState, Moment}
 use Rattle.tao_core.specs.Deliveries.{AnswersDeliver, AnswersInbox, AnswersLoss, AnswersRefill, AnswersSecond, AnswersShow, IsExactNow}
 use Rattle.tao_core.specs.Deliveries.{refill_plan, shown_content, shown_item}
-use Rattle.tao_core.specs.HeldCalls.{LearnsOf, plan_leader}
+use Rattle.tao_core.specs.HeldCalls.{LearnsOf, plan_leaders}
 use Rattle.tao_core.specs.LinkReplies.{AnswersSwitch}
 use Rattle.tao_keeper.specs.Table.{Stays}
+use Rattle.tao_schema.specs.Schema.{types_of}
+use Rattle.topology.specs.Config.{Settings}
 use Rattle.words.specs.declared.LinkWord.{LinkWord}
 use Rattle.words.specs.declared.LinkWord.TheVariants as link
 use Rattle.write_model.specs.Merges.{Stores, log_of}
@@ -76,7 +81,7 @@ pub record Rests (old new : Moment) : Type 0 where
 
 module _ (old new : Moment) (plain : Plain) (is : IsPlainOf old plain) (on : GoesOnUsable old new) where
   rest_so : (asked : CheckedCache) (reply : Reply) → Rests old new → IsNoSettle reply
-      → SaysRightly (terms_of old.core.settings) plain (asks.Cache asked) reply (plain_with plain new (settled_after plain reply (stores_at new).logs))
+      → SaysRightly (types_of old.core.settings.schema) plain (asks.Cache asked) reply (plain_with plain new (settled_after plain reply (stores_at new).logs))
       → StepsPlainly (Some (asks.Cache asked)) old plain reply new
   rest_so asked reply rests none says = steps_so old new plain is on rests.keeps (asks.Cache asked) reply says (same_stores old new plain is on rests.tables)
       (λ plan. refl) (subst (IsSettledSince new) (sym (settled_same plain (stores_at new).logs reply none)) (settled_rests old new on plain.settled is.settled))
@@ -145,34 +150,53 @@ module _ (old new : Moment) (plain : Plain) (is : IsPlainOf old plain) (on : Goe
 
 -- ---- refills
 
--- a read that ends with a reply which is no settle's
-ends_so : (at : Standing) (q : Reading) (reply : Reply) → EndsRefused at → EndsAt at q reply → IsNoSettle (refilled_as reply)
-ends_so (Ended (ended.Answered answer version held)) q reply refused ends = subst (λ r. IsNoSettle (refilled_as r)) (sym ends) tt
-ends_so (Ended (ended.Refused own)) q reply refused ends = subst (λ r. IsNoSettle (refilled_as r)) (sym (ends ∙ refused.1)) tt
-ends_so Looking q reply refused ends = absurd ends
-ends_so Asking q reply refused ends = absurd ends
-ends_so Mastering q reply refused ends = absurd ends
-ends_so (Keeping given) q reply refused ends = absurd ends
+-- what the reply to a refill says: it is no settle's, and its version is one that some key had
+abbrev SaysOfRefill : Logs → Reply → Type 0
+SaysOfRefill logs (Node (Cache (Refilled reply))) = IsVersionOfSome logs reply.version
+SaysOfRefill logs (Settled lengths) = ⊥
+SaysOfRefill logs other = Unit {0}
+
+refill_says : (types : EdgeTypes) (old new : Plain) (node : NodeName) (reply : Reply) → SaysOfRefill new.stores.logs reply
+    → SaysRightly types old (asks.Cache (cache.Refill node)) reply new
+refill_says types old new node (Node (Cache (Refilled reply))) says = says
+refill_says types old new node other says = tt
+
+-- a read that ends says so
+ends_so : (logs : Logs) (at : Standing) (q : Reading) (reply : Reply) → EndsRefused at
+    → ((answer : ReadReply) → EndsAt at q (Called (called.Read answer)) → IsVersionOfSome logs answer.version) → EndsAt at q reply
+    → SaysOfRefill logs (refilled_as reply)
+ends_so logs (Ended (ended.Answered answer version held)) q reply refused of ends = subst (λ r. SaysOfRefill logs (refilled_as r)) (sym ends) (of _ refl)
+ends_so logs (Ended (ended.Refused own)) q reply refused of ends = subst (λ r. SaysOfRefill logs (refilled_as r)) (sym (ends ∙ refused.1)) tt
+ends_so logs Looking q reply refused of ends = absurd ends
+ends_so logs Asking q reply refused of ends = absurd ends
+ends_so logs Mastering q reply refused of ends = absurd ends
+ends_so logs (Keeping given) q reply refused of ends = absurd ends
 
 -- what a read leaves that was carried out
-record Leaves (old new : Moment) (read : Reply) : Type 0 where
+record Leaves (s : Settings) (old new : Moment) (read : Reply) : Type 0 where
   tables : Stays old.keepers.told new.keepers.told
   sessions : new.core.sessions ≡ old.core.sessions
-  none : IsNoSettle (refilled_as read)
+  says : SaysOfRefill (stores_in s new.keepers.told).logs (refilled_as read)
 
-read_leaves : (old new : Moment) (read : Reply) (after : HeldPlan) → OfRead (ReadRests (world_of old)) after (world_of new) → IsOver after read
-    → LearnsOf after (learnt_with read after) old.core.sessions new.core.sessions → Leaves old new read
-read_leaves old new read (of.Read q) rests over learns = record { tables = rests.tables; sessions = learns; none = ends_so q.at q read rests.refused over }
-read_leaves old new read (of.Write q) rests over learns = absurd rests
+read_leaves : (s : Settings) (old new : Moment) (read : Reply) (after : HeldPlan) → OfRead (ReadRests s (world_of old)) after (world_of new)
+    → IsOver after read → LearnsOf after (learnt_with read after) old.core.sessions new.core.sessions → Leaves s old new read
+read_leaves s old new read (of.Read q) rests over learns = record {
+  tables = rests.tables;
+  sessions = learns;
+  says = ends_so (stores_in s new.keepers.told).logs q.at q read rests.refused rests.answers over;
+}
+read_leaves s old new read (of.Write q) rests over learns = absurd rests
 
-refill_rests : (node : NodeName) (old new : Moment) (reply : Reply) → AnswersRefill true node old reply new → Rests old new × IsNoSettle reply
-refill_rests node old new reply (inr none) = (same_rests old new none.same, subst IsNoSettle (sym none.reply_is) tt)
+refill_rests : (node : NodeName) (old new : Moment) (reply : Reply) → AnswersRefill true node old reply new
+    → Rests old new × SaysOfRefill (stores_in old.core.settings new.keepers.told).logs reply
+refill_rests node old new reply (inr none) =
+    (same_rests old new none.same, subst (SaysOfRefill (stores_in old.core.settings new.keepers.told).logs) (sym none.reply_is) tt)
 refill_rests node old new reply (inl goes) =
     let mid : Moment = record old { core = record old.core { fleet = record old.core.fleet { followers = goes.left } } } in
     let does = goes.does in
     let plan = refill_plan old.core.settings node goes.refill in
-    let rests = read_rests old.core.settings (plan_leader mid.core plan) (world_of mid) _ does.after (world_of new) refl does.carries in
-    let leaves = read_leaves mid new goes.read does.after rests does.over does.learns in (
+    let rests = read_rests old.core.settings (plan_leaders mid.core plan) (world_of mid) _ does.after (world_of new) refl does.carries in
+    let leaves = read_leaves old.core.settings mid new goes.read does.after rests does.over does.learns in (
       record {
         tables = leaves.tables;
         keeps = record {
@@ -181,7 +205,7 @@ refill_rests node old new reply (inl goes) =
           states = ap (λ (c : CoreState). c.states) does.rest;
         };
       },
-      subst IsNoSettle (sym goes.reply_is) leaves.none,
+      subst (SaysOfRefill (stores_in old.core.settings new.keepers.told).logs) (sym goes.reply_is) leaves.says,
     )
 
 -- ---- all words of cache nodes
@@ -198,7 +222,10 @@ cache_line (cache.Drop node message) old new plain reply is line =
     (never_settled (λ r. AnswersLoss node message old.core r new.core) (λ lengths says. says) reply line.answers.0) tt
 cache_line (cache.Refill node) old new plain reply is line =
     let so = refill_rests node old new reply line.answers in
-    rest_so old new plain is line.on (cache.Refill node) reply so.0 so.1 tt
+    let says = subst (λ (st : Stores). SaysOfRefill st.logs reply) (sym (stores_are old new line.on)) so.1 in
+    rest_so old new plain is line.on (cache.Refill node) reply so.0
+    (never_settled (SaysOfRefill (stores_at new).logs) (λ lengths never. never) reply says)
+    (refill_says (types_of old.core.settings.schema) plain (plain_with plain new (settled_after plain reply (stores_at new).logs)) node reply says)
 cache_line (cache.Evict node key) old new plain reply is line =
     rest_so old new plain is line.on (cache.Evict node key) reply (evict_rests old new line.answers.1)
     (never_settled (λ r. AnswersEvict node key old r new) (λ lengths says. says) reply line.answers.0) tt

@@ -1,5 +1,5 @@
 -- The line of a call that isn't held: what it keeps whatever the call, and where no plan was begun.
-use Rattle.std.proofs.Common.{◌≡◌, ◌++◌, [], ℕ, true, List, Option, Some, append-nil, refl, sym, ap, subst, inl}
+use Rattle.std.proofs.Common.{◌≡◌, ◌++◌, [], ℕ, List, Option, Some, append-nil, refl, sym, ap, subst, inl}
 use Rattle.core_model.specs.Stores.{stores_in}
 use Rattle.core_sessions.specs.Sessions.{Session}
 use Rattle.plain_promise.specs.Promise.{Begun, CallsAlone, IsWellKept, Logs, Plain, RefusesAt, SaysOfCall, begun_now}
@@ -8,7 +8,7 @@ use Rattle.promise_kept.proofs.Going.{kept_now, stores_are}
 use Rattle.promise_kept.proofs.Resting.{grows_then, plain_rests}
 use Rattle.promise_kept.proofs.Saying.{not_settled, plain_at}
 use Rattle.promise_kept.specs.Lines.{IsLine, StepsPlainly}
-use Rattle.promise_kept.specs.Seen.{IsPlainOf, terms_of}
+use Rattle.promise_kept.specs.Seen.{IsPlainOf}
 use Rattle.replies.specs.declared.refusals.NodeRefused.TheVariants.{NoServer}
 use Rattle.replies.specs.declared.refusals.Refusal.{Refusal}
 use Rattle.replies.specs.declared.refusals.Refusal.TheVariants.{Memory, Node}
@@ -20,7 +20,6 @@ use Rattle.request_check.specs.declared.checked.CheckedCall.TheVariants as call
 use Rattle.tao_base.specs.declared.entry.Entry.{Entry}
 use Rattle.tao_core.specs.Core.{Moment}
 use Rattle.tao_core.specs.HeldCalls.{IsNotBegun, RefusesCall}
-use Rattle.tao_keeper.specs.KeeperState.{KeepsTables}
 use Rattle.tao_schema.specs.Schema.{types_of}
 use Rattle.topology.specs.Config.{Settings}
 use Rattle.topology.specs.States.{NodeStates}
@@ -46,15 +45,15 @@ pub alone_same : (s : Settings) (old new : Moment) (asked : CheckedCall) → (st
 alone_same s old new (call.Read read) same = same
 alone_same s old new (call.Write write) same = inl same
 
-refuses_same : (asked : CheckedCall) (old new : Plain) (n : ℕ) → n ≡ 0 → new.stores.logs ≡ old.stores.logs → RefusesAt n asked old new
+refuses_same : (asked : CheckedCall) (old : Logs) (new : Stores) (n : ℕ) → n ≡ 0 → new.logs ≡ old → RefusesAt n asked old new
 refuses_same asked old new n is same = subst (λ k. RefusesAt k asked old new) (sym is) same
 
 -- what it says
-pub unbegun_says : (began : Begun) (old new : Plain) (s : Settings) (reply : Reply) → RefusesUnbegun reply → new.stores.logs ≡ old.stores.logs
-    → SaysOfCall (terms_of s) began old reply new
+pub unbegun_says : (began : Begun) (old : Logs) (new : Plain) (s : Settings) (reply : Reply) → RefusesUnbegun reply → new.stores.logs ≡ old
+    → SaysOfCall (types_of s.schema) began old reply new
 unbegun_says began old new s reply refused same =
-    subst (λ r. SaysOfCall (terms_of s) began old r new) (sym refused.reply_is)
-    (refuses_same began.call old new (refused_at refused.refusal) refused.position_is same)
+    subst (λ r. SaysOfCall (types_of s.schema) began old r new) (sym refused.reply_is)
+    (refuses_same began.call old new.stores (refused_at refused.refusal) refused.position_is same)
 
 -- ---- the line
 
@@ -80,7 +79,7 @@ module _ (old new : Moment) (learnt : ℕ → List Entry) (held : ℕ → Option
   Steps = StepsPlainly (Some (asks.Call asked)) old Before reply new
 
   pub call_keeps : (learnt_now : ℕ → List Entry) → ((n : ℕ) → (es : List Entry) × (learnt_now n ≡ learnt n ++ es))
-      → SaysOfCall (terms_of s) (begun_now Before asked) Before reply (After learnt_now) → CallsAlone (types_of s.schema) asked Was Now.logs
+      → SaysOfCall (types_of s.schema) (begun_now Before asked) Was.logs reply (After learnt_now) → CallsAlone (types_of s.schema) asked Was Now.logs
       → IsPlainOf new (After learnt_now) → Steps
   call_keeps learnt_now more says changes seen = record {
     after = After learnt_now;
@@ -91,7 +90,7 @@ module _ (old new : Moment) (learnt : ℕ → List Entry) (held : ℕ → Option
       well_kept = subst (IsWellKept (types_of s.schema)) (stores_are old new line.on) (kept_now old new line.on);
       learnt = more;
       held = λ plan. refl;
-      settled = sym (not_settled (terms_of s) (begun_now Before asked) Before (After learnt_now) reply Now.logs says);
+      settled = sym (not_settled (types_of s.schema) (begun_now Before asked) Before (After learnt_now) Was.logs reply Now.logs says);
     };
     seen = seen;
   }
@@ -101,7 +100,7 @@ module _ (old new : Moment) (learnt : ℕ → List Entry) (held : ℕ → Option
 
   -- no session and no plan changed
   pub rested : (stores : Now.logs ≡ Was.logs) → new.core.sessions ≡ old.core.sessions → new.core.plans ≡ old.core.plans → new.core.states ≡ old.core.states
-      → SaysOfCall (terms_of s) (begun_now Before asked) Before reply (After learnt) → Steps
+      → SaysOfCall (types_of s.schema) (begun_now Before asked) Was.logs reply (After learnt) → Steps
   rested stores sessions plans states says =
       call_keeps learnt nothing_more says (alone_same s old new asked stores) (plain_rests old new line.on Before was sessions plans states)
 
@@ -110,12 +109,5 @@ module _ (old new : Moment) (learnt : ℕ → List Entry) (held : ℕ → Option
       let same = refuses.same in
       let logs : Now.logs ≡ Was.logs = ap (λ (m : Moment). (stores_in s m.keepers.told).logs) same in
       rested logs (ap (λ (m : Moment). m.core.sessions) same) (ap (λ (m : Moment). m.core.plans) same) (ap (λ (m : Moment). m.core.states) same)
-      (unbegun_says (begun_now Before asked) Before (After learnt) s reply
+      (unbegun_says (begun_now Before asked) Was.logs (After learnt) s reply
       (not_begun old.core.states old.core.sessions asked reply refuses.refused) logs)
-
--- tables that stay have the same logs
-pub tables_same : (s : Settings) (old new : Moment) → KeepsTables true old.keepers new.keepers
-    → (stores_in s new.keepers.told).logs ≡ (stores_in s old.keepers.told).logs
-tables_same s old new keeps =
-    let same : new.keepers.told ≡ old.keepers.told = λ i at. keeps refl at i in
-    ap (λ t. (stores_in s t).logs) same

@@ -16,6 +16,7 @@ use Rattle.tao_base.specs.declared.entry.Entry.{Entry}
 use Rattle.tao_core.proofs.SettledLaws.{settled_until_a_commit}
 use Rattle.tao_core.specs.Core.{IsConsistentCore, Moment}
 use Rattle.tao_keeper.specs.Growing.{LogsGrow}
+use Rattle.tao_keeper.specs.KeeperState.{KeeperState, KeepsTables}
 use Rattle.tao_keeper.specs.Table.{Tables}
 use Rattle.tao_schema.specs.Schema.{types_of}
 use Rattle.topology.specs.Config.{Settings}
@@ -33,6 +34,10 @@ log_none : (s : Settings) (tables : Tables) (shard : ℕ) → s.shards ≤ shard
 log_none s tables shard past =
     let long = each_length (λ n. (tables (master_store s n)).log) 0 s.shards in
     get_or_past (stores_in s tables).logs shard [] (omega (arith, long, past))
+
+-- tables that stay have the same logs
+pub same_logs : (s : Settings) (old new : KeeperState) → KeepsTables true old new → (stores_in s new.told).logs ≡ (stores_in s old.told).logs
+same_logs s old new keeps = let same : new.told ≡ old.told = λ i at. keeps refl at i in ap (λ t. (stores_in s t).logs) same
 
 -- ---- growing
 
@@ -115,8 +120,8 @@ module _ (old new : Moment) (on : GoesOnUsable old new) where
   pub settled_rests : (settled : Option Logs) → IsSettledSince old settled → IsSettledSince new settled
   settled_rests settled was = record {
     grows = λ logs is. grows_on logs (stores_at old).logs (stores_at new).logs (was.grows logs is) logs_grow;
-    rests = λ logs few is same.
+    rests = λ logs is same.
         settled_until_a_commit.stays old new on.before.is_consistent on.after.keepers.is_consistent on.after.settings on.after.goes on.after.comes
         on.after.grows (have_same (stay_same logs (was.grows logs is) same))
-        (was.rests logs (subst (λ (s : Settings). length s.regions ≤ 1) on.after.settings few) is (were_same logs (was.grows logs is) same));
+        (was.rests logs is (were_same logs (was.grows logs is) same));
   }

@@ -8,8 +8,7 @@ use Rattle.core_model.proofs.Places.{one_some}
 use Rattle.core_model.specs.Stores.{master_log, stores_in}
 use Rattle.core_plans.proofs.WholeStages.{stages_miss_nothing}
 use Rattle.core_plans.specs.Held.{IsUnderWay, OpensFirst, SetsPlan, StepsReadAlone, given_up, learner, learner_at, learnt_here}
-use Rattle.core_plans.specs.Held.{learnt_with, next_stage}
-use Rattle.core_plans.specs.Held.{plan_at}
+use Rattle.core_plans.specs.Held.{learnt_of_write, learnt_with, next_stage, plan_at}
 use Rattle.core_plans.specs.HeldReads.{HasComeTo, IsReadUnderWay, version_now}
 use Rattle.core_plans.specs.HeldWrites.{DoesWriteStage, IsBefore, IsWriteUnderWay, way_given_up}
 use Rattle.core_plans.specs.LedBy.{led_by}
@@ -17,28 +16,30 @@ use Rattle.core_plans.specs.declared.held.HeldPlan.{HeldPlan}
 use Rattle.core_plans.specs.declared.held.HeldPlan.TheVariants as of
 use Rattle.core_plans.proofs.HeldWriteStages.{before_commit}
 use Rattle.core_plans.proofs.InTurn.{IsSameRead, read_same}
+use Rattle.core_plans.specs.declared.leaders.Leaders.{Leaders}
 use Rattle.core_sessions.specs.Sessions.{Session}
 use Rattle.core_steps.specs.OtherEnds.{learnt_far}
 use Rattle.core_steps.specs.World.{World}
 use Rattle.graph_model.specs.Log.{version}
-use Rattle.node_name.specs.declared.NodeName.{NodeName}
 use Rattle.plain_promise.specs.Promise.{AreSameLogs, Begun, CallsAlone, EachGrows, Logs, Plain, ReadsRightly, SaysOfCall}
+use Rattle.plain_promise.specs.Promise.{went_on}
+use Rattle.promise_kept.proofs.Adding.{adds_same}
 use Rattle.promise_kept.proofs.AtOnce.{few_with, has_told, here_few, read_steps}
-use Rattle.promise_kept.proofs.CallLines.{tables_same}
 use Rattle.promise_kept.proofs.Commits.{write_of}
 use Rattle.promise_kept.proofs.Entries.{HasFewTouches}
-use Rattle.promise_kept.proofs.Going.{grows_on, logs_grow, settled_rests}
+use Rattle.promise_kept.proofs.Going.{grows_on, logs_grow, same_logs, settled_rests}
 use Rattle.promise_kept.proofs.Learning.{AreFewTold, learns_both, learnt_after, learnt_grows, others_few}
-use Rattle.promise_kept.proofs.ReadLemmas.{IsRefusedAt, answer_last, answer_legal, answer_whole, read_reply_is, stage_so}
+use Rattle.promise_kept.proofs.ReadLemmas.{answer_last, answer_legal, answer_whole, read_reply_is}
+use Rattle.promise_kept.proofs.Refusing.{EndsRefused, stage_refuses}
 use Rattle.promise_kept.proofs.Resting.{grows_then, held_rests, kept_then, seen_then}
 use Rattle.promise_kept.proofs.Saying.{began_as, held_read_says, held_write_says, plain_at}
-use Rattle.promise_kept.proofs.WriteEnds.{WasDone, acknowledged, write_reply_is}
+use Rattle.promise_kept.proofs.WriteEnds.{WasDone, acknowledged, all_told, write_reply_is}
 use Rattle.promise_kept.proofs.WriteStages.{IsRefusedSo, KeepsStage, WritesSoFar, ran_alone, ran_begins}
 use Rattle.promise_kept.proofs.WritesOn.{gives_up_on, writes_on}
 use Rattle.promise_kept.specs.Lines.{GoesOnUsable}
-use Rattle.promise_kept.specs.Seen.{AreBegun, FloorsAre, HasLast, HasWritten, IsPlainOf, IsPlanOf, IsReadFor, IsSettledSince, IsUnderWayFor}
+use Rattle.promise_kept.specs.Seen.{AreBegun, FloorsAre, HasLast, HasWritten, IsAnsweredFor, IsPlainOf, IsPlanOf, IsReadFor, IsSettledSince, IsUnderWayFor}
 use Rattle.promise_kept.specs.Seen.{IsWriteFor}
-use Rattle.promise_kept.specs.Seen.{floors_of, stores_at, terms_of}
+use Rattle.promise_kept.specs.Seen.{floors_of, stores_at}
 use Rattle.read_plan.specs.Ends.{EndsWith}
 use Rattle.read_plan.specs.Readings.{Reading}
 use Rattle.replies.specs.declared.calls.CallReply.TheVariants as called
@@ -57,7 +58,7 @@ use Rattle.tao_base.specs.declared.entry.Entry.{Entry}
 use Rattle.tao_core.proofs.WriteStages.{end_keeps, inverse_keeps, stage_left, unrefused}
 use Rattle.tao_core.specs.Calls.{world_of}
 use Rattle.tao_core.specs.Core.{CoreState, Moment, author}
-use Rattle.tao_core.specs.HeldCalls.{Advances, GoesOnHeld, Leaves, StepsAt, held_in, numbered_plan, plan_leader}
+use Rattle.tao_core.specs.HeldCalls.{Advances, GoesOnHeld, Leaves, StepsAt, held_in, numbered_plan, plan_leaders}
 use Rattle.tao_keeper.specs.declared.jobs.Job.{Job}
 use Rattle.tao_schema.specs.Schema.{types_of}
 use Rattle.topology.specs.Config.{Settings}
@@ -65,12 +66,13 @@ use Rattle.words.specs.declared.PlanWord.{PlanWord}
 use Rattle.write_model.specs.Machine.{StandsFor}
 use Rattle.write_model.specs.Merges.{Stores, log_of}
 use Rattle.write_plan.specs.Plans.{Writing, answered_job, next_of}
+use Rattle.write_plan.specs.declared.committed.Committed.{Committed}
 use Rattle.write_plan.specs.declared.stage.WriteStage.{WriteStage}
 use Rattle.write_plan.specs.declared.stage.WriteStage.TheVariants.{Apply, Commit, Done, End, Inverse, Relay}
 
 -- ---- what was written at the other end, as a write ends
 
-module _ (s : Settings) (leader : NodeName) (p q : Writing) (old new : World) (before : IsBefore p.back) (over : next_stage (of.Write q) ≡ None)
+module _ (s : Settings) (leaders : Leaders) (p q : Writing) (old new : World) (before : IsBefore p.back) (over : next_stage (of.Write q) ≡ None)
     (open_still : q.refused ≡ None) where
   abbrev OtherSame : Type 0
   OtherSame = (learnt_far (answered_job q) q.other ≡ learnt_far (answered_job p) p.other) ⊎ (q.other ≡ None)
@@ -82,18 +84,20 @@ module _ (s : Settings) (leader : NodeName) (p q : Writing) (old new : World) (b
   not_refused reply is = (let e : None ≡ Some reply = sym open_still ∙ is in absurd (cc))
 
   -- a write that was carried out ends with its way back, which writes nothing
-  other_last : (p.committed ≡ None → p.other ≡ None) → (at : WriteStage) → next_of p ≡ at → DoesWriteStage (led_by true s leader) at p old q new → OtherSame
+  other_last : (p.committed ≡ None → p.other ≡ None) → (at : WriteStage) → next_of p ≡ at → DoesWriteStage (led_by true s leaders) at p old q new → OtherSame
   other_last none Commit at (inl commits) = inr (ap (λ (x : Writing). x.other) commits.then ∙ none (before_commit p at))
   other_last none Commit at (inr refuses) = absurd (not_refused _ (ap (λ (x : Writing). x.refused) refuses.then))
   other_last none Inverse at does =
-      let on = inverse_keeps true s leader p q old new does in
+      let on = inverse_keeps (led_by true s leaders) p q old new does in
       absurd (not_over (stage_left q on.committed open_still on.answered (subst IsBefore (sym on.keeps.back) before)))
   other_last none End at does =
       let on = end_keeps true s p q old new does in
       absurd (not_over (stage_left q on.committed open_still on.answered (subst IsBefore (sym on.keeps.back) before)))
   other_last none Apply at (inl applies) = inl (ap (λ (x : Writing). learnt_far (answered_job x) x.other) applies.then)
   other_last none Apply at (inr loses) = absurd (not_refused _ (ap (λ (x : Writing). x.refused) loses.then))
-  other_last none Relay at does = absurd does
+  other_last none Relay at (inl relays) = absurd (not_over (stage_left q relays.committed open_still
+      (ap (λ (x : Writing). x.committed) relays.then ∙ relays.answered) (subst IsBefore (sym (ap (λ (x : Writing). x.back) relays.then)) tt)))
+  other_last none Relay at (inr loses) = absurd (not_refused _ (ap (λ (x : Writing). x.refused) loses.then))
   other_last none Done at does = absurd does
 
   no_other : (job : Option Job) (other : Option Wrote) → other ≡ None → IfSome (learnt_far job other) (λ t. HasFewTouches t.shard t.entry)
@@ -101,7 +105,7 @@ module _ (s : Settings) (leader : NodeName) (p q : Writing) (old new : World) (b
   no_other (Some j) other is = subst (λ o. IfSome (learnt_far (Some j) o) (λ t. HasFewTouches t.shard t.entry)) (sym is) tt
 
   pub far_few : IfSome (learnt_far (answered_job p) p.other) (λ t. HasFewTouches t.shard t.entry) → (p.committed ≡ None → p.other ≡ None)
-      → DoesWriteStage (led_by true s leader) (next_of p) p old q new → IfSome (learnt_far (answered_job q) q.other) (λ t. HasFewTouches t.shard t.entry)
+      → DoesWriteStage (led_by true s leaders) (next_of p) p old q new → IfSome (learnt_far (answered_job q) q.other) (λ t. HasFewTouches t.shard t.entry)
   far_few few none does = elim (other_last none (next_of p) refl does) [
     | inl same ↦ subst (λ o. IfSome o (λ t. HasFewTouches t.shard t.entry)) (sym same) few
     | inr gone ↦ no_other (answered_job q) q.other gone
@@ -116,14 +120,14 @@ pub record GivesUpWrite (p q : Writing) (old new : World) : Type 0 where
   pub same : new ≡ old
 
 -- it did the stage that follows, or ends without its last one
-abbrev pub AdvancesWrite : Settings → NodeName → Writing → World → Writing → World → Type 0
-AdvancesWrite s leader p old q new = DoesWriteStage (led_by true s leader) (next_of p) p old q new ⊎ GivesUpWrite p q old new
+abbrev pub AdvancesWrite : Settings → Leaders → Writing → World → Writing → World → Type 0
+AdvancesWrite s leaders p old q new = DoesWriteStage (led_by true s leaders) (next_of p) p old q new ⊎ GivesUpWrite p q old new
 
 -- ---- what a step of a held call keeps
 
 module _ (old new : Moment) (learnt : ℕ → List Entry) (held : ℕ → Option Begun) (settled : Option Logs)
     (was : IsPlainOf old (plain_at old.core.settings old.keepers.told learnt held settled)) (on : GoesOnUsable old new) (asked : PlanWord) (number : ℕ)
-    (reply : Reply) where
+    (reply : Reply) (held_now : ℕ → Option Begun) (others : (n : ℕ) → (n ≡ number → ⊥) → held_now n ≡ held n) where
   abbrev s : Settings
   s = old.core.settings
 
@@ -131,7 +135,7 @@ module _ (old new : Moment) (learnt : ℕ → List Entry) (held : ℕ → Option
   Before = plain_at old.core.settings old.keepers.told learnt held settled
 
   abbrev After : (ℕ → List Entry) → Plain
-  After learnt_now = plain_at old.core.settings new.keepers.told learnt_now held settled
+  After learnt_now = plain_at old.core.settings new.keepers.told learnt_now held_now settled
 
   abbrev Was : Stores
   Was = stores_in old.core.settings old.keepers.told
@@ -139,11 +143,15 @@ module _ (old new : Moment) (learnt : ℕ → List Entry) (held : ℕ → Option
   abbrev Now : Stores
   Now = stores_in old.core.settings new.keepers.told
 
+  -- a call that goes on by the line
+  abbrev Then : Begun → Begun
+  Then began = went_on (stores_in old.core.settings old.keepers.told).logs (stores_in old.core.settings new.keepers.told).logs began
+
   -- what its reply says, how the logs changed, and what the core is seen as then
   pub record StepKept (began : Begun) : Type 0 where
     pub learnt_now : ℕ → List Entry
     pub more : (n : ℕ) → (es : List Entry) × (learnt_now n ≡ learnt n ++ es)
-    pub says : SaysOfCall (terms_of s) began Before reply (After learnt_now)
+    pub says : SaysOfCall (types_of s.schema) began Was.logs reply (After learnt_now)
     pub changes : CallsAlone (types_of s.schema) began.call Was Now.logs
     pub seen : IsPlainOf new (After learnt_now)
 
@@ -151,32 +159,33 @@ module _ (old new : Moment) (learnt : ℕ → List Entry) (held : ℕ → Option
   nothing_more n = ([], sym (append-nil (learnt n)))
 
   abbrev HeldAs : HeldPlan → Type 0
-  HeldAs plan = (began : Begun) × (held number ≡ Some began) × IsPlanOf new plan began
+  HeldAs plan = (began : Begun) × (held_now number ≡ Some began) × IsPlanOf new plan began
 
   -- the plans that are held then: that of the number is this, and no other changed
   begun_sets : (after : Option HeldPlan) → SetsPlan number after old.core.plans new.core.plans → ((plan : HeldPlan) → after ≡ Some plan → HeldAs plan)
-      → AreBegun new held
+      → AreBegun new held_now
   begun_sets after sets here n plan at =
       let found : (if n == number then after else plan_at old.core.plans n) ≡ Some plan = sym (sets n) ∙ at in
       elim (cases_eq n number) [
         | inl is ↦
             let own : after ≡ Some plan =
             subst (λ b. (if b then after else plan_at old.core.plans n) ≡ Some plan) (eq-eqb n number is) found in
-            subst (λ k. (began : Begun) × (held k ≡ Some began) × IsPlanOf new plan began) (sym is) (here plan own)
+            subst (λ k. (began : Begun) × (held_now k ≡ Some began) × IsPlanOf new plan began) (sym is) (here plan own)
         | inr apart ↦
             let other : plan_at old.core.plans n ≡ Some plan =
             subst (λ b. (if b then after else plan_at old.core.plans n) ≡ Some plan) (ne_eqb n number apart) found in
-            held_rests old new on held was.held n plan other
+            let rests = held_rests old new on held was.held n plan other in
+            (rests.0, others n apart ∙ rests.1, rests.2)
       ]
 
-  module _ (began : Begun) (since : EachGrows began.logs (stores_at old).logs) (settles : IsSettledSince old began.settled) (holds : held number ≡ Some began)
-      (same_states : new.core.states ≡ old.core.states) where
-    held_on : (after plan : HeldPlan) → IsUnderWayFor s new.keepers began began.call after → Some after ≡ Some plan → HeldAs plan
+  module _ (began : Begun) (since : EachGrows began.logs (stores_at old).logs) (settles : IsSettledSince old began.settled)
+      (holds : held_now number ≡ Some (Then began)) (same_states : new.core.states ≡ old.core.states) where
+    held_on : (after plan : HeldPlan) → IsUnderWayFor s new.keepers (Then began) began.call after → Some after ≡ Some plan → HeldAs plan
     held_on after plan under is = (
-      began,
+      Then began,
       holds,
-      subst (λ p. IsPlanOf new p began) (one_some after plan is) (record {
-        under_way = subst (λ set. IsUnderWayFor set new.keepers began began.call after) (sym on.after.settings) under;
+      subst (λ p. IsPlanOf new p (Then began)) (one_some after plan is) (record {
+        under_way = subst (λ set. IsUnderWayFor set new.keepers (Then began) began.call after) (sym on.after.settings) under;
         grows = grows_on began.logs (stores_at old).logs (stores_at new).logs since (logs_grow old new on);
         settled = settled_rests old new on began.settled settles;
       }),
@@ -184,13 +193,13 @@ module _ (old new : Moment) (learnt : ℕ → List Entry) (held : ℕ → Option
 
     -- it goes on: its session is told of nothing yet
     goes_so : (after : HeldPlan) (stage : Stage) → GoesOnHeld (replied.Plan (Next asked number stage)) number after (held_in old.core) reply (held_in new.core)
-        → IsUnderWayFor s new.keepers began began.call after → CallsAlone (types_of s.schema) began.call Was Now.logs → StepKept began
+        → IsUnderWayFor s new.keepers (Then began) began.call after → CallsAlone (types_of s.schema) began.call Was Now.logs → StepKept began
     goes_so after stage goes under changes = record {
       learnt_now = learnt;
       more = nothing_more;
-      says = subst (λ r. SaysOfCall (terms_of s) began Before r (After learnt)) (sym goes.told) tt;
+      says = subst (λ r. SaysOfCall (types_of s.schema) began Was.logs r (After learnt)) (sym goes.told) tt;
       changes = changes;
-      seen = seen_then old new on Before learnt held was
+      seen = seen_then old new on Before learnt held_now was
           (λ n. subst (λ (opened : List Session). FloorsAre (learnt n) (floors_of opened n)) (sym goes.sessions) (was.learnt n))
           (begun_sets (Some after) goes.changes.sets (λ plan is. held_on after plan under is)) same_states;
     }
@@ -198,36 +207,36 @@ module _ (old new : Moment) (learnt : ℕ → List Entry) (held : ℕ → Option
     -- it ended, and is gone
     ends_so : (learnt_now : ℕ → List Entry) → SetsPlan number None old.core.plans new.core.plans
         → ((n : ℕ) → (es : List Entry) × (learnt_now n ≡ learnt n ++ es)) → ((n : ℕ) → FloorsAre (learnt_now n) (floors_of new.core.sessions n))
-        → SaysOfCall (terms_of s) began Before reply (After learnt_now) → CallsAlone (types_of s.schema) began.call Was Now.logs → StepKept began
+        → SaysOfCall (types_of s.schema) began Was.logs reply (After learnt_now) → CallsAlone (types_of s.schema) began.call Was Now.logs → StepKept began
     ends_so learnt_now sets more floors says changes = record {
       learnt_now = learnt_now;
       more = more;
       says = says;
       changes = changes;
-      seen = seen_then old new on Before learnt_now held was floors
+      seen = seen_then old new on Before learnt_now held_now was floors
           (begun_sets None sets (λ plan is. (let gone : None ≡ Some plan = is in absurd (cc)))) same_states;
     }
 
   -- ---- a read
 
   module _ (read : CheckedRead) (first : Begun) (p q : Reading) (is_plan : IsPlanOf old (of.Read p) (began_as (call.Read read) first))
-      (holds : held number ≡ Some (began_as (call.Read read) first)) (same_states : new.core.states ≡ old.core.states)
+      (holds : held_now number ≡ Some (Then (began_as (call.Read read) first))) (same_states : new.core.states ≡ old.core.states)
       (under : IsReadUnderWay true s old.keepers.told old.core.fleet p)
-      (steps : StepsReadAlone (led_by true s (plan_leader old.core (of.Read p))) p (world_of old) q (world_of new)) where
+      (steps : StepsReadAlone (led_by true s (plan_leaders old.core (of.Read p))) p (world_of old) q (world_of new)) where
     abbrev Began : Begun
     Began = began_as (call.Read read) first
 
-    abbrev leader : NodeName
-    leader = plan_leader old.core (of.Read p)
+    abbrev leaders : Leaders
+    leaders = plan_leaders old.core (of.Read p)
 
     was_for : IsReadFor s old.keepers Began read p
     was_for = is_plan.under_way
 
     logs : Now.logs ≡ Was.logs
-    logs = tables_same s old new steps.tables
+    logs = same_logs s old.keepers new.keepers steps.tables
 
     same_read : IsSameRead p q
-    same_read = read_same p q (world_of old) (world_of new) (led_by true s leader) p.at steps.steps.does
+    same_read = read_same p q (world_of old) (world_of new) (led_by true s leaders) p.at steps.steps.does
 
     version_stays : version_now s p old.keepers ≡ version_now s q new.keepers
     version_stays =
@@ -237,25 +246,35 @@ module _ (old new : Moment) (learnt : ℕ → List Entry) (held : ℕ → Option
 
     -- after a settle, until a log grows, no stage misses anything
     last_then : HasLast s new.keepers Began.settled q
-    last_then settled_logs few since same =
+    last_then settled_logs since same =
         let before : AreSameLogs settled_logs Was.logs = λ shard. ap (λ l. log_of l shard) (sym logs) ∙ same shard in
-        let come = (stages_miss_nothing s leader p q (world_of old) (world_of new)).whole old.core.states steps.steps
-        on.before.is_consistent.consistent (is_plan.settled.rests settled_logs few since before)
+        let come = (stages_miss_nothing s leaders p q (world_of old) (world_of new)).whole old.core.states steps.steps
+        on.before.is_consistent.consistent (is_plan.settled.rests settled_logs since before)
         (was.up.followers p.follower under.follower.configured) (was.up.leaders p.region (query_shard p.query) under.region) on.after.grows.logs
-        (version_now s p old.keepers) (was_for.last settled_logs few since before) in
+        (version_now s p old.keepers) (was_for.last settled_logs since before) in
         subst (λ n. HasComeTo n (version_now s q new.keepers) q.at) version_stays come
 
     for_then : IsReadFor s new.keepers Began read q
-    for_then = read_steps s leader p q (world_of old) (world_of new) Began read was_for last_then steps
+    for_then = read_steps s leaders p q (world_of old) (world_of new) Began read was_for last_then steps
 
-    so : IsRefusedAt q.at
-    so = stage_so (led_by true s leader) p.at p q (world_of old) (world_of new) refl steps.steps.does
+    -- what its lines add is nothing to a read
+    for_later : IsReadFor s new.keepers (Then Began) read q
+    for_later = record {
+      query_is = for_then.query_is;
+      critical_is = for_then.critical_is;
+      floor_is = for_then.floor_is;
+      whole = for_then.whole;
+      last = for_then.last;
+    }
+
+    so : EndsRefused q.at
+    so = stage_refuses (led_by true s leaders) p q (world_of old) (world_of new) steps.steps.does
 
     here : query_shard q.query < s.shards
     here = subst (λ query. query_shard query < s.shards) (sym same_read.query) under.follower.here
 
     right : (ended : Reply) → EndsWith q ended → (answer : ReadReply) → ended ≡ replied.Called (called.Read answer)
-        → ReadsRightly (terms_of s) Began read answer Now.logs
+        → ReadsRightly (types_of s.schema) Began read answer Now.logs
     right ended over answer is =
         let ends = subst (EndsWith q) is over in
         let legal = (steps.steps.legal answer ends).0 in
@@ -266,24 +285,24 @@ module _ (old new : Moment) (learnt : ℕ → List Entry) (held : ℕ → Option
         }
 
     pub read_kept : (next : Option Stage) → Leaves asked (numbered_plan number (of.Read q)) next (held_in old.core) reply (held_in new.core) → StepKept Began
-    read_kept (Some stage) goes = goes_so Began is_plan.grows is_plan.settled holds same_states (of.Read q) stage goes for_then logs
+    read_kept (Some stage) goes = goes_so Began is_plan.grows is_plan.settled holds same_states (of.Read q) stage goes for_later logs
     read_kept None ends = ends_so Began is_plan.grows is_plan.settled holds same_states learnt ends.takes.sets nothing_more
         (λ n. subst (λ (opened : List Session). FloorsAre (learnt n) (floors_of opened n)) (sym ends.learns) (was.learnt n))
-        (subst (λ r. SaysOfCall (terms_of s) Began Before r (After learnt)) (sym ends.told)
-        (held_read_says (terms_of s) first read Before (After learnt) ends.ended (read_reply_is q ends.ended so ends.over) logs
+        (subst (λ r. SaysOfCall (types_of s.schema) Began Was.logs r (After learnt)) (sym ends.told)
+        (held_read_says (types_of s.schema) first read Was.logs (After learnt) ends.ended (read_reply_is q ends.ended so ends.over) logs
         (right ends.ended ends.over) number)) logs
 
   -- ---- a write
 
   module _ (write : CheckedWrite) (first : Begun) (p q : Writing) (is_plan : IsPlanOf old (of.Write p) (began_as (call.Write write) first))
-      (holds : held number ≡ Some (began_as (call.Write write) first)) (same_states : new.core.states ≡ old.core.states)
+      (holds : held_now number ≡ Some (Then (began_as (call.Write write) first))) (same_states : new.core.states ≡ old.core.states)
       (under : IsWriteUnderWay true s old.keepers.told old.core.fleet p) (ahead : IsBefore p.back) (some : IsSome (next_stage (of.Write p)))
-      (does : AdvancesWrite s (plan_leader old.core (of.Write p)) p (world_of old) q (world_of new)) where
+      (does : AdvancesWrite s (plan_leaders old.core (of.Write p)) p (world_of old) q (world_of new)) where
     abbrev BeganWrite : Begun
     BeganWrite = began_as (call.Write write) first
 
-    abbrev write_leader : NodeName
-    write_leader = plan_leader old.core (of.Write p)
+    abbrev write_leaders : Leaders
+    write_leaders = plan_leaders old.core (of.Write p)
 
     write_was : IsWriteFor s old.keepers BeganWrite write p
     write_was = is_plan.under_way
@@ -297,6 +316,7 @@ module _ (old new : Moment) (learnt : ℕ → List Entry) (held : ℕ → Option
       for_call = write_was;
       ran = ran_begins (types_of s.schema) Was.logs (write_of write) p.committed p.job
           (IfSome_then p.committed write_was.answered (λ c answered. entry_stands c.wrote.entry answered.written));
+      adds = adds_same Was.logs Was.logs (learnt_of_write p) refl;
       refused = subst (λ r. IfSome r (IsRefusedSo Was.logs write Was.logs)) (sym (unrefused p.refused p.committed p.job p.back some)) tt;
     }
 
@@ -308,15 +328,15 @@ module _ (old new : Moment) (learnt : ℕ → List Entry) (held : ℕ → Option
         → WritesSoFar s BeganWrite write Was.logs q new.keepers
     given_so Apply at last gives =
         let logs : Now.logs ≡ Was.logs = ap (λ (x : World). (stores_in s x.keepers.told).logs) gives.same in
-        gives_up_on s write_leader p q (world_of old) (world_of new) BeganWrite write Was.logs so_far write_keeps at logs gives.gone
+        gives_up_on s write_leaders p q (world_of old) (world_of new) BeganWrite write Was.logs so_far write_keeps logs gives.gone
     given_so Commit at last gives = absurd (cc)
     given_so Inverse at last gives = absurd (cc)
     given_so End at last gives = absurd (cc)
     given_so Relay at last gives = absurd (cc)
     given_so Done at last gives = absurd (cc)
 
-    so_by : AdvancesWrite s write_leader p (world_of old) q (world_of new) → WritesSoFar s BeganWrite write Was.logs q new.keepers
-    so_by (inl stage) = writes_on s write_leader p q (world_of old) (world_of new) BeganWrite write Was.logs so_far write_keeps under is_plan.grows stage
+    so_by : AdvancesWrite s write_leaders p (world_of old) q (world_of new) → WritesSoFar s BeganWrite write Was.logs q new.keepers
+    so_by (inl stage) = writes_on s write_leaders p q (world_of old) (world_of new) BeganWrite write Was.logs so_far write_keeps under is_plan.grows stage
     so_by (inr gives) = given_so (next_of p) refl gives.last gives
 
     write_so : WritesSoFar s BeganWrite write Was.logs q new.keepers
@@ -325,12 +345,29 @@ module _ (old new : Moment) (learnt : ℕ → List Entry) (held : ℕ → Option
     write_changes : CallsAlone (types_of s.schema) (call.Write write) Was Now.logs
     write_changes = ran_alone (types_of s.schema) Was.logs (write_of write) Now.logs q.committed q.job write_so.ran
 
+    -- the moment at which it began is the same
+    written_on : (entry : Option Entry) → HasWritten s Now BeganWrite write entry → HasWritten s Now (Then BeganWrite) write entry
+    written_on None had = record { n = had.n; since = had.since; within = had.within; nothing = had.nothing }
+    written_on (Some e) stood = stood
+
+    answered_on : (c : Committed) → IsAnsweredFor s Now BeganWrite write q.job c → IsAnsweredFor s Now (Then BeganWrite) write q.job c
+    answered_on c is = record { kind_is = is.kind_is; written = written_on c.wrote.entry is.written; job = is.job }
+
+    write_later : IsWriteFor s new.keepers (Then BeganWrite) write q
+    write_later = record {
+      write_is = write_so.for_call.write_is;
+      origin_is = write_so.for_call.origin_is;
+      answered = IfSome_then q.committed write_so.for_call.answered answered_on;
+      added = all_told s BeganWrite write Was.logs q new.keepers write_so;
+      due = write_so.for_call.due;
+    }
+
     few_here : IfSome (learnt_here q) (λ t. HasFewTouches t.shard t.entry)
     few_here = here_few s BeganWrite write Was.logs q new.keepers write_so (kept_then old new on)
 
-    far_by : next_stage (of.Write q) ≡ None → q.refused ≡ None → AdvancesWrite s write_leader p (world_of old) q (world_of new)
+    far_by : next_stage (of.Write q) ≡ None → q.refused ≡ None → AdvancesWrite s write_leaders p (world_of old) q (world_of new)
         → IfSome (learnt_far (answered_job q) q.other) (λ t. HasFewTouches t.shard t.entry)
-    far_by over open_still (inl stage) = far_few s write_leader p q (world_of old) (world_of new) ahead over open_still
+    far_by over open_still (inl stage) = far_few s write_leaders p q (world_of old) (world_of new) ahead over open_still
         (others_few s old.keepers.told old.core.fleet p on.before.is_consistent.masters on.before.is_consistent.consistent.stores under)
         (λ none. (under.begun none).1) stage
     far_by over open_still (inr gives) =
@@ -347,7 +384,7 @@ module _ (old new : Moment) (learnt : ℕ → List Entry) (held : ℕ → Option
     pub write_kept : (next : Option Stage) → next_stage (of.Write q) ≡ next
         → Leaves asked (numbered_plan number (of.Write q)) next (held_in old.core) reply (held_in new.core) → StepKept BeganWrite
     write_kept (Some stage) next goes =
-        goes_so BeganWrite is_plan.grows is_plan.settled holds same_states (of.Write q) stage goes write_so.for_call write_changes
+        goes_so BeganWrite is_plan.grows is_plan.settled holds same_states (of.Write q) stage goes write_later write_changes
     write_kept None over ends =
         let ended = ends.ended in
         let told = learnt_with ended (of.Write q) in
@@ -356,16 +393,17 @@ module _ (old new : Moment) (learnt : ℕ → List Entry) (held : ℕ → Option
         let learnt_now = learnt_after who told learnt in
         ends_so BeganWrite is_plan.grows is_plan.settled holds same_states learnt_now ends.takes.sets (learnt_grows who told learnt)
         (learns_both who told old.core.sessions new.core.sessions learnt (few_told ended over replies) ends.learns was.learnt)
-        (subst (λ r. SaysOfCall (terms_of s) BeganWrite Before r (After learnt_now)) (sym ends.told)
-        (held_write_says s old.keepers.told new.keepers.told first write learnt learnt_now held held settled settled q ended
+        (subst (λ r. SaysOfCall (types_of s.schema) BeganWrite Was.logs r (After learnt_now)) (sym ends.told)
+        (held_write_says s old.keepers.told new.keepers.told first write learnt_now held_now settled q ended
         (λ c committed_is unrefused reply_is. acknowledged s BeganWrite write Was.logs q new.keepers write_so over c committed_is unrefused
-        learnt_now held settled (λ e entry_is. has_told s BeganWrite write Was.logs q new.keepers write_so ended learnt c committed_is reply_is e entry_is))
+        learnt_now held_now settled (has_told s BeganWrite write Was.logs q new.keepers write_so ended learnt c reply_is))
         number replies)) write_changes
 
   -- ---- whatever the call
 
   -- a write ends without its last stage
-  given_by : (one : CheckedCall) (first : Begun) (before : HeldPlan) → IsPlanOf old before (began_as one first) → held number ≡ Some (began_as one first)
+  given_by : (one : CheckedCall) (first : Begun) (before : HeldPlan) → IsPlanOf old before (began_as one first)
+      → held_now number ≡ Some (Then (began_as one first))
       → new.core.states ≡ old.core.states → IsUnderWay true s old.keepers.told old.core.fleet before → OpensFirst before → IsSome (next_stage before)
       → IsSome (learner before) → world_of new ≡ world_of old
       → Leaves asked (numbered_plan number (given_up before)) (next_stage (given_up before)) (held_in old.core) reply (held_in new.core)
@@ -378,9 +416,9 @@ module _ (old new : Moment) (learnt : ℕ → List Entry) (held : ℕ → Option
   given_by (call.Write write) first (of.Read p) is_plan holds states under ahead some last same leaves = absurd is_plan.under_way
 
   kept_by : (one : CheckedCall) (first : Begun) (before after : HeldPlan) → IsPlanOf old before (began_as one first)
-      → held number ≡ Some (began_as one first) → new.core.states ≡ old.core.states → IsUnderWay true s old.keepers.told old.core.fleet before
+      → held_now number ≡ Some (Then (began_as one first)) → new.core.states ≡ old.core.states → IsUnderWay true s old.keepers.told old.core.fleet before
       → OpensFirst before → IsSome (next_stage before)
-      → Advances (led_by true s (plan_leader old.core before)) before (world_of old) after (world_of new)
+      → Advances (led_by true s (plan_leaders old.core before)) before (world_of old) after (world_of new)
       → Leaves asked (numbered_plan number after) (next_stage after) (held_in old.core) reply (held_in new.core) → StepKept (began_as one first)
   kept_by one first before after is_plan holds states under ahead some (inr ends) leaves =
       subst
@@ -395,8 +433,8 @@ module _ (old new : Moment) (learnt : ℕ → List Entry) (held : ℕ → Option
   kept_by (call.Read read) first (of.Write p) (of.Write q) is_plan holds states under ahead some (inl steps) leaves = absurd is_plan.under_way
   kept_by (call.Write write) first (of.Read p) (of.Read q) is_plan holds states under ahead some (inl steps) leaves = absurd is_plan.under_way
 
-  pub step_kept : (steps : StepsAt true asked number old reply new) (began : Begun) → IsPlanOf old steps.before began → held number ≡ Some began
-      → StepKept began
+  pub step_kept : (steps : StepsAt true asked number old reply new) (began : Begun) → IsPlanOf old steps.before began
+      → held_now number ≡ Some (Then began) → StepKept began
   step_kept steps began is_plan holds =
       kept_by began.call began steps.before steps.after is_plan holds (ap (λ (c : CoreState). c.states) steps.rest)
       (on.before.plans.under_way number steps.before steps.stands) (on.before.plans.begun number steps.before steps.stands)

@@ -22,7 +22,7 @@ use Rattle.core_steps.specs.declared.jobs.LearntEntry.{LearntEntry}
 use Rattle.graph_model.specs.Log.{entry_at}
 use Rattle.promise_kept.proofs.Entries.{HasFewTouches, entry_few}
 use Rattle.promise_kept.proofs.Floors.{floors_learn}
-use Rattle.promise_kept.specs.Seen.{FloorsAre, floors_of}
+use Rattle.promise_kept.specs.Seen.{FloorsAre, IsToldOf, IsWhatIsTold, floors_of}
 use Rattle.shard_log.specs.View.{View}
 use Rattle.shard_tables.specs.StoreView.{Store}
 use Rattle.shard_tables.specs.declared.writes.Wrote.{Wrote}
@@ -155,19 +155,24 @@ learnt_grows number told learnt n =
     let second = more_after number n (told_entry told.other) (learnt_more number (told_entry told.here) learnt) in
     (first.0 ++ second.0, second.1 ∙ ap (λ es. es ++ second.0) first.1 ∙ append_assoc (learnt n) first.0 second.0)
 
--- and the session of a write has learnt of the entry that it is told of
+-- and the session of a write has learnt of each entry that it is told of
 more_here : (number : ℕ) (more : List Entry) (learnt : ℕ → List Entry) → learnt_more number more learnt number ≡ learnt number ++ more
 more_here number more learnt = (let test : (number == number) ≡ true = eq-eqb number number refl in rw test refl)
 
-pub has_learnt : (number : ℕ) (told : LearntEntries) (learnt : ℕ → List Entry) (t : LearntEntry) → told.here ≡ Some t
-    → Contains (learnt_after number told learnt number) t.entry
-has_learnt number told learnt t is =
-    let first : Contains (learnt_more number (told_entry told.here) learnt number) t.entry =
-    subst (λ es. Contains es t.entry) (sym (more_here number (told_entry told.here) learnt))
-    (Contains-append_right (learnt number) (told_entry told.here) t.entry (subst (λ o. Contains (told_entry o) t.entry) (sym is) (0, omega arith, refl))) in
-    subst (λ es. Contains es t.entry)
-    (sym (more_here number (told_entry told.other) (learnt_more number (told_entry told.here) learnt)))
-    (Contains-append_left (learnt_more number (told_entry told.here) learnt number) (told_entry told.other) t.entry first)
+what_is_told : (told : Option LearntEntry) (e : Entry) → IsWhatIsTold told e → Contains (told_entry told) e
+what_is_told None e is = absurd is
+what_is_told (Some t) e is = (0, omega arith, is)
+
+pub has_learnt : (number : ℕ) (told : LearntEntries) (learnt : ℕ → List Entry) (e : Entry) → IsToldOf told e
+    → Contains (learnt_after number told learnt number) e
+has_learnt number told learnt e is =
+    let first = learnt_more number (told_entry told.here) learnt in
+    subst (λ es. Contains es e) (sym (more_here number (told_entry told.other) first)) (elim is [
+      | inl here ↦ Contains-append_left (first number) (told_entry told.other) e
+          (subst (λ es. Contains es e) (sym (more_here number (told_entry told.here) learnt))
+          (Contains-append_right (learnt number) (told_entry told.here) e (what_is_told told.here e here)))
+      | inr other ↦ Contains-append_right (first number) (told_entry told.other) e (what_is_told told.other e other)
+    ])
 
 -- ---- what is told has few touches
 

@@ -15,7 +15,7 @@ none_held m none number plan at =
 
 -- nothing was settled
 none_settled : (m : Moment) → IsSettledSince m None
-none_settled m = record { grows = λ logs is. absurd (cc (is)); rests = λ logs few is same. absurd (cc (is)) }
+none_settled m = record { grows = λ logs is. absurd (cc (is)); rests = λ logs is same. absurd (cc (is)) }
 
 pub opened_seen : (m : Moment) → IsNewCore m.core → AreAllUp m → IsPlainOf m (opened_plain m)
 opened_seen m begun up = record {

@@ -1,10 +1,10 @@
 -- A line that is no call and opens no session, as a step of the promise: by what its reply says and what becomes of the logs.
-use Rattle.std.proofs.Common.{◌≡◌, ℕ, [], Option, Some, append-nil, refl, sym, ap, subst}
+use Rattle.std.proofs.Common.{◌≡◌, ℕ, [], Option, Some, append-nil, refl, sym, ap, subst, ◌∙◌}
 use Rattle.plain_promise.specs.Promise.{ChangesLogs, EachGrows, Logs, Plain, SaysRightly, held_after, settled_after}
 use Rattle.promise_kept.proofs.Going.{kept_now, logs_grow}
 use Rattle.promise_kept.proofs.Resting.{plain_rests}
 use Rattle.promise_kept.specs.Lines.{GoesOnUsable, StepsPlainly}
-use Rattle.promise_kept.specs.Seen.{IsPlainOf, IsSettledSince, stores_at, terms_of}
+use Rattle.promise_kept.specs.Seen.{IsPlainOf, IsSettledSince, stores_at}
 use Rattle.replies.specs.declared.reply.Reply.{Reply}
 use Rattle.request_check.specs.declared.checked.Checked.{Checked}
 use Rattle.tao_core.specs.Core.{CoreState, Moment}
@@ -25,6 +25,21 @@ keeps_calls old new rest = record {
   states = ap (λ (c : CoreState). c.states) rest;
 }
 
+-- and where nothing of the core does
+pub keeps_core : (old new : Moment) → new.core ≡ old.core → KeepsCalls old new
+keeps_core old new same = record {
+  sessions = ap (λ (c : CoreState). c.sessions) same;
+  plans = ap (λ (c : CoreState). c.plans) same;
+  states = ap (λ (c : CoreState). c.states) same;
+}
+
+pub keeps_on : (old mid new : Moment) → KeepsCalls old mid → KeepsCalls mid new → KeepsCalls old new
+keeps_on old mid new first second = record {
+  sessions = second.sessions ∙ first.sessions;
+  plans = second.plans ∙ first.plans;
+  states = second.states ∙ first.states;
+}
+
 -- the plain state after it, with what is remembered of settles
 abbrev pub plain_with : Plain → Moment → Option Logs → Plain
 plain_with plain new settled = record plain { stores = stores_at new; settled = settled }
@@ -36,9 +51,9 @@ module _ (old new : Moment) (plain : Plain) (is : IsPlainOf old plain) (on : Goe
       record { stores = refl; learnt = rests.learnt; held = rests.held; settled = since; up = rests.up }
 
   pub steps_so : (asked : Checked) (reply : Reply)
-      → SaysRightly (terms_of old.core.settings) plain asked reply (plain_with plain new (settled_after plain reply (stores_at new).logs))
+      → SaysRightly (types_of old.core.settings.schema) plain asked reply (plain_with plain new (settled_after plain reply (stores_at new).logs))
       → ChangesLogs (types_of old.core.settings.schema) plain asked (stores_at new).logs
-      → ((plan : ℕ) → plain.held plan ≡ held_after plain asked plan) → IsSettledSince new (settled_after plain reply (stores_at new).logs)
+      → ((plan : ℕ) → plain.held plan ≡ held_after plain asked (stores_at new).logs plan) → IsSettledSince new (settled_after plain reply (stores_at new).logs)
       → StepsPlainly (Some asked) old plain reply new
   steps_so asked reply says changes held since = record {
     after = plain_with plain new (settled_after plain reply (stores_at new).logs);

@@ -1,8 +1,8 @@
 -- The lines that hold a call and advance it keep the promise.
-use Rattle.std.proofs.Common.{◌≡◌, ◌∙◌, ◌++◌, [], ℕ, zero, suc, true, List, Option, Some, None, append-nil, refl, sym, ap, subst, inl}
+use Rattle.std.proofs.Common.{◌≡◌, ◌∙◌, ◌++◌, [], ℕ, true, List, Option, Some, None, append-nil, refl, sym, ap, subst, inl}
 use Rattle.std.proofs.Common.{inr, if◌then◌else◌}
 use Rattle.std.proofs.lemmas.Bool.{cases_eq, eq-eqb, ne_eqb}
-use Rattle.std.specs.Option.{option_map_or}
+use Rattle.std.specs.Option.{option_map, option_map_or}
 use Rattle.std.specs.Prelude.{◌==◌}
 use Rattle.core_model.proofs.Places.{one_some}
 use Rattle.core_model.specs.Stores.{stores_in}
@@ -11,7 +11,7 @@ use Rattle.core_plans.specs.HeldReads.{at_bound}
 use Rattle.core_plans.specs.declared.held.HeldPlan.{HeldPlan}
 use Rattle.core_sessions.specs.Sessions.{Session}
 use Rattle.graph_model.specs.Legal.{floor}
-use Rattle.plain_promise.specs.Promise.{Begun, CallsAlone, IsWellKept, Logs, Plain, RefusesAt, SaysOfCall, Terms, begun_now, refused_at}
+use Rattle.plain_promise.specs.Promise.{Begun, CallsAlone, IsWellKept, Logs, Plain, SaysOfCall, begun_now, held_after, went_on}
 use Rattle.promise_kept.proofs.AtOnce.{read_begins, write_begins}
 use Rattle.promise_kept.proofs.CallLines.{alone_same, not_begun, unbegun_says}
 use Rattle.promise_kept.proofs.Going.{grows_same, kept_now, stores_are}
@@ -19,11 +19,9 @@ use Rattle.promise_kept.proofs.HeldLines.{StepKept, step_kept}
 use Rattle.promise_kept.proofs.Resting.{grows_then, held_rests, seen_then}
 use Rattle.promise_kept.proofs.Saying.{not_settled, plain_at}
 use Rattle.promise_kept.specs.Lines.{GoesOnUsable, IsLine, StepsPlainly}
-use Rattle.promise_kept.specs.Seen.{AreBegun, FloorsAre, IsPlainOf, IsPlanOf, IsSettledSince, IsUnderWayFor, floors_of, terms_of}
+use Rattle.promise_kept.specs.Seen.{AreBegun, FloorsAre, IsPlainOf, IsPlanOf, IsSettledSince, IsUnderWayFor, floors_of}
 use Rattle.read_plan.specs.Readings.{Reading, new_reading}
-use Rattle.replies.specs.declared.plans.PlanReply.TheVariants.{Ended, Next}
 use Rattle.replies.specs.declared.reply.Reply.{Reply}
-use Rattle.replies.specs.declared.reply.Reply.TheVariants.{Called, Plan as OfPlan, Refused}
 use Rattle.request_check.specs.declared.checked.Checked.TheVariants as asks
 use Rattle.request_check.specs.declared.checked.CheckedCall.{CheckedCall}
 use Rattle.request_check.specs.declared.checked.CheckedCall.TheVariants as call
@@ -46,6 +44,18 @@ use Rattle.write_plan.specs.Plans.{Writing, begun_write}
 
 -- ---- advance
 
+-- the call of the number goes on, and each other stays
+module _ (number : ℕ) (was now : Logs) (held : ℕ → Option Begun) where
+  abbrev Advanced : ℕ → Option Begun
+  Advanced n = if n == number then option_map (went_on was now) (held n) else held n
+
+  advance_here : (began : Begun) → held number ≡ Some began → Advanced number ≡ Some (went_on was now began)
+  advance_here began is =
+      ap (λ b. if b then option_map (went_on was now) (held number) else held number) (eq-eqb number number refl) ∙ ap (option_map (went_on was now)) is
+
+  advance_others : (n : ℕ) → (n ≡ number → ⊥) → Advanced n ≡ held n
+  advance_others n apart = ap (λ b. if b then option_map (went_on was now) (held n) else held n) (ne_eqb n number apart)
+
 advance_line : (old new : Moment) (learnt : ℕ → List Entry) (held : ℕ → Option Begun) (settled : Option Logs) (number : ℕ) (reply : Reply)
     → IsPlainOf old (plain_at old.core.settings old.keepers.told learnt held settled) → IsLine (asks.Plan (Advance number)) old reply new
     → StepsPlainly (Some (asks.Plan (Advance number))) old (plain_at old.core.settings old.keepers.told learnt held settled) reply new
@@ -53,9 +63,14 @@ advance_line old new learnt held settled number reply was line =
     let s = old.core.settings in
     let steps = line.answers in
     let begun = was.held number steps.before steps.stands in
-    let kept : StepKept old new learnt held settled was line.on word.Advance number reply begun.0 =
-    step_kept old new learnt held settled was line.on word.Advance number reply steps begun.0 begun.2 begun.1 in
-    let after : Plain = plain_at s new.keepers.told kept.learnt_now held settled in
+    let before : Plain = plain_at s old.keepers.told learnt held settled in
+    let logs : Logs = (stores_in s new.keepers.told).logs in
+    let held_now : ℕ → Option Begun = held_after before (asks.Plan (Advance number)) logs in
+    let others = advance_others number before.stores.logs logs held in
+    let kept : StepKept old new learnt held settled was line.on word.Advance number reply held_now others begun.0 =
+    step_kept old new learnt held settled was line.on word.Advance number reply held_now others steps begun.0 begun.2
+    (advance_here number before.stores.logs logs held begun.0 begun.1) in
+    let after : Plain = plain_at s new.keepers.told kept.learnt_now held_now settled in
     record {
       after = after;
       says = record {
@@ -65,25 +80,10 @@ advance_line old new learnt held settled number reply was line =
         well_kept = subst (IsWellKept (types_of s.schema)) (stores_are old new line.on) (kept_now old new line.on);
         learnt = kept.more;
         held = λ plan. refl;
-        settled = sym (not_settled (terms_of s) begun.0 (plain_at s old.keepers.told learnt held settled) after reply after.stores.logs kept.says);
+        settled = sym (not_settled (types_of s.schema) begun.0 before after before.stores.logs reply logs kept.says);
       };
       seen = kept.seen;
     }
-
--- ---- what a line says is of the stores before it alone
-
-refuses_alike : (asked : CheckedCall) (old other new : Plain) → other.stores ≡ old.stores → (n : ℕ) → RefusesAt n asked old new → RefusesAt n asked other new
-refuses_alike asked old other new same zero refuses = refuses ∙ ap (λ (st : Stores). st.logs) (sym same)
-refuses_alike (call.Write write) old other new same (suc n) refuses = refuses
-refuses_alike (call.Read read) old other new same (suc n) refuses = refuses ∙ ap (λ (st : Stores). st.logs) (sym same)
-
-says_alike : (terms : Terms) (began : Begun) (old other new : Plain) → other.stores ≡ old.stores → (reply : Reply) → SaysOfCall terms began old reply new
-    → SaysOfCall terms began other reply new
-says_alike terms began old other new same (Called reply) says = says
-says_alike terms began old other new same (OfPlan (Ended number reply)) says = says
-says_alike terms began old other new same (OfPlan (Next word number stage)) says = tt
-says_alike terms began old other new same (Refused refusal) says = refuses_alike began.call old other new same (refused_at refusal) says
-says_alike terms began old other new same reply says = absurd says
 
 -- ---- hold
 
@@ -99,23 +99,27 @@ module _ (old new : Moment) (learnt : ℕ → List Entry) (held : ℕ → Option
   abbrev Began : Begun
   Began = begun_now Before asked
 
-  abbrev held_now : ℕ → Option Begun
-  held_now n = if n == number then Some Began else held n
-
-  abbrev After : (ℕ → List Entry) → Plain
-  After learnt_now = plain_at old.core.settings new.keepers.told learnt_now held_now settled
-
   abbrev Was : Stores
   Was = stores_in old.core.settings old.keepers.told
 
   abbrev Now : Stores
   Now = stores_in old.core.settings new.keepers.told
 
+  -- with the call that begins, and once it went on by the line
+  abbrev held_as : Begun → ℕ → Option Begun
+  held_as began n = if n == number then Some began else held n
+
+  abbrev Then : Begun
+  Then = went_on (stores_in old.core.settings old.keepers.told).logs (stores_in old.core.settings new.keepers.told).logs Began
+
+  abbrev After : (ℕ → List Entry) → Plain
+  After learnt_now = plain_at old.core.settings new.keepers.told learnt_now (held_as Then) settled
+
   abbrev Steps : Type 0
   Steps = StepsPlainly (Some (asks.Plan (Hold number asked))) old Before reply new
 
   hold_keeps : (learnt_now : ℕ → List Entry) → ((n : ℕ) → (es : List Entry) × (learnt_now n ≡ learnt n ++ es))
-      → SaysOfCall (terms_of s) Began Before reply (After learnt_now) → CallsAlone (types_of s.schema) asked Was Now.logs
+      → SaysOfCall (types_of s.schema) Began Was.logs reply (After learnt_now) → CallsAlone (types_of s.schema) asked Was Now.logs
       → IsPlainOf new (After learnt_now) → Steps
   hold_keeps learnt_now more says changes seen = record {
     after = After learnt_now;
@@ -126,17 +130,17 @@ module _ (old new : Moment) (learnt : ℕ → List Entry) (held : ℕ → Option
       well_kept = subst (IsWellKept (types_of s.schema)) (stores_are old new line.on) (kept_now old new line.on);
       learnt = more;
       held = λ plan. refl;
-      settled = sym (not_settled (terms_of s) Began Before (After learnt_now) reply Now.logs says);
+      settled = sym (not_settled (types_of s.schema) Began Before (After learnt_now) Was.logs reply Now.logs says);
     };
     seen = seen;
   }
 
   -- what is remembered of the number, and of each other
-  held_here : (n : ℕ) → n ≡ number → held_now n ≡ Some Began
-  held_here n is = ap (λ b. if b then Some Began else held n) (eq-eqb n number is)
+  held_here : (began : Begun) (n : ℕ) → n ≡ number → held_as began n ≡ Some began
+  held_here began n is = ap (λ b. if b then Some began else held n) (eq-eqb n number is)
 
-  held_there : (n : ℕ) → (n ≡ number → ⊥) → held_now n ≡ held n
-  held_there n apart = ap (λ b. if b then Some Began else held n) (ne_eqb n number apart)
+  held_there : (began : Begun) (n : ℕ) → (n ≡ number → ⊥) → held_as began n ≡ held n
+  held_there began n apart = ap (λ b. if b then Some began else held n) (ne_eqb n number apart)
 
   -- ---- no plan was begun
 
@@ -145,9 +149,9 @@ module _ (old new : Moment) (learnt : ℕ → List Entry) (held : ℕ → Option
       let same = refuses.same in
       let logs : Now.logs ≡ Was.logs = ap (λ (m : Moment). (stores_in s m.keepers.told).logs) same in
       hold_keeps learnt (λ n. ([], sym (append-nil (learnt n))))
-      (unbegun_says Began Before (After learnt) s reply (not_begun old.core.states old.core.sessions asked reply refuses.refused) logs)
+      (unbegun_says Began Was.logs (After learnt) s reply (not_begun old.core.states old.core.sessions asked reply refuses.refused) logs)
       (alone_same s old new asked logs)
-      (seen_then old new line.on Before learnt held_now was
+      (seen_then old new line.on Before learnt (held_as Then) was
       (λ n. subst (λ (m : Moment). FloorsAre (learnt n) (floors_of m.core.sessions n)) (sym same) (was.learnt n))
       (λ n plan at.
       let there = subst (λ (m : Moment). plan_at m.core.plans n ≡ Some plan) same at in
@@ -157,7 +161,7 @@ module _ (old new : Moment) (learnt : ℕ → List Entry) (held : ℕ → Option
             absurd (cc)
         | inr apart ↦
             let rests = held_rests old new line.on held was.held n plan there in
-            (rests.0, held_there n apart ∙ rests.1, rests.2)
+            (rests.0, held_there Then n apart ∙ rests.1, rests.2)
       ])
       (ap (λ (m : Moment). m.core.states) same))
 
@@ -213,7 +217,7 @@ module _ (old new : Moment) (learnt : ℕ → List Entry) (held : ℕ → Option
         let session = begun.session in
         let p : Writing = begun_write write.write (Client write.session write.seq) session.region session.tier begun.follower in
         subst (IsUnderWayFor s old.keepers (begun_now Before (call.Write write)) (call.Write write)) (sym begun.plan_is)
-        (write_begins s old.keepers (begun_now Before (call.Write write)) write p refl refl refl refl).for_call
+        (write_begins s old.keepers (begun_now Before (call.Write write)) write p refl refl refl refl refl refl).for_call
 
     is_plan : IsPlanOf Added plan Began
     is_plan = record {
@@ -222,22 +226,22 @@ module _ (old new : Moment) (learnt : ℕ → List Entry) (held : ℕ → Option
       settled = since_added settled was.settled;
     }
 
-    begun_added : AreBegun Added held_now
+    begun_added : AreBegun Added (held_as Began)
     begun_added n one at =
         let found : (if n == number then Some plan else plan_at old.core.plans n) ≡ Some one = sym (goes.adds.sets n) ∙ at in
         elim (cases_eq n number) [
           | inl is ↦
               let own : Some plan ≡ Some one =
               subst (λ b. (if b then Some plan else plan_at old.core.plans n) ≡ Some one) (eq-eqb n number is) found in
-              (Began, held_here n is, subst (λ x. IsPlanOf Added x Began) (one_some plan one own) is_plan)
+              (Began, held_here Began n is, subst (λ x. IsPlanOf Added x Began) (one_some plan one own) is_plan)
           | inr apart ↦
               let other : plan_at old.core.plans n ≡ Some one =
               subst (λ b. (if b then Some plan else plan_at old.core.plans n) ≡ Some one) (ne_eqb n number apart) found in
               let before = was.held n one other in
-              (before.0, held_there n apart ∙ before.1, plan_added one before.0 before.2)
+              (before.0, held_there Began n apart ∙ before.1, plan_added one before.0 before.2)
         ]
 
-    was_added : IsPlainOf Added (plain_at old.core.settings old.keepers.told learnt held_now settled)
+    was_added : IsPlainOf Added (plain_at old.core.settings old.keepers.told learnt (held_as Began) settled)
     was_added = record {
       stores = refl;
       learnt = was.learnt;
@@ -249,15 +253,15 @@ module _ (old new : Moment) (learnt : ℕ → List Entry) (held : ℕ → Option
     own_before : plan ≡ goes.steps.before
     own_before = one_some plan goes.steps.before (sym (set_here number (Some plan) old.core.plans goes.added goes.adds.sets) ∙ goes.steps.stands)
 
-    kept : StepKept Added new learnt held_now settled was_added on_added word.Hold number reply Began
-    kept = step_kept Added new learnt held_now settled was_added on_added word.Hold number reply goes.steps Began
-        (subst (λ x. IsPlanOf Added x Began) own_before is_plan) (held_here number refl)
+    others : (n : ℕ) → (n ≡ number → ⊥) → held_as Then n ≡ held_as Began n
+    others n apart = held_there Then n apart ∙ sym (held_there Began n apart)
+
+    kept : StepKept Added new learnt (held_as Began) settled was_added on_added word.Hold number reply (held_as Then) others Began
+    kept = step_kept Added new learnt (held_as Began) settled was_added on_added word.Hold number reply (held_as Then) others goes.steps Began
+        (subst (λ x. IsPlanOf Added x Began) own_before is_plan) (held_here Then number refl)
 
     goes_hold : Steps
-    goes_hold = hold_keeps kept.learnt_now kept.more
-        (says_alike (terms_of s) Began (plain_at old.core.settings old.keepers.told learnt held_now settled) Before (After kept.learnt_now) refl reply
-        kept.says)
-        kept.changes kept.seen
+    goes_hold = hold_keeps kept.learnt_now kept.more kept.says kept.changes kept.seen
 
   hold_line : Steps
   hold_line = elim line.answers [ inl goes ↦ goes_hold goes | inr refuses ↦ refused_hold refuses ]

@@ -1,39 +1,27 @@
--- Reads: what each stage keeps of a read that is under way for a call, and that its answer is right.
-use Rattle.std.proofs.Common.{◌≡◌, ◌<◌, ◌≤◌, ◌∙◌, ◌⊎◌, ℕ, Bool, true, false, Some, None, length, refl, sym, ap, subst}
+-- Reads: one that is over was answered or refused, and its answer is right.
+use Rattle.std.proofs.Common.{◌≡◌, ◌<◌, ◌≤◌, ◌∙◌, ◌⊎◌, ℕ, true, Some, refl, sym, ap, subst}
 use Rattle.std.proofs.Common.{arith, inl, inr}
-use Rattle.std.specs.Prelude.{⊤}
-use Rattle.cache_items.specs.declared.look.Look.{Look}
-use Rattle.cache_items.specs.declared.look.Look.TheVariants.{Hit, Miss}
 use Rattle.core_model.specs.Stores.{master_log, stores_in}
-use Rattle.core_plans.specs.HeldReads.{DoesKeep, DoesLook, DoesReadStage, HasComeTo, version_now, wanted_by}
-use Rattle.core_plans.specs.LedBy.{LedBy}
+use Rattle.core_plans.specs.HeldReads.{HasComeTo, version_now, wanted_by}
 use Rattle.core_steps.specs.Reads.{IsLegalNow}
-use Rattle.core_steps.specs.World.{World}
 use Rattle.graph_model.proofs.Exact.{version_take}
 use Rattle.graph_model.specs.Legal.{IsLegal, floor}
 use Rattle.graph_model.specs.Log.{version}
 use Rattle.plain_promise.specs.Promise.{AreSameLogs, Begun, Logs, log_read}
 use Rattle.promise_kept.proofs.Going.{log_is}
+use Rattle.promise_kept.proofs.Refusing.{EndsRefused}
 use Rattle.promise_kept.specs.Seen.{IsReadFor}
 use Rattle.read_plan.specs.Ends.{EndsAt, EndsWith}
 use Rattle.read_plan.specs.Readings.{Reading}
-use Rattle.read_plan.specs.Standings.{after_ask, after_keep, after_look, after_master}
 use Rattle.read_plan.specs.declared.end.ReadEnd.TheVariants as ended
-use Rattle.read_plan.specs.declared.standing.Given.{Given}
-use Rattle.read_plan.specs.declared.standing.Given.TheVariants.{Fill, HandedOut, Past}
 use Rattle.read_plan.specs.declared.standing.Standing.{Standing}
 use Rattle.read_plan.specs.declared.standing.Standing.TheVariants.{Asking, Ended, Keeping, Looking, Mastering}
 use Rattle.replies.specs.declared.calls.CallReply.TheVariants as called
 use Rattle.replies.specs.declared.calls.ReadReply.{ReadReply}
 use Rattle.replies.specs.declared.refusals.Refusal.{Refusal}
-use Rattle.replies.specs.declared.refusals.Refusal.TheVariants.{Memory}
 use Rattle.replies.specs.declared.reply.Reply.{Reply}
 use Rattle.replies.specs.declared.reply.Reply.TheVariants.{Called, Refused}
 use Rattle.request_check.specs.declared.checked.CheckedRead.{CheckedRead}
-use Rattle.shard_tables.specs.declared.leader_answer.LeaderAnswer.{LeaderAnswer}
-use Rattle.shard_tables.specs.declared.leader_answer.LeaderAnswer.TheVariants as leads
-use Rattle.shard_tables.specs.declared.read_out.ReadOut.{ReadOut}
-use Rattle.shard_tables.specs.declared.read_out.ReadOut.TheVariants as store
 use Rattle.tao_base.specs.Queries.{query_key, query_shard}
 use Rattle.tao_base.specs.declared.query.Query.{Query}
 use Rattle.tao_keeper.specs.KeeperState.{KeeperState}
@@ -41,59 +29,13 @@ use Rattle.tao_schema.specs.Schema.{types_of}
 use Rattle.topology.specs.Config.{Settings}
 use Rattle.write_model.specs.Merges.{log_of}
 
--- ---- a read that is refused
+-- ---- a read that is over
 
--- what refuses it is a refusal
-abbrev pub IsRefusedAt : Standing → Type 0
-IsRefusedAt (Ended (ended.Refused reply)) = (refusal : Refusal) × (reply ≡ Refused refusal)
-IsRefusedAt (Ended (ended.Answered answer version held)) = ⊤
-IsRefusedAt Looking = ⊤
-IsRefusedAt Asking = ⊤
-IsRefusedAt Mastering = ⊤
-IsRefusedAt (Keeping given) = ⊤
-
-look_so : (critical : Bool) (look : Look) → IsRefusedAt (after_look critical look)
-look_so true look = tt
-look_so false (Hit answer version) = tt
-look_so false Miss = tt
-
-ask_so : (given : LeaderAnswer) → IsRefusedAt (after_ask given)
-ask_so (leads.Filled fill) = tt
-ask_so (leads.Past answer version total note) = tt
-ask_so (leads.Behind version) = tt
-
-master_so : (out : ReadOut) → IsRefusedAt (after_master out)
-master_so (store.Filled fill) = tt
-master_so (store.Past answer version total note) = tt
-
-keep_so : (s : Settings) (p q : Reading) (given : Given) (old new : World) → p.at ≡ Keeping given → DoesKeep s p given old q new → IsRefusedAt q.at
-keep_so s p q (Fill fill) old new at (inl from) =
-    subst (λ (r : Reading). IsRefusedAt r.at) (sym from.then)
-    (subst (λ a. IsRefusedAt (after_keep p.bound a (Some (from.answer, from.kept)))) (sym at) tt)
-keep_so s p q (Fill fill) old new at (inr vain) = subst (λ (r : Reading). IsRefusedAt r.at) (sym vain.then) (Memory 0, refl)
-keep_so s p q (Past answer version total seen) old new at on =
-    subst (λ (r : Reading). IsRefusedAt r.at) (sym on.then) (subst (λ a. IsRefusedAt (after_keep p.bound a None)) (sym at) tt)
-keep_so s p q (HandedOut version) old new at on = absurd on
-
-look_stage_so : (s : Settings) (critical : Bool) (p q : Reading) (old new : World) → DoesLook s critical p old q new → IsRefusedAt q.at
-look_stage_so s false p q old new (inl looks) = subst (λ (r : Reading). IsRefusedAt r.at) (sym looks.then) (look_so p.critical looks.look)
-look_stage_so s false p q old new (inr vain) = subst (λ (r : Reading). IsRefusedAt r.at) (sym vain.then) (Memory 0, refl)
-look_stage_so s true p q old new looks = subst (λ (r : Reading). IsRefusedAt r.at) (sym looks.then) (look_so p.critical Miss)
-
-pub stage_so : (led : LedBy) (at : Standing) (p q : Reading) (old new : World) → p.at ≡ at → DoesReadStage led at p old q new → IsRefusedAt q.at
-stage_so led Looking p q old new is does = look_stage_so led.settings p.critical p q old new does
-stage_so led Asking p q old new is (inl asks) = subst (λ (r : Reading). IsRefusedAt r.at) (sym asks.then) (ask_so asks.given)
-stage_so led Asking p q old new is (inr vain) = subst (λ (r : Reading). IsRefusedAt r.at) (sym vain.then) (vain.refusal, refl)
-stage_so led Mastering p q old new is (inl asks) = subst (λ (r : Reading). IsRefusedAt r.at) (sym asks.then) (master_so asks.out)
-stage_so led Mastering p q old new is (inr vain) = subst (λ (r : Reading). IsRefusedAt r.at) (sym vain.then) (vain.refusal, refl)
-stage_so led (Keeping given) p q old new is does = keep_so led.settings p q given old new is does
-stage_so led (Ended end) p q old new is does = absurd does
-
--- so a read that is over was answered or refused
+-- it was answered or refused
 pub record IsReadReply (reply : Reply) : Type 0 where
   pub is : ((answer : ReadReply) × (reply ≡ Called (called.Read answer))) ⊎ ((refusal : Refusal) × (reply ≡ Refused refusal))
 
-reply_at : (at : Standing) (q : Reading) (reply : Reply) → IsRefusedAt at → EndsAt at q reply → IsReadReply reply
+reply_at : (at : Standing) (q : Reading) (reply : Reply) → EndsRefused at → EndsAt at q reply → IsReadReply reply
 reply_at (Ended (ended.Answered answer version held)) q reply so ends = record { is = inl (_, ends) }
 reply_at (Ended (ended.Refused own)) q reply so ends = record { is = inr (so.0, ends ∙ so.1) }
 reply_at Looking q reply so ends = absurd ends
@@ -101,7 +43,7 @@ reply_at Asking q reply so ends = absurd ends
 reply_at Mastering q reply so ends = absurd ends
 reply_at (Keeping given) q reply so ends = absurd ends
 
-pub read_reply_is : (q : Reading) (reply : Reply) → IsRefusedAt q.at → EndsWith q reply → IsReadReply reply
+pub read_reply_is : (q : Reading) (reply : Reply) → EndsRefused q.at → EndsWith q reply → IsReadReply reply
 read_reply_is q reply so ends = reply_at q.at q reply so ends
 
 -- ---- the version of an answer
@@ -110,7 +52,7 @@ abbrev version_in : Reply → ℕ
 version_in (Called (called.Read reply)) = reply.version
 version_in reply = 0
 
-come_to : (at : Standing) (q : Reading) (reply : ReadReply) (least now : ℕ) → IsRefusedAt at → EndsAt at q (Called (called.Read reply))
+come_to : (at : Standing) (q : Reading) (reply : ReadReply) (least now : ℕ) → EndsRefused at → EndsAt at q (Called (called.Read reply))
     → HasComeTo least now at → least ≤ reply.version
 come_to (Ended (ended.Answered answer version held)) q reply least now so ends come =
     let same : reply.version ≡ version = ap version_in ends in
@@ -126,7 +68,7 @@ come_to (Keeping given) q reply least now so ends come = absurd ends
 -- ---- an answer is right
 
 module _ (s : Settings) (keepers : KeeperState) (began : Begun) (read : CheckedRead) (q : Reading) (under : IsReadFor s keepers began read q)
-    (here : query_shard q.query < s.shards) (so : IsRefusedAt q.at) (reply : ReadReply) (over : EndsWith q (Called (called.Read reply))) where
+    (here : query_shard q.query < s.shards) (so : EndsRefused q.at) (reply : ReadReply) (over : EndsWith q (Called (called.Read reply))) where
   abbrev Now : Logs
   Now = (stores_in s keepers.told).logs
 
@@ -146,12 +88,12 @@ module _ (s : Settings) (keepers : KeeperState) (began : Begun) (read : CheckedR
   version_read = ap (λ l. version l (query_key q.query)) (sym (log_is s keepers.told (query_shard q.query) here))
       ∙ ap (λ (query : Query). version (log_of Now (query_shard query)) (query_key query)) under.query_is
 
-  pub answer_last : IsLegalNow true s (wanted_by q) reply keepers → (logs : Logs) → length s.regions ≤ 1 → began.settled ≡ Some logs → AreSameLogs logs Now
+  pub answer_last : IsLegalNow true s (wanted_by q) reply keepers → (logs : Logs) → began.settled ≡ Some logs → AreSameLogs logs Now
       → reply.version ≡ version (log_read Now read) (query_key read.query)
-  answer_last legal logs few is same =
+  answer_last legal logs is same =
       let found = legal refl in
       let log = master_log s keepers.told (query_shard q.query) in
-      let least = come_to q.at q reply _ _ so over (under.last logs few is same) in
+      let least = come_to q.at q reply _ _ so over (under.last logs is same) in
       let most : reply.version ≤ version log (query_key q.query) =
       subst (λ v. v ≤ version log (query_key q.query)) (sym found.version_is) (version_take found.n log (query_key q.query)) in
       let now = version_read in

@@ -1,5 +1,5 @@
 -- The line of a read that isn't held keeps the promise.
-use Rattle.std.proofs.Common.{◌≡◌, ◌<◌, ◌≤◌, ◌∙◌, [], ℕ, true, List, Option, Some, None, length, refl, sym, ap, subst}
+use Rattle.std.proofs.Common.{◌≡◌, ◌<◌, ◌∙◌, [], ℕ, true, List, Option, Some, None, refl, sym, ap, subst}
 use Rattle.std.specs.Option.{option_map_or}
 use Rattle.core_model.specs.Stores.{stores_in}
 use Rattle.core_plans.proofs.WholeRuns.{OfRead}
@@ -15,11 +15,11 @@ use Rattle.graph_model.specs.Legal.{floor}
 use Rattle.graph_model.specs.Log.{version}
 use Rattle.plain_promise.specs.Promise.{AreSameLogs, Begun, Logs, Plain, begun_now, log_read}
 use Rattle.promise_kept.proofs.AtOnce.{ReadsSoFar, read_begins, reads_at_once}
-use Rattle.promise_kept.proofs.Going.{log_is}
+use Rattle.promise_kept.proofs.Going.{log_is, same_logs}
 use Rattle.promise_kept.proofs.ReadLemmas.{answer_legal, answer_whole, read_reply_is}
 use Rattle.promise_kept.proofs.Saying.{plain_at, read_says}
 use Rattle.promise_kept.specs.Lines.{IsLine, StepsPlainly}
-use Rattle.promise_kept.specs.Seen.{IsPlainOf, floors_of, terms_of}
+use Rattle.promise_kept.specs.Seen.{IsPlainOf, floors_of}
 use Rattle.read_plan.specs.Ends.{EndsWith}
 use Rattle.read_plan.specs.Readings.{Reading, new_reading}
 use Rattle.replies.specs.declared.calls.CallReply.TheVariants as called
@@ -36,10 +36,11 @@ use Rattle.tao_core.proofs.HeldBegun.{is_under_way}
 use Rattle.tao_core.proofs.SettledLaws.{settled_until_a_commit}
 use Rattle.tao_core.specs.Calls.{world_of}
 use Rattle.tao_core.specs.Core.{CoreState, Moment}
-use Rattle.tao_core.specs.HeldCalls.{AnswersCall, CallGoes, LearnsOf, plan_leader}
+use Rattle.tao_core.specs.HeldCalls.{AnswersCall, CallGoes, LearnsOf, plan_leaders}
+use Rattle.tao_schema.specs.Schema.{types_of}
 use Rattle.topology.specs.Config.{Settings}
 use Rattle.write_model.specs.Merges.{Stores, log_of}
-use Rattle.promise_kept.proofs.CallLines.{rested, tables_same}
+use Rattle.promise_kept.proofs.CallLines.{rested}
 
 module _ (old new : Moment) (learnt : ℕ → List Entry) (held : ℕ → Option Begun) (settled : Option Logs)
     (was : IsPlainOf old (plain_at old.core.settings old.keepers.told learnt held settled)) (read : CheckedRead) (reply : Reply)
@@ -64,12 +65,12 @@ module _ (old new : Moment) (learnt : ℕ → List Entry) (held : ℕ → Option
 
   -- the last version, where nothing was written since a settle
   last_read : (answer : ReadReply) → reply ≡ Called (called.Read answer) → query_shard read.query < s.shards → Now.logs ≡ Was.logs → (logs : Logs)
-      → length s.regions ≤ 1 → settled ≡ Some logs → AreSameLogs logs Now.logs → answer.version ≡ version (log_read Now.logs read) (query_key read.query)
-  last_read answer is here logs_same logs few since same =
+      → settled ≡ Some logs → AreSameLogs logs Now.logs → answer.version ≡ version (log_read Now.logs read) (query_key read.query)
+  last_read answer is here logs_same logs since same =
       let answers = subst (λ r. AnswersCall true (call.Read read) old r new) is line.answers in
       let before : AreSameLogs logs Was.logs = λ shard. ap (λ l. log_of l shard) (sym logs_same) ∙ same shard in
       let shard = query_shard read.query in
-      settled_until_a_commit.reads old new read answer line.on.before.is_consistent (was.settled.rests logs few since before) was.up answers
+      settled_until_a_commit.reads old new read answer line.on.before.is_consistent (was.settled.rests logs since before) was.up answers
       ∙ ap (λ l. version l (query_key read.query)) (sym (log_is s old.keepers.told shard here))
       ∙ ap (λ l. version (log_of l shard) (query_key read.query)) (sym logs_same)
 
@@ -78,10 +79,10 @@ module _ (old new : Moment) (learnt : ℕ → List Entry) (held : ℕ → Option
       → LearnsOf after told old.core.sessions new.core.sessions → StepsPlainly (Some (asks.Call (call.Read read))) old Before reply new
   read_ends (of.Write q) told here plans states so over learns = absurd so
   read_ends (of.Read q) told here plans states so over learns =
-      let logs = tables_same s old new so.tables in
+      let logs = same_logs s old.keepers new.keepers so.tables in
       let here_then = subst (λ query. query_shard query < s.shards) (sym so.for_call.query_is) here in
       rested old new learnt held settled was (call.Read read) reply line logs learns plans states
-      (read_says (terms_of s) Began read Before After reply (read_reply_is q reply so.so over) logs
+      (read_says (types_of s.schema) Began read Was.logs After reply (read_reply_is q reply so.so over) logs
       (λ answer is.
       let ends = subst (EndsWith q) is over in
       let legal = (so.legal answer ends).0 in
@@ -96,8 +97,9 @@ module _ (old new : Moment) (learnt : ℕ → List Entry) (held : ℕ → Option
       let session = goes.begun.session in
       let key = query_key read.query in
       let p : Reading = at_bound s (new_reading read.query session.region session.tier (floor_at session.floors key) read.critical goes.begun.follower) in
-      let leader = plan_leader old.core goes.plan in
-      let carries = subst (λ plan. CarriesOut (led_by true s leader) plan (world_of old) goes.does.after (world_of new)) goes.begun.plan_is goes.does.carries in
+      let leaders = plan_leaders old.core goes.plan in
+      let carries = subst (λ plan. CarriesOut (led_by true s leaders) plan (world_of old) goes.does.after (world_of new))
+      goes.begun.plan_is goes.does.carries in
       let under = subst (IsUnderWay true s old.keepers.told old.core.fleet) goes.begun.plan_is
       (is_under_way true old.keepers old.core line.on.before.is_consistent (call.Read read) goes.plan goes.begun line.can) in
       let here = under.follower.here in
@@ -105,6 +107,6 @@ module _ (old new : Moment) (learnt : ℕ → List Entry) (held : ℕ → Option
       ap (λ o. option_map_or (λ (x : Session). x.floors) o []) goes.begun.found in
       let least = subst (λ fs. floor_at fs key ≡ floor (learnt read.session) key) floors ((was.learnt read.session).at key) in
       let begins = read_begins s old.keepers (record Began { settled = None }) read p here refl refl refl least refl in
-      let so = reads_at_once s leader Began read p (world_of old) goes.does.after (world_of new) begins refl carries in
+      let so = reads_at_once s leaders Began read p (world_of old) goes.does.after (world_of new) begins refl carries in
       read_ends goes.does.after (learnt_with reply goes.does.after) here (ap (λ (c : CoreState). c.plans) goes.does.rest)
       (ap (λ (c : CoreState). c.states) goes.does.rest) so goes.does.over goes.does.learns

@@ -1,17 +1,21 @@
--- A read that ends without an answer ends with a refusal, and no stage of a read changes a table.
-use Rattle.std.proofs.Common.{◌≡◌, ℕ, Bool, true, false, Option, Some, None, refl, sym, ◌∙◌, subst, inl, inr}
+-- A read that ends without an answer ends with a refusal, its answer's version is one that its key had, and no stage of a read changes a table.
+use Rattle.std.proofs.Common.{◌≡◌, Bool, true, false, Some, None, refl, sym, ap, ◌∙◌, subst, take, inl, inr}
 use Rattle.std.specs.Prelude.{⊤}
-use Rattle.cache_items.specs.declared.look.Kept.{Kept as KeptWhy}
 use Rattle.cache_items.specs.declared.look.Look.{Look}
 use Rattle.cache_items.specs.declared.look.Look.TheVariants.{Hit, Miss}
+use Rattle.core_model.specs.Stores.{stores_in}
 use Rattle.core_plans.proofs.WholeRuns.{OfRead, read_keeps}
 use Rattle.core_plans.specs.HeldReads.{DoesKeep, DoesLook, DoesReadStage}
 use Rattle.core_plans.specs.LedBy.{LedBy, led_by}
 use Rattle.core_plans.specs.WholeCalls.{CarriesOut, PassesStage}
 use Rattle.core_plans.specs.declared.held.HeldPlan.{HeldPlan}
 use Rattle.core_plans.specs.declared.held.HeldPlan.TheVariants as of
+use Rattle.core_plans.specs.declared.leaders.Leaders.{Leaders}
 use Rattle.core_steps.specs.World.{World}
-use Rattle.node_name.specs.declared.NodeName.{NodeName}
+use Rattle.graph_model.specs.Log.{version}
+use Rattle.plain_promise.specs.Promise.{IsVersionOfSome}
+use Rattle.promise_kept.proofs.Going.{log_is}
+use Rattle.read_plan.specs.Ends.{EndsAt, EndsWith}
 use Rattle.read_plan.specs.Readings.{Reading}
 use Rattle.read_plan.specs.Standings.{after_ask, after_keep, after_look, after_master}
 use Rattle.read_plan.specs.declared.end.ReadEnd.TheVariants as ended
@@ -19,12 +23,15 @@ use Rattle.read_plan.specs.declared.standing.Given.{Given}
 use Rattle.read_plan.specs.declared.standing.Given.TheVariants.{Fill, HandedOut, Past}
 use Rattle.read_plan.specs.declared.standing.Standing.{Standing}
 use Rattle.read_plan.specs.declared.standing.Standing.TheVariants.{Looking, Asking, Mastering, Keeping, Ended}
+use Rattle.replies.specs.declared.calls.CallReply.TheVariants as called
+use Rattle.replies.specs.declared.calls.ReadReply.{ReadReply}
 use Rattle.replies.specs.declared.refusals.Refusal.{Refusal}
-use Rattle.replies.specs.declared.reply.Reply.TheVariants.{Refused}
+use Rattle.replies.specs.declared.reply.Reply.TheVariants.{Called, Refused}
 use Rattle.shard_tables.specs.declared.leader_answer.LeaderAnswer.{LeaderAnswer}
 use Rattle.shard_tables.specs.declared.leader_answer.LeaderAnswer.TheVariants as leads
 use Rattle.shard_tables.specs.declared.read_out.ReadOut.{ReadOut}
 use Rattle.shard_tables.specs.declared.read_out.ReadOut.TheVariants as store
+use Rattle.tao_base.specs.Queries.{query_key, query_shard}
 use Rattle.tao_keeper.specs.Table.{Stays}
 use Rattle.topology.specs.Config.{Settings}
 
@@ -83,21 +90,35 @@ stage_refuses led p q old new does = stage_so led p.at p q old new refl does
 
 -- ---- all stages
 
--- no table changed since the first, and one that ended without an answer was refused
-pub record ReadRests (first : World) (q : Reading) (now : World) : Type 0 where
+-- no table changed since the first, one that ended without an answer was refused, and the version of an answer is one that the read's key had
+pub record ReadRests (s : Settings) (first : World) (q : Reading) (now : World) : Type 0 where
   pub tables : Stays first.keepers.told now.keepers.told
   pub refused : EndsRefused q.at
+  pub answers : (reply : ReadReply) → EndsWith q (Called (called.Read reply)) → IsVersionOfSome (stores_in s now.keepers.told).logs reply.version
 
-module _ (s : Settings) (leader : NodeName) (first : World) where
-  rests_on : (p q : Reading) (old new : World) → ReadRests first p old → PassesStage (led_by true s leader) (of.Read p) old (of.Read q) new
-      → ReadRests first q new
+module _ (s : Settings) (leaders : Leaders) (first : World) where
+  rests_on : (p q : Reading) (old new : World) → ReadRests s first p old → PassesStage (led_by true s leaders) (of.Read p) old (of.Read q) new
+      → ReadRests s first q new
   rests_on p q old new so stage = record {
     tables = λ at. stage.steps.tables refl at ∙ so.tables at;
-    refused = stage_refuses (led_by true s leader) p q old new stage.steps.steps.does;
+    refused = stage_refuses (led_by true s leaders) p q old new stage.steps.steps.does;
+    answers = λ reply ends.
+        let legal = (stage.steps.steps.legal reply ends).0 refl in
+        let log = log_is s new.keepers.told (query_shard q.query) stage.under_way.follower.here in
+        record {
+          key = query_key q.query;
+          n = legal.n;
+          version_is = legal.version_is ∙ ap (λ l. version (take legal.n l) (query_key q.query)) (sym log);
+        };
   }
 
-  pub read_rests : (p : Reading) (q : HeldPlan) (new : World) → p.at ≡ Looking → CarriesOut (led_by true s leader) (of.Read p) first q new
-      → OfRead (ReadRests first) q new
+  pub read_rests : (p : Reading) (q : HeldPlan) (new : World) → p.at ≡ Looking → CarriesOut (led_by true s leaders) (of.Read p) first q new
+      → OfRead (ReadRests s first) q new
   read_rests p q new begun out =
-      read_keeps (led_by true s leader) (ReadRests first) rests_on out.stages p q first new
-      (record { tables = λ at. refl; refused = subst EndsRefused (sym begun) tt }) out.passes
+      read_keeps (led_by true s leaders) (ReadRests s first) rests_on out.stages p q first new
+      (record {
+        tables = λ at. refl;
+        refused = subst EndsRefused (sym begun) tt;
+        answers = λ reply ends. absurd (subst (λ a. EndsAt a p (Called (called.Read reply))) begun ends);
+      })
+      out.passes

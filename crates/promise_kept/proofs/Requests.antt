@@ -6,7 +6,7 @@ use Rattle.promise_kept.proofs.CacheLines.{cache_line, link_line}
 use Rattle.promise_kept.proofs.Keeping.{calls_keep_promise}
 use Rattle.promise_kept.proofs.StoreLines.{store_line}
 use Rattle.promise_kept.specs.Lines.{CallsKeepPromise, GoesOnUsable, IsLine, StepsPlainly}
-use Rattle.promise_kept.specs.Requests.{KeepsItsLine, RequestsKeepPromise}
+use Rattle.promise_kept.specs.Requests.{IsAskedAt, KeepsItsLine, RequestsKeepPromise}
 use Rattle.promise_kept.specs.Seen.{IsPlainOf}
 use Rattle.replies.specs.declared.refusals.NameRefused.{NameRefused}
 use Rattle.replies.specs.declared.refusals.Refusal.{Refusal}
@@ -31,32 +31,25 @@ named_as : (found : Result Checked NameRefused) (c : Checked) → for_name found
 named_as (Ok x) c is = cc
 named_as (Err refused) c is = absurd (cc)
 
--- what a request was checked to
-record IsCheckedTo (m : Moment) (request : Request) (asked : Checked) : Type 0 where
-  checked_is : checked_of m.core.settings request ≡ Ok asked
-  can : CanBeDone m.core.settings m.core.sessions m.core.plans asked
-
-checked_to : (m : Moment) (request : Request) (asked : Checked)
-    → asked_of m.core.settings m.core.sessions m.core.plans request ≡ Ok asked → IsCheckedTo m request asked
-checked_to m request asked is =
+-- what a request was checked to can be done
+can_be_done : (m : Moment) (request : Request) (asked : Checked)
+    → asked_of m.core.settings m.core.sessions m.core.plans request ≡ Ok asked → CanBeDone m.core.settings m.core.sessions m.core.plans asked
+can_be_done m request asked is =
     let s = m.core.settings in
     let sessions = m.core.sessions in
     let plans = m.core.plans in
     let both = then_ok (admitted sessions plans request) (λ there. for_name (checked_of s request)) asked is in
     let found = named_as (checked_of s request) asked both.2 in
-    record {
-      checked_is = found;
-      can = checked_can s sessions plans request (Ok asked) both.1 (ap (λ (r : Result Checked Refusal). replied r) both.2)
-          (subst (λ r. IfOk r (IsPlaced s)) found (placed s request));
-    }
+    checked_can s sessions plans request (Ok asked) both.1 (ap (λ (r : Result Checked Refusal). replied r) both.2)
+    (subst (λ r. IfOk r (IsPlaced s)) found (placed s request))
 
 -- ---- a line that was refused before anything was done
 
 refused_before : (old new : Moment) (plain : Plain) (request : Request) (reply : Reply) (refusal : Refusal) → IsPlainOf old plain → reply ≡ Refused refusal
-    → new ≡ old → KeepsItsLine request old plain reply new
-refused_before old new plain request reply refusal is said same = record {
+    → IsAskedAt old request None reply → new ≡ old → KeepsItsLine request old plain reply new
+refused_before old new plain request reply refusal is said why same = record {
   asked = None;
-  is_asked = tt;
+  is_asked = why;
   asks = record { refusal = refusal; reply_is = said; same = same };
   steps = record {
     after = plain;
@@ -82,11 +75,10 @@ module _ (calls : CallsKeepPromise) where
       → GoesOnUsable old new → asked_of old.core.settings old.core.sessions old.core.plans request ≡ found → AnswersAsked true old found reply new
       → KeepsItsLine request old plain reply new
   by_asked old new plain request reply (Err refused) is on found answers =
-      refused_before old new plain request reply refused is answers.0 answers.1
+      refused_before old new plain request reply refused is answers.0 (inr (refused, answers.0, found)) answers.1
   by_asked old new plain request reply (Ok asked) is on found answers =
-      let to = checked_to old request asked found in
-      let line : IsLine asked old reply new = record { can = to.can; on = on; answers = answers } in
-      record { asked = Some asked; is_asked = to.checked_is; asks = line; steps = each_line asked old new plain reply is line }
+      let line : IsLine asked old reply new = record { can = can_be_done old request asked found; on = on; answers = answers } in
+      record { asked = Some asked; is_asked = found; asks = line; steps = each_line asked old new plain reply is line }
 
   pub requests_from : RequestsKeepPromise
   requests_from = record { keeps = by_request }
@@ -94,7 +86,7 @@ module _ (calls : CallsKeepPromise) where
       by_request : (old new : Moment) (plain : Plain) (request : Request) (reply : Reply) → IsPlainOf old plain → GoesOnUsable old new
           → AnswersRequest true old request reply new → KeepsItsLine request old plain reply new
       by_request old new plain request reply is on (inl wants) =
-          refused_before old new plain request reply (Memory 0) is wants.reply_is wants.same
+          refused_before old new plain request reply (Memory 0) is wants.reply_is (inl wants.reply_is) wants.same
       by_request old new plain request reply is on (inr answers) =
           by_asked old new plain request reply (asked_of old.core.settings old.core.sessions old.core.plans request) is on refl answers
 

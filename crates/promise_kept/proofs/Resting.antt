@@ -54,13 +54,13 @@ module _ (old new : Moment) (on : GoesOnUsable old new) where
     floor_is = was.floor_is;
     whole = nothing_is_missed_later.later true Set (version (log_read began.logs read) (query_key read.query)) p old.keepers new.keepers
         on.after.grows.logs was.whole;
-    last = λ logs few is same.
+    last = λ logs is same.
         let now : AreSameLogs logs (stores_at new).logs =
         λ shard. ap (λ (st : Stores). log_of st.logs shard) (stores_are old new on) ∙ same shard in
         let before = were_same old new on logs (settled.grows logs is) now in
         let stay = have_same old new on (stay_same old new on logs (settled.grows logs is) now) (query_shard p.query) under.follower.here in
         let v = ap (λ l. version l (query_key p.query)) stay in
-        subst (λ n. HasComeTo n n p.at) (sym v) (was.last logs few is before);
+        subst (λ n. HasComeTo n n p.at) (sym v) (was.last logs is before);
   }
 
   write_rests : (began : Begun) (write : CheckedWrite) (p : Writing) → IsWriteFor Set old.keepers began write p → IsWriteFor Set new.keepers began write p
@@ -68,6 +68,8 @@ module _ (old new : Moment) (on : GoesOnUsable old new) where
     write_is = was.write_is;
     origin_is = was.origin_is;
     answered = IfSome_then p.committed was.answered (answered_stays Set old.keepers.told new.keepers.told grows_then kept_then began write p.job);
+    added = was.added;
+    due = was.due;
   }
 
   call_rests : (began : Begun) (asked : CheckedCall) (plan : HeldPlan) → IsUnderWay true Set old.keepers.told old.core.fleet plan

@@ -9,13 +9,13 @@ use Rattle.core_repairs.specs.Repairs.{SettlesLogs}
 use Rattle.master_tables.specs.Masters.{each_shard}
 use Rattle.plain_promise.specs.Promise.{IsSettledNow}
 use Rattle.promise_kept.proofs.Going.{grows_same, stores_are}
-use Rattle.promise_kept.proofs.Others.{KeepsCalls, keeps_calls}
+use Rattle.promise_kept.proofs.Others.{KeepsCalls, keeps_calls, keeps_core, keeps_on}
 use Rattle.promise_kept.specs.Lines.{GoesOnUsable}
 use Rattle.promise_kept.specs.Seen.{IsSettledSince, stores_at}
 use Rattle.tao_base.specs.declared.entry.Entry.{Entry}
 use Rattle.tao_core.proofs.SettledLaws.{settled_until_a_commit}
 use Rattle.tao_core.specs.Core.{CoreState, Moment}
-use Rattle.tao_core.specs.Settling.{HasRunJobs, IsUnsettled, SettlesCore}
+use Rattle.tao_core.specs.Settling.{HasRunJobs, HasStreamed, IsUnsettled, SettlesCore}
 use Rattle.tao_keeper.specs.KeeperState.{KeeperState, KeepsTables}
 use Rattle.tao_keeper.specs.Table.{Tables}
 use Rattle.tao_schema.specs.Schema.{types_of}
@@ -43,37 +43,50 @@ module _ (old new : Moment) where
   abbrev s : Settings
   s = old.core.settings
 
+  -- the streams change no shard's own store
+  shards_stay : (ran : Moment) (now : Tables) → HasRunJobs true old ran → stores_in s now ≡ stores_in s ran.keepers.told
+      → SettlesLogs s old.keepers.told now
+  shards_stay ran now jobs same =
+      subst (λ (st : Stores). Settles (types_of s.schema) (stores_in s old.keepers.told) st.logs) (sym same) (jobs.runs.settles refl)
+
+  streamed_whole : (ran streamed : Moment) → HasRunJobs true old ran → HasStreamed true ran streamed → SettlesLogs s old.keepers.told streamed.keepers.told
+  streamed_whole ran streamed jobs streams =
+      let settings = ap (λ (c : CoreState). c.settings) jobs.rest in
+      shards_stay ran streamed.keepers.told jobs
+      (subst (λ (x : Settings). stores_in x streamed.keepers.told ≡ stores_in x ran.keepers.told) settings (streams.streams.shards refl))
+
   -- so does one that came to no end
   pub unsettled : (given : SettleStop) → IsUnsettled true given old new → SettlesLogs s old.keepers.told new.keepers.told
   unsettled given (inl stops) = stops.stops.settles refl
-  unsettled given (inr (inl stops)) =
-      settles_kept s old.keepers.told stops.ran.keepers new.keepers stops.tables (stops.jobs.runs.settles refl)
-  unsettled given (inr (inr stops)) =
-      settles_kept s old.keepers.told stops.ran.keepers new.keepers stops.asked (stops.jobs.runs.settles refl)
+  unsettled given (inr (inl stops)) = shards_stay stops.ran new.keepers.told stops.jobs (stops.stops.shards refl)
+  unsettled given (inr (inr (inl stops))) = settles_kept s old.keepers.told stops.streamed.keepers new.keepers stops.tables
+      (streamed_whole stops.ran stops.streamed stops.jobs stops.streams)
+  unsettled given (inr (inr (inr stops))) = settles_kept s old.keepers.told stops.streamed.keepers new.keepers stops.asked
+      (streamed_whole stops.ran stops.streamed stops.jobs stops.streams)
 
   settled_whole : (logs : List ℕ) → SettlesCore true logs old new → SettlesLogs s old.keepers.told new.keepers.told
-  settled_whole logs is = settles_kept s old.keepers.told is.ran.keepers new.keepers is.reads.tables (is.jobs.runs.settles refl)
+  settled_whole logs is = settles_kept s old.keepers.told is.streamed.keepers new.keepers is.reads.tables
+      (streamed_whole is.ran is.streamed is.jobs is.streams)
 
   -- ---- what stays
 
   -- the core of a settle under way
-  ran_keeps : (ran : Moment) → HasRunJobs true old ran → KeepsCalls old ran
-  ran_keeps ran jobs = keeps_calls old ran jobs.rest
+  streamed_keeps : (ran streamed : Moment) → HasRunJobs true old ran → HasStreamed true ran streamed → KeepsCalls old streamed
+  streamed_keeps ran streamed jobs streams = keeps_on old ran streamed (keeps_calls old ran jobs.rest) (keeps_calls ran streamed streams.rest)
 
   pub unsettled_keeps : (given : SettleStop) → IsUnsettled true given old new → KeepsCalls old new
   unsettled_keeps given (inl stops) = keeps_calls old new stops.rest
   unsettled_keeps given (inr (inl stops)) =
-      let ran = ran_keeps stops.ran stops.jobs in record {
-        sessions = ap (λ (m : Moment). m.core.sessions) stops.same ∙ ran.sessions;
-        plans = ap (λ (m : Moment). m.core.plans) stops.same ∙ ran.plans;
-        states = ap (λ (m : Moment). m.core.states) stops.same ∙ ran.states;
-      }
-  unsettled_keeps given (inr (inr stops)) =
-      let ran = ran_keeps stops.ran stops.jobs in record {
-        sessions = ap (λ (c : CoreState). c.sessions) stops.rest ∙ ran.sessions;
-        plans = ap (λ (c : CoreState). c.plans) stops.rest ∙ ran.plans;
-        states = ap (λ (c : CoreState). c.states) stops.rest ∙ ran.states;
-      }
+      keeps_on old stops.ran new (keeps_calls old stops.ran stops.jobs.rest) (keeps_calls stops.ran new stops.rest)
+  unsettled_keeps given (inr (inr (inl stops))) =
+      keeps_on old stops.streamed new (streamed_keeps stops.ran stops.streamed stops.jobs stops.streams)
+      (keeps_core stops.streamed new (ap (λ (m : Moment). m.core) stops.same))
+  unsettled_keeps given (inr (inr (inr stops))) =
+      keeps_on old stops.streamed new (streamed_keeps stops.ran stops.streamed stops.jobs stops.streams) (record {
+        sessions = ap (λ (c : CoreState). c.sessions) stops.rest;
+        plans = ap (λ (c : CoreState). c.plans) stops.rest;
+        states = ap (λ (c : CoreState). c.states) stops.rest;
+      })
 
   -- ---- what it says
 
@@ -97,6 +110,5 @@ module _ (old new : Moment) where
     pub settled_now : (logs : List ℕ) → SettlesCore true logs old new → IsSettledSince new (Some (stores_at new).logs)
     settled_now logs is = record {
       grows = λ left same. grows_same left (stores_at new).logs (same_Some (stores_at new).logs left same);
-      rests = λ left few same still.
-          settled_until_a_commit.settles logs old new is (settled_until_a_commit.whole new on.after.keepers.is_consistent few);
+      rests = λ left same still. settled_until_a_commit.settles logs old new is;
     }

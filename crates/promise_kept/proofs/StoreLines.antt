@@ -1,20 +1,30 @@
--- The lines of stores: repairs, settles and audits.
-use Rattle.std.proofs.Common.{◌≡◌, ℕ, ◌<◌, true, Some, None, Result, Ok, Err, length, refl, sym, ap, ◌∙◌, subst}
+-- The lines of stores: repairs, settles, audits and streams.
+use Rattle.std.proofs.Common.{◌≡◌, ℕ, ◌<◌, true, Some, None, Result, Ok, Err, length, refl, sym, ap, ◌∙◌, subst, inl, inr}
 use Rattle.std.specs.Prelude.{Option}
-use Rattle.core_model.specs.Stores.{stores_in}
+use Rattle.core_model.specs.Stores.{master_of, master_store, stores_in}
+use Rattle.core_nodes.specs.Streams.{StreamsTo}
 use Rattle.core_repairs.specs.declared.repairs.Ran.{Ran}
 use Rattle.core_repairs.specs.declared.repairs.RepairFailed.{RepairFailed}
 use Rattle.core_repairs.specs.declared.repairs.RepairFailed.TheVariants as repair
+use Rattle.core_steps.specs.Streams.{RefusesStream, StreamsOver}
+use Rattle.core_steps.specs.World.{World}
+use Rattle.core_steps.specs.declared.streaming.AskedStream.{AskedStream}
 use Rattle.edge_repair.specs.declared.refusal.RepairRefusal.TheVariants.{KeeperFault, LinkFault, LogFull, OutOfMemory}
 use Rattle.graph_model.specs.Answers.{answer}
+use Rattle.master_tables.specs.Masters.{each_shard}
 use Rattle.plain_promise.specs.Promise.{IsAuditOf, Plain, RepairsAlone, SaysRightly, settled_after}
 use Rattle.promise_kept.proofs.Going.{log_is, settled_rests, stores_are}
-use Rattle.promise_kept.proofs.Others.{KeepsCalls, keeps_calls, plain_with, steps_so}
+use Rattle.promise_kept.proofs.Others.{KeepsCalls, keeps_calls, keeps_core, plain_with, steps_so}
 use Rattle.promise_kept.proofs.Repaired.{SaysJobs, repair_merges, repair_says}
 use Rattle.promise_kept.proofs.Settled.{settled_changes, settled_now, settled_says, settles_now, unsettled, unsettled_keeps}
 use Rattle.promise_kept.specs.Lines.{GoesOnUsable, KeepsLine, StepsPlainly}
-use Rattle.promise_kept.specs.Seen.{IsPlainOf, IsSettledSince, stores_at, terms_of}
-use Rattle.replies.specs.declared.refusals.Refusal.TheVariants.{Memory, Store as OfStore}
+use Rattle.promise_kept.specs.Seen.{IsPlainOf, IsSettledSince, stores_at}
+use Rattle.replies.specs.declared.nodes.StreamVerdict.{StreamVerdict}
+use Rattle.replies.specs.declared.nodes.StreamVerdict.TheVariants as verdict
+use Rattle.replies.specs.declared.nodes.Streamed.{Streamed}
+use Rattle.replies.specs.declared.refusals.NodeRefused.TheVariants.{IsMaster, NoEntry}
+use Rattle.replies.specs.declared.refusals.Refusal.{Refusal}
+use Rattle.replies.specs.declared.refusals.Refusal.TheVariants.{Memory, Node as OfNode, Store as OfStore}
 use Rattle.replies.specs.declared.refusals.StoreRefused.TheVariants as refused
 use Rattle.replies.specs.declared.reply.Reply.{Reply}
 use Rattle.replies.specs.declared.reply.Reply.TheVariants.{Audited, Refused, Settled}
@@ -24,12 +34,16 @@ use Rattle.request_check.specs.declared.checked.CheckedRead.{CheckedRead}
 use Rattle.request_check.specs.declared.stores.CheckedStore.{CheckedStore}
 use Rattle.request_check.specs.declared.stores.CheckedStore.TheVariants.{Audit, Repair, Settle, Stream}
 use Rattle.tao_base.specs.Queries.{query_shard}
+use Rattle.tao_base.specs.declared.entry.Entry.{Entry}
+use Rattle.tao_base.specs.declared.id.StoreName.{StoreName}
 use Rattle.tao_base.specs.declared.query.Answer.{Answer}
 use Rattle.tao_core.specs.Calls.{world_of}
-use Rattle.tao_core.specs.Core.{CoreState, Moment}
+use Rattle.tao_core.specs.Core.{Moment}
 use Rattle.tao_core.specs.Settling.{AnswersRepair, AnswersSettle, repaired_as}
 use Rattle.tao_core.specs.StoreReplies.{AnswersAudit, IsAudit, log_for}
-use Rattle.tao_keeper.specs.Table.{Stays}
+use Rattle.tao_core.specs.Streams.{AnswersStream, asked_stream, streamed_as}
+use Rattle.tao_keeper.specs.Table.{Stays, Table, Tables}
+use Rattle.topology.specs.Config.{Settings}
 use Rattle.tao_schema.specs.Schema.{types_of}
 use Rattle.topology.specs.Choices.{master_region}
 use Rattle.write_model.specs.Machine.{Settles}
@@ -42,12 +56,12 @@ module _ (shard : ℕ) (old new : Moment) (plain : Plain) (is : IsPlainOf old pl
   abbrev Asked : Checked
   Asked = asks.Store (Repair shard)
 
-  repaired_so : (reply : Reply) → SaysRightly (terms_of old.core.settings) plain Asked reply (plain_with plain new plain.settled)
+  repaired_so : (reply : Reply) → SaysRightly (types_of old.core.settings.schema) plain Asked reply (plain_with plain new plain.settled)
       → settled_after plain reply (stores_at new).logs ≡ plain.settled → StepsPlainly (Some Asked) old plain reply new
   repaired_so reply says same =
       let back : plain.settled ≡ settled_after plain reply (stores_at new).logs = sym same in
       steps_so old new plain is on keeps Asked reply
-      (subst (λ settled. SaysRightly (terms_of old.core.settings) plain Asked reply (plain_with plain new settled)) back says) changes (λ plan. refl)
+      (subst (λ settled. SaysRightly (types_of old.core.settings.schema) plain Asked reply (plain_with plain new settled)) back says) changes (λ plan. refl)
       (subst (IsSettledSince new) back (settled_rests old new on plain.settled is.settled))
 
   repaired_steps : (region keepers link : ℕ) (outcome : Result (Option Ran) RepairFailed) → SaysJobs shard (stores_at new) outcome
@@ -71,7 +85,7 @@ repair_line shard old new plain reply is line =
     let s = old.core.settings in
     let now = stores_are old new on in
     let merges = repair_merges s shard (world_of old) (world_of new) answers.outcome answers.repairs in
-    let says = repair_says s shard (world_of old) (world_of new) answers.outcome line.can.placed answers.repairs in
+    let says = repair_says s shard (world_of old) (world_of new) answers.outcome line.can answers.repairs in
     let changes = subst (λ (st : Stores). RepairsAlone (types_of s.schema) plain.stores st.logs) (sym now)
     (subst (λ st. RepairsAlone (types_of s.schema) st (stores_in s new.keepers.told).logs) (sym is.stores) merges) in
     subst (λ r. StepsPlainly (Some (asks.Store (Repair shard))) old plain r new) (sym answers.reply_is)
@@ -139,13 +153,73 @@ module _ (old new : Moment) (plain : Plain) (is : IsPlainOf old plain) (on : Goe
 audit_line : (call : CheckedRead) → KeepsLine (asks.Store (Audit call))
 audit_line call old new plain reply is line =
     let answers : AnswersAudit true old.core.settings old.keepers call reply new.keepers × (new ≡ record old { keepers = new.keepers }) = line.answers in
-    let core : new.core ≡ old.core = ap (λ (m : Moment). m.core) answers.1 in
-    let keeps : KeepsCalls old new = record {
-      sessions = ap (λ (c : CoreState). c.sessions) core;
-      plans = ap (λ (c : CoreState). c.plans) core;
-      states = ap (λ (c : CoreState). c.states) core;
-    } in
-    audit_steps old new plain is line.on call keeps line.can.placed reply answers.0
+    audit_steps old new plain is line.on call (keeps_core old new (ap (λ (m : Moment). m.core) answers.1)) line.can reply answers.0
+
+-- ---- streams
+
+-- logs of shards stay where their masters' do
+logs_stay : (s : Settings) (old new : Tables) → ((shard : ℕ) → (new (master_store s shard)).log ≡ (old (master_store s shard)).log)
+    → (stores_in s new).logs ≡ (stores_in s old).logs
+logs_stay s old new same = λ i. each_shard (λ shard. same shard i) 0 s.shards
+
+-- no step of a stream changes one
+taken_stream : (s : Settings) (at : StoreName) (e : Entry) (said : StreamVerdict) (old new : Tables) → StreamsTo s at e (Ok said) old new → (shard : ℕ)
+    → (new (master_store s shard)).log ≡ (old (master_store s shard)).log
+taken_stream s at e verdict.Applied old new streams shard = ap (λ (t : Table). t.log) (streams.1.gains.others (master_store s shard)
+    (λ is. absurd (streams.1.slave (subst (λ (x : StoreName). x.region ≡ master_of s x.shard) is refl))))
+taken_stream s at e verdict.Old old new streams shard = ap (λ (t : Table). t.log) (streams.1 (master_store s shard))
+taken_stream s at e verdict.Gap old new streams shard = ap (λ (t : Table). t.log) (streams.1 (master_store s shard))
+taken_stream s at e verdict.None old new streams shard = absurd streams
+
+refused_stream : (s : Settings) (asked : AskedStream) (refusal : Refusal) (old new : World) → RefusesStream true s asked refusal old new
+    → Stays old.keepers.told new.keepers.told
+refused_stream s asked (OfNode (NoEntry count position)) old new is = is.2.tables refl
+refused_stream s asked (OfStore (refused.KeeperFault count)) old new is = is.2.same.tables refl
+refused_stream s asked (OfStore (refused.LinkFault count when)) old new is = is.3.tables refl
+refused_stream s asked (Memory position) old new is = is.1.same.tables refl
+refused_stream s asked other old new is = absurd is
+
+stream_same : (s : Settings) (asked : AskedStream) (result : Result Streamed Refusal) (old new : World) → StreamsOver true s asked result old new
+    → (stores_in s new.keepers.told).logs ≡ (stores_in s old.keepers.told).logs
+stream_same s asked (Ok streamed) old new (inl nothing) =
+    logs_stay s old.keepers.told new.keepers.told (λ shard. ap (λ (t : Table). t.log) (nothing.rest.tables refl (master_store s shard)))
+stream_same s asked (Ok streamed) old new (inr step) = logs_stay s old.keepers.told new.keepers.told
+    (taken_stream s asked.at step.entry streamed.verdict old.keepers.told new.keepers.told (step.streams refl))
+stream_same s asked (Err refusal) old new is = logs_stay s old.keepers.told new.keepers.told
+    (λ shard. ap (λ (t : Table). t.log) (refused_stream s asked refusal old new is (master_store s shard)))
+
+module _ (region shard : ℕ) (position : Option ℕ) (old new : Moment) (plain : Plain) (is : IsPlainOf old plain) (on : GoesOnUsable old new) where
+  abbrev AskedStep : Checked
+  AskedStep = asks.Store (Stream region shard position)
+
+  -- it says nothing of the plain state
+  stream_so : (reply : Reply) → KeepsCalls old new → (stores_at new).logs ≡ plain.stores.logs
+      → settled_after plain reply (stores_at new).logs ≡ plain.settled → StepsPlainly (Some AskedStep) old plain reply new
+  stream_so reply keeps same none =
+      steps_so old new plain is on keeps AskedStep reply tt same (λ plan. refl)
+      (subst (IsSettledSince new) (sym none) (settled_rests old new on plain.settled is.settled))
+
+  stream_came : (outcome : Result Streamed Refusal) → KeepsCalls old new → (stores_at new).logs ≡ plain.stores.logs
+      → StepsPlainly (Some AskedStep) old plain (streamed_as outcome) new
+  stream_came (Ok streamed) keeps same = stream_so (streamed_as (Ok streamed)) keeps same refl
+  stream_came (Err refusal) keeps same = stream_so (streamed_as (Err refusal)) keeps same refl
+
+  stream_steps : (reply : Reply) → AnswersStream true (asked_stream region shard position) old reply new
+      → StepsPlainly (Some AskedStep) old plain reply new
+  stream_steps reply (inl refuses) =
+      let stays : Stays old.keepers.told new.keepers.told = λ at. ap (λ (m : Moment). m.keepers.told at) refuses.same in
+      subst (λ r. StepsPlainly (Some AskedStep) old plain r new) (sym refuses.reply_is)
+      (stream_so (Refused (OfNode (IsMaster (asked_stream region shard position).at))) (keeps_core old new (ap (λ (m : Moment). m.core) refuses.same))
+      (same_stores old new plain is on stays) refl)
+  stream_steps reply (inr streams) =
+      let s = old.core.settings in
+      let own = stream_same s (asked_stream region shard position) streams.outcome (world_of old) (world_of new) streams.streams in
+      subst (λ r. StepsPlainly (Some AskedStep) old plain r new) (sym streams.reply_is)
+      (stream_came streams.outcome (keeps_calls old new streams.rest)
+      (ap (λ (st : Stores). st.logs) (stores_are old new on) ∙ own ∙ ap (λ (st : Stores). st.logs) (sym is.stores)))
+
+stream_line : (region shard : ℕ) (position : Option ℕ) → KeepsLine (asks.Store (Stream region shard position))
+stream_line region shard position old new plain reply is line = stream_steps region shard position old new plain is line.on reply line.answers
 
 -- ---- all of them
 
@@ -153,4 +227,4 @@ pub store_line : (asked : CheckedStore) → KeepsLine (asks.Store asked)
 store_line (Repair shard) = repair_line shard
 store_line Settle = settle_line
 store_line (Audit call) = audit_line call
-store_line (Stream region shard position) = λ old new plain reply is line. absurd line.answers
+store_line (Stream region shard position) = stream_line region shard position

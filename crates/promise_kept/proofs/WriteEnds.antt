@@ -1,14 +1,16 @@
 -- A write that is over: what its reply says stands, or its refusal tells where its entry stands.
-use Rattle.std.proofs.Common.{◌≡◌, ◌∙◌, ◌⊎◌, ◌∷◌, [], ℕ, Bool, List, Option, Some, None, refl, sym, ap, subst, inl, inr}
+use Rattle.std.proofs.Common.{◌≡◌, ◌∙◌, ◌⊎◌, ◌∷◌, ◌++◌, [], ℕ, Bool, List, Option, Some, None, refl, sym, ap, subst, inl, inr}
+use Rattle.std.proofs.lemmas.List.Elements.{Contains-append_cases}
 use Rattle.std.specs.Option.{option_map}
 use Rattle.std.specs.Prelude.{⊤, Contains, IfSome, IsSomeAnd, option_and_then, slice_get, unwrap_or}
 use Rattle.core_model.proofs.Places.{one_some}
 use Rattle.core_model.specs.Stores.{stores_in}
-use Rattle.core_plans.specs.Held.{next_stage}
+use Rattle.core_plans.specs.Held.{learnt_of_write, next_stage}
 use Rattle.core_plans.specs.declared.held.HeldPlan.TheVariants.{Write as OfWrite}
-use Rattle.plain_promise.specs.Promise.{Begun, IsAcknowledged, Logs, TellsId}
+use Rattle.plain_promise.specs.Promise.{Begun, FoundNothing, IsAcknowledged, Logs, StandsAsLearnt, TellsId, gained}
+use Rattle.promise_kept.proofs.Adding.{gained_past, told_here}
 use Rattle.promise_kept.proofs.WriteStages.{IsRefusedSo, WritesSoFar}
-use Rattle.promise_kept.specs.Seen.{HasJobOf, HasWritten, IsAnsweredFor, OwesNothing}
+use Rattle.promise_kept.specs.Seen.{HasJobOf, HasWritten, IsAnsweredFor, IsToldOf, OwesNothing}
 use Rattle.replies.specs.declared.calls.InverseEnd.TheVariants as inverse
 use Rattle.replies.specs.declared.calls.WriteKind.{WriteKind}
 use Rattle.replies.specs.declared.calls.WriteKind.TheVariants as kind
@@ -108,6 +110,19 @@ module _ (s : Settings) (began : Begun) (call : CheckedWrite) (start : Logs) (q 
   pub write_reply_is : (reply : Reply) → reply_of q ≡ Some reply → IsRefusedSo start call Now.logs reply ⊎ WasDone q reply
   write_reply_is reply is = reply_cases start call Now.logs q q.refused q.committed reply refl refl so.refused is
 
+  -- each entry that its lines have added it tells
+  pub all_told : (e : Entry) → Contains (began.added ++ gained start Now.logs) e → IsToldOf (learnt_of_write q) e
+  all_told e has = elim (Contains-append_cases began.added (gained start Now.logs) e has) [
+    | inl before ↦ so.for_call.added e before
+    | inr now ↦ (let past = gained_past start Now.logs e now in so.adds past.shard past.position e past.stands past.past)
+  ]
+
+  -- it stands, and who has learnt of these entries has learnt of it; or there was nothing to change
+  abbrev IsDone : List Entry → WriteReply → Type 0
+  IsDone learnt reply =
+      ((entry : Entry) × StandsAsLearnt (types_of s.schema) Now call reply entry × Contains learnt entry)
+      ⊎ FoundNothing (types_of s.schema) began Now call reply
+
   module _ (over : next_stage (OfWrite q) ≡ None) (c : Committed) (committed_is : q.committed ≡ Some c) (unrefused : q.refused ≡ None) where
     pub answered_now : IsAnsweredFor s Now began call q.job c
     answered_now = subst (λ o. IfSome o (IsAnsweredFor s Now began call q.job)) committed_is so.for_call.answered
@@ -117,15 +132,11 @@ module _ (s : Settings) (began : Begun) (call : CheckedWrite) (start : Logs) (q 
         (subst (λ r. stage_said (stage_from r q.committed q.job q.back) ≡ None) unrefused over)
 
     -- it stands, and its session has learnt of it; or there was nothing to change
-    acknowledged_by : (learnt : ℕ → List Entry) (held : ℕ → Option Begun) (settled : Option Logs) (retry : Bool) (entry : Option Entry)
-        → HasWritten s Now began call entry → HasJobOf s Now q.job c.wrote.job entry → kind_said call.write entry ≡ Some c.kind
-        → ((e : Entry) → entry ≡ Some e → Contains (learnt call.session) e)
-        → IsAcknowledged (types_of s.schema) began call
-        (record { kind = c.kind; written = written_by retry (inverse_said (has_other c) q.job) entry; hops = q.hops })
-        (record { stores = Now; learnt = learnt; held = held; settled = settled })
-    acknowledged_by learnt held settled retry None had none kind_is has =
-        inr (record { n = had.n; since = had.since; nothing = had.nothing; position_is = refl })
-    acknowledged_by learnt held settled retry (Some e) stood job kind_is has = inl (
+    done_by : (learnt : List Entry) (retry : Bool) (entry : Option Entry) → HasWritten s Now began call entry → HasJobOf s Now q.job c.wrote.job entry
+        → kind_said call.write entry ≡ Some c.kind → ((e : Entry) → entry ≡ Some e → Contains learnt e)
+        → IsDone learnt (record { kind = c.kind; written = written_by retry (inverse_said (has_other c) q.job) entry; hops = q.hops })
+    done_by learnt retry None had none kind_is has = inr (record { n = had.n; since = had.since; nothing = had.nothing; position_is = refl })
+    done_by learnt retry (Some e) stood job kind_is has = inl (
       e,
       record {
         stands = stood;
@@ -137,7 +148,10 @@ module _ (s : Settings) (began : Begun) (call : CheckedWrite) (start : Logs) (q 
     )
 
     pub acknowledged : (learnt : ℕ → List Entry) (held : ℕ → Option Begun) (settled : Option Logs)
-        → ((e : Entry) → c.wrote.entry ≡ Some e → Contains (learnt call.session) e)
-        → IsAcknowledged (types_of s.schema) began call (answer_of c q) (record { stores = Now; learnt = learnt; held = held; settled = settled })
-    acknowledged learnt held settled has =
-        acknowledged_by learnt held settled c.wrote.retry c.wrote.entry answered_now.written answered_now.job answered_now.kind_is has
+        → ((e : Entry) → IsToldOf (learnt_of_write q) e → Contains (learnt call.session) e)
+        → IsAcknowledged (types_of s.schema) began call (answer_of c q) start (record { stores = Now; learnt = learnt; held = held; settled = settled })
+    acknowledged learnt held settled has = record {
+      done = done_by (learnt call.session) c.wrote.retry c.wrote.entry answered_now.written answered_now.job answered_now.kind_is
+          (λ e entry. has e (told_here q c committed_is e entry));
+      learns = λ e added. has e (all_told e added);
+    }

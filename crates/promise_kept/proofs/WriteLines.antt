@@ -28,7 +28,7 @@ use Rattle.tao_base.specs.declared.entry.Origin.TheVariants.{Client}
 use Rattle.tao_core.proofs.HeldBegun.{is_under_way}
 use Rattle.tao_core.specs.Calls.{world_of}
 use Rattle.tao_core.specs.Core.{CoreState, Moment, author}
-use Rattle.tao_core.specs.HeldCalls.{AnswersCall, CallGoes, LearnsOf, plan_leader}
+use Rattle.tao_core.specs.HeldCalls.{AnswersCall, CallGoes, LearnsOf, plan_leaders}
 use Rattle.tao_schema.specs.Schema.{types_of}
 use Rattle.topology.specs.Config.{Settings}
 use Rattle.write_model.specs.Merges.{Stores}
@@ -67,9 +67,9 @@ module _ (old new : Moment) (learnt : ℕ → List Entry) (held : ℕ → Option
       }) in
       let learnt_now = learnt_after number told learnt in
       call_keeps old new learnt held settled was (call.Write write) reply line learnt_now (learnt_grows number told learnt)
-      (write_says s old.keepers.told new.keepers.told Began write learnt learnt_now held held settled settled q reply
+      (write_says s old.keepers.told new.keepers.told Began write learnt_now held settled q reply
       (λ c committed_is unrefused reply_is. acknowledged s Began write Was.logs q new.keepers so none c committed_is unrefused learnt_now held settled
-      (λ e entry_is. has_told s Began write Was.logs q new.keepers so reply learnt c committed_is reply_is e entry_is))
+      (has_told s Began write Was.logs q new.keepers so reply learnt c reply_is))
       (write_reply_is s Began write Was.logs q new.keepers so reply over))
       (ran_alone (types_of s.schema) Was.logs (write_of write) (stores_in s new.keepers.told).logs q.committed q.job so.ran)
       (seen_then old new line.on Before learnt_now held was
@@ -80,17 +80,18 @@ module _ (old new : Moment) (learnt : ℕ → List Entry) (held : ℕ → Option
   write_goes goes =
       let session = goes.begun.session in
       let p : Writing = begun_write write.write (Client write.session write.seq) session.region session.tier goes.begun.follower in
-      let leader = plan_leader old.core goes.plan in
-      let carries = subst (λ plan. CarriesOut (led_by true s leader) plan (world_of old) goes.does.after (world_of new)) goes.begun.plan_is goes.does.carries in
+      let leaders = plan_leaders old.core goes.plan in
+      let carries = subst (λ plan. CarriesOut (led_by true s leaders) plan (world_of old) goes.does.after (world_of new))
+      goes.begun.plan_is goes.does.carries in
       let under = subst (IsUnderWay true s old.keepers.told old.core.fleet) goes.begun.plan_is
       (is_under_way true old.keepers old.core line.on.before.is_consistent (call.Write write) goes.plan goes.begun line.can) in
       let begins : WritesThrough s Began write Was.logs p (world_of old) = record {
-        so = write_begins s old.keepers Began write p refl refl refl refl;
+        so = write_begins s old.keepers Began write p refl refl refl refl refl refl;
         under = under;
         are = line.on.before.is_consistent.consistent;
         grew = grows_same Was.logs Was.logs refl;
       } in
-      let through = writes_at_once s leader Began write Was.logs p (world_of old) goes.does.after (world_of new) begins carries in
+      let through = writes_at_once s leaders Began write Was.logs p (world_of old) goes.does.after (world_of new) begins carries in
       write_ends goes.does.after (ap (λ (c : CoreState). c.plans) goes.does.rest) (ap (λ (c : CoreState). c.states) goes.does.rest) through goes.does.over
       goes.does.carries.over goes.does.learns
 

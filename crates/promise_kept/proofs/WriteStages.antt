@@ -4,16 +4,24 @@ use Rattle.std.specs.Prelude.{⊤, All, IfSome, Result}
 use Rattle.core_model.proofs.Places.{one_some}
 use Rattle.core_model.specs.Jobs.{ShardJob}
 use Rattle.core_model.specs.Stores.{AreKeptIn, stores_in}
-use Rattle.core_plans.specs.HeldWrites.{call_of_plan}
+use Rattle.core_plans.specs.Held.{learnt_of_write}
+use Rattle.core_plans.specs.HeldWrites.{RefusesOnWay, RefusesWrite, call_of_plan, come_past, sent_by, way_by}
+use Rattle.core_plans.specs.LedBy.{led_by}
+use Rattle.core_plans.specs.declared.leaders.Leaders.{Leaders}
 use Rattle.core_steps.specs.OtherEnds.{EndsOver, JobWay, LeavesJob, MergesOver, TakesMerge}
 use Rattle.core_steps.specs.Posting.{ChangesNoNode}
+use Rattle.core_steps.specs.Relays.{RefusesPassing}
+use Rattle.core_steps.specs.declared.routes.Route.{Route}
 use Rattle.core_steps.specs.World.{World}
 use Rattle.core_steps.specs.Writes.{RefusesCommit, SentWrite, StepsAs, asked_of_log}
 use Rattle.graph_model.specs.Log.{entry_at}
 use Rattle.graph_model.specs.Records.{HasStamp}
 use Rattle.graph_model.specs.Soundness.{EdgeUpdate}
+use Rattle.node_name.specs.declared.NodeName.{NodeName}
 use Rattle.plain_promise.specs.Promise.{Begun, EachGrows, Logs, refused_at}
+use Rattle.promise_kept.proofs.Adding.{AddsTold}
 use Rattle.promise_kept.proofs.Commits.{write_of}
+use Rattle.promise_kept.proofs.Going.{same_logs}
 use Rattle.promise_kept.specs.Seen.{IsWriteFor}
 use Rattle.replies.specs.declared.calls.ScheduledWhy.{ScheduledWhy}
 use Rattle.replies.specs.declared.calls.ScheduledWhy.TheVariants as why
@@ -125,10 +133,12 @@ stands_at start call now e (suc n) is stood = (e, stood, is)
 
 -- ---- a write so far
 
--- it is under way for its call; what was made of the logs since these; and what its refusal tells
+-- it is under way for its call; what was made of the logs since these, with each entry that was added one that its session is told; and what its refusal
+-- tells
 pub record WritesSoFar (s : Settings) (began : Begun) (call : CheckedWrite) (start : Logs) (p : Writing) (keepers : KeeperState) : Type 0 where
   pub for_call : IsWriteFor s keepers began call p
   pub ran : Ran (types_of s.schema) start (write_of call) (stores_in s keepers.told).logs p.committed p.job
+  pub adds : AddsTold start (stores_in s keepers.told).logs (learnt_of_write p)
   pub refused : IfSome p.refused (IsRefusedSo start call (stores_in s keepers.told).logs)
 
 -- what a stage leaves of the stores: their logs grew, and they are sound and covered
@@ -140,10 +150,6 @@ pub record KeepsStage (s : Settings) (old new : KeeperState) : Type 0 where
 -- the write of a plan, as the log of its shard is asked
 abbrev pub plan_write : Writing → ClientWrite
 plan_write p = record { shard = write_shard p.write; epoch = 0; origin = p.origin; asked = p.write }
-
--- tables that stay are the same
-pub same_logs : (s : Settings) (old new : KeeperState) → KeepsTables true old new → (stores_in s new.told).logs ≡ (stores_in s old.told).logs
-same_logs s old new keeps = let same : new.told ≡ old.told = λ i at. keeps refl at i in ap (λ t. (stores_in s t).logs) same
 
 pub open_stage : (refused : Option Reply) (committed : Option Committed) (job : OtherEnd) (back : WayBack) (at : WriteStage)
     → stage_from refused committed job back ≡ at → (Done ≡ at → ⊥) → refused ≡ None
@@ -165,7 +171,7 @@ pub record RefusesNone (refusal : Refusal) (old new : World) : Type 0 where
   pub position_is : refused_at refusal ≡ 0
   pub tables : KeepsTables true old.keepers new.keepers
 
-pub refuses_none : (s : Settings) (sent : SentWrite) (refusal : Refusal) (old new : World) → RefusesCommit true s sent refusal old new
+refuses_none : (s : Settings) (sent : SentWrite) (refusal : Refusal) (old new : World) → RefusesCommit true s sent refusal old new
     → RefusesNone refusal old new
 refuses_none s sent (Memory position) old new h = record { position_is = h.0; tables = h.1.same.tables }
 refuses_none s sent (Store (LinkFault count when)) old new h =
@@ -177,6 +183,26 @@ refuses_none s sent (Store (LogFull count)) old new h = record { position_is = r
 refuses_none s sent (Store (KeeperFault count)) old new h = record { position_is = refl; tables = h.1.same.tables }
 refuses_none s sent (Store (Unsettled shard why)) old new h = absurd h.0
 refuses_none s sent refusal old new h = absurd h
+
+refuses_passing : (route : Route) (refusal : Refusal) (old new : World) → RefusesPassing true route refusal old new → RefusesNone refusal old new
+refuses_passing route (Memory position) old new h =
+    record { position_is = h.0; tables = λ told at. ap (λ (w : World). w.keepers.told at) h.1 }
+refuses_passing route (Store (LinkFault count when)) old new h =
+    record { position_is = subst (λ w. refused_at (Store (LinkFault count w)) ≡ 0) (sym h.1.before) refl; tables = h.1.same.tables }
+refuses_passing route refusal old new h = absurd h
+
+refuses_on_way : (passed : Option NodeName) (p : Writing) (refusal : Refusal) (old new : World) → RefusesOnWay true passed p refusal old new
+    → RefusesNone refusal old new
+refuses_on_way None p refusal old new h = absurd h
+refuses_on_way (Some leader) p refusal old new h = refuses_passing (way_by leader p) refusal old new h
+
+pub refuses_write : (s : Settings) (leaders : Leaders) (p : Writing) (refusal : Refusal) (old new : World)
+    → RefusesWrite (led_by true s leaders) p refusal old new → RefusesNone refusal old new
+refuses_write s leaders p refusal old new (inl way) = refuses_on_way leaders.passed p refusal old new way
+refuses_write s leaders p refusal old new (inr there) =
+    let led = led_by true s leaders in
+    let says = refuses_none s (sent_by led p) refusal (come_past led old) new there in
+    record { position_is = says.position_is; tables = says.tables }
 
 -- ---- the merge
 
@@ -269,3 +295,14 @@ end_same s j (Err (left.Scheduled why.LinkFault wrote)) old new ends = absurd en
 end_same s j (Err (left.Scheduled why.LogFull wrote)) old new ends = absurd ends
 end_same s j (Err (left.Scheduled why.NoServer wrote)) old new ends = absurd ends
 end_same s j (Err (left.Refused reply)) old new ends = absurd ends
+
+-- and writes nothing at the other end
+pub end_writes : (s : Settings) (j : ShardJob) (why : ScheduledWhy) (wrote : Option Wrote) (old new : World)
+    → EndsOver true s j (Err (left.Scheduled why wrote)) old new → wrote ≡ None
+end_writes s j why.KeeperFault None old new ends = refl
+end_writes s j why.Memory None old new ends = refl
+end_writes s j why.KeeperFault (Some wrote) old new ends = absurd ends
+end_writes s j why.Memory (Some wrote) old new ends = absurd ends
+end_writes s j why.LinkFault wrote old new ends = absurd ends
+end_writes s j why.LogFull wrote old new ends = absurd ends
+end_writes s j why.NoServer wrote old new ends = absurd ends

@@ -1,23 +1,27 @@
 -- Each stage of a write keeps what is so of it so far.
 use Rattle.std.proofs.Common.{◌≡◌, ◌<◌, ◌∙◌, ℕ, true, Option, Some, None, Ok, Err, refl, sym, ap, subst, inl, inr}
 use Rattle.std.proofs.lemmas.Option.{IfSome_then}
-use Rattle.std.specs.Prelude.{⊤, IfSome, Result, option_and_then}
+use Rattle.std.specs.Prelude.{⊤, Contains, IfSome, Result, option_and_then}
 use Rattle.core_model.specs.Stores.{master_store, stores_in}
 use Rattle.core_plans.proofs.HeldWriteStages.{at_end, at_inverse, before_commit}
-use Rattle.core_plans.specs.HeldWrites.{AppliesHeld, CommitsHeld, DoesWriteStage, IsWriteUnderWay, LosesWayBack}
-use Rattle.core_plans.specs.HeldWrites.{RefusesHeld, call_of_plan, entry_position, job_by, way_by, way_given_up}
+use Rattle.core_plans.specs.Held.{learnt_of_write}
+use Rattle.core_plans.specs.HeldWrites.{AppliesHeld, CommitsHeld, DoesWriteStage, IsWriteUnderWay, LosesRelay, LosesWayBack}
+use Rattle.core_plans.specs.HeldWrites.{RefusesHeld, RelaysHeld, call_of_plan, entry_position, job_by, way_given_up, with_notes}
 use Rattle.core_plans.specs.LedBy.{led_by}
-use Rattle.core_steps.specs.OtherEnds.{EndsOver, MergesOver, job_way}
+use Rattle.core_plans.specs.declared.leaders.Leaders.{Leaders}
+use Rattle.core_steps.specs.OtherEnds.{EndsOver, MergesOver, job_way, known_of}
 use Rattle.core_steps.specs.Routes.{hops_between}
 use Rattle.core_steps.specs.World.{World}
-use Rattle.core_steps.specs.Writes.{StepsAs, asked_of_log, sent_write}
-use Rattle.node_name.specs.declared.NodeName.{NodeName}
+use Rattle.core_steps.specs.Writes.{StepsAs, asked_of_log}
 use Rattle.plain_promise.specs.Promise.{Begun, EachGrows, Logs, refused_at}
+use Rattle.promise_kept.proofs.Adding.{AddsTold, adds_on, adds_same, commit_adds, merge_adds, none_told, told_far, told_here, told_still}
 use Rattle.promise_kept.proofs.Commits.{commit_job, commit_written, write_of}
+use Rattle.promise_kept.proofs.Going.{same_logs}
 use Rattle.promise_kept.proofs.Staying.{answered_stays}
-use Rattle.promise_kept.proofs.WriteStages.{IsRefusedSo, KeepsStage, Ran, RanBy, RanEntry, RefusesHere, WritesSoFar, commit_ran, end_same, ended_there}
-use Rattle.promise_kept.proofs.WriteStages.{merges_over, open_stage, plan_write, ran_merges, refuses_none, same_logs, stands_at}
-use Rattle.promise_kept.specs.Seen.{HasJobOf, HasWritten, IsAnsweredFor, OwesNothing}
+use Rattle.promise_kept.proofs.WriteStages.{IsRefusedSo, KeepsStage, Ran, RanBy, RanEntry, RefusesHere, WritesSoFar, commit_ran, end_same, end_writes}
+use Rattle.promise_kept.proofs.WriteStages.{ended_there, merges_over, open_stage, plan_write, ran_merges, refuses_write, stands_at}
+use Rattle.promise_kept.specs.Seen.{HasJobOf, HasWritten, IsAnsweredFor, IsToldOf, OwesNothing}
+use Rattle.replies.specs.declared.calls.ScheduledWhy.{ScheduledWhy}
 use Rattle.replies.specs.declared.refusals.Refusal.TheVariants.{Memory, Store}
 use Rattle.replies.specs.declared.refusals.StoreRefused.TheVariants.{LinkFault}
 use Rattle.replies.specs.declared.reply.Reply.TheVariants.{Refused}
@@ -37,7 +41,7 @@ use Rattle.write_model.specs.Machine.{ClientWrite, LeavesEntry, StandsFor}
 use Rattle.write_model.specs.Merges.{AreThere, Stores, job_of, log_of}
 use Rattle.write_model.specs.Writes.{FitsWrite}
 use Rattle.write_plan.specs.Committing.{kind_said}
-use Rattle.write_plan.specs.Plans.{Writing, after_stage, answered_entry, answered_job, next_of, when_of}
+use Rattle.write_plan.specs.Plans.{Writing, after_stage, answered_entry, answered_job, next_of, when_of, written_there}
 use Rattle.write_plan.specs.declared.committed.Committed.{Committed}
 use Rattle.write_plan.specs.declared.progress.OtherEnd.{OtherEnd}
 use Rattle.write_plan.specs.declared.progress.OtherEnd.TheVariants.{Due, Ended, Merged, Open}
@@ -83,7 +87,7 @@ told_position faults (Some e) = refl
 
 -- ---- a stage was done
 
-module _ (s : Settings) (leader : NodeName) (p q : Writing) (old new : World) (began : Begun) (call : CheckedWrite) (start : Logs)
+module _ (s : Settings) (leaders : Leaders) (p q : Writing) (old new : World) (began : Begun) (call : CheckedWrite) (start : Logs)
     (so : WritesSoFar s began call start p old.keepers) (keeps : KeepsStage s old.keepers new.keepers) where
   abbrev types : EdgeTypes
   types = types_of s.schema
@@ -108,6 +112,31 @@ module _ (s : Settings) (leader : NodeName) (p q : Writing) (old new : World) (b
       ap (λ (write : Write). record { shard = write_shard write; epoch = 0; origin = p.origin; asked = write }) so.for_call.write_is
       ∙ ap (λ (origin : Origin). record { shard = write_shard call.write; epoch = 0; origin = origin; asked = call.write }) so.for_call.origin_is
 
+  -- what a write tells then: all that it told before, and each entry that the stage added; and of the other end nothing while its job is due
+  record TellsOn (r : Writing) : Type 0 where
+    still : (e : Entry) → IsToldOf (learnt_of_write p) e → IsToldOf (learnt_of_write r) e
+    adds : AddsTold Was.logs Now.logs (learnt_of_write r)
+    due : r.job ≡ Due → r.other ≡ None
+
+  -- so it does where nothing was added, and nothing is known that wasn't
+  tells_same : (r : Writing) → r.write ≡ p.write → r.committed ≡ p.committed → r.other ≡ written_there p.other None → (r.job ≡ Due → r.other ≡ None)
+      → Now.logs ≡ Was.logs → TellsOn r
+  tells_same r write committed other due same = record {
+    still = told_still p r None write committed other;
+    adds = adds_same Was.logs Now.logs (learnt_of_write r) same;
+    due = due;
+  }
+
+  told_on : (r : Writing) → TellsOn r → (e : Entry) → Contains began.added e → IsToldOf (learnt_of_write r) e
+  told_on r tells e has = tells.still e (so.for_call.added e has)
+
+  adds_then : (r : Writing) → TellsOn r → AddsTold start Now.logs (learnt_of_write r)
+  adds_then r tells = adds_on start Was.logs Now.logs (learnt_of_write p) (learnt_of_write r) keeps.grows tells.still so.adds tells.adds
+
+  same_other : (other : Option Wrote) → other ≡ written_there other None
+  same_other None = refl
+  same_other (Some w) = refl
+
   -- no stage is done of a write that was refused
   unrefused : (at : WriteStage) → next_of p ≡ at → (Done ≡ at → ⊥) → (r : Writing) → r.refused ≡ p.refused
       → IfSome r.refused (IsRefusedSo start call Now.logs)
@@ -123,7 +152,7 @@ module _ (s : Settings) (leader : NodeName) (p q : Writing) (old new : World) (b
     ran_none : Was.logs ≡ start
     ran_none = subst (λ c. Ran types start w Was.logs c p.job) none so.ran
 
-    module _ (is : CommitsHeld (led_by true s leader) p old q new) (grew : EachGrows began.logs Was.logs) where
+    module _ (is : CommitsHeld (led_by true s leaders) p old q new) (grew : EachGrows began.logs Was.logs) where
       abbrev wrote : Wrote
       wrote = is.committed.wrote
 
@@ -161,28 +190,47 @@ module _ (s : Settings) (leader : NodeName) (p q : Writing) (old new : World) (b
           (subst (λ x. RanBy types Was.logs x Now.logs wrote.entry Due) own_write
           (commit_ran s old.keepers new.keepers.told p wrote.retry wrote.entry steps))
 
+      abbrev taken : Writing
+      taken = after_stage p (came.Commit (Ok (with_notes is.committed))) hops
+
+      commit_tells : TellsOn taken
+      commit_tells = record {
+        still = λ e told. absurd (none_told p none e told);
+        adds = commit_adds (asked_of_log s old.keepers (call_of_plan p)) (write_shard p.write) Was Now wrote.retry wrote.entry (learnt_of_write taken)
+            (λ e entry. told_here taken is.committed refl e entry) steps;
+        due = so.for_call.due;
+      }
+
       commits_on : So q
       commits_on = subst So (sym is.then) (record {
         for_call = record {
           write_is = so.for_call.write_is;
           origin_is = so.for_call.origin_is;
           answered = subst (λ job. IsAnsweredFor s Now began call job is.committed) (sym due) commit_answered;
+          added = told_on taken commit_tells;
+          due = commit_tells.due;
         };
         ran = subst (λ job. RanBy types start w Now.logs wrote.entry job) (sym due) commit_ran_here;
-        refused = unrefused Commit at (λ same. absurd (cc)) (after_stage p (came.Commit (Ok (is.committed, is.committed.wrote.note))) hops) refl;
+        adds = adds_then taken commit_tells;
+        refused = unrefused Commit at (λ same. absurd (cc)) taken refl;
       })
 
-    refuses_on : RefusesHeld (led_by true s leader) p old q new → So q
+    refuses_on : RefusesHeld (led_by true s leaders) p old q new → So q
     refuses_on is =
-        let says = refuses_none s (sent_write (way_by leader p) (call_of_plan p)) is.refusal old new is.refuses in
+        let says = refuses_write s leaders p is.refusal old new is.refuses in
         let same = same_logs s old.keepers new.keepers says.tables in
+        let gone = after_stage p (came.Commit (Err (Refused is.refusal))) hops in
+        let tells = tells_same gone refl refl (same_other p.other) so.for_call.due same in
         subst So (sym is.then) (record {
           for_call = record {
             write_is = so.for_call.write_is;
             origin_is = so.for_call.origin_is;
             answered = subst (λ c. IfSome c (IsAnsweredFor s Now began call p.job)) (sym none) tt;
+            added = told_on gone tells;
+            due = tells.due;
           };
           ran = subst (λ c. Ran types start w Now.logs c p.job) (sym none) (same ∙ ran_none);
+          adds = adds_then gone tells;
           refused = (is.refusal, refl, subst (RefusesHere start call Now.logs) (sym says.position_is) (same ∙ ran_none));
         })
 
@@ -196,29 +244,33 @@ module _ (s : Settings) (leader : NodeName) (p q : Writing) (old new : World) (b
       record { kind_is = stays.kind_is; written = stays.written; job = job }
 
   -- nothing was done of the logs, nor of the job
-  rests_on : (r : Writing) → r.write ≡ p.write → r.origin ≡ p.origin → r.committed ≡ p.committed → r.job ≡ p.job → Now.logs ≡ Was.logs
+  rests_on : (r : Writing) → r.write ≡ p.write → r.origin ≡ p.origin → r.committed ≡ p.committed → r.job ≡ p.job → r.other ≡ p.other → Now.logs ≡ Was.logs
       → IfSome r.refused (IsRefusedSo start call Now.logs) → So r
-  rests_on r write origin committed job same refused = record {
-    for_call = record {
-      write_is = write ∙ so.for_call.write_is;
-      origin_is = origin ∙ so.for_call.origin_is;
-      answered = subst (λ c. IfSome c (IsAnsweredFor s Now began call r.job)) (sym committed)
-          (subst (λ at. IfSome p.committed (IsAnsweredFor s Now began call at)) (sym job)
-          (IfSome_then p.committed so.for_call.answered
-          (answered_stays s old.keepers.told new.keepers.told keeps.grows keeps.now began call p.job)));
-    };
-    ran = subst (λ c. Ran types start w Now.logs c r.job) (sym committed) (subst (λ at. Ran types start w Now.logs p.committed at) (sym job)
-        (subst (λ l. Ran types start w l p.committed p.job) (sym same) so.ran));
-    refused = refused;
-  }
+  rests_on r write origin committed job other same refused =
+      let tells = tells_same r write committed (other ∙ same_other p.other) (λ is. other ∙ so.for_call.due (sym job ∙ is)) same in record {
+        for_call = record {
+          write_is = write ∙ so.for_call.write_is;
+          origin_is = origin ∙ so.for_call.origin_is;
+          answered = subst (λ c. IfSome c (IsAnsweredFor s Now began call r.job)) (sym committed)
+              (subst (λ at. IfSome p.committed (IsAnsweredFor s Now began call at)) (sym job)
+              (IfSome_then p.committed so.for_call.answered
+              (answered_stays s old.keepers.told new.keepers.told keeps.grows keeps.now began call p.job)));
+          added = told_on r tells;
+          due = tells.due;
+        };
+        ran = subst (λ c. Ran types start w Now.logs c r.job) (sym committed) (subst (λ at. Ran types start w Now.logs p.committed at) (sym job)
+            (subst (λ l. Ran types start w l p.committed p.job) (sym same) so.ran));
+        adds = adds_then r tells;
+        refused = refused;
+      }
 
   -- ---- the job
 
   -- its entry is in this state then, and what it owed is there where it owes nothing
   moved_on : (job : Job) (own : HasEntryOf p.committed job) (at : OtherEnd) (r : Writing) → r.write ≡ p.write → r.origin ≡ p.origin
-      → r.committed ≡ p.committed → r.job ≡ at → r.refused ≡ None → RanEntry types start w Now.logs own.e at
+      → r.committed ≡ p.committed → r.job ≡ at → r.refused ≡ None → RanEntry types start w Now.logs own.e at → TellsOn r
       → (OwesNothing (Some job) at → AreThere (log_of Now.logs) (job_of types own.e)) → So r
-  moved_on job own at r write origin committed state unrefused ran there = record {
+  moved_on job own at r write origin committed state unrefused ran tells there = record {
     for_call = record {
       write_is = write ∙ so.for_call.write_is;
       origin_is = origin ∙ so.for_call.origin_is;
@@ -227,10 +279,13 @@ module _ (s : Settings) (leader : NodeName) (p q : Writing) (old new : World) (b
             position_is = subst (λ o. IfSome o (λ (j : Job). j.position ≡ own.e.position)) (sym own.job_is) own.position_is;
             there = λ nothing. there (subst (λ o. OwesNothing o at) own.job_is (subst (OwesNothing own.c.wrote.job) state nothing));
           })));
+      added = told_on r tells;
+      due = tells.due;
     };
     ran = subst (λ c. Ran types start w Now.logs c r.job) (sym (committed ∙ own.committed_is))
         (subst (λ entry. RanBy types start w Now.logs entry r.job) (sym own.entry_is)
         (subst (RanEntry types start w Now.logs own.e) (sym state) ran));
+    adds = adds_then r tells;
     refused = subst (λ refused. IfSome refused (IsRefusedSo start call Now.logs)) (sym unrefused) tt;
   }
 
@@ -253,25 +308,46 @@ module _ (s : Settings) (leader : NodeName) (p q : Writing) (old new : World) (b
         (subst (λ entry. RanBy types start w Was.logs entry p.job) own_job.entry_is
         (subst (λ c. Ran types start w Was.logs c p.job) own_job.committed_is so.ran))
 
-    inverse_by : (result : Result Wrote LeftOpen) → next_of p ≡ Inverse → MergesOver true s (job_way leader (job_by p job)) result old new
+    inverse_by : (result : Result Wrote LeftOpen) → next_of p ≡ Inverse → MergesOver true s (job_way leaders.leader (job_by p job)) result old new
         → q ≡ after_stage p (came.Inverse result) hops → So q
     inverse_by result at merges then = by result merges then
       where
         may : (other : ℕ) × LeavesEntry types start Now.logs w its_entry other
         may =
             let merged = merges_over s w its_entry (job_by p job) old new refl same_shard own_job.position_is stood.stands
-            (job_way leader (job_by p job)) result refl merges in
+            (job_way leaders.leader (job_by p job)) result refl merges in
             ran_merges types start w Was.logs Now.logs its_entry merged.0 (ran_at Due (at_inverse p at).1) merged.1
 
         unrefused_then : p.refused ≡ None
         unrefused_then = open_stage p.refused p.committed p.job p.back Inverse at (λ same. absurd (cc))
 
-        by : (came_to : Result Wrote LeftOpen) → MergesOver true s (job_way leader (job_by p job)) came_to old new
+        unknown : p.other ≡ None
+        unknown = so.for_call.due (at_inverse p at).1
+
+        -- what is known to be written at the other end it tells
+        merge_tells : (came_to : Result Wrote LeftOpen) (r : Writing) → r.write ≡ p.write → r.committed ≡ p.committed
+            → r.other ≡ written_there p.other (known_of came_to) → (r.job ≡ Due → r.other ≡ None)
+            → MergesOver true s (job_way leaders.leader (job_by p job)) came_to old new → TellsOn r
+        merge_tells came_to r write committed other due merged = record {
+          still = told_still p r (known_of came_to) write committed other;
+          adds = merge_adds s old new (learnt_of_write r) (job_way leaders.leader (job_by p job)) came_to
+              (λ wr known e entry.
+              told_far r job p.other wr (ap (option_and_then (λ (c : Committed). c.wrote.job)) committed ∙ answered) unknown
+              (other ∙ ap (written_there p.other) known) e entry)
+              merged;
+          due = due;
+        }
+
+        by : (came_to : Result Wrote LeftOpen) → MergesOver true s (job_way leaders.leader (job_by p job)) came_to old new
             → q ≡ after_stage p (came.Inverse came_to) hops → So q
         by (Ok wrote) merged is = subst So (sym is)
-            (moved_on job own_job Merged (after_stage p (came.Inverse (Ok wrote)) hops) refl refl refl refl unrefused_then may (λ nothing. absurd nothing))
+            (moved_on job own_job Merged (after_stage p (came.Inverse (Ok wrote)) hops) refl refl refl refl unrefused_then may
+            (merge_tells (Ok wrote) (after_stage p (came.Inverse (Ok wrote)) hops) refl refl refl (λ is. absurd (cc (is))) merged)
+            (λ nothing. absurd nothing))
         by (Err (left.Scheduled why wrote)) merged is = subst So (sym is)
             (moved_on job own_job (Open why) (after_stage p (came.Inverse (Err (left.Scheduled why wrote))) hops) refl refl refl refl unrefused_then may
+            (merge_tells (Err (left.Scheduled why wrote)) (after_stage p (came.Inverse (Err (left.Scheduled why wrote))) hops) refl refl refl
+            (λ is. absurd (cc (is))) merged)
             (λ nothing. absurd nothing))
         by (Err (left.Refused reply)) merged is = absurd merged
 
@@ -286,18 +362,31 @@ module _ (s : Settings) (leader : NodeName) (p q : Writing) (old new : World) (b
         unrefused_then : p.refused ≡ None
         unrefused_then = open_stage p.refused p.committed p.job p.back End at (λ same. absurd (cc))
 
+        end_tells : (came_to : Result ⊤ LeftOpen) (r : Writing) → r.write ≡ p.write → r.committed ≡ p.committed → r.other ≡ written_there p.other None
+            → (r.job ≡ Due → r.other ≡ None) → EndsOver true s (job_by p job) came_to old new → TellsOn r
+        end_tells came_to r write committed other due ended =
+            tells_same r write committed other due (end_same s (job_by p job) came_to old new ended)
+
+        -- the end of a job writes nothing at the other end
+        none_late : (why : ScheduledWhy) (wrote : Option Wrote) → EndsOver true s (job_by p job) (Err (left.Scheduled why wrote)) old new
+            → written_there p.other wrote ≡ written_there p.other None
+        none_late why wrote ended = ap (written_there p.other) (end_writes s (job_by p job) why wrote old new ended)
+
         by : (came_to : Result ⊤ LeftOpen) → EndsOver true s (job_by p job) came_to old new → q ≡ after_stage p (came.End came_to) 0 → So q
         by (Ok tt) ended is = subst So (sym is)
             (moved_on job own_job Ended (after_stage p (came.End (Ok tt)) 0) refl refl refl refl unrefused_then may
+            (end_tells (Ok tt) (after_stage p (came.End (Ok tt)) 0) refl refl (same_other p.other) (λ is. absurd (cc (is))) ended)
             (λ nothing. ended_there s w its_entry (job_by p job) old new refl same_shard own_job.position_is stood.stands ended))
         by (Err (left.Scheduled why wrote)) ended is = subst So (sym is)
             (moved_on job own_job (Open why) (after_stage p (came.End (Err (left.Scheduled why wrote))) 0) refl refl refl refl unrefused_then may
+            (end_tells (Err (left.Scheduled why wrote)) (after_stage p (came.End (Err (left.Scheduled why wrote))) 0) refl refl
+            (none_late why wrote ended) (λ is. absurd (cc (is))) ended)
             (λ nothing. absurd nothing))
         by (Err (left.Refused reply)) ended is = absurd ended
 
   -- ---- the way back
 
-  module _ (at : next_of p ≡ Apply) (same : Now.logs ≡ Was.logs) where
+  module _ (same : Now.logs ≡ Was.logs) where
     ran_now : Ran types start w Now.logs p.committed p.job
     ran_now = subst (λ l. Ran types start w l p.committed p.job) (sym same) so.ran
 
@@ -318,25 +407,40 @@ module _ (s : Settings) (leader : NodeName) (p q : Writing) (old new : World) (b
     told_then : RefusesHere start call Now.logs (entry_position (answered_entry p))
     told_then = told_commit p.committed answered_now ran_now
 
-    loses_on : LosesWayBack leader p old q new → So q
-    loses_on loses =
-        let entry = loses.committed.wrote.entry in
+    -- the refusal of a way back that was lost tells where the write's entry stands
+    lost_at : (committed : Committed) → p.committed ≡ Some committed
+        → IsRefusedSo start call Now.logs (Refused (Store (LinkFault new.link.faults (when_of committed.wrote.entry))))
+    lost_at committed answered =
+        let entry = committed.wrote.entry in
         let faults = new.link.faults in
         let position : entry_position (answered_entry p) ≡ refused_at (Store (LinkFault faults (when_of entry))) =
-        ap (λ o. entry_position (option_and_then (λ (c : Committed). c.wrote.entry) o)) loses.answered ∙ sym (told_position faults entry) in
-        subst So (sym loses.then)
-        (rests_on (after_stage p (came.Apply (Err (Refused (Store (LinkFault faults (when_of entry)))))) hops) refl refl refl refl same
-        (Store (LinkFault faults (when_of entry)), refl, subst (RefusesHere start call Now.logs) position told_then))
+        ap (λ o. entry_position (option_and_then (λ (c : Committed). c.wrote.entry) o)) answered ∙ sym (told_position faults entry) in
+        (Store (LinkFault faults (when_of entry)), refl, subst (RefusesHere start call Now.logs) position told_then)
+
+    loses_on : LosesWayBack leaders.leader p old q new → So q
+    loses_on loses = subst So (sym loses.then)
+        (rests_on (after_stage p (came.Apply (Err (Refused (Store (LinkFault new.link.faults (when_of loses.committed.wrote.entry)))))) hops)
+        refl refl refl refl refl same (lost_at loses.committed loses.answered))
+
+    loses_relay_on : LosesRelay leaders.leader p old q new → So q
+    loses_relay_on loses = subst So (sym loses.then)
+        (rests_on (after_stage p (came.Relay (Err (Refused (Store (LinkFault new.link.faults (when_of loses.committed.wrote.entry)))))) hops)
+        refl refl refl refl refl same (lost_at loses.committed loses.answered))
 
     -- it ends without its way back
     pub gives_up_on : q ≡ way_given_up p → So q
     gives_up_on then = subst So (sym then)
-        (rests_on (after_stage p (came.Apply (Err (Refused (Memory (entry_position (answered_entry p)))))) 0) refl refl refl refl same
+        (rests_on (after_stage p (came.Apply (Err (Refused (Memory (entry_position (answered_entry p)))))) 0) refl refl refl refl refl same
         (Memory (entry_position (answered_entry p)), refl, told_then))
 
-    applies_on : AppliesHeld s leader p old q new → So q
-    applies_on applies = subst So (sym applies.then)
-        (rests_on (after_stage p (came.Apply (Ok tt)) hops) refl refl refl refl same
+    relays_on : next_of p ≡ Relay → RelaysHeld s leaders.leader p old q new → So q
+    relays_on at relays = subst So (sym relays.then)
+        (rests_on (after_stage p (came.Relay (Ok tt)) hops) refl refl refl refl refl same
+        (unrefused Relay at (λ same. absurd (cc)) (after_stage p (came.Relay (Ok tt)) hops) refl))
+
+    applies_on : next_of p ≡ Apply → AppliesHeld s leaders.leader p old q new → So q
+    applies_on at applies = subst So (sym applies.then)
+        (rests_on (after_stage p (came.Apply (Ok tt)) hops) refl refl refl refl refl same
         (unrefused Apply at (λ same. absurd (cc)) (after_stage p (came.Apply (Ok tt)) hops) refl))
 
   kept_logs : new.keepers ≡ old.keepers → Now.logs ≡ Was.logs
@@ -345,16 +449,17 @@ module _ (s : Settings) (leader : NodeName) (p q : Writing) (old new : World) (b
   -- ---- whatever it was
 
   stage_on : IsWriteUnderWay true s old.keepers.told old.fleet p → EachGrows began.logs Was.logs → (at : WriteStage) → next_of p ≡ at
-      → DoesWriteStage (led_by true s leader) at p old q new → So q
+      → DoesWriteStage (led_by true s leaders) at p old q new → So q
   stage_on under grew Commit at (inl commits) = commits_on under at commits grew
   stage_on under grew Commit at (inr refuses) = refuses_on under at refuses
   stage_on under grew Inverse at does = inverse_by does.job does.answered does.result at does.merges does.then
   stage_on under grew End at does = end_by does.job does.answered does.result at does.ends does.then
-  stage_on under grew Apply at (inl applies) = applies_on at (kept_logs applies.rest.keepers) applies
-  stage_on under grew Apply at (inr loses) = loses_on at (kept_logs loses.rest.keepers) loses
-  stage_on under grew Relay at does = absurd does
+  stage_on under grew Relay at (inl relays) = relays_on (kept_logs relays.rest.keepers) at relays
+  stage_on under grew Relay at (inr loses) = loses_relay_on (kept_logs loses.rest.keepers) loses
+  stage_on under grew Apply at (inl applies) = applies_on (kept_logs applies.rest.keepers) at applies
+  stage_on under grew Apply at (inr loses) = loses_on (kept_logs loses.rest.keepers) loses
   stage_on under grew Done at does = absurd does
 
   pub writes_on : IsWriteUnderWay true s old.keepers.told old.fleet p → EachGrows began.logs Was.logs
-      → DoesWriteStage (led_by true s leader) (next_of p) p old q new → So q
+      → DoesWriteStage (led_by true s leaders) (next_of p) p old q new → So q
   writes_on under grew does = stage_on under grew (next_of p) refl does

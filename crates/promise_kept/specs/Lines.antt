@@ -19,7 +19,8 @@ use Rattle.request_check.specs.declared.stores.CheckedStore.{CheckedStore}
 use Rattle.tao_core.specs.Asked.{CanBeDone}
 use Rattle.tao_core.specs.Core.{IsCoreOf, Moment, StaysUsable}
 use Rattle.tao_core.specs.Replies.{AnswersAsked}
-use Rattle.promise_kept.specs.Seen.{IsPlainOf, terms_of}
+use Rattle.promise_kept.specs.Seen.{IsPlainOf}
+use Rattle.tao_schema.specs.Schema.{types_of}
 
 -- ---- a line
 
@@ -50,7 +51,7 @@ Asks (Some asked) old reply new = IsLine asked old reply new
 -- the line is a step of the promise, to a state that the core is then seen as
 pub record StepsPlainly (asked : Option Checked) (old : Moment) (plain : Plain) (reply : Reply) (new : Moment) : Type 0 where
   pub after : Plain
-  pub says : SaysPlainly (terms_of old.core.settings) plain asked reply after
+  pub says : SaysPlainly (types_of old.core.settings.schema) plain asked reply after
   pub seen : IsPlainOf new after
 
 -- each line that asks this keeps the promise

@@ -1,16 +1,18 @@
 -- How a core at a moment is seen as a state of the promise. What the moment doesn't have is a relation: what each session has learnt, the beginnings of the
 -- calls that are held, and the logs of the last settle.
-use Rattle.std.specs.Prelude.{ℕ, ◌≡◌, ◌≤◌, ⊤, IfSome, List, [], Option, Some, None, length, take, true}
+use Rattle.std.specs.Prelude.{ℕ, ◌≡◌, ◌≤◌, ◌⊎◌, ⊤, Contains, IfSome, List, [], Option, Some, None, length, take, true}
 use Rattle.std.specs.Option.{option_map_or}
 use Rattle.core_model.specs.Stores.{stores_in}
-use Rattle.core_plans.specs.Held.{plan_at}
+use Rattle.core_plans.specs.Held.{learnt_of_write, plan_at}
 use Rattle.core_plans.specs.HeldReads.{HasComeTo, MissesNone, version_now}
 use Rattle.core_plans.specs.declared.held.HeldPlan.{HeldPlan}
 use Rattle.core_plans.specs.declared.held.HeldPlan.TheVariants as of
+use Rattle.core_plans.specs.declared.held.LearntEntries.{LearntEntries}
 use Rattle.core_sessions.specs.Sessions.{Session, session_at}
+use Rattle.core_steps.specs.declared.jobs.LearntEntry.{LearntEntry}
 use Rattle.graph_model.specs.Legal.{floor}
 use Rattle.graph_model.specs.Log.{version}
-use Rattle.plain_promise.specs.Promise.{AreSameLogs, Begun, EachGrows, Logs, Plain, Terms, client_write_of, log_read, log_written}
+use Rattle.plain_promise.specs.Promise.{AreSameLogs, Begun, EachGrows, Logs, Plain, client_write_of, log_read, log_written}
 use Rattle.read_plan.specs.Readings.{Reading}
 use Rattle.request_check.specs.declared.checked.CheckedCall.{CheckedCall}
 use Rattle.request_check.specs.declared.checked.CheckedCall.TheVariants as call
@@ -38,10 +40,6 @@ use Rattle.write_plan.specs.declared.progress.OtherEnd.TheVariants.{Due, Merged,
 
 -- ---- the parts of a moment
 
--- what the settings fix of the promise
-abbrev pub terms_of : Settings → Terms
-terms_of s = record { types = types_of s.schema; regions = length s.regions }
-
 -- the logs and open jobs of the masters, as the keepers tell them
 abbrev pub stores_at : Moment → Stores
 stores_at m = stores_in m.core.settings m.keepers.told
@@ -58,16 +56,16 @@ pub record FloorsAre (learnt : List Entry) (floors : List (Key × ℕ)) : Type 0
 
 -- ---- settles
 
--- the logs as a settle left them have only grown since. Where they have not, and there is one region, nodes and stores are settled
+-- the logs as a settle left them have only grown since. Where they have not, nodes and stores are settled
 pub record IsSettledSince (m : Moment) (settled : Option Logs) : Type 0 where
   pub grows : (logs : Logs) → settled ≡ Some logs → EachGrows logs (stores_at m).logs
-  pub rests : (logs : Logs) → length m.core.settings.regions ≤ 1 → settled ≡ Some logs → AreSameLogs logs (stores_at m).logs → IsSettled m
+  pub rests : (logs : Logs) → settled ≡ Some logs → AreSameLogs logs (stores_at m).logs → IsSettled m
 
 -- ---- reads
 
--- a read that began after a settle, since which no log has grown, has come to the last version, where there is one region
+-- a read that began after a settle, since which no log has grown, has come to the last version
 abbrev pub HasLast : Settings → KeeperState → Option Logs → Reading → Type 0
-HasLast s keepers settled p = (logs : Logs) → length s.regions ≤ 1 → settled ≡ Some logs → AreSameLogs logs (stores_in s keepers.told).logs
+HasLast s keepers settled p = (logs : Logs) → settled ≡ Some logs → AreSameLogs logs (stores_in s keepers.told).logs
     → HasComeTo (version_now s p keepers) (version_now s p keepers) p.at
 
 -- the read is under way for the call: at its session's floor when it began, and a critical one misses nothing that stood then
@@ -117,11 +115,23 @@ pub record IsAnsweredFor (s : Settings) (stores : Stores) (began : Begun) (call 
   pub written : HasWritten s stores began call c.wrote.entry
   pub job : HasJobOf s stores at c.wrote.job c.wrote.entry
 
--- the write is under way for the call, and what its commit answered stands
+-- the entry is what is told, if anything
+abbrev pub IsWhatIsTold : Option LearntEntry → Entry → Type 0
+IsWhatIsTold None e = ⊥
+IsWhatIsTold (Some t) e = t.entry ≡ e
+
+-- the entry is one of those that a write tells its session
+abbrev pub IsToldOf : LearntEntries → Entry → Type 0
+IsToldOf told e = IsWhatIsTold told.here e ⊎ IsWhatIsTold told.other e
+
+-- the write is under way for the call, and what its commit answered stands. Each entry that its lines have added is one that its session is to be told
+-- of; nothing is known of the other end while its job is due
 pub record IsWriteFor (s : Settings) (keepers : KeeperState) (began : Begun) (call : CheckedWrite) (p : Writing) : Type 0 where
   pub write_is : p.write ≡ call.write
   pub origin_is : p.origin ≡ Client call.session call.seq
   pub answered : IfSome p.committed (IsAnsweredFor s (stores_in s keepers.told) began call p.job)
+  pub added : (e : Entry) → Contains began.added e → IsToldOf (learnt_of_write p) e
+  pub due : p.job ≡ Due → p.other ≡ None
 
 -- ---- calls that are held
 

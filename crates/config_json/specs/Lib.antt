@@ -1,5 +1,4 @@
 pub mod Config
 pub mod Object
 pub mod Regions
-pub mod Stage
 pub mod Types

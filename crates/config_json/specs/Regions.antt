@@ -1,5 +1,5 @@
 -- The regions with their tiers, and the masters.
-use Rattle.std.specs.Prelude.{ℕ, ◌&&◌, List, [], ◌∷◌, length, Option, Some, codes, is_some, if◌then◌else◌}
+use Rattle.std.specs.Prelude.{ℕ, List, [], ◌∷◌, length, Option, Some, codes, is_some, if◌then◌else◌}
 use Rattle.std.specs.Bool.{then_some}
 use Rattle.serde_json.specs.Data.{Data}
 use Rattle.serde_json.specs.Find.{get, as_str}
@@ -11,7 +11,6 @@ use Rattle.topology.specs.Tiers.{are_tiers}
 use Rattle.topology.specs.declared.regions.Region.{Region}
 use Rattle.topology.specs.declared.tiers.Tier.{Tier}
 use Rattle.json_fields.specs.Items.{each_at}
-use Rattle.config_json.specs.Stage.{are_built}
 
 -- a tier has a name, and 1 to 4 followers, 1 where none are given
 abbrev pub tier_of : Data → Option Tier
@@ -34,11 +33,11 @@ region_of d = do
   tiers ← tiers_at d
   then_some (has_only (codes "name" ∷ codes "leaders" ∷ codes "tiers" ∷ []) d) (record { name = name; leaders = leaders; tiers = tiers })
 
--- 1 to 4 regions, whose names differ, and no more than are built
+-- 1 to 4 regions, whose names differ
 abbrev pub regions_at : Data → Option (List Region)
 regions_at d = do
   regions ← each_at region_of (codes "regions") d
-  then_some (are_regions regions && are_built regions) regions
+  then_some (are_regions regions) regions
 
 -- the places of the regions of these names
 abbrev pub places_of : List Region → List (List ℕ) → Option (List ℕ)

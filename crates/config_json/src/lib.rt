@@ -4,8 +4,7 @@
 //! Contracts see a line as its bytes and a configuration as its settings.
 //!
 //! What it promises. A configuration line is taken exactly where it keeps the rules, defaults filled in; else the
-//! first broken field in the table's order, or the least strange one, is named; a second region is refused until
-//! it is built.
+//! first broken field in the table's order, or the least strange one, is named.
 //!
 //! The contracts that say so: `read_config`.
 #![tactic(auto)]
@@ -13,7 +12,6 @@
 pub mod config;
 pub mod refusal;
 mod regions;
-mod stage;
 mod types;
 
 pub use config::read_config;

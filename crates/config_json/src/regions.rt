@@ -1,14 +1,9 @@
 //! The regions with their tiers, and the masters.
-ghost use Rattle.std.specs.Prelude.{◌≡◌, ◌&&◌, IfOk, option_map, codes};
-ghost use Rattle.std.specs.Bool.{then_some};
+ghost use Rattle.std.specs.Prelude.{◌≡◌, IfOk, option_map, codes};
 ghost use Rattle.serde_json.specs.View.{view};
 ghost use Rattle.json_fields.specs.Fields.{name_at};
-ghost use Rattle.topology.specs.Regions.{are_regions};
-ghost use Rattle.topology.specs.Tiers.{are_tiers};
 ghost use Rattle.config_json.specs.Regions.{tier_of, tiers_at, region_of, regions_at, places_of, named_masters, masters_at};
-ghost use Rattle.config_json.specs.Stage.{are_built};
 
-use super::stage::are_built;
 use json_fields::fields::{has_only, short_or, text_at};
 use json_fields::items::{ItemReader, TextReader, each_at};
 use serde_json::Value;
@@ -91,17 +86,9 @@ pub(crate) fn regions_at(alloc: Global, value: &Value) -> Result<Option<Regions>
     ensures { IfOk result (λ regions. regions ≡ regions_at (view value.now)) }
 {
     match each_at::<Region, RegionReader>(alloc, value, "regions")? {
-        Some(regions) => Ok(built_regions(regions)),
+        Some(regions) => Ok(Regions::of(regions)),
         None => Ok(None),
     }
-}
-
-/// The regions, unless they break a rule or aren't built yet.
-fn built_regions(regions: Vec<Region>) -> Option<Regions>
-    ensures { result ≡ then_some (are_regions regions.items && are_built regions.items) regions.items }
-{
-    let regions = Regions::of(regions)?;
-    are_built(regions.as_slice()).then_some(regions)
 }
 
 /// The masters of a configuration of these regions: the first alone where none are given.

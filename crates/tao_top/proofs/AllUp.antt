@@ -6,7 +6,7 @@ use Rattle.std.proofs.lemmas.Bool.{and_parts, lt-ltb}
 use Rattle.std.proofs.lemmas.Bool.Decides.{nat_tests}
 use Rattle.std.proofs.lemmas.List.Elements.{All-contains, All-from_recursion}
 use Rattle.std.specs.List.{AllByRecursion, list_all, range_with_len}
-use Rattle.std.specs.Prelude.{Contains, map, option_and_then, replicate}
+use Rattle.std.specs.Prelude.{Contains, map, replicate}
 use Rattle.config_json.specs.Config.{config_in}
 use Rattle.core_model.specs.Fleet.{follower_names, followers_from, regions_of, tiers_from}
 use Rattle.graph_model.proofs.Later.{all_append}

@@ -1,7 +1,7 @@
 -- What a configuration has that was taken from a line.
-use Rattle.std.proofs.Common.{◌≡◌, ◌<◌, ◌≤◌, ◌%◌, ℕ, List, [], All, IsTrue, Option, None, Some}
+use Rattle.std.proofs.Common.{◌≡◌, ◌<◌, ◌%◌, ℕ, List, [], All, IsTrue, Option, None, Some}
 use Rattle.std.proofs.Common.{Result, Ok, Err, length, refl, subst, sym, inl, inr, arith}
-use Rattle.std.proofs.lemmas.Bool.{and_parts, cases_lt, leb-true}
+use Rattle.std.proofs.lemmas.Bool.{and_parts, cases_lt}
 use Rattle.std.proofs.lemmas.Bool.Decides.{nat_tests}
 use Rattle.std.proofs.lemmas.Option.{option_and_then_some, unwrap_or-slice_get}
 use Rattle.std.proofs.Math.ListN.{get_or, get_or-eq_default}
@@ -12,27 +12,23 @@ use Rattle.config_json.proofs.KeptRules.{masters_within, number_at_range, passed
 use Rattle.config_json.specs.Config.{config_in, config_of, field_names, in_field, unless_strange}
 use Rattle.config_json.specs.Object.{line_object}
 use Rattle.config_json.specs.Regions.{masters_at, region_of, regions_at}
-use Rattle.config_json.specs.Stage.{are_built}
 use Rattle.config_json.specs.Types.{assocs_at, objects_at}
 use Rattle.config_json.specs.declared.refusal.ConfigRefusal.{ConfigRefusal}
 use Rattle.core_model.specs.Stores.{HaveMasterRegions}
-use Rattle.core_nodes.specs.Opening.{IsSlaveStore}
 use Rattle.json_fields.specs.Fields.{number_or, strange_at}
 use Rattle.json_fields.specs.Items.{each_at}
 use Rattle.outcomes.specs.Results.{◌>>=◌}
 use Rattle.serde_json.specs.Data.{Data}
-use Rattle.tao_base.specs.declared.id.StoreName.{StoreName}
 use Rattle.topology.specs.Config.{Settings}
 use Rattle.topology.specs.Named.{are_different, in_range}
 use Rattle.topology.specs.Regions.{are_regions, is_region}
 use Rattle.topology.specs.declared.regions.Region.{Region}
 
--- there is a shard, and one region, which is each shard's master and has a leader
+-- there is a shard, and a region; each shard's master is a region, and each region has a leader
 pub record IsTaken (s : Settings) : Type 0 where
   pub shards : 0 < s.shards
   pub some : 0 < length s.regions
   pub leads : IsTrue (list_all is_region s.regions)
-  pub one : length s.regions ≤ 1
   pub masters : HaveMasterRegions s
 
 -- ---- what is read
@@ -52,13 +48,13 @@ in_range_some n kept = grind (arith, nat_tests)
 region_some : (n : ℕ) → IsTrue (in_range 1 4 n) → 0 < n
 region_some n kept = grind (arith, nat_tests)
 
--- the regions that were read keep their rules, and are no more than are built
-regions_so : (d : Data) (regions : List Region) → regions_at d ≡ Some regions → IsTrue (are_regions regions && are_built regions)
+-- the regions that were read keep their rules
+regions_so : (d : Data) (regions : List Region) → regions_at d ≡ Some regions → IsTrue (are_regions regions)
 regions_so d regions is =
-    option_and_then_some (λ rs. then_some (are_regions rs && are_built rs) rs) (each_at region_of (codes "regions") d) regions is
+    option_and_then_some (λ rs. then_some (are_regions rs) rs) (each_at region_of (codes "regions") d) regions is
     (λ rs found kept.
-    let p = passed (are_regions rs && are_built rs) rs regions kept in
-    subst (λ xs. IsTrue (are_regions xs && are_built xs)) p.1 p.0)
+    let p = passed (are_regions rs) rs regions kept in
+    subst (λ xs. IsTrue (are_regions xs)) p.1 p.0)
 
 -- each master is a region, also where a shard has none of the list
 masters_so : (regions : List Region) (masters : List ℕ) (place : ℕ) → 0 < length regions → All (λ region. region < length regions) masters
@@ -78,29 +74,18 @@ config_taken d =
     then_so IsTaken (in_field (codes "log_max") (number_or (codes "log_max") 16384 1 65536 d)) _ (λ log_max log_max_is.
     then_so IsTaken (in_field (codes "cache_items") (number_or (codes "cache_items") 1024 1 65536 d)) _ (λ cache_items cache_items_is.
     let kept = regions_so d regions (said_of (codes "regions") (regions_at d) regions regions_is) in
-    let built = and_parts (are_regions regions) (are_built regions) kept in
     let rules =
-    and_parts (in_range 1 4 (length regions) && list_all is_region regions) (are_different (map (λ (r : Region). r.name) regions)) built.0 in
+    and_parts (in_range 1 4 (length regions) && list_all is_region regions) (are_different (map (λ (r : Region). r.name) regions)) kept in
     let count = and_parts (in_range 1 4 (length regions)) (list_all is_region regions) rules.0 in
     let some = region_some (length regions) count.0 in
-    let all = masters_within regions d masters built.0 (said_of (codes "masters") (masters_at regions d) masters masters_is) in
+    let all = masters_within regions d masters kept (said_of (codes "masters") (masters_at regions d) masters masters_is) in
     taken_unless (strange_at field_names d) _ (record {
       shards = in_range_some shards (number_at_range (codes "shards") 1 64 shards d (said_of (codes "shards") _ shards shards_is));
       some = some;
       leads = count.1;
-      one = leb-true (length regions) 1 built.1;
       masters = λ shard. subst (λ n. n < length regions) (sym (unwrap_or-slice_get masters (shard % length masters) 0))
           (masters_so regions masters (shard % length masters) some all);
     }))))))))
 
 pub taken_rules : (line : List ℕ) (s : Settings) → config_in line ≡ Ok s → IsTaken s
 taken_rules line s is = subst (λ r. IfOk r IsTaken) is (then_so IsTaken (in_field [] (line_object line)) config_of (λ d found. config_taken d))
-
--- so no store takes the entries of another
-pub no_slave : (line : List ℕ) (s : Settings) (at : StoreName) → config_in line ≡ Ok s → IsSlaveStore s at → ⊥
-no_slave line s at configured slave =
-    let taken = taken_rules line s configured in
-    let one = taken.one in
-    let home = taken.masters at.shard in
-    let here = slave.here.region in
-    slave.apart (omega (arith, one, home, here))

@@ -7,22 +7,24 @@ use Rattle.std.specs.Io.KnownBytes.{Appends}
 use Rattle.config_json.specs.Config.{config_in}
 use Rattle.config_json.specs.declared.refusal.ConfigRefusal.TheVariants.{BadConfig}
 use Rattle.graph_model.specs.Told.{WhereTold}
-use Rattle.replies.specs.declared.reply.Reply.TheVariants.{BadConfiguration, Configured}
+use Rattle.replies.specs.declared.opening.OpenRefusal.TheVariants.{Disagree}
+use Rattle.replies.specs.declared.reply.Reply.TheVariants.{BadConfiguration, BadStores, Configured}
 use Rattle.tao_core.specs.Core.{CoreState, IsCoreOf, IsNewCore}
 use Rattle.core_nodes.specs.Beginning.{AreAtStores}
-use Rattle.core_nodes.specs.Opening.{IsOpened, IsOpenedInPart, IsOtherLine}
+use Rattle.core_nodes.specs.Opening.{IsOpened, IsOpenedInPart, IsOtherLine, RefusesOpening}
+use Rattle.tao_base.specs.declared.id.StoreName.{StoreName}
 use Rattle.tao_link.specs.Shown.{LinkShown}
 use Rattle.tao_io.specs.Lines.{GivesLines, IsTooLong, NextLineIs}
 use Rattle.tao_io.specs.declared.lines.NextLine.{NextLine}
 use Rattle.tao_io.specs.declared.lines.NextLine.TheVariants.{End}
 use Rattle.tao_top.proofs.GoingOn.{GivesLines-all, GivesLines-begin, part_none, part_one, served_one, still_refl}
 use Rattle.tao_top.proofs.OneLine.{no_configuration}
-use Rattle.tao_top.specs.Begun.{EndsAtFirst, GivesOne, RefusesFirst, RefusesFor, RefusesInPart, RefusesLine, ConfiguredInPart}
+use Rattle.tao_top.specs.Begun.{EndsAtFirst, GivesOne, RefusesFirst, RefusesFor, RefusesInPart, RefusesLine, ConfiguredInPart, TellsDisagreement}
 use Rattle.core_nodes.specs.Outside.{Outside, outside}
 use Rattle.tao_top.specs.Served.{AppendsPart, AreLines, EndsInPart, OpensInPart, RefusesConfiguration, Served, StopsOpening, refusal_line, serves}
-use Rattle.tao_top.specs.Served.{AtOpeningOrLater}
+use Rattle.tao_top.specs.Served.{AtOpeningOrLater, StoresDisagree, disagreement_line}
 use Rattle.tao_top.specs.Served.{start, streams}
-use Rattle.tao_top.specs.Step.{State, ended, Configures, Replies, Step, reply_line, serving}
+use Rattle.tao_top.specs.Step.{State, disagreeing, ended, Configures, Disagreement, Replies, Step, reply_line, serving}
 use Rattle.topology.specs.Config.{Settings}
 
 -- what was written whole is a front of itself
@@ -32,6 +34,10 @@ whole_part before after bytes written = (length bytes, subst (Appends before aft
 -- the run has refused its configuration
 abbrev pub refusing : Outside → State
 refusing now = record { stage = ended; outside = now }
+
+-- the run has found that its stores disagree
+abbrev pub parting : Settings → Outside → State
+parting s now = record { stage = disagreeing s; outside = now }
 
 -- a line that is no configuration is refused
 no_step : (tells : Bool) (around : Outside) (line field : List ℕ) → config_in line ≡ Err (BadConfig field)
@@ -141,6 +147,25 @@ module _ (tells : Bool) (old now : Outside) (line : List ℕ) (s : Settings) (co
         → RefusesLine tells old now line before after
     refuses_other other written = record { field = codes "file"; refused = other_line other; written = written }
 
+    module _ (store : StoreName) (position : ℕ) (disagree : RefusesOpening tells s line old.keepers now.keepers (Disagree store position)) where
+      abbrev disagreement : Disagreement
+      disagreement = record { settings = s; store = store; position = position }
+
+      pub begun_disagreeing : AppendsPart before after (disagreement_line disagreement)
+          → (code : ℕ) → AtOpeningOrLater code (OpensInPart tells old now line before after) (ConfiguredInPart tells old now line before after)
+      begun_disagreeing written code = inr (
+        parting s now,
+        (BadStores store position, record { does = record { configured = configured; disagree = disagree; link = stays }; later = later }, written),
+        still_refl tells now (parting s now) refl,
+      )
+
+      pub tells_disagreement : Appends before after (disagreement_line disagreement) → TellsDisagreement tells old now line before after
+      tells_disagreement written = record {
+        found = disagreement;
+        disagree = record { configured = configured; disagree = disagree; link = stays };
+        written = written;
+      }
+
     pub opens_in_part : WhereTold tells (IsOpenedInPart s line old.keepers.told now.keepers.told) → Appends before after []
         → OpensInPart tells old now line before after
     opens_in_part opened written = record { settings = s; configured = configured; opened = opened; later = later; link = stays; written = written }
@@ -169,6 +194,15 @@ module _ (tells : Bool) (old now : Outside) (left rest before after : Option (Li
 
   pub refuses_line : RefusesLine tells old now line before after → RefusesConfiguration tells old now left before after
   refuses_line r = record { field = r.field; refused = inr (line, GivesLines-begin left rest (line ∷ []) read, r.refused); written = r.written }
+
+  pub stores_disagree : TellsDisagreement tells old now line before after → StoresDisagree tells old now left before after
+  stores_disagree tell = record {
+    line = line;
+    read = GivesLines-begin left rest (line ∷ []) read;
+    found = tell.found;
+    disagree = tell.disagree;
+    written = tell.written;
+  }
 
   pub begun : (core : CoreState) → Replies tells (start old) line (serves core now) (Appends before after)
       → Served tells (start old) (serves core now) (streams left before) (streams rest after)

@@ -9,7 +9,8 @@ use Rattle.tao_io.proofs.GivenLines.{GivesLines-nil, GivesLines-trans}
 use Rattle.tao_io.specs.Lines.{lines_of, GivesLines}
 use Rattle.core_nodes.specs.Outside.{Outside}
 use Rattle.tao_top.specs.Served.{AreLines, LinesBegin, AppendsPart, IsStill, Served, ServedAll, ServedInPart, joined, streams}
-use Rattle.tao_top.specs.Step.{State, Replies, RunsLines, reply_line}
+use Rattle.std.specs.Prelude.{⊤}
+use Rattle.tao_top.specs.Step.{RunStage, State, Replies, RunsLines, disagreeing, ended, reply_line, serving, waiting}
 use Rattle.tao_io.proofs.LineLaws.{lines_of-nil}
 
 -- ---- the parts of a run
@@ -20,6 +21,33 @@ RunsLines-append tells a b c [] ms [] us first second = subst (λ s. RunsLines t
 RunsLines-append tells a b c [] ms (t ∷ ts) us first second = absurd first
 RunsLines-append tells a b c (l ∷ ls) ms [] us first second = absurd first
 RunsLines-append tells a b c (l ∷ ls) ms (t ∷ ts) us first second = (first.0, first.1, RunsLines-append tells first.0 b c ls ms ts us first.2 second)
+
+-- a run at this stage answers no line more
+abbrev pub IsOver : RunStage → Type 0
+IsOver waiting = ⊥
+IsOver (serving core) = ⊥
+IsOver ended = ⊤
+IsOver (disagreeing s) = ⊤
+
+-- none was answered after it
+pub record AnsweredNone (lines texts : List (List ℕ)) (at last : State) : Type 0 where
+  pub no_line : lines ≡ []
+  pub no_text : texts ≡ []
+  pub last_is : last ≡ at
+
+pub none_after : (tells : Bool) (stage : RunStage) (around : Outside) (lines texts : List (List ℕ)) (last : State) → IsOver stage
+    → RunsLines tells (record { stage = stage; outside = around }) lines texts last
+    → AnsweredNone lines texts (record { stage = stage; outside = around }) last
+none_after tells waiting around lines texts last over run = absurd over
+none_after tells (serving core) around lines texts last over run = absurd over
+none_after tells ended around [] [] last over run = record { no_line = refl; no_text = refl; last_is = run }
+none_after tells ended around (line ∷ lines) (text ∷ texts) last over run = absurd run.1.1.does
+none_after tells ended around [] (text ∷ texts) last over run = absurd run
+none_after tells ended around (line ∷ lines) [] last over run = absurd run
+none_after tells (disagreeing s) around [] [] last over run = record { no_line = refl; no_text = refl; last_is = run }
+none_after tells (disagreeing s) around (line ∷ lines) (text ∷ texts) last over run = absurd run.1.1.does
+none_after tells (disagreeing s) around [] (text ∷ texts) last over run = absurd run
+none_after tells (disagreeing s) around (line ∷ lines) [] last over run = absurd run
 
 -- the text of a line's reply
 abbrev text_of : (tells : Bool) (a b : State) (line : List ℕ) (Writes : List ℕ → Type 0) → Replies tells a line b Writes → List ℕ

@@ -5,6 +5,8 @@ pub mod GoingOn
 pub mod Growing
 pub mod Keeping
 pub mod OneLine
+pub mod Opened
+pub mod HeldNumbers
 pub mod RunLaws
 pub mod WholeRun
 pub mod AllUp

@@ -1,12 +1,12 @@
 -- The lines that a run answers are as promised: by what each line keeps, one after another, from the first line on.
 use Rattle.std.proofs.Common.{◌≡◌, ℕ, Bool, true, false, List, [], ◌∷◌, Option, Some, None, Result, Ok, Err, append-nil, length, refl, sym, ap}
-use Rattle.std.proofs.Common.{◌∙◌, subst, inl, inr, arith}
+use Rattle.std.proofs.Common.{◌∙◌, ◌+◌, ◌⊎◌, subst, inl, inr, arith}
 use Rattle.std.proofs.lemmas.Bool.{cases_eq}
 use Rattle.std.proofs.lemmas.List.{take_all}
 use Rattle.std.specs.Io.KnownBytes.{Appends}
 use Rattle.std.specs.Prelude.{⊤, if◌then◌else◌, nat_lt}
 use Rattle.core_model.proofs.KeptStores.{KeepLogsAndJobs}
-use Rattle.core_model.specs.Stores.{master_log, master_store, store_count, stores_in}
+use Rattle.core_model.specs.Stores.{master_log, master_store, store_count, store_place, stores_in}
 use Rattle.core_nodes.proofs.OpenedLogs.{opened_keep}
 use Rattle.core_nodes.specs.Outside.{Outside}
 use Rattle.graph_model.specs.Told.{WhereTold}
@@ -16,13 +16,13 @@ use Rattle.promise_kept.proofs.Again.{kept_answers_again}
 use Rattle.promise_kept.proofs.Opening.{opened_seen}
 use Rattle.promise_kept.proofs.Requests.{requests_keep}
 use Rattle.promise_kept.specs.Lines.{Asks, GoesOnUsable, IsLine, KeptAnswersAgain, StepsPlainly}
-use Rattle.promise_kept.specs.Requests.{IsAskedBy, RequestsKeepPromise}
-use Rattle.promise_kept.specs.Seen.{IsPlainOf, opened_plain, terms_of}
+use Rattle.promise_kept.specs.Requests.{IsAskedAt, RequestsKeepPromise}
+use Rattle.promise_kept.specs.Seen.{IsPlainOf, opened_plain}
 use Rattle.replies.specs.declared.refusals.LineRefused.TheVariants as line
 use Rattle.replies.specs.declared.refusals.Refusal.{Refusal}
-use Rattle.replies.specs.declared.refusals.Refusal.TheVariants.{Line}
+use Rattle.replies.specs.declared.refusals.Refusal.TheVariants.{Line, Memory}
 use Rattle.replies.specs.declared.reply.Reply.{Reply}
-use Rattle.replies.specs.declared.reply.Reply.TheVariants.{BadConfiguration, Configured, Refused}
+use Rattle.replies.specs.declared.reply.Reply.TheVariants.{BadConfiguration, BadStores, Configured, Refused}
 use Rattle.request_check.specs.declared.checked.Checked.{Checked}
 use Rattle.request_check.specs.declared.checked.Checked.TheVariants as asks
 use Rattle.request_check.specs.declared.checked.CheckedCall.TheVariants.{Read}
@@ -30,29 +30,37 @@ use Rattle.request_json.specs.Requests.{request_in}
 use Rattle.request_json.specs.declared.refusal.LineRefusal.{LineRefusal}
 use Rattle.request_json.specs.declared.refusal.LineRefusal.TheVariants.{BadLine, TooLarge, OutOfMemory}
 use Rattle.requests.specs.declared.request.Request.{Request}
+use Rattle.tao_base.specs.declared.id.StoreName.{StoreName}
+use Rattle.tao_core.specs.Asked.{asked_of}
 use Rattle.tao_core.specs.Core.{CoreState, IsCoreOf, Moment, moment_of}
 use Rattle.tao_keeper.specs.KeeperState.{IsLater}
 use Rattle.tao_keeper.specs.Table.{Tables}
+use Rattle.tao_schema.specs.Schema.{types_of}
 use Rattle.tao_top.proofs.AllUp.{begun_up}
-use Rattle.tao_top.specs.Promised.{AreAsPromised, AreSaid, RunKeepsPromise, LineAsks, at_first, text_line}
-use Rattle.tao_top.specs.PromisedLaws.{RunsArePromised}
+use Rattle.tao_top.proofs.GoingOn.{IsOver, none_after}
+use Rattle.tao_top.proofs.HeldNumbers.{plans_then}
+use Rattle.tao_top.proofs.Opened.{sessions_after}
+use Rattle.tao_top.specs.Promised.{AreAsBefore, AreAsPromised, AreInUse, ArePlans, AreSaid, AreSessions, InUse, IsAskedOf, IsNotServed, IsOpenedOtherwise}
+use Rattle.tao_top.specs.Promised.{IsParted, IsRefusedAs, IsUnconfigured, LineAsks, RunKeepsPromise, at_first, in_use_after, none_in_use, text_line}
+use Rattle.tao_top.specs.PromisedLaws.{CanBeDoneNow, RefusesRightly, RunsArePromised}
 use Rattle.tao_top.specs.Served.{AppendsPart, AreLines, Done, EndsInPart, LinesBegin, ServedInPart, joined, refusal_line, serves, start, streams}
-use Rattle.tao_top.specs.Step.{AnswersLine, AnswersNoRequest, Configures, KeepsServing, RunStage, RunsLines, State, StepIn, TakesLine, ended, reply_line}
-use Rattle.tao_top.specs.Step.{serving, waiting}
+use Rattle.tao_top.specs.Step.{AnswersLine, AnswersNoRequest, Configures, FindsDisagreement, KeepsServing, RunStage, RunsLines, State, StepIn, TakesLine}
+use Rattle.tao_top.specs.Step.{disagreeing, ended, reply_line, serving, waiting}
 use Rattle.tao_io.specs.Lines.{lines_of}
 use Rattle.topology.specs.Config.{Settings}
 use Rattle.write_model.specs.Merges.{no_epochs}
 
 -- ---- one line
 
--- a line's step of the promise, from one moment to the next
-record StepsOn (old : Moment) (line : List ℕ) (plain : Plain) (reply : Reply) (new : Moment) : Type 0 where
+-- a line's step of the promise, from one moment to the next, where these sessions and plans are in use
+record StepsOn (used : InUse) (line : List ℕ) (old : Moment) (plain : Plain) (reply : Reply) (new : Moment) : Type 0 where
   asked : Option Checked
-  line_asks : LineAsks old.core.settings line asked
+  line_asks : LineAsks old.core.settings used line asked reply
   asks : Asks asked old reply new
   steps : StepsPlainly asked old plain reply new
   settings : new.core.settings ≡ old.core.settings
   of_core : IsCoreOf true new.keepers.told new.core
+  in_use : AreInUse (in_use_after used asked reply) new.core.sessions new.core.plans
 
 -- a line that is no request
 no_request : (refused : LineRefusal) (reply : Reply) → AnswersNoRequest refused reply → (refusal : Refusal) × (reply ≡ Refused refusal)
@@ -60,21 +68,53 @@ no_request (BadLine field) reply answers = (Line (line.BadLine field), answers)
 no_request (TooLarge bytes pairs) reply answers = (Line (line.TooLarge bytes pairs), answers)
 no_request OutOfMemory reply answers = absurd answers
 
-line_asks_so : (s : Settings) (line : List ℕ) (request : Request) (asked : Option Checked) → request_in line ≡ Ok request → IsAskedBy s request asked
-    → LineAsks s line asked
-line_asks_so s line request None is asks = tt
-line_asks_so s line request (Some asked) is asks = (request, is, asks)
+module _ (used : InUse) (line : List ℕ) (old : Moment) (reply : Reply) (request : Request) (line_is : request_in line ≡ Ok request)
+    (are : AreInUse used old.core.sessions old.core.plans) where
+  asked_of_these : (found : Result Checked Refusal) → asked_of old.core.settings old.core.sessions old.core.plans request ≡ found
+      → IsAskedOf old.core.settings used request found
+  asked_of_these found is = record { sessions = old.core.sessions; plans = old.core.plans; are = are; asked_is = is }
 
-module _ (requests : RequestsKeepPromise) where
+  refused_as : IsAskedAt old request None reply → IsRefusedAs old.core.settings used (Ok request) reply
+  refused_as (inl memory) = inl memory
+  refused_as (inr (refusal, reply_is, is)) = inr (record { refusal = refusal; refused = asked_of_these (Err refusal) is; reply_is = reply_is })
+
+  line_asks_so : (asked : Option Checked) → IsAskedAt old request asked reply → LineAsks old.core.settings used line asked reply
+  line_asks_so None why = subst (λ found. IsRefusedAs old.core.settings used found reply) (sym line_is) (refused_as why)
+  line_asks_so (Some asked) is = record { request = request; line_is = line_is; asks = asked_of_these (Ok asked) is }
+
+-- a line that asks what can be done
+refused_fine : (s : Settings) (used : InUse) (line : List ℕ) (asked : Checked) (reply : Reply) → CanBeDoneNow s used line asked
+    → LineAsks s used line None reply → reply ≡ Refused (Memory 0)
+refused_fine s used line asked reply fine refused = by (subst (λ found. IsRefusedAs s used found reply) fine.line_is refused)
+  where
+    by : IsRefusedAs s used (Ok fine.request) reply → reply ≡ Refused (Memory 0)
+    by (inl memory) = memory
+    by (inr other) =
+        (let e : Err other.refusal ≡ Ok asked =
+        sym other.refused.asked_is ∙ fine.can other.refused.sessions other.refused.plans other.refused.are in absurd (cc))
+
+pub refuses_rightly : RefusesRightly
+refuses_rightly = record { memory = refused_fine }
+
+-- what is in use after a line
+used_then : (used : InUse) (asked : Option Checked) (old : Moment) (reply : Reply) (new : Moment) → AreInUse used old.core.sessions old.core.plans
+    → Asks asked old reply new → AreInUse (in_use_after used asked reply) new.core.sessions new.core.plans
+used_then used None old reply new are no_line = subst (λ (m : Moment). AreInUse used m.core.sessions m.core.plans) (sym no_line.same) are
+used_then used (Some asked) old reply new are line = record {
+  opened = sessions_after old new used.opened are.opened asked reply line.can line.answers;
+  held = plans_then old new used.held are.held asked reply line.can line.answers;
+}
+
+module _ (requests : RequestsKeepPromise) (used : InUse) where
   by_request : (old : Moment) (line : List ℕ) (plain : Plain) (reply : Reply) (new : Moment) (found : Result Request LineRefusal) → request_in line ≡ found
-      → IsPlainOf old plain → IsCoreOf true old.keepers.told old.core → IsLater old.keepers new.keepers → AnswersLine true old found reply new
-      → StepsOn old line plain reply new
-  by_request old line plain reply new (Err refused) found is of_core later answers =
+      → IsPlainOf old plain → IsCoreOf true old.keepers.told old.core → AreInUse used old.core.sessions old.core.plans → IsLater old.keepers new.keepers
+      → AnswersLine true old found reply new → StepsOn used line old plain reply new
+  by_request old line plain reply new (Err refused) found is of_core are later answers =
       let why = no_request refused reply answers.0 in
       let same = answers.1 in
       record {
         asked = None;
-        line_asks = tt;
+        line_asks = subst (λ r. IsRefusedAs old.core.settings used r reply) (sym found) answers.0;
         asks = record { refusal = why.0; reply_is = why.1; same = same };
         steps = record {
           after = plain;
@@ -83,8 +123,9 @@ module _ (requests : RequestsKeepPromise) where
         };
         settings = ap (λ (m : Moment). m.core.settings) same;
         of_core = subst (λ (m : Moment). IsCoreOf true m.keepers.told m.core) (sym same) of_core;
+        in_use = subst (λ (m : Moment). AreInUse used m.core.sessions m.core.plans) (sym same) are;
       }
-  by_request old line plain reply new (Ok request) found is of_core later answers =
+  by_request old line plain reply new (Ok request) found is of_core are later answers =
       let serves : KeepsServing true old new = answers.1 in
       let on : GoesOnUsable old new = record {
         before = of_core;
@@ -100,11 +141,12 @@ module _ (requests : RequestsKeepPromise) where
       let keeps = requests.keeps old new plain request reply is on answers.0 in
       record {
         asked = keeps.asked;
-        line_asks = line_asks_so old.core.settings line request keeps.asked found keeps.is_asked;
+        line_asks = line_asks_so used line old reply request found are keeps.asked keeps.is_asked;
         asks = keeps.asks;
         steps = keeps.steps;
         settings = serves.settings;
         of_core = serves.of_core;
+        in_use = used_then used keeps.asked old reply new are keeps.asks;
       }
 
 -- ---- a line and the next
@@ -126,57 +168,66 @@ answers_next kept said (next ∷ more) old mid first begin = record {
 
 -- ---- all lines after the first
 
--- lines that were answered as promised
-record KeepsLines (core : CoreState) (around : Outside) (plain : Plain) (lines texts : List (List ℕ)) (last : State) : Type 0 where
+-- lines that were answered as promised from a moment on, where these sessions and plans are in use
+record KeepsLines (used : InUse) (start : Moment) (plain : Plain) (lines texts : List (List ℕ)) (last : State) : Type 0 where
   saids : List Said
-  said : AreSaid core.settings lines texts saids
+  said : AreSaid start.core.settings used lines texts saids
   end : Plain
-  runs : RunsPlainly (terms_of core.settings) plain saids end
-  stores : end.stores ≡ stores_in core.settings last.outside.keepers.told
-  begin : BeginFrom (moment_of core around) saids
+  runs : RunsPlainly (types_of start.core.settings.schema) plain saids end
+  stores : end.stores ≡ stores_in start.core.settings last.outside.keepers.told
+  begin : BeginFrom start saids
 
 module _ (requests : RequestsKeepPromise) (kept : KeptAnswersAgain) where
   -- one line, and then those that follow
-  then_on : (line text : List ℕ) (lines texts : List (List ℕ)) (core next : CoreState) (around after : Outside) (plain : Plain) (reply : Reply) (last : State)
-      → (step : StepsOn (moment_of core around) line plain reply (moment_of next after)) → text ≡ reply_line (serving next) reply
-      → KeepsLines next after step.steps.after lines texts last → KeepsLines core around plain (line ∷ lines) (text ∷ texts) last
-  then_on line text lines texts core next around after plain reply last step is later =
+  then_on : (used : InUse) (line text : List ℕ) (lines texts : List (List ℕ)) (old new : Moment) (plain : Plain) (reply : Reply) (last : State)
+      → (step : StepsOn used line old plain reply new) → text ≡ text_line new.core.settings reply
+      → KeepsLines (in_use_after used step.asked reply) new step.steps.after lines texts last
+      → KeepsLines used old plain (line ∷ lines) (text ∷ texts) last
+  then_on used line text lines texts old new plain reply last step is later =
       let said : Said = record { asked = step.asked; reply = reply } in
-      let same : next.settings ≡ core.settings = step.settings in
+      let same : new.core.settings ≡ old.core.settings = step.settings in
       record {
         saids = said ∷ later.saids;
         said = (
           record { asks = step.line_asks; text_is = subst (λ s. text ≡ text_line s reply) same is },
-          subst (λ s. AreSaid s lines texts later.saids) same later.said,
+          subst (λ s. AreSaid s (in_use_after used step.asked reply) lines texts later.saids) same later.said,
         );
         end = later.end;
         runs = (
           step.steps.after,
           step.steps.says,
-          answers_next kept said later.saids (moment_of core around) (moment_of next after) step.asks later.begin,
-          subst (λ s. RunsPlainly (terms_of s) step.steps.after later.saids later.end) same later.runs,
+          answers_next kept said later.saids old new step.asks later.begin,
+          subst (λ s. RunsPlainly (types_of s.schema) step.steps.after later.saids later.end) same later.runs,
         );
         stores = subst (λ s. later.end.stores ≡ stores_in s last.outside.keepers.told) same later.stores;
-        begin = (moment_of next after, step.asks);
+        begin = (new, step.asks);
       }
 
-  -- by the stage after the line
-  by_stage : (line text : List ℕ) (lines texts : List (List ℕ)) (core : CoreState) (around : Outside) (plain : Plain) (reply : Reply) (last : State)
-      → IsPlainOf (moment_of core around) plain → IsCoreOf true around.keepers.told core
-      → ((next : CoreState) (after : Outside) (so : Plain) → IsPlainOf (moment_of next after) so → IsCoreOf true after.keepers.told next
-      → RunsLines true (serves next after) lines texts last → KeepsLines next after so lines texts last)
-      → (stage : RunStage) (after : Outside) → StepIn true (serves core around) line reply (record { stage = stage; outside = after })
-      → IsLater around.keepers after.keepers → text ≡ reply_line stage reply
-      → RunsLines true (record { stage = stage; outside = after }) lines texts last → KeepsLines core around plain (line ∷ lines) (text ∷ texts) last
-  by_stage line text lines texts core around plain reply last is of_core rest (serving next) after step later said run =
-      let on = by_request requests (moment_of core around) line plain reply (moment_of next after) (request_in line) refl is of_core later step in
-      then_on line text lines texts core next around after plain reply last on said (rest next after on.steps.after on.steps.seen on.of_core run)
-  by_stage line text lines texts core around plain reply last is of_core rest waiting after step later said run = absurd step
-  by_stage line text lines texts core around plain reply last is of_core rest ended after step later said run = absurd step
+  -- what the lines that follow are to keep
+  abbrev LinesOn : List (List ℕ) → List (List ℕ) → State → Type 0
+  LinesOn lines texts last = (used : InUse) (core : CoreState) (around : Outside) (plain : Plain) → IsPlainOf (moment_of core around) plain
+      → IsCoreOf true around.keepers.told core → AreInUse used core.sessions core.plans → RunsLines true (serves core around) lines texts last
+      → KeepsLines used (moment_of core around) plain lines texts last
 
-  lines_on : (lines texts : List (List ℕ)) (last : State) (core : CoreState) (around : Outside) (plain : Plain) → IsPlainOf (moment_of core around) plain
-      → IsCoreOf true around.keepers.told core → RunsLines true (serves core around) lines texts last → KeepsLines core around plain lines texts last
-  lines_on [] [] last core around plain is of_core run = record {
+  -- by the stage after the line
+  by_stage : (used : InUse) (line text : List ℕ) (lines texts : List (List ℕ)) (core : CoreState) (around : Outside) (plain : Plain) (reply : Reply)
+      (last : State) → IsPlainOf (moment_of core around) plain → IsCoreOf true around.keepers.told core → AreInUse used core.sessions core.plans
+      → LinesOn lines texts last → (stage : RunStage) (after : Outside)
+      → StepIn true (serves core around) line reply (record { stage = stage; outside = after })
+      → IsLater around.keepers after.keepers → text ≡ reply_line stage reply
+      → RunsLines true (record { stage = stage; outside = after }) lines texts last
+      → KeepsLines used (moment_of core around) plain (line ∷ lines) (text ∷ texts) last
+  by_stage used line text lines texts core around plain reply last is of_core are rest (serving next) after step later said run =
+      let now = moment_of next after in
+      let on = by_request requests used (moment_of core around) line plain reply now (request_in line) refl is of_core are later step in
+      then_on used line text lines texts (moment_of core around) now plain reply last on said
+      (rest (in_use_after used on.asked reply) next after on.steps.after on.steps.seen on.of_core on.in_use run)
+  by_stage used line text lines texts core around plain reply last is of_core are rest waiting after step later said run = absurd step
+  by_stage used line text lines texts core around plain reply last is of_core are rest ended after step later said run = absurd step
+  by_stage used line text lines texts core around plain reply last is of_core are rest (disagreeing s) after step later said run = absurd step
+
+  lines_on : (lines texts : List (List ℕ)) (last : State) → LinesOn lines texts last
+  lines_on [] [] last used core around plain is of_core are run = record {
     saids = [];
     said = tt;
     end = plain;
@@ -184,11 +235,11 @@ module _ (requests : RequestsKeepPromise) (kept : KeptAnswersAgain) where
     stores = subst (λ (s : State). plain.stores ≡ stores_in core.settings s.outside.keepers.told) (sym run) is.stores;
     begin = tt;
   }
-  lines_on (line ∷ lines) (text ∷ texts) last core around plain is of_core run =
-      by_stage line text lines texts core around plain run.1.0 last is of_core (lines_on lines texts last) run.0.stage run.0.outside run.1.1.does
+  lines_on (line ∷ lines) (text ∷ texts) last used core around plain is of_core are run =
+      by_stage used line text lines texts core around plain run.1.0 last is of_core are (lines_on lines texts last) run.0.stage run.0.outside run.1.1.does
       run.1.1.later run.1.2 run.2
-  lines_on [] (text ∷ texts) last core around plain is of_core run = absurd run
-  lines_on (line ∷ lines) [] last core around plain is of_core run = absurd run
+  lines_on [] (text ∷ texts) last used core around plain is of_core are run = absurd run
+  lines_on (line ∷ lines) [] last used core around plain is of_core are run = absurd run
 
 -- ---- the first line
 
@@ -200,13 +251,12 @@ opened_stores s old new keep = λ i. record {
   epochs = no_epochs;
 }
 
--- a run that has ended answers no line more
-none_after : (around : Outside) (lines texts : List (List ℕ)) (last : State) → RunsLines true (record { stage = ended; outside = around }) lines texts last
-    → (lines ≡ []) × (texts ≡ [])
-none_after around [] [] last run = (refl, refl)
-none_after around (line ∷ lines) (text ∷ texts) last run = absurd run.1.1.does
-none_after around [] (text ∷ texts) last run = absurd run
-none_after around (line ∷ lines) [] last run = absurd run
+-- it has the logs and jobs that it had
+as_kept : (old new : Tables) → KeepLogsAndJobs old new → AreAsBefore old new
+as_kept old new keep = record { logs = keep.logs; jobs = keep.jobs }
+
+as_same : (old new : Tables) → new ≡ old → AreAsBefore old new
+as_same old new same = subst (λ t. AreAsBefore old t) (sym same) (record { logs = λ at. refl; jobs = λ at. refl })
 
 module _ (requests : RequestsKeepPromise) (kept : KeptAnswersAgain) (old : Outside) (line text : List ℕ) (lines texts : List (List ℕ)) (last : State) where
   configured_so : (core : CoreState) (around : Outside) → TakesLine true old line core around → text ≡ reply_line (serving core) Configured
@@ -220,7 +270,11 @@ module _ (requests : RequestsKeepPromise) (kept : KeptAnswersAgain) (old : Outsi
       let first : IsPlainOf m (at_first s old.keepers.told) =
       subst (λ st. IsPlainOf m (record (opened_plain m) { stores = st })) same
       (opened_seen m takes.begun (begun_up line m takes.configured takes.begun.states)) in
-      let on = lines_on requests kept lines texts last core around (at_first s old.keepers.told) first takes.of_core run in
+      let none : AreInUse none_in_use core.sessions core.plans = record {
+        opened = subst (AreSessions []) (sym takes.begun.sessions) (record { numbers = λ n. refl; count = refl });
+        held = subst (ArePlans []) (sym takes.begun.plans) (record { numbers = λ n. refl; count = refl; apart = tt });
+      } in
+      let on = lines_on requests kept lines texts last none_in_use core around (at_first s old.keepers.told) first takes.of_core none run in
       inl (record {
         settings = s;
         configured = takes.configured;
@@ -228,19 +282,66 @@ module _ (requests : RequestsKeepPromise) (kept : KeptAnswersAgain) (old : Outsi
         runs = record { saids = on.saids; said = on.said; last = on.end; runs = on.runs; stores = on.stores };
       })
 
+  -- the first line was not served
+  not_served : (stage : RunStage) (around : Outside) → IsOver stage → RunsLines true (record { stage = stage; outside = around }) lines texts last
+      → IsUnconfigured old.keepers.told line text ⊎ IsParted old.keepers.told line text → AreAsBefore old.keepers.told around.keepers.told
+      → IsNotServed old.keepers.told line text lines texts last.outside.keepers.told
+  not_served stage around over run why same =
+      let none = none_after true stage around lines texts last over run in
+      record {
+        why = why;
+        no_line = none.no_line;
+        no_text = none.no_text;
+        same = subst (λ (s : State). AreAsBefore old.keepers.told s.outside.keepers.told) (sym none.last_is) same;
+      }
+
+  unconfigured_so : (field : List ℕ) (around : Outside) → Configures true old line (BadConfiguration field) ended around
+      → text ≡ reply_line ended (BadConfiguration field)
+      → RunsLines true (record { stage = ended; outside = around }) lines texts last
+      → IsNotServed old.keepers.told line text lines texts last.outside.keepers.told
+  unconfigured_so field around (inl is) said run =
+      not_served ended around tt run (inl (record { field = field; refused = inl is.refused; text_is = said }))
+      (as_same old.keepers.told around.keepers.told (ap (λ (o : Outside). o.keepers.told) is.same))
+  unconfigured_so field around (inr is) said run =
+      let other = is.other refl in
+      let otherwise : IsOpenedOtherwise is.settings line old.keepers.told =
+      record { store = other.store; here = other.configured; other = other.other } in
+      not_served ended around tt run
+      (inl (record { field = field; refused = inr (is.field_is, (is.settings, is.configured, otherwise)); text_is = said }))
+      (as_kept old.keepers.told around.keepers.told
+      (opened_keep is.settings line (store_place is.settings other.store + 1) old.keepers.told around.keepers.told other.opened))
+
+  parted_so : (s : Settings) (store : StoreName) (position : ℕ) (around : Outside)
+      → FindsDisagreement true old line (record { settings = s; store = store; position = position }) around
+      → text ≡ reply_line (disagreeing s) (BadStores store position)
+      → RunsLines true (record { stage = disagreeing s; outside = around }) lines texts last
+      → IsNotServed old.keepers.told line text lines texts last.outside.keepers.told
+  parted_so s store position around finds said run =
+      let disagree = finds.disagree.1 refl in
+      not_served (disagreeing s) around tt run (inr (record {
+        settings = s;
+        configured = finds.configured;
+        store = store;
+        position = position;
+        slave = finds.disagree.0;
+        disagrees = disagree.disagrees;
+        text_is = said;
+      }))
+      (as_kept old.keepers.told around.keepers.told
+      (opened_keep s line (store_count s) old.keepers.told around.keepers.told disagree.opened.opened))
+
   by_reply : (reply : Reply) (stage : RunStage) (around : Outside) → Configures true old line reply stage around → text ≡ reply_line stage reply
       → RunsLines true (record { stage = stage; outside = around }) lines texts last
       → AreAsPromised old.keepers.told (line ∷ lines) (text ∷ texts) last.outside.keepers.told
   by_reply Configured (serving core) around step said run = configured_so core around step said run
-  by_reply (BadConfiguration field) ended around step said run =
-      let none = none_after around lines texts last run in
-      inr (record { field = field; text_is = said }, none.0, none.1)
+  by_reply (BadConfiguration field) ended around step said run = inr (unconfigured_so field around step said run)
+  by_reply (BadStores store position) (disagreeing s) around step said run = inr (parted_so s store position around step said run)
   by_reply reply stage around step said run = absurd step
 
 module _ (requests : RequestsKeepPromise) (kept : KeptAnswersAgain) where
   are_promised : (old : Outside) (new : State) (lines texts : List (List ℕ)) → RunsLines true (start old) lines texts new
       → AreAsPromised old.keepers.told lines texts new.outside.keepers.told
-  are_promised old new [] [] run = tt
+  are_promised old new [] [] run = as_same old.keepers.told new.outside.keepers.told (ap (λ (s : State). s.outside.keepers.told) run)
   are_promised old new (line ∷ lines) (text ∷ texts) run =
       by_reply requests kept old line text lines texts new run.1.0 run.0.stage run.0.outside run.1.1.does run.1.2 run.2
   are_promised old new [] (text ∷ texts) run = absurd run
@@ -306,7 +407,10 @@ module _ (law : RunsArePromised) (code : ℕ) (old now : Outside) (left before a
       read = none_begin left;
       written = (0, opening.1.2.written);
       whole = λ ok. absurd (stopped ok);
-      promised = tt;
+      promised =
+          let part = opening.1.2.opened refl in
+          as_kept old.keepers.told now.keepers.told
+          (opened_keep opening.1.2.settings opening.1.0 part.count old.keepers.told now.keepers.told part.opened);
     }
     part_so (inr (inl lacks)) = record {
       lines = [];
@@ -314,7 +418,7 @@ module _ (law : RunsArePromised) (code : ℕ) (old now : Outside) (left before a
       read = none_begin left;
       written = subst (AppendsPart before after) (sym (append-nil (refusal_line []))) lacks.written;
       whole = λ ok. absurd (stopped ok);
-      promised = record { field = []; text_is = refl };
+      promised = (refl, as_same old.keepers.told now.keepers.told (ap (λ (o : Outside). o.keepers.told) lacks.same));
     }
     part_so (inr (inr part)) = served_so part
 

@@ -8,7 +8,7 @@ use Rattle.request_json.specs.declared.refusal.LineRefusal.{LineRefusal}
 use Rattle.requests.specs.declared.request.Request.{Request}
 use Rattle.tao_core.specs.Core.{CoreState, IsCoreOf, Moment, moment_of}
 use Rattle.tao_top.specs.Laws.{MayGoOn, MayServeAt, RunsGoOn}
-use Rattle.tao_top.specs.Step.{AnswersLine, Configures, RunsLines, RunStage, State, Step, StepIn, ended, serving, waiting}
+use Rattle.tao_top.specs.Step.{AnswersLine, Configures, RunsLines, RunStage, State, Step, StepIn, disagreeing, ended, serving, waiting}
 
 -- the first line
 configured_on : (tells : Bool) (old new : Outside) (line : List ℕ) (reply : Reply) (core : CoreState) → Configures tells old line reply (serving core) new
@@ -35,10 +35,12 @@ by_stages : (tells : Bool) (a b : RunStage) (old new : Outside) (line : List ℕ
     → MayServeAt tells a old → MayServeAt tells b new
 by_stages tells a waiting old new line reply step may = tt
 by_stages tells a ended old new line reply step may = tt
+by_stages tells a (disagreeing s) old new line reply step may = tt
 by_stages tells waiting (serving next) old new line reply step may = configured_on tells old new line reply next step
 by_stages tells (serving core) (serving next) old new line reply step may =
     answered_on tells (moment_of core old) (moment_of next new) (request_in line) reply step may
 by_stages tells ended (serving next) old new line reply step may = absurd step
+by_stages tells (disagreeing s) (serving next) old new line reply step may = absurd step
 
 goes_on : (tells : Bool) (old new : State) (lines texts : List (List ℕ)) → MayGoOn tells old → RunsLines tells old lines texts new → MayGoOn tells new
 goes_on tells old new [] [] may run = subst (MayGoOn tells) (sym run) may

@@ -12,20 +12,20 @@ use Rattle.core_nodes.specs.Opening.{MayOpen}
 use Rattle.tao_io.specs.LineReader.{LineReading, most_ahead, to_come}
 use Rattle.tao_io.specs.Lines.{CountsTaken, GivesLines}
 use Rattle.tao_keeper.specs.Table.{Tables}
-use Rattle.tao_top.proofs.FirstLine.{begun, begun_part, refuses_line, stops_opening}
+use Rattle.tao_top.proofs.FirstLine.{begun, begun_part, refuses_line, stops_opening, stores_disagree}
 use Rattle.tao_top.proofs.GoingOn.{GivesLines-begin, served_then_all, served_then_part, served_all_part}
-use Rattle.tao_top.specs.Begun.{EndsAtFirst, GivesOne, RefusesFirst, RefusesLine, ConfiguredInPart}
+use Rattle.tao_top.specs.Begun.{EndsAtFirst, GivesOne, RefusesFirst, RefusesLine, ConfiguredInPart, TellsDisagreement}
 use Rattle.tao_top.specs.Kept.{MayRun}
 use Rattle.core_nodes.specs.Outside.{Outside}
 use Rattle.tao_top.specs.Served.{Done, DoneInPart, EndsInPart, FailsOpening, LinesBegin, OpensInPart, RefusesConfiguration, Served, ServedAll, AtOpeningOrLater}
-use Rattle.tao_top.specs.Served.{ServedInPart, StopsOpening, serves, start, streams}
+use Rattle.tao_top.specs.Served.{ServedInPart, StopsOpening, StoresDisagree, serves, start, streams}
 use Rattle.tao_top.specs.Step.{Replies}
 use Rattle.tao_top.specs.Stop.{Faults, FaultsGrow, InterruptHasCause, StopHasCause, stop_code}
 use Rattle.tao_top.specs.Taken.{Takes, TakesFirst}
 use Rattle.tao_top.specs.declared.stop.Interrupt.{Interrupt}
 use Rattle.tao_top.specs.declared.stop.Interrupt.TheVariants.{Source, Sink, Memory, InputTooLong}
 use Rattle.tao_top.specs.declared.stop.Stop.{Stop}
-use Rattle.tao_top.specs.declared.stop.Stop.TheVariants.{Configuration, Keepers, Interrupted}
+use Rattle.tao_top.specs.declared.stop.Stop.TheVariants.{Configuration, Keepers, Stores, Interrupted}
 use Rattle.topology.specs.Config.{Settings}
 
 -- a reader that took nothing leaves all to come
@@ -58,6 +58,10 @@ module _ (tells : Bool) (old mid : Outside) (known left rest before silent after
   pub begun_refused : RefusesLine tells old mid line silent after → RefusesConfiguration tells old mid left before after
   begun_refused refuses = subst (λ l. RefusesConfiguration tells old mid l before after) is
       (subst (λ w. RefusesConfiguration tells old mid known w after) same (refuses_line tells old mid known rest silent after line read refuses))
+
+  pub begun_disagree : TellsDisagreement tells old mid line silent after → StoresDisagree tells old mid left before after
+  begun_disagree tell = subst (λ l. StoresDisagree tells old mid l before after) is
+      (subst (λ w. StoresDisagree tells old mid known w after) same (stores_disagree tells old mid known rest silent after line read tell))
 
   pub begun_well : (core : CoreState) → Replies tells (start old) line (serves core mid) (Appends silent after)
       → Served tells (start old) (serves core mid) (streams left before) (streams rest after)
@@ -137,15 +141,25 @@ pub may_open : (tells : Bool) (tables : Tables) (known left rest : Option (List 
 may_open tells tables known left rest line s is read configured may =
     λ told. may told line (subst (λ l. LinesBegin l (line ∷ [])) is (GivesLines-begin known rest (line ∷ []) read)) s configured
 
--- ---- a run that failed at the opening of its stores
+-- ---- a run that failed at the opening of its stores, or found that they disagree
 
 only_keepers : (stop : Stop) → stop_code stop ≡ 6 → stop ≡ Keepers
 only_keepers Configuration is = absurd (omega arith)
 only_keepers Keepers is = refl
+only_keepers Stores is = absurd (omega arith)
 only_keepers (Interrupted Source) is = absurd (omega arith)
 only_keepers (Interrupted Sink) is = absurd (omega arith)
 only_keepers (Interrupted Memory) is = absurd (omega arith)
 only_keepers (Interrupted InputTooLong) is = absurd (omega arith)
+
+pub only_stores : (stop : Stop) → stop_code stop ≡ 8 → stop ≡ Stores
+only_stores Configuration is = absurd (omega arith)
+only_stores Keepers is = absurd (omega arith)
+only_stores Stores is = refl
+only_stores (Interrupted Source) is = absurd (omega arith)
+only_stores (Interrupted Sink) is = absurd (omega arith)
+only_stores (Interrupted Memory) is = absurd (omega arith)
+only_stores (Interrupted InputTooLong) is = absurd (omega arith)
 
 pub fails_opening : (tells : Bool) (old now : Outside) (left before after : Option (List ℕ)) (old_faults new_faults : Faults) (stop : Stop) → stop_code stop ≡ 6
     → (stop ≡ Keepers → StopsOpening tells old now left before after) → StopHasCause old_faults new_faults old.keepers.faults now.keepers.faults stop

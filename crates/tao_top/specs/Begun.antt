@@ -7,8 +7,8 @@ use Rattle.counts.specs.Count.{Rose}
 use Rattle.replies.specs.declared.reply.Reply.TheVariants.{BadConfiguration}
 use Rattle.tao_io.specs.Lines.{GivesLines}
 use Rattle.core_nodes.specs.Outside.{Outside}
-use Rattle.tao_top.specs.Served.{AppendsPart, DoneInPart, IsStill, RefusesConfiguration, refusal_line, start}
-use Rattle.tao_top.specs.Step.{State, ended, Configures, Replies}
+use Rattle.tao_top.specs.Served.{AppendsPart, DoneInPart, IsStill, RefusesConfiguration, disagreement_line, refusal_line, start}
+use Rattle.tao_top.specs.Step.{State, ended, Configures, Disagreement, FindsDisagreement, Replies}
 use Rattle.tao_top.specs.Stop.{InterruptsWriting}
 use Rattle.tao_top.specs.declared.stop.Stop.{Stop}
 use Rattle.tao_top.specs.declared.stop.Stop.TheVariants as stop
@@ -43,6 +43,12 @@ pub record RefusesLine (tells : Bool) (old now : Outside) (line : List ℕ) (bef
   pub refused : Configures tells old line (BadConfiguration field) ended now
   pub written : Appends before after (refusal_line field)
 
+-- the stores of the line's configuration disagree, and the line that says so was written
+pub record TellsDisagreement (tells : Bool) (old now : Outside) (line : List ℕ) (before after : Option (List ℕ)) : Type 0 where
+  pub found : Disagreement
+  pub disagree : FindsDisagreement tells old line found now
+  pub written : Appends before after (disagreement_line found)
+
 -- a line got no reply and changed nothing, or got one of which a front was written
 abbrev pub RepliesInPart : Bool → State → List ℕ → State → Option (List ℕ) → Option (List ℕ) → Type 0
 RepliesInPart tells old line new before after = ((new ≡ old) × Appends before after []) ⊎ Replies tells old line new (AppendsPart before after)
@@ -51,4 +57,5 @@ RepliesInPart tells old line new before after = ((new ≡ old) × Appends before
 abbrev pub StopsBeginning : ℕ → ℕ → ℕ → ℕ → Stop → Type 0
 StopsBeginning sink_before sink_now keepers_before keepers_now stop.Configuration = Unit {0}
 StopsBeginning sink_before sink_now keepers_before keepers_now stop.Keepers = Rose keepers_before keepers_now
+StopsBeginning sink_before sink_now keepers_before keepers_now stop.Stores = Unit {0}
 StopsBeginning sink_before sink_now keepers_before keepers_now (stop.Interrupted interrupt) = InterruptsWriting sink_before sink_now interrupt

@@ -1,7 +1,7 @@
 -- What holds at each state of a run.
 use Rattle.std.specs.Prelude.{ℕ, ⊤, Bool, List}
 use Rattle.tao_core.specs.Core.{IsCoreOf}
-use Rattle.tao_top.specs.Step.{RunsLines, RunStage, State, ended, serving, waiting}
+use Rattle.tao_top.specs.Step.{RunsLines, RunStage, State, disagreeing, ended, serving, waiting}
 use Rattle.core_nodes.specs.Outside.{Outside}
 
 -- the core that serves may be used with the keepers' tables, at a stage
@@ -9,6 +9,7 @@ abbrev pub MayServeAt : Bool → RunStage → Outside → Type 0
 MayServeAt tells waiting around = ⊤
 MayServeAt tells (serving core) around = IsCoreOf tells around.keepers.told core
 MayServeAt tells ended around = ⊤
+MayServeAt tells (disagreeing s) around = ⊤
 
 -- a run may go on from a state
 abbrev pub MayGoOn : Bool → State → Type 0

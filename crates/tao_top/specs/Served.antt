@@ -6,12 +6,12 @@ use Rattle.std.specs.Io.KnownBytes.{Appends}
 use Rattle.config_json.specs.Config.{config_in}
 use Rattle.counts.specs.Count.{Rose}
 use Rattle.graph_model.specs.Told.{WhereTold}
-use Rattle.replies.specs.declared.reply.Reply.TheVariants.{BadConfiguration}
+use Rattle.replies.specs.declared.reply.Reply.TheVariants.{BadConfiguration, BadStores}
 use Rattle.tao_core.specs.Core.{CoreState}
 use Rattle.core_nodes.specs.Opening.{IsOpenedInPart}
 use Rattle.tao_io.specs.Lines.{lines_of, GivesLines}
 use Rattle.core_nodes.specs.Outside.{Outside}
-use Rattle.tao_top.specs.Step.{State, waiting, serving, ended, Configures, RunsLines, reply_line}
+use Rattle.tao_top.specs.Step.{State, waiting, serving, disagreeing, ended, Configures, Disagreement, FindsDisagreement, RunsLines, reply_line}
 use Rattle.topology.specs.Config.{Settings}
 
 -- the lines of the known bytes are these
@@ -94,6 +94,10 @@ pub record OpensInPart (tells : Bool) (old now : Outside) (line : List ℕ) (bef
 abbrev pub refusal_line : List ℕ → List ℕ
 refusal_line field = reply_line ended (BadConfiguration field)
 
+-- the line that tells of stores that disagree
+abbrev pub disagreement_line : Disagreement → List ℕ
+disagreement_line found = reply_line (disagreeing found.settings) (BadStores found.store found.position)
+
 -- the input has no line, and of the refusal of its configuration a front was written
 pub record LacksConfiguration (old now : Outside) (left before after : Option (List ℕ)) : Type 0 where
   pub read : AreLines left []
@@ -143,3 +147,11 @@ pub record RefusesConfiguration (tells : Bool) (old now : Outside) (left before 
   pub field : List ℕ
   pub refused : IsConfigurationRefused tells old now left field
   pub written : Appends before after (refusal_line field)
+
+-- the first line is a configuration, whose stores disagree; the line that says so was written, and nothing else
+pub record StoresDisagree (tells : Bool) (old now : Outside) (left before after : Option (List ℕ)) : Type 0 where
+  pub line : List ℕ
+  pub read : LinesBegin left (line ∷ [])
+  pub found : Disagreement
+  pub disagree : FindsDisagreement tells old line found now
+  pub written : Appends before after (disagreement_line found)

@@ -1,6 +1,7 @@
 -- A line and its reply: from one state of a run to the next.
 use Rattle.std.specs.Prelude.{◌≡◌, ◌⊎◌, ℕ, Bool, List, [], ◌∷◌, ◌++◌, Result, Ok, Err, codes}
 use Rattle.tao_keeper.specs.KeeperState.{IsLater}
+use Rattle.tao_base.specs.declared.id.StoreName.{StoreName}
 use Rattle.config_json.specs.Config.{config_in}
 use Rattle.core_model.specs.Consistent.{GoesOn}
 use Rattle.core_model.specs.Growing.{StoresGrow}
@@ -11,24 +12,26 @@ use Rattle.reply_json.specs.Reply.{reply_text}
 use Rattle.replies.specs.declared.refusals.LineRefused.TheVariants as line
 use Rattle.replies.specs.declared.refusals.Refusal.TheVariants.{Line}
 use Rattle.replies.specs.declared.reply.Reply.{Reply}
-use Rattle.replies.specs.declared.reply.Reply.TheVariants.{Configured, BadConfiguration, Refused}
+use Rattle.replies.specs.declared.opening.OpenRefusal.TheVariants.{Disagree}
+use Rattle.replies.specs.declared.reply.Reply.TheVariants.{Configured, BadConfiguration, BadStores, Refused}
 use Rattle.request_json.specs.Requests.{request_in}
 use Rattle.request_json.specs.declared.refusal.LineRefusal.{LineRefusal}
 use Rattle.request_json.specs.declared.refusal.LineRefusal.TheVariants.{BadLine, TooLarge, OutOfMemory}
 use Rattle.requests.specs.declared.request.Request.{Request}
 use Rattle.tao_core.specs.Core.{ComeUp, CoreState, IsCoreOf, IsNewCore, Moment, moment_of}
-use Rattle.core_nodes.specs.Opening.{IsOpened, IsOtherLine}
+use Rattle.core_nodes.specs.Opening.{IsOpened, IsOtherLine, RefusesOpening}
 use Rattle.tao_core.specs.Replies.{AnswersRequest}
 use Rattle.core_nodes.specs.Outside.{Outside}
 use Rattle.topology.specs.Config.{Settings}
 
 -- ---- states
 
--- how far a run has come: it waits for its configuration, serves by it, or has refused it
+-- how far a run has come: it waits for its configuration, serves by it, has refused it, or has taken it and found that its stores disagree
 pub data RunStage : Type 0 where
   waiting : RunStage
   serving : CoreState → RunStage
   ended : RunStage
+  disagreeing : Settings → RunStage
 
 -- between two lines: the stage, and what the keepers and the link show
 pub record State : Type 0 where
@@ -46,6 +49,7 @@ abbrev pub spelled_by : RunStage → Settings
 spelled_by waiting = no_settings
 spelled_by (serving core) = core.settings
 spelled_by ended = no_settings
+spelled_by (disagreeing s) = s
 
 -- a reply's line: its text and a line feed
 abbrev pub reply_line : RunStage → Reply → List ℕ
@@ -76,10 +80,24 @@ pub record IsAnotherLine (tells : Bool) (old : Outside) (line field : List ℕ) 
   pub other : WhereTold tells (IsOtherLine settings line old.keepers.told new.keepers.told)
   pub link : new.link ≡ old.link
 
+-- a slave's store whose log doesn't begin its master's, with the first position at which they differ, and the configuration that it is a store of
+pub record Disagreement : Type 0 where
+  pub settings : Settings
+  pub store : StoreName
+  pub position : ℕ
+
+-- the line is a configuration, whose stores disagree; the link stays
+pub record FindsDisagreement (tells : Bool) (old : Outside) (line : List ℕ) (found : Disagreement) (new : Outside) : Type 0 where
+  pub configured : config_in line ≡ Ok found.settings
+  pub disagree : RefusesOpening tells found.settings line old.keepers new.keepers (Disagree found.store found.position)
+  pub link : new.link ≡ old.link
+
 -- what the reply to the first line says
 abbrev pub Configures : Bool → Outside → List ℕ → Reply → RunStage → Outside → Type 0
 Configures tells old line Configured (serving core) new = TakesLine tells old line core new
 Configures tells old line (BadConfiguration field) ended new = IsNoConfiguration old line field new ⊎ IsAnotherLine tells old line field new
+Configures tells old line (BadStores store position) (disagreeing s) new =
+    FindsDisagreement tells old line (record { settings = s; store = store; position = position }) new
 Configures tells old line reply stage new = ⊥
 
 -- ---- each later line
@@ -115,7 +133,9 @@ StepIn tells old line reply new = by_stage old.stage new.stage
     by_stage (serving core) (serving next) = AnswersLine tells (moment_of core old.outside) (request_in line) reply (moment_of next new.outside)
     by_stage (serving core) waiting = ⊥
     by_stage (serving core) ended = ⊥
+    by_stage (serving core) (disagreeing s) = ⊥
     by_stage ended next = ⊥
+    by_stage (disagreeing s) next = ⊥
 
 -- one line and its reply. No count of the keepers fell
 pub record Step (tells : Bool) (old : State) (line : List ℕ) (reply : Reply) (new : State) : Type 0 where

@@ -25,6 +25,7 @@ interrupt_code interrupt.InputTooLong = 9
 abbrev pub stop_code : Stop → ℕ
 stop_code stop.Configuration = 3
 stop_code stop.Keepers = 6
+stop_code stop.Stores = 8
 stop_code (stop.Interrupted i) = interrupt_code i
 
 -- how often the source and the sink failed
@@ -59,4 +60,5 @@ InterruptsWriting before now interrupt.InputTooLong = ⊥
 abbrev pub StopHasCause : Faults → Faults → ℕ → ℕ → Stop → Type 0
 StopHasCause old new before now stop.Configuration = Unit {0}
 StopHasCause old new before now stop.Keepers = Rose before now
+StopHasCause old new before now stop.Stores = Unit {0}
 StopHasCause old new before now (stop.Interrupted i) = InterruptHasCause old new i

@@ -6,7 +6,8 @@ ghost use Rattle.graph_model.specs.Told.{WhereTold};
 ghost use Rattle.core_nodes.specs.Opening.{MayOpen};
 ghost use Rattle.tao_io.specs.LineReader.{most_ahead, to_come};
 ghost use Rattle.tao_io.specs.Lines.{CountsTaken, GivesLines};
-ghost use Rattle.tao_top.specs.Begun.{EndsAtFirst, GivesOne, RefusesFirst, RefusesFor, RefusesInPart, RefusesLine, StopsBeginning, ConfiguredInPart};
+ghost use Rattle.tao_top.specs.Begun.{ConfiguredInPart, EndsAtFirst, GivesOne, RefusesFirst, RefusesFor, RefusesInPart, RefusesLine};
+ghost use Rattle.tao_top.specs.Begun.{StopsBeginning, TellsDisagreement};
 ghost use Rattle.tao_link.specs.Shown.{LinkShown};
 ghost use Rattle.tao_top.specs.Kept.{LeavesTables, MayServe};
 ghost use Rattle.core_nodes.specs.Outside.{outside};
@@ -14,7 +15,7 @@ ghost use Rattle.tao_top.specs.Served.{OpensInPart, serves, start, AtOpeningOrLa
 ghost use Rattle.tao_top.specs.Step.{Replies};
 ghost use Rattle.tao_top.specs.Stop.{FaultsGrow, StopHasCause, faults, stop_code};
 
-use crate::lines::refuse;
+use crate::lines::{refuse, tell_disagreement};
 use crate::serving::Serving;
 use crate::stop::{Interrupt, Stop};
 use std::alloc::Global;
@@ -38,6 +39,7 @@ fn take_line<S: Sink>(alloc: Global, output: &mut S, line: Vec<u8>) -> Result<Fi
     ensures err { OnErr result (RefusesInPart line.items (S.taken output.old) (S.taken output.new)) }
     ensures refused { result ≡ Err Stop.Configuration → RefusesFor line.items (Appends (S.taken output.old) (S.taken output.new)) }
     ensures not_keepers { result ≢ Err Stop.Keepers }
+    ensures not_stores { result ≢ Err Stop.Stores }
     ensures cause { IfErr result (StopsBeginning (S.faults output.old) (S.faults output.new) 0 0) }
     ensures later { S.faults output.old ≤ S.faults output.new }
 {
@@ -63,6 +65,7 @@ pub(crate) fn read_first<R: Source, S: Sink>(
     ensures refused { result ≡ Err Stop.Configuration → RefusesFirst (to_come reader.old (R.left input.old)) (S.taken output.old) (S.taken output.new) }
     ensures once { result ≡ Err Stop.Configuration → GivesOne (to_come reader.old (R.left input.old)) (to_come reader.new (R.left input.new)) }
     ensures not_keepers { result ≢ Err Stop.Keepers }
+    ensures not_stores { result ≢ Err Stop.Stores }
     ensures cause { IfErr result (StopHasCause (faults (R.faults input.old) (S.faults output.old)) (faults (R.faults input.new) (S.faults output.new)) 0 0) }
     ensures long { result ≡ Err (Stop.Interrupted Interrupt.InputTooLong) → reader.new.taken ≡ 2 ^ 40 }
 
@@ -104,6 +107,9 @@ pub(crate) fn begin<'c, S: Sink, K: Keeper>(
     ensures refused { result ≡ Err Stop.Configuration → (link : LinkShown) → RefusesLine K.TELLS
         (outside (K.state keepers.old) link) (outside (K.state keepers.new) link) first.now.line.items
         (S.taken output.old) (S.taken output.new) }
+    ensures stores { result ≡ Err Stop.Stores → (link : LinkShown) → TellsDisagreement K.TELLS
+        (outside (K.state keepers.old) link) (outside (K.state keepers.new) link) first.now.line.items
+        (S.taken output.old) (S.taken output.new) }
     ensures tables { LeavesTables K.TELLS (K.state keepers.old) (K.state keepers.new) }
     ensures cause { IfErr result (StopsBeginning (S.faults output.old) (S.faults output.new) (K.state keepers.old).faults (K.state keepers.new).faults) }
     ensures later { S.faults output.old ≤ S.faults output.new }
@@ -124,7 +130,12 @@ pub(crate) fn begin<'c, S: Sink, K: Keeper>(
         Err(OpenRefusal::OtherLine) => Err(refuse(alloc, output, "file")),
         Err(OpenRefusal::KeeperFault) => Err(Stop::Keepers),
         Err(OpenRefusal::OutOfMemory) => Err(Stop::Interrupted(Interrupt::Memory)),
-        // There is one region, and so no slave's store that could disagree.
-        Err(OpenRefusal::Disagree { .. }) => unreachable!(),
+        Err(OpenRefusal::Disagree { store, position }) => Err(tell_disagreement(
+            alloc,
+            &first.config,
+            output,
+            store,
+            position,
+        )),
     }
 }

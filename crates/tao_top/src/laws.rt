@@ -1,7 +1,7 @@
 //! What holds at each state of a run.
 ghost use Rattle.std.specs.Prelude.{Bool};
 ghost use Rattle.tao_top.specs.Laws.{RunsGoOn};
-ghost use Rattle.tao_top.specs.PromisedLaws.{RunsArePromised};
+ghost use Rattle.tao_top.specs.PromisedLaws.{RefusesRightly, RunsArePromised};
 
 /// After every line the core that serves may be used with the keepers' tables: its nodes are consistent, and the logs sound and covered.
 #[tactic(auto, using(crate::proofs::RunLaws::runs_go_on))]
@@ -13,4 +13,10 @@ pub fn runs_go_on()
 #[tactic(auto, using(crate::proofs::Promised::runs_are_promised))]
 pub fn runs_are_promised()
     ensures { RunsArePromised }
+{}
+
+/// A line that asks what can be done is refused before anything is done for want of memory alone.
+#[tactic(auto, using(crate::proofs::Promised::refuses_rightly))]
+pub fn refuses_rightly()
+    ensures { RefusesRightly }
 {}

@@ -3,12 +3,12 @@ ghost use Rattle.std.specs.Prelude.{◌≡◌, ◌≢◌, ◌++◌, ◌∷◌, [
 ghost use Rattle.std.specs.Io.KnownBytes.{Appends};
 ghost use Rattle.reply_json.specs.Reply.{reply_text};
 ghost use Rattle.tao_top.specs.Begun.{StopsBeginning};
-ghost use Rattle.tao_top.specs.Served.{AppendsPart, refusal_line};
+ghost use Rattle.tao_top.specs.Served.{AppendsPart, disagreement_line, refusal_line};
 ghost use Rattle.tao_top.specs.Stop.{InterruptsWriting};
 
 use crate::stop::{Interrupt, Stop};
 use std::alloc::{AllocError, Global};
-use tao_base::Bytes;
+use tao_base::{Bytes, StoreName};
 use tao_io::{Sink, write_all};
 use tao_wire::{Reply, bad_configuration_text, reply_text};
 use topology::Config;
@@ -67,10 +67,38 @@ pub(crate) fn refuse<S: Sink>(alloc: Global, output: &mut S, field: &str) -> Sto
     ensures part { AppendsPart (S.taken output.old) (S.taken output.new) (refusal_line field.now) }
     ensures cause { StopsBeginning (S.faults output.old) (S.faults output.new) 0 0 result }
     ensures not_keepers { result ≢ Stop.Keepers }
+    ensures not_stores { result ≢ Stop.Stores }
     ensures later { S.faults output.old ≤ S.faults output.new }
 {
     match say_refusal(alloc, output, field) {
         Ok(()) => Stop::Configuration,
+        Err(interrupt) => Stop::Interrupted(interrupt),
+    }
+}
+
+/// Tells of a store of the configuration whose log differs from its master's first at the position. The stop says whether the line that tells
+/// it was written whole.
+pub(crate) fn tell_disagreement<S: Sink>(
+    alloc: Global,
+    config: &Config,
+    output: &mut S,
+    store: StoreName,
+    position: u64,
+) -> Stop
+    ensures whole { result ≡ Stop.Stores → Appends (S.taken output.old) (S.taken output.new)
+        (disagreement_line (record { settings = config.now; store = store; position = position })) }
+    ensures part { AppendsPart (S.taken output.old) (S.taken output.new)
+        (disagreement_line (record { settings = config.now; store = store; position = position })) }
+    ensures cause { StopsBeginning (S.faults output.old) (S.faults output.new) 0 0 result }
+    ensures not_keepers { result ≢ Stop.Keepers }
+    ensures not_configuration { result ≢ Stop.Configuration }
+    ensures later { S.faults output.old ≤ S.faults output.new }
+{
+    let reply = Reply::BadStores { store, position };
+    let said = say(alloc, config, output, &reply);
+    drop(reply);
+    match said {
+        Ok(()) => Stop::Stores,
         Err(interrupt) => Stop::Interrupted(interrupt),
     }
 }

@@ -87,6 +87,8 @@ pub(crate) enum Stop {
     Configuration,
     /// The keepers failed at the opening of the stores.
     Keepers,
+    /// The log of a slave's store doesn't begin its master's.
+    Stores,
     Interrupted(Interrupt),
 }
 
@@ -121,6 +123,7 @@ impl Stop {
         match self {
             Stop::Configuration => 3,
             Stop::Keepers => 6,
+            Stop::Stores => 8,
             Stop::Interrupted(interrupt) => interrupt.code(),
         }
     }

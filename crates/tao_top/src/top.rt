@@ -9,10 +9,10 @@ ghost use Rattle.tao_keeper.specs.Growing.{LogsGrow};
 ghost use Rattle.tao_top.specs.Kept.{LeavesTables, MayRun, StillBegin};
 ghost use Rattle.core_nodes.specs.Outside.{outside};
 ghost use Rattle.tao_top.specs.Promised.{RunKeepsPromise};
-ghost use Rattle.tao_top.specs.Served.{Done, EndsInPart, FailsOpening, RefusesConfiguration, StopsOpening, streams};
+ghost use Rattle.tao_top.specs.Served.{Done, EndsInPart, FailsOpening, RefusesConfiguration, StopsOpening, StoresDisagree, streams};
 ghost use Rattle.tao_top.specs.Stop.{StopHasCause, faults, stop_code};
 ghost use Rattle.tao_top.specs.declared.stop.Interrupt.TheVariants.{InputTooLong};
-ghost use Rattle.tao_top.specs.Status.{IsGood, IsStatus, NoFault};
+ghost use Rattle.tao_top.specs.Status.{EndsByStores, IsGood, IsStatus, NoFault};
 ghost use Rattle.tao_top.specs.Taken.{Takes, TakesFirst};
 
 use crate::begin::{begin, read_first};
@@ -48,6 +48,9 @@ fn go<R: Source, S: Sink, K: Keeper, L: Link>(
     ensures refused { result ≡ Err Stop.Configuration → RefusesConfiguration K.TELLS
         (outside (K.state keepers.old) (L.shown link.old)) (outside (K.state keepers.new) (L.shown link.new)) (R.left input.old)
         (S.taken output.old) (S.taken output.new) }
+    ensures stores { result ≡ Err Stop.Stores → StoresDisagree K.TELLS
+        (outside (K.state keepers.old) (L.shown link.old)) (outside (K.state keepers.new) (L.shown link.new)) (R.left input.old)
+        (S.taken output.old) (S.taken output.new) }
     ensures cause { IfErr result (StopHasCause
         (faults (R.faults input.old) (S.faults output.old)) (faults (R.faults input.new) (S.faults output.new))
         (K.state keepers.old).faults (K.state keepers.new).faults) }
@@ -56,6 +59,7 @@ fn go<R: Source, S: Sink, K: Keeper, L: Link>(
     ensures taken { Takes (R.left input.old) (R.left input.new) }
     ensures at_end { OnOk result (IsAtEnd (R.left input.new)) }
     ensures at_first { result ≡ Err Stop.Configuration → TakesFirst (R.left input.old) (R.left input.new) }
+    ensures at_stores { result ≡ Err Stop.Stores → TakesFirst (R.left input.old) (R.left input.new) }
 {
     let mut reader = LineReader::new(alloc)?;
     let first = read_first(alloc, &mut reader, input, output)?;
@@ -89,11 +93,12 @@ fn refusal(alloc: Global, words: &[String]) -> Option<u8>
 ///   opened with: a line says so;
 /// - 4, 5, 6 where the source, the sink, or the keepers at their opening failed;
 /// - 7 where there was no memory to read the words or a line, to open the stores, or to spell a reply;
+/// - 8 where a slave's store has a log that doesn't begin its master's: a line names the store that is compared first, and the position;
 /// - 9 where 2^40 bytes were taken and the end had not come.
 ///
 /// What was written before any status is a front of the replies' lines. With 6 nothing was: a keeper that
 /// fails later is told of in a reply. Of the source at most 2^40 bytes are taken, with 0 all of them, and with
-/// 3 none past those in which the first line's end came, 65,536 at a time.
+/// 3 and 8 none past those in which the first line's end came, 65,536 at a time.
 pub fn run<R: Source, S: Sink, K: Keeper, L: Link>(
     alloc: Global,
     words: &[String],
@@ -131,6 +136,9 @@ pub fn run<R: Source, S: Sink, K: Keeper, L: Link>(
     ensures keepers { result.code ≡ 6 → FailsOpening K.TELLS
         (outside (K.state keepers.old) (L.shown link.old)) (outside (K.state keepers.new) (L.shown link.new)) (R.left input.old)
         (S.taken output.old) (S.taken output.new) }
+    ensures stores { result.code ≡ 8 → StoresDisagree K.TELLS
+        (outside (K.state keepers.old) (L.shown link.old)) (outside (K.state keepers.new) (L.shown link.new)) (R.left input.old)
+        (S.taken output.old) (S.taken output.new) }
     ensures long { result.code ≡ 9 → IfSome (R.left input.old) (λ bytes. 2 ^ 40 ≤ length bytes) }
     ensures short { result.code ≡ 0 → IfSome (R.left input.old) (λ bytes. length bytes < 2 ^ 40) }
     ensures known { IsStatus result.code }
@@ -138,12 +146,13 @@ pub fn run<R: Source, S: Sink, K: Keeper, L: Link>(
     ensures taken { Takes (R.left input.old) (R.left input.new) }
     ensures at_end { result.code ≡ 0 → IsAtEnd (R.left input.new) }
     ensures at_first { result.code ≡ 3 → TakesFirst (R.left input.old) (R.left input.new) }
+    ensures at_stores { result.code ≡ 8 → TakesFirst (R.left input.old) (R.left input.new) }
 
-    // Completeness: where the word and the first line are good and nothing fails, only want of memory stops it.
-    ensures complete { IsGood K.TELLS (map string_bytes words.now) (K.state keepers.old) (R.left input.old)
+    // Completeness: where the word and the first line are good and nothing fails, only stores that disagree and want of memory stop it.
+    ensures complete { (good : IsGood K.TELLS (map string_bytes words.now) (K.state keepers.old) (R.left input.old))
         → NoFault (faults (R.faults input.old) (S.faults output.old)) (faults (R.faults input.new) (S.faults output.new))
         (K.state keepers.old).faults (K.state keepers.new).faults
-        → (result.code ≡ 0) ⊎ (result.code ≡ 7) }
+        → EndsByStores good.settings (K.state keepers.old).told result.code }
 {
     let code = match refusal(alloc, words) {
         Some(code) => code,

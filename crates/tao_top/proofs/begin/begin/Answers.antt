@@ -1,11 +1,12 @@
 use Rattle.std.proofs.Common.{◌≡◌, refl, subst, sym}
 use Rattle.graph_model.specs.Told.{WhereTold}
 use Rattle.core_nodes.specs.Opening.{IsOpened, IsOtherLine, MayOpen, RefusesOpening}
-use Rattle.tao_top.proofs.Configured.{no_slave}
-use Rattle.tao_top.proofs.FirstLine.{begins, begun_other, begun_whatever, refuses_other}
+use Rattle.replies.specs.declared.opening.OpenRefusal.{OpenRefusal}
+use Rattle.replies.specs.declared.opening.OpenRefusal.TheVariants.{Disagree}
+use Rattle.tao_top.proofs.FirstLine.{begins, begun_disagreeing, begun_other, begun_whatever, refuses_other, tells_disagreement}
 use Rattle.core_nodes.specs.Outside.{outside}
 use Rattle.tao_top.specs.Stop.{interrupt_code, stop_code}
-use Rattle.tao_top.specs.declared.stop.Stop.TheVariants.{Configuration}
+use Rattle.tao_top.specs.declared.stop.Stop.TheVariants.{Configuration, Stores}
 use Rattle.tao_top.proofs.begin.begin.Goals as goal
 
 pub returns-in-Err-clause-err : goal.returns-in-Err-clause-err
@@ -58,10 +59,29 @@ pub open-requires-clause-kept : goal.open-requires-clause-kept
 open-requires-clause-kept g c = subst (λ l. WhereTold g.K.Keeper.TELLS (MayOpen c.args.first.now.config l (g.K.Keeper.state c.args.keepers.now).told))
     (sym c.deref.ensures.value) c.requires.kept
 
--- there is one region, and so no slave's store that could disagree
-pub unreachable-requires : goal.unreachable-requires
-unreachable-requires g c =
+-- ---- stores that disagree
+
+pub returns-in-Err-Disagree-clause-err : goal.returns-in-Err-Disagree-clause-err
+returns-in-Err-Disagree-clause-err g c =
     let keepers = g.K.Keeper.state in
+    let found : OpenRefusal = Disagree c.in-Err-Disagree.store c.in-Err-Disagree.position in
     let refused = subst (λ r. RefusesOpening g.K.Keeper.TELLS c.args.first.now.config c.deref.result.now (keepers c.args.keepers.now)
     (keepers c.open.new.keepers) r) c.in-Err-Disagree.field-0-is c.in-Err-Disagree.ensures.refused in
-    no_slave c.args.first.now.line.items c.args.first.now.config c.in-Err-Disagree.field-0-0 c.requires.configured refused.0
+    let disagree = subst (λ l. RefusesOpening g.K.Keeper.TELLS c.args.first.now.config l (keepers c.args.keepers.now) (keepers c.open.new.keepers) found)
+    c.deref.ensures.value refused in
+    λ link. begun_disagreeing g.K.Keeper.TELLS (outside (keepers c.args.keepers.now) link)
+    (outside (keepers c.open.new.keepers) link) c.args.first.now.line.items c.args.first.now.config c.requires.configured c.in-Err-Disagree.ensures.later refl
+    _ _ _ _ disagree c.tell_disagreement.ensures.part (stop_code c.tell_disagreement.result)
+
+pub returns-in-Err-Disagree-clause-stores : goal.returns-in-Err-Disagree-clause-stores
+returns-in-Err-Disagree-clause-stores g c = λ e.
+    let keepers = g.K.Keeper.state in
+    let found : OpenRefusal = Disagree c.in-Err-Disagree.store c.in-Err-Disagree.position in
+    let refused = subst (λ r. RefusesOpening g.K.Keeper.TELLS c.args.first.now.config c.deref.result.now (keepers c.args.keepers.now)
+    (keepers c.open.new.keepers) r) c.in-Err-Disagree.field-0-is c.in-Err-Disagree.ensures.refused in
+    let disagree = subst (λ l. RefusesOpening g.K.Keeper.TELLS c.args.first.now.config l (keepers c.args.keepers.now) (keepers c.open.new.keepers) found)
+    c.deref.ensures.value refused in
+    let whole : c.tell_disagreement.result ≡ Stores = cc e in
+    λ link. tells_disagreement g.K.Keeper.TELLS (outside (keepers c.args.keepers.now) link)
+    (outside (keepers c.open.new.keepers) link) c.args.first.now.line.items c.args.first.now.config c.requires.configured c.in-Err-Disagree.ensures.later refl
+    _ _ _ _ disagree (c.tell_disagreement.ensures.whole whole)

@@ -4,13 +4,13 @@ use Rattle.tao_io.proofs.GivenLines.{CountsTaken-trans}
 use Rattle.tao_top.proofs.FirstLine.{gives_one}
 use Rattle.tao_top.proofs.Keeping.{leaves_then}
 use Rattle.tao_top.proofs.OneLine.{IfErr-any, part_unread}
-use Rattle.tao_top.proofs.WholeRun.{begun_in_part, begun_opening, begun_refused, begun_well, done, done_part, end_of_source, first_in_part}
+use Rattle.tao_top.proofs.WholeRun.{begun_disagree, begun_in_part, begun_opening, begun_refused, begun_well, done, done_part, end_of_source, first_in_part}
 use Rattle.tao_top.proofs.WholeRun.{first_refused, fresh, interrupt_later, long_input, may_open, short_input, takes_counted, takes_first, takes_none}
 use Rattle.core_nodes.specs.Outside.{outside}
 use Rattle.tao_top.specs.Served.{EndsInPart, start, streams}
 use Rattle.tao_top.specs.Stop.{FaultsGrow, InterruptHasCause, StopHasCause, faults, stop_code}
 use Rattle.tao_top.specs.declared.stop.Interrupt.TheVariants.{InputTooLong}
-use Rattle.tao_top.specs.declared.stop.Stop.TheVariants.{Configuration, Keepers}
+use Rattle.tao_top.specs.declared.stop.Stop.TheVariants.{Configuration, Keepers, Stores}
 use Rattle.tao_top.proofs.top.go.Goals as goal
 
 pub returns-in_err-reader-clause-err : goal.returns-in_err-reader-clause-err
@@ -121,6 +121,16 @@ returns-in_err-serving-clause-keepers g c = λ e.
     (fresh c.in_ok-reader.reader _ c.in_ok-reader.ensures.ahead) (ap g.S.Sink.taken c.in_ok-first.ensures.silent) c.in_ok-first.ensures.line
     (c.in_err-serving.ensures.keepers (ap (λ s. Err s) same) (g.L.Link.shown c.args.link.now))
 
+pub returns-in_err-serving-clause-stores : goal.returns-in_err-serving-clause-stores
+returns-in_err-serving-clause-stores g c = λ e.
+    let before = outside (g.K.Keeper.state c.args.keepers.now) (g.L.Link.shown c.args.link.now) in
+    let begun = outside (g.K.Keeper.state c.begin.new.keepers) (g.L.Link.shown c.args.link.now) in
+    let p = err_from_is_err_and c.from_residual-in_err-serving.result c.from_residual-in_err-serving.ensures.1 in
+    let same : c.in_err-serving.field-0.0 ≡ Stores = cc (e, p.1, p.2) in
+    begun_disagree g.K.Keeper.TELLS before begun _ _ _ _ _ _ c.in_ok-first.first.line.items
+    (fresh c.in_ok-reader.reader _ c.in_ok-reader.ensures.ahead) (ap g.S.Sink.taken c.in_ok-first.ensures.silent) c.in_ok-first.ensures.line
+    (c.in_err-serving.ensures.stores (ap (λ s. Err s) same) (g.L.Link.shown c.args.link.now))
+
 -- ---- what was taken
 
 pub returns-in_err-reader-clause-taken : goal.returns-in_err-reader-clause-taken
@@ -141,6 +151,11 @@ returns-in_err-serving-clause-taken g c = takes_counted _ _ _ _ c.in_ok-reader.e
 
 pub returns-in_err-serving-clause-at_first : goal.returns-in_err-serving-clause-at_first
 returns-in_err-serving-clause-at_first g c = λ _.
+    takes_first _ _ _ _ (fresh c.in_ok-reader.reader _ c.in_ok-reader.ensures.ahead) c.read_first.ensures.near
+    (gives_one _ _ c.in_ok-first.first.line.items c.in_ok-first.ensures.line)
+
+pub returns-in_err-serving-clause-at_stores : goal.returns-in_err-serving-clause-at_stores
+returns-in_err-serving-clause-at_stores g c = λ _.
     takes_first _ _ _ _ (fresh c.in_ok-reader.reader _ c.in_ok-reader.ensures.ahead) c.read_first.ensures.near
     (gives_one _ _ c.in_ok-first.first.line.items c.in_ok-first.ensures.line)
 

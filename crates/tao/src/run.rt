@@ -1,5 +1,7 @@
 //! A run over the standard streams.
+ghost use Rattle.std.specs.Prelude.{◌≡◌};
 ghost use Rattle.graph_model.specs.Told.{WhereTold};
+ghost use Rattle.tao_keeper.specs.declared.keeper.KeepFail.TheVariants.{Failed, OutOfMemory as NoMemory};
 ghost use Rattle.tao_top.specs.Kept.{MayBeginAny};
 
 use keeper_map::{Fails, MapKeeper};
@@ -43,6 +45,17 @@ pub fn in_memory(rt: &HostRuntime, words: &[String]) -> u8 {
     over(rt, words, &mut keepers)
 }
 
+/// The status where a file can't be opened: 6, and 7 where there was no memory for it.
+fn status_of(fail: KeepFail) -> u8
+    ensures failed { fail ≡ Failed → result ≡ 6 }
+    ensures memory { fail ≡ NoMemory → result ≡ 7 }
+{
+    match fail {
+        KeepFail::Failed => NO_FILE,
+        KeepFail::OutOfMemory => NO_MEMORY,
+    }
+}
+
 /// Serves over tables in a file, which is made where it isn't there.
 pub fn in_file(rt: &HostRuntime, words: &[String], path: &str) -> u8 {
     match SqlKeeper::open_file(rt, path) {
@@ -52,7 +65,6 @@ pub fn in_file(rt: &HostRuntime, words: &[String], path: &str) -> u8 {
             keepers.close();
             code
         }
-        Err(KeepFail::Failed) => NO_FILE,
-        Err(KeepFail::OutOfMemory) => NO_MEMORY,
+        Err(fail) => status_of(fail),
     }
 }

@@ -6,12 +6,14 @@ usage: [TAO=PROGRAM] process_test.py
 PROGRAM is the built program, crates/tao/out/tao where TAO says no other. `./tao run` makes that one.
 """
 
+import contextlib
 import functools
 import itertools
 import json
 import os
 import resource
 import signal
+import sqlite3
 import subprocess
 import sys
 import tempfile
@@ -248,6 +250,20 @@ class Files(unittest.TestCase):
         self.assertEqual(tao("run", "--sql", file).returncode, 0)
         done = tao("run", f"--sql={file}", input=script_of(CONFIGURATION))
         self.assertEqual((done.returncode, done.stdout), (3, b'{"bad":"configuration","field":"file"}\n'))
+
+    def test_a_slave_with_another_entry_is_8(self) -> None:
+        file = self.folder / "tables"
+        west = {"name": "west", "tiers": [{"name": "t1"}]}
+        first = dict(CONFIGURATION, regions=[*CONFIGURATION["regions"], west])
+        add = {"do": "assoc_add", "session": 1, "seq": 1, "id1": 1, "atype": "likes", "id2": 2, "time": 5, "data": {}}
+        script = script_of(first, OPENING, add, {"do": "stream", "region": "west", "shard": 0})
+        self.assertEqual(tao("run", "--sql", file, input=script).stdout.splitlines()[-1], b'{"hops":1,"next":2,"ok":"stream","verdict":"applied"}')
+        with contextlib.closing(sqlite3.connect(file, isolation_level=None)) as tables:
+            ((entry,),) = tables.execute("select entry from log where region = 1").fetchall()
+            other = entry[:13] + (2).to_bytes(8, "big") + entry[21:]
+            tables.execute("update log set b = 2, entry = ? where region = 1", (other,))
+        done = tao("run", "--sql", file, input=script)
+        self.assertEqual((done.returncode, done.stdout, done.stderr), (8, b'{"bad":"stores","position":1,"store":"west/store/0"}\n', b""))
 
     def test_what_was_told_outlives_a_kill(self) -> None:
         script = adds(50)

@@ -4,6 +4,7 @@ Replies say how many hops a call took and whether a store was called; who serves
 from the lines before, by the rules of docs/ARCHITECTURE.md and docs/PROTOCOL.md. What no line tells isn't drawn.
 """
 
+from collections import Counter
 from collections.abc import Callable
 from dataclasses import dataclass
 
@@ -36,6 +37,7 @@ class Run:
         self._cuts: set[tuple[str, str]] = set()
         self._plans: dict[int, Plan] = {}
         self.inboxes: dict[str, list[tuple[int, int]]] = {node: [] for node in self.topology.caches()}
+        self._taken: Counter[tuple[str, int]] = Counter()  # how many entries the store of a slave region has
         self._replies = replies
         self.rows = [self._row(number, *lines) for number, lines in enumerate(zip(requests, replies))]
 
@@ -151,7 +153,7 @@ class Run:
             return None
         done = self.logs.commit(call)
         if done and done.is_new:
-            self._tell(shard, done.position, walk)
+            self._tell(self.topology.told(self.topology.master(shard), shard), shard, done.position, walk)
         return done
 
     def _merge(self, job: Job, reply: Line, walk: Walk) -> bool:
@@ -164,13 +166,16 @@ class Run:
         walk.way(other, self._master_store(job.far), "call")
         is_merged = reply.get("why") in (None, "link_fault")
         if is_merged:
-            self._merge_at(job, walk)
+            self._merge_at(job, walk, self._told_of_merge(job))
         return walk.hop(other, leader) and is_merged
 
-    def _merge_at(self, job: Job, walk: Walk, tells: bool = True) -> None:
+    def _merge_at(self, job: Job, walk: Walk, told: list[str]) -> None:
         position = self.logs.merge(job)
-        if position and tells:
-            self._tell(job.far, position, walk)
+        if position:
+            self._tell(told, job.far, position, walk)
+
+    def _told_of_merge(self, job: Job) -> list[str]:
+        return self.topology.told(self.topology.master(job.far), job.far) if job.far < self.topology.shards else []
 
     def _end(self, job: Job, reply: Line, walk: Walk) -> None:
         """The stage `end`, at the job's own shard."""
@@ -183,16 +188,17 @@ class Run:
     def _repair(self, request: Line, reply: Line, walk: Walk) -> None:
         jobs = self.logs.jobs[request["shard"]]
         if jobs:
-            self._run_job(jobs[0], reply, walk, True)
+            self._run_job(jobs[0], reply, walk)
 
-    def _run_job(self, job: Job, reply: Line, walk: Walk, tells: bool) -> bool:
-        """A job is carried from store to store, merged and ended: whether it was."""
+    def _run_job(self, job: Job, reply: Line, walk: Walk) -> bool:
+        """A job is carried from store to store, merged and ended: whether it was. Then the followers there are told, and the leader."""
         start, end = self._master_store(job.shard), self._master_store(job.far)
         if job.far >= self.topology.shards or not walk.hop(start, end):
             return False
         is_merged = not is_refused_by_store(job, reply)
         if is_merged:
-            self._merge_at(job, walk, tells and "no" not in reply)
+            is_told = reply.get("ok") == "repair"
+            self._merge_at(job, walk, self._told_of_merge(job) + [self._master_leader(job.far)] if is_told else [])
         if not walk.hop(end, start) or not is_merged:
             return False
         self.logs.end(job)
@@ -201,18 +207,47 @@ class Run:
     def _settle(self, _: Line, reply: Line, walk: Walk) -> None:
         for shard in range(self.topology.shards):
             for job in list(self.logs.jobs[shard]):
-                if not self._run_job(job, reply, walk, False):
+                if not self._run_job(job, reply, walk):
                     return
-        if "no" in reply:
+        if not self._run_streams(walk) or "no" in reply:
             return
         self.inboxes = {node: [] for node in self.inboxes}
         for node in self.topology.caches():
             walk.mark(node, "settled")
 
+    # streams
+
+    def _stream(self, request: Line, reply: Line, walk: Walk) -> None:
+        region, shard = request["region"], request["shard"]
+        if reply.get("verdict") == "none":
+            walk.mark(self.topology.store(region, shard), "seen")
+        elif reply.get("no", "link_fault") == "link_fault":
+            self._step_of_stream(region, shard, walk, reply.get("verdict") == "applied")
+
+    def _step_of_stream(self, region: str, shard: int, walk: Walk, is_applied: bool = True) -> bool:
+        """An entry is carried to a slave's store: whether it came there. One that is applied is processed by the leader, and the followers are told."""
+        if not walk.hop(self._master_store(shard), self.topology.store(region, shard)):
+            return False
+        if is_applied:
+            self._taken[region, shard] += 1
+            position = self._taken[region, shard]
+            walk.mark(self.topology.leader(region, shard), "delivered", str(position))
+            self._tell(self.topology.told(region, shard), shard, position, walk)
+        return True
+
+    def _run_streams(self, walk: Walk) -> bool:
+        """Every stream is moved to its end: whether all were."""
+        slaves = [(region, shard) for region in self.topology.regions for shard in range(self.topology.shards) if region != self.topology.master(shard)]
+        return all(
+            self._step_of_stream(region, shard, walk)
+            for region, shard in slaves
+            for _ in range(self._taken[region, shard], self.logs.lengths[shard])
+        )
+
     # messages
 
-    def _tell(self, shard: int, position: int, walk: Walk) -> None:
-        for node in self.topology.told(self.topology.master(shard), shard):
+    def _tell(self, nodes: list[str], shard: int, position: int, walk: Walk) -> None:
+        for node in nodes:
             inbox = self.inboxes[node]
             if len(inbox) < INBOX:
                 inbox.append((shard, position))
@@ -271,8 +306,10 @@ class Run:
             self._merge(plan.job, {} if reply.get("next") == "end" else known, walk)
         elif plan.stage == "end" and plan.job:
             self._end(plan.job, known, walk)
+        elif plan.stage == "relay":
+            walk.along(self._route(plan.call)[:0:-1])
         elif plan.stage == "apply":
-            walk.along(self._route(plan.call)[::-1])
+            walk.along(self._route(plan.call)[1::-1])
 
     def _wait(self, plan: Plan, walk: Walk) -> None:
         """Marks where a held call waits."""
@@ -316,6 +353,7 @@ class Run:
         "repair": _repair,
         "settle": _settle,
         "show": _see,
+        "stream": _stream,
     }
 
 

@@ -96,6 +96,8 @@ def words_of_reply(reply: Line) -> str:
         return "kept" if reply["kept"] else f"not kept: {reply['why']}"
     if word == "settle":
         return "log lengths " + ", ".join(str(length) for length in reply["logs"])
+    if word == "stream":
+        return f"{reply['verdict']}, next is {reply['next']}"
     if word == "evict":
         return "evicted" if reply["evicted"] else "was not held"
     rest = [f"{name} {value}" for name, value in reply.items() if name not in ("ok", "hops", "shard", "position")]

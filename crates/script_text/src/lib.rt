@@ -14,4 +14,4 @@ mod runs;
 
 pub use compare::{Fault, describe, fault_of};
 pub use reading::{Unread, read};
-pub use runs::{Run, Script};
+pub use runs::{GivenLog, Run, Script};

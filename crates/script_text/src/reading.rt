@@ -1,6 +1,6 @@
 //! Reads a script.
 use crate::piece::{Piece, line_of, piece_of, push_piece};
-use crate::runs::{Run, Script};
+use crate::runs::{GivenLog, Run, Script};
 use std::alloc::{AllocError, Global};
 
 /// Why a text is no script.
@@ -65,6 +65,38 @@ fn take_number<T: Copy>(into: &mut T, number: Option<T>) -> bool {
     }
 }
 
+/// The log that a text tells: the store's region and shard, and the numbers of writes.
+fn log_of(alloc: Global, text: &str) -> Result<Option<GivenLog>, AllocError> {
+    let Some((region, rest)) = text.split_once(' ') else {
+        return Ok(None);
+    };
+    let Some((shard, numbers)) = rest.split_once(' ') else {
+        return Ok(None);
+    };
+    let (Ok(region), Ok(shard)) = (region.parse::<u16>(), shard.parse::<u16>()) else {
+        return Ok(None);
+    };
+    let mut seqs = Vec::new(alloc);
+    let is_told = push_numbers(&mut seqs, numbers)?;
+    let log = GivenLog {
+        region,
+        shard,
+        seqs,
+    };
+    Ok(if is_told { Some(log) } else { None })
+}
+
+/// Goes on with the logs that a run finds. Says whether the text tells one.
+fn take_log(alloc: Global, run: &mut Run, text: &str) -> Result<bool, AllocError> {
+    match log_of(alloc, text)? {
+        Some(log) => {
+            run.logs.push(log)?;
+            Ok(true)
+        }
+        None => Ok(false),
+    }
+}
+
 /// Goes on with a run by a line of its text. Says whether the line has a meaning.
 fn take_run_line(alloc: Global, run: &mut Run, line: &str) -> Result<bool, AllocError> {
     if let Some(reply) = line.strip_prefix('>') {
@@ -78,6 +110,9 @@ fn take_run_line(alloc: Global, run: &mut Run, line: &str) -> Result<bool, Alloc
     }
     if let Some(numbers) = line.strip_prefix("! put ") {
         return push_numbers(&mut run.puts, numbers);
+    }
+    if let Some(log) = line.strip_prefix("! log ") {
+        return take_log(alloc, run, log);
     }
     if let Some(room) = line.strip_prefix("! room ") {
         return Ok(take_number(&mut run.room, room.parse::<usize>().ok().map(Some)));

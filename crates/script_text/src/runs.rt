@@ -11,11 +11,21 @@ pub struct Script {
     pub runs: Vec<Run>,
 }
 
+/// A store's log before any run: an object for each number, which is that of session 1's write.
+#[derive(Debug, Drop)]
+pub struct GivenLog {
+    pub region: u16,
+    pub shard: u16,
+    pub seqs: Vec<u64>,
+}
+
 /// One run: what it is given, and how it has to end.
 #[derive(Debug, Drop)]
 pub struct Run {
     /// Whether it goes over a keeper without tables, and not over that of the run before it.
     pub is_anew: bool,
+    /// What stores have before it, where it goes over a keeper without tables.
+    pub logs: Vec<GivenLog>,
     pub words: Vec<String>,
     /// The bytes of its source.
     pub input: String,
@@ -48,6 +58,7 @@ impl Run {
     pub fn begin(alloc: Global, words: &str, is_anew: bool) -> Result<Run, AllocError> {
         let mut run = Run {
             is_anew,
+            logs: Vec::new(alloc),
             words: Vec::new(alloc),
             input: String::new(alloc),
             carries: Vec::new(alloc),

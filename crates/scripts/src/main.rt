@@ -2,6 +2,7 @@
 //! exactly the replies that the script tells. `docs/SCRIPTS.md` has the format.
 #![tactic(auto)]
 
+mod given;
 mod narrow;
 mod play;
 

@@ -4,6 +4,7 @@ ghost use Rattle.graph_model.specs.Told.{WhereTold};
 ghost use Rattle.keeper_map.specs.MapKeeper.{told_by};
 ghost use Rattle.tao_top.specs.Kept.{MayBeginAny};
 
+use crate::given::give_logs;
 use crate::narrow::NarrowSink;
 use keeper_map::{Fails, MapKeeper};
 use keeper_sql::SqlKeeper;
@@ -115,25 +116,55 @@ fn new_keeper(alloc: Global, script: &Script) -> Result<MapKeeper, AllocError>
     Ok(MapKeeper::make(alloc, fails))
 }
 
-/// Plays runs of a script over tables in maps.
+/// Whether a script is for SQL alone: stores have logs before any run, which no run wrote.
+fn is_for_sql(script: &Script) -> bool {
+    script.runs.iter().any(|run| !run.logs.is_empty())
+}
+
+/// Plays runs of a script over tables in maps, unless it is for SQL alone.
 fn play_over_maps(
     alloc: Global,
     script: &Script,
     runs: &[Run],
     first: usize,
 ) -> Result<Option<String>, AllocError> {
+    if is_for_sql(script) {
+        return Ok(None);
+    }
     let mut keeper = new_keeper(alloc, script)?;
     play_runs(alloc, &mut keeper, runs, first)
 }
 
-/// Plays runs over tables by SQL.
+/// What is said where there are no tables to play over.
+fn no_tables(alloc: Global) -> Result<Option<String>, AllocError> {
+    let text = format!(in alloc; "no tables")?;
+    Ok(Some(text))
+}
+
+/// Plays runs over tables by SQL, which first get what the first run finds there.
+fn play_over_given(
+    alloc: Global,
+    keeper: &mut SqlKeeper,
+    runs: &[Run],
+    first: usize,
+) -> Result<Option<String>, AllocError> {
+    let is_given = match runs.first() {
+        Some(run) => give_logs(alloc, keeper, run)?,
+        None => true,
+    };
+    if !is_given {
+        return no_tables(alloc);
+    }
+    play_runs(alloc, keeper, runs, first)
+}
+
+/// Plays runs over new tables by SQL.
 fn play_over_sql(alloc: Global, runs: &[Run], first: usize) -> Result<Option<String>, AllocError> {
     let Ok(keeper) = SqlKeeper::open_memory(alloc) else {
-        let text = format!(in alloc; "no tables")?;
-        return Ok(Some(text));
+        return no_tables(alloc);
     };
     let mut keeper = keeper;
-    let said = play_runs(alloc, &mut keeper, runs, first);
+    let said = play_over_given(alloc, &mut keeper, runs, first);
     keeper.close();
     said
 }
@@ -186,6 +217,9 @@ fn play(alloc: Global, script: &Script) -> Result<String, AllocError> {
     }
     if is_for_maps(script) {
         return format!(in alloc; "ok, not over SQL");
+    }
+    if is_for_sql(script) {
+        return format!(in alloc; "ok, over SQL alone");
     }
     format!(in alloc; "ok")
 }

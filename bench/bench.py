@@ -9,9 +9,9 @@ keeps what was measured in a file; --plot draws such a file, and measures nothin
 
 Prints the lines that a second takes of 20,000 mixed calls, what a call costs as the log of its shard
 grows, beside what the same tables take in sqlite3 in memory, what an edge costs that a range goes past,
-what adds and ranges take over a file beside sqlite3's own, and, with a yardstick, what reads take that
-the follower answers of what it holds, as ratios to the yardstick's time on the same script (below 1 TAO
-is faster), and where it goes.
+what adds and ranges take over a file beside sqlite3's own, what the same calls take from a slave region
+beside the master's, and, with a yardstick, what reads take that the follower answers of what it holds, as
+ratios to the yardstick's time on the same script (below 1 TAO is faster), and where it goes.
 
 Those ratios are of processor time, which other work on the machine changes least: the least of some runs,
 ours and the yardstick's in turn.
@@ -29,6 +29,7 @@ import time
 SHARDS = 8
 BOUND = 6_000
 REGION = {"name": "east", "tiers": [{"name": "t1"}]}
+MASTER, SLAVE = "east", "west"
 EMPTY = {}
 
 
@@ -39,6 +40,13 @@ def line(**fields):
 def front(shards):
     yield line(assocs=[{"name": "likes"}, {"name": "follows"}], objects=["user"], regions=[REGION], shards=shards)
     yield line(do="open", session=1, region="east", tier="t1")
+
+
+def front_of_two(region):
+    """Of two regions, of which the first is the master; the session is in this one."""
+    types, regions = [{"name": "likes"}], [REGION, dict(REGION, name=SLAVE)]
+    yield line(assocs=types, objects=["user"], regions=regions, shards=1)
+    yield line(do="open", session=1, region=region, tier="t1")
 
 
 class Draws:
@@ -280,6 +288,23 @@ def over_yardstick(tao, yardstick, lines):
     return held
 
 
+def at_region(tao, region, length, asks):
+    """What a session of a region takes for an add, for a range that its follower holds and for one that the master's store answers, in seconds.
+    The last is critical, so that it goes the same way from both regions."""
+    begun = list(front_of_two(region)), list(adds(length))
+    critical = [line(**RANGE, critical=True)] * asks
+    scripts = [script(begun[0]), script(*begun), script(*begun, ranges(asks)), script(*begun, critical)]
+    nothing, added, held, asked = [in_turn([tao], one)[0][0] for one in scripts]
+    return {"add": (added - nothing) / length, "held range": (held - added) / asks, "critical range": (asked - added) / asks}
+
+
+def from_regions(tao, length, asks):
+    """Prints what calls take from a slave region beside the master's, whose adds pass one leader less."""
+    own, slave = at_region(tao, MASTER, length, asks), at_region(tao, SLAVE, length, asks)
+    for call, took in slave.items():
+        print(f"from a slave region, {call}: {took / own[call]:.2f} of the master's region, {took * 1e6:.2f} microseconds")
+
+
 def at_length(tao, length, asks):
     """What an add and a range take as the log of their shard grows to a length, in microseconds and beside sqlite's, which is printed."""
     grown = best(tao, script(front(1), adds(length)))
@@ -312,6 +337,7 @@ def measure(program, yardstick):
     growth = [at_length(tao, length, 60_000) for length in (1_000, 8_000, 65_536)]
     far_down(tao, 65_536, 500)
     over_file(tao, 4_000, 20_000)
+    from_regions(tao, 16_000, 60_000)
     held = over_yardstick(tao, [yardstick], 200_000) if yardstick else []
     return {"growth": growth, "held": held}
 

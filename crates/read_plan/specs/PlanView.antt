@@ -13,6 +13,7 @@ reading_seen p = record {
   follower = p.follower;
   ask = p.ask;
   bound = p.bound;
+  by = p.by;
   at = p.at;
   hops = p.hops;
   store = p.store;

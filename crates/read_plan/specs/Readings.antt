@@ -1,5 +1,5 @@
 -- How contracts see a read that is under way.
-use Rattle.std.specs.Prelude.{ℕ, ⊤, Bool, true, false, ◌||◌, Option, None}
+use Rattle.std.specs.Prelude.{ℕ, ⊤, Bool, true, false, ◌||◌, Option, Some, None}
 use Rattle.tao_base.specs.declared.query.Query.{Query}
 use Rattle.hop_count.specs.Hops.{hops_after}
 use Rattle.node_name.specs.declared.NodeName.{NodeName}
@@ -9,7 +9,7 @@ use Rattle.read_plan.specs.declared.standing.Standing.{Standing}
 use Rattle.read_plan.specs.declared.standing.Standing.TheVariants.{Looking, Asking, Mastering, Keeping, Ended}
 
 -- a read: what it asks, from which tier, with which floor and at which follower; the ask that it opened, and the bound of the type that
--- it reads; where it stands, and what its stages have cost
+-- it reads; who gave it what it is to keep; where it stands, and what its stages have cost
 pub record Reading : Type 0 where
   pub query : Query
   pub region : ℕ
@@ -19,6 +19,7 @@ pub record Reading : Type 0 where
   pub follower : NodeName
   pub ask : Option ℕ
   pub bound : ℕ
+  pub by : Option NodeName
   pub at : Standing
   pub hops : ℕ
   pub store : Bool
@@ -34,6 +35,7 @@ new_reading query region tier floor critical follower = record {
   follower = follower;
   ask = None;
   bound = 0;
+  by = None;
   at = Looking;
   hops = 0;
   store = false;
@@ -43,6 +45,10 @@ new_reading query region tier floor critical follower = record {
 abbrev pub taken : ReadResult → ℕ → Bool → Reading → Reading
 taken outcome hops store p =
     record p { at = standing_after p.critical p.bound p.at outcome; hops = hops_after p.hops hops; store = p.store || store }
+
+-- a read that the node gives what it is to keep
+abbrev pub given_by : NodeName → Reading → Reading
+given_by node p = record p { by = Some node }
 
 -- a read whose fill is handed out
 abbrev pub fill_handed : Reading → Reading

@@ -6,6 +6,7 @@ use Rattle.cache_items.specs.declared.look.Look.{Look}
 use Rattle.cache_items.specs.declared.look.Look.TheVariants.{Hit, Miss}
 use Rattle.replies.specs.declared.nodes.KeptOrNot.TheVariants.{Kept}
 use Rattle.replies.specs.declared.plans.Stage.{Stage}
+use Rattle.replies.specs.declared.reply.Reply.{Reply}
 use Rattle.replies.specs.declared.plans.Stage.TheVariants as named
 use Rattle.sealed_item.specs.Fills.{SealedItem}
 use Rattle.shard_log.specs.View.{View}
@@ -46,6 +47,14 @@ stage_named stage.Ask = Some named.Ask
 stage_named stage.Master = Some named.Master
 stage_named stage.Keep = Some named.Keep
 stage_named stage.Done = None
+
+-- the stage is refused with the reply; a read that is over takes it as one of its last stage
+abbrev pub read_refused : ReadStage → Reply → ReadResult
+read_refused stage.Look reply = came.Look (Err reply)
+read_refused stage.Ask reply = came.Ask (Err reply)
+read_refused stage.Master reply = came.Master (Err reply)
+read_refused stage.Keep reply = came.Keep (Err reply)
+read_refused stage.Done reply = came.Keep (Err reply)
 
 -- a fill was given, handed out or not
 abbrev pub is_fill : Given → Bool

@@ -29,6 +29,7 @@ pub struct ReadPlan {
     follower: NodeName,
     ask: Option<AskNo>,
     bound: u64,
+    by: Option<NodeName>,
     at: Standing,
     hops: u64,
     store: bool,
@@ -47,7 +48,7 @@ impl Model for ReadPlan {
 
 impl ReadPlan {
     ghost use Rattle.read_plan.specs.Ends.{EndsWith};
-    ghost use Rattle.read_plan.specs.Readings.{NeverAsks, fill_handed, new_reading, note_handed, taken};
+    ghost use Rattle.read_plan.specs.Readings.{NeverAsks, fill_handed, given_by, new_reading, note_handed, taken};
     ghost use Rattle.read_plan.specs.Standings.{IsAnsweredFrom, came_of, fill_of, has_fill, standing_note, stage_of};
 
     /// A read that is begun: its query, the region and tier that it is asked from, by their places, its floor, whether it is
@@ -71,6 +72,7 @@ impl ReadPlan {
             follower,
             ask: None,
             bound: 0,
+            by: None,
             at: Standing::Looking,
             hops: 0,
             store: false,
@@ -137,6 +139,20 @@ impl ReadPlan {
         ensures { self.new ≡ record self.old { ask = ask } }
     {
         self.ask = ask;
+    }
+
+    /// Who gave what the follower is to keep; none before anything was given.
+    pub fn by(&self) -> Option<NodeName>
+        ensures { result ≡ self.now.by }
+    {
+        self.by
+    }
+
+    /// Notes who gives the read what its follower is to keep.
+    pub fn set_by(&mut self, node: NodeName)
+        ensures { self.new ≡ given_by node self.old }
+    {
+        self.by = Some(node);
     }
 
     /// Notes how many edges of a list of the query's type are kept at most, for the reply to an answer past it.

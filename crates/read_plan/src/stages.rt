@@ -21,7 +21,7 @@ pub enum ReadStage {
 
 impl ReadStage {
     ghost use Rattle.std.specs.Prelude.{◌≡◌};
-    ghost use Rattle.read_plan.specs.Standings.{stage_named};
+    ghost use Rattle.read_plan.specs.Standings.{read_refused, stage_named};
 
     /// The stage's name in replies; none exactly where no stage is left.
     pub fn name(self) -> Option<Stage>
@@ -33,6 +33,18 @@ impl ReadStage {
             ReadStage::Master => Some(Stage::Master),
             ReadStage::Keep => Some(Stage::Keep),
             ReadStage::Done => None,
+        }
+    }
+
+    /// What the stage comes to where the read is refused with that reply; one that is over takes it as of its last stage.
+    pub fn refused(self, reply: Reply) -> ReadResult
+        ensures { result ≡ read_refused self reply }
+    {
+        match self {
+            ReadStage::Look => ReadResult::Look(Err(reply)),
+            ReadStage::Ask => ReadResult::Ask(Err(reply)),
+            ReadStage::Master => ReadResult::Master(Err(reply)),
+            ReadStage::Keep | ReadStage::Done => ReadResult::Keep(Err(reply)),
         }
     }
 }

@@ -1,7 +1,9 @@
 -- Which stage a result comes of, and how a reply tells a stage.
-use Rattle.std.specs.Prelude.{Option, Some, None}
+use Rattle.std.specs.Prelude.{Option, Some, None, Err}
 use Rattle.replies.specs.declared.plans.Stage.{Stage}
 use Rattle.replies.specs.declared.plans.Stage.TheVariants as told
+use Rattle.replies.specs.declared.reply.Reply.{Reply}
+use Rattle.write_plan.specs.declared.results.LeftOpen.TheVariants.{Refused}
 use Rattle.write_plan.specs.declared.results.WriteResult.{WriteResult}
 use Rattle.write_plan.specs.declared.results.WriteResult.TheVariants as came
 use Rattle.write_plan.specs.declared.stage.WriteStage.{WriteStage}
@@ -23,3 +25,12 @@ result_stage (came.Inverse answer) = Inverse
 result_stage (came.End answer) = End
 result_stage (came.Relay answer) = Relay
 result_stage (came.Apply answer) = Apply
+
+-- the stage is refused with the reply; a write that is done takes it as one of its last stage
+abbrev pub write_refused : WriteStage → Reply → WriteResult
+write_refused Commit reply = came.Commit (Err reply)
+write_refused Inverse reply = came.Inverse (Err (Refused reply))
+write_refused End reply = came.End (Err (Refused reply))
+write_refused Relay reply = came.Relay (Err reply)
+write_refused Apply reply = came.Apply (Err reply)
+write_refused Done reply = came.Apply (Err reply)

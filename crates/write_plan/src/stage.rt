@@ -1,8 +1,9 @@
 //! The stages of a write.
 ghost use Rattle.std.specs.Prelude.{◌≡◌};
-ghost use Rattle.write_plan.specs.Stages.{stage_said};
+ghost use Rattle.write_plan.specs.Stages.{stage_said, write_refused};
 
-use replies::Stage;
+use crate::results::{LeftOpen, WriteResult};
+use replies::{Reply, Stage};
 
 /// A stage of a write, in the order in which they follow.
 #[derive(Clone, Copy, Debug, PartialEq, Eq)]
@@ -33,6 +34,19 @@ impl WriteStage {
             WriteStage::Relay => Some(Stage::Relay),
             WriteStage::Apply => Some(Stage::Apply),
             WriteStage::Done => None,
+        }
+    }
+
+    /// What the stage comes to where the write is refused with that reply; one that is done takes it as of its last stage.
+    pub fn refused(self, reply: Reply) -> WriteResult
+        ensures { result ≡ write_refused self reply }
+    {
+        match self {
+            WriteStage::Commit => WriteResult::Commit(Err(reply)),
+            WriteStage::Inverse => WriteResult::Inverse(Err(LeftOpen::Refused(reply))),
+            WriteStage::End => WriteResult::End(Err(LeftOpen::Refused(reply))),
+            WriteStage::Relay => WriteResult::Relay(Err(reply)),
+            WriteStage::Apply | WriteStage::Done => WriteResult::Apply(Err(reply)),
         }
     }
 }

@@ -13,6 +13,7 @@ use Rattle.graph_model.specs.Log.{version}
 use Rattle.graph_model.specs.Told.{WhereTold}
 use Rattle.leader_tier.specs.LeaderReads.{at_floor}
 use Rattle.node_name.specs.declared.NodeName.{NodeName}
+use Rattle.node_name.specs.declared.NodeName.TheVariants.{Store as StoreName_, Leader, Follower}
 use Rattle.sealed_item.specs.Decided.{content_decides}
 use Rattle.shard_tables.specs.ReadOuts.{IsReadOutOf}
 use Rattle.shard_tables.specs.StoreView.{Store}
@@ -34,13 +35,14 @@ use Rattle.core_model.specs.Consistent.{IsConsistent}
 use Rattle.core_model.proofs.FoundStores.{stores_are_found}
 use Rattle.core_model.specs.Fleet.{ChangesNode, Fleet, region_of}
 use Rattle.core_model.specs.Pens.{store_in}
-use Rattle.core_model.specs.Reads.{LeaderAnswers, LooksFirst, Wanted, store_calls}
+use Rattle.core_model.specs.Reads.{LeaderAnswers, LooksFirst, StoreAnswers, Wanted, store_calls}
 use Rattle.core_model.specs.States.{AreSettled, nodes_now}
 use Rattle.core_model.specs.Stores.{IsConfiguredStore, master_log, region_store, store_place}
 use Rattle.core_model.specs.declared.named.Named.{Named}
 use Rattle.core_nodes.specs.Ends.{AllHoldLast, HoldsLast}
 use Rattle.core_nodes.proofs.CaughtUp.{nodes_catch_up}
-use Rattle.core_steps.specs.Reads.{leader_calls}
+use Rattle.core_steps.specs.Reads.{AnswersThere, leader_calls}
+use Rattle.core_steps.specs.World.{World}
 
 -- ---- the item of which a node answered
 
@@ -130,9 +132,27 @@ module _ (s : Settings) (read : Wanted) (keepers : KeeperState) (f : Fleet) (sta
         subst (GivesLast read.floor (version log (query_key read.query))) (sym reads.given_is) of_read
   ]
 
+  -- the answer of a region's store
+  pub store_last : (region : ℕ) (given : LeaderAnswer) (after : KeeperState) → StoreAnswers types read given (store_calls region f.stores keepers after)
+      → GivesLast read.floor (version log (query_key read.query)) given
+  store_last region given after does =
+      let of_read = read_last types log read.query read.floor does.out (of_log region does.reads.store does.out does.reads.stands does.reads.reads) in
+      subst (GivesLast read.floor (version log (query_key read.query))) (sym does.given_is) of_read
+
   -- the answer of a leader that is up
   pub given_last : (name : NodeName) (given : LeaderAnswer) (after : KeeperState) (new : List (Named Node)) → is_up states name ≡ true
       → ChangesNode name (LeaderAnswers types read given (leader_calls name f.stores keepers after)) f.leaders new
       → GivesLast read.floor (version log (query_key read.query)) given
   given_last name given after new up change =
       answers_last (region_of name) given after change.from change.to (held_last.leaders change.place name change.from change.stands up) change.by
+
+-- the answer of who was asked, and is up
+pub asked_last : (s : Settings) (read : Wanted) (states : NodeStates) (old new : World) (node : NodeName) (given : LeaderAnswer)
+    → IsConsistent true s old.keepers.told old.fleet → AreSettled s old.keepers.told (nodes_now old.fleet states) → is_up states node ≡ true
+    → AnswersThere (types_of s.schema) node read given old new
+    → GivesLast read.floor (version (master_log s old.keepers.told (query_shard read.query)) (query_key read.query)) given
+asked_last s read states old new (Leader region index) given are settled up does =
+    given_last s read old.keepers old.fleet states are settled (Leader region index) given new.keepers new.fleet.leaders up does
+asked_last s read states old new (StoreName_ at) given are settled up does =
+    store_last s read old.keepers old.fleet states are settled at.region given new.keepers does.0
+asked_last s read states old new (Follower region tier index) given are settled up does = absurd does

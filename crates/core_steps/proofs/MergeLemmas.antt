@@ -13,9 +13,7 @@ use Rattle.tao_keeper.specs.Table.{Changes, Table, Tables, after_end}
 use Rattle.tao_keeper.specs.declared.jobs.Job.{Job}
 use Rattle.tao_link.specs.Shown.{LinkShown, after_carry}
 use Rattle.tao_link.specs.declared.link.LinkFailed.{LinkFailed}
-use Rattle.topology.specs.Choices.{master_region, preferred_leader}
 use Rattle.topology.specs.Config.{Settings}
-use Rattle.topology.specs.States.{NodeStates}
 use Rattle.write_plan.specs.declared.results.LeftOpen.{LeftOpen}
 use Rattle.write_plan.specs.declared.results.LeftOpen.TheVariants.{Scheduled}
 use Rattle.core_model.specs.Growing.{StoresGrow}
@@ -23,8 +21,8 @@ use Rattle.core_model.specs.Jobs.{CanBeMerged, IsOwedJob, job_on}
 use Rattle.core_model.specs.Stores.{HaveMasterRegions, master_store}
 use Rattle.core_nodes.proofs.GrowingLemmas.{becomes_stores}
 use Rattle.core_steps.specs.MergeAnswers.{RefusesMerge, merge_answer, why_open}
-use Rattle.core_steps.specs.OtherEnds.{Crosses, FailsToCross, GoesBetween, JobWay, LeavesJob}
-use Rattle.core_steps.specs.OtherEnds.{MayComeBack, MergesOver, TakesMerge, master_leader, merging_leader}
+use Rattle.core_steps.specs.OtherEnds.{Crosses, FailsToCross, GoesBetween, JobWay, LeavesJob, MayComeBack, MergesAlong, MergesBy, MergesOver, SentJob}
+use Rattle.core_steps.specs.OtherEnds.{TakesMerge, merging_leader}
 use Rattle.core_steps.specs.Posting.{ChangesNoNode}
 use Rattle.core_steps.specs.World.{World}
 use Rattle.core_steps.specs.Routes.{FailsCarry}
@@ -42,14 +40,6 @@ module _ (from to : NodeName) (old mid new : LinkShown) where
   fails_back (inl here) back = absurd (back.0 (sym here.0))
   fails_back (inr there) back = (there.0, subst (λ l. FailsCarry to from l new) there.1 back.1)
 
--- ---- who merges
-
--- the leader that the master's region prefers is the one that merges
-pub master_prefers : (states : NodeStates) (shard far region : ℕ) (leader : NodeName) → far ≡ shard → region ≡ master_region states far
-    → leader ≡ preferred_leader states region far → leader ≡ master_leader states shard
-master_prefers states shard far region leader far_is region_is is =
-    subst (λ n. leader ≡ master_leader states n) far_is (is ∙ ap (λ r. preferred_leader states r far) region_is)
-
 -- ---- what a commit owes can be merged
 
 pub can_merge : (tells : Bool) (s : Settings) (tables : Tables) (shard : ℕ) (job : Option Job) → IfSome job IsGivenJob
@@ -59,19 +49,15 @@ can_merge tells s tables shard (Some job) given owed = record { given = given; o
 
 -- ---- a merge over the link
 
-module _ (tells : Bool) (s : Settings) (way : JobWay) (old new : World) (mid : LinkShown) (to : NodeName) (to_is : to ≡ merging_leader old.states way)
-    (there : Crosses way.leader to old.link mid) where
+module _ (tells : Bool) (s : Settings) (way : JobWay) (old new : World) (mid : LinkShown) (there : Crosses way.leader way.merging old.link mid) where
   -- how the carry back went, after a merge that was refused
-  may_come_back : (back : Result ⊤ LinkFailed) → OnOk back (Crosses to way.leader mid new.link)
-      → OnErr back (FailsToCross to way.leader mid new.link)
-      → MayComeBack way.leader (merging_leader old.states way) old.link new.link
-  may_come_back (Ok done) crosses fails = subst (λ n. MayComeBack way.leader n old.link new.link) to_is
-      (inl (goes_between way.leader to old.link mid new.link there crosses))
-  may_come_back (Err lost) crosses fails = subst (λ n. MayComeBack way.leader n old.link new.link) to_is
-      (inr (fails_back way.leader to old.link mid new.link there fails))
+  may_come_back : (back : Result ⊤ LinkFailed) → OnOk back (Crosses way.merging way.leader mid new.link)
+      → OnErr back (FailsToCross way.merging way.leader mid new.link) → MayComeBack way.leader way.merging old.link new.link
+  may_come_back (Ok done) crosses fails = inl (goes_between way.leader way.merging old.link mid new.link there crosses)
+  may_come_back (Err lost) crosses fails = inr (fails_back way.leader way.merging old.link mid new.link there fails)
 
   late_merge : (r : StoreRefusal) → RefusesMerge tells s way.job r old.keepers new.keepers → ChangesNoNode tells old new
-      → MayComeBack way.leader (merging_leader old.states way) old.link new.link → LeavesJob tells s way (Scheduled (why_open r) None) old new
+      → MayComeBack way.leader way.merging old.link new.link → LeavesJob tells s way (Scheduled (why_open r) None) old new
   late_merge KeeperFault cause same back = (cause, same, back)
   late_merge (LogFull count) cause same back = ((λ told. (count, cause told)), same, back)
   late_merge OutOfMemory cause same back = (same, back)
@@ -81,29 +67,26 @@ module _ (tells : Bool) (s : Settings) (way : JobWay) (old new : World) (mid : L
 
   answered : (merged : Result Wrote StoreRefusal) (back : Result ⊤ LinkFailed) → IfOk merged (λ wrote. TakesMerge tells s way wrote old new)
       → IfErr merged (λ r. RefusesMerge tells s way.job r old.keepers new.keepers) → OnErr merged (ChangesNoNode tells old new)
-      → OnOk back (Crosses to way.leader mid new.link) → OnErr back (FailsToCross to way.leader mid new.link)
-      → MergesOver tells s way (merge_answer merged back) old new
-  answered (Ok wrote) (Ok done) takes refuses same crosses fails = (
-    takes,
-    subst (λ n. GoesBetween way.leader n old.link new.link) to_is
-        (goes_between way.leader to old.link mid new.link there crosses),
-  )
+      → OnOk back (Crosses way.merging way.leader mid new.link) → OnErr back (FailsToCross way.merging way.leader mid new.link)
+      → MergesAlong tells s way (merge_answer merged back) old new
+  answered (Ok wrote) (Ok done) takes refuses same crosses fails =
+      (takes, goes_between way.leader way.merging old.link mid new.link there crosses)
   answered (Ok wrote) (Err lost) takes refuses same crosses fails =
-      let back : (way.leader ≢ merging_leader old.states way)
-      × FailsCarry (merging_leader old.states way) way.leader (after_carry old.link) new.link =
-      subst (λ n. (way.leader ≢ n) × FailsCarry n way.leader (after_carry old.link) new.link) to_is
-      (fails_back way.leader to old.link mid new.link there fails) in
-      (back.0, back.1, takes)
-  answered (Err r) back takes refuses same crosses fails =
-      late_merge r refuses same (may_come_back back crosses fails)
+      let back = fails_back way.leader way.merging old.link mid new.link there fails in (back.0, back.1, takes)
+  answered (Err r) back takes refuses same crosses fails = late_merge r refuses same (may_come_back back crosses fails)
 
-  pub merges_over : (result : Result Wrote LeftOpen) (merged : Result Wrote StoreRefusal) (back : Result ⊤ LinkFailed) → result ≡ merge_answer merged back
+  pub merges_along : (result : Result Wrote LeftOpen) (merged : Result Wrote StoreRefusal) (back : Result ⊤ LinkFailed) → result ≡ merge_answer merged back
       → IfOk merged (λ wrote. TakesMerge tells s way wrote old new)
       → IfErr merged (λ r. RefusesMerge tells s way.job r old.keepers new.keepers) → OnErr merged (ChangesNoNode tells old new)
-      → OnOk back (Crosses to way.leader mid new.link) → OnErr back (FailsToCross to way.leader mid new.link)
-      → MergesOver tells s way result old new
-  merges_over result merged back is takes refuses same crosses fails =
-      subst (λ r. MergesOver tells s way r old new) (sym is) (answered merged back takes refuses same crosses fails)
+      → OnOk back (Crosses way.merging way.leader mid new.link) → OnErr back (FailsToCross way.merging way.leader mid new.link)
+      → MergesAlong tells s way result old new
+  merges_along result merged back is takes refuses same crosses fails =
+      subst (λ r. MergesAlong tells s way r old new) (sym is) (answered merged back takes refuses same crosses fails)
+
+-- by the leader that was chosen
+pub merges_by : (tells : Bool) (s : Settings) (sent : SentJob) (chosen : Option NodeName) (result : Result Wrote LeftOpen) (old new : World)
+    → chosen ≡ merging_leader s old.states sent → MergesBy tells s chosen sent result old new → MergesOver tells s sent result old new
+merges_by tells s sent chosen result old new is by = subst (λ c. MergesBy tells s c sent result old new) is by
 
 -- ---- the end
 

@@ -1,8 +1,9 @@
 -- Who is told of what was written, and that the stores of their regions have come to it.
 use Rattle.std.proofs.Common.{◌≡◌, ℕ, ◌≤◌, ◌<◌, ◌%◌, ◌++◌, Bool, true, false, List, [], ◌∷◌, Option, Some, None, IfSome, ap, sym, subst, ◌∙◌, arith, refl}
+use Rattle.std.proofs.lemmas.Bool.{ltb-true}
 use Rattle.std.proofs.lemmas.List.Elements.{Contains-append_left}
 use Rattle.std.proofs.lemmas.Option.{unwrap_or-slice_get}
-use Rattle.std.specs.Prelude.{Contains, IsTrue, filter, if◌then◌else◌, length, slice_index}
+use Rattle.std.specs.Prelude.{Contains, IsTrue, filter, if◌then◌else◌, length, nat_lt, slice_index}
 use Rattle.graph_model.specs.Log.{entry_at}
 use Rattle.graph_model.specs.Told.{WhereTold}
 use Rattle.maint_msg.specs.Maints.{SeenMaint}
@@ -13,7 +14,7 @@ use Rattle.shard_tables.specs.Written.{StandsIn}
 use Rattle.tao_base.specs.declared.entry.Entry.{Entry}
 use Rattle.tao_keeper.specs.Growing.{LogsGrow}
 use Rattle.tao_keeper.specs.Table.{Tables}
-use Rattle.topology.specs.Choices.{master_region, preferred_leader}
+use Rattle.topology.specs.Choices.{chosen_leader, master_region, preferred_leader}
 use Rattle.topology.specs.Config.{Settings}
 use Rattle.topology.specs.Counts.{NodeCounts, leader_count}
 use Rattle.topology.specs.States.{NodeStates, is_cache, is_up}
@@ -30,8 +31,10 @@ use Rattle.core_model.specs.Serving.{IsLeaderFor, IsLeaderIn}
 use Rattle.core_model.specs.States.{AreStatesOf}
 use Rattle.core_model.specs.Stores.{AreStoresOf, HaveMasterRegions, master_log, master_of, store_length}
 use Rattle.core_steps.proofs.ReadLemmas.{log_is}
+use Rattle.core_steps.specs.OtherEnds.{master_leader}
 use Rattle.core_steps.specs.Posting.{NotifiesOfNew}
 use Rattle.core_steps.specs.Writes.{new_entry}
+use Rattle.core_steps.specs.declared.routes.TierPlace.{TierPlace}
 
 -- ---- the preferred leader of the master's region
 
@@ -55,17 +58,35 @@ leads_in s states region shard leader own is cache =
     subst (λ (rs : List NodeCounts). IsTrue (is_cache rs (Leader region index))) own (subst (λ n. IsTrue (is_cache states.regions n)) is cache) in
     subst (IsLeaderIn s region) (sym is) (record { index = index; name_is = refl; configured = named_leader s region index known })
 
--- so of the region of the shard's master
-pub merges_in : (s : Settings) (states : NodeStates) (region shard : ℕ) (leader : NodeName) → AreStatesOf s states → region ≡ master_region states shard
-    → leader ≡ preferred_leader states region shard → IsTrue (is_cache states.regions leader) → IsLeaderIn s (master_of s shard) leader
-merges_in s states region shard leader of region_is is cache =
-    subst (λ r. IsLeaderIn s r leader) (region_is ∙ master_is s states shard of.masters) (leads_in s states region shard leader of.regions is cache)
-
 -- and has an inbox
 pub leader_has : (s : Settings) (shard : ℕ) (leader : NodeName) (inboxes : Inboxes) → node_names inboxes ≡ cache_names s → IsLeaderFor s shard leader
     → HasNode leader inboxes
 leader_has s shard leader inboxes names leads =
     subst (λ l. Contains l leader) (sym names) (Contains-append_left (leader_names s) (follower_names s) leader leads.configured)
+
+-- ---- the leader that is chosen where the shard's master is
+
+-- the shard is configured, and the leader is one of the master's region, and up
+pub record LeadsAtMaster (s : Settings) (states : NodeStates) (shard : ℕ) (leader : NodeName) : Type 0 where
+  pub here : shard < s.shards
+  pub leads : IsLeaderIn s (master_of s shard) leader
+  pub up : is_up states leader ≡ true
+
+chosen_within : (here : Bool) (found : Option NodeName) (leader : NodeName) → (if here then found else None) ≡ Some leader
+    → (here ≡ true) × (found ≡ Some leader)
+chosen_within true found leader is = (refl, is)
+chosen_within false found leader is = absurd (cc)
+
+pub chosen_leads : (s : Settings) (states : NodeStates) (by : TierPlace) (shard : ℕ) (leader : NodeName) → AreStatesOf s states
+    → master_leader s states by shard ≡ Some leader → LeadsAtMaster s states shard leader
+chosen_leads s states by shard leader of chosen =
+    let found = chosen_within (nat_lt shard s.shards) (chosen_leader states (by.region, by.tier) (master_region states shard) shard) leader chosen in
+    let serves = (choices_serve s states).stand_in (by.region, by.tier) (master_region states shard) shard leader of.regions found.1 in
+    record {
+      here = ltb-true shard s.shards found.0;
+      leads = subst (λ r. IsLeaderIn s r leader) (master_is s states shard of.masters) serves.0;
+      up = serves.1;
+    }
 
 -- ---- messages that are sent
 

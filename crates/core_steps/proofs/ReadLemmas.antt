@@ -1,5 +1,7 @@
 -- What the stages of a read keep, and what the log of its shard is.
-use Rattle.std.proofs.Common.{◌≡◌, ℕ, ◌<◌, Bool, List, ap, sym, ◌∙◌, subst}
+use Rattle.std.proofs.Common.{◌≡◌, ℕ, ◌≤◌, ◌<◌, Bool, List, ap, sym, ◌∙◌, subst, inl, inr}
+use Rattle.std.proofs.lemmas.Bool.{cases_Bool, ltb-false, ltb-true}
+use Rattle.std.specs.Prelude.{nat_lt}
 use Rattle.core_model.proofs.AsksOn.{asks_go_on}
 use Rattle.core_model.proofs.FoundStores.{master_found, named_stands}
 use Rattle.core_model.proofs.MarkingOn.{marks_go_on}
@@ -7,18 +9,22 @@ use Rattle.core_model.proofs.NamedNodes.{each_on}
 use Rattle.core_model.specs.Asks.{AsksGoOn}
 use Rattle.core_model.specs.Consistent.{GoesOn, HaveReached, IsConsistent, IsFleetOf, MarksGoOn}
 use Rattle.core_model.specs.Fleet.{Fleet}
-use Rattle.core_model.specs.Pens.{pens_of, view_or_none}
+use Rattle.core_model.specs.Pens.{Pens, pens_of, view_or_none}
+use Rattle.core_model.specs.Reads.{IsGivenAnswer, given_of, wanted}
 use Rattle.core_model.specs.Stores.{AreStoresOf, HaveMasterRegions, IsConfiguredStore, master_log, master_store, store_place}
 use Rattle.core_nodes.proofs.FleetLemmas.{goes_self}
 use Rattle.core_nodes.specs.Settling.{IsLaterLink}
 use Rattle.follower_cache.specs.Seen.{FollowerState}
 use Rattle.graph_model.specs.Legal.{IsLegal}
 use Rattle.graph_model.specs.Told.{WhereTold}
+use Rattle.leader_tier.specs.LeaderReads.{at_floor}
 use Rattle.shard_log.proofs.GrowthLemmas.{grows-trans}
 use Rattle.shard_log.specs.GrowthLaws.{IsLegalIn}
 use Rattle.shard_log.specs.View.{View}
 use Rattle.shard_tables.specs.StoreView.{Store}
 use Rattle.shard_tables.specs.Stores.{HasSeen}
+use Rattle.shard_tables.specs.declared.read_out.ReadOut.{ReadOut}
+use Rattle.shard_tables.specs.declared.read_out.ReadOut.TheVariants as store
 use Rattle.shard_tables.specs.declared.store.StoreRole.TheVariants.{Master}
 use Rattle.tao_base.specs.EdgeTypes.{EdgeTypes}
 use Rattle.tao_base.specs.declared.entry.Entry.{Entry}
@@ -110,3 +116,21 @@ pub legal_in_log : (tells : Bool) (s : Settings) (tables : Tables) (stores : Lis
 legal_in_log tells s tables stores shard types query floor answer version regions are here is told =
     let log = log_is tells s tables stores shard regions are here in
     subst (λ (l : List Entry). IsLegal types l query floor answer version) (log.entries_is told) (is (log.told_is ∙ told))
+
+-- ---- what a store gives in the place of a leader
+
+-- what was read is right with no floor, and so at the read's floor, or is told as behind
+pub right_at_floor : (types : EdgeTypes) (pens : Pens) (query : Query) (floor : ℕ) (out : ReadOut)
+    → IsGivenAnswer types pens (wanted query 0) (given_of out) → IsGivenAnswer types pens (wanted query floor) (at_floor floor out)
+right_at_floor types pens query floor (store.Filled fill) is = elim (cases_Bool (nat_lt fill.version floor)) [
+  | inl behind ↦ rw behind (ltb-true fill.version floor behind)
+  | inr reached ↦
+      let least : floor ≤ fill.version = ltb-false fill.version floor reached in
+      rw reached (record { key_is = is.key_is; decides = is.decides; within = is.within; reaches = λ told. least; seen = is.seen })
+]
+right_at_floor types pens query floor (store.Past answer version total note) is = elim (cases_Bool (nat_lt version floor)) [
+  | inl behind ↦ rw behind (ltb-true version floor behind)
+  | inr reached ↦
+      let least : floor ≤ version = ltb-false version floor reached in
+      rw reached ((λ told. let legal = is.0 told in record { n = legal.n; answers = legal.answers; version_is = legal.version_is; reached = least }), is.1)
+]

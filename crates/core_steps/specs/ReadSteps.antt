@@ -1,4 +1,4 @@
--- The stages of a read that its follower could not answer: a leader is asked, or the master's store.
+-- The stages of a read that its follower could not answer: a leader or its region's store is asked, or the master's store.
 use Rattle.std.specs.Prelude.{ℕ, ◌≡◌, ◌≤◌, ◌⊎◌, Bool}
 use Rattle.counts.specs.Count.{Rose}
 use Rattle.core_model.specs.Consistent.{GoesOn, IsConsistent}
@@ -21,7 +21,7 @@ use Rattle.tao_keeper.specs.KeeperState.{IsLater, KeeperState, KeepsTables}
 use Rattle.tao_link.specs.Shown.{after_carry}
 use Rattle.tao_schema.specs.Schema.{types_of}
 use Rattle.topology.specs.Config.{Settings}
-use Rattle.core_steps.specs.Reads.{AnswersAtLeader, LeaderGives, master_calls}
+use Rattle.core_steps.specs.Reads.{AnswersThere, GivesOver, master_calls}
 use Rattle.core_steps.specs.Routes.{FailsCarry, master_node, there_and_back}
 use Rattle.core_steps.specs.World.{World}
 use Rattle.core_steps.specs.declared.routes.Route.{Route}
@@ -66,27 +66,28 @@ pub record LosesAnswer (from to : NodeName) (refusal : Refusal) (old new : World
   pub told : refusal ≡ Store (LinkFault new.link.faults Before)
   pub carry : FailsCarry from to (after_carry old.link) new.link
 
--- ---- the leader
+-- ---- who is asked: a leader, or its region's store
 
 -- only a leader may have changed, and what the keepers and the link show
 abbrev pub ChangesLeaders : World → World → Type 0
 ChangesLeaders old new =
     new ≡ record old { fleet = record old.fleet { leaders = new.fleet.leaders }; keepers = new.keepers; link = new.link }
 
--- the leader answered, and that was carried back. Nothing else changed
+-- who was asked answered, and that was carried back. Nothing else changed
 pub record IsGivenOver (s : Settings) (route : Route) (read : Wanted) (given : LeaderAnswer) (old new : World) : Type 0 where
-  pub gives : LeaderGives (types_of s.schema) route read given old new
+  pub gives : GivesOver (types_of s.schema) route read given old new
   pub rest : ChangesLeaders old new
   pub given_is : IsGivenAnswer (types_of s.schema) (pens_of new.fleet.stores) read given
 
--- the leader answered, and its answer was lost on the way back. No other node changed
+-- who was asked answered, and the answer was lost on the way back. No other node changed
 pub record LosesGiven (s : Settings) (route : Route) (read : Wanted) (refusal : Refusal) (old new : World) : Type 0 where
   pub given : LeaderAnswer
-  pub asks : AnswersAtLeader (types_of s.schema) route.leader read given old new
+  pub asks : AnswersThere (types_of s.schema) route.leader read given old new
   pub lost : LosesAnswer route.leader route.follower refusal old new
   pub rest : ChangesLeaders old new
+  pub given_is : IsGivenAnswer (types_of s.schema) (pens_of new.fleet.stores) read given
 
--- why nothing was carried back: the question was lost, or the leader gave nothing, or its answer was lost
+-- why nothing was carried back: the question was lost, or who was asked gave nothing, or the answer was lost
 abbrev pub IsNotGiven : Settings → Route → Wanted → Refusal → World → World → Type 0
 IsNotGiven s route read refusal old new = LosesQuestion route.follower route.leader refusal old new
     ⊎ (GivesNothing refusal old new ⊎ LosesGiven s route read refusal old new)

@@ -1,16 +1,18 @@
--- What a read asks of a leader and of the master's store, and what its answer says of the log.
+-- What a read asks of a leader, of its region's store or of the master's, and what its answer says of the log.
 use Rattle.std.specs.Prelude.{ℕ, ◌≡◌, ◌≤◌, Bool, List, Some, slice_get}
 use Rattle.cache_items.specs.Look.{look_of}
 use Rattle.cache_items.specs.Node.{item_at}
 use Rattle.cache_items.specs.declared.look.Look.TheVariants.{Hit}
 use Rattle.core_model.specs.Fleet.{ChangesNode, IsFirstAt, named, region_of}
-use Rattle.core_model.specs.Reads.{LeaderAnswers, StoreCalls, Wanted, store_calls}
-use Rattle.core_model.specs.Stores.{master_log, master_of}
+use Rattle.core_model.specs.Reads.{LeaderAnswers, StoreAnswers, StoreCalls, Wanted, store_calls}
+use Rattle.core_model.specs.Serving.{IsLeaderFor}
+use Rattle.core_model.specs.Stores.{IsConfiguredStore, master_log, master_of}
 use Rattle.core_model.specs.declared.named.Named.{Named}
 use Rattle.follower_cache.specs.Seen.{FollowerState}
 use Rattle.graph_model.specs.Legal.{IsLegal}
 use Rattle.graph_model.specs.Told.{WhereTold}
 use Rattle.node_name.specs.declared.NodeName.{NodeName}
+use Rattle.node_name.specs.declared.NodeName.TheVariants.{Store as StoreName_, Leader, Follower}
 use Rattle.replies.specs.declared.calls.ReadReply.{ReadReply}
 use Rattle.shard_tables.specs.StoreView.{Store as StoreSeen}
 use Rattle.shard_tables.specs.declared.leader_answer.LeaderAnswer.{LeaderAnswer}
@@ -32,14 +34,24 @@ leader_calls leader stores before after = store_calls (region_of leader) stores 
 abbrev pub master_calls : Settings → Query → List StoreSeen → KeeperState → KeeperState → StoreCalls
 master_calls s query stores before after = store_calls (master_of s (query_shard query)) stores before after
 
--- the leader answered of an item of its own or of its region's store
-abbrev pub AnswersAtLeader : EdgeTypes → NodeName → Wanted → LeaderAnswer → World → World → Type 0
-AnswersAtLeader types leader read given old new =
-    ChangesNode leader (LeaderAnswers types read given (leader_calls leader old.fleet.stores old.keepers new.keepers)) old.fleet.leaders new.fleet.leaders
+-- the node may be asked about the shard: a leader of the configuration that serves it, or a region's store of it
+abbrev pub MayBeAsked : Settings → ℕ → NodeName → Type 0
+MayBeAsked s shard (Leader region index) = IsLeaderFor s shard (Leader region index)
+MayBeAsked s shard (StoreName_ at) = IsConfiguredStore s at × (at.shard ≡ shard)
+MayBeAsked s shard (Follower region tier index) = ⊥
 
--- the leader gave it, by one carry there and one back
-pub record LeaderGives (types : EdgeTypes) (route : Route) (read : Wanted) (given : LeaderAnswer) (old new : World) : Type 0 where
-  pub asks : AnswersAtLeader types route.leader read given old new
+-- who was asked answered: a leader of an item of its own or of its region's store; and where no leader may be asked that store itself, at the read's floor,
+-- and then no leader changes
+abbrev pub AnswersThere : EdgeTypes → NodeName → Wanted → LeaderAnswer → World → World → Type 0
+AnswersThere types (Leader region index) read given old new = ChangesNode (Leader region index)
+    (LeaderAnswers types read given (leader_calls (Leader region index) old.fleet.stores old.keepers new.keepers)) old.fleet.leaders new.fleet.leaders
+AnswersThere types (StoreName_ at) read given old new =
+    StoreAnswers types read given (store_calls at.region old.fleet.stores old.keepers new.keepers) × (new.fleet.leaders ≡ old.fleet.leaders)
+AnswersThere types (Follower region tier index) read given old new = ⊥
+
+-- who was asked gave it, by one carry there and one back
+pub record GivesOver (types : EdgeTypes) (route : Route) (read : Wanted) (given : LeaderAnswer) (old new : World) : Type 0 where
+  pub asks : AnswersThere types route.leader read given old new
   pub link : new.link ≡ there_and_back old.link
 
 -- the first follower of that name holds an item that answers the query so, with each floor that its version has

@@ -1,15 +1,17 @@
-//! What a follower is given that could not answer: by a leader, or by the master's store.
+//! What a follower is given that could not answer: by a leader or its region's store, or by the master's store.
 ghost use Rattle.std.specs.Prelude.{ℕ, ◌≡◌, ◌<◌, IfErr, IfOk, OnErr, OnOk};
 ghost use Rattle.core_model.specs.Asked.{lent_read};
 ghost use Rattle.core_model.specs.Consistent.{GoesOn, IsConsistent};
 ghost use Rattle.core_model.specs.Fleet.{ChangesNode};
 ghost use Rattle.core_model.specs.Pens.{pens_of};
-ghost use Rattle.core_model.specs.Reads.{IsGivenAnswer, LeaderAnswers, StoreReads, given_of, wanted};
+ghost use Rattle.core_model.specs.Reads.{IsGivenAnswer, LeaderAnswers, StoreAnswers, StoreReads, given_of, store_calls, wanted};
 ghost use Rattle.core_model.specs.Serving.{IsLeaderFor};
+ghost use Rattle.core_model.specs.Stores.{IsConfiguredStore, region_store};
 ghost use Rattle.core_steps.specs.ReadSteps.{AskFails, IsGivenOver, IsNotGiven, IsNotRead, IsReached, IsReadOver, ReadsOn};
-ghost use Rattle.core_steps.specs.Reads.{leader_calls, master_calls};
+ghost use Rattle.core_steps.specs.Reads.{AnswersThere, MayBeAsked, leader_calls, master_calls};
 ghost use Rattle.core_steps.specs.Routes.{FailsCarry};
 ghost use Rattle.core_steps.specs.World.{world};
+ghost use Rattle.leader_tier.specs.LeaderReads.{at_floor};
 ghost use Rattle.tao_base.specs.Queries.{query_shard};
 ghost use Rattle.tao_keeper.specs.KeeperState.{IsLater, KeepsTables};
 ghost use Rattle.tao_link.specs.Shown.{after_carry};
@@ -40,9 +42,71 @@ pub(crate) fn carried<L: Link>(link: &mut L, from: NodeName, to: NodeName) -> Re
     }
 }
 
+/// What a store read, where it has come to the floor, and else the version that it has.
+fn at_floor(floor: u64, out: ReadOut) -> LeaderAnswer
+    ensures { result ≡ at_floor floor out }
+{
+    match out {
+        ReadOut::Filled(fill) => {
+            let version = fill.version();
+            if version < floor {
+                drop(fill);
+                return LeaderAnswer::Behind { version };
+            }
+            LeaderAnswer::Filled(fill)
+        }
+        ReadOut::Past {
+            answer,
+            version,
+            total,
+            note,
+        } => {
+            if version < floor {
+                drop(answer);
+                drop(note);
+                return LeaderAnswer::Behind { version };
+            }
+            LeaderAnswer::Past {
+                answer,
+                version,
+                total,
+                note,
+            }
+        }
+    }
+}
+
 impl Nodes {
-    /// What the leader gives.
-    fn asked<K: Keeper>(
+    /// What a region's store gives in the place of a leader that may not be asked.
+    fn asked_of_store<K: Keeper>(
+        &mut self,
+        config: &Config,
+        keepers: &mut K,
+        region: u16,
+        read: &Wanted<'_>,
+    ) -> Result<LeaderAnswer, Refusal>
+        requires consistent { IsConsistent K.TELLS config.now (K.state keepers.old).told self.old.fleet }
+        requires here { IsConfiguredStore config.now (region_store region (query_shard read.now.query.now)) }
+        ensures answers { IfOk result (λ given. StoreAnswers (types_of config.now.schema) (lent_read read.now) given
+            (store_calls region self.old.fleet.stores (K.state keepers.old) (K.state keepers.new))) }
+        ensures given { IfOk result (IsGivenAnswer (types_of config.now.schema) (pens_of self.new.fleet.stores) (lent_read read.now)) }
+        ensures err { IfErr result (λ refusal. AskFails refusal (K.state keepers.old) (K.state keepers.new)) }
+        ensures same { self.new ≡ self.old }
+        ensures consistent { IsConsistent K.TELLS config.now (K.state keepers.new).told self.new.fleet }
+        ensures tables { KeepsTables K.TELLS (K.state keepers.old) (K.state keepers.new) }
+        ensures later { IsLater (K.state keepers.old) (K.state keepers.new) }
+    {
+        match self
+            .fleet
+            .read_store(self.alloc, config, keepers, region, read.query)
+        {
+            Ok(out) => Ok(at_floor(read.floor, out)),
+            Err(refusal) => Err(refused_as(refusal, keepers.faults())),
+        }
+    }
+
+    /// What a leader gives.
+    fn asked_of_leader<K: Keeper>(
         &mut self,
         config: &Config,
         keepers: &mut K,
@@ -70,11 +134,40 @@ impl Nodes {
         }
     }
 
-    /// The stage `ask` of a read: its question is carried to the leader, which answers of an item of its own or of its region's store,
-    /// and what it gives is carried back.
+    /// What the node gives that is asked.
+    fn asked<K: Keeper, L: Link>(
+        &mut self,
+        config: &Config,
+        keepers: &mut K,
+        link: &L,
+        node: NodeName,
+        read: &Wanted<'_>,
+    ) -> Result<LeaderAnswer, Refusal>
+        requires consistent { IsConsistent K.TELLS config.now (K.state keepers.old).told self.old.fleet }
+        requires node { MayBeAsked config.now (query_shard read.now.query.now) node }
+        ensures answers { IfOk result (λ given. AnswersThere (types_of config.now.schema) node (lent_read read.now) given
+            (world self.old (K.state keepers.old) (L.shown link.now)) (world self.new (K.state keepers.new) (L.shown link.now))) }
+        ensures rest { self.new ≡ record self.old { fleet = record self.old.fleet { leaders = self.new.fleet.leaders } } }
+        ensures given { IfOk result (IsGivenAnswer (types_of config.now.schema) (pens_of self.new.fleet.stores) (lent_read read.now)) }
+        ensures err { IfErr result (λ refusal. AskFails refusal (K.state keepers.old) (K.state keepers.new)) }
+        ensures same { OnErr result (self.new ≡ self.old) }
+        ensures consistent { IsConsistent K.TELLS config.now (K.state keepers.new).told self.new.fleet }
+        ensures goes { GoesOn self.old.fleet self.new.fleet }
+        ensures tables { KeepsTables K.TELLS (K.state keepers.old) (K.state keepers.new) }
+        ensures later { IsLater (K.state keepers.old) (K.state keepers.new) }
+    {
+        match node {
+            NodeName::Leader { .. } => self.asked_of_leader(config, keepers, node, read),
+            NodeName::Store(at) => self.asked_of_store(config, keepers, at.region, read),
+            NodeName::Follower { .. } => unreachable!(),
+        }
+    }
+
+    /// The stage `ask` of a read: its question is carried to a leader, which answers of an item of its own or of its region's store, or where no leader
+    /// may be asked to that store itself, and what it gives is carried back. An answer below the read's floor is told as `Behind`.
     ///
     /// `LinkFault` comes only where the link's count of faults rose at one of the two carries, `KeeperFault` only where the keepers' rose,
-    /// and `Memory` where there was none. Costs what `Leader::answer` does.
+    /// and `Memory` where there was none. Costs what `Leader::answer` or `StoreNode::read` does.
     pub fn ask_over<K: Keeper, L: Link>(
         &mut self,
         config: &Config,
@@ -84,7 +177,7 @@ impl Nodes {
         read: &Wanted<'_>,
     ) -> Result<LeaderAnswer, Refusal>
         requires consistent { IsConsistent K.TELLS config.now (K.state keepers.old).told self.old.fleet }
-        requires leader { IsLeaderFor config.now (query_shard read.now.query.now) route.leader }
+        requires leader { MayBeAsked config.now (query_shard read.now.query.now) route.leader }
         ensures given { IfOk result (λ given. IsGivenOver config.now route (lent_read read.now) given
             (world self.old (K.state keepers.old) (L.shown link.old)) (world self.new (K.state keepers.new) (L.shown link.new))) }
         ensures err { IfErr result (λ refusal. IsNotGiven config.now route (lent_read read.now) refusal
@@ -94,7 +187,7 @@ impl Nodes {
     {
         let Route { follower, leader } = route;
         carried(link, follower, leader)?;
-        let given = self.asked(config, keepers, leader, read)?;
+        let given = self.asked(config, keepers, link, leader, read)?;
         carried(link, leader, follower)?;
         Ok(given)
     }

@@ -11,18 +11,18 @@ ghost use Rattle.core_model.specs.States.{AreStatesOf};
 ghost use Rattle.core_model.specs.Stores.{master_of};
 ghost use Rattle.core_steps.specs.MergeAnswers.{RefusesMerge, left_open_as, merge_answer, why_open};
 ghost use Rattle.core_steps.specs.OtherEnds.{Crosses, EndsOver, FailsToCross, MergesOver, StandsThere, TakesMerge, job_way};
-ghost use Rattle.core_steps.specs.OtherEnds.{known_of, master_leader, learnt_entry_of, learnt_far};
+ghost use Rattle.core_steps.specs.OtherEnds.{known_of, master_leader, learnt_entry_of, learnt_far, sent_job};
+ghost use Rattle.core_steps.specs.declared.jobs.JobSender.{JobSender as Sender};
 ghost use Rattle.core_steps.specs.Posting.{CanPost, ChangesNoNode, PostsOn};
 ghost use Rattle.core_steps.specs.World.{world};
 ghost use Rattle.core_nodes.specs.Settling.{IsLaterLink};
 ghost use Rattle.graph_model.specs.Told.{WhereTold};
-ghost use Rattle.node_name.specs.declared.NodeName.{NodeName as AnyNode};
 ghost use Rattle.shard_tables.specs.Jobs.{IsOfMerges};
 ghost use Rattle.tao_keeper.specs.KeeperState.{IsLater};
 ghost use Rattle.tao_link.specs.Shown.{LinkShown};
 
 use crate::nodes::Nodes;
-use crate::routes::carry;
+use crate::routes::{TierPlace, carry};
 use core_model::{ShardJob, far_shard, masters_are_regions};
 use node_name::NodeName;
 use replies::ScheduledWhy;
@@ -58,6 +58,13 @@ pub fn learnt_far(job: &Option<Job>, wrote: Option<Wrote>) -> Option<LearntEntry
     ensures { result ≡ learnt_far job.now wrote }
 {
     learnt_entry_of(far_shard(job.as_ref()?), wrote?)
+}
+
+/// Who sends a job to the shard where it is owed: the leader that committed its entry, for a session of a tier, which trusts leaders or suspects them.
+#[derive(Clone, Copy)]
+pub struct JobSender {
+    pub leader: NodeName,
+    pub by: TierPlace,
 }
 
 /// Carries a call, or its answer, from one node to another, unless they are one.
@@ -117,6 +124,18 @@ fn merge_answer(
 }
 
 impl Nodes {
+    /// The leader that a tier chooses for a shard in the region that has its master: the preferred one, or the next round about, that is up and that the
+    /// tier doesn't suspect. None exactly where the shard isn't configured or there is none such.
+    pub fn master_leader(&self, config: &Config, by: TierPlace, shard: u16) -> Option<NodeName>
+        ensures { result ≡ master_leader config.now self.now.topology by shard }
+    {
+        if shard >= config.shards {
+            return None;
+        }
+        let region = self.topology.master(shard);
+        self.topology.leader((by.region, by.tier), region, shard)
+    }
+
     /// Merges the job at a leader of the shard on which its records lie. Of a new entry those who see the shard's log are told.
     fn merge_at<K: Keeper>(
         &mut self,
@@ -131,10 +150,9 @@ impl Nodes {
         requires states { AreStatesOf config.now self.old.topology }
         requires here { far_shard job.now.job.now < config.now.shards }
         requires leader { IsLeaderIn config.now (master_of config.now (far_shard job.now.job.now)) leader }
-        requires preferred { leader ≡ master_leader self.old.topology (far_shard job.now.job.now) }
         requires job { CanBeMerged K.TELLS config.now (K.state keepers.old).told (lent_job job.now) }
-        ensures takes { (by : AnyNode) (before after : LinkShown) → IfOk result (λ wrote.
-            TakesMerge K.TELLS config.now (job_way by (lent_job job.now)) wrote
+        ensures takes { (sender : Sender) (before after : LinkShown) → IfOk result (λ wrote.
+            TakesMerge K.TELLS config.now (job_way (sent_job sender (lent_job job.now)) leader) wrote
             (world self.old (K.state keepers.old) before) (world self.new (K.state keepers.new) after)) }
         ensures refused { IfErr result (λ refusal.
             RefusesMerge K.TELLS config.now (lent_job job.now) refusal (K.state keepers.old) (K.state keepers.new)) }
@@ -151,38 +169,39 @@ impl Nodes {
         Ok(wrote)
     }
 
-    /// The stage `inverse`: a job of a shard is carried from the leader that committed it to the one that the master's region prefers for the shard on
-    /// which its records lie, which merges it and takes what was written, and the answer is carried back, also that of a merge that was refused.
+    /// The stage `inverse`: a job of a shard is carried from the leader that committed it to one of the master's region of the shard on which its records
+    /// lie, which merges it, and takes what was written unless it stands in for another, and the answer is carried back, also that of a merge that was
+    /// refused. It is the leader that the master's region prefers, or the next one round about, that is up and that the session's tier doesn't suspect.
     /// Where both are one node nothing is carried. Of a new entry those who see the log are told as after a write.
     ///
     /// The job stays open. Whatever fails leaves it so: `LinkFault` only where the link's count of faults rose, `KeeperFault` only where the keepers'
-    /// did, `LogFull` where the other shard's log has no room for the entry, `NoServer` where that shard isn't configured, `Memory` where there was none.
+    /// did, `LogFull` where the other shard's log has no room for the entry, `NoServer` where that shard isn't configured or no leader can be chosen for it,
+    /// `Memory` where there was none.
     /// What was written although its answer was lost is told. Costs what `Leader::merge` does, and a message for each tier of the region.
     pub fn merge_over<K: Keeper, L: Link>(
         &mut self,
         config: &Config,
         keepers: &mut K,
         link: &mut L,
-        leader: NodeName,
+        sender: JobSender,
         job: &ShardJob<'_>,
     ) -> Result<Wrote, LeftOpen>
         requires ready { CanPost K.TELLS config.now (world self.old (K.state keepers.old) (L.shown link.old)) }
         requires job { CanBeMerged K.TELLS config.now (K.state keepers.old).told (lent_job job.now) }
-        ensures merges { MergesOver K.TELLS config.now (job_way leader (lent_job job.now)) result
+        ensures merges { MergesOver K.TELLS config.now (sent_job sender (lent_job job.now)) result
             (world self.old (K.state keepers.old) (L.shown link.old)) (world self.new (K.state keepers.new) (L.shown link.new)) }
         ensures merged { WhereTold K.TELLS (OnOk result (IsMergedJob config.now (K.state keepers.new).told (lent_job job.now))) }
         ensures stands { StandsThere config.now job.now.job.now (known_of result) self.new.fleet.stores }
         ensures on { PostsOn K.TELLS config.now
             (world self.old (K.state keepers.old) (L.shown link.old)) (world self.new (K.state keepers.new) (L.shown link.new)) }
     {
-        let far = far_shard(job.job);
-        if far >= config.shards {
+        let Some(merging) = self.master_leader(config, sender.by, far_shard(job.job)) else {
             return Err(LeftOpen::Scheduled {
                 why: ScheduledWhy::NoServer,
                 wrote: None,
             });
-        }
-        let merging = self.topology.preferred(self.topology.master(far), far);
+        };
+        let leader = sender.leader;
         if let Err(LinkFailed) = carry_between(link, leader, merging) {
             return Err(LeftOpen::Scheduled {
                 why: ScheduledWhy::LinkFault,

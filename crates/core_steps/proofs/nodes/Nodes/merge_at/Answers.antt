@@ -6,7 +6,6 @@ use Rattle.core_model.specs.Jobs.{far_shard, job_on}
 use Rattle.core_model.specs.Pens.{IsSeen, pens_of}
 use Rattle.core_model.specs.Stores.{master_store}
 use Rattle.core_nodes.proofs.GrowingLemmas.{gains_stores}
-use Rattle.core_steps.specs.OtherEnds.{StandsThere, TakesMerge, job_way}
 use Rattle.core_steps.specs.Posting.{ChangesNoNode, PostsOn, NotifiesOfNew}
 use Rattle.core_steps.specs.World.{world, world_with}
 use Rattle.core_steps.proofs.NotifyLemmas.{arrived_grows, arrived_notified}

@@ -1,5 +1,5 @@
 use Rattle.core_steps.proofs.LeaderNames.{leader_region}
-use Rattle.core_steps.proofs.nodes.Nodes.asked.Goals as goal
+use Rattle.core_steps.proofs.nodes.Nodes.asked_of_leader.Goals as goal
 
 pub ask-requires-clause-here : goal.ask-requires-clause-here
 ask-requires-clause-here g c =

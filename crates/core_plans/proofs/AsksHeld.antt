@@ -25,10 +25,13 @@ use Rattle.core_model.specs.declared.named.Named.{Named}
 use Rattle.core_model.proofs.Places.{get_set, one_some}
 use Rattle.core_plans.specs.HeldLaws.{AsksStayHeld}
 use Rattle.core_plans.specs.Held.{AsksAreHeld, OpensNone, Plans, is_open_ask}
-use Rattle.core_plans.specs.HeldWrites.{DoesWriteStage, job_by, last_leader, way_by}
-use Rattle.core_plans.specs.LedBy.{LedBy}
+use Rattle.core_plans.specs.HeldWrites.{ComesOfWrite, CommitsBy, DoesWriteStage, job_by, job_sender, way_by}
+use Rattle.core_plans.specs.LedBy.{Rules, led_by}
+use Rattle.core_plans.specs.Needs.{last_leader, leaders_of_write}
+use Rattle.core_plans.specs.declared.leaders.Leaders.{Leaders}
 use Rattle.core_plans.proofs.RefusedWrites.{refused_none}
-use Rattle.core_steps.specs.OtherEnds.{ChangesKeepers, EndsOver, JobWay, LeavesJob, MergesOver, job_way}
+use Rattle.core_steps.specs.OtherEnds.{ChangesKeepers, EndsOver, JobWay, LeavesJob, MergesAlong, MergesBy, MergesOver, SentJob, job_way}
+use Rattle.core_steps.specs.OtherEnds.{merging_leader, sent_job}
 use Rattle.core_steps.specs.Posting.{ChangesNoNode}
 use Rattle.core_steps.specs.World.{World}
 use Rattle.core_steps.specs.Writes.{FollowerTakes}
@@ -53,7 +56,7 @@ use Rattle.tao_base.specs.declared.query.Answer.{Answer}
 use Rattle.tao_base.specs.declared.query.Query.{Query}
 use Rattle.tao_schema.specs.Schema.{types_of}
 use Rattle.topology.specs.Config.{Settings}
-use Rattle.write_plan.specs.Plans.{Writing}
+use Rattle.write_plan.specs.Plans.{Writing, next_of}
 use Rattle.write_plan.specs.declared.results.LeftOpen.{LeftOpen}
 use Rattle.write_plan.specs.declared.results.LeftOpen.TheVariants.{Scheduled}
 use Rattle.write_plan.specs.declared.results.LeftOpen.TheVariants as left_open
@@ -264,22 +267,30 @@ module _ (tells : Bool) (s : Settings) (way : JobWay) (old new : World) where
   untouched rests = ap (λ (f : Fleet). f.followers) rests.fleet
 
   left_same : (why : ScheduledWhy) (wrote : Option Wrote) → LeavesJob tells s way (Scheduled why wrote) old new → followers_in new ≡ followers_in old
-  left_same NoServer None is = ap followers_in is.1
+  left_same NoServer wrote is = absurd is
   left_same why.LinkFault None is = untouched is.2
   left_same why.LinkFault (Some w) is = is.2.followers
   left_same why.KeeperFault None is = untouched is.1
   left_same why.LogFull None is = untouched is.1
   left_same why.Memory None is = untouched is.0
-  left_same NoServer (Some w) is = absurd is
   left_same why.KeeperFault (Some w) is = absurd is
   left_same why.LogFull (Some w) is = absurd is
   left_same why.Memory (Some w) is = absurd is
 
-  -- a merge changes no follower
-  pub merge_same : (result : Result Wrote LeftOpen) → MergesOver tells s way result old new → followers_in new ≡ followers_in old
-  merge_same (Ok wrote) is = is.0.followers
-  merge_same (Err (Scheduled why wrote)) is = left_same why wrote is
-  merge_same (Err (left_open.Refused reply)) is = absurd is
+  along_same : (result : Result Wrote LeftOpen) → MergesAlong tells s way result old new → followers_in new ≡ followers_in old
+  along_same (Ok wrote) is = is.0.followers
+  along_same (Err (Scheduled why wrote)) is = left_same why wrote is
+  along_same (Err (left_open.Refused reply)) is = absurd is
+
+-- a merge changes no follower, whoever merges
+merged_same : (tells : Bool) (s : Settings) (merging : Option NodeName) (sent : SentJob) (old new : World) (result : Result Wrote LeftOpen)
+    → MergesBy tells s merging sent result old new → followers_in new ≡ followers_in old
+merged_same tells s (Some merging) sent old new result is = along_same tells s (job_way sent merging) old new result is
+merged_same tells s None sent old new result is = ap followers_in is.1
+
+pub merge_same : (tells : Bool) (s : Settings) (sent : SentJob) (old new : World) (result : Result Wrote LeftOpen)
+    → MergesOver tells s sent result old new → followers_in new ≡ followers_in old
+merge_same tells s sent old new = merged_same tells s (merging_leader s old.states sent) sent old new
 
 changed_keepers : (old new : World) → ChangesKeepers old new → followers_in new ≡ followers_in old
 changed_keepers old new is = ap followers_in is
@@ -304,23 +315,33 @@ end_same tells s j (Err (left_open.Refused reply)) old new is = absurd is
 -- ---- the stages of a write
 
 -- no stage of a write opens one
-module _ (led : LedBy) (p q : Writing) (old new : World) where
+module _ (rules : Rules) (p q : Writing) (old new : World) where
   alone : followers_in new ≡ followers_in old → OpensNone (followers_in old) (followers_in new)
   alone = same_opens_none (followers_in old) (followers_in new)
 
-  pub stage_opens_none : (at : WriteStage) → DoesWriteStage led at p old q new → OpensNone (followers_in old) (followers_in new)
-  stage_opens_none Commit (inl commits) = alone commits.commits.followers
-  stage_opens_none Commit (inr refuses) = alone (ap (λ (f : Fleet). f.followers) (refused_none led p old new refuses.refusal refuses.refuses).fleet)
-  stage_opens_none Inverse merges = alone (merge_same led.tells led.settings (job_way led.leader (job_by p merges.job)) old new merges.result merges.merges)
-  stage_opens_none End ends = alone (end_same led.tells led.settings (job_by p ends.job) ends.result old new ends.ends)
+  commit_opens_none : (leaders : Option Leaders) → CommitsBy rules leaders p old q new → OpensNone (followers_in old) (followers_in new)
+  commit_opens_none (Some leaders) (inl commits) = alone commits.commits.followers
+  commit_opens_none (Some leaders) (inr refuses) =
+      alone (ap (λ (f : Fleet). f.followers) (refused_none (led_by rules leaders) p old new refuses.refusal refuses.refuses).fleet)
+  commit_opens_none None finds_none = alone (ap followers_in finds_none.same)
+
+  stage_opens_none : (at : WriteStage) → DoesWriteStage rules at p old q new → OpensNone (followers_in old) (followers_in new)
+  stage_opens_none Commit commits = commit_opens_none (leaders_of_write rules.settings old.states p) commits
+  stage_opens_none Inverse merges =
+      alone (merge_same rules.tells rules.settings (sent_job (job_sender p merges.committed) (job_by p merges.job)) old new merges.result merges.merges)
+  stage_opens_none End ends = alone (end_same rules.tells rules.settings (job_by p ends.job) ends.result old new ends.ends)
   stage_opens_none Apply (inl applies) =
-      follower_takes_none (types_of led.settings.schema) (way_by (last_leader led.leader applies.committed) p) (write_shard p.write)
-      applies.committed.wrote.entry old.fleet new.fleet
-      applies.takes
+      follower_takes_none (types_of rules.settings.schema) (way_by (last_leader applies.committed) p) (write_shard p.write)
+      applies.committed.wrote.entry old.fleet new.fleet applies.takes
   stage_opens_none Apply (inr loses) = alone (ap (λ (f : Fleet). f.followers) loses.fleet)
   stage_opens_none Relay (inl relays) = alone (ap (λ (f : Fleet). f.followers) relays.rest.fleet)
   stage_opens_none Relay (inr loses) = alone (ap (λ (f : Fleet). f.followers) loses.fleet)
   stage_opens_none Done does = absurd does
+
+  -- nor does one that ends since a node is down
+  pub write_opens_none : ComesOfWrite rules p old q new → OpensNone (followers_in old) (followers_in new)
+  write_opens_none (inl next) = stage_opens_none (next_of p) next.does
+  write_opens_none (inr ends) = alone (ap followers_in ends.same)
 
 -- ---- what is held
 
@@ -346,5 +367,5 @@ asks_stay_held = record {
     evicts = evict_opens_none name old new;
     empties = empty_opens_none name old new;
   };
-  stages = λ led at p q old new. stage_opens_none led p q old new at;
+  stages = write_opens_none;
 }

@@ -1,6 +1,6 @@
 -- What the way back of a write comes to: to the leader that it passed, and to its follower.
 use Rattle.std.proofs.Common.{◌≡◌, ◌∙◌, true, Option, Some, None, ap, inl, inr, refl, subst}
-use Rattle.std.specs.Prelude.{⊤, Err, IfErr, IfSome, IsSome, Ok, OnErr, OnOk, Result, option_and_then, unwrap_or}
+use Rattle.std.specs.Prelude.{⊤, Err, IfErr, IfSome, IsSome, Ok, OnErr, OnOk, Result, option_and_then}
 use Rattle.core_steps.specs.Posting.{AppliesAlone}
 use Rattle.core_steps.specs.Relays.{LeaderRelays, RelaysAlone}
 use Rattle.core_steps.specs.Routes.{FailsCarry, hops_between}
@@ -21,9 +21,9 @@ use Rattle.write_plan.specs.Plans.{Writing, after_stage, answered_entry, answere
 use Rattle.write_plan.specs.declared.committed.Committed.{Committed}
 use Rattle.write_plan.specs.declared.results.WriteResult.TheVariants as came
 use Rattle.write_plan.specs.declared.stage.WriteStage.TheVariants.{Apply, Relay}
-use Rattle.core_plans.specs.HeldWrites.{DoesWriteStage, last_leader, way_by}
-use Rattle.core_plans.specs.LedBy.{led_by}
-use Rattle.core_plans.specs.declared.leaders.Leaders.{Leaders}
+use Rattle.core_plans.specs.HeldWrites.{DoesWriteStage, way_by}
+use Rattle.core_plans.specs.LedBy.{rules_of}
+use Rattle.core_plans.specs.Needs.{last_leader}
 
 -- how a way back of a write is refused that the link failed: the write stands, at the position of its entry
 abbrev lost_way : World → Option Committed → Reply
@@ -41,14 +41,13 @@ pub record ComesBack (s : Settings) (leader : NodeName) (p : Writing) (outcome :
   pub stays : OnErr outcome (new.fleet ≡ old.fleet)
   pub rest : AppliesAlone old new
 
-module _ (s : Settings) (leaders : Leaders) (p q : Writing) (old new : World) (c : Committed) (answered : p.committed ≡ Some c) where
-  came_back : (outcome : Result ⊤ Reply) → ComesBack s (last_leader leaders.leader c) p outcome old new
-      → q ≡ after_stage p (came.Apply outcome) (hops_between old.link new.link) → DoesWriteStage (led_by true s leaders) Apply p old q new
+module _ (s : Settings) (p q : Writing) (old new : World) (c : Committed) (answered : p.committed ≡ Some c) where
+  came_back : (outcome : Result ⊤ Reply) → ComesBack s (last_leader c) p outcome old new
+      → q ≡ after_stage p (came.Apply outcome) (hops_between old.link new.link) → DoesWriteStage (rules_of true s) Apply p old q new
   came_back (Ok done) comes then = inl (record {
     committed = c;
     answered = answered;
-    takes = if_some_at
-        (λ a. FollowerTakes (types_of s.schema) (way_by (last_leader leaders.leader c) p) (write_shard p.write) a.wrote.entry old.fleet new.fleet)
+    takes = if_some_at (λ a. FollowerTakes (types_of s.schema) (way_by (last_leader c) p) (write_shard p.write) a.wrote.entry old.fleet new.fleet)
         p.committed c comes.takes answered;
     link = comes.carried;
     rest = comes.rest;
@@ -64,21 +63,20 @@ module _ (s : Settings) (leaders : Leaders) (p q : Writing) (old new : World) (c
   })
 
 -- from the last leader of its way, where the note for its follower was handed out for it
-pub applies_done : (s : Settings) (leaders : Leaders) (p mid q : Writing) (old new : World) (outcome : Result ⊤ Reply) → mid ≡ record p { spare = None }
-    → IsSome p.committed → ComesBack s (unwrap_or (answered_passed p) leaders.leader) mid outcome old new
-    → q ≡ after_stage mid (came.Apply outcome) (hops_between old.link new.link) → DoesWriteStage (led_by true s leaders) Apply p old q new
-applies_done s leaders p mid q old new outcome is some comes then =
-    by (subst (λ m. ComesBack s (unwrap_or (answered_passed p) leaders.leader) m outcome old new) is comes)
+pub applies_done : (s : Settings) (last : NodeName) (p mid q : Writing) (old new : World) (outcome : Result ⊤ Reply) → mid ≡ record p { spare = None }
+    → IsSome p.committed → IfSome p.committed (λ c. last ≡ last_leader c) → ComesBack s last mid outcome old new
+    → q ≡ after_stage mid (came.Apply outcome) (hops_between old.link new.link) → DoesWriteStage (rules_of true s) Apply p old q new
+applies_done s last p mid q old new outcome is some last_is comes then =
+    by (subst (λ m. ComesBack s last m outcome old new) is comes)
     (then ∙ ap (λ m. after_stage m (came.Apply outcome) (hops_between old.link new.link)) is) p.committed refl some
   where
-    by : ComesBack s (unwrap_or (answered_passed p) leaders.leader) (record p { spare = None }) outcome old new
-        → q ≡ after_stage p (came.Apply outcome) (hops_between old.link new.link)
-        → (found : Option Committed) → p.committed ≡ found → IsSome found → DoesWriteStage (led_by true s leaders) Apply p old q new
+    by : ComesBack s last (record p { spare = None }) outcome old new → q ≡ after_stage p (came.Apply outcome) (hops_between old.link new.link)
+        → (found : Option Committed) → p.committed ≡ found → IsSome found → DoesWriteStage (rules_of true s) Apply p old q new
     by given next None at some = absurd (cc)
     by given next (Some c) at some =
-        let last = ap (λ o. unwrap_or (option_and_then (λ a. a.passed) o) leaders.leader) at in
-        let there = subst (λ leader. ComesBack s leader (record p { spare = None }) outcome old new) last given in
-        came_back s leaders p q old new c at outcome (record {
+        let there = subst (λ leader. ComesBack s leader (record p { spare = None }) outcome old new)
+        (if_some_at (λ a. last ≡ last_leader a) p.committed c last_is at) given in
+        came_back s p q old new c at outcome (record {
           carried = there.carried;
           takes = there.takes;
           failed = there.failed;
@@ -99,13 +97,13 @@ pub record ComesPast (s : Settings) (route : Route) (p : Writing) (outcome : Res
   pub rest : RelaysAlone old new
 
 -- from the leader that wrote to the one that was passed
-abbrev pub way_past : Leaders → NodeName → Route
-way_past leaders passed = record { follower = passed; leader = leaders.leader }
+abbrev pub way_past : NodeName → NodeName → Route
+way_past leader passed = record { follower = passed; leader = leader }
 
-module _ (s : Settings) (leaders : Leaders) (p q : Writing) (old new : World) (c : Committed) (answered : p.committed ≡ Some c) (passed : NodeName)
+module _ (s : Settings) (p q : Writing) (old new : World) (c : Committed) (answered : p.committed ≡ Some c) (passed : NodeName)
     (passed_is : c.passed ≡ Some passed) where
-  came_past : (outcome : Result ⊤ Reply) → ComesPast s (way_past leaders passed) p outcome old new
-      → q ≡ after_stage p (came.Relay outcome) (hops_between old.link new.link) → DoesWriteStage (led_by true s leaders) Relay p old q new
+  came_past : (outcome : Result ⊤ Reply) → ComesPast s (way_past c.leader passed) p outcome old new
+      → q ≡ after_stage p (came.Relay outcome) (hops_between old.link new.link) → DoesWriteStage (rules_of true s) Relay p old q new
   came_past (Ok done) comes then = inl (record {
     committed = c;
     answered = answered;
@@ -128,23 +126,25 @@ module _ (s : Settings) (leaders : Leaders) (p q : Writing) (old new : World) (c
   })
 
 -- where the note for that leader was handed out for it
-pub relays_done : (s : Settings) (leaders : Leaders) (p mid q : Writing) (old new : World) (outcome : Result ⊤ Reply) (passed : NodeName)
-    → mid ≡ record p { relay = None } → answered_passed p ≡ Some passed → ComesPast s (way_past leaders passed) mid outcome old new
-    → q ≡ after_stage mid (came.Relay outcome) (hops_between old.link new.link) → DoesWriteStage (led_by true s leaders) Relay p old q new
-relays_done s leaders p mid q old new outcome passed is passed_is comes then =
-    by (subst (λ m. ComesPast s (way_past leaders passed) m outcome old new) is comes)
+pub relays_done : (s : Settings) (route : Route) (p mid q : Writing) (old new : World) (outcome : Result ⊤ Reply) → mid ≡ record p { relay = None }
+    → answered_passed p ≡ Some route.follower → IfSome p.committed (λ c. route.leader ≡ c.leader) → ComesPast s route mid outcome old new
+    → q ≡ after_stage mid (came.Relay outcome) (hops_between old.link new.link) → DoesWriteStage (rules_of true s) Relay p old q new
+relays_done s route p mid q old new outcome is passed_is leader_is comes then =
+    by (subst (λ m. ComesPast s route m outcome old new) is comes)
     (then ∙ ap (λ m. after_stage m (came.Relay outcome) (hops_between old.link new.link)) is) p.committed refl passed_is
   where
-    by : ComesPast s (way_past leaders passed) (record p { relay = None }) outcome old new
-        → q ≡ after_stage p (came.Relay outcome) (hops_between old.link new.link)
-        → (found : Option Committed) → p.committed ≡ found → option_and_then (λ c. c.passed) found ≡ Some passed
-        → DoesWriteStage (led_by true s leaders) Relay p old q new
+    by : ComesPast s route (record p { relay = None }) outcome old new → q ≡ after_stage p (came.Relay outcome) (hops_between old.link new.link)
+        → (found : Option Committed) → p.committed ≡ found → option_and_then (λ c. c.passed) found ≡ Some route.follower
+        → DoesWriteStage (rules_of true s) Relay p old q new
     by given next None at none = absurd (cc)
-    by given next (Some c) at passes = came_past s leaders p q old new c at passed passes outcome (record {
-      carried = given.carried;
-      relays = given.relays;
-      failed = given.failed;
-      reply = given.reply;
-      stays = given.stays;
-      rest = given.rest;
-    }) next
+    by given next (Some c) at passes =
+        let there = subst (λ leader. ComesPast s (way_past leader route.follower) (record p { relay = None }) outcome old new)
+        (if_some_at (λ a. route.leader ≡ a.leader) p.committed c leader_is at) given in
+        came_past s p q old new c at route.follower passes outcome (record {
+          carried = there.carried;
+          relays = there.relays;
+          failed = there.failed;
+          reply = there.reply;
+          stays = there.stays;
+          rest = there.rest;
+        }) next

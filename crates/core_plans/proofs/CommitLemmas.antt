@@ -25,7 +25,7 @@ use Rattle.write_plan.specs.Plans.{Writing}
 use Rattle.write_plan.specs.declared.committed.Committed.{Committed}
 use Rattle.write_plan.specs.declared.results.CommitAnswer.{CommitAnswer}
 use Rattle.core_plans.specs.HeldWrites.{AnswersCommit, LeadWrite, call_of_plan, come_past, job_by, sent_by, with_notes}
-use Rattle.core_plans.specs.LedBy.{LedBy, led_by}
+use Rattle.core_plans.specs.LedBy.{LedBy, led_by, rules_of}
 use Rattle.core_plans.specs.declared.leaders.Leaders.{Leaders}
 
 -- ---- the way there
@@ -96,6 +96,7 @@ renewed_so passed taken was now is = ap (option_map (λ _. now)) is ∙ by passe
 -- what the leader wrote, as the plan takes it, and the notes for the way back
 pub record IsMadeOf (s : Settings) (leaders : Leaders) (p : Writing) (wrote : Wrote) (answer : CommitAnswer) : Type 0 where
   pub wrote_is : answer.committed.wrote ≡ wrote
+  pub leader_is : answer.committed.leader ≡ leaders.leader
   pub passed_is : answer.committed.passed ≡ leaders.passed
   pub kind_is : kind_said p.write wrote.entry ≡ Some answer.committed.kind
   pub paired_is : answer.committed.paired ≡ has_inverse (types_of s.schema) p.write
@@ -117,13 +118,15 @@ module _ (tells : Bool) (s : Settings) (leaders : Leaders) (p : Writing) (old ne
   -- the answer to a commit is right
   pub answers : (c : Committed) (relay : Option View) (spare : View)
       → IsMadeOf s leaders p wrote (made_of c relay spare)
-      → IsCommitted tells s (sent_by (led_by tells s leaders) p) wrote (come_past (led_by tells s leaders) old) new
+      → IsCommitted tells s (sent_by (led_by (rules_of tells s) leaders) p) wrote (come_past (led_by (rules_of tells s) leaders) old) new
       → CanBeApplied (call_of_plan p) wrote new.fleet.stores
       → IfSome wrote.job (λ j. CanBeMerged tells s new.keepers.told (job_by p j))
-      → AnswersCommit (led_by tells s leaders) p (made_of c relay spare) old new
+      → AnswersCommit (led_by (rules_of tells s) leaders) p (made_of c relay spare) old new
   answers c relay spare made commits apply job = record {
+    leader = made.leader_is;
     passed = made.passed_is;
-    commits = subst (λ w. IsCommitted tells s (sent_by (led_by tells s leaders) p) w (come_past (led_by tells s leaders) old) new) (sym made.wrote_is) commits;
+    commits = (let led = led_by (rules_of tells s) leaders in
+        subst (λ w. IsCommitted tells s (sent_by led p) w (come_past led old) new) (sym made.wrote_is) commits);
     is = record {
       apply = subst (λ w. CanBeApplied (call_of_plan p) w new.fleet.stores) (sym made.wrote_is) apply;
       kind = subst (λ (w : Wrote). kind_said p.write w.entry ≡ Some c.kind) (sym made.wrote_is) made.kind_is;

@@ -8,9 +8,9 @@ use Rattle.core_model.specs.Consistent.{GoesOn, HaveReached, IsConsistent, IsFle
 use Rattle.core_model.specs.Fleet.{ChangesNode, Fleet, HasAsk}
 use Rattle.core_model.specs.Pens.{Pens, pens_of}
 use Rattle.core_model.specs.Reads.{AsksAtOnce, EndsAsk, IsGivenFill, IsLegalLook, KeepsFill, LooksFirst, taken_fill, wanted}
-use Rattle.core_model.specs.Stores.{AreStoresOf, HaveMasterRegions}
+use Rattle.core_model.specs.Stores.{AreStoresOf, HaveMasterRegions, master_store}
 use Rattle.core_steps.specs.ReadSteps.{IsGivenOver, IsNotGiven, IsNotRead, IsReadOver, ReadsOn}
-use Rattle.core_steps.specs.Routes.{hops_between, was_called}
+use Rattle.core_steps.specs.Routes.{hops_between, master_node, was_called}
 use Rattle.core_steps.specs.World.{World, world}
 use Rattle.core_steps.specs.declared.nodes.Nodes.{Nodes}
 use Rattle.core_steps.proofs.LinkLemmas.{link_self}
@@ -22,14 +22,17 @@ use Rattle.core_steps.proofs.ReadLemmas.{legal_in_log, on_after, on_same, where_
 use Rattle.core_steps.proofs.Repeats.{RepeatsHit, filled_repeats, hit_alone, hit_repeats, not_past}
 use Rattle.shard_log.proofs.GrowthLemmas.{legal-grows}
 use Rattle.node_name.specs.declared.NodeName.{NodeName}
+use Rattle.node_name.specs.declared.NodeName.TheVariants.{Store}
 use Rattle.read_plan.proofs.RunLemmas.{answers_are_given}
 use Rattle.read_plan.specs.Keeping.{kept_or_not, past_bound}
-use Rattle.read_plan.specs.Readings.{Reading, fill_handed, taken}
+use Rattle.read_plan.specs.Readings.{Reading, fill_handed, given_by, taken}
 use Rattle.read_plan.specs.Runs.{IsOfNextStage}
-use Rattle.read_plan.specs.Standings.{after_ask, after_keep, after_look, after_master, fill_of, has_fill, stage_of, standing_after}
+use Rattle.read_plan.specs.Standings.{after_ask, after_keep, after_look, after_master, fill_of, has_fill, read_refused}
+use Rattle.read_plan.specs.Standings.{stage_of, standing_after}
 use Rattle.read_plan.specs.declared.end.ReadEnd.TheVariants as ended
 use Rattle.read_plan.specs.declared.stages.ReadResult.{ReadResult}
 use Rattle.read_plan.specs.declared.stages.ReadResult.TheVariants as came
+use Rattle.read_plan.specs.declared.stages.ReadStage.{ReadStage}
 use Rattle.read_plan.specs.declared.stages.ReadStage.TheVariants as stage
 use Rattle.read_plan.specs.declared.standing.Given.TheVariants.{Fill, Past}
 use Rattle.read_plan.specs.declared.standing.Standing.{Standing}
@@ -48,22 +51,25 @@ use Rattle.shard_tables.specs.declared.leader_answer.LeaderAnswer.TheVariants as
 use Rattle.shard_tables.specs.declared.read_out.ReadOut.{ReadOut}
 use Rattle.shard_tables.specs.declared.read_out.ReadOut.TheVariants as out
 use Rattle.tao_base.specs.Queries.{query_key, query_shard}
+use Rattle.tao_base.specs.declared.id.StoreName.{StoreName}
 use Rattle.tao_base.specs.declared.query.Answer.{Answer}
 use Rattle.tao_base.specs.declared.query.Query.{Query}
 use Rattle.tao_base.specs.EdgeTypes.{EdgeTypes}
 use Rattle.tao_keeper.proofs.Later.{later_self}
 use Rattle.tao_keeper.specs.KeeperState.{KeeperState}
+use Rattle.tao_keeper.specs.Table.{Tables}
 use Rattle.tao_link.specs.Shown.{LinkShown}
 use Rattle.tao_schema.specs.Schema.{types_of}
 use Rattle.topology.specs.Config.{Settings}
 use Rattle.core_plans.specs.declared.reads.Tally.{Tally}
-use Rattle.core_plans.specs.HeldReads.{ChangesFollowers, DoesLook, DoesReadStage, EndsAskAlone, EndsLegally, HasComeTo, IsReadUnderWay, MissesNone, PassesReadStage, StandsSo}
-use Rattle.core_plans.specs.HeldReads.{version_now, wanted_by}
+use Rattle.core_plans.specs.HeldReads.{ChangesFollowers, DoesAsk, DoesLook, DoesReadAndPasses, DoesReadStage, EndsAskAlone, EndsLegally, HasComeTo}
+use Rattle.core_plans.specs.HeldReads.{EndsReadAndPasses, IsReadUnderWay, MissesNone, StandsSo, read_is_down, version_now, wanted_by}
+use Rattle.core_plans.specs.Needs.{asked_of_read, read_down}
 use Rattle.core_plans.proofs.HeldReadLemmas.{IsPast, MayEnd, asked_stands, asking, asks_plain, filled, goes_so, legally, looked_stands, looking}
 use Rattle.core_plans.proofs.HeldReadLemmas.{mastered_stands, mastering, never_so, not_both, past}
 use Rattle.core_plans.proofs.Missing.{store_comes}
-use Rattle.core_plans.specs.LedBy.{led_by}
-use Rattle.core_plans.specs.declared.leaders.Leaders.{Leaders}
+use Rattle.core_plans.proofs.StageLemmas.{ended_read}
+use Rattle.core_plans.specs.LedBy.{rules_of}
 
 -- what a plan says of itself
 pub record IsOfPlan (p : Reading) (follower : NodeName) (query : Query) (floor : ℕ) : Type 0 where
@@ -103,15 +109,25 @@ pub taken_since : (p q : Reading) (outcome : ReadResult) (since : Tally) (old ne
 taken_since p q outcome since old new is took =
     took ∙ ap (λ (t : Tally). taken outcome (new.link.carries - t.carries) (nat_lt t.calls new.keepers.calls) p) is
 
+-- also where it notes before who gave it
+pub taken_by : (node : NodeName) (p noted q : Reading) (outcome : ReadResult) (since : Tally) (old new : World)
+    → noted ≡ given_by node p → since ≡ record { calls = old.keepers.calls; carries = old.link.carries }
+    → q ≡ taken outcome (new.link.carries - since.carries) (nat_lt since.calls new.keepers.calls) noted
+    → q ≡ taken outcome (hops_between old.link new.link) (was_called old.keepers new.keepers) (given_by node p)
+taken_by node p noted q outcome since old new by is took =
+    taken_since noted q outcome since old new is took ∙ ap (taken outcome (hops_between old.link new.link) (was_called old.keepers new.keepers)) by
+
 -- ---- any stage
 
-module _ (tells : Bool) (s : Settings) (leaders : Leaders) (p : Reading) (old new : World) (is : IsReadUnderWay tells s old.keepers.told old.fleet p)
+module _ (tells : Bool) (s : Settings) (p : Reading) (old new : World) (is : IsReadUnderWay tells s old.keepers.told old.fleet p)
     (on : ReadsOn tells s old new) where
-  passes : (q r : Reading) (at : Standing) → p.at ≡ at → q ≡ r → DoesReadStage (led_by tells s leaders) at p old r new → EndsLegally tells s r new
+  passes : (q r : Reading) (at : Standing) → p.at ≡ at → q ≡ r → DoesReadStage (rules_of tells s) at p old r new → EndsLegally tells s r new
       → ((least : ℕ) → MissesNone tells s least p old.keepers → MissesNone tells s least r new.keepers)
-      → IsReadUnderWay tells s new.keepers.told new.fleet r → PassesReadStage (led_by tells s leaders) p old q new
-  passes q r at at_is q_is does legal whole read = subst (λ x. PassesReadStage (led_by tells s leaders) p old x new) (sym q_is) (record {
-    steps = record { does = subst (λ a. DoesReadStage (led_by tells s leaders) a p old r new) (sym at_is) does; legal = legal; whole = whole };
+      → IsReadUnderWay tells s new.keepers.told new.fleet r → DoesReadAndPasses (rules_of tells s) p old q new
+  passes q r at at_is q_is does legal whole read = subst (λ x. DoesReadAndPasses (rules_of tells s) p old x new) (sym q_is) (record {
+    does = subst (λ a. DoesReadStage (rules_of tells s) a p old r new) (sym at_is) does;
+    legal = legal;
+    whole = whole;
     read = read;
     on = on;
   })
@@ -124,8 +140,8 @@ module _ (tells : Bool) (s : Settings) (leaders : Leaders) (p : Reading) (old ne
   -- one that failed ended the read
   refused : (q : Reading) (outcome : ReadResult) (hops : ℕ) (store : Bool) (reply : Reply) (at : Standing) → p.at ≡ at
       → standing_after p.critical p.bound p.at outcome ≡ Ended (ended.Refused reply) → ((read : ReadReply) → reply ≡ Called (called.Read read) → ⊥)
-      → q ≡ taken outcome hops store p → DoesReadStage (led_by tells s leaders) at p old (taken outcome hops store p) new
-      → PassesReadStage (led_by tells s leaders) p old q new
+      → q ≡ taken outcome hops store p → DoesReadStage (rules_of tells s) at p old (taken outcome hops store p) new
+      → DoesReadAndPasses (rules_of tells s) p old q new
   refused q outcome hops store reply at at_is over no_read took does =
       let r : Reading = taken outcome hops store p in
       passes q r at at_is took does (legally tells s r new (Ended (ended.Refused reply)) over no_read)
@@ -160,8 +176,8 @@ follower_on tells s p around keepers old new link there =
 
 -- ---- look
 
-look_legal : (tells : Bool) (s : Settings) (p : Reading) (around : Nodes) (old new : Fleet) (keepers : KeeperState) (link : LinkShown) (look : Look) (ask : Option ℕ)
-    → p.critical ≡ false → HaveMasterRegions s → AreStoresOf tells s keepers.told old.stores → query_shard p.query < s.shards
+look_legal : (tells : Bool) (s : Settings) (p : Reading) (around : Nodes) (old new : Fleet) (keepers : KeeperState) (link : LinkShown) (look : Look)
+    (ask : Option ℕ) → p.critical ≡ false → HaveMasterRegions s → AreStoresOf tells s keepers.told old.stores → query_shard p.query < s.shards
     → ChangesNode p.follower (LooksFirst (types_of s.schema) (wanted_by p) look ask) old.followers new.followers
     → new ≡ record old { followers = new.followers }
     → IsLegalLook (types_of s.schema) (pens_of new.stores) (wanted_by p) look
@@ -180,9 +196,10 @@ look_legal tells s p around old new keepers link (Hit answer version) ask plain 
       (λ told kept place f floor first at le. repeats place f first at floor le),
     )
 look_legal tells s p around old new keepers link Miss ask plain masters are here change rest legal =
-    legally tells s (taken (came.Look (Ok Miss)) 0 false (record p { ask = ask })) (placed around new keepers link) Asking (ap (λ c. after_look c Miss) plain) tt
+    legally tells s (taken (came.Look (Ok Miss)) 0 false (record p { ask = ask })) (placed around new keepers link) Asking
+    (ap (λ c. after_look c Miss) plain) tt
 
-module _ (tells : Bool) (s : Settings) (leaders : Leaders) (p q : Reading) (around : Nodes) (keepers : KeeperState) (link : LinkShown)
+module _ (tells : Bool) (s : Settings) (p q : Reading) (around : Nodes) (keepers : KeeperState) (link : LinkShown)
     (old new : Fleet) (there : AtFollower tells s p keepers old new) where
   abbrev from : World
   from = placed around old keepers link
@@ -190,17 +207,17 @@ module _ (tells : Bool) (s : Settings) (leaders : Leaders) (p q : Reading) (arou
   abbrev to : World
   to = placed around new keepers link
 
-  passes_there : (r : Reading) (at : Standing) → p.at ≡ at → q ≡ r → DoesReadStage (led_by tells s leaders) at p from r to → EndsLegally tells s r to
+  passes_there : (r : Reading) (at : Standing) → p.at ≡ at → q ≡ r → DoesReadStage (rules_of tells s) at p from r to → EndsLegally tells s r to
       → ((least : ℕ) → MissesNone tells s least p keepers → MissesNone tells s least r keepers)
-      → IsReadUnderWay tells s keepers.told new r → PassesReadStage (led_by tells s leaders) p from q to
-  passes_there = passes tells s leaders p from to there.read (follower_on tells s p around keepers old new link there) q
+      → IsReadUnderWay tells s keepers.told new r → DoesReadAndPasses (rules_of tells s) p from q to
+  passes_there = passes tells s p from to there.read (follower_on tells s p around keepers old new link there) q
 
   refused_there : (outcome : ReadResult) (at : Standing) → p.at ≡ at
       → standing_after p.critical p.bound p.at outcome ≡ Ended (ended.Refused (Refused (Memory 0)))
-      → q ≡ taken outcome 0 false p → DoesReadStage (led_by tells s leaders) at p from (taken outcome 0 false p) to
-      → PassesReadStage (led_by tells s leaders) p from q to
+      → q ≡ taken outcome 0 false p → DoesReadStage (rules_of tells s) at p from (taken outcome 0 false p) to
+      → DoesReadAndPasses (rules_of tells s) p from q to
   refused_there outcome at at_is over =
-      refused tells s leaders p from to there.read (follower_on tells s p around keepers old new link there)
+      refused tells s p from to there.read (follower_on tells s p around keepers old new link there)
       q outcome 0 false (Refused (Memory 0)) at at_is over
       (no_refusal (Memory 0))
 
@@ -224,7 +241,7 @@ module _ (tells : Bool) (s : Settings) (leaders : Leaders) (p q : Reading) (arou
       → IsLegalLook (types_of s.schema) (pens_of new.stores) (wanted query floor) look
       → IfSome ask (λ number. HasAsk follower number (query_key query) new.followers)
       → asked ≡ record p { ask = ask } → q ≡ taken (came.Look (Ok look)) 0 false asked
-      → PassesReadStage (led_by tells s leaders) p from q to
+      → DoesReadAndPasses (rules_of tells s) p from q to
   looks_done asked look ask follower query floor at plain of change legal has opened took =
       let types = types_of s.schema in
       let r : Reading = taken (came.Look (Ok look)) 0 false (record p { ask = ask }) in
@@ -248,7 +265,7 @@ module _ (tells : Bool) (s : Settings) (leaders : Leaders) (p q : Reading) (arou
       → IsOfPlan p follower query floor → ChangesNode follower (AsksAtOnce (query_key query) ask) old.followers new.followers
       → IfSome ask (λ number. HasAsk follower number (query_key query) new.followers)
       → asked ≡ record p { ask = ask } → q ≡ taken (came.Look (Ok Miss)) 0 false asked
-      → PassesReadStage (led_by tells s leaders) p from q to
+      → DoesReadAndPasses (rules_of tells s) p from q to
   asks_at_once asked ask follower query floor at critical of change has opened took =
       let r : Reading = taken (came.Look (Ok Miss)) 0 false (record p { ask = ask }) in
       let masters : after_look p.critical Miss ≡ Mastering = ap (λ c. after_look c Miss) critical in
@@ -266,11 +283,12 @@ module _ (tells : Bool) (s : Settings) (leaders : Leaders) (p q : Reading) (arou
 
   -- memory was wanting for the answer
   pub looks_lost : (reply : Reply) → stage_of p.at ≡ stage.Look → p.critical ≡ false → new ≡ old → reply ≡ Refused (Memory 0)
-      → q ≡ taken (came.Look (Err reply)) 0 false p → PassesReadStage (led_by tells s leaders) p from q to
+      → q ≡ taken (came.Look (Err reply)) 0 false p → DoesReadAndPasses (rules_of tells s) p from q to
   looks_lost reply at plain same said took =
       let outcome = came.Look (Err (Refused (Memory 0))) in
       refused_there outcome Looking (looking p.at at) refl (took ∙ ap (λ r. taken (came.Look (Err r)) 0 false p) said)
-      (subst (λ c. DoesLook s c p from (taken outcome 0 false p) to) (sym plain) (inr (record { same = ap (λ f. placed around f keepers link) same; then = refl })))
+      (subst (λ c. DoesLook s c p from (taken outcome 0 false p) to) (sym plain)
+      (inr (record { same = ap (λ f. placed around f keepers link) same; then = refl })))
 
   -- ---- keep
 
@@ -279,7 +297,7 @@ module _ (tells : Bool) (s : Settings) (leaders : Leaders) (p q : Reading) (arou
       → ChangesNode follower (KeepsFill (types_of s.schema) query (taken_fill ask fill answer kept)) old.followers new.followers
       → IsLegalIn (types_of s.schema) (pens_of new.stores (query_shard query)) query floor answer fill.version
       → q ≡ taken (came.Keep (Ok (Some (answer, kept)))) 0 false handed
-      → PassesReadStage (led_by tells s leaders) p from q to
+      → DoesReadAndPasses (rules_of tells s) p from q to
   keeps_done handed fill answer kept follower query floor ask found sealed out_is of_handed same change legal took =
       let types = types_of s.schema in
       let shard = query_shard p.query in
@@ -311,13 +329,13 @@ module _ (tells : Bool) (s : Settings) (leaders : Leaders) (p q : Reading) (arou
       ))
       (λ least was told critical. subst (λ a. HasComeTo least now (after_keep p.bound a (Some (answer, kept)))) (sym at)
       (subst (HasComeTo least now) at (was told critical)))
-      (read_on tells s leaders p from to there.read (follower_on tells s p around keepers old new link there) outcome 0 false
+      (read_on tells s p from to there.read (follower_on tells s p around keepers old new link there) outcome 0 false
       (subst (λ a. StandsSo types (pens_of new.stores) (wanted_by p) (after_keep p.bound a (Some (answer, kept)))) (sym at) tt))
 
   -- memory was wanting for the answer
   pub keeps_lost : (handed : Reading) (fill : SealedItem) (reply : Reply) (follower : NodeName) (ask : Option ℕ) → fill_of p.at ≡ Some fill
       → handed ≡ fill_handed p → follower ≡ handed.follower → ask ≡ handed.ask → ChangesNode follower (EndsAsk ask) old.followers new.followers
-      → reply ≡ Refused (Memory 0) → q ≡ taken (came.Keep (Err reply)) 0 false handed → PassesReadStage (led_by tells s leaders) p from q to
+      → reply ≡ Refused (Memory 0) → q ≡ taken (came.Keep (Err reply)) 0 false handed → DoesReadAndPasses (rules_of tells s) p from q to
   keeps_lost handed fill reply follower ask found out_is same one change said took =
       let ends = subst (λ a. ChangesNode p.follower (EndsAsk a) old.followers new.followers) (one ∙ ap (λ (r : Reading). r.ask) out_is)
       (subst (λ f. ChangesNode f (EndsAsk ask) old.followers new.followers) (same ∙ ap (λ (r : Reading). r.follower) out_is) change) in
@@ -325,11 +343,11 @@ module _ (tells : Bool) (s : Settings) (leaders : Leaders) (p q : Reading) (arou
       (took ∙ ap (taken (came.Keep (Err reply)) 0 false) out_is ∙ ap (λ r. taken (came.Keep (Err r)) 0 false p) said)
       (inr (record { ends = ends; rest = ap (λ f. placed around f keepers link) there.rest; then = refl }))
 
-pub hands_done : (tells : Bool) (s : Settings) (leaders : Leaders) (p q : Reading) (around : Nodes) (keepers : KeeperState) (link : LinkShown)
-    (old new : Fleet) (handed : Reading) → HaveMasterRegions s → IsConsistent tells s keepers.told old → IsReadUnderWay tells s keepers.told old p → fill_of p.at ≡ None
-    → stage_of p.at ≡ stage.Keep → handed ≡ fill_handed p → EndsAskAlone s handed old new → q ≡ taken (came.Keep (Ok None)) 0 false handed
-    → PassesReadStage (led_by tells s leaders) p (placed around old keepers link) q (placed around new keepers link)
-hands_done tells s leaders p q around keepers link old new handed masters consistent is none stage_is out_is ended_ask took =
+pub hands_done : (tells : Bool) (s : Settings) (p q : Reading) (around : Nodes) (keepers : KeeperState) (link : LinkShown)
+    (old new : Fleet) (handed : Reading) → HaveMasterRegions s → IsConsistent tells s keepers.told old → IsReadUnderWay tells s keepers.told old p
+    → fill_of p.at ≡ None → stage_of p.at ≡ stage.Keep → handed ≡ fill_handed p → EndsAskAlone s handed old new → q ≡ taken (came.Keep (Ok None)) 0 false handed
+    → DoesReadAndPasses (rules_of tells s) p (placed around old keepers link) q (placed around new keepers link)
+hands_done tells s p q around keepers link old new handed masters consistent is none stage_is out_is ended_ask took =
     let types = types_of s.schema in
     let shard = query_shard p.query in
     let from : World = placed around old keepers link in
@@ -352,7 +370,7 @@ hands_done tells s leaders p q around keepers link old new handed masters consis
     let ends = subst (λ (r : Reading). ChangesNode r.follower (EndsAsk r.ask) old.followers new.followers) out_is ended_ask.ends in
     let right = legal-grows b.note (pens_of old.stores shard) types p.query p.floor b.answer b.version given.1 given.0 in
     let now = version_now s p keepers in
-    passes_there tells s leaders p q around keepers link old new there r (Keeping (Past b.answer b.version b.total (Some b.note))) b.is
+    passes_there tells s p q around keepers link old new there r (Keeping (Past b.answer b.version b.total (Some b.note))) b.is
     (took ∙ ap (taken outcome 0 false) out_is ∙ (answers_are_given p outcome 0 false).fill_out next)
     (record { ends = ends; rest = ap (λ f. placed around f keepers link) ended_ask.rest; then = refl })
     (legally tells s r to (Ended (ended.Answered b.answer b.version (past_bound p.bound b.total))) (ap (λ a. after_keep p.bound a None) b.is) (
@@ -360,7 +378,7 @@ hands_done tells s leaders p q around keepers link old new handed masters consis
       (λ told kept. not_past p.bound b.total _ kept),
     ))
     (λ least was told critical. subst (λ a. HasComeTo least now (after_keep p.bound a None)) (sym b.is) (subst (HasComeTo least now) b.is (was told critical)))
-    (read_on tells s leaders p from to is (follower_on tells s p around keepers old new link there) outcome 0 false
+    (read_on tells s p from to is (follower_on tells s p around keepers old new link there) outcome 0 false
     (subst (λ a. StandsSo types (pens_of new.stores) (wanted_by p) (after_keep p.bound a None)) (sym b.is) tt))
 
 -- ---- a stage over the link
@@ -375,45 +393,74 @@ mastered_on : (tells : Bool) (s : Settings) (q : Reading) (new : World) (read : 
 mastered_on tells s q new (out.Filled fill) = tt
 mastered_on tells s q new (out.Past answer version total note) = tt
 
-module _ (tells : Bool) (s : Settings) (leaders : Leaders) (p q : Reading) (old new : World) (is : IsReadUnderWay tells s old.keepers.told old.fleet p)
-    (on : ReadsOn tells s old new) where
+-- the node of the master's store, as the code finds it
+pub master_is : (s : Settings) (p : Reading) (at : StoreName) (shard : ℕ) (query : Query) → at ≡ master_store s shard → shard ≡ query_shard query
+    → query ≡ p.query → Store at ≡ master_node s (query_shard p.query)
+master_is s p at shard query is shard_is same = ap Store (is ∙ ap (master_store s) (shard_is ∙ ap query_shard same))
+
+-- the plan notes who gave it
+given_goes : (tells : Bool) (s : Settings) (tables : Tables) (f : Fleet) (node : NodeName) (p : Reading) → IsReadUnderWay tells s tables f p
+    → IsReadUnderWay tells s tables f (given_by node p)
+given_goes tells s tables f node p is = record {
+  follower = is.follower;
+  region = is.region;
+  never_asks = is.never_asks;
+  bound = is.bound;
+  reached = is.reached;
+  ask = is.ask;
+  stands = is.stands;
+}
+
+module _ (tells : Bool) (s : Settings) (node : NodeName) (p q : Reading) (old new : World)
+    (is : IsReadUnderWay tells s old.keepers.told old.fleet p) (on : ReadsOn tells s old new) where
   abbrev over : ReadResult → Reading
-  over outcome = taken outcome (hops_between old.link new.link) (was_called old.keepers new.keepers) p
+  over outcome = taken outcome (hops_between old.link new.link) (was_called old.keepers new.keepers) (given_by node p)
 
   -- what came of it ends nothing
   came_over : (outcome : ReadResult) (at : Standing) → p.at ≡ at → q ≡ over outcome
-      → DoesReadStage (led_by tells s leaders) at p old (over outcome) new
+      → DoesReadStage (rules_of tells s) at p old (over outcome) new
       → MayEnd tells s (over outcome) new (standing_after p.critical p.bound p.at outcome)
       → ((least : ℕ) → MissesNone tells s least p old.keepers → MissesNone tells s least (over outcome) new.keepers)
       → StandsSo (types_of s.schema) (pens_of new.fleet.stores) (wanted_by p) (standing_after p.critical p.bound p.at outcome)
-      → PassesReadStage (led_by tells s leaders) p old q new
-  came_over outcome at at_is took does may whole stands = passes tells s leaders p old new is on q (over outcome) at at_is took does
+      → DoesReadAndPasses (rules_of tells s) p old q new
+  came_over outcome at at_is took does may whole stands = passes tells s p old new is on q (over outcome) at at_is took does
       (legally tells s (over outcome) new (standing_after p.critical p.bound p.at outcome) refl may) whole
-      (read_on tells s leaders p old new is on outcome (hops_between old.link new.link) (was_called old.keepers new.keepers) stands)
+      (read_on tells s (given_by node p) old new (given_goes tells s old.keepers.told old.fleet node p is) on outcome
+      (hops_between old.link new.link) (was_called old.keepers new.keepers) stands)
 
   pub asks_done : (given : LeaderAnswer) (follower : NodeName) (query : Query) (floor : ℕ) → stage_of p.at ≡ stage.Ask
-      → IsOfPlan p follower query floor → IsGivenOver s (record { follower = follower; leader = leaders.leader }) (wanted query floor) given old new
-      → q ≡ over (came.Ask (Ok given)) → PassesReadStage (led_by tells s leaders) p old q new
-  asks_done given follower query floor at of gives took =
-      let gave = of_plan (λ f q n. IsGivenOver s (record { follower = f; leader = leaders.leader }) (wanted q n) given old new)
+      → node ≡ asked_of_read old.states p → IsOfPlan p follower query floor
+      → IsGivenOver s (record { follower = follower; leader = node }) (wanted query floor) given old new
+      → q ≡ over (came.Ask (Ok given)) → DoesReadAndPasses (rules_of tells s) p old q new
+  asks_done given follower query floor at asked of gives took =
+      let gave = of_plan (λ f q n. IsGivenOver s (record { follower = f; leader = node }) (wanted q n) given old new)
       p follower query floor of gives in
-      came_over (came.Ask (Ok given)) Asking (asking p.at at) took (inl (record { given = given; over = gave; then = refl }))
+      came_over (came.Ask (Ok given)) Asking (asking p.at at) took
+      (subst (λ n. DoesAsk s n p old (over (came.Ask (Ok given))) new) asked (inl (record { given = given; over = gave; then = refl })))
       (asked_on tells s (over (came.Ask (Ok given))) new given)
       (λ least was told critical. absurd (asks_plain p.critical p.at (asking p.at at) is.never_asks critical))
       (asked_stands (types_of s.schema) (pens_of new.fleet.stores) (wanted_by p) given gave.given_is)
 
   pub masters_done : (read : ReadOut) (query : Query) → stage_of p.at ≡ stage.Master → AreStoresOf tells s old.keepers.told old.fleet.stores
-      → query ≡ p.query → IsReadOver tells s query read old new → q ≡ over (came.Master (Ok read)) → PassesReadStage (led_by tells s leaders) p old q new
-  masters_done read query at are same reads took =
+      → node ≡ master_node s (query_shard p.query) → query ≡ p.query → IsReadOver tells s query read old new → q ≡ over (came.Master (Ok read))
+      → DoesReadAndPasses (rules_of tells s) p old q new
+  masters_done read query at are master same reads took =
       let gave = subst (λ x. IsReadOver tells s x read old new) same reads in
-      came_over (came.Master (Ok read)) Mastering (mastering p.at at) took (inl (record { out = read; over = gave; then = refl }))
-      (mastered_on tells s (over (came.Master (Ok read))) new read)
+      let r : Reading = over (came.Master (Ok read)) in
+      came_over (came.Master (Ok read)) Mastering (mastering p.at at) took
+      (inl (record {
+        out = read;
+        over = gave;
+        then = ap (λ n. taken (came.Master (Ok read)) (hops_between old.link new.link)
+            (was_called old.keepers new.keepers) (given_by n p)) master;
+      }))
+      (mastered_on tells s r new read)
       (λ least was told critical. store_comes tells s p old.keepers new.keepers old.fleet.stores read least (version_now s p new.keepers) are gave.reads told
       (subst (HasComeTo least (version_now s p old.keepers)) (mastering p.at at) (was told critical)))
       (mastered_stands (types_of s.schema) (pens_of new.fleet.stores) (wanted_by p) read (gave.given p.floor is.reached))
 
 -- nothing was carried back, and its ask ended
-module _ (tells : Bool) (s : Settings) (leaders : Leaders) (p q : Reading) (old mid : World) (end : Fleet)
+module _ (tells : Bool) (s : Settings) (p q : Reading) (old mid : World) (end : Fleet)
     (is : IsReadUnderWay tells s old.keepers.told old.fleet p) (on : ReadsOn tells s old mid) (ends : EndsAskAlone s p mid.fleet end)
     (refusal : Refusal) where
   abbrev new : World
@@ -428,24 +475,49 @@ module _ (tells : Bool) (s : Settings) (leaders : Leaders) (p q : Reading) (old 
 
   lost_over : (outcome : ReadResult) (at : Standing) → p.at ≡ at
       → standing_after p.critical p.bound p.at outcome ≡ Ended (ended.Refused (Refused refusal))
-      → q ≡ lost outcome → DoesReadStage (led_by tells s leaders) at p old (lost outcome) new → PassesReadStage (led_by tells s leaders) p old q new
+      → q ≡ lost outcome → DoesReadStage (rules_of tells s) at p old (lost outcome) new → DoesReadAndPasses (rules_of tells s) p old q new
   lost_over outcome at at_is over =
-      refused tells s leaders p old new is (on_after tells s old mid end on ends.rest ends.fleet ends.goes
+      refused tells s p old new is (on_after tells s old mid end on ends.rest ends.fleet ends.goes
       (end_reaches mid.keepers.told p.follower mid.fleet end ends.rest p.ask ends.ends)) q outcome (hops_between old.link mid.link)
       (was_called old.keepers mid.keepers) (Refused refusal) at at_is over (no_refusal refusal)
 
-  pub asks_lost : (follower : NodeName) (query : Query) (floor : ℕ) → stage_of p.at ≡ stage.Ask → IsOfPlan p follower query floor
-      → IsNotGiven s (record { follower = follower; leader = leaders.leader }) (wanted query floor) refusal old mid
-      → q ≡ lost (came.Ask (Err (Refused refusal))) → PassesReadStage (led_by tells s leaders) p old q new
-  asks_lost follower query floor at of vain took =
-      let not = of_plan (λ f q n. IsNotGiven s (record { follower = f; leader = leaders.leader }) (wanted q n) refusal old mid)
+  pub asks_lost : (node follower : NodeName) (query : Query) (floor : ℕ) → stage_of p.at ≡ stage.Ask → node ≡ asked_of_read old.states p
+      → IsOfPlan p follower query floor → IsNotGiven s (record { follower = follower; leader = node }) (wanted query floor) refusal old mid
+      → q ≡ lost (came.Ask (Err (Refused refusal))) → DoesReadAndPasses (rules_of tells s) p old q new
+  asks_lost node follower query floor at asked of vain took =
+      let not = of_plan (λ f q n. IsNotGiven s (record { follower = f; leader = node }) (wanted q n) refusal old mid)
       p follower query floor of vain in
-      lost_over (came.Ask (Err (Refused refusal))) Asking (asking p.at at) refl took
-      (inr (record { refusal = refusal; mid = mid; fails = not; ends = ends.ends; rest = alone; then = refl }))
+      let outcome = came.Ask (Err (Refused refusal)) in
+      lost_over outcome Asking (asking p.at at) refl took
+      (subst (λ n. DoesAsk s n p old (lost outcome) new) asked
+      (inr (record { refusal = refusal; mid = mid; fails = not; ends = ends.ends; rest = alone; then = refl })))
 
   pub masters_lost : (follower : NodeName) (query : Query) (floor : ℕ) → stage_of p.at ≡ stage.Master → IsOfPlan p follower query floor
-      → IsNotRead s follower query refusal old mid → q ≡ lost (came.Master (Err (Refused refusal))) → PassesReadStage (led_by tells s leaders) p old q new
+      → IsNotRead s follower query refusal old mid → q ≡ lost (came.Master (Err (Refused refusal))) → DoesReadAndPasses (rules_of tells s) p old q new
   masters_lost follower query floor at of vain took =
       let not = of_plan (λ f q n. IsNotRead s f q refusal old mid) p follower query floor of vain in
       lost_over (came.Master (Err (Refused refusal))) Mastering (mastering p.at at) refl took
       (inr (record { refusal = refusal; mid = mid; fails = not; ends = ends.ends; rest = alone; then = refl }))
+
+-- ---- a node is down
+
+pub ends_down : (tells : Bool) (s : Settings) (p q : Reading) (around : Nodes) (keepers : KeeperState) (link : LinkShown) (end : Fleet) (node : NodeName)
+    (next : ReadStage) (came_to : ReadResult) → IsConsistent tells s keepers.told around.fleet → IsReadUnderWay tells s keepers.told around.fleet p
+    → read_down around.topology p ≡ Some node → EndsAskAlone s p around.fleet end → next ≡ stage_of p.at
+    → came_to ≡ read_refused next (read_is_down node) → q ≡ taken came_to 0 false p
+    → EndsReadAndPasses (rules_of tells s) p (world around keepers link) q (world (record around { fleet = end }) keepers link)
+ends_down tells s p q around keepers link end node next came_to consistent is down ends next_is refused took =
+    let old : World = world around keepers link in
+    let new : World = world (record around { fleet = end }) keepers link in
+    let outcome = read_refused (stage_of p.at) (read_is_down node) in
+    let then : q ≡ taken outcome 0 false p =
+    took ∙ ap (λ o. taken o 0 false p) (refused ∙ ap (λ n. read_refused n (read_is_down node)) next_is) in
+    let on : ReadsOn tells s old new =
+    on_after tells s old old end (on_same tells s old old refl refl refl consistent (λ told store. refl) (later_self keepers) (link_self link))
+    ends.rest ends.fleet ends.goes (end_reaches keepers.told p.follower around.fleet end ends.rest p.ask ends.ends) in
+    record {
+      ends = record { node = node; down = down; ends = ends.ends; rest = ap (λ f. record old { fleet = f }) ends.rest; then = then };
+      read = subst (IsReadUnderWay tells s keepers.told end) (sym then) (read_on tells s p old new is on outcome 0 false
+          (subst (StandsSo (types_of s.schema) (pens_of end.stores) (wanted_by p)) (sym (ended_read (stage_of p.at) (read_is_down node) p 0 false)) tt));
+      on = on;
+    }

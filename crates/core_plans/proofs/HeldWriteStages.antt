@@ -5,7 +5,9 @@ use Rattle.std.specs.Option.{option_map}
 use Rattle.std.specs.Prelude.{⊤, Err, IfOk, IfSome, IsSome, Ok, OnOk, Result, option_and_then, unwrap_or}
 use Rattle.core_model.specs.Fleet.{Fleet}
 use Rattle.core_model.specs.Jobs.{CanBeMerged, IsMergedJob, ShardJob, job_on}
-use Rattle.core_steps.specs.OtherEnds.{EndsOver, MergesOver, StandsThere, job_way, known_of}
+use Rattle.core_steps.specs.OtherEnds.{EndsOver, MergesOver, StandsThere, known_of, sent_job}
+use Rattle.core_steps.specs.declared.jobs.JobSender.{JobSender}
+use Rattle.core_steps.specs.declared.routes.TierPlace.{TierPlace}
 use Rattle.core_steps.specs.Posting.{PostsOn}
 use Rattle.core_steps.specs.World.{World}
 use Rattle.core_steps.specs.Routes.{hops_between}
@@ -29,6 +31,7 @@ use Rattle.tao_schema.specs.Schema.{types_of}
 use Rattle.topology.specs.Config.{Settings}
 use Rattle.write_plan.specs.Committing.{has_inverse, kind_said}
 use Rattle.write_plan.specs.Plans.{Writing, after_stage, answered_job, back_stage, job_stage, next_of, stage_from as stage_by, written_there}
+use Rattle.write_plan.specs.Stages.{write_refused}
 use Rattle.write_plan.specs.declared.committed.Committed.{Committed}
 use Rattle.write_plan.specs.declared.progress.OtherEnd.{OtherEnd}
 use Rattle.write_plan.specs.declared.progress.OtherEnd.TheVariants.{Due, Merged, Ended, Open}
@@ -41,9 +44,10 @@ use Rattle.write_plan.specs.declared.results.WriteResult.{WriteResult}
 use Rattle.write_plan.specs.declared.results.WriteResult.TheVariants as came
 use Rattle.write_plan.specs.declared.stage.WriteStage.{WriteStage}
 use Rattle.write_plan.specs.declared.stage.WriteStage.TheVariants.{Commit, Inverse, End, Relay, Apply, Done}
-use Rattle.core_plans.specs.HeldWrites.{ComesOfCommit, DoesWriteStage, IsAnswerTo, IsBefore, IsWriteUnderWay, PassesWriteStage, job_by, taken_as}
-use Rattle.core_plans.specs.HeldWrites.{with_notes}
-use Rattle.core_plans.specs.LedBy.{led_by}
+use Rattle.core_plans.specs.HeldWrites.{ComesOfCommit, CommitsBy, FindsNoLeader, IsAnswerTo, IsBefore, IsWriteUnderWay, PassesWriteStage, job_by}
+use Rattle.core_plans.specs.HeldWrites.{job_sender, taken_as, with_notes}
+use Rattle.core_plans.specs.LedBy.{Rules, led_by, rules_of}
+use Rattle.core_plans.specs.Needs.{tier_of_write}
 use Rattle.core_plans.specs.declared.leaders.Leaders.{Leaders}
 use Rattle.core_plans.proofs.WritesGoOn.{write_later}
 
@@ -290,6 +294,15 @@ module _ (tells : Bool) (s : Settings) (tables : Tables) (f : Fleet) (p : Writin
   refused_still reply relay spare hops =
       moves p.job p.other p.back (Some reply) relay spare hops is.begun is.merged is.other (λ none. absurd (cc)) (λ none. absurd (cc))
 
+  -- it was, at whatever stage
+  pub ended_still : (at : WriteStage) (reply : Reply) (hops : ℕ) → IsWriteUnderWay tells s tables f (after_stage p (write_refused at reply) hops)
+  ended_still Commit reply hops = refused_still reply p.relay p.spare _
+  ended_still Inverse reply hops = refused_still reply p.relay p.spare _
+  ended_still End reply hops = refused_still reply p.relay p.spare _
+  ended_still Relay reply hops = refused_still reply None p.spare _
+  ended_still Apply reply hops = refused_still reply p.relay None _
+  ended_still Done reply hops = refused_still reply p.relay None _
+
   -- it came so far on its way back, or not
   pub applied_still : (outcome : Result ⊤ Reply) (hops : ℕ) → IsWriteUnderWay tells s tables f (after_stage p (came.Apply outcome) hops)
   applied_still (Ok done) hops =
@@ -343,16 +356,40 @@ module _ (tells : Bool) (s : Settings) (tables : Tables) (f : Fleet) (p : Writin
     merged_still (Err (Refused reply)) hops merged stands = refused_still reply p.relay p.spare _
 
     -- it ended, or not
-    pub ended_still : (result : Result ⊤ LeftOpen) (hops : ℕ) → late_wrote result ≡ None
+    pub job_ended_still : (result : Result ⊤ LeftOpen) (hops : ℕ) → late_wrote result ≡ None
         → IsWriteUnderWay tells s tables f (after_stage p (came.End result) hops)
-    ended_still (Ok done) hops none =
+    job_ended_still (Ok done) hops none =
         moves Ended p.other p.back p.refused p.relay p.spare _ (not_begun Ended p.other) (λ now. absurd (cc)) is.other is.spare is.relay
-    ended_still (Err (Scheduled why wrote)) hops none =
+    job_ended_still (Err (Scheduled why wrote)) hops none =
         moves (Open why) (written_there p.other wrote) p.back p.refused p.relay p.spare _ (not_begun (Open why) (written_there p.other wrote))
         (λ now. absurd (cc)) (there wrote (subst (λ o. StandsThere s job o f.stores) (sym none) tt)) is.spare is.relay
-    ended_still (Err (Refused reply)) hops none = refused_still reply p.relay p.spare _
+    job_ended_still (Err (Refused reply)) hops none = refused_still reply p.relay p.spare _
 
 -- ---- its job
+
+-- what answered it
+answered_of : (p : Writing) (job : Job) → answered_job p ≡ Some job → (c : Committed) × (p.committed ≡ Some c)
+answered_of p job is = by p.committed refl
+  where
+    by : (found : Option Committed) → p.committed ≡ found → (c : Committed) × (p.committed ≡ Some c)
+    by None at = absurd (answered_none p job is at)
+    by (Some c) at = (c, at)
+
+pub job_answered : (p : Writing) → IsSome (answered_job p) → IsSome p.committed
+job_answered p some = by p.committed some
+  where
+    by : (found : Option Committed) → IsSome (option_and_then (λ (c : Committed). c.wrote.job) found) → IsSome found
+    by None none = absurd (cc)
+    by (Some c) has = refl
+
+-- who sends it
+abbrev sender_of : NodeName → TierPlace → JobSender
+sender_of leader by = record { leader = leader; by = by }
+
+pub sends_job : (p : Writing) (leader : NodeName) (by : TierPlace) → IfSome p.committed (λ c. leader ≡ c.leader) → by ≡ tier_of_write p
+    → IfSome p.committed (λ c. sender_of leader by ≡ job_sender p c)
+sends_job p leader by leader_is by_is =
+    IfSome_then p.committed leader_is (λ c is. ap (λ l. sender_of l by) is ∙ ap (sender_of c.leader) by_is)
 
 pub no_job : (p : Writing) → IsSome (answered_job p) → answered_job p ≡ None → ⊥
 no_job p some none =
@@ -374,59 +411,85 @@ pub ended_on : (tells : Bool) (s : Settings) (tables : Tables) (f : Fleet) (p : 
     → IsWriteUnderWay tells s tables f p → answered_job p ≡ Some job → EndsOver tells s (job_by p job) result old new
     → IsWriteUnderWay tells s tables f (after_stage p (came.End result) 0)
 ended_on tells s tables f p job result old new is at ends =
-    ended_still tells s tables f p is job at result 0 (end_writes_none tells s (job_by p job) result old new ends)
+    job_ended_still tells s tables f p is job at result 0 (end_writes_none tells s (job_by p job) result old new ends)
+
+-- where no leader can be chosen for it
+pub unled_still : (tells : Bool) (s : Settings) (tables : Tables) (f : Fleet) (p q : Writing) (old new : World) → IsWriteUnderWay tells s tables f p
+    → FindsNoLeader p old q new → IsWriteUnderWay tells s tables f q
+unled_still tells s tables f p q old new is finds = subst (IsWriteUnderWay tells s tables f) (sym finds.then) (ended_still tells s tables f p is Commit _ 0)
 
 -- ---- a stage was done
 
-module _ (tells : Bool) (s : Settings) (leaders : Leaders) (p q : Writing) (old new : World)
-    (is : IsWriteUnderWay tells s old.keepers.told old.fleet p) (on : PostsOn tells s old new) where
+-- the one that was next
+pub passes_at : (rules : Rules) (at : WriteStage) (p q : Writing) (old new : World) → next_of p ≡ at → PassesWriteStage rules at p old q new
+    → PassesWriteStage rules (next_of p) p old q new
+passes_at rules at p q old new is = subst (λ next. PassesWriteStage rules next p old q new) (sym is)
+
+module _ (tells : Bool) (s : Settings) (p q : Writing) (old new : World) (is : IsWriteUnderWay tells s old.keepers.told old.fleet p)
+    (on : PostsOn tells s old new) where
   abbrev hops : ℕ
   hops = hops_between old.link new.link
 
-  later : IsWriteUnderWay tells s new.keepers.told new.fleet p
+  abbrev Goes : Writing → Type 0
+  Goes r = IsWriteUnderWay tells s new.keepers.told new.fleet r
+
+  later : Goes p
   later = write_later tells s old.keepers.told new.keepers.told old.fleet new.fleet p on.consistent on.goes on.grows is
 
-  passes : (at : WriteStage) (result : WriteResult) → q ≡ after_stage p result hops → DoesWriteStage (led_by tells s leaders) at p old q new
-      → IsWriteUnderWay tells s new.keepers.told new.fleet (after_stage p result hops)
-      → PassesWriteStage (led_by tells s leaders) at p old q new
-  passes at result then does still =
-      record { does = does; write = taken_on tells s new.keepers.told new.fleet p q result hops then still; on = on }
+  module _ (leaders : Leaders) (at : next_of p ≡ Commit) where
+    abbrev Commits : Type 0
+    Commits = CommitsBy (rules_of tells s) (Some leaders) p old q new
 
-  commits_done : (given : Result CommitAnswer Refusal) → next_of p ≡ Commit → ComesOfCommit (led_by tells s leaders) p given old new
-      → q ≡ after_stage p (came.Commit (taken_as given)) hops → PassesWriteStage (led_by tells s leaders) Commit p old q new
-  commits_done (Ok answer) at comes then =
-      passes Commit (came.Commit (Ok answer)) then (inl (record {
+    commits_done : (given : Result CommitAnswer Refusal) → ComesOfCommit (led_by (rules_of tells s) leaders) p given old new
+        → q ≡ after_stage p (came.Commit (taken_as given)) hops → Commits × Goes q
+    commits_done (Ok answer) comes then = (
+      inl (record {
         committed = answer.committed;
+        leader = comes.leader;
         passed = comes.passed;
         commits = comes.commits;
         answer = comes.is;
         then = then ∙ ap (λ a. after_stage p (came.Commit (Ok a)) hops) comes.notes;
-      }))
-      (committed_still tells s new.keepers.told new.fleet p later (Ok answer) hops (before_commit p at) comes.is comes.notes comes.job)
-  commits_done (Err refusal) at comes then =
-      passes Commit (came.Commit (Err (replied.Refused refusal))) then (inr (record { refusal = refusal; refuses = comes; then = then }))
-      (committed_still tells s new.keepers.told new.fleet p later (Err (replied.Refused refusal)) hops (before_commit p at) tt tt tt)
+      }),
+      taken_on tells s new.keepers.told new.fleet p q (came.Commit (Ok answer)) hops then
+          (committed_still tells s new.keepers.told new.fleet p later (Ok answer) hops (before_commit p at) comes.is comes.notes comes.job),
+    )
+    commits_done (Err refusal) comes then = (
+      inr (record { refusal = refusal; refuses = comes; then = then }),
+      taken_on tells s new.keepers.told new.fleet p q (came.Commit (Err (replied.Refused refusal))) hops then
+          (committed_still tells s new.keepers.told new.fleet p later (Err (replied.Refused refusal)) hops (before_commit p at) tt tt tt),
+    )
 
-  pub commits_pass : (given : Result CommitAnswer Refusal) (took : ℕ) → next_of p ≡ Commit → ComesOfCommit (led_by tells s leaders) p given old new
-      → took ≡ hops → q ≡ after_stage p (came.Commit (taken_as given)) took → PassesWriteStage (led_by tells s leaders) Commit p old q new
-  commits_pass given took at comes took_is then =
-      commits_done given at comes (then ∙ ap (after_stage p (came.Commit (taken_as given))) took_is)
+    -- by these leaders, which may lead it
+    pub commits_pass : (given : Result CommitAnswer Refusal) (took : ℕ) → ComesOfCommit (led_by (rules_of tells s) leaders) p given old new
+        → took ≡ hops → q ≡ after_stage p (came.Commit (taken_as given)) took → Commits × Goes q
+    commits_pass given took comes took_is then =
+        commits_done given comes (then ∙ ap (after_stage p (came.Commit (taken_as given))) took_is)
 
-  pub merges_pass : (job : Job) (shard : ℕ) (result : Result Wrote LeftOpen) (took : ℕ) → answered_job p ≡ Some job → shard ≡ write_shard p.write
-      → MergesOver tells s (job_way leaders.leader (job_on shard job)) result old new
+  pub merges_pass : (sender : JobSender) (job : Job) (shard : ℕ) (result : Result Wrote LeftOpen) (took : ℕ)
+      → IfSome p.committed (λ c. sender ≡ job_sender p c) → answered_job p ≡ Some job → shard ≡ write_shard p.write
+      → MergesOver tells s (sent_job sender (job_on shard job)) result old new
       → WhereTold tells (OnOk result (IsMergedJob s new.keepers.told (job_on shard job)))
       → StandsThere s job (known_of result) new.fleet.stores
-      → took ≡ hops → q ≡ after_stage p (came.Inverse result) took → PassesWriteStage (led_by tells s leaders) Inverse p old q new
-  merges_pass job shard result took answered shard_is merges merged stands took_is took_so =
+      → took ≡ hops → q ≡ after_stage p (came.Inverse result) took → PassesWriteStage (rules_of tells s) Inverse p old q new
+  merges_pass sender job shard result took sent answered shard_is merges merged stands took_is took_so =
       let tables = new.keepers.told in
       let then = took_so ∙ ap (after_stage p (came.Inverse result)) took_is in
-      passes Inverse (came.Inverse result) then
-      (record {
-        job = job;
-        answered = answered;
-        result = result;
-        merges = to_job (λ j. MergesOver tells s (job_way leaders.leader j) result old new) p job shard shard_is merges;
-        then = then;
-      })
-      (merged_still tells s tables new.fleet p later job answered result hops
-      (to_job (λ j. WhereTold tells (OnOk result (IsMergedJob s tables j))) p job shard shard_is merged) stands)
+      let by = answered_of p job answered in
+      record {
+        does = record {
+          committed = by.0;
+          answer = by.1;
+          job = job;
+          answered = answered;
+          result = result;
+          merges = subst (λ from. MergesOver tells s (sent_job from (job_by p job)) result old new)
+              (if_some_at (λ c. sender ≡ job_sender p c) p.committed by.0 sent by.1)
+              (to_job (λ j. MergesOver tells s (sent_job sender j) result old new) p job shard shard_is merges);
+          then = then;
+        };
+        write = taken_on tells s tables new.fleet p q (came.Inverse result) hops then
+            (merged_still tells s tables new.fleet p later job answered result hops
+            (to_job (λ j. WhereTold tells (OnOk result (IsMergedJob s tables j))) p job shard shard_is merged) stands);
+        on = on;
+      }

@@ -46,8 +46,10 @@ use Rattle.core_model.specs.Consistent.{IsConsistent}
 use Rattle.core_model.specs.Pens.{pens_of}
 use Rattle.core_model.specs.Stores.{HaveMasterRegions, master_store, masters_of, stores_in}
 use Rattle.core_plans.specs.Held.{IsOver, next_stage, learnt_with}
-use Rattle.core_plans.specs.HeldWrites.{CommitsHeld, DoesWriteStage, IsAnswerTo, IsWriteUnderWay, call_of_plan, job_by}
-use Rattle.core_plans.specs.LedBy.{led_by}
+use Rattle.core_plans.specs.HeldWrites.{ComesOfWrite, CommitsBy, CommitsHeld, DoesWriteStage, IsAnswerTo, IsWriteUnderWay, call_of_plan, job_by}
+use Rattle.core_plans.specs.HeldWrites.{job_sender}
+use Rattle.core_plans.specs.LedBy.{led_by, rules_of}
+use Rattle.core_plans.specs.Needs.{leaders_of_write}
 use Rattle.core_plans.specs.declared.leaders.Leaders.{Leaders}
 use Rattle.core_plans.specs.WholeCalls.{PassesStage}
 use Rattle.core_plans.specs.WholeLaws.{HasOtherEnds, IsBegunWrite, WrittenIsThere}
@@ -55,11 +57,12 @@ use Rattle.core_plans.specs.declared.held.HeldPlan.{HeldPlan}
 use Rattle.core_plans.specs.declared.held.HeldPlan.TheVariants.{Read, Write}
 use Rattle.core_plans.proofs.HeldWriteStages.{at_end, at_inverse, before_commit}
 use Rattle.core_plans.proofs.InTurn.{write_same}
+use Rattle.core_plans.proofs.StageLemmas.{ended_down, merge_refuses_none}
 use Rattle.core_plans.proofs.WholeRuns.{OfWrite, write_keeps}
 use Rattle.core_plans.proofs.WriteRefusals.{IsAnswered, IsRefusedSo, answered_write, refused_so}
 use Rattle.core_steps.proofs.ReadLemmas.{log_is}
 use Rattle.core_steps.proofs.WriteLemmas.{stands_in_log}
-use Rattle.core_steps.specs.OtherEnds.{EndsOver, MergesOver, job_way, learnt_entry_of}
+use Rattle.core_steps.specs.OtherEnds.{EndsOver, MergesOver, learnt_entry_of, sent_job}
 use Rattle.core_steps.specs.World.{World}
 use Rattle.core_steps.specs.Writes.{StepsAs, asked_of_log}
 use Rattle.core_steps.specs.declared.jobs.LearntEntry.{LearntEntry}
@@ -194,7 +197,7 @@ record StandsSoFar (s : Settings) (p : Writing) (now : World) : Type 0 where
   jobs : JobsStand s (write_shard p.write) p.committed p.job now.keepers.told
   never : IsRefusedSo p.refused
 
-module _ (s : Settings) (leaders : Leaders) (p q : Writing) (old new : World) (so : StandsSoFar s p old) where
+module _ (s : Settings) (p q : Writing) (old new : World) (so : StandsSoFar s p old) where
   abbrev shard : ℕ
   shard = write_shard p.write
 
@@ -204,7 +207,7 @@ module _ (s : Settings) (leaders : Leaders) (p q : Writing) (old new : World) (s
   abbrev after : Tables
   after = new.keepers.told
 
-  module _ (is : CommitsHeld (led_by true s leaders) p old q new) where
+  module _ (leaders : Leaders) (is : CommitsHeld (led_by (rules_of true s) leaders) p old q new) where
     abbrev answer : Wrote
     answer = is.committed.wrote
 
@@ -239,14 +242,22 @@ module _ (s : Settings) (leaders : Leaders) (p q : Writing) (old new : World) (s
       subst (λ n. (stores_in s after).job n e.position ≡ None) ends.of.shard_is
       (subst (λ at. (stores_in s after).job ends.owed.shard at ≡ None) (ends.of.position_is ∙ position) ends.ends.ends.here)
 
-  stage_stands : (at : WriteStage) → next_of p ≡ at → DoesWriteStage (led_by true s leaders) at p old q new → JobsStand s shard q.committed q.job after
-  stage_stands Commit at (inl commits) = commits_stand commits at
-  stage_stands Commit at (inr refuses) =
+  commits_so : (leaders : Option Leaders) → next_of p ≡ Commit → CommitsBy (rules_of true s) leaders p old q new
+      → JobsStand s shard q.committed q.job after
+  commits_so (Some leaders) at (inl commits) = commits_stand leaders commits at
+  commits_so (Some leaders) at (inr refuses) =
       subst (λ (r : Writing). JobsStand s shard r.committed r.job after) (sym refuses.then)
       (subst (λ c. JobsStand s shard c p.job after) (sym (before_commit p at)) tt)
+  commits_so None at finds =
+      subst (λ (r : Writing). JobsStand s shard r.committed r.job after) (sym finds.then)
+      (subst (λ c. JobsStand s shard c p.job after) (sym (before_commit p at)) tt)
+
+  stage_stands : (at : WriteStage) → next_of p ≡ at → DoesWriteStage (rules_of true s) at p old q new → JobsStand s shard q.committed q.job after
+  stage_stands Commit at does = commits_so (leaders_of_write s old.states p) at does
   stage_stands Inverse at does =
+      let sent = sent_job (job_sender p does.committed) (job_by p does.job) in
       merges s shard p q does.job does.result _ before after does.answered (at_inverse p at).1
-      (λ reply is. subst (λ r. MergesOver true s (job_way leaders.leader (job_by p does.job)) r old new) is does.merges) does.then so.jobs
+      (λ reply is. merge_refuses_none true s sent reply old new (subst (λ r. MergesOver true s sent r old new) is does.merges)) does.then so.jobs
   stage_stands End at does =
       ends s shard p q does.job does.result 0 before after does.answered (at_end p at).1
       (λ reply is. subst (λ r. EndsOver true s (job_by p does.job) r old new) is does.ends)
@@ -261,15 +272,20 @@ module _ (s : Settings) (leaders : Leaders) (p q : Writing) (old new : World) (s
       rests (ap (λ (r : Writing). r.committed) loses.then) (ap (λ (r : Writing). r.job) loses.then) (ap (λ k. k.told) loses.rest.keepers)
   stage_stands Done at does = absurd does
 
-stands_on : (s : Settings) (leaders : Leaders) (p q : Writing) (old new : World) → StandsSoFar s p old
-    → PassesStage (led_by true s leaders) (Write p) old (Write q) new → StandsSoFar s q new
-stands_on s leaders p q old new so stage = record {
+  comes_stand : ComesOfWrite (rules_of true s) p old q new → JobsStand s shard q.committed q.job after
+  comes_stand (inl does) = stage_stands (next_of p) refl does.does
+  comes_stand (inr ends) =
+      let is = ended_down p q old new ends in
+      rests is.committed is.job (ap (λ (x : World). x.keepers.told) ends.same)
+
+stands_on : (s : Settings) (p q : Writing) (old new : World) → StandsSoFar s p old → PassesStage (rules_of true s) (Write p) old (Write q) new
+    → StandsSoFar s q new
+stands_on s p q old new so stage = record {
   under_way = stage.under_way;
   are = stage.on.consistent;
-  jobs = subst (λ w. JobsStand s (write_shard w) q.committed q.job new.keepers.told)
-      (sym (write_same p q old new (led_by true s leaders) (next_of p) stage.steps).write)
-      (stage_stands s leaders p q old new so (next_of p) refl stage.steps);
-  never = refused_so (led_by true s leaders) p q old new so.never (next_of p) stage.steps;
+  jobs = subst (λ w. JobsStand s (write_shard w) q.committed q.job new.keepers.told) (sym (write_same p q old new (rules_of true s) stage.steps).write)
+      (comes_stand s p q old new so stage.steps);
+  never = refused_so (rules_of true s) p q old new so.never stage.steps;
 }
 
 -- ---- once it is over
@@ -361,9 +377,9 @@ begun_stands s p now begun under_way are = record {
   never = subst IsRefusedSo (sym begun.unrefused) tt;
 }
 
-pub written_is_there : (s : Settings) (leaders : Leaders) (p : Writing) (old : World) (q : HeldPlan) (new : World) → WrittenIsThere s leaders p old q new
-written_is_there s leaders p old q new = record {
+pub written_is_there : (s : Settings) (p : Writing) (old : World) (q : HeldPlan) (new : World) → WrittenIsThere s p old q new
+written_is_there s p old q new = record {
   there = λ regions begun under_way are out reply over told. ended_there s q new reply regions
-      (write_keeps (led_by true s leaders) (StandsSoFar s) (stands_on s leaders) out.stages p q old new (begun_stands s p old begun under_way are) out.passes)
+      (write_keeps (rules_of true s) (StandsSoFar s) (stands_on s) out.stages p q old new (begun_stands s p old begun under_way are) out.passes)
       over out.over told;
 }

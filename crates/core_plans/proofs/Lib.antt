@@ -1,5 +1,7 @@
 pub mod AsksHeld
+mod ChosenLeaders
 mod ComingBack
+pub mod Choosing
 mod CommitLemmas
 mod GivenUp
 pub mod HeldReadLemmas
@@ -14,11 +16,15 @@ pub mod StagesLeft
 pub mod InTurn
 mod InverseThere
 pub mod ReadRefusals
+mod ReadsHeld
 pub mod RefusedWrites
 mod ShortOfMemory
+pub mod StageLemmas
 mod Taking
+pub mod UpNodes
 mod WholeReads
 pub mod WholeRuns
 mod WholeWays
+pub mod WholeUp
 mod WholeWrites
 pub mod WriteRefusals

@@ -6,8 +6,7 @@ use Rattle.std.specs.Prelude.{IfSome, IsSome, Some}
 use Rattle.core_model.specs.Fleet.{Fleet}
 use Rattle.core_plans.specs.Held.{ChangesPlan, GivesUpPlan, IsUnderWay, Plans, StepsHeld, StepsPlan, given_up, learner, plan_at}
 use Rattle.core_plans.specs.declared.held.HeldPlan.{HeldPlan}
-use Rattle.core_plans.specs.LedBy.{led_by}
-use Rattle.core_plans.specs.declared.leaders.Leaders.{Leaders}
+use Rattle.core_plans.specs.LedBy.{rules_of}
 use Rattle.core_steps.specs.World.{World}
 use Rattle.tao_keeper.specs.Table.{Tables}
 use Rattle.topology.specs.Config.{Settings}
@@ -21,11 +20,11 @@ changes_plan number after old new there writes = record {
 }
 
 -- the plan that was found did a stage, and was written back
-pub steps_plan : (tells : Bool) (s : Settings) (leaders : Leaders) (number : ℕ) (plans : Plans) (map later : BTreeMap ℕ HeldPlan) (before after : HeldPlan)
-    (old new : World) → map.entries ≡ plans → Some before ≡ get nat_cmp map number → StepsHeld (led_by tells s leaders) before old after new
-    → WritesThrough nat_cmp (nat_cmp number) map after later → StepsPlan (led_by tells s leaders) number plans old later.entries new
-steps_plan tells s leaders number plans map later before after old new is found steps writes =
-    subst (λ seen. StepsPlan (led_by tells s leaders) number seen old later.entries new) is (record {
+pub steps_plan : (tells : Bool) (s : Settings) (number : ℕ) (plans : Plans) (map later : BTreeMap ℕ HeldPlan) (before after : HeldPlan)
+    (old new : World) → map.entries ≡ plans → Some before ≡ get nat_cmp map number → StepsHeld (rules_of tells s) before old after new
+    → WritesThrough nat_cmp (nat_cmp number) map after later → StepsPlan (rules_of tells s) number plans old later.entries new
+steps_plan tells s number plans map later before after old new is found steps writes =
+    subst (λ seen. StepsPlan (rules_of tells s) number seen old later.entries new) is (record {
       before = before;
       after = after;
       stands = sym found;

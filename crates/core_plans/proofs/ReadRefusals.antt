@@ -1,12 +1,13 @@
 -- A read that is refused gives no answer.
-use Rattle.std.proofs.Common.{◌≡◌, Bool, true, false, Option, Some, None, ap, sym, ◌∙◌, subst, inl, inr}
+use Rattle.std.proofs.Common.{◌≡◌, refl, Bool, true, false, Option, Some, None, ap, sym, ◌∙◌, subst, inl, inr}
 use Rattle.cache_items.specs.declared.look.Look.{Look}
 use Rattle.cache_items.specs.declared.look.Look.TheVariants.{Hit, Miss}
-use Rattle.core_plans.specs.HeldReads.{DoesKeep, DoesLook, DoesReadStage}
-use Rattle.core_plans.specs.LedBy.{LedBy}
+use Rattle.core_plans.specs.HeldReads.{ComesOfRead, DoesKeep, DoesLook, DoesReadStage, EndsReadDown, read_is_down}
+use Rattle.core_plans.specs.LedBy.{Rules}
+use Rattle.core_plans.proofs.StageLemmas.{ended_read}
 use Rattle.core_steps.specs.World.{World}
 use Rattle.read_plan.specs.Readings.{Reading}
-use Rattle.read_plan.specs.Standings.{after_ask, after_keep, after_look, after_master}
+use Rattle.read_plan.specs.Standings.{after_ask, after_keep, after_look, after_master, stage_of}
 use Rattle.read_plan.specs.declared.end.ReadEnd.TheVariants as ended
 use Rattle.read_plan.specs.declared.standing.Given.{Given}
 use Rattle.read_plan.specs.declared.standing.Given.TheVariants.{Fill, HandedOut, Past}
@@ -65,18 +66,30 @@ keep_never s p q (Past answer version total seen) old new at on =
     (subst (λ a. NeverCalled (after_keep p.bound a None)) (sym at) (λ reply answered stands is. absurd (cc)))
 keep_never s p q (HandedOut version) old new at on = absurd on
 
-pub stage_never : (led : LedBy) (at : Standing) (p q : Reading) (old new : World) → p.at ≡ at → DoesReadStage led at p old q new → NeverCalled q.at
-stage_never led Looking p q old new is does = by p.critical does
+pub stage_never : (rules : Rules) (at : Standing) (p q : Reading) (old new : World) → p.at ≡ at → DoesReadStage rules at p old q new → NeverCalled q.at
+stage_never rules Looking p q old new is does = by p.critical does
   where
-    by : (critical : Bool) → DoesLook led.settings critical p old q new → NeverCalled q.at
+    by : (critical : Bool) → DoesLook rules.settings critical p old q new → NeverCalled q.at
     by false (inl looks) = subst (λ (r : Reading). NeverCalled r.at) (sym looks.then) (look_never p.critical looks.look)
     by false (inr vain) = subst (λ (r : Reading). NeverCalled r.at) (sym vain.then) (refused_never _ (λ answered is. absurd (cc)))
     by true looks = subst (λ (r : Reading). NeverCalled r.at) (sym looks.then) (look_never p.critical Miss)
-stage_never led Asking p q old new is (inl asks) = subst (λ (r : Reading). NeverCalled r.at) (sym asks.then) (ask_never asks.given)
-stage_never led Asking p q old new is (inr vain) =
+stage_never rules Asking p q old new is (inl asks) = subst (λ (r : Reading). NeverCalled r.at) (sym asks.then) (ask_never asks.given)
+stage_never rules Asking p q old new is (inr vain) =
     subst (λ (r : Reading). NeverCalled r.at) (sym vain.then) (refused_never _ (λ answered is. absurd (cc)))
-stage_never led Mastering p q old new is (inl asks) = subst (λ (r : Reading). NeverCalled r.at) (sym asks.then) (master_never asks.out)
-stage_never led Mastering p q old new is (inr vain) =
+stage_never rules Mastering p q old new is (inl asks) = subst (λ (r : Reading). NeverCalled r.at) (sym asks.then) (master_never asks.out)
+stage_never rules Mastering p q old new is (inr vain) =
     subst (λ (r : Reading). NeverCalled r.at) (sym vain.then) (refused_never _ (λ answered is. absurd (cc)))
-stage_never led (Keeping given) p q old new is does = keep_never led.settings p q given old new is does
-stage_never led (Ended end) p q old new is does = absurd does
+stage_never rules (Keeping given) p q old new is does = keep_never rules.settings p q given old new is does
+stage_never rules (Ended end) p q old new is does = absurd does
+
+-- ---- a node is down
+
+-- one whose next stage needs a node that is down ends with that refusal
+pub ends_refused : (p q : Reading) (old new : World) (ends : EndsReadDown p old q new) → q.at ≡ Ended (ended.Refused (read_is_down ends.node))
+ends_refused p q old new ends =
+    ap (λ (r : Reading). r.at) ends.then ∙ ended_read (stage_of p.at) (read_is_down ends.node) p 0 false
+
+pub read_never : (rules : Rules) (p q : Reading) (old new : World) → ComesOfRead rules p old q new → NeverCalled q.at
+read_never rules p q old new (inl next) = stage_never rules p.at p q old new refl next.does
+read_never rules p q old new (inr ends) =
+    subst NeverCalled (sym (ends_refused p q old new ends)) (refused_never (read_is_down ends.node) (λ answered is. absurd (cc)))

@@ -3,16 +3,21 @@ use Rattle.std.proofs.Common.{◌≡◌, ◌∙◌, ℕ, ◌<◌, Bool, true, fa
 use Rattle.cache_items.specs.declared.look.Look.{Look}
 use Rattle.cache_items.specs.declared.look.Look.TheVariants.{Hit, Miss}
 use Rattle.core_plans.specs.Held.{StepsHeld}
-use Rattle.core_plans.specs.HeldReads.{DoesKeep, DoesLook, DoesReadStage}
-use Rattle.core_plans.specs.HeldWrites.{DoesWriteStage, with_notes}
-use Rattle.core_plans.specs.LedBy.{LedBy}
+use Rattle.core_plans.specs.HeldReads.{ComesOfRead, DoesKeep, DoesLook, DoesReadStage, read_is_down}
+use Rattle.core_plans.specs.HeldWrites.{ComesOfWrite, CommitsBy, DoesWriteStage, with_notes}
+use Rattle.core_plans.specs.LedBy.{Rules}
+use Rattle.core_plans.specs.Needs.{leaders_of_write}
+use Rattle.core_plans.specs.declared.leaders.Leaders.{Leaders}
+use Rattle.core_plans.proofs.StageLemmas.{ended_down, ended_read, needs_some, read_needs_some}
 use Rattle.core_plans.specs.WholeCalls.{read_stages_left, stages_left, write_stages_left}
 use Rattle.core_plans.specs.declared.held.HeldPlan.{HeldPlan}
 use Rattle.core_plans.specs.declared.held.HeldPlan.TheVariants.{Read, Write}
 use Rattle.core_steps.specs.World.{World}
 use Rattle.node_name.specs.declared.NodeName.{NodeName}
 use Rattle.read_plan.specs.Readings.{Reading}
-use Rattle.read_plan.specs.Standings.{after_ask, after_keep, after_look, after_master, stage_of}
+use Rattle.read_plan.specs.Standings.{after_ask, after_keep, after_look, after_master, stage_named, stage_of}
+use Rattle.read_plan.specs.declared.stages.ReadStage.{ReadStage}
+use Rattle.read_plan.specs.declared.stages.ReadStage.TheVariants as reads
 use Rattle.read_plan.specs.declared.standing.Given.{Given}
 use Rattle.read_plan.specs.declared.standing.Given.TheVariants.{Fill, HandedOut, Past}
 use Rattle.read_plan.specs.declared.standing.Standing.{Standing}
@@ -27,6 +32,7 @@ use Rattle.shard_tables.specs.declared.writes.Wrote.{Wrote}
 use Rattle.tao_keeper.specs.declared.jobs.Job.{Job}
 use Rattle.topology.specs.Config.{Settings}
 use Rattle.write_plan.specs.Plans.{Writing, after_stage, back_stage, job_stage, next_of, stage_from}
+use Rattle.write_plan.specs.Stages.{stage_said}
 use Rattle.write_plan.specs.declared.committed.Committed.{Committed}
 use Rattle.write_plan.specs.declared.progress.OtherEnd.{OtherEnd}
 use Rattle.write_plan.specs.declared.progress.OtherEnd.TheVariants as job
@@ -39,7 +45,7 @@ use Rattle.write_plan.specs.declared.results.WriteResult.TheVariants as came
 use Rattle.replies.specs.declared.calls.ScheduledWhy.{ScheduledWhy}
 use Rattle.write_plan.specs.declared.stage.WriteStage.{WriteStage}
 use Rattle.write_plan.specs.declared.stage.WriteStage.TheVariants.{Apply, Commit, Done, End, Inverse, Relay}
-use Rattle.std.specs.Prelude.{⊤, Result, option_and_then, unwrap_or}
+use Rattle.std.specs.Prelude.{⊤, IsSome, Result, option_and_then, unwrap_or}
 
 -- ---- reads
 
@@ -74,17 +80,39 @@ keep_closer s p q (Past answer version total seen) old new at on =
     subst (Below 1) (sym on.then) (subst (λ a. read_stages_left (stage_of (after_keep p.bound a None)) < 1) (sym at) (omega arith))
 keep_closer s p q (HandedOut version) old new at on = absurd on
 
-read_closer : (led : LedBy) (at : Standing) (p q : Reading) (old new : World) → p.at ≡ at → DoesReadStage led at p old q new
+read_closer : (rules : Rules) (at : Standing) (p q : Reading) (old new : World) → p.at ≡ at → DoesReadStage rules at p old q new
     → Below (read_stages_left (stage_of at)) q
-read_closer led Looking p q old new at does = look_closer led.settings p.critical p q old new does
-read_closer led Asking p q old new at (inl asks) = subst (Below 3) (sym asks.then) (ask_left asks.given)
-read_closer led Asking p q old new at (inr vain) = subst (Below 3) (sym vain.then) (omega arith)
-read_closer led Mastering p q old new at (inl asks) = subst (Below 2) (sym asks.then) (master_left asks.out)
-read_closer led Mastering p q old new at (inr vain) = subst (Below 2) (sym vain.then) (omega arith)
-read_closer led (Keeping given) p q old new at does = keep_closer led.settings p q given old new at does
-read_closer led (Ended end) p q old new at does = absurd does
+read_closer rules Looking p q old new at does = look_closer rules.settings p.critical p q old new does
+read_closer rules Asking p q old new at (inl asks) = subst (Below 3) (sym asks.then) (ask_left asks.given)
+read_closer rules Asking p q old new at (inr vain) = subst (Below 3) (sym vain.then) (omega arith)
+read_closer rules Mastering p q old new at (inl asks) = subst (Below 2) (sym asks.then) (master_left asks.out)
+read_closer rules Mastering p q old new at (inr vain) = subst (Below 2) (sym vain.then) (omega arith)
+read_closer rules (Keeping given) p q old new at does = keep_closer rules.settings p q given old new at does
+read_closer rules (Ended end) p q old new at does = absurd does
+
+some_read_left : (at : ReadStage) → IsSome (stage_named at) → 0 < read_stages_left at
+some_read_left reads.Look some = omega arith
+some_read_left reads.Ask some = omega arith
+some_read_left reads.Master some = omega arith
+some_read_left reads.Keep some = omega arith
+some_read_left reads.Done some = absurd (cc)
+
+read_comes_closer : (rules : Rules) (p q : Reading) (old new : World) → ComesOfRead rules p old q new → Below (read_stages_left (stage_of p.at)) q
+read_comes_closer rules p q old new (inl does) = read_closer rules p.at p q old new refl does.does
+read_comes_closer rules p q old new (inr ends) =
+    let at = stage_of p.at in
+    subst (Below (read_stages_left at)) (sym ends.then) (subst (λ a. read_stages_left (stage_of a) < read_stages_left at)
+    (sym (ended_read at (read_is_down ends.node) p 0 false)) (some_read_left at (read_needs_some old.states at p ends.node ends.down)))
 
 -- ---- writes
+
+some_left : (at : WriteStage) → IsSome (stage_said at) → 0 < write_stages_left at
+some_left Commit some = omega arith
+some_left Inverse some = omega arith
+some_left End some = omega arith
+some_left Relay some = omega arith
+some_left Apply some = omega arith
+some_left Done some = absurd (cc)
 
 -- the stage that follows a commit, by the job that it answered and the leader that it passed
 abbrev following : Option Job → OtherEnd → Option NodeName → WayBack → WriteStage
@@ -209,26 +237,33 @@ module _ (p q : Writing) (hops : ℕ) where
       by None next = following_left answer.committed.wrote.job p.job answer.committed.passed p.back
       by (Some reply) next = absurd (cc)
 
-write_closer : (led : LedBy) (at : WriteStage) (p q : Writing) (old new : World) → next_of p ≡ at → DoesWriteStage led at p old q new
-    → left_of q < write_stages_left at
-write_closer led Commit p q old new is (inl commits) = commit_left p q _ (with_notes commits.committed) is commits.then
-write_closer led Commit p q old new is (inr refuses) =
-    refused_left p q 0 (Refused_ refuses.refusal) 5 (ap (λ (x : Writing). x.refused) refuses.then) (omega arith)
-write_closer led Inverse p q old new is merges =
-    inverse_left p q _ merges.result (going p Inverse (λ h. absurd (cc)) (λ h. absurd (cc)) is) merges.then
-write_closer led End p q old new is ends = end_left p q 0 ends.result (going p End (λ h. absurd (cc)) (λ h. absurd (cc)) is) ends.then
-write_closer led Apply p q old new is (inl applies) =
-    apply_left p q _ (going p Apply (λ h. absurd (cc)) (λ h. absurd (cc)) is) is applies.then
-write_closer led Apply p q old new is (inr loses) = refused_left p q 0 _ 1 (ap (λ (x : Writing). x.refused) loses.then) (omega arith)
-write_closer led Relay p q old new is (inl relays) =
-    relay_left p q _ (going p Relay (λ h. absurd (cc)) (λ h. absurd (cc)) is) is relays.then
-write_closer led Relay p q old new is (inr loses) = refused_left p q 0 _ 2 (ap (λ (x : Writing). x.refused) loses.then) (omega arith)
-write_closer led Done p q old new is does = absurd does
+module _ (rules : Rules) (p q : Writing) (old new : World) where
+  commit_closer : (leaders : Option Leaders) → next_of p ≡ Commit → CommitsBy rules leaders p old q new → left_of q < 5
+  commit_closer (Some leaders) is (inl commits) = commit_left p q _ (with_notes commits.committed) is commits.then
+  commit_closer (Some leaders) is (inr refuses) =
+      refused_left p q 0 (Refused_ refuses.refusal) 5 (ap (λ (x : Writing). x.refused) refuses.then) (omega arith)
+  commit_closer None is finds = refused_left p q 0 _ 5 (ap (λ (x : Writing). x.refused) finds.then) (omega arith)
+
+  write_closer : (at : WriteStage) → next_of p ≡ at → DoesWriteStage rules at p old q new → left_of q < write_stages_left at
+  write_closer Commit is does = commit_closer (leaders_of_write rules.settings old.states p) is does
+  write_closer Inverse is merges =
+      inverse_left p q _ merges.result (going p Inverse (λ h. absurd (cc)) (λ h. absurd (cc)) is) merges.then
+  write_closer End is ends = end_left p q 0 ends.result (going p End (λ h. absurd (cc)) (λ h. absurd (cc)) is) ends.then
+  write_closer Apply is (inl applies) = apply_left p q _ (going p Apply (λ h. absurd (cc)) (λ h. absurd (cc)) is) is applies.then
+  write_closer Apply is (inr loses) = refused_left p q 0 _ 1 (ap (λ (x : Writing). x.refused) loses.then) (omega arith)
+  write_closer Relay is (inl relays) = relay_left p q _ (going p Relay (λ h. absurd (cc)) (λ h. absurd (cc)) is) is relays.then
+  write_closer Relay is (inr loses) = refused_left p q 0 _ 2 (ap (λ (x : Writing). x.refused) loses.then) (omega arith)
+  write_closer Done is does = absurd does
+
+  write_comes_closer : ComesOfWrite rules p old q new → left_of q < left_of p
+  write_comes_closer (inl does) = write_closer (next_of p) refl does.does
+  write_comes_closer (inr ends) = refused_left p q 0 _ (left_of p) (ended_down p q old new ends).refused
+      (some_left (next_of p) (needs_some old.states (next_of p) p ends.node ends.down))
 
 -- ---- plans
 
-pub stage_closer : (led : LedBy) (p q : HeldPlan) (old new : World) → StepsHeld led p old q new → stages_left q < stages_left p
-stage_closer led (Read p) (Read q) old new steps = read_closer led p.at p q old new refl steps.steps.does
-stage_closer led (Write p) (Write q) old new steps = write_closer led (next_of p) p q old new refl steps
-stage_closer led (Read p) (Write q) old new steps = absurd steps
-stage_closer led (Write p) (Read q) old new steps = absurd steps
+pub stage_closer : (rules : Rules) (p q : HeldPlan) (old new : World) → StepsHeld rules p old q new → stages_left q < stages_left p
+stage_closer rules (Read p) (Read q) old new steps = read_comes_closer rules p q old new steps.steps.does
+stage_closer rules (Write p) (Write q) old new steps = write_comes_closer rules p q old new steps
+stage_closer rules (Read p) (Write q) old new steps = absurd steps
+stage_closer rules (Write p) (Read q) old new steps = absurd steps

@@ -1,14 +1,15 @@
 -- What a read took that did all of its stages, and that it changed no table and no message.
-use Rattle.std.proofs.Common.{◌≡◌, ℕ, ◌<◌, Bool, true, false, ◌||◌, refl, ap, sym, ◌∙◌, subst, inl, inr, arith}
+use Rattle.std.proofs.Common.{◌≡◌, ℕ, ◌<◌, Bool, true, false, ◌||◌, Some, None, refl, ap, sym, ◌∙◌, subst, inl, inr, arith}
 use Rattle.std.specs.Prelude.{◌⊎◌}
 use Rattle.core_plans.specs.Held.{IsOver}
-use Rattle.core_plans.specs.HeldReads.{ChangesFollowers, DoesKeep, DoesLook, DoesReadStage}
-use Rattle.core_plans.specs.LedBy.{LedBy}
+use Rattle.core_plans.specs.HeldReads.{ChangesFollowers, ComesOfRead, DoesKeep, DoesLook, DoesReadStage, read_is_down}
+use Rattle.core_plans.specs.LedBy.{Rules}
+use Rattle.core_plans.specs.Needs.{first_down, read_needs}
 use Rattle.core_plans.specs.WholeCalls.{CarriesOut, PassesStage, read_stages_left}
 use Rattle.core_plans.specs.WholeLaws.{IsBegunRead, TellsCost, WholeRead}
 use Rattle.core_plans.specs.declared.held.HeldPlan.{HeldPlan}
 use Rattle.core_plans.specs.declared.held.HeldPlan.TheVariants.{Read, Write}
-use Rattle.core_plans.proofs.ReadRefusals.{NeverCalled, stage_never}
+use Rattle.core_plans.proofs.ReadRefusals.{NeverCalled, ends_refused, read_never}
 use Rattle.core_plans.proofs.StagesLeft.{stage_closer}
 use Rattle.core_plans.proofs.Taking.{CarriesFew, HasCalled, HasTaken, both_carried, calls_more, none_between, none_called, none_carried, takes_more}
 use Rattle.core_plans.proofs.WholeRuns.{OfRead, read_keeps}
@@ -86,36 +87,44 @@ module _ (first : World) (p q : Reading) (old new : World) (cost : HasCost first
       inl (stays on.rest (ap (λ (r : Reading). r.hops) on.then) (ap (λ (r : Reading). r.store) on.then))
   keep_costs s (HandedOut version) on = absurd on
 
-  stage_costs : (led : LedBy) (at : Standing) → DoesReadStage led at p old q new → Costs first q new
-  stage_costs led Looking does = look_costs led.settings p.critical does
-  stage_costs led Asking (inl asks) =
+  stage_costs : (rules : Rules) (at : Standing) → DoesReadStage rules at p old q new → Costs first q new
+  stage_costs rules Looking does = look_costs rules.settings p.critical does
+  stage_costs rules Asking (inl asks) =
       inl (adds (both_carried old.link new.link asks.over.gives.link) (ap (λ (r : Reading). r.hops) asks.then) (ap (λ (r : Reading). r.store) asks.then))
-  stage_costs led Asking (inr vain) = fails (Refused vain.refusal) (ap (λ (r : Reading). r.at) vain.then)
-  stage_costs led Mastering (inl asks) =
+  stage_costs rules Asking (inr vain) = fails (Refused vain.refusal) (ap (λ (r : Reading). r.at) vain.then)
+  stage_costs rules Mastering (inl asks) =
       inl (adds (both_carried old.link new.link asks.over.link) (ap (λ (r : Reading). r.hops) asks.then) (ap (λ (r : Reading). r.store) asks.then))
-  stage_costs led Mastering (inr vain) = fails (Refused vain.refusal) (ap (λ (r : Reading). r.at) vain.then)
-  stage_costs led (Keeping given) does = keep_costs led.settings given does
-  stage_costs led (Ended end) does = absurd does
+  stage_costs rules Mastering (inr vain) = fails (Refused vain.refusal) (ap (λ (r : Reading). r.at) vain.then)
+  stage_costs rules (Keeping given) does = keep_costs rules.settings given does
+  stage_costs rules (Ended end) does = absurd does
+
+  -- or a node is down that it needs
+  read_costs : (rules : Rules) → ComesOfRead rules p old q new → Costs first q new
+  read_costs rules (inl next) = stage_costs rules p.at next.does
+  read_costs rules (inr ends) = fails (read_is_down ends.node) (ends_refused p q old new ends)
 
 -- a read that was refused does no stage
-refused_rests : (led : LedBy) (p q : Reading) (old new : World) → IsRefused p → DoesReadStage led p.at p old q new → ⊥
-refused_rests led p q old new is does = subst (λ at. DoesReadStage led at p old q new) is.at does
+refused_rests : (rules : Rules) (p q : Reading) (old new : World) → IsRefused p → ComesOfRead rules p old q new → ⊥
+refused_rests rules p q old new is (inl next) = subst (λ at. DoesReadStage rules at p old q new) is.at next.does
+refused_rests rules p q old new is (inr ends) =
+    let none : None ≡ Some ends.node = subst (λ at. first_down old.states (read_needs (stage_of at) p) ≡ Some ends.node) is.at ends.down in
+    absurd (cc)
 
 -- what is so after each stage
 record CostsSoFar (first : World) (p : Reading) (now : World) : Type 0 where
   costs : Costs first p now
   never : NeverCalled p.at
 
-costs_on : (led : LedBy) (first : World) (p q : Reading) (old new : World) → CostsSoFar first p old → PassesStage led (Read p) old (Read q) new
+costs_on : (rules : Rules) (first : World) (p q : Reading) (old new : World) → CostsSoFar first p old → PassesStage rules (Read p) old (Read q) new
     → CostsSoFar first q new
-costs_on led first p q old new so stage =
+costs_on rules first p q old new so stage =
     let does = stage.steps.steps.does in
     record {
       costs = elim so.costs [
-        | inl cost ↦ stage_costs first p q old new cost stage.on.later (stage_closer led (Read p) (Read q) old new stage.steps) led p.at does
-        | inr refused ↦ absurd (refused_rests led p q old new refused does)
+        | inl cost ↦ read_costs first p q old new cost stage.on.later (stage_closer rules (Read p) (Read q) old new stage.steps) rules does
+        | inr refused ↦ absurd (refused_rests rules p q old new refused does)
       ];
-      never = stage_never led p.at p q old new refl does;
+      never = read_never rules p q old new does;
     }
 
 -- ---- what its reply tells
@@ -176,10 +185,10 @@ record LeavesAll (tells : Bool) (first now : World) : Type 0 where
   tables : KeepsTables tells first.keepers now.keepers
   inboxes : now.inboxes ≡ first.inboxes
 
-leaves_on : (led : LedBy) (first : World) (p q : Reading) (old new : World) → LeavesAll led.tells first old
-    → PassesStage led (Read p) old (Read q) new → LeavesAll led.tells first new
-leaves_on led first p q old new so stage = record {
-  tables = keeps_trans led.tells first.keepers old.keepers new.keepers so.tables stage.steps.tables;
+leaves_on : (rules : Rules) (first : World) (p q : Reading) (old new : World) → LeavesAll rules.tells first old
+    → PassesStage rules (Read p) old (Read q) new → LeavesAll rules.tells first new
+leaves_on rules first p q old new so stage = record {
+  tables = keeps_trans rules.tells first.keepers old.keepers new.keepers so.tables stage.steps.tables;
   inboxes = stage.steps.inboxes ∙ so.inboxes;
 }
 
@@ -189,15 +198,15 @@ left_all tells first (Write q) now so = absurd so
 
 -- ---- all of its stages
 
-module _ (led : LedBy) (p : Reading) (old : World) (q : HeldPlan) (new : World) where
-  leaves : CarriesOut led (Read p) old q new → LeavesAll led.tells old new
-  leaves out = left_all led.tells old q new (read_keeps led (λ r x. LeavesAll led.tells old x) (leaves_on led old) out.stages p q old new
+module _ (rules : Rules) (p : Reading) (old : World) (q : HeldPlan) (new : World) where
+  leaves : CarriesOut rules (Read p) old q new → LeavesAll rules.tells old new
+  leaves out = left_all rules.tells old q new (read_keeps rules (λ r x. LeavesAll rules.tells old x) (leaves_on rules old) out.stages p q old new
       (record { tables = λ told at. refl; inboxes = refl }) out.passes)
 
-  pub whole_reads : WholeRead led p old q new
+  pub whole_reads : WholeRead rules p old q new
   whole_reads = record {
     cost = λ begun out reply over. tells_cost old q new reply
-        (read_keeps led (CostsSoFar old) (costs_on led old) out.stages p q old new (begun_costs p old begun) out.passes) over;
+        (read_keeps rules (CostsSoFar old) (costs_on rules old) out.stages p q old new (begun_costs p old begun) out.passes) over;
     tables = λ out. (leaves out).tables;
     inboxes = λ out. (leaves out).inboxes;
   }

@@ -1,4 +1,4 @@
--- A stage of a read, from nodes that are up, where stores and nodes are settled, misses nothing that the read didn't miss before.
+-- A stage of a read, where stores and nodes are settled, misses nothing that the read didn't miss before.
 use Rattle.std.proofs.Common.{◌≡◌, ℕ, ◌≤◌, Bool, true, false, Option, Some, None, refl, sym, subst, inl, inr, arith}
 use Rattle.cache_items.specs.declared.look.Look.{Look}
 use Rattle.cache_items.specs.declared.look.Look.TheVariants.{Hit, Miss}
@@ -7,9 +7,10 @@ use Rattle.core_model.specs.Fleet.{ChangesNode}
 use Rattle.core_model.specs.Reads.{LooksFirst}
 use Rattle.core_model.specs.States.{AreSettled, nodes_now}
 use Rattle.core_steps.specs.World.{World}
-use Rattle.core_steps.proofs.LastVersions.{GivesLast, given_last, hit_last}
+use Rattle.core_steps.proofs.LastVersions.{GivesLast, asked_last, hit_last}
 use Rattle.read_plan.specs.Readings.{Reading}
-use Rattle.read_plan.specs.Standings.{after_ask, after_keep, after_look}
+use Rattle.read_plan.specs.Standings.{after_ask, after_keep, after_look, stage_of}
+use Rattle.read_plan.specs.declared.stages.ReadStage.TheVariants as reads
 use Rattle.read_plan.specs.declared.standing.Given.{Given}
 use Rattle.read_plan.specs.declared.standing.Given.TheVariants.{Fill, HandedOut, Past}
 use Rattle.read_plan.specs.declared.standing.Standing.{Standing}
@@ -20,12 +21,14 @@ use Rattle.tao_base.specs.Queries.{query_key, query_shard}
 use Rattle.tao_keeper.specs.Growing.{LogsGrow}
 use Rattle.tao_schema.specs.Schema.{types_of}
 use Rattle.topology.specs.Config.{Settings}
-use Rattle.topology.specs.States.{NodeStates, is_up}
+use Rattle.topology.specs.States.{is_up}
 use Rattle.core_plans.specs.HeldLaws.{StagesMissNothing}
-use Rattle.core_plans.specs.HeldReads.{DoesLook, DoesReadStage, HasComeTo, DoesKeep, version_now, wanted_by}
+use Rattle.core_plans.specs.HeldReads.{ComesOfRead, DoesKeep, DoesLook, DoesReadStage, HasComeTo, version_now, wanted_by}
 use Rattle.core_plans.proofs.Missing.{store_comes, version_later}
-use Rattle.core_plans.specs.LedBy.{led_by}
-use Rattle.core_plans.specs.declared.leaders.Leaders.{Leaders}
+use Rattle.core_plans.specs.LedBy.{rules_of}
+use Rattle.core_plans.specs.Needs.{asked_of_read, first_down, read_down, read_needs}
+use Rattle.core_plans.proofs.ReadRefusals.{ends_refused}
+use Rattle.core_plans.proofs.UpNodes.{asked_up, needs_up}
 
 given_comes : (floor last least now : ℕ) (given : LeaderAnswer) → GivesLast floor last given → least ≤ last → last ≤ now
     → HasComeTo least now (after_ask given)
@@ -33,10 +36,9 @@ given_comes floor last least now (leads.Filled fill) gives le on = omega (arith,
 given_comes floor last least now (leads.Past answer version total note) gives le on = omega (arith, gives, le)
 given_comes floor last least now (leads.Behind version) gives le on = omega (arith, le, on)
 
-module _ (s : Settings) (leaders : Leaders) (p q : Reading) (old new : World) (states : NodeStates)
-    (are : IsConsistent true s old.keepers.told old.fleet) (settled : AreSettled s old.keepers.told (nodes_now old.fleet states))
-    (follower_up : is_up states p.follower ≡ true) (leader_up : is_up states leaders.leader ≡ true)
-    (grows : LogsGrow true old.keepers.told new.keepers.told) (least : ℕ) where
+module _ (s : Settings) (p q : Reading) (old new : World) (are : IsConsistent true s old.keepers.told old.fleet)
+    (settled : AreSettled s old.keepers.told (nodes_now old.fleet old.states)) (grows : LogsGrow true old.keepers.told new.keepers.told)
+    (least : ℕ) where
   abbrev last : ℕ
   last = version_now s p old.keepers
 
@@ -51,22 +53,22 @@ module _ (s : Settings) (leaders : Leaders) (p q : Reading) (old new : World) (s
 
   -- ---- look
 
-  look_comes : (look : Look) (ask : Option ℕ)
+  look_comes : is_up old.states p.follower ≡ true → (look : Look) (ask : Option ℕ)
       → ChangesNode p.follower (LooksFirst (types_of s.schema) (wanted_by p) look ask) old.fleet.followers new.fleet.followers
       → least ≤ last → HasComeTo least now (after_look false look)
-  look_comes (Hit answer version) ask change le =
-      let is = hit_last s (wanted_by p) old.keepers old.fleet states are settled p.follower answer version ask new.fleet.followers follower_up change in
+  look_comes up (Hit answer version) ask change le =
+      let is = hit_last s (wanted_by p) old.keepers old.fleet old.states are settled p.follower answer version ask new.fleet.followers up change in
       omega (arith, is, le)
-  look_comes Miss ask change le = omega (arith, le, on)
+  look_comes up Miss ask change le = omega (arith, le, on)
 
-  looks_come : (critical : Bool) → p.critical ≡ critical → DoesLook s critical p old q new → least ≤ last → Comes q
-  looks_come true is looks le =
+  looks_come : is_up old.states p.follower ≡ true → (critical : Bool) → p.critical ≡ critical → DoesLook s critical p old q new → least ≤ last → Comes q
+  looks_come up true is looks le =
       let past : HasComeTo least now (after_look true Miss) = omega (arith, le, on) in
       subst Comes (sym looks.then) (subst (λ c. HasComeTo least now (after_look c Miss)) (sym is) past)
-  looks_come false is does le = elim does [
+  looks_come up false is does le = elim does [
     | inl looks ↦
         subst Comes (sym looks.then)
-        (subst (λ c. HasComeTo least now (after_look c looks.look)) (sym is) (look_comes looks.look looks.ask looks.looks le))
+        (subst (λ c. HasComeTo least now (after_look c looks.look)) (sym is) (look_comes up looks.look looks.ask looks.looks le))
     | inr vain ↦ subst Comes (sym vain.then) tt
   ]
 
@@ -84,26 +86,33 @@ module _ (s : Settings) (leaders : Leaders) (p q : Reading) (old new : World) (s
 
   -- ---- each stage
 
-  stage_comes : (at : Standing) → p.at ≡ at → DoesReadStage (led_by true s leaders) at p old q new → HasComeTo least last at → Comes q
-  stage_comes Looking at does come = looks_come p.critical refl does come
-  stage_comes Asking at does come = elim does [
+  stage_comes : (at : Standing) → p.at ≡ at → read_down old.states p ≡ None → DoesReadStage (rules_of true s) at p old q new
+      → HasComeTo least last at → Comes q
+  stage_comes Looking at up does come =
+      looks_come (needs_up old.states (read_needs reads.Look p) (subst (λ a. first_down old.states (read_needs (stage_of a) p) ≡ None) at up)).0
+      p.critical refl does come
+  stage_comes Asking at up does come = elim does [
     | inl asks ↦
-        let gave = given_last s (wanted_by p) old.keepers old.fleet states are settled leaders.leader asks.given new.keepers new.fleet.leaders leader_up
+        let gave = asked_last s (wanted_by p) old.states old new (asked_of_read old.states p) asks.given are settled (asked_up old.states p)
         asks.over.gives.asks in
         subst Comes (sym asks.then) (given_comes p.floor last least now asks.given gave come on)
     | inr vain ↦ subst Comes (sym vain.then) tt
   ]
-  stage_comes Mastering at does come = elim does [
+  stage_comes Mastering at up does come = elim does [
     | inl masters ↦
         subst Comes (sym masters.then)
         (store_comes true s p old.keepers new.keepers old.fleet.stores masters.out least now are.stores masters.over.reads refl come)
     | inr vain ↦ subst Comes (sym vain.then) tt
   ]
-  stage_comes (Keeping given) at does come = keeps_come given at does come
-  stage_comes (Ended end) at does come = absurd does
+  stage_comes (Keeping given) at up does come = keeps_come given at does come
+  stage_comes (Ended end) at up does come = absurd does
 
-pub stages_miss_nothing : (s : Settings) (leaders : Leaders) (p q : Reading) (old new : World) → StagesMissNothing s leaders p old q new
-stages_miss_nothing s leaders p q old new = record {
-  whole = λ states steps are settled follower_up leader_up grows least come.
-      stage_comes s leaders p q old new states are settled follower_up leader_up grows least p.at refl steps.does come;
+  -- one that ends since a node is down gives no answer
+  read_comes : ComesOfRead (rules_of true s) p old q new → HasComeTo least last p.at → Comes q
+  read_comes (inl next) come = stage_comes p.at refl next.up next.does come
+  read_comes (inr ends) come = subst (HasComeTo least (version_now s q new.keepers)) (sym (ends_refused p q old new ends)) tt
+
+pub stages_miss_nothing : (s : Settings) (p q : Reading) (old new : World) → StagesMissNothing s p old q new
+stages_miss_nothing s p q old new = record {
+  whole = λ steps are settled grows least come. read_comes s p q old new are settled grows least steps.does come;
 }

@@ -1,16 +1,19 @@
 -- A write that is refused is replied no Ok reply.
 use Rattle.std.proofs.Common.{◌≡◌, ℕ, Option, Some, None, Ok, Err, refl, sym, subst, inl, inr}
 use Rattle.std.specs.Prelude.{⊤, IfSome, Result}
-use Rattle.core_plans.specs.HeldWrites.{DoesWriteStage, job_by}
-use Rattle.core_plans.specs.LedBy.{LedBy}
+use Rattle.core_plans.specs.HeldWrites.{ComesOfWrite, CommitsBy, DoesWriteStage, job_by, job_sender}
+use Rattle.core_plans.specs.LedBy.{Rules}
+use Rattle.core_plans.specs.Needs.{leaders_of_write}
+use Rattle.core_plans.specs.declared.leaders.Leaders.{Leaders}
+use Rattle.core_plans.proofs.StageLemmas.{ended_down, merge_refuses_none}
 use Rattle.core_model.specs.Jobs.{ShardJob}
-use Rattle.core_steps.specs.OtherEnds.{EndsOver, JobWay, MergesOver, job_way}
+use Rattle.core_steps.specs.OtherEnds.{EndsOver, MergesOver, SentJob, sent_job}
 use Rattle.core_steps.specs.World.{World}
 use Rattle.replies.specs.declared.calls.CallReply.{CallReply}
 use Rattle.replies.specs.declared.reply.Reply.{Reply}
 use Rattle.replies.specs.declared.reply.Reply.TheVariants.{Called}
 use Rattle.shard_tables.specs.declared.writes.Wrote.{Wrote}
-use Rattle.write_plan.specs.Plans.{Writing, after_stage, reply_after, reply_by, reply_of}
+use Rattle.write_plan.specs.Plans.{Writing, after_stage, next_of, reply_after, reply_by, reply_of}
 use Rattle.write_plan.specs.declared.committed.Committed.{Committed}
 use Rattle.write_plan.specs.declared.progress.OtherEnd.{OtherEnd}
 use Rattle.write_plan.specs.declared.results.LeftOpen.{LeftOpen}
@@ -23,29 +26,40 @@ use Rattle.write_plan.specs.declared.stage.WriteStage.TheVariants.{Apply, Commit
 abbrev pub IsRefusedSo : Option Reply → Type 0
 IsRefusedSo refused = IfSome refused (λ reply. (answered : CallReply) → reply ≡ Called answered → ⊥)
 
-module _ (led : LedBy) (p q : Writing) (old new : World) (was : IsRefusedSo p.refused) where
-  merge_so : (way : JobWay) (result : Result Wrote LeftOpen) (hops : ℕ) → MergesOver led.tells led.settings way result old new
-      → q ≡ after_stage p (came.Inverse result) hops → IsRefusedSo q.refused
-  merge_so way (Ok wrote) hops merges then = subst (λ (x : Writing). IsRefusedSo x.refused) (sym then) was
-  merge_so way (Err (Scheduled why wrote)) hops merges then = subst (λ (x : Writing). IsRefusedSo x.refused) (sym then) was
-  merge_so way (Err (Refused reply)) hops merges then = absurd merges
+module _ (rules : Rules) (p q : Writing) (old new : World) (was : IsRefusedSo p.refused) where
+  abbrev Now : Writing → Type 0
+  Now x = IsRefusedSo x.refused
 
-  end_so : (j : ShardJob) (result : Result ⊤ LeftOpen) (hops : ℕ) → EndsOver led.tells led.settings j result old new
-      → q ≡ after_stage p (came.End result) hops → IsRefusedSo q.refused
-  end_so j (Ok done) hops ends then = subst (λ (x : Writing). IsRefusedSo x.refused) (sym then) was
-  end_so j (Err (Scheduled why wrote)) hops ends then = subst (λ (x : Writing). IsRefusedSo x.refused) (sym then) was
+  commit_so : (leaders : Option Leaders) → CommitsBy rules leaders p old q new → Now q
+  commit_so (Some leaders) (inl commits) = subst Now (sym commits.then) was
+  commit_so (Some leaders) (inr refuses) = subst Now (sym refuses.then) (λ answered is. absurd (cc))
+  commit_so None finds = subst Now (sym finds.then) (λ answered is. absurd (cc))
+
+  merge_so : (sent : SentJob) (result : Result Wrote LeftOpen) (hops : ℕ) → MergesOver rules.tells rules.settings sent result old new
+      → q ≡ after_stage p (came.Inverse result) hops → Now q
+  merge_so sent (Ok wrote) hops merges then = subst Now (sym then) was
+  merge_so sent (Err (Scheduled why wrote)) hops merges then = subst Now (sym then) was
+  merge_so sent (Err (Refused reply)) hops merges then = absurd (merge_refuses_none _ _ sent reply old new merges)
+
+  end_so : (j : ShardJob) (result : Result ⊤ LeftOpen) (hops : ℕ) → EndsOver rules.tells rules.settings j result old new
+      → q ≡ after_stage p (came.End result) hops → Now q
+  end_so j (Ok done) hops ends then = subst Now (sym then) was
+  end_so j (Err (Scheduled why wrote)) hops ends then = subst Now (sym then) was
   end_so j (Err (Refused reply)) hops ends then = absurd ends
 
-  pub refused_so : (at : WriteStage) → DoesWriteStage led at p old q new → IsRefusedSo q.refused
-  refused_so Commit (inl commits) = subst (λ (x : Writing). IsRefusedSo x.refused) (sym commits.then) was
-  refused_so Commit (inr refuses) = subst (λ (x : Writing). IsRefusedSo x.refused) (sym refuses.then) (λ answered is. absurd (cc))
-  refused_so Inverse merges = merge_so (job_way led.leader (job_by p merges.job)) merges.result _ merges.merges merges.then
-  refused_so End ends = end_so (job_by p ends.job) ends.result 0 ends.ends ends.then
-  refused_so Apply (inl applies) = subst (λ (x : Writing). IsRefusedSo x.refused) (sym applies.then) was
-  refused_so Apply (inr loses) = subst (λ (x : Writing). IsRefusedSo x.refused) (sym loses.then) (λ answered is. absurd (cc))
-  refused_so Relay (inl relays) = subst (λ (x : Writing). IsRefusedSo x.refused) (sym relays.then) was
-  refused_so Relay (inr loses) = subst (λ (x : Writing). IsRefusedSo x.refused) (sym loses.then) (λ answered is. absurd (cc))
-  refused_so Done does = absurd does
+  stage_so : (at : WriteStage) → DoesWriteStage rules at p old q new → Now q
+  stage_so Commit does = commit_so (leaders_of_write rules.settings old.states p) does
+  stage_so Inverse merges = merge_so (sent_job (job_sender p merges.committed) (job_by p merges.job)) merges.result _ merges.merges merges.then
+  stage_so End ends = end_so (job_by p ends.job) ends.result 0 ends.ends ends.then
+  stage_so Apply (inl applies) = subst Now (sym applies.then) was
+  stage_so Apply (inr loses) = subst Now (sym loses.then) (λ answered is. absurd (cc))
+  stage_so Relay (inl relays) = subst Now (sym relays.then) was
+  stage_so Relay (inr loses) = subst Now (sym loses.then) (λ answered is. absurd (cc))
+  stage_so Done does = absurd does
+
+  pub refused_so : ComesOfWrite rules p old q new → Now q
+  refused_so (inl does) = stage_so (next_of p) does.does
+  refused_so (inr ends) = subst IsRefusedSo (sym (ended_down p q old new ends).refused) (λ answered is. absurd (cc))
 
 -- a write that was carried out, by its Ok reply
 pub record IsAnswered (p : Writing) (reply : CallReply) : Type 0 where

@@ -6,7 +6,6 @@ use Rattle.std.specs.Ordering.{nat_cmp}
 use Rattle.ask_table.specs.Asks.{Asks}
 use Rattle.std.specs.List.{list_any}
 use Rattle.core_model.specs.Fleet.{Fleet, named}
-use Rattle.core_model.specs.Serving.{IsLeaderFor}
 use Rattle.core_model.specs.declared.named.Named.{Named}
 use Rattle.core_steps.specs.OtherEnds.{learnt_entry_of, learnt_far}
 use Rattle.core_steps.specs.World.{World}
@@ -21,7 +20,6 @@ use Rattle.read_plan.specs.declared.standing.Standing.TheVariants.{Looking, Aski
 use Rattle.replies.specs.declared.plans.Stage.{Stage}
 use Rattle.replies.specs.declared.reply.Reply.{Reply}
 use Rattle.replies.specs.declared.reply.Reply.TheVariants.{Called}
-use Rattle.tao_base.specs.Queries.{query_shard}
 use Rattle.tao_base.specs.Writes.{write_shard}
 use Rattle.tao_base.specs.declared.entry.Origin.{Origin}
 use Rattle.tao_base.specs.declared.entry.Origin.TheVariants.{Client, Merge}
@@ -33,13 +31,12 @@ use Rattle.write_plan.specs.Stages.{stage_said}
 use Rattle.write_plan.specs.declared.stage.WriteStage.{WriteStage}
 use Rattle.write_plan.specs.declared.stage.WriteStage.TheVariants.{Apply}
 use Rattle.core_plans.specs.HeldReads.{IsReadUnderWay, StepsRead}
-use Rattle.core_plans.specs.HeldWrites.{DoesWriteStage, IsBefore, IsWriteUnderWay, LeadWrite, way_given_up}
+use Rattle.core_plans.specs.HeldWrites.{ComesOfWrite, IsBefore, IsWriteUnderWay, way_given_up}
 use Rattle.core_plans.specs.declared.held.HeldPlan.{HeldPlan}
 use Rattle.core_plans.specs.declared.held.HeldPlan.TheVariants.{Read, Write}
 use Rattle.core_plans.specs.declared.held.LearntEntries.{LearntEntries}
 use Rattle.core_plans.specs.declared.plans.HeldPlans.TheInside.{Inside}
-use Rattle.core_plans.specs.declared.leaders.Leaders.{Leaders}
-use Rattle.core_plans.specs.LedBy.{LedBy}
+use Rattle.core_plans.specs.LedBy.{Rules}
 
 -- ---- one plan
 
@@ -133,42 +130,35 @@ pub record ChangesPlan (number : ℕ) (plan : HeldPlan) (old new : Plans) : Type
 
 -- ---- one step
 
--- the leaders may lead the plan's stages: for a read the first serves the shard, for a write it is one of the master's region, which may stand in for
--- another, and the leader that the write passes, where it passes one, is one of the configuration's
-abbrev pub IsLeaderOf : Settings → Leaders → HeldPlan → Type 0
-IsLeaderOf s leaders (Read p) = IsLeaderFor s (query_shard p.query) leaders.leader
-IsLeaderOf s leaders (Write p) = LeadWrite s leaders p
-
--- a plan is there that can go on, and the leaders may lead it
-pub record IsThere (tells : Bool) (s : Settings) (tables : Tables) (f : Fleet) (leaders : Leaders) (plan : HeldPlan) : Type 0 where
+-- a plan is there that can go on
+pub record IsThere (tells : Bool) (s : Settings) (tables : Tables) (f : Fleet) (plan : HeldPlan) : Type 0 where
   pub under_way : IsUnderWay tells s tables f plan
   pub goes_on : IsSome (next_stage plan)
-  pub leader_is : IsLeaderOf s leaders plan
 
--- a plan is held there, and those leaders may lead its next stage
-abbrev pub CanStep : Bool → Settings → Tables → Fleet → Leaders → Option HeldPlan → Type 0
-CanStep tells s tables f leaders None = ⊥
-CanStep tells s tables f leaders (Some plan) = IsThere tells s tables f leaders plan
+-- a plan is held there that can go on
+abbrev pub CanStep : Bool → Settings → Tables → Fleet → Option HeldPlan → Type 0
+CanStep tells s tables f None = ⊥
+CanStep tells s tables f (Some plan) = IsThere tells s tables f plan
 
 -- a read's stage changes no table and no message
-pub record StepsReadAlone (led : LedBy) (p : Reading) (old : World) (q : Reading) (new : World) : Type 0 where
-  pub steps : StepsRead led p old q new
-  pub tables : KeepsTables led.tells old.keepers new.keepers
+pub record StepsReadAlone (rules : Rules) (p : Reading) (old : World) (q : Reading) (new : World) : Type 0 where
+  pub steps : StepsRead rules p old q new
+  pub tables : KeepsTables rules.tells old.keepers new.keepers
   pub inboxes : new.inboxes ≡ old.inboxes
 
--- one stage of a plan, the one that follows
-abbrev pub StepsHeld : LedBy → HeldPlan → World → HeldPlan → World → Type 0
-StepsHeld led (Read p) old (Read q) new = StepsReadAlone led p old q new
-StepsHeld led (Write p) old (Write q) new = DoesWriteStage led (next_of p) p old q new
-StepsHeld led (Read p) old (Write q) new = ⊥
-StepsHeld led (Write p) old (Read q) new = ⊥
+-- one stage of a plan, the one that follows; or a node is down that it needs
+abbrev pub StepsHeld : Rules → HeldPlan → World → HeldPlan → World → Type 0
+StepsHeld rules (Read p) old (Read q) new = StepsReadAlone rules p old q new
+StepsHeld rules (Write p) old (Write q) new = ComesOfWrite rules p old q new
+StepsHeld rules (Read p) old (Write q) new = ⊥
+StepsHeld rules (Write p) old (Read q) new = ⊥
 
 -- the plan of that number does one stage, and no other
-pub record StepsPlan (led : LedBy) (number : ℕ) (plans : Plans) (old : World) (later : Plans) (new : World) : Type 0 where
+pub record StepsPlan (rules : Rules) (number : ℕ) (plans : Plans) (old : World) (later : Plans) (new : World) : Type 0 where
   pub before : HeldPlan
   pub after : HeldPlan
   pub stands : plan_at plans number ≡ Some before
-  pub steps : StepsHeld led before old after new
+  pub steps : StepsHeld rules before old after new
   pub changes : ChangesPlan number after plans later
 
 -- the plan of that number, a write of which only the last stage is left, ends without it, and no other changes

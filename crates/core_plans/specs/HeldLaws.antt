@@ -14,9 +14,8 @@ use Rattle.core_model.specs.Writes.{AppliesTo}
 use Rattle.core_model.specs.declared.named.Named.{Named}
 use Rattle.core_plans.specs.Held.{AsksAreHeld, OpensNone, Plans}
 use Rattle.core_plans.specs.HeldReads.{HasComeTo, MissesNone, StepsRead, version_now}
-use Rattle.core_plans.specs.HeldWrites.{DoesWriteStage}
-use Rattle.core_plans.specs.LedBy.{LedBy, led_by}
-use Rattle.core_plans.specs.declared.leaders.Leaders.{Leaders}
+use Rattle.core_plans.specs.HeldWrites.{ComesOfWrite}
+use Rattle.core_plans.specs.LedBy.{Rules, rules_of}
 use Rattle.core_steps.specs.World.{World}
 use Rattle.follower_cache.specs.Seen.{FollowerState}
 use Rattle.follower_cache.specs.declared.queue.Refill.{Refill}
@@ -34,9 +33,7 @@ use Rattle.tao_base.specs.declared.query.Query.{Query}
 use Rattle.tao_keeper.specs.Growing.{LogsGrow}
 use Rattle.tao_keeper.specs.KeeperState.{KeeperState}
 use Rattle.topology.specs.Config.{Settings}
-use Rattle.topology.specs.States.{NodeStates, is_up}
 use Rattle.write_plan.specs.Plans.{Writing}
-use Rattle.write_plan.specs.declared.stage.WriteStage.{WriteStage}
 
 -- the followers, each with its name
 abbrev pub Followers : Type 0
@@ -63,7 +60,7 @@ pub record AsksStayHeld : Type 0 where
   pub same : (old new : Followers) → new ≡ old → OpensNone old new
   pub on : (old mid new : Followers) → OpensNone old mid → OpensNone mid new → OpensNone old new
   pub changes : (name : NodeName) (old new : Followers) → ChangesOpenNone name old new
-  pub stages : (led : LedBy) (at : WriteStage) (p q : Writing) (old new : World) → DoesWriteStage led at p old q new
+  pub stages : (rules : Rules) (p q : Writing) (old new : World) → ComesOfWrite rules p old q new
       → OpensNone old.fleet.followers new.fleet.followers
 
 -- what a critical read doesn't miss it doesn't miss later: logs only grow
@@ -74,10 +71,9 @@ pub record NothingIsMissedLater : Type 0 where
   pub begun : (tells : Bool) (s : Settings) (least : ℕ) (p : Reading) (keepers : KeeperState) → p.at ≡ Looking
       → least ≤ version_now s p keepers → MissesNone tells s least p keepers
 
--- no stage of any read misses anything that the read didn't before, where each store has its shard's whole log, and the read's follower and leader
--- are up and have processed it: a hit of its look, and what its leader gives, have the last version
-pub record StagesMissNothing (s : Settings) (leaders : Leaders) (p : Reading) (old : World) (q : Reading) (new : World) : Type 0 where
-  pub whole : (states : NodeStates) → StepsRead (led_by true s leaders) p old q new → IsConsistent true s old.keepers.told old.fleet
-      → AreSettled s old.keepers.told (nodes_now old.fleet states) → is_up states p.follower ≡ true → is_up states leaders.leader ≡ true
-      → LogsGrow true old.keepers.told new.keepers.told
+-- no stage of any read misses anything that the read didn't before, where each store has its shard's whole log, and each node that is up has processed
+-- it: a hit of its look, and what is given by who is asked, have the last version
+pub record StagesMissNothing (s : Settings) (p : Reading) (old : World) (q : Reading) (new : World) : Type 0 where
+  pub whole : StepsRead (rules_of true s) p old q new → IsConsistent true s old.keepers.told old.fleet
+      → AreSettled s old.keepers.told (nodes_now old.fleet old.states) → LogsGrow true old.keepers.told new.keepers.told
       → (least : ℕ) → HasComeTo least (version_now s p old.keepers) p.at → HasComeTo least (version_now s q new.keepers) q.at

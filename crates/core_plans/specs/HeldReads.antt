@@ -11,14 +11,15 @@ use Rattle.core_model.specs.Serving.{IsFollowerFor}
 use Rattle.core_model.specs.Stores.{master_log}
 use Rattle.core_steps.specs.Reads.{AnswersAgain, IsLegalNow}
 use Rattle.core_steps.specs.ReadSteps.{IsGivenOver, IsNotGiven, IsNotRead, IsReadOver, ReadsOn}
-use Rattle.core_steps.specs.Routes.{hops_between, was_called}
+use Rattle.core_steps.specs.Routes.{hops_between, master_node, was_called}
 use Rattle.core_steps.specs.World.{World}
 use Rattle.core_steps.specs.declared.routes.Route.{Route}
 use Rattle.graph_model.specs.Log.{version}
 use Rattle.graph_model.specs.Told.{WhereTold}
 use Rattle.node_name.specs.declared.NodeName.{NodeName}
 use Rattle.read_plan.specs.Ends.{EndsWith}
-use Rattle.read_plan.specs.Readings.{NeverAsks, Reading, taken}
+use Rattle.read_plan.specs.Readings.{NeverAsks, Reading, given_by, taken}
+use Rattle.read_plan.specs.Standings.{read_refused, stage_of}
 use Rattle.read_plan.specs.declared.end.ReadEnd.TheVariants.{Answered}
 use Rattle.read_plan.specs.declared.end.ReadEnd.TheVariants as end
 use Rattle.read_plan.specs.declared.stages.ReadResult.TheVariants as came
@@ -30,7 +31,10 @@ use Rattle.replies.specs.declared.calls.CallReply.TheVariants as called
 use Rattle.replies.specs.declared.calls.ReadReply.{ReadReply}
 use Rattle.replies.specs.declared.nodes.KeptOrNot.TheVariants.{Kept}
 use Rattle.replies.specs.declared.refusals.Refusal.{Refusal}
-use Rattle.replies.specs.declared.refusals.Refusal.TheVariants.{Memory}
+use Rattle.replies.specs.declared.refusals.NodeRefused.TheVariants.{NodeDown}
+use Rattle.replies.specs.declared.refusals.Refusal.TheVariants.{Memory, Node}
+use Rattle.replies.specs.declared.refusals.When.TheVariants.{Before}
+use Rattle.replies.specs.declared.reply.Reply.{Reply}
 use Rattle.replies.specs.declared.reply.Reply.TheVariants.{Called, Refused}
 use Rattle.sealed_item.specs.Fills.{SealedItem}
 use Rattle.shard_tables.specs.declared.leader_answer.LeaderAnswer.{LeaderAnswer}
@@ -43,7 +47,8 @@ use Rattle.tao_keeper.specs.KeeperState.{KeeperState}
 use Rattle.tao_keeper.specs.Table.{Tables}
 use Rattle.tao_schema.specs.Schema.{key_bound, types_of}
 use Rattle.topology.specs.Config.{Settings}
-use Rattle.core_plans.specs.LedBy.{LedBy}
+use Rattle.core_plans.specs.LedBy.{Rules}
+use Rattle.core_plans.specs.Needs.{asked_of_read, read_down}
 
 -- what is asked, at the floor of its beginning
 abbrev pub wanted_by : Reading → Wanted
@@ -127,17 +132,17 @@ abbrev pub DoesLook : Settings → Bool → Reading → World → Reading → Wo
 DoesLook s false p old q new = LooksThere s p old q new ⊎ LooksInVain p old q new
 DoesLook s true p old q new = LooksPast p old q new
 
--- `ask`: the leader answers, over the link there and back
-pub record AsksLeader (s : Settings) (leader : NodeName) (p : Reading) (old : World) (q : Reading) (new : World) : Type 0 where
+-- `ask`: the leader or the store that is asked answers, over the link there and back
+pub record AsksThere (s : Settings) (node : NodeName) (p : Reading) (old : World) (q : Reading) (new : World) : Type 0 where
   pub given : LeaderAnswer
-  pub over : IsGivenOver s (route_by leader p) (wanted_by p) given old new
-  pub then : q ≡ taken (came.Ask (Ok given)) (hops_between old.link new.link) (was_called old.keepers new.keepers) p
+  pub over : IsGivenOver s (route_by node p) (wanted_by p) given old new
+  pub then : q ≡ taken (came.Ask (Ok given)) (hops_between old.link new.link) (was_called old.keepers new.keepers) (given_by node p)
 
--- `ask` fails: nothing was carried back from the leader, and then the read's ask ends
-pub record AsksInVain (s : Settings) (leader : NodeName) (p : Reading) (old : World) (q : Reading) (new : World) : Type 0 where
+-- `ask` fails: nothing was carried back from who was asked, and then the read's ask ends
+pub record AsksInVain (s : Settings) (node : NodeName) (p : Reading) (old : World) (q : Reading) (new : World) : Type 0 where
   pub refusal : Refusal
   pub mid : World
-  pub fails : IsNotGiven s (route_by leader p) (wanted_by p) refusal old mid
+  pub fails : IsNotGiven s (route_by node p) (wanted_by p) refusal old mid
   pub ends : EndsItsAsk p mid new
   pub rest : ChangesFollowers mid new
   pub then : q ≡ taken (came.Ask (Err (Refused refusal))) (hops_between old.link new.link) (was_called old.keepers new.keepers) p
@@ -146,7 +151,8 @@ pub record AsksInVain (s : Settings) (leader : NodeName) (p : Reading) (old : Wo
 pub record AsksMaster (tells : Bool) (s : Settings) (p : Reading) (old : World) (q : Reading) (new : World) : Type 0 where
   pub out : ReadOut
   pub over : IsReadOver tells s p.query out old new
-  pub then : q ≡ taken (came.Master (Ok out)) (hops_between old.link new.link) (was_called old.keepers new.keepers) p
+  pub then : q ≡ taken (came.Master (Ok out)) (hops_between old.link new.link) (was_called old.keepers new.keepers)
+      (given_by (master_node s (query_shard p.query)) p)
 
 -- `master` fails: nothing was carried back from the master's store, and then the read's ask ends
 pub record MastersInVain (s : Settings) (p : Reading) (old : World) (q : Reading) (new : World) : Type 0 where
@@ -183,13 +189,38 @@ DoesKeep s p (Fill fill) old q new = AnswersFrom s p fill old q new ⊎ KeepsInV
 DoesKeep s p (Past answer version total seen) old q new = HandsPast p old q new
 DoesKeep s p (HandedOut version) old q new = ⊥
 
--- what the stage does that follows
-abbrev pub DoesReadStage : LedBy → Standing → Reading → World → Reading → World → Type 0
-DoesReadStage led Looking p old q new = DoesLook led.settings p.critical p old q new
-DoesReadStage led Asking p old q new = AsksLeader led.settings led.leader p old q new ⊎ AsksInVain led.settings led.leader p old q new
-DoesReadStage led Mastering p old q new = AsksMaster led.tells led.settings p old q new ⊎ MastersInVain led.settings p old q new
-DoesReadStage led (Keeping given) p old q new = DoesKeep led.settings p given old q new
-DoesReadStage led (Ended end) p old q new = ⊥
+-- `ask` of that node, which answers or doesn't
+abbrev pub DoesAsk : Settings → NodeName → Reading → World → Reading → World → Type 0
+DoesAsk s node p old q new = AsksThere s node p old q new ⊎ AsksInVain s node p old q new
+
+-- what the stage does that follows, where all that it needs are up
+abbrev pub DoesReadStage : Rules → Standing → Reading → World → Reading → World → Type 0
+DoesReadStage rules Looking p old q new = DoesLook rules.settings p.critical p old q new
+DoesReadStage rules Asking p old q new = DoesAsk rules.settings (asked_of_read old.states p) p old q new
+DoesReadStage rules Mastering p old q new = AsksMaster rules.tells rules.settings p old q new ⊎ MastersInVain rules.settings p old q new
+DoesReadStage rules (Keeping given) p old q new = DoesKeep rules.settings p given old q new
+DoesReadStage rules (Ended end) p old q new = ⊥
+
+-- the refusal of a read whose next stage needs a node that is down
+abbrev pub read_is_down : NodeName → Reply
+read_is_down node = Refused (Node (NodeDown node Before))
+
+-- a node is down that the read's next stage needs: the read ends, and its ask, and nothing else changes
+pub record EndsReadDown (p : Reading) (old : World) (q : Reading) (new : World) : Type 0 where
+  pub node : NodeName
+  pub down : read_down old.states p ≡ Some node
+  pub ends : EndsItsAsk p old new
+  pub rest : ChangesFollowers old new
+  pub then : q ≡ taken (read_refused (stage_of p.at) (read_is_down node)) 0 false p
+
+-- all that the read's next stage needs are up, and it does that stage
+pub record DoesNextRead (rules : Rules) (p : Reading) (old : World) (q : Reading) (new : World) : Type 0 where
+  pub up : read_down old.states p ≡ None
+  pub does : DoesReadStage rules p.at p old q new
+
+-- what becomes of a read by its next stage: that is done, or a node is down that it needs
+abbrev pub ComesOfRead : Rules → Reading → World → Reading → World → Type 0
+ComesOfRead rules p old q new = DoesNextRead rules p old q new ⊎ EndsReadDown p old q new
 
 -- the version of what was given
 abbrev pub given_version : Given → ℕ
@@ -220,13 +251,27 @@ EndsLegally tells s q new = (reply : ReadReply) → EndsWith q (Called (called.R
     × WhereTold tells (reply.kept ≡ Kept → AnswersAgain (types_of s.schema) q.follower q.query reply new.fleet.followers)
 
 -- one stage of a held read, the one that follows. A critical one misses nothing that it didn't before, so nothing that stood when it began
-pub record StepsRead (led : LedBy) (p : Reading) (old : World) (q : Reading) (new : World) : Type 0 where
-  pub does : DoesReadStage led p.at p old q new
-  pub legal : EndsLegally led.tells led.settings q new
-  pub whole : (least : ℕ) → MissesNone led.tells led.settings least p old.keepers → MissesNone led.tells led.settings least q new.keepers
+pub record StepsRead (rules : Rules) (p : Reading) (old : World) (q : Reading) (new : World) : Type 0 where
+  pub does : ComesOfRead rules p old q new
+  pub legal : EndsLegally rules.tells rules.settings q new
+  pub whole : (least : ℕ) → MissesNone rules.tells rules.settings least p old.keepers → MissesNone rules.tells rules.settings least q new.keepers
 
--- a stage of a held read was done: the read can go on, and so can all else
-pub record PassesReadStage (led : LedBy) (p : Reading) (old : World) (q : Reading) (new : World) : Type 0 where
-  pub steps : StepsRead led p old q new
-  pub read : IsReadUnderWay led.tells led.settings new.keepers.told new.fleet q
-  pub on : ReadsOn led.tells led.settings old new
+-- the stage of a read was done: its answer is legal where it ended with one, nothing was missed, and the read can go on, and so can all else
+pub record DoesReadAndPasses (rules : Rules) (p : Reading) (old : World) (q : Reading) (new : World) : Type 0 where
+  pub does : DoesReadStage rules p.at p old q new
+  pub legal : EndsLegally rules.tells rules.settings q new
+  pub whole : (least : ℕ) → MissesNone rules.tells rules.settings least p old.keepers → MissesNone rules.tells rules.settings least q new.keepers
+  pub read : IsReadUnderWay rules.tells rules.settings new.keepers.told new.fleet q
+  pub on : ReadsOn rules.tells rules.settings old new
+
+-- a read ended since a node is down: it is over, and all else can go on
+pub record EndsReadAndPasses (rules : Rules) (p : Reading) (old : World) (q : Reading) (new : World) : Type 0 where
+  pub ends : EndsReadDown p old q new
+  pub read : IsReadUnderWay rules.tells rules.settings new.keepers.told new.fleet q
+  pub on : ReadsOn rules.tells rules.settings old new
+
+-- a stage of a held read was done, or a node is down that it needs: the read can go on, and so can all else
+pub record PassesReadStage (rules : Rules) (p : Reading) (old : World) (q : Reading) (new : World) : Type 0 where
+  pub steps : StepsRead rules p old q new
+  pub read : IsReadUnderWay rules.tells rules.settings new.keepers.told new.fleet q
+  pub on : ReadsOn rules.tells rules.settings old new

@@ -7,7 +7,8 @@ use Rattle.core_model.specs.Serving.{IsFollowerFor, IsLeaderIn}
 use Rattle.core_model.specs.Stores.{master_of}
 use Rattle.core_steps.specs.Routes.{FailsCarry, hops_between}
 use Rattle.core_steps.specs.World.{World}
-use Rattle.core_steps.specs.OtherEnds.{EndsOver, MergesOver, StandsThere, job_way}
+use Rattle.core_steps.specs.OtherEnds.{EndsOver, MergesOver, StandsThere, sent_job}
+use Rattle.core_steps.specs.declared.jobs.JobSender.{JobSender}
 use Rattle.core_steps.specs.Posting.{AppliesAlone, PostsOn}
 use Rattle.core_steps.specs.Relays.{LeaderRelays, RefusesPassing, RelaysAlone, link_past}
 use Rattle.core_steps.specs.Writes.{AuthoredWrite, CanBeApplied, FollowerTakes, IsCommitted, RefusesCommit, SentWrite, client_call, sent_write}
@@ -16,7 +17,8 @@ use Rattle.graph_model.specs.Soundness.{is_client}
 use Rattle.graph_model.specs.Told.{WhereTold}
 use Rattle.node_name.specs.declared.NodeName.{NodeName}
 use Rattle.replies.specs.declared.refusals.Refusal.{Refusal}
-use Rattle.replies.specs.declared.refusals.Refusal.TheVariants.{Store, Memory}
+use Rattle.replies.specs.declared.refusals.NodeRefused.TheVariants.{NoServer, NodeDown}
+use Rattle.replies.specs.declared.refusals.Refusal.TheVariants.{Store, Memory, Node}
 use Rattle.replies.specs.declared.refusals.StoreRefused.TheVariants.{LinkFault}
 use Rattle.replies.specs.declared.reply.Reply.{Reply}
 use Rattle.replies.specs.declared.reply.Reply.TheVariants.{Refused}
@@ -28,9 +30,11 @@ use Rattle.tao_keeper.specs.Table.{Tables}
 use Rattle.tao_keeper.specs.declared.jobs.Job.{Job}
 use Rattle.tao_link.specs.Shown.{after_carry}
 use Rattle.tao_schema.specs.Schema.{types_of}
+use Rattle.topology.specs.Choices.{master_region}
 use Rattle.topology.specs.Config.{Settings}
 use Rattle.write_plan.specs.Committing.{has_inverse, kind_said}
-use Rattle.write_plan.specs.Plans.{Writing, after_stage, answered_entry, answered_job, when_of}
+use Rattle.write_plan.specs.Plans.{Writing, after_stage, answered_entry, answered_job, next_of, when_of}
+use Rattle.write_plan.specs.Stages.{write_refused}
 use Rattle.write_plan.specs.declared.committed.Committed.{Committed}
 use Rattle.write_plan.specs.declared.progress.OtherEnd.TheVariants.{Due, Merged}
 use Rattle.write_plan.specs.declared.progress.WayBack.{WayBack}
@@ -40,7 +44,8 @@ use Rattle.write_plan.specs.declared.results.LeftOpen.{LeftOpen}
 use Rattle.write_plan.specs.declared.results.WriteResult.TheVariants as came
 use Rattle.write_plan.specs.declared.stage.WriteStage.{WriteStage}
 use Rattle.write_plan.specs.declared.stage.WriteStage.TheVariants.{Commit, Inverse, End, Relay, Apply, Done}
-use Rattle.core_plans.specs.LedBy.{LedBy}
+use Rattle.core_plans.specs.LedBy.{LedBy, Rules, led_by}
+use Rattle.core_plans.specs.Needs.{last_leader, leaders_of_write, tier_of_write, write_down}
 use Rattle.core_plans.specs.declared.leaders.Leaders.{Leaders}
 
 -- the client's write that a plan carries out, under its origin
@@ -113,6 +118,7 @@ with_notes c = record { committed = c; relay = option_map (λ _. c.wrote.note) c
 -- are told. The plan keeps notes of the log for the way back
 pub record CommitsHeld (led : LedBy) (p : Writing) (old : World) (q : Writing) (new : World) : Type 0 where
   pub committed : Committed
+  pub leader : committed.leader ≡ led.leader
   pub passed : committed.passed ≡ led.passed
   pub commits : IsCommitted led.tells led.settings (sent_by led p) committed.wrote (come_past led old) new
   pub answer : IsAnswerTo led.settings new.fleet.stores p committed
@@ -134,12 +140,28 @@ pub record RefusesHeld (led : LedBy) (p : Writing) (old : World) (q : Writing) (
   pub refuses : RefusesWrite led p refusal old new
   pub then : q ≡ after_stage p (came.Commit (Err (Refused refusal))) (hops_between old.link new.link)
 
--- `inverse`: the job is carried to the leader of the other shard, which merges it, and the answer back
-pub record MergesHeld (led : LedBy) (p : Writing) (old : World) (q : Writing) (new : World) : Type 0 where
+-- no leader can be chosen in the region that has the master of the write's shard: the write is refused, and nothing changes
+pub record FindsNoLeader (p : Writing) (old : World) (q : Writing) (new : World) : Type 0 where
+  pub same : new ≡ old
+  pub then : q ≡ after_stage p (came.Commit (Err (Refused (Node (NoServer (master_region old.states (write_shard p.write))))))) 0
+
+-- `commit`, where these leaders are chosen for it, or none can be
+abbrev pub CommitsBy : Rules → Option Leaders → Writing → World → Writing → World → Type 0
+CommitsBy rules (Some leaders) p old q new = CommitsHeld (led_by rules leaders) p old q new ⊎ RefusesHeld (led_by rules leaders) p old q new
+CommitsBy rules None p old q new = FindsNoLeader p old q new
+
+-- who sends the job of a write that was committed: the leader that committed it, for the tier of its session
+abbrev pub job_sender : Writing → Committed → JobSender
+job_sender p c = record { leader = c.leader; by = tier_of_write p }
+
+-- `inverse`: the job is carried to the leader that is chosen on the other shard, which merges it, and the answer back
+pub record MergesHeld (rules : Rules) (p : Writing) (old : World) (q : Writing) (new : World) : Type 0 where
+  pub committed : Committed
+  pub answer : p.committed ≡ Some committed
   pub job : Job
   pub answered : answered_job p ≡ Some job
   pub result : Result Wrote LeftOpen
-  pub merges : MergesOver led.tells led.settings (job_way led.leader (job_by p job)) result old new
+  pub merges : MergesOver rules.tells rules.settings (sent_job (job_sender p committed) (job_by p job)) result old new
   pub then : q ≡ after_stage p (came.Inverse result) (hops_between old.link new.link)
 
 -- `end`: the job is ended
@@ -151,7 +173,7 @@ pub record EndsHeld (tells : Bool) (s : Settings) (p : Writing) (old : World) (q
   pub then : q ≡ after_stage p (came.End result) 0
 
 -- `relay`: the answer is carried from the leader that wrote to the one that the write passed, which takes the changes and marks nothing
-pub record RelaysHeld (s : Settings) (leader : NodeName) (p : Writing) (old : World) (q : Writing) (new : World) : Type 0 where
+pub record RelaysHeld (s : Settings) (p : Writing) (old : World) (q : Writing) (new : World) : Type 0 where
   pub committed : Committed
   pub answered : p.committed ≡ Some committed
   pub passed : NodeName
@@ -162,49 +184,65 @@ pub record RelaysHeld (s : Settings) (leader : NodeName) (p : Writing) (old : Wo
   pub then : q ≡ after_stage p (came.Relay (Ok tt)) (hops_between old.link new.link)
 
 -- `relay` fails on its way: the write stands, at the position that the reply tells where there is an entry
-pub record LosesRelay (leader : NodeName) (p : Writing) (old : World) (q : Writing) (new : World) : Type 0 where
+pub record LosesRelay (p : Writing) (old : World) (q : Writing) (new : World) : Type 0 where
   pub committed : Committed
   pub answered : p.committed ≡ Some committed
   pub passed : NodeName
   pub passed_is : committed.passed ≡ Some passed
-  pub carry : FailsCarry leader passed old.link new.link
+  pub carry : FailsCarry committed.leader passed old.link new.link
   pub fleet : new.fleet ≡ old.fleet
   pub rest : RelaysAlone old new
   pub then : q ≡ after_stage p (came.Relay (Err (Refused (Store (LinkFault new.link.faults (when_of committed.wrote.entry))))))
       (hops_between old.link new.link)
 
--- the last leader on the way back to the follower: the one that the write passed, or else the one that wrote
-abbrev pub last_leader : NodeName → Committed → NodeName
-last_leader leader c = unwrap_or c.passed leader
-
 -- `apply`: the answer is carried from the last leader of its way to the follower, which takes the changes
-pub record AppliesHeld (s : Settings) (leader : NodeName) (p : Writing) (old : World) (q : Writing) (new : World) : Type 0 where
+pub record AppliesHeld (s : Settings) (p : Writing) (old : World) (q : Writing) (new : World) : Type 0 where
   pub committed : Committed
   pub answered : p.committed ≡ Some committed
-  pub takes : FollowerTakes (types_of s.schema) (way_by (last_leader leader committed) p) (write_shard p.write) committed.wrote.entry
+  pub takes : FollowerTakes (types_of s.schema) (way_by (last_leader committed) p) (write_shard p.write) committed.wrote.entry
       old.fleet new.fleet
   pub link : new.link ≡ after_carry old.link
   pub rest : AppliesAlone old new
   pub then : q ≡ after_stage p (came.Apply (Ok tt)) (hops_between old.link new.link)
 
 -- `apply` fails on the way back: the write stands, at the position that the reply tells where there is an entry
-pub record LosesWayBack (leader : NodeName) (p : Writing) (old : World) (q : Writing) (new : World) : Type 0 where
+pub record LosesWayBack (p : Writing) (old : World) (q : Writing) (new : World) : Type 0 where
   pub committed : Committed
   pub answered : p.committed ≡ Some committed
-  pub carry : FailsCarry (last_leader leader committed) p.follower old.link new.link
+  pub carry : FailsCarry (last_leader committed) p.follower old.link new.link
   pub fleet : new.fleet ≡ old.fleet
   pub rest : AppliesAlone old new
   pub then : q ≡ after_stage p (came.Apply (Err (Refused (Store (LinkFault new.link.faults (when_of committed.wrote.entry))))))
       (hops_between old.link new.link)
 
--- what the stage does that follows. Once its entry is written, only the link can refuse the write
-abbrev pub DoesWriteStage : LedBy → WriteStage → Writing → World → Writing → World → Type 0
-DoesWriteStage led Commit p old q new = CommitsHeld led p old q new ⊎ RefusesHeld led p old q new
-DoesWriteStage led Apply p old q new = AppliesHeld led.settings led.leader p old q new ⊎ LosesWayBack led.leader p old q new
-DoesWriteStage led Inverse p old q new = MergesHeld led p old q new
-DoesWriteStage led End p old q new = EndsHeld led.tells led.settings p old q new
-DoesWriteStage led Relay p old q new = RelaysHeld led.settings led.leader p old q new ⊎ LosesRelay led.leader p old q new
-DoesWriteStage led Done p old q new = ⊥
+-- what the stage does that follows, where all that it needs are up. Once its entry is written, only the link can refuse the write there
+abbrev pub DoesWriteStage : Rules → WriteStage → Writing → World → Writing → World → Type 0
+DoesWriteStage rules Commit p old q new = CommitsBy rules (leaders_of_write rules.settings old.states p) p old q new
+DoesWriteStage rules Apply p old q new = AppliesHeld rules.settings p old q new ⊎ LosesWayBack p old q new
+DoesWriteStage rules Inverse p old q new = MergesHeld rules p old q new
+DoesWriteStage rules End p old q new = EndsHeld rules.tells rules.settings p old q new
+DoesWriteStage rules Relay p old q new = RelaysHeld rules.settings p old q new ⊎ LosesRelay p old q new
+DoesWriteStage rules Done p old q new = ⊥
+
+-- the refusal of a write whose next stage needs a node that is down: at the position of its entry, where that stands
+abbrev pub write_is_down : NodeName → Writing → Reply
+write_is_down node p = Refused (Node (NodeDown node (when_of (answered_entry p))))
+
+-- a node is down that the write's next stage needs: the write ends, and nothing else changes
+pub record EndsWriteDown (p : Writing) (old : World) (q : Writing) (new : World) : Type 0 where
+  pub node : NodeName
+  pub down : write_down old.states p ≡ Some node
+  pub same : new ≡ old
+  pub then : q ≡ after_stage p (write_refused (next_of p) (write_is_down node p)) 0
+
+-- all that the write's next stage needs are up, and it does that stage
+pub record DoesNextWrite (rules : Rules) (p : Writing) (old : World) (q : Writing) (new : World) : Type 0 where
+  pub up : write_down old.states p ≡ None
+  pub does : DoesWriteStage rules (next_of p) p old q new
+
+-- what becomes of a write by its next stage: that is done, or a node is down that it needs
+abbrev pub ComesOfWrite : Rules → Writing → World → Writing → World → Type 0
+ComesOfWrite rules p old q new = DoesNextWrite rules p old q new ⊎ EndsWriteDown p old q new
 
 -- ---- without the last stage
 
@@ -216,6 +254,7 @@ way_given_up p = after_stage p (came.Apply (Err (Refused (Memory (entry_position
 
 -- the write was committed, and the answer has the notes for its way back: its follower may take it, and its job may be merged
 pub record AnswersCommit (led : LedBy) (p : Writing) (answer : CommitAnswer) (old new : World) : Type 0 where
+  pub leader : answer.committed.leader ≡ led.leader
   pub passed : answer.committed.passed ≡ led.passed
   pub commits : IsCommitted led.tells led.settings (sent_by led p) answer.committed.wrote (come_past led old) new
   pub is : IsAnswerTo led.settings new.fleet.stores p answer.committed
@@ -235,7 +274,7 @@ taken_as (Err refusal) = Err (Refused refusal)
 -- ---- what each of them keeps
 
 -- a stage of a held write was done: the write can go on, and so can all else
-pub record PassesWriteStage (led : LedBy) (at : WriteStage) (p : Writing) (old : World) (q : Writing) (new : World) : Type 0 where
-  pub does : DoesWriteStage led at p old q new
-  pub write : IsWriteUnderWay led.tells led.settings new.keepers.told new.fleet q
-  pub on : PostsOn led.tells led.settings old new
+pub record PassesWriteStage (rules : Rules) (at : WriteStage) (p : Writing) (old : World) (q : Writing) (new : World) : Type 0 where
+  pub does : DoesWriteStage rules at p old q new
+  pub write : IsWriteUnderWay rules.tells rules.settings new.keepers.told new.fleet q
+  pub on : PostsOn rules.tells rules.settings old new

@@ -1,7 +1,7 @@
 -- A call that isn't held: its plan does its stages, one after another, until none is left.
 use Rattle.std.specs.Prelude.{ℕ, zero, suc, ◌≡◌, None}
 use Rattle.core_plans.specs.Held.{IsUnderWay, StepsHeld, next_stage}
-use Rattle.core_plans.specs.LedBy.{LedBy}
+use Rattle.core_plans.specs.LedBy.{Rules}
 use Rattle.core_plans.specs.declared.held.HeldPlan.{HeldPlan}
 use Rattle.core_plans.specs.declared.held.HeldPlan.TheVariants.{Read, Write}
 use Rattle.core_steps.specs.Posting.{PostsOn}
@@ -14,20 +14,20 @@ use Rattle.write_plan.specs.declared.stage.WriteStage.{WriteStage}
 use Rattle.write_plan.specs.declared.stage.WriteStage.TheVariants as writes
 
 -- a plan did a stage: it can go on, and so can all else
-pub record PassesStage (led : LedBy) (p : HeldPlan) (old : World) (q : HeldPlan) (new : World) : Type 0 where
-  pub steps : StepsHeld led p old q new
-  pub under_way : IsUnderWay led.tells led.settings new.keepers.told new.fleet q
-  pub on : PostsOn led.tells led.settings old new
+pub record PassesStage (rules : Rules) (p : HeldPlan) (old : World) (q : HeldPlan) (new : World) : Type 0 where
+  pub steps : StepsHeld rules p old q new
+  pub under_way : IsUnderWay rules.tells rules.settings new.keepers.told new.fleet q
+  pub on : PostsOn rules.tells rules.settings old new
 
 -- so many stages of a plan, each beginning as the one before it left things
-abbrev pub PassesStages : LedBy → ℕ → HeldPlan → World → HeldPlan → World → Type 0
-PassesStages led zero p old q new = (q ≡ p) × (new ≡ old)
-PassesStages led (suc n) p old q new = (m : HeldPlan) × (x : World) × PassesStages led n p old m x × PassesStage led m x q new
+abbrev pub PassesStages : Rules → ℕ → HeldPlan → World → HeldPlan → World → Type 0
+PassesStages rules zero p old q new = (q ≡ p) × (new ≡ old)
+PassesStages rules (suc n) p old q new = (m : HeldPlan) × (x : World) × PassesStages rules n p old m x × PassesStage rules m x q new
 
--- all stages of a plan with one leader, one after another, and nothing between them
-pub record CarriesOut (led : LedBy) (p : HeldPlan) (old : World) (q : HeldPlan) (new : World) : Type 0 where
+-- all stages of a plan, one after another, and nothing between them
+pub record CarriesOut (rules : Rules) (p : HeldPlan) (old : World) (q : HeldPlan) (new : World) : Type 0 where
   pub stages : ℕ
-  pub passes : PassesStages led stages p old q new
+  pub passes : PassesStages rules stages p old q new
   pub over : next_stage q ≡ None
 
 -- how many stages a read has left at most, from the one that follows on

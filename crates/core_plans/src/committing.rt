@@ -1,14 +1,14 @@
 //! The stage `commit` of held writes.
-ghost use Rattle.std.specs.Prelude.{◌≡◌, ◌<◌, Bool, IfErr, IfOk, IfSome, OnOk};
+ghost use Rattle.std.specs.Prelude.{◌≡◌, ◌<◌, Bool, IfErr, IfOk, IfSome, OnOk, Some};
 ghost use Rattle.std.specs.Option.{option_map};
 ghost use Rattle.core_model.specs.Pens.{pens_of};
 ghost use Rattle.core_model.specs.Stores.{AreStores, store_count};
 ghost use Rattle.core_nodes.specs.Settling.{IsLaterLink};
-ghost use Rattle.core_plans.specs.HeldWrites.{ComesOfCommit, IsWriteUnderWay, LeadWrite, PassesWriteStage, RefusesOnWay, taken_as};
-ghost use Rattle.core_plans.specs.LedBy.{led_by};
+ghost use Rattle.core_plans.specs.HeldWrites.{CommitsBy, ComesOfCommit, FindsNoLeader, IsWriteUnderWay, LeadWrite, PassesWriteStage, RefusesOnWay, taken_as};
+ghost use Rattle.core_plans.specs.LedBy.{led_by, rules_of};
 ghost use Rattle.core_steps.specs.Posting.{CanPost, PostsOn};
 ghost use Rattle.core_steps.specs.Relays.{link_past};
-ghost use Rattle.core_steps.specs.World.{world};
+ghost use Rattle.core_steps.specs.World.{World, world};
 ghost use Rattle.shard_log.specs.View.{as_note};
 ghost use Rattle.tao_base.specs.Writes.{write_shard};
 ghost use Rattle.tao_keeper.specs.KeeperState.{KeeperState};
@@ -16,14 +16,15 @@ ghost use Rattle.write_plan.specs.Plans.{next_of};
 ghost use Rattle.write_plan.specs.declared.stage.WriteStage.TheVariants as stage;
 
 use crate::leaders::Leaders;
+use crate::needs::leaders_of_write;
 use core_model::AuthoredWrite;
 use core_steps::{Nodes, Route};
 use node_name::NodeName;
-use replies::{Refusal, Reply};
+use replies::{NodeRefused, Refusal, Reply};
 use shard_log::Note;
 use tao_keeper::Keeper;
 use tao_link::Link;
-use topology::Config;
+use topology::{Config, Topology};
 use write_plan::{CommitAnswer, Committed, WritePlan, WriteResult};
 
 /// The way of a write to the leader that it passes, where it passes one, and a note for its way back.
@@ -83,7 +84,7 @@ fn commit_there<K: Keeper, L: Link>(
     requires ready { CanPost K.TELLS config.now (world nodes.old (K.state keepers.old) (L.shown link.old)) }
     requires lead { LeadWrite config.now leaders plan.now }
     requires write { IsWriteUnderWay K.TELLS config.now (K.state keepers.old).told nodes.old.fleet plan.now }
-    ensures comes { ComesOfCommit (led_by K.TELLS config.now leaders) plan.now result
+    ensures comes { ComesOfCommit (led_by (rules_of K.TELLS config.now) leaders) plan.now result
         (world nodes.old (K.state keepers.old) (L.shown link.old)) (world nodes.new (K.state keepers.new) (L.shown link.new)) }
     ensures on { PostsOn K.TELLS config.now
         (world nodes.old (K.state keepers.old) (L.shown link.old)) (world nodes.new (K.state keepers.new) (L.shown link.new)) }
@@ -115,8 +116,8 @@ fn taken_as(given: Result<CommitAnswer, Refusal>) -> Result<CommitAnswer, Reply>
     }
 }
 
-/// The stage `commit`.
-pub(crate) fn commit_stage<K: Keeper, L: Link>(
+/// The stage `commit` by these leaders, which may lead it.
+fn commit_by<K: Keeper, L: Link>(
     nodes: &mut Nodes,
     config: &Config,
     keepers: &mut K,
@@ -128,12 +129,46 @@ pub(crate) fn commit_stage<K: Keeper, L: Link>(
     requires lead { LeadWrite config.now leaders plan.old }
     requires write { IsWriteUnderWay K.TELLS config.now (K.state keepers.old).told nodes.old.fleet plan.old }
     requires stage { next_of plan.old ≡ stage.Commit }
-    ensures { PassesWriteStage (led_by K.TELLS config.now leaders) stage.Commit
+    ensures does { CommitsBy (rules_of K.TELLS config.now) (Some leaders)
         plan.old (world nodes.old (K.state keepers.old) (L.shown link.old))
         plan.new (world nodes.new (K.state keepers.new) (L.shown link.new)) }
+    ensures write { IsWriteUnderWay K.TELLS config.now (K.state keepers.new).told nodes.new.fleet plan.new }
+    ensures on { PostsOn K.TELLS config.now
+        (world nodes.old (K.state keepers.old) (L.shown link.old)) (world nodes.new (K.state keepers.new) (L.shown link.new)) }
 {
     let carries = link.carries();
     let given = commit_there(nodes, config, keepers, link, leaders, plan);
     let hops = link.carries().saturating_sub(carries);
     plan.take(WriteResult::Commit(taken_as(given)), hops);
+}
+
+/// The stage `commit` where no leader of the master's region can be chosen: the write is refused.
+fn refuse_commit(topology: &Topology, plan: &mut WritePlan)
+    requires { next_of plan.old ≡ stage.Commit }
+    ensures { (now : World) → now.states ≡ topology.now → FindsNoLeader plan.old now plan.new now }
+{
+    let region = topology.master(plan.write().shard());
+    let reply = Reply::Refused(Refusal::Node(NodeRefused::NoServer { region }));
+    plan.take(WriteResult::Commit(Err(reply)), 0);
+}
+
+/// The stage `commit`: by the leaders that are chosen for the write as the nodes are now, or by none.
+pub(crate) fn commit_stage<K: Keeper, L: Link>(
+    nodes: &mut Nodes,
+    config: &Config,
+    keepers: &mut K,
+    link: &mut L,
+    plan: &mut WritePlan,
+)
+    requires ready { CanPost K.TELLS config.now (world nodes.old (K.state keepers.old) (L.shown link.old)) }
+    requires write { IsWriteUnderWay K.TELLS config.now (K.state keepers.old).told nodes.old.fleet plan.old }
+    requires stage { next_of plan.old ≡ stage.Commit }
+    ensures { PassesWriteStage (rules_of K.TELLS config.now) stage.Commit
+        plan.old (world nodes.old (K.state keepers.old) (L.shown link.old))
+        plan.new (world nodes.new (K.state keepers.new) (L.shown link.new)) }
+{
+    match leaders_of_write(nodes, config, plan) {
+        Some(leaders) => commit_by(nodes, config, keepers, link, leaders, plan),
+        None => refuse_commit(&nodes.topology, plan),
+    }
 }

@@ -1,11 +1,11 @@
-//! Who leads the stages of a plan.
+//! Who leads the commit of a write.
 use node_name::NodeName;
 
-/// The leaders that a plan's stages are done with.
+/// The leaders that a write goes by to its commit.
 #[derive(Clone, Copy)]
 pub struct Leaders {
-    /// Of a read the leader that answers, of a write the one that commits it.
+    /// The one that commits it.
     pub leader: NodeName,
-    /// The leader of its own region that a write passes on the way, where that isn't the master's. A read passes none.
+    /// The one of its own region that it passes on the way, where that isn't the master's and one can be chosen.
     pub passed: Option<NodeName>,
 }

@@ -1,12 +1,11 @@
 //! `HeldPlans`.
 ghost use Rattle.std.specs.Prelude.{◌≡◌, IfSome};
 ghost use Rattle.core_plans.specs.Held.{CanStep, IsThere, IsUnderWay, StepsHeld, StepsPlan};
-ghost use Rattle.core_plans.specs.LedBy.{led_by};
+ghost use Rattle.core_plans.specs.LedBy.{rules_of};
 ghost use Rattle.core_steps.specs.Posting.{CanPost, PostsOn};
 ghost use Rattle.core_steps.specs.World.{world};
 
 use crate::held::HeldPlan;
-use crate::leaders::Leaders;
 use crate::reads::read_stage;
 use crate::writes::write_stage;
 use core_steps::Nodes;
@@ -17,13 +16,6 @@ use tao_base::OutOfMemory;
 use tao_keeper::Keeper;
 use tao_link::Link;
 use topology::Config;
-
-/// The configuration by which the stages of a plan are done, and the leaders that they are done with.
-#[derive(Clone, Copy)]
-pub struct Led<'c> {
-    pub config: &'c Config,
-    pub leaders: Leaders,
-}
 
 /// Drops a value. Whatever its type, it is one step to the one who reads on.
 fn let_go<T: Drop>(value: T) {
@@ -36,12 +28,11 @@ pub(crate) fn held_stage<K: Keeper, L: Link>(
     config: &Config,
     keepers: &mut K,
     link: &mut L,
-    leaders: Leaders,
     plan: &mut HeldPlan,
 )
     requires ready { CanPost K.TELLS config.now (world nodes.old (K.state keepers.old) (L.shown link.old)) }
-    requires there { IsThere K.TELLS config.now (K.state keepers.old).told nodes.old.fleet leaders plan.old }
-    ensures steps { StepsHeld (led_by K.TELLS config.now leaders)
+    requires there { IsThere K.TELLS config.now (K.state keepers.old).told nodes.old.fleet plan.old }
+    ensures steps { StepsHeld (rules_of K.TELLS config.now)
         plan.old (world nodes.old (K.state keepers.old) (L.shown link.old))
         plan.new (world nodes.new (K.state keepers.new) (L.shown link.new)) }
     ensures under_way { IsUnderWay K.TELLS config.now (K.state keepers.new).told nodes.new.fleet plan.new }
@@ -50,8 +41,8 @@ pub(crate) fn held_stage<K: Keeper, L: Link>(
         (world nodes.new (K.state keepers.new) (L.shown link.new)) }
 {
     match plan {
-        HeldPlan::Read(plan) => read_stage(nodes, config, keepers, link, leaders, plan),
-        HeldPlan::Write(plan) => write_stage(nodes, config, keepers, link, leaders, plan),
+        HeldPlan::Read(plan) => read_stage(nodes, config, keepers, link, plan),
+        HeldPlan::Write(plan) => write_stage(nodes, config, keepers, link, plan),
     }
 }
 
@@ -148,30 +139,30 @@ impl HeldPlans {
         }
     }
 
-    /// Does the stage of the plan of that number that follows, with its leaders: for a read one that serves its shard, for a write one of the
-    /// master's region, and the one that it passes where its own region is another. The plan stays, also where it is over then.
+    /// Does the stage of the plan of that number that follows; where a node is down that it needs, the plan ends with `node_down`. The plan stays, also where
+    /// it is over then.
     ///
     /// Costs what the stage does in `core_steps`.
     pub fn step<K: Keeper, L: Link>(
         &mut self,
         nodes: &mut Nodes,
-        led: &Led<'_>,
+        config: &Config,
         keepers: &mut K,
         link: &mut L,
         number: u32,
     )
-        requires ready { CanPost K.TELLS led.now.config.now (world nodes.old (K.state keepers.old) (L.shown link.old)) }
-        requires can { CanStep K.TELLS led.now.config.now (K.state keepers.old).told nodes.old.fleet led.now.leaders (plan_at self.old number) }
-        ensures steps { StepsPlan (led_by K.TELLS led.now.config.now led.now.leaders) number
+        requires ready { CanPost K.TELLS config.now (world nodes.old (K.state keepers.old) (L.shown link.old)) }
+        requires can { CanStep K.TELLS config.now (K.state keepers.old).told nodes.old.fleet (plan_at self.old number) }
+        ensures steps { StepsPlan (rules_of K.TELLS config.now) number
             self.old (world nodes.old (K.state keepers.old) (L.shown link.old))
             self.new (world nodes.new (K.state keepers.new) (L.shown link.new)) }
-        ensures under_way { IfSome (plan_at self.new number) (IsUnderWay K.TELLS led.now.config.now (K.state keepers.new).told nodes.new.fleet) }
-        ensures on { PostsOn K.TELLS led.now.config.now
+        ensures under_way { IfSome (plan_at self.new number) (IsUnderWay K.TELLS config.now (K.state keepers.new).told nodes.new.fleet) }
+        ensures on { PostsOn K.TELLS config.now
             (world nodes.old (K.state keepers.old) (L.shown link.old))
             (world nodes.new (K.state keepers.new) (L.shown link.new)) }
     {
         match self.plans.get_mut(&number) {
-            Some(plan) => held_stage(nodes, led.config, keepers, link, led.leaders, plan),
+            Some(plan) => held_stage(nodes, config, keepers, link, plan),
             None => unreachable!(),
         }
     }

@@ -1,35 +1,30 @@
 //! The stages of held reads.
-ghost use Rattle.std.specs.Prelude.{◌≡◌, ◌-◌, IsSome, false, nat_lt, true};
+ghost use Rattle.std.specs.Prelude.{◌≡◌, ◌-◌, IsSome, Some, false, nat_lt, true};
 ghost use Rattle.core_model.specs.Consistent.{IsConsistent, IsFleetOf};
-ghost use Rattle.core_model.specs.Serving.{IsFollowerFor, IsLeaderFor};
-ghost use Rattle.core_plans.specs.HeldReads.{EndsAskAlone, IsReadUnderWay, PassesReadStage, at_bound};
-ghost use Rattle.core_plans.specs.LedBy.{led_by};
+ghost use Rattle.core_model.specs.Serving.{IsFollowerFor};
+ghost use Rattle.core_model.specs.States.{AreStatesOf};
+ghost use Rattle.core_plans.specs.HeldReads.{DoesReadAndPasses, EndsAskAlone, EndsReadAndPasses, IsReadUnderWay, PassesReadStage, at_bound};
+ghost use Rattle.core_plans.specs.LedBy.{rules_of};
+ghost use Rattle.core_plans.specs.Needs.{read_down};
 ghost use Rattle.core_steps.specs.World.{world};
 ghost use Rattle.read_plan.specs.Readings.{new_reading, taken};
 ghost use Rattle.read_plan.specs.Standings.{IsAnsweredFrom, came_of, stage_named, stage_of};
 ghost use Rattle.read_plan.specs.declared.stages.ReadStage.TheVariants as stage;
 ghost use Rattle.tao_base.specs.Queries.{query_shard};
 
-use crate::leaders::Leaders;
+use crate::needs::{asked_of_read, read_down};
 use cache_items::Look;
 use core_model::{Wanted, masters_are_regions};
-use core_nodes::{FirstLook, Fleet};
-use core_steps::{Nodes, Route, out_of_memory};
+use core_nodes::{FirstLook, Fleet, master_store};
+use core_steps::{Nodes, Route, TierPlace, out_of_memory};
 use node_name::NodeName;
 use read_plan::{ReadPlan, ReadResult, ReadStage};
-use replies::Reply;
+use replies::{NodeRefused, Refusal, Reply, When};
 use sealed_item::laws::fills_are_sealed;
 use tao_base::{OutOfMemory, Query};
 use tao_keeper::Keeper;
 use tao_link::Link;
 use topology::Config;
-
-/// A tier: the place of its region, and its own in that region.
-#[derive(Clone, Copy)]
-pub struct TierPlace {
-    pub region: u16,
-    pub tier: u16,
-}
 
 /// A read that is begun, at a floor, by a session of a tier. Takes no memory.
 pub fn begin_read(
@@ -98,14 +93,13 @@ fn look_past<K: Keeper, L: Link>(
     config: &Config,
     keepers: &K,
     link: &L,
-    leaders: Leaders,
     plan: &mut ReadPlan,
 )
     requires consistent { IsConsistent K.TELLS config.now (K.state keepers.now).told nodes.old.fleet }
     requires read { IsReadUnderWay K.TELLS config.now (K.state keepers.now).told nodes.old.fleet plan.old }
     requires stage { stage_of plan.old.at ≡ stage.Look }
     requires critical { plan.old.critical ≡ true }
-    ensures { PassesReadStage (led_by K.TELLS config.now leaders) plan.old (world nodes.old (K.state keepers.now) (L.shown link.now))
+    ensures { DoesReadAndPasses (rules_of K.TELLS config.now) plan.old (world nodes.old (K.state keepers.now) (L.shown link.now))
         plan.new (world nodes.new (K.state keepers.now) (L.shown link.now)) }
 {
     masters_are_regions(config);
@@ -122,14 +116,13 @@ fn look_first<K: Keeper, L: Link>(
     config: &Config,
     keepers: &K,
     link: &L,
-    leaders: Leaders,
     plan: &mut ReadPlan,
 )
     requires consistent { IsConsistent K.TELLS config.now (K.state keepers.now).told nodes.old.fleet }
     requires read { IsReadUnderWay K.TELLS config.now (K.state keepers.now).told nodes.old.fleet plan.old }
     requires stage { stage_of plan.old.at ≡ stage.Look }
     requires plain { plan.old.critical ≡ false }
-    ensures { PassesReadStage (led_by K.TELLS config.now leaders) plan.old (world nodes.old (K.state keepers.now) (L.shown link.now))
+    ensures { DoesReadAndPasses (rules_of K.TELLS config.now) plan.old (world nodes.old (K.state keepers.now) (L.shown link.now))
         plan.new (world nodes.new (K.state keepers.now) (L.shown link.now)) }
 {
     masters_are_regions(config);
@@ -151,19 +144,18 @@ fn look_stage<K: Keeper, L: Link>(
     config: &Config,
     keepers: &K,
     link: &L,
-    leaders: Leaders,
     plan: &mut ReadPlan,
 )
     requires consistent { IsConsistent K.TELLS config.now (K.state keepers.now).told nodes.old.fleet }
     requires read { IsReadUnderWay K.TELLS config.now (K.state keepers.now).told nodes.old.fleet plan.old }
     requires stage { stage_of plan.old.at ≡ stage.Look }
-    ensures { PassesReadStage (led_by K.TELLS config.now leaders) plan.old (world nodes.old (K.state keepers.now) (L.shown link.now))
+    ensures { DoesReadAndPasses (rules_of K.TELLS config.now) plan.old (world nodes.old (K.state keepers.now) (L.shown link.now))
         plan.new (world nodes.new (K.state keepers.now) (L.shown link.now)) }
 {
     if plan.is_critical() {
-        look_past(nodes, config, keepers, link, leaders, plan);
+        look_past(nodes, config, keepers, link, plan);
     } else {
-        look_first(nodes, config, keepers, link, leaders, plan);
+        look_first(nodes, config, keepers, link, plan);
     }
 }
 
@@ -173,25 +165,28 @@ fn ask_stage<K: Keeper, L: Link>(
     config: &Config,
     keepers: &mut K,
     link: &mut L,
-    leaders: Leaders,
     plan: &mut ReadPlan,
 )
     requires consistent { IsConsistent K.TELLS config.now (K.state keepers.old).told nodes.old.fleet }
-    requires leader { IsLeaderFor config.now (query_shard plan.old.query) leaders.leader }
+    requires states { AreStatesOf config.now nodes.old.topology }
     requires read { IsReadUnderWay K.TELLS config.now (K.state keepers.old).told nodes.old.fleet plan.old }
     requires stage { stage_of plan.old.at ≡ stage.Ask }
-    ensures { PassesReadStage (led_by K.TELLS config.now leaders) plan.old (world nodes.old (K.state keepers.old) (L.shown link.old))
+    ensures { DoesReadAndPasses (rules_of K.TELLS config.now) plan.old (world nodes.old (K.state keepers.old) (L.shown link.old))
         plan.new (world nodes.new (K.state keepers.new) (L.shown link.new)) }
 {
     let since = so_far(keepers, link);
+    let node = asked_of_read(&nodes.topology, plan);
     let route = Route {
         follower: plan.follower(),
-        leader: leaders.leader,
+        leader: node,
     };
     let (query, floor) = (plan.query(), plan.floor());
     let read = Wanted { query, floor };
     match nodes.ask_over(config, keepers, link, route, &read) {
-        Ok(given) => take_since(keepers, link, since, plan, ReadResult::Ask(Ok(given))),
+        Ok(given) => {
+            plan.set_by(node);
+            take_since(keepers, link, since, plan, ReadResult::Ask(Ok(given)));
+        }
         Err(refusal) => {
             let reply = Reply::Refused(refusal);
             end_ask_of(&mut nodes.fleet, config, plan);
@@ -206,19 +201,22 @@ fn master_stage<K: Keeper, L: Link>(
     config: &Config,
     keepers: &mut K,
     link: &mut L,
-    leaders: Leaders,
     plan: &mut ReadPlan,
 )
     requires consistent { IsConsistent K.TELLS config.now (K.state keepers.old).told nodes.old.fleet }
     requires read { IsReadUnderWay K.TELLS config.now (K.state keepers.old).told nodes.old.fleet plan.old }
     requires stage { stage_of plan.old.at ≡ stage.Master }
-    ensures { PassesReadStage (led_by K.TELLS config.now leaders) plan.old (world nodes.old (K.state keepers.old) (L.shown link.old))
+    ensures { DoesReadAndPasses (rules_of K.TELLS config.now) plan.old (world nodes.old (K.state keepers.old) (L.shown link.old))
         plan.new (world nodes.new (K.state keepers.new) (L.shown link.new)) }
 {
     let since = so_far(keepers, link);
     let (follower, query) = (plan.follower(), plan.query());
+    let node = NodeName::Store(master_store(config, query.shard()));
     match nodes.read_over(config, keepers, link, follower, query) {
-        Ok(out) => take_since(keepers, link, since, plan, ReadResult::Master(Ok(out))),
+        Ok(out) => {
+            plan.set_by(node);
+            take_since(keepers, link, since, plan, ReadResult::Master(Ok(out)));
+        }
         Err(refusal) => {
             let reply = Reply::Refused(refusal);
             end_ask_of(&mut nodes.fleet, config, plan);
@@ -233,13 +231,12 @@ fn keep_stage<K: Keeper, L: Link>(
     config: &Config,
     keepers: &K,
     link: &L,
-    leaders: Leaders,
     plan: &mut ReadPlan,
 )
     requires consistent { IsConsistent K.TELLS config.now (K.state keepers.now).told nodes.old.fleet }
     requires read { IsReadUnderWay K.TELLS config.now (K.state keepers.now).told nodes.old.fleet plan.old }
     requires stage { stage_of plan.old.at ≡ stage.Keep }
-    ensures { PassesReadStage (led_by K.TELLS config.now leaders) plan.old (world nodes.old (K.state keepers.now) (L.shown link.now))
+    ensures { DoesReadAndPasses (rules_of K.TELLS config.now) plan.old (world nodes.old (K.state keepers.now) (L.shown link.now))
         plan.new (world nodes.new (K.state keepers.now) (L.shown link.now)) }
 {
     masters_are_regions(config);
@@ -263,8 +260,57 @@ fn keep_stage<K: Keeper, L: Link>(
     }
 }
 
-/// Does the stage of a held read that follows, with a leader of its region that serves the shard. A stage that fails ends the read,
-/// and its ask. The reply of a read that has ended is legal in the log as it is then.
+/// Ends a read whose next stage needs a node that is down, and its ask.
+fn end_down<K: Keeper, L: Link>(
+    nodes: &mut Nodes,
+    config: &Config,
+    keepers: &K,
+    link: &L,
+    node: NodeName,
+    plan: &mut ReadPlan,
+)
+    requires consistent { IsConsistent K.TELLS config.now (K.state keepers.now).told nodes.old.fleet }
+    requires read { IsReadUnderWay K.TELLS config.now (K.state keepers.now).told nodes.old.fleet plan.old }
+    requires down { read_down nodes.old.topology plan.old ≡ Some node }
+    ensures { EndsReadAndPasses (rules_of K.TELLS config.now) plan.old (world nodes.old (K.state keepers.now) (L.shown link.now))
+        plan.new (world nodes.new (K.state keepers.now) (L.shown link.now)) }
+{
+    end_ask_of(&mut nodes.fleet, config, plan);
+    let reply = Reply::Refused(Refusal::Node(NodeRefused::NodeDown {
+        node,
+        when: When::Before,
+    }));
+    let outcome = plan.next().refused(reply);
+    plan.take(outcome, 0, false);
+}
+
+/// Does the stage of a read that follows, with all that it needs up.
+fn next_stage<K: Keeper, L: Link>(
+    nodes: &mut Nodes,
+    config: &Config,
+    keepers: &mut K,
+    link: &mut L,
+    plan: &mut ReadPlan,
+)
+    requires consistent { IsConsistent K.TELLS config.now (K.state keepers.old).told nodes.old.fleet }
+    requires states { AreStatesOf config.now nodes.old.topology }
+    requires read { IsReadUnderWay K.TELLS config.now (K.state keepers.old).told nodes.old.fleet plan.old }
+    requires goes_on { IsSome (stage_named (stage_of plan.old.at)) }
+    ensures { DoesReadAndPasses (rules_of K.TELLS config.now) plan.old (world nodes.old (K.state keepers.old) (L.shown link.old))
+        plan.new (world nodes.new (K.state keepers.new) (L.shown link.new)) }
+{
+    match plan.next() {
+        ReadStage::Look => look_stage(nodes, config, keepers, link, plan),
+        ReadStage::Ask => ask_stage(nodes, config, keepers, link, plan),
+        ReadStage::Master => master_stage(nodes, config, keepers, link, plan),
+        ReadStage::Keep => keep_stage(nodes, config, keepers, link, plan),
+        ReadStage::Done => unreachable!(),
+    }
+}
+
+/// Does the stage of a read that follows. Who is asked is chosen as the nodes are now: the leader that the region prefers, where it is up and the
+/// session's tier doesn't suspect it, and else the region's store. Where the follower is down, or for the last stage who gave what it is to keep, the read
+/// ends with `node_down`. A stage that fails ends the read, and its ask. The reply of a read that has ended is legal in the log as it is then.
 ///
 /// Costs what the stage does in `core_steps`.
 pub fn read_stage<K: Keeper, L: Link>(
@@ -272,21 +318,17 @@ pub fn read_stage<K: Keeper, L: Link>(
     config: &Config,
     keepers: &mut K,
     link: &mut L,
-    leaders: Leaders,
     plan: &mut ReadPlan,
 )
     requires consistent { IsConsistent K.TELLS config.now (K.state keepers.old).told nodes.old.fleet }
-    requires leader { IsLeaderFor config.now (query_shard plan.old.query) leaders.leader }
+    requires states { AreStatesOf config.now nodes.old.topology }
     requires read { IsReadUnderWay K.TELLS config.now (K.state keepers.old).told nodes.old.fleet plan.old }
     requires goes_on { IsSome (stage_named (stage_of plan.old.at)) }
-    ensures { PassesReadStage (led_by K.TELLS config.now leaders) plan.old (world nodes.old (K.state keepers.old) (L.shown link.old))
+    ensures { PassesReadStage (rules_of K.TELLS config.now) plan.old (world nodes.old (K.state keepers.old) (L.shown link.old))
         plan.new (world nodes.new (K.state keepers.new) (L.shown link.new)) }
 {
-    match plan.next() {
-        ReadStage::Look => look_stage(nodes, config, keepers, link, leaders, plan),
-        ReadStage::Ask => ask_stage(nodes, config, keepers, link, leaders, plan),
-        ReadStage::Master => master_stage(nodes, config, keepers, link, leaders, plan),
-        ReadStage::Keep => keep_stage(nodes, config, keepers, link, leaders, plan),
-        ReadStage::Done => unreachable!(),
+    match read_down(&nodes.topology, plan) {
+        Some(node) => end_down(nodes, config, keepers, link, node, plan),
+        None => next_stage(nodes, config, keepers, link, plan),
     }
 }

@@ -5,7 +5,8 @@ ghost use Rattle.core_model.specs.Fleet.{leader_names};
 ghost use Rattle.core_model.specs.Serving.{IsFollowerFor};
 ghost use Rattle.core_nodes.specs.Settling.{IsLaterLink};
 ghost use Rattle.core_plans.specs.HeldWrites.{DoesWriteStage, IsAnswerTo, IsWriteUnderWay, call_of_plan};
-ghost use Rattle.core_plans.specs.LedBy.{led_by};
+ghost use Rattle.core_plans.specs.LedBy.{rules_of};
+ghost use Rattle.core_plans.specs.Needs.{last_leader};
 ghost use Rattle.core_steps.specs.Relays.{LeaderRelays};
 ghost use Rattle.core_steps.specs.Routes.{FailsCarry};
 ghost use Rattle.core_steps.specs.World.{world};
@@ -18,7 +19,7 @@ ghost use Rattle.tao_schema.specs.Schema.{types_of};
 ghost use Rattle.write_plan.specs.Plans.{answered_entry, answered_passed, next_of, when_of};
 ghost use Rattle.write_plan.specs.declared.stage.WriteStage.TheVariants as stage;
 
-use crate::leaders::Leaders;
+use crate::needs::last_leader;
 use core_steps::{Nodes, Route, ShardNote, link_fault};
 use node_name::NodeName;
 use replies::{Refusal, Reply, StoreRefused};
@@ -34,6 +35,28 @@ fn passed_of(plan: &WritePlan) -> NodeName
 {
     match plan.passed() {
         Some(leader) => leader,
+        None => unreachable!(),
+    }
+}
+
+/// The leader that committed a write.
+pub(crate) fn committer(plan: &WritePlan) -> NodeName
+    requires { IsSome plan.now.committed }
+    ensures { IfSome plan.now.committed (λ c. result ≡ c.leader) }
+{
+    match plan.committed() {
+        Some(committed) => committed.leader,
+        None => unreachable!(),
+    }
+}
+
+/// The last leader on the way back of a write to its follower.
+fn last_before(plan: &WritePlan) -> NodeName
+    requires { IsSome plan.now.committed }
+    ensures { IfSome plan.now.committed (λ c. result ≡ last_leader c) }
+{
+    match plan.committed() {
+        Some(committed) => last_leader(committed),
         None => unreachable!(),
     }
 }
@@ -95,7 +118,6 @@ pub(crate) fn relay_stage<L: Link>(
     nodes: &mut Nodes,
     config: &Config,
     link: &mut L,
-    leaders: Leaders,
     plan: &mut WritePlan,
 )
     requires fleet { IsFleetOf config.now nodes.old.fleet }
@@ -103,7 +125,7 @@ pub(crate) fn relay_stage<L: Link>(
     requires answer { IfSome plan.old.committed (IsAnswerTo config.now nodes.old.fleet.stores plan.old) }
     requires relay { IfSome plan.old.committed (λ c. IfSome c.passed (λ _. plan.old.relay ≡ Some c.wrote.note)) }
     requires stage { next_of plan.old ≡ stage.Relay }
-    ensures does { (keepers : KeeperState) → DoesWriteStage (led_by true config.now leaders) stage.Relay
+    ensures does { (keepers : KeeperState) → DoesWriteStage (rules_of true config.now) stage.Relay
         plan.old (world nodes.old keepers (L.shown link.old))
         plan.new (world nodes.new keepers (L.shown link.new)) }
     ensures write { (tells : Bool) (tables : Tables) → IsWriteUnderWay tells config.now tables nodes.old.fleet plan.old
@@ -117,7 +139,7 @@ pub(crate) fn relay_stage<L: Link>(
     let carries = link.carries();
     let route = Route {
         follower: passed_of(plan),
-        leader: leaders.leader,
+        leader: committer(plan),
     };
     let note = relay_of(plan);
     let outcome = carry_past(nodes, config, link, route, plan, note);
@@ -182,7 +204,6 @@ pub(crate) fn apply_stage<L: Link>(
     nodes: &mut Nodes,
     config: &Config,
     link: &mut L,
-    leaders: Leaders,
     plan: &mut WritePlan,
 )
     requires fleet { IsFleetOf config.now nodes.old.fleet }
@@ -190,7 +211,7 @@ pub(crate) fn apply_stage<L: Link>(
     requires answer { IfSome plan.old.committed (IsAnswerTo config.now nodes.old.fleet.stores plan.old) }
     requires spare { IfSome plan.old.committed (λ c. plan.old.spare ≡ Some c.wrote.note) }
     requires stage { next_of plan.old ≡ stage.Apply }
-    ensures does { (keepers : KeeperState) → DoesWriteStage (led_by true config.now leaders) stage.Apply
+    ensures does { (keepers : KeeperState) → DoesWriteStage (rules_of true config.now) stage.Apply
         plan.old (world nodes.old keepers (L.shown link.old))
         plan.new (world nodes.new keepers (L.shown link.new)) }
     ensures write { (tells : Bool) (tables : Tables) → IsWriteUnderWay tells config.now tables nodes.old.fleet plan.old
@@ -204,7 +225,7 @@ pub(crate) fn apply_stage<L: Link>(
     let carries = link.carries();
     let route = Route {
         follower: plan.follower(),
-        leader: plan.passed().unwrap_or(leaders.leader),
+        leader: last_before(plan),
     };
     let note = spare_of(plan);
     let outcome = carry_back(nodes, config, link, route, plan, note);

@@ -1,7 +1,7 @@
 use Rattle.std.proofs.Common.{◌≡◌, ◌<◌, ◌∙◌, Some, ap, inl, inr, subst, sym}
 use Rattle.std.proofs.lemmas.Result.{err_from_is_err_and}
 use Rattle.std.specs.Option.{option_map}
-use Rattle.std.specs.Prelude.{IfSome, unwrap_or}
+use Rattle.std.specs.Prelude.{IfSome}
 use Rattle.core_model.specs.Jobs.{CanBeMerged, job_on}
 use Rattle.core_model.specs.Pens.{pens_of}
 use Rattle.core_steps.proofs.PostsLemmas.{posts_carried}
@@ -15,7 +15,7 @@ use Rattle.tao_schema.specs.Schema.{types_of}
 use Rattle.topology.specs.Config.{Settings}
 use Rattle.write_plan.specs.Committing.{has_inverse, kind_said}
 use Rattle.core_plans.specs.HeldWrites.{RefusesOnWay, come_past, sent_by}
-use Rattle.core_plans.specs.LedBy.{led_by}
+use Rattle.core_plans.specs.LedBy.{led_by, rules_of}
 use Rattle.core_plans.proofs.CommitLemmas.{IsOfWriting, answers, one_log, posts_there, ready_there, renewed_so, sent_there}
 use Rattle.core_plans.proofs.committing.commit_there.Goals as goal
 
@@ -67,7 +67,7 @@ returns-in-Ok-clause-comes g c =
     let s = c.args.config.now in
     let leaders = c.args.leaders in
     let p = c.args.plan.now in
-    let led = led_by tells s leaders in
+    let led = led_by (rules_of tells s) leaders in
     let nodes = c.args.nodes.now in
     let mid = c.pass_there.new.nodes in
     let keepers = state c.args.keepers.now in
@@ -93,6 +93,7 @@ returns-in-Ok-clause-comes g c =
     answers tells s leaders p (world nodes keepers from) (world fin later to) c.requires.lead wrote made.result c.renewed.result c.in-Ok.spare
     (record {
       wrote_is = made.ensures.wrote;
+      leader_is = made.ensures.leader;
       passed_is = made.ensures.passed;
       kind_is = subst (λ w. kind_said w wrote.entry ≡ Some made.result.kind) c.write-write.ensures made.ensures.kind;
       paired_is = made.ensures.paired ∙ ap (λ (n : Settings). has_inverse (types_of n.schema) write) c.config.view_is
@@ -135,7 +136,7 @@ returns-in-Err-clause-comes g c =
     let s = c.args.config.now in
     let leaders = c.args.leaders in
     let p = c.args.plan.now in
-    let led = led_by tells s leaders in
+    let led = led_by (rules_of tells s) leaders in
     let nodes = c.args.nodes.now in
     let mid = c.pass_there.new.nodes in
     let keepers = state c.args.keepers.now in

@@ -18,7 +18,7 @@ returns-in-Ok g c =
     let here = c.keep.ensures in
     let done = c.in-Ok.ensures in
     let found = c.in-Ok.found in
-    keeps_done g.K.Keeper.TELLS c.args.config.now c.args.leaders c.args.plan.now c.take.new.self c.args.nodes.now
+    keeps_done g.K.Keeper.TELLS c.args.config.now c.args.plan.now c.take.new.self c.args.nodes.now
     (g.K.Keeper.state c.args.keepers.now) (g.L.Link.shown c.args.link.now) c.args.nodes.now.fleet c.keep.new.self
     (record {
       masters = c.masters_are_regions.ensures;
@@ -38,7 +38,7 @@ returns-in-Ok g c =
 pub returns-in-Err : goal.returns-in-Err
 returns-in-Err g c =
     let here = c.keep.ensures in
-    keeps_lost g.K.Keeper.TELLS c.args.config.now c.args.leaders c.args.plan.now c.take-in-Err.new.self c.args.nodes.now
+    keeps_lost g.K.Keeper.TELLS c.args.config.now c.args.plan.now c.take-in-Err.new.self c.args.nodes.now
     (g.K.Keeper.state c.args.keepers.now) (g.L.Link.shown c.args.link.now) c.args.nodes.now.fleet c.keep.new.self
     (record {
       masters = c.masters_are_regions.ensures;
@@ -55,6 +55,7 @@ returns-in-Err g c =
 
 pub returns-in-None : goal.returns-in-None
 returns-in-None g c =
-    hands_done g.K.Keeper.TELLS c.args.config.now c.args.leaders c.args.plan.now c.take-in-None.new.self c.args.nodes.now
-    (g.K.Keeper.state c.args.keepers.now) (g.L.Link.shown c.args.link.now) c.args.nodes.now.fleet c.end_ask_of.new.fleet c.fill.new.self c.masters_are_regions.ensures c.requires.consistent c.requires.read
+    hands_done g.K.Keeper.TELLS c.args.config.now c.args.plan.now c.take-in-None.new.self c.args.nodes.now
+    (g.K.Keeper.state c.args.keepers.now) (g.L.Link.shown c.args.link.now) c.args.nodes.now.fleet c.end_ask_of.new.fleet c.fill.new.self
+    c.masters_are_regions.ensures c.requires.consistent c.requires.read
     (sym c.fill.ensures.fill ∙ c.in-None.is) c.requires.stage c.fill.ensures.handed c.end_ask_of.ensures c.take-in-None.ensures

@@ -11,7 +11,7 @@ returns-in-Ok g c =
     let first = c.in-Ok.field-0 in
     let here = c.look.ensures in
     let done = c.in-Ok.ensures in
-    looks_done g.K.Keeper.TELLS c.args.config.now c.args.leaders c.args.plan.now c.take.new.self c.args.nodes.now
+    looks_done g.K.Keeper.TELLS c.args.config.now c.args.plan.now c.take.new.self c.args.nodes.now
     (g.K.Keeper.state c.args.keepers.now) (g.L.Link.shown c.args.link.now) c.args.nodes.now.fleet c.look.new.self
     (record {
       masters = c.masters_are_regions.ensures;
@@ -30,7 +30,7 @@ returns-in-Ok g c =
 pub returns-in-Err : goal.returns-in-Err
 returns-in-Err g c =
     let here = c.look.ensures in
-    looks_lost g.K.Keeper.TELLS c.args.config.now c.args.leaders c.args.plan.now c.take-in-Err.new.self c.args.nodes.now
+    looks_lost g.K.Keeper.TELLS c.args.config.now c.args.plan.now c.take-in-Err.new.self c.args.nodes.now
     (g.K.Keeper.state c.args.keepers.now) (g.L.Link.shown c.args.link.now) c.args.nodes.now.fleet c.look.new.self
     (record {
       masters = c.masters_are_regions.ensures;

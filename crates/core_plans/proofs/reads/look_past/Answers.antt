@@ -7,7 +7,7 @@ use Rattle.tao_schema.specs.Schema.{types_of}
 pub returns : goal.returns
 returns g c =
     let done = c.ask_at_once-ask.ensures in
-    asks_at_once g.K.Keeper.TELLS c.args.config.now c.args.leaders c.args.plan.now c.take.new.self c.args.nodes.now
+    asks_at_once g.K.Keeper.TELLS c.args.config.now c.args.plan.now c.take.new.self c.args.nodes.now
     (g.K.Keeper.state c.args.keepers.now) (g.L.Link.shown c.args.link.now) c.args.nodes.now.fleet c.ask_at_once-ask.new.self
     (record {
       masters = c.masters_are_regions.ensures;

@@ -1,7 +1,7 @@
 use Rattle.std.proofs.Common.{◌≡◌, ◌∙◌, ap, arith, refl, subst, sym}
 use Rattle.std.proofs.lemmas.Option.{IfSome_then}
 use Rattle.std.proofs.lemmas.Result.{on_err_weaker}
-use Rattle.std.specs.Prelude.{IfErr, IfSome, IsSome, OnOk, unwrap_or}
+use Rattle.std.specs.Prelude.{IfErr, IfSome, IsSome, OnOk}
 use Rattle.core_model.specs.Serving.{IsFollowerFor}
 use Rattle.core_plans.specs.HeldWrites.{call_of_plan}
 use Rattle.core_plans.proofs.ComingBack.{ComesBack, applies_done}
@@ -17,6 +17,9 @@ use Rattle.tao_keeper.specs.KeeperState.{KeeperState}
 use Rattle.tao_schema.specs.Schema.{types_of}
 use Rattle.write_plan.specs.Plans.{Writing, after_stage, next_of}
 use Rattle.write_plan.specs.declared.results.WriteResult.TheVariants as came
+
+pub last_before-requires : goal.last_before-requires
+last_before-requires g c = (at_apply c.args.plan.now c.requires.stage).2
 
 pub spare_of-note-requires-clause-committed : goal.spare_of-note-requires-clause-committed
 spare_of-note-requires-clause-committed g c = (at_apply c.args.plan.now c.requires.stage).2
@@ -46,8 +49,7 @@ pub returns : goal.returns
 returns g c =
     let shown = g.L.Link.shown in
     let s = c.args.config.now in
-    let leaders = c.args.leaders in
-    let last = c.unwrap_or.result in
+    let last = c.last_before.result in
     let p = c.args.plan.now in
     let mid = c.spare_of-note.new.plan in
     let is = c.spare_of-note.ensures.rest in
@@ -80,8 +82,7 @@ returns g c =
               states = ap (λ (n : Nodes). n.topology) back.rest;
             };
           } in
-          applies_done s leaders p mid c.take.new.self old new outcome is (at_apply p c.requires.stage).2
-          (subst (λ l. ComesBack s l mid outcome old new) (c.unwrap_or.ensures ∙ ap (λ o. unwrap_or o leaders.leader) c.passed.ensures) comes)
+          applies_done s last p mid c.take.new.self old new outcome is (at_apply p c.requires.stage).2 c.last_before.ensures comes
           (then ∙ ap (after_stage mid (came.Apply outcome)) hops);
       write = λ tells tables under.
           taken_on tells s tables end.fleet p c.take.new.self (came.Apply outcome) took

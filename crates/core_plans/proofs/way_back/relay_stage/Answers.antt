@@ -20,6 +20,9 @@ use Rattle.write_plan.specs.declared.results.WriteResult.TheVariants as came
 pub passed_of-requires : goal.passed_of-requires
 passed_of-requires g c = (at_relay c.args.plan.now c.requires.stage).passed
 
+pub committer-requires : goal.committer-requires
+committer-requires g c = (at_relay c.args.plan.now c.requires.stage).answered
+
 pub relay_of-note-requires-clause-committed : goal.relay_of-note-requires-clause-committed
 relay_of-note-requires-clause-committed g c = (at_relay c.args.plan.now c.requires.stage).answered
 
@@ -56,7 +59,7 @@ pub returns : goal.returns
 returns g c =
     let shown = g.L.Link.shown in
     let s = c.args.config.now in
-    let leaders = c.args.leaders in
+    let route = way_past c.committer.result c.passed_of.result in
     let p = c.args.plan.now in
     let at = at_relay p c.requires.stage in
     let mid = c.relay_of-note.new.plan in
@@ -75,7 +78,7 @@ returns g c =
           let old : World = world was keepers from in
           let new : World = world end keepers to in
           let hops : took ≡ hops_between old.link new.link = omega (arith, c.saturating_sub-hops.ensures, c.carries.ensures, c.carries-carries.ensures) in
-          let comes : ComesPast s (way_past leaders c.passed_of.result) mid outcome old new = record {
+          let comes : ComesPast s route mid outcome old new = record {
             carried = past.carried;
             relays = past.relays;
             failed = past.failed;
@@ -88,7 +91,7 @@ returns g c =
               states = ap (λ (n : Nodes). n.topology) past.rest;
             };
           } in
-          relays_done s leaders p mid c.take.new.self old new outcome c.passed_of.result is c.passed_of.ensures comes
+          relays_done s route p mid c.take.new.self old new outcome is c.passed_of.ensures c.committer.ensures comes
           (then ∙ ap (after_stage mid (came.Relay outcome)) hops);
       write = λ tells tables under.
           taken_on tells s tables end.fleet p c.take.new.self (came.Relay outcome) took

@@ -9,6 +9,6 @@ returns-clause-steps g c =
     let now = c.held_stage.new in
     let old = world c.args.nodes.now (state c.args.keepers.now) (shown c.args.link.now) in
     let new = world now.nodes (state now.keepers) (shown now.link) in
-    steps_plan g.K.Keeper.TELLS c.args.led.now.config.now c.args.led.now.leaders c.args.number c.args.self.now c.self.inside.plans
+    steps_plan g.K.Keeper.TELLS c.args.config.now c.args.number c.args.self.now c.self.inside.plans
     (c.get_mut.follows.lender now.plan)
     c.in-Some.plan.now now.plan old new c.self.view_is c.in-Some.ensures.value c.held_stage.ensures.steps (c.get_mut.follows.holds now.plan)

@@ -1,0 +1,51 @@
+-- A stage of a read, as one of a plan's: it changes no table and no message.
+use Rattle.std.proofs.Common.{sym, subst}
+use Rattle.core_mail.proofs.InboxLemmas.{inboxes_stay}
+use Rattle.core_mail.specs.Inboxes.{AreInboxesOf, HaveArrived}
+use Rattle.core_model.specs.Pens.{pens_of}
+use Rattle.core_nodes.proofs.GrowingLemmas.{stays_stores}
+use Rattle.core_plans.specs.Held.{StepsReadAlone}
+use Rattle.core_plans.specs.HeldReads.{PassesReadStage}
+use Rattle.core_plans.specs.LedBy.{Rules}
+use Rattle.core_plans.specs.declared.held.HeldPlan.TheVariants.{Read}
+use Rattle.core_plans.proofs.InTurn.{CarriesOn, one_carried}
+use Rattle.core_steps.proofs.NotifyLemmas.{arrived_grows}
+use Rattle.core_steps.proofs.PostsLemmas.{can_post_on}
+use Rattle.core_steps.specs.Posting.{CanPost, PostsOn}
+use Rattle.core_steps.specs.ReadSteps.{ReadsOn}
+use Rattle.core_steps.specs.World.{World}
+use Rattle.graph_model.specs.Told.{WhereTold}
+use Rattle.read_plan.specs.Readings.{Reading}
+
+-- what a read's stage keeps, as what a plan's keeps
+pub reads_post : (rules : Rules) (old new : World) → CanPost rules.tells rules.settings old → ReadsOn rules.tells rules.settings old new
+    → PostsOn rules.tells rules.settings old new
+reads_post rules old new ready on =
+    let tells = rules.tells in
+    let s = rules.settings in
+    let pens = pens_of new.fleet.stores in
+    let grows = stays_stores tells s old.keepers new.keepers on.tables in
+    record {
+      consistent = on.consistent;
+      inboxes = subst (AreInboxesOf s pens) (sym on.inboxes)
+          ((inboxes_stay s (pens_of old.fleet.stores) old.inboxes).rises pens on.goes.rise ready.inboxes);
+      arrived = subst (λ i. WhereTold tells (HaveArrived new.keepers.told i)) (sym on.inboxes)
+          (arrived_grows tells old.keepers.told new.keepers.told old.inboxes grows.logs ready.arrived);
+      states = on.states;
+      goes = on.goes;
+      grows = grows;
+      later = on.later;
+      link = on.link;
+    }
+
+-- and what it does
+pub passes_alone : (rules : Rules) (p q : Reading) (old new : World) → PassesReadStage rules p old q new → StepsReadAlone rules p old q new
+passes_alone rules p q old new passed = record { steps = passed.steps; tables = passed.on.tables; inboxes = passed.on.inboxes }
+
+-- one more stage was done
+pub read_carried : (rules : Rules) (p m q : Reading) (old mid new : World) → CanPost rules.tells rules.settings old
+    → CarriesOn rules (Read p) old (Read m) mid → PassesReadStage rules m mid q new → CarriesOn rules (Read p) old (Read q) new
+read_carried rules p m q old mid new ready so_far passed =
+    let ready_still = can_post_on rules.tells rules.settings old mid ready so_far.on in
+    one_carried rules (Read p) (Read m) (Read q) old mid new so_far (passes_alone rules m q mid new passed) passed.read
+    (reads_post rules mid new ready_still passed.on)

@@ -1,7 +1,5 @@
 -- A call that isn't held: what its reply says, and what it leaves.
 use Rattle.std.proofs.Common.{◌≡◌, ◌∙◌, ℕ, Bool, false, List, ap, refl, subst, sym}
-use Rattle.core_mail.specs.Inboxes.{Inboxes}
-use Rattle.core_model.specs.Fleet.{Fleet}
 use Rattle.core_plans.specs.Held.{IsOver, IsUnderWay, OpensFirst, next_stage, learnt_with}
 use Rattle.core_plans.specs.HeldReads.{at_bound}
 use Rattle.core_plans.specs.declared.held.HeldPlan.TheVariants as of
@@ -11,10 +9,9 @@ use Rattle.read_plan.specs.Readings.{Reading, new_reading}
 use Rattle.tao_core.specs.Deliveries.{home_tier, refill_plan}
 use Rattle.topology.specs.Config.{Settings}
 use Rattle.std.specs.Prelude.{IsSome}
-use Rattle.core_plans.specs.LedBy.{led_by}
+use Rattle.core_plans.specs.LedBy.{rules_of}
 use Rattle.core_plans.specs.WholeCalls.{CarriesOut}
 use Rattle.core_plans.specs.declared.held.HeldPlan.{HeldPlan}
-use Rattle.core_plans.specs.declared.leaders.Leaders.{Leaders}
 use Rattle.core_sessions.specs.Sessions.{Session}
 use Rattle.core_steps.specs.Posting.{PostsOn}
 use Rattle.core_steps.specs.World.{world}
@@ -26,7 +23,7 @@ use Rattle.tao_keeper.specs.KeeperState.{KeeperState}
 use Rattle.tao_link.specs.Shown.{LinkShown}
 use Rattle.tao_core.specs.Asked.{CallCanBeDone}
 use Rattle.tao_core.specs.Core.{CoreState, IsConsistentCore, IsCoreOf, LeavesCore, Moment, StaysUsable, moment}
-use Rattle.tao_core.specs.HeldCalls.{AnswersCall, DoesAtOnce, IsBegun, LearnsOf, plan_leaders}
+use Rattle.tao_core.specs.HeldCalls.{AnswersCall, DoesAtOnce, IsBegun, LearnsOf}
 use Rattle.tao_core.proofs.AtOnce.{carried_does, carried_leaves, learns_stay, read_learns}
 use Rattle.tao_core.proofs.HeldBegun.{goes_first, opens_first}
 use Rattle.tao_core.proofs.HeldOn.{core_goes_on}
@@ -40,10 +37,9 @@ pub record CallLeaves (tells : Bool) (asked : CheckedCall) (old : Moment) (reply
 
 module _ (tells : Bool) (asked : CheckedCall) (core seen : CoreState) (own : core ≡ seen) (begun_sessions : List Session)
     (same : begun_sessions ≡ core.sessions) (before now : KeeperState) (from to : LinkShown) (of_seen : IsCoreOf tells before.told seen)
-    (can_seen : CallCanBeDone seen.settings seen.sessions asked) (end : Nodes) (plan after : HeldPlan) (leaders : Leaders)
-    (begun : IsBegun core.settings core.states core.sessions asked plan) (leads : leaders ≡ plan_leaders core plan)
-    (carries : CarriesOut (led_by tells core.settings leaders) plan (world_at core before from)
-    after (world end now to))
+    (can_seen : CallCanBeDone seen.settings seen.sessions asked) (end : Nodes) (plan after : HeldPlan)
+    (begun : IsBegun core.settings core.states core.sessions asked plan)
+    (carries : CarriesOut (rules_of tells core.settings) plan (world_at core before from) after (world end now to))
     (under : IsUnderWay tells core.settings now.told end.fleet after)
     (on : PostsOn tells core.settings (world_at core before from) (world end now to)) where
   core_of : IsCoreOf tells before.told core
@@ -54,17 +50,17 @@ module _ (tells : Bool) (asked : CheckedCall) (core seen : CoreState) (own : cor
 
   pub answered_call : (sessions : List Session) (reply : Reply) → IsOver after reply
       → LearnsOf after (learnt_with reply after) begun_sessions sessions
-      → CallLeaves tells asked (moment seen before from) reply (moment (record core { fleet = end.fleet; mail = end.mail; states = end.topology; sessions = sessions }) now to)
+      → CallLeaves tells asked (moment seen before from) reply
+      (moment (record core { fleet = end.fleet; mail = end.mail; states = end.topology; sessions = sessions }) now to)
   answered_call sessions reply over learnt =
       let first = opens_first tells before core core_of.is_consistent asked plan begun can in
       let goes = goes_first tells before core core_of.is_consistent asked plan begun can in
       let learns = subst (λ xs. LearnsOf after (learnt_with reply after) xs sessions) same learnt in
       let new : CoreState = record core { fleet = end.fleet; mail = end.mail; states = end.topology; sessions = sessions } in
-      let leaves = carried_leaves tells core end before now from to plan after leaders core_of.is_consistent first goes carries under on sessions reply learns in
+      let leaves = carried_leaves tells core end before now from to plan after core_of.is_consistent first goes carries under on sessions reply learns in
       record {
         does = call_goes core seen own begun_sessions same asked tells before from of_seen plan reply (moment new now to) begun
-            (carried_does tells core end before now from to plan after leaders core_of.is_consistent first goes carries under on sessions reply leads over
-            learns);
+            (carried_does tells core end before now from to plan after core_of.is_consistent first goes carries under on sessions reply over learns);
         usable = subst (λ x. StaysUsable tells before now x new) own
             (core_goes_on tells before now core new core_of leaves refl refl (learns_stay after (learnt_with reply after) core.sessions sessions learns));
       }
@@ -85,28 +81,27 @@ refill_is s node refill region tier read is of_region of_tier =
     ∙ ap (λ n. at_bound s (new_reading refill.query (region_of node) n refill.floor false node)) of_tier)
 
 module _ (tells : Bool) (node : NodeName) (refill : Refill) (core seen : CoreState) (own : core ≡ seen) (before now : KeeperState) (from to : LinkShown)
-    (of_seen : IsConsistentCore tells before.told seen) (end : Nodes) (read : Reading) (after : HeldPlan) (leaders : Leaders)
-    (begun : of.Read read ≡ refill_plan core.settings node refill) (leads : leaders ≡ plan_leaders core (of.Read read))
-    (carries : CarriesOut (led_by tells core.settings leaders) (of.Read read) (world_at core before from)
-    after (world end now to))
+    (of_seen : IsConsistentCore tells before.told seen) (end : Nodes) (read : Reading) (after : HeldPlan)
+    (begun : of.Read read ≡ refill_plan core.settings node refill)
+    (carries : CarriesOut (rules_of tells core.settings) (of.Read read) (world_at core before from) after (world end now to))
     (under : IsUnderWay tells core.settings now.told end.fleet after)
     (on : PostsOn tells core.settings (world_at core before from) (world end now to)) where
   of_core : IsConsistentCore tells before.told core
   of_core = subst (IsConsistentCore tells before.told) (sym own) of_seen
 
   pub refill_reads : (reply : Reply) → IsOver after reply
-      → RefillReads tells node refill (moment seen before from) reply (moment (record core { fleet = end.fleet; mail = end.mail; states = end.topology }) now to)
+      → RefillReads tells node refill (moment seen before from) reply
+      (moment (record core { fleet = end.fleet; mail = end.mail; states = end.topology }) now to)
   refill_reads reply over =
       let first : OpensFirst (of.Read read) = subst OpensFirst (sym begun) refl in
       let goes : IsSome (next_stage (of.Read read)) = subst (λ p. IsSome (next_stage p)) (sym begun) refl in
       let old = world_at core before from in
       let new = world end now to in
-      let learns = read_learns tells core.settings leaders read after old new (learnt_with reply after) core.sessions carries in
+      let learns = read_learns tells core.settings read after old new (learnt_with reply after) core.sessions carries in
       let then : CoreState = record core { fleet = end.fleet; mail = end.mail; states = end.topology } in
       subst (λ x. RefillReads tells node refill (moment x before from) reply (moment then now to)) own (record {
         does = subst (λ plan. DoesAtOnce tells plan (moment core before from) reply (moment then now to)) begun
-            (carried_does tells core end before now from to (of.Read read) after leaders of_core first goes carries under on core.sessions reply leads
-            over learns);
-        leaves = carried_leaves tells core end before now from to (of.Read read) after leaders of_core first goes carries under on core.sessions reply
+            (carried_does tells core end before now from to (of.Read read) after of_core first goes carries under on core.sessions reply over learns);
+        leaves = carried_leaves tells core end before now from to (of.Read read) after of_core first goes carries under on core.sessions reply
             learns;
       })

@@ -6,9 +6,11 @@ use Rattle.cache_items.specs.Node.{Node}
 use Rattle.core_model.proofs.NamedNodes.{all_set}
 use Rattle.core_model.proofs.Reaching.{nodes_reach}
 use Rattle.core_model.specs.Consistent.{HasReached, HaveReached}
+use Rattle.core_model.specs.Emptied.{BeginsAnew, EmptiesCache, FollowerBeginsAnew, at_marks}
 use Rattle.core_model.specs.Evictions.{ChangesCache, Evicts}
 use Rattle.core_model.specs.Fleet.{ChangesNode, EachIs, Fleet, region_of}
 use Rattle.core_model.specs.Messages.{Delivers, DeliversAt, DeliversThere, IsOfStore, TakesRefill}
+use Rattle.core_model.specs.Pens.{Pens}
 use Rattle.core_steps.proofs.ReachLemmas.{follower_reaches}
 use Rattle.follower_cache.specs.Seen.{FollowerState}
 use Rattle.follower_cache.specs.declared.queue.Refill.{Refill}
@@ -125,3 +127,15 @@ pub refill_reaches : (tables : Tables) (node : NodeName) (refill : Option Refill
     → HaveReached tables new
 refill_reaches tables node refill old new change rest =
     follower_reaches tables node old new rest (TakesRefill refill) change (takes_reach tables (region_of node) refill)
+
+-- ---- nodes that go down
+
+pub empties_reach : (tables : Tables) (node : NodeName) (pens : Pens) (old new : Fleet) → EmptiesCache node pens at_marks old new → HaveReached tables old
+    → HaveReached tables new
+empties_reach tables (StoreName_ store) pens old new empties = absurd empties
+empties_reach tables (Leader region index) pens old new empties =
+    leader_reaches tables (Leader region index) old new (BeginsAnew pens at_marks) empties.0 empties.1
+    ((nodes_reach tables region).begins_at_marks pens)
+empties_reach tables (Follower region tier index) pens old new empties =
+    follower_reaches tables (Follower region tier index) old new empties.1 (FollowerBeginsAnew pens at_marks) empties.0
+    (λ from to by. (nodes_reach tables region).begins_at_marks pens from.node to.node by.node)

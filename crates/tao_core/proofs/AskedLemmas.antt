@@ -1,5 +1,5 @@
 -- What is asked can be done.
-use Rattle.std.proofs.Common.{◌≡◌, ℕ, Bool, true, false, Contains, List, Result, Ok, Err, IfOk, Option, Some, None, refl, subst, inl, inr}
+use Rattle.std.proofs.Common.{◌≡◌, ℕ, true, false, Contains, List, Result, Ok, Err, IfOk, Option, Some, None, refl, subst, inl, inr}
 use Rattle.std.specs.Prelude.{IsSome, is_some, not, ⊤}
 use Rattle.std.proofs.lemmas.Bool.{cases_Bool}
 use Rattle.outcomes.specs.Results.{◌>>=◌, Gives, refused_unless}
@@ -16,14 +16,10 @@ use Rattle.topology.proofs.Found.{follower_known, leader_known}
 use Rattle.topology.specs.Config.{Settings}
 use Rattle.replies.specs.declared.refusals.NameRefused.{NameRefused}
 use Rattle.replies.specs.declared.refusals.Refusal.{Refusal}
-use Rattle.requests.specs.HealthWords.{health_word}
-use Rattle.requests.specs.RequestWords.{request_word}
 use Rattle.requests.specs.declared.calls.Call.{Call}
 use Rattle.requests.specs.declared.calls.Call.TheVariants as call
 use Rattle.requests.specs.declared.calls.ReadCall.{ReadCall}
 use Rattle.requests.specs.declared.calls.WriteCall.{WriteCall}
-use Rattle.requests.specs.declared.health.HealthRequest.{HealthRequest}
-use Rattle.requests.specs.declared.health.HealthRequest.TheVariants as health
 use Rattle.requests.specs.declared.plans.PlanRequest.{PlanRequest}
 use Rattle.requests.specs.declared.plans.PlanRequest.TheVariants as plan
 use Rattle.requests.specs.declared.request.Request.{Request}
@@ -31,6 +27,7 @@ use Rattle.requests.specs.declared.request.Request.TheVariants as request
 use Rattle.request_check.proofs.Placing.{whatever}
 use Rattle.request_check.specs.Caches.{checked_cache}
 use Rattle.request_check.specs.Calls.{checked_call, checked_query, checked_write}
+use Rattle.request_check.specs.Health.{checked_health}
 use Rattle.request_check.specs.Links.{checked_link}
 use Rattle.request_check.specs.Names.{placed_as, tier_named}
 use Rattle.request_check.specs.Placed.{IsPlacedCall, IsPlacedFollower, IsPlacedNode}
@@ -45,7 +42,7 @@ use Rattle.request_check.specs.declared.checked.CheckedCall.TheVariants as of_ca
 use Rattle.request_check.specs.declared.plans.CheckedPlan.TheVariants as of_plan
 use Rattle.request_check.specs.declared.refusal.CheckRefusal.{CheckRefusal}
 use Rattle.tao_core.specs.Asked.{CallCanBeDone, CanBeDone, PlanCanBeDone, admitted, asking_session, fresh_plan, fresh_session}
-use Rattle.tao_core.specs.Asked.{is_built, not_built, open_session, plan_for, session_for}
+use Rattle.tao_core.specs.Asked.{open_session, plan_for, session_for}
 
 -- ---- nodes
 
@@ -96,30 +93,11 @@ both_pass : (first second : Result ⊤ Refusal) → (first >>= (λ x. second)) �
 both_pass (Ok x) second h = (refl, h)
 both_pass (Err refused) second h = absurd (cc)
 
--- a test that passes is true
-passed : (refusal : Refusal) (test : Bool) → refused_unless refusal test ≡ Ok tt → test ≡ true
-passed refusal true h = refl
-passed refusal false h = absurd (cc)
-
--- no word that changes a node's health is served
-unserved : (asked : HealthRequest) → is_built (health_word asked) ≡ true → ⊥
-unserved (health.Down node) is = absurd (cc)
-unserved (health.Up node) is = absurd (cc)
-unserved (health.Suspect leader) is = absurd (cc)
-unserved (health.Trust leader) is = absurd (cc)
-
--- a request that was admitted is of a word that is served
-word_built : (sessions : List Session) (plans : Plans) (asked : Request) → admitted sessions plans asked ≡ Ok tt → is_built (request_word asked) ≡ true
-word_built sessions plans asked h =
-    passed (not_built asked) (is_built (request_word asked))
-    (both_pass (refused_unless (not_built asked) (is_built (request_word asked))) (plan_for plans asked >>= (λ held. session_for sessions asked)) h).0
-
--- and it may name its plan and its session
+-- a request that was admitted may name its plan and its session
 rest_admitted : (sessions : List Session) (plans : Plans) (asked : Request) → admitted sessions plans asked ≡ Ok tt
     → (plan_for plans asked ≡ Ok tt) × (session_for sessions asked ≡ Ok tt)
 rest_admitted sessions plans asked h =
-    both_pass (plan_for plans asked) (session_for sessions asked)
-    (both_pass (refused_unless (not_built asked) (is_built (request_word asked))) (plan_for plans asked >>= (λ held. session_for sessions asked)) h).1
+    both_pass (plan_for plans asked) (session_for sessions asked) h
 
 module _ (s : Settings) (sessions : List Session) (plans : Plans) where
   write_can : (text : WriteCall) (found : Result Write NameRefused) → is_open sessions text.session ≡ true
@@ -176,8 +154,7 @@ module _ (s : Settings) (sessions : List Session) (plans : Plans) where
       family_can checked.Plan (checked_plan s asked) (plan_can asked rest.0 rest.1)
   by_family (request.Cache asked) h = always_can checked.Cache (checked_cache s asked) (λ c here. here)
   by_family (request.Store asked) h = always_can checked.Store (checked_store s asked) (λ c here. here)
-  by_family (request.Health asked) h =
-      absurd (unserved asked (word_built sessions plans (request.Health asked) h))
+  by_family (request.Health asked) h = always_can checked.Health (checked_health s asked) (λ c here. here)
   by_family (request.Link asked) h = always_can checked.Link (checked_link s asked) (λ c here. tt)
 
 named_ok : (found : Result Checked NameRefused) (c : Checked) → replied (for_name found) ≡ Ok c → found ≡ Ok c

@@ -1,5 +1,6 @@
 -- What the words of messages, of refills and of held items come to.
-use Rattle.std.proofs.Common.{◌≡◌, ℕ, zero, suc, ◌+◌, ◌<◌, ◌≤◌, List, [], ◌∷◌, length, Bool, Option, Some, None, refl, ap, sym, ◌∙◌, subst, inl, inr, arith}
+use Rattle.std.proofs.Common.{true, ◌≡◌, ℕ, zero, suc, ◌+◌, ◌<◌, ◌≤◌, List, [], ◌∷◌, length, Bool, false, Option, Some, None}
+use Rattle.std.proofs.Common.{refl, ap, sym, ◌∙◌, subst, inl, inr, arith}
 use Rattle.std.specs.List.{range_with_len, remove}
 use Rattle.std.specs.Option.{option_map}
 use Rattle.std.specs.Prelude.{Contains, map, option_and_then, slice_get, slice_set}
@@ -49,11 +50,12 @@ use Rattle.tao_link.specs.Shown.{LinkShown}
 use Rattle.topology.specs.Config.{Settings}
 use Rattle.tao_schema.specs.Schema.{types_of}
 use Rattle.topology.specs.Counts.{NodeCounts, counts_of}
+use Rattle.topology.specs.States.{is_up}
 use Rattle.shard_tables.specs.StoreView.{Store}
 use Rattle.words.specs.declared.DeliveryWord.{DeliveryWord}
 use Rattle.words.specs.declared.DeliveryWord.TheVariants as word
 use Rattle.tao_core.specs.Core.{CoreState, IsConsistentCore, LeavesCore, Moment, StaysHeld, moment}
-use Rattle.tao_core.specs.Deliveries.{AnswersDeliver, AnswersRefill, AnswersSecond, IsExactNow, IsProcessed, IsShown}
+use Rattle.tao_core.specs.Deliveries.{AnswersDeliver, AnswersRefill, AnswersSecond, IsExactNow, IsMarkTold, IsProcessed, IsShown}
 use Rattle.tao_core.specs.Deliveries.{refill_plan, shown_item}
 use Rattle.tao_core.specs.HeldCalls.{DoesAtOnce}
 use Rattle.core_plans.specs.Held.{IsUnderWay}
@@ -62,7 +64,7 @@ use Rattle.tao_keeper.proofs.Later.{later_self}
 use Rattle.std.proofs.lemmas.List.{length-map}
 use Rattle.core_steps.proofs.ReadLemmas.{log_is}
 use Rattle.core_steps.proofs.Repeats.{held_exact}
-use Rattle.tao_core.proofs.HeldOn.{delivers_held, held_on, none_come}
+use Rattle.tao_core.proofs.HeldOn.{delivers_held, held_on, none_come, same_held}
 use Rattle.tao_core.proofs.Arriving.{refill_reaches}
 use Rattle.tao_core.proofs.Keeping.{going_core}
 
@@ -117,13 +119,20 @@ pub record ProcessLeaves (asked : DeliveryWord) (node : NodeName) (m : SeenMaint
 -- the message was processed, and its node has a mark
 pub processed : (asked : DeliveryWord) (node : NodeName) (m : SeenMaint) (told : Message) (dropped mark : ℕ) (core now : CoreState) (own : core ≡ now)
     (left : Fleet) → told ≡ shown_message m → DeliversAt (types_of core.settings.schema) m dropped node core.fleet left
-    → IsMarkAt left node told.shard (Some mark) → IsFleetOf core.settings left → GoesOn core.fleet left
+    → IsMarkTold (record core { fleet = left }) node told.shard mark → IsFleetOf core.settings left → GoesOn core.fleet left
     → ProcessLeaves asked node m now (AtNode (Cache (Delivered (record { word = asked; dropped = dropped; mark = mark; message = told }))))
     (record core { fleet = left })
 processed asked node m told dropped mark core now own left is delivers at fleet goes =
     let reply : Reply = AtNode (Cache (Delivered (record { word = asked; dropped = dropped; mark = mark; message = told }))) in
     subst (λ x. ProcessLeaves asked node m x reply (record core { fleet = left })) own (record {
-      does = (refl, record { delivers = delivers; mark = subst (λ (t : Message). IsMarkAt left node t.shard (Some mark)) is at; message_is = is });
+      does = (
+        refl,
+        record {
+          delivers = delivers;
+          mark = subst (λ (t : Message). IsMarkTold (record core { fleet = left }) node t.shard mark) is at;
+          message_is = is;
+        },
+      );
       fleet = fleet;
       on = record { goes = goes; opens = delivers_held _ _ _ node core.fleet left delivers };
       rest = refl;
@@ -193,7 +202,7 @@ exact_now tells core keepers name key (Some n) (Some item) of is found_is =
     (node_is core.settings core.fleet name n of.consistent.fleet is) (sym found_is)
 
 pub shows : (tells : Bool) (core : CoreState) (keepers : KeeperState) (link : LinkShown) (name : NodeName) (key : Key) (mark : ℕ) (found : Option Item)
-    (item : ShownAs) → IsConsistentCore tells keepers.told core → IsHeldAt core.fleet name key found → IsMarkAt core.fleet name (key_shard key) (Some mark)
+    (item : ShownAs) → IsConsistentCore tells keepers.told core → IsHeldAt core.fleet name key found → IsMarkTold core name (key_shard key) mark
     → item ≡ shown_item found → IsShown tells name key mark item (moment core keepers link)
 shows tells core keepers link name key mark found item of held at is = record {
   found = found;
@@ -296,14 +305,16 @@ module _ (tells : Bool) (node : NodeName) (core now : CoreState) (own : core ≡
   left_held = record { goes = goes; opens = refill_opens_none node core.fleet.followers left.followers first takes }
 
   pub refill_found : (refill : Refill) (read reply : Reply) (new : CoreState) (later : KeeperState) (to : LinkShown) → first ≡ Some refill
+      → is_up core.states node ≡ true
       → DoesAtOnce tells (refill_plan core.settings node refill) (moment (record core { fleet = left }) before from) read (moment new later to)
       → LeavesCore tells before later (record core { fleet = left }) new → new.sessions ≡ core.sessions → reply ≡ refilled_as read
       → RefillLeaves tells node (moment now before from) reply (moment new later to)
-  refill_found refill read reply new later to is does leaves sessions reply_is =
+  refill_found refill read reply new later to is up does leaves sessions reply_is =
       let kept : new ≡ record core { fleet = new.fleet; mail = new.mail } =
       does.rest ∙ ap (λ xs. record core { fleet = new.fleet; mail = new.mail; sessions = xs }) sessions in
       subst (λ x. RefillLeaves tells node (moment x before from) reply (moment new later to)) own (record {
         does = inl (record {
+          up = up;
           refill = refill;
           left = left.followers;
           takes = subst (λ r. ChangesNode node (TakesRefill r) core.fleet.followers left.followers) is takes;
@@ -330,7 +341,7 @@ module _ (tells : Bool) (node : NodeName) (core now : CoreState) (own : core ≡
       subst (λ x. RefillLeaves tells node (moment x before from) reply (moment (record core { fleet = left }) before from)) own (record {
         does = inr (record {
           reply_is = reply_is;
-          none = none;
+          none = inr none;
           same = ap (λ (f : Fleet). moment (record core { fleet = f }) before from) (none_refilled node core.fleet left none rest);
         });
         leaves = record {
@@ -342,3 +353,19 @@ module _ (tells : Bool) (node : NodeName) (core now : CoreState) (own : core ≡
         };
         same = refl;
       })
+
+-- none waits at a follower that is down
+pub refill_down : (tells : Bool) (node : NodeName) (core : CoreState) (before : KeeperState) (from : LinkShown)
+    → IsConsistentCore tells before.told core → is_up core.states node ≡ false → (reply : Reply) → reply ≡ Refused (OfNode (NoRefill node))
+    → RefillLeaves tells node (moment core before from) reply (moment core before from)
+refill_down tells node core before from of down reply reply_is = record {
+  does = inr (record { reply_is = reply_is; none = inl down; same = refl });
+  leaves = record {
+    is_consistent = of;
+    on = same_held core.fleet;
+    comes = none_come tells before.told core core refl;
+    grows = stays_stores tells core.settings before before (λ told at. refl);
+    later = later_self before;
+  };
+  same = refl;
+}

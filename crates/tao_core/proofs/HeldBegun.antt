@@ -7,7 +7,6 @@ use Rattle.core_model.proofs.Places.{one_some}
 use Rattle.core_nodes.proofs.FleetLemmas.{goes_self}
 use Rattle.core_plans.specs.Held.{AddsPlan, HoldsAsk, IsUnderWay, OpensFirst, Plans, next_stage, plan_at}
 use Rattle.core_plans.specs.declared.held.HeldPlan.{HeldPlan}
-use Rattle.core_plans.specs.declared.held.HeldPlan.TheVariants as held
 use Rattle.core_plans.proofs.AsksHeld.{same_opens_none}
 use Rattle.core_nodes.proofs.GrowingLemmas.{stays_stores}
 use Rattle.core_sessions.specs.Sessions.{Session, is_open, session_at}
@@ -27,7 +26,6 @@ use Rattle.tao_base.specs.Writes.{write_shard}
 use Rattle.tao_keeper.specs.KeeperState.{KeeperState}
 use Rattle.topology.specs.Choices.{chosen_follower}
 use Rattle.topology.specs.Config.{Settings}
-use Rattle.words.specs.declared.PlanWord.TheVariants as word
 use Rattle.tao_core.specs.Asked.{CallCanBeDone}
 use Rattle.tao_core.specs.Core.{CoreState, IsConsistentCore, IsCoreOf, IsOfSession, IsSessionOf}
 use Rattle.tao_core.specs.HeldCalls.{BeginsAt, HasRoomAlready, HasRoomForCall, IsBegun, IsNotBegun}
@@ -197,6 +195,14 @@ is_begun s states sessions asked start follower plan begins made = record {
   chosen = begins.chosen;
   plan_is = made begins.session begins.start_is;
 }
+
+-- so is the plan that is made of a call of its kind
+pub is_begun_as : (s : Settings) (states : NodeStates) (sessions : List Session) (asked kind : CheckedCall) (start : CallStart) (follower : NodeName)
+    (plan : HeldPlan) → asked ≡ kind → BeginsAt states sessions asked start follower
+    → ((session : Session) → start ≡ call_start kind session → plan ≡ begun_plan s session follower kind) → IsBegun s states sessions asked plan
+is_begun_as s states sessions asked kind start follower plan is begins made =
+    is_begun s states sessions asked start follower plan begins
+    (subst (λ x. (session : Session) → start ≡ call_start x session → plan ≡ begun_plan s session follower x) (sym is) made)
 
 -- there is room for what its session learns
 pub room_begun : (s : Settings) (states : NodeStates) (sessions : List Session) (asked : CheckedCall) (plan : HeldPlan) (passes : List SeenPass)

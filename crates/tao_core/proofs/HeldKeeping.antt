@@ -1,10 +1,10 @@
 -- A core whose held plan did a stage, or took one more, may be used.
 use Rattle.std.proofs.Common.{◌≡◌, ℕ, Bool, true, false, List, Option, Some, None, refl, ap, sym, ◌∙◌, subst, inl, inr}
-use Rattle.std.specs.Prelude.{◌==◌, All, Contains, IfSome, IsSome, IsTrue, if◌then◌else◌, option_and_then}
+use Rattle.std.specs.Prelude.{◌==◌, All, IfSome, IsSome, if◌then◌else◌, option_and_then}
 use Rattle.std.proofs.lemmas.Bool.{cases_Bool, eq-eqb, eqb-true}
-use Rattle.core_mail.specs.Inboxes.{AreInboxesOf, HaveArrived, Inboxes}
+use Rattle.core_mail.specs.Inboxes.{AreInboxesOf, HaveArrived}
 use Rattle.core_model.specs.Consistent.{GoesOn, IsConsistent}
-use Rattle.core_model.specs.Fleet.{Fleet, HasAsk, leader_names}
+use Rattle.core_model.specs.Fleet.{Fleet, HasAsk}
 use Rattle.core_model.specs.Stores.{HaveMasterRegions}
 use Rattle.core_model.specs.Growing.{StoresGrow}
 use Rattle.core_model.specs.Pens.{pens_of}
@@ -14,7 +14,6 @@ use Rattle.core_plans.specs.Held.{
   ArePlansOf,
   CanStep,
   HoldsAsk,
-  IsLeaderOf,
   IsOpenAt,
   IsUnderWay,
   OpensFirst,
@@ -26,12 +25,10 @@ use Rattle.core_plans.specs.Held.{
   learnt_with,
 }
 use Rattle.core_plans.specs.declared.held.HeldPlan.{HeldPlan}
-use Rattle.core_plans.specs.declared.leaders.Leaders.{Leaders}
 use Rattle.core_plans.specs.declared.held.HeldPlan.TheVariants.{Read, Write}
 use Rattle.core_sessions.specs.Sessions.{Session}
 use Rattle.core_plans.proofs.WritesGoOn.{plan_later}
-use Rattle.core_plans.specs.LedBy.{led_by}
-use Rattle.core_steps.proofs.NotifyLemmas.{merges_in}
+use Rattle.core_plans.specs.LedBy.{rules_of}
 use Rattle.core_steps.specs.World.{world}
 use Rattle.core_steps.specs.declared.nodes.Nodes.{Nodes}
 use Rattle.graph_model.proofs.Members.{if_some_at}
@@ -41,26 +38,21 @@ use Rattle.replies.specs.declared.plans.PlanReply.TheVariants.{Next}
 use Rattle.replies.specs.declared.plans.Stage.{Stage}
 use Rattle.replies.specs.declared.reply.Reply.{Reply}
 use Rattle.replies.specs.declared.reply.Reply.TheVariants as replied
-use Rattle.tao_base.specs.Queries.{query_key, query_shard}
-use Rattle.tao_base.specs.Writes.{write_shard}
+use Rattle.tao_base.specs.Queries.{query_key}
 use Rattle.tao_base.specs.declared.id.Key.{Key}
 use Rattle.tao_keeper.specs.KeeperState.{KeeperState}
 use Rattle.tao_keeper.specs.Table.{Tables}
 use Rattle.tao_link.specs.Shown.{LinkShown}
-use Rattle.topology.specs.Choices.{master_region, preferred_leader}
 use Rattle.topology.specs.Config.{Settings}
-use Rattle.topology.specs.States.{is_cache}
 use Rattle.words.specs.declared.PlanWord.{PlanWord}
 use Rattle.tao_core.specs.Calls.{world_at, world_of}
 use Rattle.tao_core.specs.Core.{CoreState, IsConsistentCore, IsCoreOf, IsOfSession, IsSessionOf, Moment, moment}
-use Rattle.tao_core.specs.HeldCalls.{Advances, AdvancesPlan, AreLeaders, DoesStage, EndsPlan, IsOfRegion, Leaves, LearnsOf, StepsAt, held_seen, held_in, next_at}
-use Rattle.tao_core.specs.HeldCalls.{numbered_plan, passed_from, plan_leaders}
+use Rattle.tao_core.specs.HeldCalls.{AdvancesPlan, DoesStage, EndsPlan, Leaves, LearnsOf, StepsAt, held_seen, held_in, next_at, numbered_plan}
 use Rattle.tao_core.proofs.HeldLearning.{author_advances, learns_ours, of_session_still}
 use Rattle.tao_core.proofs.HeldSteps.{MayHold, StepsAsks, advance_asks, held_after, kept}
 use Rattle.tao_core.proofs.Reaching.{advance_reaches}
 use Rattle.tao_core.proofs.NamesOnce.{stand_alone}
 use Rattle.tao_core.proofs.Told.{sessions_later}
-use Rattle.tao_core.proofs.Ways.{leads_at, region_within}
 use Rattle.core_model.specs.States.{AreStatesOf}
 
 -- ---- one plan is set
@@ -155,48 +147,16 @@ module _ (tells : Bool) (s : Settings) (before later : Tables) (f g : Fleet) (nu
 
 -- ---- a plan can do its stage
 
-module _ (tells : Bool) (tables : Tables) (core : CoreState) (of : IsConsistentCore tells tables core) where
-  of_region : (plan : HeldPlan) → IsUnderWay tells core.settings tables core.fleet plan → IsOfRegion core.states plan
-  of_region (Read p) is = region_within tells tables core of p.region is.region
-  of_region (Write p) is = region_within tells tables core of p.region is.region
+can_found : (tells : Bool) (s : Settings) (tables : Tables) (f : Fleet) (plans : Plans) (number : ℕ) (found : Option HeldPlan) → plan_at plans number ≡ found
+    → IsSome found → ArePlansOf tells s tables f plans → CanStep tells s tables f found
+can_found tells s tables f plans number None at there are = absurd (cc)
+can_found tells s tables f plans number (Some plan) at there are =
+    record { under_way = are.under_way number plan at; goes_on = are.goes_on number plan at }
 
-  -- the leader of its own region that a write passes, where that isn't the master's
-  passed_leads : (home : Bool) (name : NodeName) → (IsTrue (is_cache core.states.regions name) → Contains (leader_names core.settings) name)
-      → IfSome (passed_from home name) (λ one. IsTrue (is_cache core.states.regions one))
-      → IfSome (passed_from home name) (Contains (leader_names core.settings))
-  passed_leads true name leads known = tt
-  passed_leads false name leads known = leads known
-
-  leads_plan : (plan : HeldPlan) → IsUnderWay tells core.settings tables core.fleet plan → AreLeaders core.states (plan_leaders core plan)
-      → IsLeaderOf core.settings (plan_leaders core plan) plan
-  leads_plan (Read p) is known = leads_at tells tables core of p.region (query_shard p.query) is.follower.here known.leader
-  leads_plan (Write p) is known =
-      let shard = write_shard p.write in
-      let home = master_region core.states shard in
-      let own = preferred_leader core.states p.region shard in
-      record {
-        leader = merges_in core.settings core.states home shard (preferred_leader core.states home shard) of.states refl refl known.leader;
-        passed = passed_leads (p.region == home) own (λ there. (leads_at tells tables core of p.region shard is.follower.here there).configured) known.passed;
-      }
-
-  -- those that are preferred for it lead it
-  pub leads_it : (plan : HeldPlan) (leaders : Leaders) → IsUnderWay tells core.settings tables core.fleet plan → leaders ≡ plan_leaders core plan
-      → (IsOfRegion core.states plan → AreLeaders core.states leaders) → IsLeaderOf core.settings leaders plan
-  leads_it plan leaders under is known =
-      subst (λ (n : Leaders). IsLeaderOf core.settings n plan) (sym is)
-      (leads_plan plan under (subst (AreLeaders core.states) is (known (of_region plan under))))
-
-module _ (tells : Bool) (tables : Tables) (core : CoreState) (of : IsCoreOf tells tables core) where
-  pub can_step : (number : ℕ) (plan : HeldPlan) (leaders : Leaders) → plan_at core.plans number ≡ Some plan → leaders ≡ plan_leaders core plan
-      → (IsOfRegion core.states plan → AreLeaders core.states leaders)
-      → CanStep tells core.settings tables core.fleet leaders (plan_at core.plans number)
-  can_step number plan leaders at is known =
-      let under = of.plans.under_way number plan at in
-      subst (CanStep tells core.settings tables core.fleet leaders) (sym at) (record {
-        under_way = under;
-        goes_on = of.plans.goes_on number plan at;
-        leader_is = leads_it tells tables core of.is_consistent plan leaders under is known;
-      })
+pub can_step : (tells : Bool) (tables : Tables) (core : CoreState) (number : ℕ) → IsCoreOf tells tables core → IsSome (plan_at core.plans number)
+    → CanStep tells core.settings tables core.fleet (plan_at core.plans number)
+can_step tells tables core number of there =
+    can_found tells core.settings tables core.fleet core.plans number (plan_at core.plans number) refl there of.plans
 
 -- the nodes and their messages are as consistent with other plans
 pub with_plans : (tells : Bool) (tables : Tables) (core : CoreState) (plans : Plans) → IsConsistentCore tells tables core
@@ -258,7 +218,7 @@ module _ (tells : Bool) (number : ℕ) (old mid : Moment) (does : DoesStage tell
   module _ (of : IsCoreOf tells old.keepers.told old.core) where
     asks_of : StepsAsks (Some does.steps.before) (held_after After) old.core.fleet.followers mid.core.fleet.followers
     asks_of =
-        advance_asks (led_by tells old.core.settings (plan_leaders old.core does.plan)) does.steps.before After (world_of old) (world_of mid)
+        advance_asks (rules_of tells old.core.settings) does.steps.before After (world_of old) (world_of mid)
         (stand_alone old.core.settings old.core.fleet.followers of.is_consistent.consistent.fleet.follower_names)
         (of.plans.begun number does.steps.before does.steps.stands) does.steps.steps
 
@@ -287,7 +247,7 @@ module _ (tells : Bool) (number : ℕ) (old mid : Moment) (does : DoesStage tell
 
     author_after : IsOfSession old.core.sessions After
     author_after =
-        author_advances (led_by tells old.core.settings (plan_leaders old.core does.plan)) does.steps.before After (world_of old) (world_of mid)
+        author_advances (rules_of tells old.core.settings) does.steps.before After (world_of old) (world_of mid)
         old.core.sessions does.steps.steps (of.authors number does.steps.before does.steps.stands)
 
     pub author_held : (sessions : List Session) → old.core.sessions ≡ sessions → (other : ℕ) (plan : HeldPlan) → plan_at mid.core.plans other ≡ Some plan
@@ -360,14 +320,6 @@ module _ (tells : Bool) (number : ℕ) (old mid : Moment) (does : DoesStage tell
 
   -- ---- what is replied
 
-  same_plan : does.plan ≡ does.steps.before
-  same_plan = one_some does.plan does.steps.before (sym does.stands ∙ does.steps.stands)
-
-  steps_before : Advances (led_by tells old.core.settings (plan_leaders old.core does.steps.before)) does.steps.before (world_of old) After (world_of mid)
-  steps_before =
-      subst (λ p. Advances (led_by tells old.core.settings (plan_leaders old.core p)) does.steps.before (world_of old) After (world_of mid)) same_plan
-      does.steps.steps
-
   -- it is held before the stage that follows
   pub next_steps : (asked : PlanWord) (stage : Stage) (sessions : List Session) (reply : Reply) → next_at mid.core.plans number ≡ Some stage
       → reply ≡ replied.Plan (Next asked number stage) → sessions ≡ old.core.sessions
@@ -377,7 +329,7 @@ module _ (tells : Bool) (number : ℕ) (old mid : Moment) (does : DoesStage tell
     before = does.steps.before;
     after = After;
     stands = does.steps.stands;
-    steps = steps_before;
+    steps = does.steps.steps;
     reaches = does.reaches;
     leaves = subst (λ n. Leaves asked (numbered_plan number After) n (held_in old.core) reply (held_seen mid.core.plans sessions)) (sym next ∙ next_is)
         (record { told = told; changes = does.steps.changes; sessions = same });
@@ -394,7 +346,7 @@ module _ (tells : Bool) (number : ℕ) (old mid : Moment) (does : DoesStage tell
     before = does.steps.before;
     after = After;
     stands = does.steps.stands;
-    steps = steps_before;
+    steps = does.steps.steps;
     reaches = does.reaches;
     leaves = subst (λ n. Leaves asked (numbered_plan number After) n (held_in old.core) reply (held_seen later sessions)) (sym over ∙ next_is)
         (ends_here later sessions reply over ends);
@@ -405,28 +357,17 @@ module _ (tells : Bool) (number : ℕ) (old mid : Moment) (does : DoesStage tell
 -- ---- a stage is done
 
 pub does_stage : (tells : Bool) (number : ℕ) (core : CoreState) (end : Nodes) (plans : Plans) (before now : KeeperState)
-    (from to : LinkShown) (plan : HeldPlan) (leaders : Leaders) → end.topology ≡ core.states → IsLaterLink from to
-    → plan_at core.plans number ≡ Some plan → leaders ≡ plan_leaders core plan
-    → AdvancesPlan (led_by tells core.settings leaders) number core.plans (world_at core before from) plans
-    (world end now to)
+    (from to : LinkShown) → IsLaterLink from to
+    → AdvancesPlan (rules_of tells core.settings) number core.plans (world_at core before from) plans (world end now to)
     → HaveMasterRegions core.settings → IsConsistent tells core.settings now.told end.fleet
     → IfSome (plan_at plans number) (IsUnderWay tells core.settings now.told end.fleet)
-    → DoesStage tells number (moment core before from) (moment (record core { fleet = end.fleet; mail = end.mail; states = end.topology; plans = plans }) now to)
-does_stage tells number core end plans before now from to plan leaders same link stands leads steps masters consistent under =
-    let old = world_at core before from in
-    let new = world end now to in
-    record {
-      plan = plan;
-      stands = stands;
-      steps = record {
-        before = steps.before;
-        after = steps.after;
-        stands = steps.stands;
-        steps = subst (λ l. Advances (led_by tells core.settings l) steps.before old steps.after new) leads steps.steps;
-        changes = steps.changes;
-      };
-      reaches = advance_reaches (led_by tells core.settings leaders) steps.before steps.after old new now.told end.fleet steps.steps masters consistent
-          (if_some_at (IsUnderWay tells core.settings now.told end.fleet) (plan_at plans number) steps.after under
-          (set_here number (Some steps.after) core.plans plans steps.changes.sets));
-      link = link;
-    }
+    → DoesStage tells number (moment core before from)
+    (moment (record core { fleet = end.fleet; mail = end.mail; states = end.topology; plans = plans }) now to)
+does_stage tells number core end plans before now from to link steps masters consistent under = record {
+  steps = steps;
+  reaches = advance_reaches (rules_of tells core.settings) steps.before steps.after (world_at core before from) (world end now to) now.told end.fleet
+      steps.steps masters consistent
+      (if_some_at (IsUnderWay tells core.settings now.told end.fleet) (plan_at plans number) steps.after under
+      (set_here number (Some steps.after) core.plans plans steps.changes.sets));
+  link = link;
+}

@@ -20,11 +20,15 @@ use Rattle.core_plans.specs.Held.{
   learnt_of_write,
   learnt_with,
 }
-use Rattle.core_plans.specs.HeldWrites.{DoesWriteStage, IsAnswerTo, IsBefore, IsWriteUnderWay, way_given_up}
+use Rattle.core_plans.proofs.InTurn.{write_same}
+use Rattle.core_plans.proofs.StageLemmas.{ended_down}
+use Rattle.core_plans.specs.HeldWrites.{ComesOfWrite, CommitsBy, DoesWriteStage, IsAnswerTo, IsBefore, IsWriteUnderWay, way_given_up, write_is_down}
 use Rattle.core_plans.specs.declared.held.HeldPlan.{HeldPlan}
 use Rattle.core_plans.specs.declared.held.HeldPlan.TheVariants.{Read, Write}
+use Rattle.core_plans.specs.Needs.{leaders_of_write}
 use Rattle.core_plans.specs.declared.held.LearntEntries.{LearntEntries}
-use Rattle.core_plans.specs.LedBy.{LedBy}
+use Rattle.core_plans.specs.declared.leaders.Leaders.{Leaders}
+use Rattle.core_plans.specs.LedBy.{Rules}
 use Rattle.core_sessions.specs.Sessions.{HasRoomForBoth, Session, is_open, sessions_of}
 use Rattle.core_steps.specs.OtherEnds.{StandsThere, learnt_far}
 use Rattle.core_steps.specs.World.{World}
@@ -57,36 +61,23 @@ use Rattle.tao_core.proofs.WriteStages.{KeepsOn, end_keeps, inverse_keeps, stage
 -- ---- the session of a write
 
 -- a write stays that of its client
-pub origin_stays : (led : LedBy) (at : WriteStage) (p q : Writing) (old new : World)
-    → DoesWriteStage led at p old q new
-    → q.origin ≡ p.origin
-origin_stays led Commit p q old new (inl commits) = ap (λ (x : Writing). x.origin) commits.then
-origin_stays led Commit p q old new (inr refuses) = ap (λ (x : Writing). x.origin) refuses.then
-origin_stays led Apply p q old new (inl applies) = ap (λ (x : Writing). x.origin) applies.then
-origin_stays led Apply p q old new (inr loses) = ap (λ (x : Writing). x.origin) loses.then
-origin_stays led Inverse p q old new does = (inverse_keeps led p q old new does).keeps.origin
-origin_stays led End p q old new does = (end_keeps led.tells led.settings p q old new does).keeps.origin
-origin_stays led Relay p q old new (inl relays) = ap (λ (x : Writing). x.origin) relays.then
-origin_stays led Relay p q old new (inr loses) = ap (λ (x : Writing). x.origin) loses.then
-origin_stays led Done p q old new does = absurd does
-
-pub author_stays : (led : LedBy) (before after : HeldPlan) (old new : World) (sessions : List Session)
-    → StepsHeld led before old after new → IsOfSession sessions before → IsOfSession sessions after
-author_stays led (Read p) (Read q) old new sessions steps is = tt
-author_stays led (Write p) (Write q) old new sessions steps is =
-    subst (λ o. is_open sessions (author o) ≡ true) (sym (origin_stays led (next_of p) p q old new steps)) is
-author_stays led (Read p) (Write q) old new sessions steps is = absurd steps
-author_stays led (Write p) (Read q) old new sessions steps is = tt
+pub author_stays : (rules : Rules) (before after : HeldPlan) (old new : World) (sessions : List Session)
+    → StepsHeld rules before old after new → IsOfSession sessions before → IsOfSession sessions after
+author_stays rules (Read p) (Read q) old new sessions steps is = tt
+author_stays rules (Write p) (Write q) old new sessions steps is =
+    subst (λ o. is_open sessions (author o) ≡ true) (sym (write_same p q old new rules steps).origin) is
+author_stays rules (Read p) (Write q) old new sessions steps is = absurd steps
+author_stays rules (Write p) (Read q) old new sessions steps is = tt
 
 -- also of one that ends without its last stage
 given_author : (sessions : List Session) (before : HeldPlan) → IsOfSession sessions before → IsOfSession sessions (given_up before)
 given_author sessions (Read p) is = tt
 given_author sessions (Write p) is = is
 
-pub author_advances : (led : LedBy) (before after : HeldPlan) (old new : World) (sessions : List Session) → Advances led before old after new
+pub author_advances : (rules : Rules) (before after : HeldPlan) (old new : World) (sessions : List Session) → Advances rules before old after new
     → IsOfSession sessions before → IsOfSession sessions after
-author_advances led before after old new sessions (inl steps) is = author_stays led before after old new sessions steps is
-author_advances led before after old new sessions (inr ends) is =
+author_advances rules before after old new sessions (inl steps) is = author_stays rules before after old new sessions steps is
+author_advances rules before after old new sessions (inr ends) is =
     subst (IsOfSession sessions) (sym ends.then) (given_author sessions before is)
 
 learner_author : (at : WriteStage) (o : Origin) (session : ℕ) → learner_at at o ≡ Some session → author o ≡ session
@@ -128,7 +119,7 @@ refused_room q reply passes refused never = λ over called is.
 left_room : (q : Writing) (passes : List SeenPass) → IsSome (next_stage (Write q)) → HasRoomFor (Write q) passes
 left_room q passes some = λ over called is. (let e : false ≡ true = subst IsSome over some in absurd (cc))
 
-module _ (led : LedBy) (p q : Writing) (old new : World) (passes : List SeenPass) where
+module _ (rules : Rules) (p q : Writing) (old new : World) (passes : List SeenPass) where
   applied_room : next_of p ≡ Apply → IsTrue (is_client p.origin) → IfSome (learner (Write p)) (λ n. HasRoomForBoth n passes) → q.origin ≡ p.origin
       → HasRoomFor (Write q) passes
   applied_room is client room same = λ over called told. subst (λ o. HasRoomForBoth (author o) passes) (sym same) (learner_room p passes is client room)
@@ -138,35 +129,49 @@ module _ (led : LedBy) (p q : Writing) (old new : World) (passes : List SeenPass
       left_room q passes (stage_left q on.committed (on.keeps.refused ∙ unrefused p.refused p.committed p.job p.back some) on.answered
       (subst IsBefore (sym on.keeps.back) before))
 
-  room_then : (at : WriteStage) → next_of p ≡ at → OpensFirst (Write p) → IsTrue (is_client p.origin) → DoesWriteStage led at p old q new
-      → IfSome (learner (Write p)) (λ n. HasRoomForBoth n passes) → HasRoomFor (Write q) passes
-  room_then Commit is first client (inl commits) room =
-      let some : IsSome (next_stage (Write p)) = subst (λ x. IsSome (stage_said x)) (sym is) refl in
+  commit_room : (leaders : Option Leaders) → IsSome (next_stage (Write p)) → IsBefore p.back → CommitsBy rules leaders p old q new → HasRoomFor (Write q) passes
+  commit_room (Some leaders) some first (inl commits) =
       left_room q passes (stage_left q commits.committed
       (ap (λ (x : Writing). x.refused) commits.then ∙ unrefused p.refused p.committed p.job p.back some)
       (ap (λ (x : Writing). x.committed) commits.then) (subst IsBefore (sym (ap (λ (x : Writing). x.back) commits.then)) first))
-  room_then Commit is first client (inr refuses) room =
+  commit_room (Some leaders) some first (inr refuses) =
       refused_room q (Refused refuses.refusal) passes (ap (λ (x : Writing). x.refused) refuses.then) (λ called same. absurd (cc))
-  room_then Apply is first client does room = applied_room is client room (origin_stays led Apply p q old new does)
-  room_then Inverse is first client does room = kept_room (subst (λ x. IsSome (stage_said x)) (sym is) refl) first (inverse_keeps led p q old new does)
-  room_then End is first client does room = kept_room (subst (λ x. IsSome (stage_said x)) (sym is) refl) first (end_keeps led.tells led.settings p q old new does)
-  room_then Relay is first client (inl relays) room =
+  commit_room None some first finds = refused_room q _ passes (ap (λ (x : Writing). x.refused) finds.then) (λ called same. absurd (cc))
+
+  room_then : (at : WriteStage) → next_of p ≡ at → OpensFirst (Write p) → IsTrue (is_client p.origin) → q.origin ≡ p.origin
+      → DoesWriteStage rules at p old q new → IfSome (learner (Write p)) (λ n. HasRoomForBoth n passes) → HasRoomFor (Write q) passes
+  room_then Commit is first client same does room =
+      commit_room (leaders_of_write rules.settings old.states p) (subst (λ x. IsSome (stage_said x)) (sym is) refl) first does
+  room_then Apply is first client same does room = applied_room is client room same
+  room_then Inverse is first client same does room =
+      kept_room (subst (λ x. IsSome (stage_said x)) (sym is) refl) first (inverse_keeps rules p q old new does)
+  room_then End is first client same does room =
+      kept_room (subst (λ x. IsSome (stage_said x)) (sym is) refl) first (end_keeps rules.tells rules.settings p q old new does)
+  room_then Relay is first client same (inl relays) room =
       let some : IsSome (next_stage (Write p)) = subst (λ x. IsSome (stage_said x)) (sym is) refl in
       left_room q passes (stage_left q relays.committed
       (ap (λ (x : Writing). x.refused) relays.then ∙ unrefused p.refused p.committed p.job p.back some)
       (ap (λ (x : Writing). x.committed) relays.then ∙ relays.answered) (subst IsBefore (sym (ap (λ (x : Writing). x.back) relays.then)) tt))
-  room_then Relay is first client (inr loses) room =
+  room_then Relay is first client same (inr loses) room =
       refused_room q _ passes (ap (λ (x : Writing). x.refused) loses.then) (λ called same. absurd (cc))
-  room_then Done is first client does room = absurd does
+  room_then Done is first client same does room = absurd does
 
-pub room_after : (led : LedBy) (tables : Tables) (f : Fleet) (before after : HeldPlan) (old new : World)
-    (passes : List SeenPass) → OpensFirst before → IsUnderWay led.tells led.settings tables f before → StepsHeld led before old after new
+  -- also where a node is down that the stage needs
+  room_comes : OpensFirst (Write p) → IsTrue (is_client p.origin) → ComesOfWrite rules p old q new
+      → IfSome (learner (Write p)) (λ n. HasRoomForBoth n passes) → HasRoomFor (Write q) passes
+  room_comes first client (inl next) room =
+      room_then (next_of p) refl first client (write_same p q old new rules (inl next)).origin next.does room
+  room_comes first client (inr ends) room =
+      refused_room q (write_is_down ends.node p) passes (ended_down p q old new ends).refused (λ called same. absurd (cc))
+
+pub room_after : (rules : Rules) (tables : Tables) (f : Fleet) (before after : HeldPlan) (old new : World)
+    (passes : List SeenPass) → OpensFirst before → IsUnderWay rules.tells rules.settings tables f before → StepsHeld rules before old after new
     → IfSome (learner before) (λ n. HasRoomForBoth n passes) → HasRoomFor after passes
-room_after led tables f (Read p) (Read q) old new passes first under steps room = tt
-room_after led tables f (Write p) (Write q) old new passes first under steps room =
-    room_then led p q old new passes (next_of p) refl first under.client steps room
-room_after led tables f (Read p) (Write q) old new passes first under steps room = absurd steps
-room_after led tables f (Write p) (Read q) old new passes first under steps room = tt
+room_after rules tables f (Read p) (Read q) old new passes first under steps room = tt
+room_after rules tables f (Write p) (Write q) old new passes first under steps room =
+    room_comes rules p q old new passes first under.client steps room
+room_after rules tables f (Read p) (Write q) old new passes first under steps room = absurd steps
+room_after rules tables f (Write p) (Read q) old new passes first under steps room = tt
 
 -- a plan that was given up is told with nothing
 pub given_up_room : (before : HeldPlan) (passes : List SeenPass) → HasRoomFor (given_up before) passes

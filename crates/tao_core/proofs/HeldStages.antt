@@ -1,13 +1,11 @@
 -- What a stage of a held plan leaves, where the plan is held on, and where it is over.
 use Rattle.std.proofs.Common.{◌≡◌, ℕ, Bool, List, Option, Some, None, ap, inl, inr, refl, sym, subst}
 use Rattle.std.specs.Prelude.{All, IfSome, option_and_then}
-use Rattle.core_mail.specs.Inboxes.{Inboxes}
 use Rattle.core_model.specs.Fleet.{Fleet}
 use Rattle.core_model.specs.Pens.{pens_of}
 use Rattle.core_plans.specs.Held.{CanStep, ChangesPlan, GivesUpPlan, IsUnderWay, OpensFirst, Plans, StepsPlan, given_up, learner, plan_at}
 use Rattle.core_plans.specs.declared.held.HeldPlan.{HeldPlan}
-use Rattle.core_plans.specs.declared.leaders.Leaders.{Leaders}
-use Rattle.core_plans.specs.LedBy.{led_by}
+use Rattle.core_plans.specs.LedBy.{rules_of}
 use Rattle.core_sessions.specs.Sessions.{HasRoomForBoth, Session, sessions_of}
 use Rattle.core_steps.specs.World.{World, world}
 use Rattle.core_steps.specs.declared.nodes.Nodes.{Nodes}
@@ -25,7 +23,7 @@ use Rattle.topology.specs.Config.{Settings}
 use Rattle.topology.specs.States.{NodeStates}
 use Rattle.words.specs.declared.PlanWord.{PlanWord}
 use Rattle.tao_core.specs.Core.{CoreState, IsConsistentCore, IsCoreOf, IsOfSession, IsSessionOf, Moment, StaysUsable, moment}
-use Rattle.tao_core.specs.HeldCalls.{AdvancesPlan, DoesStage, EndsPlan, HasRoomFor, MayLearn, StepsAt, held_seen, next_at, plan_leaders}
+use Rattle.tao_core.specs.HeldCalls.{AdvancesPlan, DoesStage, EndsPlan, HasRoomFor, MayLearn, StepsAt, held_seen, next_at}
 use Rattle.tao_core.proofs.HeldOn.{none_come}
 use Rattle.tao_core.proofs.HeldKeeping.{author_held, does_stage, end_steps, ends_core, next_core, next_steps, set_here, stepped_core}
 use Rattle.tao_core.proofs.HeldLearning.{given_up_room, may_learn, room_after}
@@ -33,36 +31,36 @@ use Rattle.tao_core.specs.Calls.{world_at}
 
 -- ---- a stage, or the end without it
 
-pub can_under : (tells : Bool) (s : Settings) (tables : Tables) (f : Fleet) (leaders : Leaders) (plan : Option HeldPlan)
-    → CanStep tells s tables f leaders plan → IfSome plan (IsUnderWay tells s tables f)
-can_under tells s tables f leaders None can = absurd can
-can_under tells s tables f leaders (Some plan) can = can.under_way
+pub can_under : (tells : Bool) (s : Settings) (tables : Tables) (f : Fleet) (plan : Option HeldPlan)
+    → CanStep tells s tables f plan → IfSome plan (IsUnderWay tells s tables f)
+can_under tells s tables f None can = absurd can
+can_under tells s tables f (Some plan) can = can.under_way
 
-module _ (tells : Bool) (s : Settings) (leaders : Leaders) (number : ℕ) (plans later : Plans) (passes : List SeenPass) where
+module _ (tells : Bool) (s : Settings) (number : ℕ) (plans later : Plans) (passes : List SeenPass) where
   room_there : (after : HeldPlan) → ChangesPlan number after plans later → HasRoomFor after passes
       → IfSome (plan_at later number) (λ one. HasRoomFor one passes)
   room_there after changes room =
       subst (λ (o : Option HeldPlan). IfSome o (λ one. HasRoomFor one passes)) (sym (set_here number (Some after) plans later changes.sets)) room
 
-  pub room_stepped : (tables : Tables) (f : Fleet) (old new : World) → StepsPlan (led_by tells s leaders) number plans old later new
-      → CanStep tells s tables f leaders (plan_at plans number) → IfSome (plan_at plans number) OpensFirst
+  pub room_stepped : (tables : Tables) (f : Fleet) (old new : World) → StepsPlan (rules_of tells s) number plans old later new
+      → CanStep tells s tables f (plan_at plans number) → IfSome (plan_at plans number) OpensFirst
       → IfSome (option_and_then learner (plan_at plans number)) (λ n. HasRoomForBoth n passes) → IfSome (plan_at later number) (λ one. HasRoomFor one passes)
   room_stepped tables f old new steps can first room = room_there steps.after steps.changes
-      (room_after (led_by tells s leaders) tables f steps.before steps.after old new passes
+      (room_after (rules_of tells s) tables f steps.before steps.after old new passes
       (if_some_at OpensFirst (plan_at plans number) steps.before first steps.stands)
-      (if_some_at (IsUnderWay tells s tables f) (plan_at plans number) steps.before (can_under tells s tables f leaders (plan_at plans number) can) steps.stands)
+      (if_some_at (IsUnderWay tells s tables f) (plan_at plans number) steps.before (can_under tells s tables f (plan_at plans number) can) steps.stands)
       steps.steps (subst (λ o. IfSome (option_and_then learner o) (λ n. HasRoomForBoth n passes)) steps.stands room))
 
   pub room_given : GivesUpPlan number plans later → IfSome (plan_at later number) (λ one. HasRoomFor one passes)
   room_given gives = room_there (given_up gives.before) gives.changes (given_up_room gives.before passes)
 
   -- a plan that did a stage, or ended without its last
-  pub advances : (old new : World) → StepsPlan (led_by tells s leaders) number plans old later new
-      → AdvancesPlan (led_by tells s leaders) number plans old later new
+  pub advances : (old new : World) → StepsPlan (rules_of tells s) number plans old later new
+      → AdvancesPlan (rules_of tells s) number plans old later new
   advances old new steps =
       record { before = steps.before; after = steps.after; stands = steps.stands; steps = inl steps.steps; changes = steps.changes }
 
-  pub ends_without : (now : World) → GivesUpPlan number plans later → AdvancesPlan (led_by tells s leaders) number plans now later now
+  pub ends_without : (now : World) → GivesUpPlan number plans later → AdvancesPlan (rules_of tells s) number plans now later now
   ends_without now gives = record {
     before = gives.before;
     after = given_up gives.before;
@@ -79,9 +77,8 @@ pub record StageLeaves (tells : Bool) (asked : PlanWord) (number : ℕ) (old : M
   pub usable : StaysUsable tells old.keepers new.keepers old.core new.core
 
 module _ (tells : Bool) (number : ℕ) (core seen : CoreState) (own : core ≡ seen) (end : Nodes) (plans : Plans) (sessions : List Session)
-    (before now : KeeperState) (from to : LinkShown) (plan : HeldPlan) (leaders : Leaders)
-    (of_seen : IsCoreOf tells before.told seen) (stands : plan_at core.plans number ≡ Some plan) (leads_seen : leaders ≡ plan_leaders seen plan)
-    (steps : AdvancesPlan (led_by tells core.settings leaders) number core.plans (world_at core before from) plans
+    (before now : KeeperState) (from to : LinkShown) (of_seen : IsCoreOf tells before.told seen)
+    (steps : AdvancesPlan (rules_of tells core.settings) number core.plans (world_at core before from) plans
     (world end now to))
     (under : IfSome (plan_at plans number) (IsUnderWay tells core.settings now.told end.fleet))
     (posts : PostsOn tells core.settings (world_at core before from) (world end now to))
@@ -92,11 +89,8 @@ module _ (tells : Bool) (number : ℕ) (core seen : CoreState) (own : core ≡ s
   of : IsCoreOf tells before.told core
   of = subst (IsCoreOf tells before.told) (sym own) of_seen
 
-  leads : leaders ≡ plan_leaders core plan
-  leads = subst (λ (x : CoreState). leaders ≡ plan_leaders x plan) (sym own) leads_seen
-
   does : DoesStage tells number (moment core before from) (moment Mid now to)
-  does = does_stage tells number core end plans before now from to plan leaders posts.states posts.link stands leads steps of.is_consistent.masters posts.consistent under
+  does = does_stage tells number core end plans before now from to posts.link steps of.is_consistent.masters posts.consistent under
 
   is_mid : IsConsistentCore tells now.told Mid
   is_mid = stepped_core tells before.told now.told core end plans of.is_consistent posts.states posts.consistent posts.inboxes posts.arrived posts.goes

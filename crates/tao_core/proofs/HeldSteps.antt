@@ -9,26 +9,29 @@ use Rattle.core_model.specs.Reads.{AfterLook, AsksAtOnce, EndsAsk, KeepsFill, Lo
 use Rattle.core_model.proofs.Places.{get_set, one_some}
 use Rattle.core_plans.specs.Held.{HasNoneAt, HoldsAsk, IsOpenAt, OpensFirst, OpensNone, StepsHeld, is_open_ask, next_stage, given_up, learner}
 use Rattle.core_plans.specs.HeldLaws.{Followers}
-use Rattle.core_plans.specs.HeldReads.{DoesLook, DoesReadStage, DoesKeep, wanted_by, EndsItsAsk}
-use Rattle.core_plans.specs.HeldWrites.{DoesWriteStage, IsBefore, way_given_up}
+use Rattle.core_plans.specs.HeldReads.{ComesOfRead, DoesLook, DoesReadStage, DoesKeep, EndsItsAsk, read_is_down, wanted_by}
+use Rattle.core_plans.specs.HeldWrites.{ComesOfWrite, CommitsBy, DoesWriteStage, IsBefore, way_given_up, write_is_down}
+use Rattle.core_plans.specs.Needs.{asked_of_read, leaders_of_write}
+use Rattle.core_plans.specs.declared.leaders.Leaders.{Leaders}
+use Rattle.core_plans.proofs.StageLemmas.{ended_down, ended_read}
 use Rattle.core_plans.specs.declared.held.HeldPlan.{HeldPlan}
 use Rattle.core_plans.specs.declared.held.HeldPlan.TheVariants.{Read, Write}
-use Rattle.core_plans.specs.LedBy.{LedBy}
+use Rattle.core_plans.specs.LedBy.{Rules}
 use Rattle.core_plans.proofs.AsksHeld.{
   EndsOpen,
+  asks_stay_held,
   change_opens_none,
   ends_open,
   hit_opens_none,
   keeps_open,
   misses_open,
   same_opens_none,
-  stage_opens_none,
 }
 use Rattle.core_steps.specs.World.{World}
 use Rattle.follower_cache.specs.Seen.{FollowerState}
 use Rattle.node_name.specs.declared.NodeName.{NodeName}
-use Rattle.read_plan.specs.Readings.{Reading, taken}
-use Rattle.read_plan.specs.Standings.{after_ask, after_keep, after_look, after_master, stage_named, stage_of}
+use Rattle.read_plan.specs.Readings.{Reading, given_by, taken}
+use Rattle.read_plan.specs.Standings.{after_ask, after_keep, after_look, after_master, read_refused, stage_named, stage_of}
 use Rattle.read_plan.specs.declared.stages.ReadResult.TheVariants as came
 use Rattle.read_plan.specs.declared.standing.Given.{Given}
 use Rattle.read_plan.specs.declared.standing.Given.TheVariants.{Fill, HandedOut, Past}
@@ -40,11 +43,14 @@ use Rattle.shard_tables.specs.declared.leader_answer.LeaderAnswer.TheVariants as
 use Rattle.shard_tables.specs.declared.read_out.ReadOut.{ReadOut}
 use Rattle.shard_tables.specs.declared.read_out.ReadOut.TheVariants as store
 use Rattle.tao_base.specs.EdgeTypes.{EdgeTypes}
-use Rattle.tao_base.specs.Queries.{query_key}
+use Rattle.core_steps.specs.Routes.{master_node}
+use Rattle.tao_base.specs.Queries.{query_key, query_shard}
 use Rattle.tao_base.specs.declared.id.Key.{Key}
 use Rattle.tao_schema.specs.Schema.{types_of}
 use Rattle.topology.specs.Config.{Settings}
-use Rattle.write_plan.specs.Plans.{Writing, next_of}
+use Rattle.replies.specs.declared.reply.Reply.{Reply}
+use Rattle.write_plan.specs.Plans.{Writing, next_of, stage_from}
+use Rattle.write_plan.specs.Stages.{stage_said}
 use Rattle.write_plan.specs.declared.stage.WriteStage.{WriteStage}
 use Rattle.write_plan.specs.declared.stage.WriteStage.TheVariants.{Commit, Inverse, End, Relay, Apply, Done}
 use Rattle.tao_core.proofs.NamesOnce.{StandAlone}
@@ -251,7 +257,7 @@ not_read_rests s follower query refusal old mid (inl lost) = ap (λ (x : World).
 not_read_rests s follower query refusal old mid (inr (inl none)) = ap (λ (x : World). x.fleet.followers) none.rest
 not_read_rests s follower query refusal old mid (inr (inr lost)) = ap (λ (f : Fleet). f.followers) lost.same
 
-module _ (led : LedBy) (p q : Reading) (old new : World) (alone : StandAlone old.fleet.followers) where
+module _ (rules : Rules) (p q : Reading) (old new : World) (alone : StandAlone old.fleet.followers) where
   abbrev Asks : Reading → Type 0
   Asks r = StepsAsks (Some (Read p)) (held_after (Read r)) old.fleet.followers new.fleet.followers
 
@@ -264,15 +270,15 @@ module _ (led : LedBy) (p q : Reading) (old new : World) (alone : StandAlone old
       → StepsAsks (Some (Read p)) None old.fleet.followers new.fleet.followers
   ended_after mid same ends = ended (subst (λ fs. ChangesNode p.follower (EndsAsk p.ask) fs new.fleet.followers) same ends)
 
-  over_given : (given : Given) → p.at ≡ Keeping given → DoesKeep led.settings p given old q new → Asks q
+  over_given : (given : Given) → p.at ≡ Keeping given → DoesKeep rules.settings p given old q new → Asks q
   over_given (Fill fill) at (inl from) =
       let r : Reading = taken (came.Keep (Ok (Some (from.answer, from.kept)))) 0 false p in
       let over : held_after (Read r) ≡ None =
       ap (λ a. kept (stage_named (stage_of (after_keep p.bound a (Some (from.answer, from.kept))))) (Read r)) at in
       subst Asks (sym from.then) (subst (λ held. StepsAsks (Some (Read p)) held old.fleet.followers new.fleet.followers) (sym over)
       (ask_ended p old.fleet.followers new.fleet.followers
-      (KeepsFill (types_of led.settings.schema) p.query (taken_fill p.ask fill from.answer from.kept)) alone from.keeps
-      (keeps_open (types_of led.settings.schema) p.query p.ask fill from.answer from.kept)))
+      (KeepsFill (types_of rules.settings.schema) p.query (taken_fill p.ask fill from.answer from.kept)) alone from.keeps
+      (keeps_open (types_of rules.settings.schema) p.query p.ask fill from.answer from.kept)))
   over_given (Fill fill) at (inr vain) = subst Asks (sym vain.then) (ended vain.ends)
   over_given (Past answer version total seen) at on =
       let r : Reading = taken (came.Keep (Ok None)) 0 false p in
@@ -280,9 +286,9 @@ module _ (led : LedBy) (p q : Reading) (old new : World) (alone : StandAlone old
       subst Asks (sym on.then) (subst (λ held. StepsAsks (Some (Read p)) held old.fleet.followers new.fleet.followers) (sym over) (ended on.ends))
   over_given (HandedOut version) at on = absurd on
 
-  look_asks : (critical : Bool) → p.ask ≡ None → DoesLook led.settings critical p old q new → Asks q
+  look_asks : (critical : Bool) → p.ask ≡ None → DoesLook rules.settings critical p old q new → Asks q
   look_asks false none (inl looks) =
-      subst Asks (sym looks.then) (looks_asks (types_of led.settings.schema) p looks.look looks.ask old.fleet.followers new.fleet.followers none looks.looks)
+      subst Asks (sym looks.then) (looks_asks (types_of rules.settings.schema) p looks.look looks.ask old.fleet.followers new.fleet.followers none looks.looks)
   look_asks false none (inr vain) =
       subst Asks (sym vain.then)
       (holds_none (Some (Read p)) None old.fleet.followers new.fleet.followers
@@ -292,24 +298,34 @@ module _ (led : LedBy) (p q : Reading) (old new : World) (alone : StandAlone old
       subst Asks (sym looks.then)
       (missed_asks (AsksAtOnce (query_key p.query) looks.ask) p looks.ask old.fleet.followers new.fleet.followers (λ from to asks. asks.node) none looks.asks)
 
-  read_asks : (at : Standing) → p.at ≡ at → HasNoneAt at p.ask → DoesReadStage led at p old q new → Asks q
+  read_asks : (at : Standing) → p.at ≡ at → HasNoneAt at p.ask → DoesReadStage rules at p old q new → Asks q
   read_asks Looking at none does = look_asks p.critical none does
   read_asks Asking at none (inl asks) =
-      let r : Reading = taken (came.Ask (Ok asks.given)) _ _ p in
+      let r : Reading = taken (came.Ask (Ok asks.given)) _ _ (given_by (asked_of_read old.states p) p) in
       let same : new.fleet.followers ≡ old.fleet.followers = ap (λ (x : World). x.fleet.followers) asks.over.rest in
       subst Asks (sym asks.then) (subst (λ held. StepsAsks (Some (Read p)) held old.fleet.followers new.fleet.followers) (sym (asked_goes asks.given (Read r)))
       (ask_stays p old.fleet.followers new.fleet.followers r same refl refl (asked_first asks.given p.ask)))
   read_asks Asking at none (inr vain) =
-      subst Asks (sym vain.then) (ended_after vain.mid (not_given_rests led.settings _ _ vain.refusal old vain.mid vain.fails) vain.ends)
+      subst Asks (sym vain.then) (ended_after vain.mid (not_given_rests rules.settings _ _ vain.refusal old vain.mid vain.fails) vain.ends)
   read_asks Mastering at none (inl asks) =
-      let r : Reading = taken (came.Master (Ok asks.out)) _ _ p in
+      let r : Reading = taken (came.Master (Ok asks.out)) _ _ (given_by (master_node rules.settings (query_shard p.query)) p) in
       let same : new.fleet.followers ≡ old.fleet.followers = ap (λ (f : Fleet). f.followers) asks.over.same in
       subst Asks (sym asks.then) (subst (λ held. StepsAsks (Some (Read p)) held old.fleet.followers new.fleet.followers) (sym (mastered_goes asks.out (Read r)))
       (ask_stays p old.fleet.followers new.fleet.followers r same refl refl (mastered_first asks.out p.ask)))
   read_asks Mastering at none (inr vain) =
-      subst Asks (sym vain.then) (ended_after vain.mid (not_read_rests led.settings p.follower p.query vain.refusal old vain.mid vain.fails) vain.ends)
+      subst Asks (sym vain.then) (ended_after vain.mid (not_read_rests rules.settings p.follower p.query vain.refusal old vain.mid vain.fails) vain.ends)
   read_asks (Keeping given) at none does = over_given given at does
   read_asks (Ended end) at none does = absurd does
+
+  -- also where a node is down that the stage needs
+  comes_asks : HasNoneAt p.at p.ask → ComesOfRead rules p old q new → Asks q
+  comes_asks none (inl next) = read_asks p.at refl none next.does
+  comes_asks none (inr ends) =
+      let reply = read_is_down ends.node in
+      let r : Reading = taken (read_refused (stage_of p.at) reply) 0 false p in
+      let over : held_after (Read r) ≡ None = ap (λ a. kept (stage_named (stage_of a)) (Read r)) (ended_read (stage_of p.at) reply p 0 false) in
+      subst Asks (sym ends.then)
+      (subst (λ held. StepsAsks (Some (Read p)) held old.fleet.followers new.fleet.followers) (sym over) (ended ends.ends))
 
 -- ---- the stages of a write
 
@@ -317,33 +333,45 @@ module _ (led : LedBy) (p q : Reading) (old new : World) (alone : StandAlone old
 same_back : (p q : Writing) → q.back ≡ p.back → IsBefore p.back → MayHold (held_after (Write q))
 same_back p q same before = kept_may (next_stage (Write q)) (Write q) (subst IsBefore (sym same) before)
 
-write_may : (led : LedBy) (at : WriteStage) (p q : Writing) (old new : World) → next_of p ≡ at → IsBefore p.back
-    → DoesWriteStage led at p old q new → MayHold (held_after (Write q))
-write_may led Commit p q old new is before (inl commits) = same_back p q (ap (λ (x : Writing). x.back) commits.then) before
-write_may led Commit p q old new is before (inr refuses) = same_back p q (ap (λ (x : Writing). x.back) refuses.then) before
-write_may led Apply p q old new is before (inl applies) =
-    subst (λ n. MayHold (kept n (Write q))) (sym (applied_over p q _ is applies.then)) tt
-write_may led Apply p q old new is before (inr loses) = same_back p q (ap (λ (x : Writing). x.back) loses.then) before
-write_may led Inverse p q old new is before does = same_back p q (inverse_keeps led p q old new does).keeps.back before
-write_may led End p q old new is before does = same_back p q (end_keeps led.tells led.settings p q old new does).keeps.back before
-write_may led Relay p q old new is before (inl relays) =
-    kept_may (next_stage (Write q)) (Write q) (subst IsBefore (sym (ap (λ (x : Writing). x.back) relays.then)) tt)
-write_may led Relay p q old new is before (inr loses) = same_back p q (ap (λ (x : Writing). x.back) loses.then) before
-write_may led Done p q old new is before does = absurd does
+-- and one that was refused isn't held on
+refused_may : (q : Writing) (reply : Reply) → q.refused ≡ Some reply → MayHold (held_after (Write q))
+refused_may q reply is =
+    subst (λ n. MayHold (kept n (Write q))) (sym (ap (λ r. stage_said (stage_from r q.committed q.job q.back)) is)) tt
+
+module _ (rules : Rules) (p q : Writing) (old new : World) (before : IsBefore p.back) where
+  commit_may : (leaders : Option Leaders) → CommitsBy rules leaders p old q new → MayHold (held_after (Write q))
+  commit_may (Some leaders) (inl commits) = same_back p q (ap (λ (x : Writing). x.back) commits.then) before
+  commit_may (Some leaders) (inr refuses) = refused_may q _ (ap (λ (x : Writing). x.refused) refuses.then)
+  commit_may None finds = refused_may q _ (ap (λ (x : Writing). x.refused) finds.then)
+
+  write_may : (at : WriteStage) → next_of p ≡ at → DoesWriteStage rules at p old q new → MayHold (held_after (Write q))
+  write_may Commit is does = commit_may (leaders_of_write rules.settings old.states p) does
+  write_may Apply is (inl applies) = subst (λ n. MayHold (kept n (Write q))) (sym (applied_over p q _ is applies.then)) tt
+  write_may Apply is (inr loses) = refused_may q _ (ap (λ (x : Writing). x.refused) loses.then)
+  write_may Inverse is does = same_back p q (inverse_keeps rules p q old new does).keeps.back before
+  write_may End is does = same_back p q (end_keeps rules.tells rules.settings p q old new does).keeps.back before
+  write_may Relay is (inl relays) =
+      kept_may (next_stage (Write q)) (Write q) (subst IsBefore (sym (ap (λ (x : Writing). x.back) relays.then)) tt)
+  write_may Relay is (inr loses) = refused_may q _ (ap (λ (x : Writing). x.refused) loses.then)
+  write_may Done is does = absurd does
+
+  comes_may : ComesOfWrite rules p old q new → MayHold (held_after (Write q))
+  comes_may (inl next) = write_may (next_of p) refl next.does
+  comes_may (inr ends) = refused_may q (write_is_down ends.node p) (ended_down p q old new ends).refused
 
 -- ---- the stage of a plan
 
-pub steps_asks : (led : LedBy) (before after : HeldPlan) (old new : World) → StandAlone old.fleet.followers
-    → OpensFirst before → StepsHeld led before old after new
+pub steps_asks : (rules : Rules) (before after : HeldPlan) (old new : World) → StandAlone old.fleet.followers
+    → OpensFirst before → StepsHeld rules before old after new
     → StepsAsks (Some before) (held_after after) old.fleet.followers new.fleet.followers
-steps_asks led (Read p) (Read q) old new alone first steps = read_asks led p q old new alone p.at refl first steps.steps.does
-steps_asks led (Write p) (Write q) old new alone first steps =
+steps_asks rules (Read p) (Read q) old new alone first steps = comes_asks rules p q old new alone first steps.steps.does
+steps_asks rules (Write p) (Write q) old new alone first steps =
     holds_none (Some (Write p)) (held_after (Write q)) old.fleet.followers new.fleet.followers
-    (stage_opens_none led p q old new (next_of p) steps) (λ name number h. h)
+    (asks_stay_held.stages rules p q old new steps) (λ name number h. h)
     (λ name number h. kept_holds (next_stage (Write q)) (Write q) name number h)
-    (write_may led (next_of p) p q old new refl first steps)
-steps_asks led (Read p) (Write q) old new alone first steps = absurd steps
-steps_asks led (Write p) (Read q) old new alone first steps = absurd steps
+    (comes_may rules p q old new first steps)
+steps_asks rules (Read p) (Write q) old new alone first steps = absurd steps
+steps_asks rules (Write p) (Read q) old new alone first steps = absurd steps
 
 -- a write that ends without its last stage opens none
 given_asks : (before : HeldPlan) (old new : World) → OpensFirst before → IsSome (learner before) → new ≡ old
@@ -355,9 +383,9 @@ given_asks (Write p) old new first last same =
     (same_opens_none old.fleet.followers new.fleet.followers (ap (λ (x : World). x.fleet.followers) same)) (λ name number h. h)
     (λ name number h. kept_holds (next_stage (Write q)) (Write q) name number h) (same_back p q refl first)
 
-pub advance_asks : (led : LedBy) (before after : HeldPlan) (old new : World) → StandAlone old.fleet.followers → OpensFirst before
-    → Advances led before old after new → StepsAsks (Some before) (held_after after) old.fleet.followers new.fleet.followers
-advance_asks led before after old new alone first (inl steps) = steps_asks led before after old new alone first steps
-advance_asks led before after old new alone first (inr ends) =
+pub advance_asks : (rules : Rules) (before after : HeldPlan) (old new : World) → StandAlone old.fleet.followers → OpensFirst before
+    → Advances rules before old after new → StepsAsks (Some before) (held_after after) old.fleet.followers new.fleet.followers
+advance_asks rules before after old new alone first (inl steps) = steps_asks rules before after old new alone first steps
+advance_asks rules before after old new alone first (inr ends) =
     subst (λ plan. StepsAsks (Some before) (held_after plan) old.fleet.followers new.fleet.followers) (sym ends.then)
     (given_asks before old new first ends.last ends.same)

@@ -112,6 +112,18 @@ module _ (tells : Bool) (tables : Tables) (core : CoreState) (of : IsConsistentC
     sessions = sessions_later tells core.settings tables later (pens_of core.fleet.stores) (pens_of fleet.stores) core.sessions grows goes.rise of.sessions;
   }
 
+-- whichever nodes are up or trusted
+pub with_states : (tells : Bool) (tables : Tables) (core : CoreState) (states : NodeStates) → IsConsistentCore tells tables core
+    → AreStatesOf core.settings states → IsConsistentCore tells tables (record core { states = states })
+with_states tells tables core states of are = record {
+  masters = of.masters;
+  consistent = of.consistent;
+  states = are;
+  mail = of.mail;
+  arrived = of.arrived;
+  sessions = of.sessions;
+}
+
 -- the stores had come to all that is marked, and to all that waits
 have_come : (tells : Bool) (tables : Tables) (core : CoreState) → IsConsistentCore tells tables core → WhereTold tells (HaveCome tables core)
 have_come tells tables core of told = record { reached = of.consistent.reached told; arrived = of.arrived told }

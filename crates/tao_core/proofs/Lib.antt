@@ -27,3 +27,4 @@ pub mod AtOnce
 pub mod SettledReads
 pub mod NotBegun
 pub mod AnsweredAtOnce
+mod HealthLemmas

@@ -1,12 +1,11 @@
--- No two followers of a configuration have one name.
+-- No two leaders of a configuration have one name, and no two followers.
 use Rattle.std.proofs.Common.{◌≡◌, ℕ, zero, suc, ◌+◌, ◌≤◌, List, [], ◌∷◌, ◌++◌, Some, refl, ap, sym, subst, inl, inr, arith}
 use Rattle.std.specs.Prelude.{⊤, map, slice_get}
 use Rattle.std.specs.List.{range_with_len}
-use Rattle.core_model.specs.Fleet.{follower_names, followers_from, named, node_names, regions_of, tiers_from}
+use Rattle.core_model.specs.Fleet.{follower_names, followers_from, leader_names, leaders_from, named, node_names, regions_of, tiers_from}
 use Rattle.core_model.specs.declared.named.Named.{Named}
 use Rattle.core_model.proofs.Places.{one_some}
 use Rattle.graph_model.proofs.Members.{IsIn, in_append_cases}
-use Rattle.follower_cache.specs.Seen.{FollowerState}
 use Rattle.node_name.specs.declared.NodeName.{NodeName}
 use Rattle.node_name.specs.declared.NodeName.TheVariants.{Store, Leader, Follower}
 use Rattle.topology.specs.Config.{Settings}
@@ -130,18 +129,99 @@ followers_once low (r ∷ rs) =
     both_once (tiers_from low 0 r.followers) (followers_from (low + 1) rs) (tiers_once low 0 r.followers) (followers_once (low + 1) rs)
     (λ name here later. other_region low name (tier_of low 0 r.followers name here) (region_of (low + 1) rs name later))
 
+-- ---- the leaders of a region, and of all
+
+abbrev IsLeaderFrom : ℕ → ℕ → NodeName → Type 0
+IsLeaderFrom region low (Leader r i) = (r ≡ region) × (low ≤ i)
+IsLeaderFrom region low (Follower r t i) = ⊥
+IsLeaderFrom region low (Store store) = ⊥
+
+abbrev LeadsFrom : ℕ → NodeName → Type 0
+LeadsFrom low (Leader r i) = low ≤ r
+LeadsFrom low (Follower r t i) = ⊥
+LeadsFrom low (Store store) = ⊥
+
+lower_leader : (region low : ℕ) (name : NodeName) → IsLeaderFrom region (low + 1) name → IsLeaderFrom region low name
+lower_leader region low (Leader r i) h = (let le = h.1 in (h.0, omega arith))
+lower_leader region low (Follower r t i) h = absurd h
+lower_leader region low (Store store) h = absurd h
+
+lower_leads : (low : ℕ) (name : NodeName) → LeadsFrom (low + 1) name → LeadsFrom low name
+lower_leads low (Leader r i) h = omega arith
+lower_leads low (Follower r t i) h = absurd h
+lower_leads low (Store store) h = absurd h
+
+leader_leads : (region low : ℕ) (name : NodeName) → IsLeaderFrom region low name → LeadsFrom region name
+leader_leads region low (Leader r i) h = (let same = h.0 in omega arith)
+leader_leads region low (Follower r t i) h = absurd h
+leader_leads region low (Store store) h = absurd h
+
+leader_of : (region low count : ℕ) (name : NodeName) → IsIn name (map (Leader region) (range_with_len low count)) → IsLeaderFrom region low name
+leader_of region low zero name h = absurd h
+leader_of region low (suc count) name (inl same) = subst (IsLeaderFrom region low) same (refl, omega arith)
+leader_of region low (suc count) name (inr later) = lower_leader region low name (leader_of region (low + 1) count name later)
+
+leader_once : (region low count : ℕ) → StandOnce (map (Leader region) (range_with_len low count))
+leader_once region low zero = tt
+leader_once region low (suc count) = (
+  (λ h. let le = (leader_of region (low + 1) count (Leader region low) h).1 in absurd (omega arith)),
+  leader_once region (low + 1) count,
+)
+
+leads_of : (low : ℕ) (regions : List NodeCounts) (name : NodeName) → IsIn name (leaders_from low regions) → LeadsFrom low name
+leads_of low [] name h = absurd h
+leads_of low (r ∷ rs) name h =
+    elim (in_append_cases (map (Leader low) (range_with_len 0 r.leaders)) (leaders_from (low + 1) rs) name h) [
+      | inl here ↦ leader_leads low 0 name (leader_of low 0 r.leaders name here)
+      | inr later ↦ lower_leads low name (leads_of (low + 1) rs name later)
+    ]
+
+other_leader : (low : ℕ) (name : NodeName) → IsLeaderFrom low 0 name → LeadsFrom (low + 1) name → ⊥
+other_leader low (Leader r i) here later = (let same = here.0 in absurd (omega arith))
+other_leader low (Follower r t i) here later = here
+other_leader low (Store store) here later = here
+
+leaders_once : (low : ℕ) (regions : List NodeCounts) → StandOnce (leaders_from low regions)
+leaders_once low [] = tt
+leaders_once low (r ∷ rs) =
+    both_once (map (Leader low) (range_with_len 0 r.leaders)) (leaders_from (low + 1) rs) (leader_once low 0 r.leaders) (leaders_once (low + 1) rs)
+    (λ name here later. other_leader low name (leader_of low 0 r.leaders name here) (leads_of (low + 1) rs name later))
+
 -- ---- a name stands at one place
 
-name_at : (nodes : List (Named FollowerState)) (place : ℕ) (name : NodeName) (f : FollowerState) → slice_get nodes place ≡ Some (named name f)
+name_at : {N : Type 0} (nodes : List (Named N)) (place : ℕ) (name : NodeName) (node : N) → slice_get nodes place ≡ Some (named name node)
     → slice_get (node_names nodes) place ≡ Some name
-name_at [] place name f h = absurd (cc)
-name_at (n ∷ ns) zero name f h = ap (λ (x : Named FollowerState). Some x.name) (one_some n (named name f) h)
-name_at (n ∷ ns) (suc place) name f h = name_at ns place name f h
+name_at [] place name node h = absurd (cc)
+name_at {N} (n ∷ ns) zero name node h = ap (λ (x : Named N). Some x.name) (one_some n (named name node) h)
+name_at (n ∷ ns) (suc place) name node h = name_at ns place name node h
 
--- each name of the followers stands once
-abbrev pub StandAlone : List (Named FollowerState) → Type 0
-StandAlone nodes = (m n : ℕ) (name : NodeName) (f g : FollowerState) → slice_get nodes m ≡ Some (named name f) → slice_get nodes n ≡ Some (named name g) → m ≡ n
+-- each name of the nodes stands once
+abbrev pub StandAlone : {N : Type 0} → List (Named N) → Type 0
+StandAlone {N} nodes = (m n : ℕ) (name : NodeName) (f g : N) → slice_get nodes m ≡ Some (named name f) → slice_get nodes n ≡ Some (named name g) → m ≡ n
 
-pub stand_alone : (s : Settings) (nodes : List (Named FollowerState)) → node_names nodes ≡ follower_names s → StandAlone nodes
+pub stand_alone : {N : Type 0} (s : Settings) (nodes : List (Named N)) → node_names nodes ≡ follower_names s → StandAlone nodes
 stand_alone s nodes is m n name f g one two =
     one_place (node_names nodes) m n name (subst StandOnce (sym is) (followers_once 0 (regions_of s))) (name_at nodes m name f one) (name_at nodes n name g two)
+
+pub leaders_alone : {N : Type 0} (s : Settings) (nodes : List (Named N)) → node_names nodes ≡ leader_names s → StandAlone nodes
+leaders_alone s nodes is m n name f g one two =
+    one_place (node_names nodes) m n name (subst StandOnce (sym is) (leaders_once 0 (regions_of s))) (name_at nodes m name f one) (name_at nodes n name g two)
+
+-- ---- of which kind a name is
+
+among : {N : Type 0} (nodes : List (Named N)) (place : ℕ) (name : NodeName) (node : N) → slice_get nodes place ≡ Some (named name node)
+    → IsIn name (node_names nodes)
+among nodes place name node h = place_among (node_names nodes) place name (name_at nodes place name node h)
+
+-- no follower has a leader's name
+pub leads_none : {N : Type 0} (s : Settings) (nodes : List (Named N)) (place : ℕ) (region index : ℕ) (node : N) → node_names nodes ≡ follower_names s
+    → slice_get nodes place ≡ Some (named (Leader region index) node) → ⊥
+leads_none s nodes place region index node is h =
+    region_of 0 (regions_of s) (Leader region index) (subst (IsIn (Leader region index)) is (among nodes place (Leader region index) node h))
+
+-- nor a leader a follower's
+pub follows_none : {N : Type 0} (s : Settings) (nodes : List (Named N)) (place : ℕ) (region tier index : ℕ) (node : N) → node_names nodes ≡ leader_names s
+    → slice_get nodes place ≡ Some (named (Follower region tier index) node) → ⊥
+follows_none s nodes place region tier index node is h =
+    leads_of 0 (regions_of s) (Follower region tier index)
+    (subst (IsIn (Follower region tier index)) is (among nodes place (Follower region tier index) node h))

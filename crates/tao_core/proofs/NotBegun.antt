@@ -44,7 +44,8 @@ module _ (core now : CoreState) (own : core ≡ now) (sessions : List Session) (
 
     -- its plan was held
     pub held_goes : (number : ℕ) (plan : HeldPlan) (added : Plans) (reply : Reply) (new : Moment) → IsBegun core.settings core.states core.sessions asked plan
-        → AddsPlan number plan core.plans added → StepsAt tells word.Hold number (moment (record core { plans = added; sessions = sessions }) keepers link) reply new
+        → AddsPlan number plan core.plans added
+        → StepsAt tells word.Hold number (moment (record core { plans = added; sessions = sessions }) keepers link) reply new
         → AnswersHold tells number asked (moment now keepers link) reply new
     held_goes number plan added reply new begun adds steps =
         subst (λ x. AnswersHold tells number asked (moment x keepers link) reply new) own (inl (record {

@@ -17,7 +17,7 @@ use Rattle.core_model.specs.Stores.{HaveMasterRegions, master_log}
 use Rattle.core_plans.specs.Held.{IsUnderWay, StepsHeld, given_up, learner}
 use Rattle.core_plans.specs.declared.held.HeldPlan.{HeldPlan}
 use Rattle.core_plans.specs.declared.held.HeldPlan.TheVariants as held
-use Rattle.core_plans.specs.LedBy.{LedBy}
+use Rattle.core_plans.specs.LedBy.{Rules}
 use Rattle.core_steps.specs.World.{World}
 use Rattle.follower_cache.specs.Seen.{FollowerState}
 use Rattle.graph_model.specs.Log.{version}
@@ -96,26 +96,26 @@ reaches_mark tells s name query given reached new told masters consistent here a
 
 -- ---- a read that was held
 
-pub held_reaches : (led : LedBy) (before after : HeldPlan) (old new : World) (tables : Tables) (f : Fleet)
-    → StepsHeld led before old after new → HaveMasterRegions led.settings → IsConsistent led.tells led.settings new.keepers.told new.fleet
-    → IsUnderWay led.tells led.settings tables f after
-    → HeldReaches led.tells led.settings after new
-held_reaches led (held.Read p) (held.Read q) old new tables f steps masters consistent under = λ reply ends told kept.
-    reaches_mark led.tells led.settings q.follower q.query reply.answer reply.version new told masters consistent under.follower.here
+pub held_reaches : (rules : Rules) (before after : HeldPlan) (old new : World) (tables : Tables) (f : Fleet)
+    → StepsHeld rules before old after new → HaveMasterRegions rules.settings → IsConsistent rules.tells rules.settings new.keepers.told new.fleet
+    → IsUnderWay rules.tells rules.settings tables f after
+    → HeldReaches rules.tells rules.settings after new
+held_reaches rules (held.Read p) (held.Read q) old new tables f steps masters consistent under = λ reply ends told kept.
+    reaches_mark rules.tells rules.settings q.follower q.query reply.answer reply.version new told masters consistent under.follower.here
     (λ place node first at. (steps.steps.legal reply ends).1 told kept place node 0 first at (omega arith))
-held_reaches led (held.Write p) (held.Write q) old new tables f steps masters consistent under = tt
-held_reaches led (held.Read p) (held.Write q) old new tables f steps masters consistent under = tt
-held_reaches led (held.Write p) (held.Read q) old new tables f steps masters consistent under = absurd steps
+held_reaches rules (held.Write p) (held.Write q) old new tables f steps masters consistent under = tt
+held_reaches rules (held.Read p) (held.Write q) old new tables f steps masters consistent under = tt
+held_reaches rules (held.Write p) (held.Read q) old new tables f steps masters consistent under = absurd steps
 
 -- a write that ends without its last stage says nothing of what is kept
 given_reaches : (tells : Bool) (s : Settings) (before : HeldPlan) (new : World) → IsSome (learner before) → HeldReaches tells s (given_up before) new
 given_reaches tells s (held.Read p) new last = absurd (cc)
 given_reaches tells s (held.Write p) new last = tt
 
-pub advance_reaches : (led : LedBy) (before after : HeldPlan) (old new : World) (tables : Tables) (f : Fleet) → Advances led before old after new
-    → HaveMasterRegions led.settings → IsConsistent led.tells led.settings new.keepers.told new.fleet → IsUnderWay led.tells led.settings tables f after
-    → HeldReaches led.tells led.settings after new
-advance_reaches led before after old new tables f (inl steps) masters consistent under =
-    held_reaches led before after old new tables f steps masters consistent under
-advance_reaches led before after old new tables f (inr ends) masters consistent under =
-    subst (λ plan. HeldReaches led.tells led.settings plan new) (sym ends.then) (given_reaches led.tells led.settings before new ends.last)
+pub advance_reaches : (rules : Rules) (before after : HeldPlan) (old new : World) (tables : Tables) (f : Fleet) → Advances rules before old after new
+    → HaveMasterRegions rules.settings → IsConsistent rules.tells rules.settings new.keepers.told new.fleet
+    → IsUnderWay rules.tells rules.settings tables f after → HeldReaches rules.tells rules.settings after new
+advance_reaches rules before after old new tables f (inl steps) masters consistent under =
+    held_reaches rules before after old new tables f steps masters consistent under
+advance_reaches rules before after old new tables f (inr ends) masters consistent under =
+    subst (λ plan. HeldReaches rules.tells rules.settings plan new) (sym ends.then) (given_reaches rules.tells rules.settings before new ends.last)

@@ -1,17 +1,15 @@
 -- What a settle leaves stays until a log grows.
 use Rattle.std.proofs.Common.{◌≡◌, ◌≤◌, true, length, refl, subst, sym, arith, inl, inr}
 use Rattle.core_model.proofs.Settled.{settled_stays}
-use Rattle.core_model.proofs.Turns.{choices_serve}
 use Rattle.core_model.specs.Consistent.{GoesOn, IsConsistent}
 use Rattle.core_model.specs.Growing.{StoresGrow}
-use Rattle.core_model.specs.Pens.{pens_of}
 use Rattle.core_model.specs.States.{AreSettled, HaveSameLogs, nodes_now}
 use Rattle.core_model.specs.Stores.{AreWhole}
 use Rattle.core_nodes.proofs.CaughtUp.{nodes_catch_up}
 use Rattle.core_nodes.proofs.GrowingLemmas.{stays_stores}
 use Rattle.core_plans.proofs.WholeStages.{stages_miss_nothing}
-use Rattle.core_plans.specs.Held.{IsUnderWay, StepsHeld, given_up, learner}
-use Rattle.core_plans.specs.LedBy.{led_by}
+use Rattle.core_plans.specs.Held.{StepsHeld, given_up, learner}
+use Rattle.core_plans.specs.LedBy.{rules_of}
 use Rattle.core_plans.specs.declared.held.HeldPlan.TheVariants as of
 use Rattle.core_plans.specs.declared.held.HeldPlan.{HeldPlan}
 use Rattle.core_plans.specs.HeldReads.{at_bound}
@@ -21,61 +19,49 @@ use Rattle.replies.specs.declared.calls.CallReply.TheVariants as called
 use Rattle.replies.specs.declared.calls.ReadReply.{ReadReply}
 use Rattle.replies.specs.declared.reply.Reply.TheVariants.{Called}
 use Rattle.request_check.specs.declared.checked.CheckedRead.{CheckedRead}
-use Rattle.tao_base.specs.Queries.{query_shard}
 use Rattle.tao_core.specs.Calls.{world_of}
-use Rattle.tao_core.specs.HeldCalls.{AnswersCall, DoesAtOnce, call_floor, plan_leaders, Advances}
+use Rattle.tao_core.specs.HeldCalls.{AnswersCall, DoesAtOnce, call_floor, Advances}
 use Rattle.tao_core.proofs.SettledReads.{read_last}
 use Rattle.tao_core.specs.Core.{ComeUp, IsConsistentCore, IsCoreOf, Moment}
-use Rattle.tao_core.specs.Laws.{AreAllUp, IsSettled, MissesNoMore, SettledUntilACommit, last_version}
-use Rattle.tao_core.proofs.Ways.{session_placed}
+use Rattle.tao_core.specs.Laws.{IsSettled, MissesNoMore, SettledUntilACommit, last_version}
 use Rattle.std.specs.Prelude.{IsSome}
 
 -- ---- reads
 
-reads_last : (old new : Moment) (call : CheckedRead) (reply : ReadReply) → IsConsistentCore true old.keepers.told old.core → IsSettled old → AreAllUp old
+reads_last : (old new : Moment) (call : CheckedRead) (reply : ReadReply) → IsConsistentCore true old.keepers.told old.core → IsSettled old
     → AnswersCall true (checked_call.Read call) old (Called (called.Read reply)) new → reply.version ≡ last_version old call.query
-reads_last old new call reply are settled up (inr refuses) = absurd refuses.refused
-reads_last old new call reply are settled up (inl goes) =
+reads_last old new call reply are settled (inr refuses) = absurd refuses.refused
+reads_last old new call reply are settled (inl goes) =
     let core = old.core in
     let session = goes.begun.session in
-    let shard = query_shard call.query in
     let p : Reading = at_bound core.settings
     (new_reading call.query session.region session.tier (call_floor session (checked_call.Read call)) call.critical goes.begun.follower) in
     let does = subst (λ plan. DoesAtOnce true plan old (Called (called.Read reply)) new) goes.begun.plan_is goes.does in
-    let follower = (choices_serve core.settings core.states).follower_up session.region session.tier shard goes.begun.follower goes.begun.chosen in
-    let placed =
-    session_placed true core.settings old.keepers.told (pens_of core.fleet.stores) core.sessions call.session session are.sessions goes.begun.found in
-    read_last core.settings (plan_leaders core (of.Read p)) p (world_of old) are.masters follower (up.leaders session.region shard placed)
-    does.carries.stages does.after (world_of new) reply refl are.consistent settled does.carries.passes does.over
+    read_last core.settings p (world_of old) are.masters does.carries.stages does.after (world_of new) reply refl are.consistent settled
+    does.carries.passes does.over
 
 -- ---- stages
 
 -- a stage of a held read changes no table
-stage_whole : (before after : HeldPlan) (old new : Moment) → IsCoreOf true old.keepers.told old.core → IsSettled old → AreAllUp old
-    → IsUnderWay true old.core.settings old.keepers.told old.core.fleet before
-    → StepsHeld (led_by true old.core.settings (plan_leaders old.core before)) before (world_of old) after (world_of new)
-    → MissesNoMore before old after new
-stage_whole (of.Read p) (of.Read q) old new are settled up under steps =
+stage_whole : (before after : HeldPlan) (old new : Moment) → IsCoreOf true old.keepers.told old.core → IsSettled old
+    → StepsHeld (rules_of true old.core.settings) before (world_of old) after (world_of new) → MissesNoMore before old after new
+stage_whole (of.Read p) (of.Read q) old new are settled steps =
     let core = old.core in
     let grows = stays_stores true core.settings old.keepers new.keepers steps.tables in
-    (stages_miss_nothing core.settings (plan_leaders core (of.Read p)) p q (world_of old) (world_of new)).whole core.states steps.steps
-    are.is_consistent.consistent settled (up.followers p.follower under.follower.configured)
-    (up.leaders p.region (query_shard p.query) under.region) grows.logs
-stage_whole (of.Read p) (of.Write q) old new are settled up under steps = tt
-stage_whole (of.Write p) (of.Read q) old new are settled up under steps = tt
-stage_whole (of.Write p) (of.Write q) old new are settled up under steps = tt
+    (stages_miss_nothing core.settings p q (world_of old) (world_of new)).whole steps.steps are.is_consistent.consistent settled grows.logs
+stage_whole (of.Read p) (of.Write q) old new are settled steps = tt
+stage_whole (of.Write p) (of.Read q) old new are settled steps = tt
+stage_whole (of.Write p) (of.Write q) old new are settled steps = tt
 
 -- nor does one that ends without its last stage
 given_whole : (before : HeldPlan) (old new : Moment) → IsSome (learner before) → MissesNoMore before old (given_up before) new
 given_whole (of.Read p) old new last = absurd (cc)
 given_whole (of.Write p) old new last = tt
 
-advance_whole : (before after : HeldPlan) (old new : Moment) → IsCoreOf true old.keepers.told old.core → IsSettled old → AreAllUp old
-    → IsUnderWay true old.core.settings old.keepers.told old.core.fleet before
-    → Advances (led_by true old.core.settings (plan_leaders old.core before)) before (world_of old) after (world_of new)
-    → MissesNoMore before old after new
-advance_whole before after old new are settled up under (inl steps) = stage_whole before after old new are settled up under steps
-advance_whole before after old new are settled up under (inr ends) =
+advance_whole : (before after : HeldPlan) (old new : Moment) → IsCoreOf true old.keepers.told old.core → IsSettled old
+    → Advances (rules_of true old.core.settings) before (world_of old) after (world_of new) → MissesNoMore before old after new
+advance_whole before after old new are settled (inl steps) = stage_whole before after old new are settled steps
+advance_whole before after old new are settled (inr ends) =
     subst (λ plan. MissesNoMore before old plan new) (sym ends.then) (given_whole before old new ends.last)
 
 -- ---- settled
@@ -110,6 +96,5 @@ settled_until_a_commit = record {
   };
   stays = stays_settled;
   reads = reads_last;
-  stages = λ old new asked number reply are settled up steps.
-      advance_whole steps.before steps.after old new are settled up (are.plans.under_way number steps.before steps.stands) steps.steps;
+  stages = λ old new asked number reply are settled steps. advance_whole steps.before steps.after old new are settled steps.steps;
 }

@@ -1,5 +1,5 @@
 -- A read that begins at settled stores and nodes is answered at the last version of its key.
-use Rattle.std.proofs.Common.{◌≡◌, ◌≤◌, ℕ, zero, suc, true, refl, ap, sym, ◌∙◌, subst, arith}
+use Rattle.std.proofs.Common.{◌≡◌, ◌≤◌, ℕ, zero, suc, true, false, refl, ap, sym, ◌∙◌, subst, arith, inl, inr}
 use Rattle.core_model.proofs.Settled.{settled_stays}
 use Rattle.core_model.specs.Consistent.{IsConsistent}
 use Rattle.core_model.specs.States.{AreSettled, nodes_now}
@@ -9,9 +9,9 @@ use Rattle.core_plans.proofs.InTurn.{IsSameRead, read_same}
 use Rattle.core_plans.proofs.ReadRefusals.{NeverCalled, stage_never}
 use Rattle.core_plans.proofs.WholeStages.{stages_miss_nothing}
 use Rattle.core_plans.specs.Held.{IsOver}
-use Rattle.core_plans.specs.HeldReads.{HasComeTo, version_now}
-use Rattle.core_plans.specs.declared.leaders.Leaders.{Leaders}
-use Rattle.core_plans.specs.LedBy.{LedBy, led_by}
+use Rattle.core_plans.proofs.StageLemmas.{ended_read}
+use Rattle.core_plans.specs.HeldReads.{ComesOfRead, HasComeTo, read_is_down, version_now}
+use Rattle.core_plans.specs.LedBy.{Rules, rules_of}
 use Rattle.core_plans.specs.WholeCalls.{PassesStage, PassesStages}
 use Rattle.core_plans.specs.declared.held.HeldPlan.{HeldPlan}
 use Rattle.core_plans.specs.declared.held.HeldPlan.TheVariants as of
@@ -20,6 +20,7 @@ use Rattle.graph_model.proofs.Exact.{version_take}
 use Rattle.graph_model.specs.Log.{version}
 use Rattle.read_plan.specs.Ends.{EndsAt}
 use Rattle.read_plan.specs.Readings.{Reading}
+use Rattle.read_plan.specs.Standings.{stage_of}
 use Rattle.read_plan.specs.declared.end.ReadEnd.TheVariants as ended
 use Rattle.read_plan.specs.declared.standing.Standing.{Standing}
 use Rattle.read_plan.specs.declared.standing.Standing.TheVariants.{Looking, Asking, Mastering, Keeping, Ended}
@@ -30,7 +31,6 @@ use Rattle.replies.specs.declared.reply.Reply.TheVariants.{Called}
 use Rattle.tao_base.specs.Queries.{query_key, query_shard}
 use Rattle.tao_keeper.specs.Table.{Stays}
 use Rattle.topology.specs.Config.{Settings}
-use Rattle.topology.specs.States.{is_up}
 use Rattle.tao_core.proofs.HeldOn.{comes_not}
 
 -- ---- the version of a reply
@@ -62,23 +62,22 @@ record ComesSoFar (s : Settings) (p : Reading) (old : World) (plan : HeldPlan) (
   same : IsSameRead p q
   tables : Stays old.keepers.told now.keepers.told
   are : IsConsistent true s now.keepers.told now.fleet
-  settled : AreSettled s now.keepers.told (nodes_now now.fleet old.states)
+  settled : AreSettled s now.keepers.told (nodes_now now.fleet now.states)
   come : HasComeTo (version_now s p old.keepers) (version_now s q now.keepers) q.at
 
-module _ (s : Settings) (leaders : Leaders) (p : Reading) (old : World) (masters : HaveMasterRegions s)
-    (follower_up : is_up old.states p.follower ≡ true) (leader_up : is_up old.states leaders.leader ≡ true) where
-  abbrev Led : LedBy
-  Led = led_by true s leaders
+module _ (s : Settings) (p : Reading) (old : World) (masters : HaveMasterRegions s) where
+  abbrev By : Rules
+  By = rules_of true s
 
   comes_by : (q : Reading) (plan : HeldPlan) (x y : World) → IsSameRead p q → Stays old.keepers.told x.keepers.told
-      → IsConsistent true s x.keepers.told x.fleet → AreSettled s x.keepers.told (nodes_now x.fleet old.states)
-      → HasComeTo (version_now s p old.keepers) (version_now s q x.keepers) q.at → PassesStage Led (of.Read q) x plan y
+      → IsConsistent true s x.keepers.told x.fleet → AreSettled s x.keepers.told (nodes_now x.fleet x.states)
+      → HasComeTo (version_now s p old.keepers) (version_now s q x.keepers) q.at → PassesStage By (of.Read q) x plan y
       → ComesSoFar s p old plan y
   comes_by q (of.Read r) x y same tables are settled come stage =
       let steps = stage.steps in
       let stays : Stays x.keepers.told y.keepers.told = steps.tables refl in
       let grows = stays_stores true s x.keepers y.keepers steps.tables in
-      let next = read_same q r x y Led q.at steps.steps.does in
+      let next = read_same q r x y By steps.steps.does in
       record {
         q = r;
         is = refl;
@@ -91,21 +90,20 @@ module _ (s : Settings) (leaders : Leaders) (p : Reading) (old : World) (masters
         };
         tables = λ at. stays at ∙ tables at;
         are = stage.on.consistent;
-        settled = (settled_stays s x.keepers.told y.keepers.told (nodes_now x.fleet old.states) (nodes_now y.fleet old.states)).stay
+        settled = (settled_stays s x.keepers.told y.keepers.told (nodes_now x.fleet x.states) (nodes_now y.fleet y.states)).stay
             masters are stage.on.consistent stage.on.goes
             (record {
-              leaders = λ place name node at comes. absurd (comes_not name old.states old.states refl comes);
-              followers = λ place name node at comes. absurd (comes_not name old.states old.states refl comes);
+              leaders = λ place name node at comes. absurd (comes_not name x.states y.states stage.on.states comes);
+              followers = λ place name node at comes. absurd (comes_not name x.states y.states stage.on.states comes);
             })
             grows (λ shard here. ap (λ t. t.log) (stays (master_store s shard))) settled;
-        come = (stages_miss_nothing s leaders q r x y).whole old.states steps.steps are settled
-            (subst (λ name. is_up old.states name ≡ true) (sym same.follower) follower_up) leader_up grows.logs (version_now s p old.keepers) come;
+        come = (stages_miss_nothing s q r x y).whole steps.steps are settled grows.logs (version_now s p old.keepers) come;
       }
   comes_by q (of.Write w) x y same tables are settled come stage = absurd stage.steps
 
   comes_then : (n : ℕ) (plan : HeldPlan) (now : World) → IsConsistent true s old.keepers.told old.fleet
       → AreSettled s old.keepers.told (nodes_now old.fleet old.states)
-      → HasComeTo (version_now s p old.keepers) (version_now s p old.keepers) p.at → PassesStages Led n (of.Read p) old plan now
+      → HasComeTo (version_now s p old.keepers) (version_now s p old.keepers) p.at → PassesStages By n (of.Read p) old plan now
       → ComesSoFar s p old plan now
   comes_then zero plan now are settled come passes =
       subst (ComesSoFar s p old plan) (sym passes.1) (record {
@@ -120,11 +118,18 @@ module _ (s : Settings) (leaders : Leaders) (p : Reading) (old : World) (masters
   comes_then (suc n) plan now are settled come passes =
       let so = comes_then n passes.0 passes.1 are settled come passes.2 in
       comes_by so.q plan passes.1 now so.same so.tables so.are so.settled so.come
-      (subst (λ m. PassesStage Led m passes.1 plan now) so.is passes.3)
+      (subst (λ m. PassesStage By m passes.1 plan now) so.is passes.3)
+
+  -- a read that is refused gives no answer, also where a node is down that its stage needs
+  never_comes : (q r : Reading) (x y : World) → ComesOfRead By q x r y → NeverCalled r.at
+  never_comes q r x y (inl next) = stage_never By q.at q r x y refl next.does
+  never_comes q r x y (inr ends) =
+      subst (λ (one : Reading). NeverCalled one.at) (sym ends.then)
+      (subst NeverCalled (sym (ended_read (stage_of q.at) (read_is_down ends.node) q 0 false)) (λ reply answered at is. absurd (cc)))
 
   last_by : (q : Reading) (plan : HeldPlan) (x y : World) (reply : ReadReply) → IsSameRead p q → Stays old.keepers.told x.keepers.told
-      → IsConsistent true s x.keepers.told x.fleet → AreSettled s x.keepers.told (nodes_now x.fleet old.states)
-      → HasComeTo (version_now s p old.keepers) (version_now s q x.keepers) q.at → PassesStage Led (of.Read q) x plan y
+      → IsConsistent true s x.keepers.told x.fleet → AreSettled s x.keepers.told (nodes_now x.fleet x.states)
+      → HasComeTo (version_now s p old.keepers) (version_now s q x.keepers) q.at → PassesStage By (of.Read q) x plan y
       → IsOver plan (Called (called.Read reply)) → reply.version ≡ version_now s p old.keepers
   last_by q (of.Read r) x y reply same tables are settled come stage over =
       let on = comes_by q (of.Read r) x y same tables are settled come stage in
@@ -132,7 +137,7 @@ module _ (s : Settings) (leaders : Leaders) (p : Reading) (old : World) (masters
       let log = master_log s y.keepers.told (query_shard r.query) in
       let key = query_key r.query in
       let legal = (steps.legal reply over).0 refl in
-      let never = stage_never Led q.at q r x y refl steps.does in
+      let never = never_comes q r x y steps.does in
       let here : on.q ≡ r = read_one on.q r (sym on.is) in
       let come = subst (λ (x : Reading). HasComeTo (version_now s p old.keepers) (version_now s x y.keepers) x.at) here on.come in
       let least : version_now s p old.keepers ≤ reply.version = ended_version r.at r reply _ _ refl never over come in
@@ -146,11 +151,11 @@ module _ (s : Settings) (leaders : Leaders) (p : Reading) (old : World) (masters
   -- a read that was carried out whole
   pub read_last : (n : ℕ) (plan : HeldPlan) (now : World) (reply : ReadReply) → p.at ≡ Looking
       → IsConsistent true s old.keepers.told old.fleet → AreSettled s old.keepers.told (nodes_now old.fleet old.states)
-      → PassesStages Led n (of.Read p) old plan now → IsOver plan (Called (called.Read reply)) → reply.version ≡ version_now s p old.keepers
+      → PassesStages By n (of.Read p) old plan now → IsOver plan (Called (called.Read reply)) → reply.version ≡ version_now s p old.keepers
   read_last zero plan now reply begun are settled passes over =
       absurd (subst (λ at. EndsAt at p (Called (called.Read reply))) begun (subst (λ m. IsOver m (Called (called.Read reply))) passes.0 over))
   read_last (suc n) plan now reply begun are settled passes over =
       let last = version_now s p old.keepers in
       let so = comes_then n passes.0 passes.1 are settled (subst (HasComeTo last last) (sym begun) (omega arith)) passes.2 in
       last_by so.q plan passes.1 now reply so.same so.tables so.are so.settled so.come
-      (subst (λ m. PassesStage Led m passes.1 plan now) so.is passes.3) over
+      (subst (λ m. PassesStage By m passes.1 plan now) so.is passes.3) over

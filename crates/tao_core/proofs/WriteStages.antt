@@ -3,10 +3,11 @@ use Rattle.std.proofs.Common.{◌≡◌, ℕ, Bool, Option, Some, None, Result, 
 use Rattle.std.specs.Prelude.{⊤, IsSome, option_and_then, unwrap_or}
 use Rattle.core_model.specs.Jobs.{ShardJob}
 use Rattle.core_plans.specs.Held.{next_stage}
-use Rattle.core_plans.specs.HeldWrites.{EndsHeld, IsBefore, MergesHeld, job_by}
+use Rattle.core_plans.specs.HeldWrites.{EndsHeld, IsBefore, MergesHeld, job_by, job_sender}
 use Rattle.core_plans.specs.declared.held.HeldPlan.TheVariants.{Write}
-use Rattle.core_plans.specs.LedBy.{LedBy}
-use Rattle.core_steps.specs.OtherEnds.{EndsOver, JobWay, MergesOver, job_way}
+use Rattle.core_plans.specs.LedBy.{Rules}
+use Rattle.core_plans.proofs.StageLemmas.{merge_refuses_none}
+use Rattle.core_steps.specs.OtherEnds.{EndsOver, MergesOver, SentJob, sent_job}
 use Rattle.core_steps.specs.World.{World}
 use Rattle.hop_count.specs.Hops.{hops_after}
 use Rattle.node_name.specs.declared.NodeName.{NodeName}
@@ -45,11 +46,11 @@ module _ (tells : Bool) (s : Settings) (old new : World) (p q : Writing) (hops :
     back = ap (λ (x : Writing). x.back) is;
   }
 
-  merged_keeps : (way : JobWay) (result : Result Wrote LeftOpen) → MergesOver tells s way result old new → q ≡ after_stage p (came.Inverse result) hops
+  merged_keeps : (sent : SentJob) (result : Result Wrote LeftOpen) → MergesOver tells s sent result old new → q ≡ after_stage p (came.Inverse result) hops
       → KeepsAnswer p q
-  merged_keeps way (Ok wrote) merges is = keeps_answer Merged (written_there p.other (Some wrote)) (hops_after p.hops hops) is
-  merged_keeps way (Err (Scheduled why wrote)) merges is = keeps_answer (Open why) (written_there p.other wrote) (hops_after p.hops hops) is
-  merged_keeps way (Err (Refused reply)) merges is = absurd merges
+  merged_keeps sent (Ok wrote) merges is = keeps_answer Merged (written_there p.other (Some wrote)) (hops_after p.hops hops) is
+  merged_keeps sent (Err (Scheduled why wrote)) merges is = keeps_answer (Open why) (written_there p.other wrote) (hops_after p.hops hops) is
+  merged_keeps sent (Err (Refused reply)) merges is = absurd (merge_refuses_none tells s sent reply old new merges)
 
   ended_keeps : (j : ShardJob) (result : Result ⊤ LeftOpen) → EndsOver tells s j result old new → q ≡ after_stage p (came.End result) hops → KeepsAnswer p q
   ended_keeps j (Ok done) ends is = keeps_answer Ended p.other (hops_after p.hops hops) is
@@ -68,11 +69,11 @@ pub record KeepsOn (p q : Writing) : Type 0 where
   pub committed : Committed
   pub answered : q.committed ≡ Some committed
 
-pub inverse_keeps : (led : LedBy) (p q : Writing) (old new : World) → MergesHeld led p old q new → KeepsOn p q
-inverse_keeps led p q old new merges =
-    let keeps = merged_keeps led.tells led.settings old new p q _ (job_way led.leader (job_by p merges.job)) merges.result merges.merges merges.then in
-    let one = answered p.committed merges.job merges.answered in
-    record { keeps = keeps; committed = one.0; answered = keeps.committed ∙ one.1 }
+pub inverse_keeps : (rules : Rules) (p q : Writing) (old new : World) → MergesHeld rules p old q new → KeepsOn p q
+inverse_keeps rules p q old new merges =
+    let sent = sent_job (job_sender p merges.committed) (job_by p merges.job) in
+    let keeps = merged_keeps rules.tells rules.settings old new p q _ sent merges.result merges.merges merges.then in
+    record { keeps = keeps; committed = merges.committed; answered = keeps.committed ∙ merges.answer }
 
 pub end_keeps : (tells : Bool) (s : Settings) (p q : Writing) (old new : World) → EndsHeld tells s p old q new → KeepsOn p q
 end_keeps tells s p q old new ends =

@@ -1,18 +1,16 @@
 -- What a request asks of the core, or why it is refused before any table is looked at.
-use Rattle.std.specs.Prelude.{ℕ, ◌≡◌, ◌<◌, Bool, true, false, IsSome, List, None, is_some, length, Result, Ok, ⊤, nat_lt, not}
+use Rattle.std.specs.Prelude.{ℕ, ◌≡◌, ◌<◌, true, false, IsSome, List, None, is_some, length, Result, Ok, ⊤, nat_lt, not}
 use Rattle.outcomes.specs.Results.{◌>>=◌, refused_unless}
 use Rattle.tao_base.specs.Queries.{query_key}
 use Rattle.topology.specs.Config.{Settings}
-use Rattle.requests.specs.RequestWords.{request_word}
 use Rattle.requests.specs.declared.calls.Call.{Call}
 use Rattle.requests.specs.declared.calls.Call.TheVariants as call
 use Rattle.requests.specs.declared.plans.PlanRequest.{PlanRequest}
 use Rattle.requests.specs.declared.plans.PlanRequest.TheVariants as plan
 use Rattle.requests.specs.declared.request.Request.{Request}
 use Rattle.requests.specs.declared.request.Request.TheVariants as request
-use Rattle.replies.specs.declared.refusals.LineRefused.TheVariants.{NotBuilt}
 use Rattle.replies.specs.declared.refusals.Refusal.{Refusal}
-use Rattle.replies.specs.declared.refusals.Refusal.TheVariants.{Line, Plan, Memory}
+use Rattle.replies.specs.declared.refusals.Refusal.TheVariants.{Plan, Memory}
 use Rattle.replies.specs.declared.refusals.Refusal.TheVariants as refused
 use Rattle.replies.specs.declared.refusals.PlanRefused.TheVariants.{NoPlan, PlanThere, PlanFull}
 use Rattle.replies.specs.declared.refusals.SessionRefused.TheVariants.{NoSession, SessionThere, SessionFull}
@@ -21,7 +19,7 @@ use Rattle.replies.specs.declared.reply.Reply.TheVariants.{Refused}
 use Rattle.core_plans.specs.Held.{Plans, plan_at, plan_count}
 use Rattle.core_sessions.specs.Sessions.{Session, is_open, most_sessions}
 use Rattle.request_check.specs.Caches.{IsPlacedCache}
-use Rattle.request_check.specs.Health.{checked_health_word}
+use Rattle.request_check.specs.Health.{IsPlacedHealth}
 use Rattle.request_check.specs.Placed.{IsPlacedKey, IsPlacedWrite}
 use Rattle.request_check.specs.Refusal.{for_name}
 use Rattle.request_check.specs.Requests.{checked_of}
@@ -34,19 +32,6 @@ use Rattle.request_check.specs.declared.plans.CheckedPlan.{CheckedPlan}
 use Rattle.request_check.specs.declared.plans.CheckedPlan.TheVariants as checked_plan
 use Rattle.request_check.specs.declared.refusal.CheckRefusal.{CheckRefusal}
 use Rattle.request_check.specs.declared.refusal.CheckRefusal.TheVariants as check
-use Rattle.words.specs.declared.Word.{Word}
-use Rattle.words.specs.declared.Word.TheVariants as word
-
--- ---- what is built
-
--- whether the word is served: all are but those that change the health of a node
-abbrev pub is_built : Word → Bool
-is_built (word.Health which) = false
-is_built other = true
-
--- the refusal of a request whose word isn't built yet
-abbrev pub not_built : Request → Refusal
-not_built asked = Line (NotBuilt (request_word asked))
 
 -- ---- plans
 
@@ -100,10 +85,9 @@ session_for sessions other = Ok tt
 
 -- ---- requests
 
--- what isn't built is refused first, then a plan, and then a session
+-- a plan is refused first, and then a session
 abbrev pub admitted : List Session → Plans → Request → Result ⊤ Refusal
 admitted sessions plans asked = do
-  built ← refused_unless (not_built asked) (is_built (request_word asked))
   held ← plan_for plans asked
   session_for sessions asked
 
@@ -130,7 +114,7 @@ CanBeDone s sessions plans (checked.Call asked) = CallCanBeDone s sessions asked
 CanBeDone s sessions plans (checked.Plan asked) = PlanCanBeDone s sessions plans asked
 CanBeDone s sessions plans (checked.Cache asked) = IsPlacedCache s asked
 CanBeDone s sessions plans (checked.Store asked) = IsPlacedStore s asked
-CanBeDone s sessions plans (checked.Health asked) = is_built (word.Health (checked_health_word asked)) ≡ true
+CanBeDone s sessions plans (checked.Health asked) = IsPlacedHealth s asked
 CanBeDone s sessions plans (checked.Link asked) = ⊤
 
 -- how it is replied that nothing is asked

@@ -15,6 +15,9 @@ use Rattle.core_plans.specs.declared.held.HeldPlan.TheVariants.{Read, Write}
 use Rattle.core_sessions.specs.Sessions.{Session, is_open, sessions_of}
 use Rattle.graph_model.specs.Log.{version}
 use Rattle.graph_model.specs.Told.{WhereTold}
+use Rattle.replies.specs.declared.refusals.Refusal.TheVariants.{Memory}
+use Rattle.replies.specs.declared.reply.Reply.{Reply}
+use Rattle.replies.specs.declared.reply.Reply.TheVariants.{Refused}
 use Rattle.session_pass.specs.Floors.{floor_at}
 use Rattle.tao_base.specs.Keys.{key_shard}
 use Rattle.tao_base.specs.declared.entry.Origin.{Origin}
@@ -130,6 +133,11 @@ moment core keepers link = record { core = core; keepers = keepers; link = link 
 -- a core at a moment, with what stands outside of it then
 abbrev pub moment_of : CoreState → Outside → Moment
 moment_of core around = moment core around.keepers around.link
+
+-- memory was wanting before anything was done
+pub record WantsMemory (old : Moment) (reply : Reply) (new : Moment) : Type 0 where
+  pub reply_is : reply ≡ Refused (Memory 0)
+  pub same : new ≡ old
 
 -- what the keepers and the link show at a moment
 abbrev pub outside_at : Moment → Outside

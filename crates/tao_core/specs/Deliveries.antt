@@ -1,5 +1,5 @@
 -- What the replies to the words of messages, of refills and of held items say.
-use Rattle.std.specs.Prelude.{ℕ, ◌≡◌, ◌⊎◌, ⊤, Bool, false, List, Option, Some, None}
+use Rattle.std.specs.Prelude.{ℕ, ◌≡◌, ◌⊎◌, ⊤, Bool, false, true, List, Option, Some, None, if◌then◌else◌}
 use Rattle.core_mail.specs.Inboxes.{ShowsInbox, TakesOut, WaitsAt, shown_message}
 use Rattle.core_model.specs.Fleet.{ChangesNode, region_of}
 use Rattle.core_model.specs.Messages.{DeliversAt, TakesRefill}
@@ -40,14 +40,26 @@ use Rattle.words.specs.declared.DeliveryWord.{DeliveryWord}
 use Rattle.words.specs.declared.DeliveryWord.TheVariants as word
 use Rattle.tao_core.specs.HeldCalls.{DoesAtOnce}
 use Rattle.topology.specs.Config.{Settings}
+use Rattle.topology.specs.States.{is_up}
 use Rattle.tao_core.specs.Core.{CoreState, Moment}
 
 -- ---- messages
 
+-- the mark that a reply tells of a node for a shard: its low-water mark, and 0 where it is down
+pub record IsMarkTold (core : CoreState) (node : NodeName) (shard mark : ℕ) : Type 0 where
+  pub low : ℕ
+  pub low_is : IsMarkAt core.fleet node shard (Some low)
+  pub mark_is : mark ≡ (if is_up core.states node then low else 0)
+
+-- the mark that is told, where the name is that of a leader or follower; none where it is another
+abbrev pub TellsMark : CoreState → NodeName → ℕ → Option ℕ → Type 0
+TellsMark core node shard None = IsMarkAt core.fleet node shard None
+TellsMark core node shard (Some mark) = IsMarkTold core node shard mark
+
 -- a message was processed: its node dropped so many items, and the reply has the node's mark for the message's shard after it
 pub record ProcessesAt (node : NodeName) (message : SeenMaint) (reply : DeliveredReply) (old new : CoreState) : Type 0 where
   pub delivers : DeliversAt (types_of old.settings.schema) message reply.dropped node old.fleet new.fleet
-  pub mark : IsMarkAt new.fleet node message.shard (Some reply.mark)
+  pub mark : IsMarkTold new node message.shard reply.mark
   pub message_is : reply.message ≡ shown_message message
 
 -- the reply that a message was processed, for the word that asked for it
@@ -116,7 +128,7 @@ pub record IsShown (tells : Bool) (node : NodeName) (key : Key) (mark : ℕ) (it
   pub held : IsHeldAt now.core.fleet node key found
   pub item_is : item ≡ shown_item found
   pub exact : IsExactNow tells now.core now.keepers key found
-  pub mark_is : IsMarkAt now.core.fleet node (key_shard key) (Some mark)
+  pub mark_is : IsMarkTold now.core node (key_shard key) mark
 
 -- what the reply to a show says: what the node holds at the key, unless memory was wanting
 abbrev pub AnswersShow : Bool → NodeName → Key → Moment → Reply → Type 0
@@ -137,8 +149,9 @@ abbrev pub refill_plan : Settings → NodeName → Refill → HeldPlan
 refill_plan s node refill =
     of.Read (at_bound s (new_reading refill.query (region_of node) (home_tier node) refill.floor false node))
 
--- the follower's oldest refill was taken out, and its plan did all of its stages
+-- the follower is up, its oldest refill was taken out, and its plan did all of its stages
 pub record RefillGoes (tells : Bool) (node : NodeName) (old : Moment) (reply : Reply) (new : Moment) : Type 0 where
+  pub up : is_up old.core.states node ≡ true
   pub refill : Refill
   pub left : List (Named FollowerState)
   pub takes : ChangesNode node (TakesRefill (Some refill)) old.core.fleet.followers left
@@ -147,10 +160,10 @@ pub record RefillGoes (tells : Bool) (node : NodeName) (old : Moment) (reply : R
       (record old { core = record old.core { fleet = record old.core.fleet { followers = left } } }) read new
   pub reply_is : reply ≡ refilled_as read
 
--- no refill waits, and nothing changed
+-- no refill waits, as at a node that is down, and nothing changed
 pub record HasNoRefill (node : NodeName) (old : Moment) (reply : Reply) (new : Moment) : Type 0 where
   pub reply_is : reply ≡ Refused (OfNode (NoRefill node))
-  pub none : ChangesNode node (TakesRefill None) old.core.fleet.followers new.core.fleet.followers
+  pub none : (is_up old.core.states node ≡ false) ⊎ ChangesNode node (TakesRefill None) old.core.fleet.followers new.core.fleet.followers
   pub same : new ≡ old
 
 -- what the reply to a refill says: how the follower's oldest one was read, or that none waits

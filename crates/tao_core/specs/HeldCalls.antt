@@ -1,5 +1,5 @@
 -- What the replies to calls say, held or not, and to `advance`.
-use Rattle.std.specs.Prelude.{ℕ, ◌≡◌, ◌<◌, ◌==◌, ◌⊎◌, ⊤, Bool, false, true, length, IfSome, IsSome, IsTrue, List, Option, Some, None}
+use Rattle.std.specs.Prelude.{ℕ, ◌≡◌, ◌⊎◌, ⊤, Bool, true, IfSome, IsSome, List, Option, Some, None}
 use Rattle.std.specs.Prelude.{option_and_then}
 use Rattle.session_pass.specs.Passes.{IsNoteOf, SeenPass}
 use Rattle.graph_model.specs.Log.{entry_at}
@@ -11,8 +11,7 @@ use Rattle.core_plans.specs.HeldReads.{at_bound}
 use Rattle.core_plans.specs.declared.held.HeldPlan.{HeldPlan}
 use Rattle.core_plans.specs.declared.held.HeldPlan.TheVariants as of
 use Rattle.core_plans.specs.declared.held.LearntEntries.{LearntEntries}
-use Rattle.core_plans.specs.declared.leaders.Leaders.{Leaders}
-use Rattle.core_plans.specs.LedBy.{LedBy, led_by}
+use Rattle.core_plans.specs.LedBy.{Rules, rules_of}
 use Rattle.core_plans.specs.WholeCalls.{CarriesOut}
 use Rattle.core_sessions.specs.Sessions.{HasRoom, HasRoomForBoth, Session, is_open, opening_of, session_at, sessions_of}
 use Rattle.core_sessions.specs.declared.sessions.CallStart.{CallStart}
@@ -40,8 +39,8 @@ use Rattle.tao_base.specs.Queries.{query_key, query_shard}
 use Rattle.tao_base.specs.Writes.{write_shard}
 use Rattle.tao_base.specs.declared.entry.Origin.TheVariants.{Client}
 use Rattle.topology.specs.Config.{Settings}
-use Rattle.topology.specs.Choices.{chosen_follower, master_region, preferred_leader}
-use Rattle.topology.specs.States.{NodeStates, is_cache}
+use Rattle.topology.specs.Choices.{chosen_follower}
+use Rattle.topology.specs.States.{NodeStates}
 use Rattle.words.specs.declared.PlanWord.{PlanWord}
 use Rattle.words.specs.declared.PlanWord.TheVariants as word
 use Rattle.write_plan.specs.Plans.{Writing, begun_write, reply_of}
@@ -49,39 +48,6 @@ use Rattle.tao_core.specs.Calls.{KeptReaches, LearnsBoth, world_of}
 use Rattle.tao_core.specs.Core.{CoreState, Moment, author}
 
 -- ---- one stage
-
--- the leader that answers a region's reads of a shard: the one that it prefers
-abbrev pub read_leaders : NodeStates → ℕ → ℕ → Leaders
-read_leaders states region shard = record { leader = preferred_leader states region shard; passed = None }
-
--- the leader of its own region that a write passes: none where it is at home, in the master's region
-abbrev pub passed_from : Bool → NodeName → Option NodeName
-passed_from true own = None
-passed_from false own = Some own
-
--- the leader that a region's writes of a shard pass, which is the one that the region prefers
-abbrev pub passed_leader : NodeStates → ℕ → ℕ → Option NodeName
-passed_leader states region shard = passed_from (region == master_region states shard) (preferred_leader states region shard)
-
--- the leaders of a region's writes of a shard: the one that the master's region prefers, and the one that they pass
-abbrev pub write_leaders : NodeStates → ℕ → ℕ → Leaders
-write_leaders states region shard =
-    record { leader = preferred_leader states (master_region states shard) shard; passed = passed_leader states region shard }
-
--- the leaders of a plan's stages
-abbrev pub plan_leaders : CoreState → HeldPlan → Leaders
-plan_leaders core (of.Read p) = read_leaders core.states p.region (query_shard p.query)
-plan_leaders core (of.Write p) = write_leaders core.states p.region (write_shard p.write)
-
--- a plan is of a region of the configuration
-abbrev pub IsOfRegion : NodeStates → HeldPlan → Type 0
-IsOfRegion states (of.Read p) = p.region < length states.regions
-IsOfRegion states (of.Write p) = p.region < length states.regions
-
--- they are caches of the configuration
-pub record AreLeaders (states : NodeStates) (leaders : Leaders) : Type 0 where
-  pub leader : IsTrue (is_cache states.regions leaders.leader)
-  pub passed : IfSome leaders.passed (λ one. IsTrue (is_cache states.regions one))
 
 -- the plans that are held, and the sessions
 pub record Held : Type 0 where
@@ -198,22 +164,20 @@ pub record EndsWithout (before : HeldPlan) (old : World) (after : HeldPlan) (new
   pub same : new ≡ old
 
 -- a held plan did the stage that follows, or ends without its last one
-abbrev pub Advances : LedBy → HeldPlan → World → HeldPlan → World → Type 0
-Advances led before old after new = StepsHeld led before old after new ⊎ EndsWithout before old after new
+abbrev pub Advances : Rules → HeldPlan → World → HeldPlan → World → Type 0
+Advances rules before old after new = StepsHeld rules before old after new ⊎ EndsWithout before old after new
 
 -- the plan of that number does, and no other
-pub record AdvancesPlan (led : LedBy) (number : ℕ) (plans : Plans) (old : World) (later : Plans) (new : World) : Type 0 where
+pub record AdvancesPlan (rules : Rules) (number : ℕ) (plans : Plans) (old : World) (later : Plans) (new : World) : Type 0 where
   pub before : HeldPlan
   pub after : HeldPlan
   pub stands : plan_at plans number ≡ Some before
-  pub steps : Advances led before old after new
+  pub steps : Advances rules before old after new
   pub changes : ChangesPlan number after plans later
 
 -- the plan of that number did the stage that follows, or ended without its last, and is there as it is then
 pub record DoesStage (tells : Bool) (number : ℕ) (old new : Moment) : Type 0 where
-  pub plan : HeldPlan
-  pub stands : plan_at old.core.plans number ≡ Some plan
-  pub steps : AdvancesPlan (led_by tells old.core.settings (plan_leaders old.core plan)) number old.core.plans (world_of old) new.core.plans (world_of new)
+  pub steps : AdvancesPlan (rules_of tells old.core.settings) number old.core.plans (world_of old) new.core.plans (world_of new)
   pub reaches : HeldReaches tells old.core.settings steps.after (world_of new)
   pub link : IsLaterLink old.link new.link
 
@@ -223,7 +187,7 @@ pub record StepsAt (tells : Bool) (asked : PlanWord) (number : ℕ) (old : Momen
   pub before : HeldPlan
   pub after : HeldPlan
   pub stands : plan_at old.core.plans number ≡ Some before
-  pub steps : Advances (led_by tells old.core.settings (plan_leaders old.core before)) before (world_of old) after (world_of new)
+  pub steps : Advances (rules_of tells old.core.settings) before (world_of old) after (world_of new)
   pub reaches : HeldReaches tells old.core.settings after (world_of new)
   pub leaves : Leaves asked (numbered_plan number after) (next_stage after) (held_in old.core) reply (held_in new.core)
   pub link : IsLaterLink old.link new.link
@@ -317,10 +281,10 @@ AnswersHold tells number asked old reply new = HoldGoes tells number asked old r
 
 -- ---- calls that aren't held
 
--- a plan does all of its stages at once, with the leaders that are preferred for it. Its session learns what is told with its reply
+-- a plan does all of its stages at once. Its session learns what is told with its reply
 pub record DoesAtOnce (tells : Bool) (plan : HeldPlan) (old : Moment) (reply : Reply) (new : Moment) : Type 0 where
   pub after : HeldPlan
-  pub carries : CarriesOut (led_by tells old.core.settings (plan_leaders old.core plan)) plan (world_of old) after (world_of new)
+  pub carries : CarriesOut (rules_of tells old.core.settings) plan (world_of old) after (world_of new)
   pub over : IsOver after reply
   pub reaches : HeldReaches tells old.core.settings after (world_of new)
   pub learns : LearnsOf after (learnt_with reply after) old.core.sessions new.core.sessions

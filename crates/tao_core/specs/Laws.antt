@@ -1,7 +1,6 @@
 -- What a settle leaves, and how long it stays.
-use Rattle.std.specs.Prelude.{ℕ, ◌≡◌, ◌≤◌, ◌<◌, ⊤, Contains, List, length, true}
+use Rattle.std.specs.Prelude.{ℕ, ◌≡◌, ◌≤◌, ⊤, List, length, true}
 use Rattle.core_model.specs.Consistent.{GoesOn}
-use Rattle.core_model.specs.Fleet.{follower_names}
 use Rattle.core_model.specs.Growing.{StoresGrow}
 use Rattle.core_model.specs.States.{AreSettled, HaveSameLogs, nodes_now}
 use Rattle.core_model.specs.Stores.{AreWhole, master_log}
@@ -10,7 +9,6 @@ use Rattle.core_plans.specs.HeldReads.{HasComeTo, version_now}
 use Rattle.core_plans.specs.declared.held.HeldPlan.{HeldPlan}
 use Rattle.core_plans.specs.declared.held.HeldPlan.TheVariants as of
 use Rattle.graph_model.specs.Log.{version}
-use Rattle.node_name.specs.declared.NodeName.{NodeName}
 use Rattle.replies.specs.declared.calls.CallReply.TheVariants as called
 use Rattle.replies.specs.declared.calls.ReadReply.{ReadReply}
 use Rattle.replies.specs.declared.reply.Reply.{Reply}
@@ -18,8 +16,6 @@ use Rattle.replies.specs.declared.reply.Reply.TheVariants.{Called}
 use Rattle.request_check.specs.declared.checked.CheckedRead.{CheckedRead}
 use Rattle.tao_base.specs.Queries.{query_key, query_shard}
 use Rattle.tao_base.specs.declared.query.Query.{Query}
-use Rattle.topology.specs.Choices.{preferred_leader}
-use Rattle.topology.specs.States.{is_up}
 use Rattle.words.specs.declared.PlanWord.{PlanWord}
 use Rattle.request_check.specs.declared.checked.CheckedCall.TheVariants as checked_call
 use Rattle.tao_core.specs.Core.{ComeUp, IsConsistentCore, IsCoreOf, Moment}
@@ -29,11 +25,6 @@ use Rattle.tao_core.specs.Settling.{SettlesCore}
 -- every store has all of its shard's log, and each leader and follower that is up has processed it
 abbrev pub IsSettled : Moment → Type 0
 IsSettled m = AreSettled m.core.settings m.keepers.told (nodes_now m.core.fleet m.core.states)
-
--- every follower is up, and so are the leaders that the regions prefer
-pub record AreAllUp (m : Moment) : Type 0 where
-  pub followers : (name : NodeName) → Contains (follower_names m.core.settings) name → is_up m.core.states name ≡ true
-  pub leaders : (region shard : ℕ) → region < length m.core.settings.regions → is_up m.core.states (preferred_leader m.core.states region shard) ≡ true
 
 -- the version that the log of a query's shard gives its key
 abbrev pub last_version : Moment → Query → ℕ
@@ -59,9 +50,9 @@ pub record SettledUntilACommit : Type 0 where
       → new.core.settings ≡ old.core.settings → GoesOn old.core.fleet new.core.fleet → ComeUp true new.keepers.told old.core new.core
       → StoresGrow true old.core.settings old.keepers.told new.keepers.told → HaveSameLogs old.core.settings old.keepers.told new.keepers.told
       → IsSettled old → IsSettled new
-  -- each read that begins then, with every node up, is answered at the last version of its key
+  -- each read that begins then is answered at the last version of its key, whichever nodes are down
   pub reads : (old new : Moment) (call : CheckedRead) (reply : ReadReply) → IsConsistentCore true old.keepers.told old.core → IsSettled old
-      → AreAllUp old → AnswersCall true (checked_call.Read call) old (Called (called.Read reply)) new → reply.version ≡ last_version old call.query
+      → AnswersCall true (checked_call.Read call) old (Called (called.Read reply)) new → reply.version ≡ last_version old call.query
   -- and no stage of a held one misses anything
   pub stages : (old new : Moment) (asked : PlanWord) (number : ℕ) (reply : Reply) → IsCoreOf true old.keepers.told old.core → IsSettled old
-      → AreAllUp old → (steps : StepsAt true asked number old reply new) → MissesNoMore steps.before old steps.after new
+      → (steps : StepsAt true asked number old reply new) → MissesNoMore steps.before old steps.after new

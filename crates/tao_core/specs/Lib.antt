@@ -2,6 +2,7 @@ pub mod Asked
 pub mod CacheReplies
 pub mod Calls
 pub mod Core
+pub mod Health
 pub mod HeldCalls
 pub mod Deliveries
 pub mod Laws

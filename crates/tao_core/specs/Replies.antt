@@ -12,7 +12,8 @@ use Rattle.requests.specs.declared.request.Request.{Request}
 use Rattle.shard_log.specs.View.{View}
 use Rattle.tao_core.specs.Asked.{asked_of}
 use Rattle.tao_core.specs.CacheReplies.{AnswersCache}
-use Rattle.tao_core.specs.Core.{Moment}
+use Rattle.tao_core.specs.Core.{Moment, WantsMemory}
+use Rattle.tao_core.specs.Health.{AnswersHealth}
 use Rattle.tao_core.specs.HeldCalls.{AnswersCall, AnswersPlan}
 use Rattle.tao_core.specs.LinkReplies.{AnswersLink}
 use Rattle.tao_core.specs.StoreReplies.{AnswersStore}
@@ -38,12 +39,7 @@ AnswersAsked tells old (Ok (checked.Plan asked)) reply new = AnswersPlan tells a
 AnswersAsked tells old (Ok (checked.Cache asked)) reply new = AnswersCache tells asked old reply new
 AnswersAsked tells old (Ok (checked.Store asked)) reply new = AnswersStore tells asked old reply new
 AnswersAsked tells old (Ok (checked.Link asked)) reply new = AnswersLink asked old reply new
-AnswersAsked tells old (Ok other) reply new = ⊥
-
--- memory was wanting before anything was done
-pub record WantsMemory (old : Moment) (reply : Reply) (new : Moment) : Type 0 where
-  pub reply_is : reply ≡ Refused (Memory 0)
-  pub same : new ≡ old
+AnswersAsked tells old (Ok (checked.Health asked)) reply new = AnswersHealth tells asked old reply new
 
 -- the reply to a request is the one that what it asks has
 abbrev pub AnswersRequest : Bool → Moment → Request → Reply → Moment → Type 0

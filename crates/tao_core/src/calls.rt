@@ -1,25 +1,26 @@
 //! Calls: the plan of a call is begun, and carried out at once or held.
 ghost use Rattle.tao_base.specs.declared.entry.Origin.TheVariants.{Client};
-ghost use Rattle.std.specs.Prelude.{◌≡◌, ◌<◌, IfErr, IfOk, IsSomeAnd, None, OnOk, length, true};
+ghost use Rattle.std.specs.Prelude.{◌≡◌, IfErr, IfOk, IsSomeAnd, None, OnOk, true};
 ghost use Rattle.core_plans.specs.Held.{IsOver, learnt_with, next_stage};
 ghost use Rattle.core_plans.specs.declared.held.HeldPlan.TheVariants.{Write};
 ghost use Rattle.core_sessions.specs.Sessions.{Session, is_open, session_at, sessions_of};
 ghost use Rattle.tao_core.specs.Asked.{CallCanBeDone};
 ghost use Rattle.tao_core.specs.Calls.{LearnsBoth};
 ghost use Rattle.tao_core.specs.Core.{IsCoreOf, StaysUsable, author, moment};
-ghost use Rattle.tao_core.specs.HeldCalls.{AnswersCall, AreLeaders, BeginsAt, HasRoomForCall, IsNotBegun, IsOfRegion, LearnsOf};
-ghost use Rattle.tao_core.specs.HeldCalls.{MayLearn, MayLearnOf, begun_plan, call_session, call_shard, call_start, plan_leaders, read_leaders};
-ghost use Rattle.tao_core.specs.HeldCalls.{write_leaders};
+ghost use Rattle.tao_core.specs.HeldCalls.{AnswersCall, BeginsAt, HasRoomForCall, IsNotBegun, LearnsOf};
+ghost use Rattle.tao_core.specs.HeldCalls.{MayLearn, MayLearnOf, begun_plan, call_session, call_shard, call_start};
+ghost use Rattle.topology.specs.Config.{Settings};
 
 use crate::refusals::no_server;
 use crate::serving::Core;
 use crate::teaching::learn_both;
-use core_plans::{EndedPlan, HeldPlan, Leaders, TierPlace, begin_read, carry_out};
+use core_plans::{EndedPlan, HeldPlan, begin_read, carry_read, carry_write};
 use core_sessions::{CallStart, OpenSession, Sessions};
-use core_steps::out_of_memory;
+use core_steps::{TierPlace, out_of_memory};
 use node_name::NodeName;
+use read_plan::ReadPlan;
 use replies::Reply;
-use request_check::{CheckedCall, CheckedWrite};
+use request_check::{CheckedCall, CheckedRead, CheckedWrite};
 use tao_base::{Origin, OutOfMemory};
 use tao_keeper::Keeper;
 use tao_link::Link;
@@ -92,25 +93,35 @@ pub(crate) struct PlanStart {
     follower: NodeName,
 }
 
+/// The plan of a session's read, of which nothing is done.
+fn begun_read(config: &Config, from: PlanStart, call: CheckedRead) -> ReadPlan
+    ensures { (session : Session) → from.start ≡ call_start (CheckedCall.Read call) session
+        → HeldPlan.Read result ≡ begun_plan config.now session from.follower (CheckedCall.Read call) }
+{
+    let PlanStart { start, follower } = from;
+    let OpenSession { region, tier, .. } = start.place;
+    let of = TierPlace { region, tier };
+    begin_read(config, call.query, of, start.floor, call.critical, follower)
+}
+
+/// The plan of a session's write, of which nothing is done.
+fn begun_write(from: PlanStart, call: CheckedWrite) -> WritePlan
+    ensures { (s : Settings) (session : Session) → from.start ≡ call_start (CheckedCall.Write call) session
+        → HeldPlan.Write result ≡ begun_plan s session from.follower (CheckedCall.Write call) }
+{
+    let PlanStart { start, follower } = from;
+    let OpenSession { region, tier, .. } = start.place;
+    let origin = client_of(&call);
+    WritePlan::begin(call.write, origin, region, tier, follower)
+}
+
 /// The plan of a session's call, of which nothing is done.
 pub(crate) fn begun_plan(config: &Config, from: PlanStart, call: CheckedCall) -> HeldPlan
     ensures { (session : Session) → from.start ≡ call_start call session → result ≡ begun_plan config.now session from.follower call }
 {
-    let PlanStart { start, follower } = from;
-    let OpenSession { region, tier, .. } = start.place;
     match call {
-        CheckedCall::Write(call) => {
-            let origin = client_of(&call);
-            HeldPlan::Write(WritePlan::begin(call.write, origin, region, tier, follower))
-        }
-        CheckedCall::Read(call) => HeldPlan::Read(begin_read(
-            config,
-            call.query,
-            TierPlace { region, tier },
-            start.floor,
-            call.critical,
-            follower,
-        )),
+        CheckedCall::Write(call) => HeldPlan::Write(begun_write(from, call)),
+        CheckedCall::Read(call) => HeldPlan::Read(begun_read(config, from, call)),
     }
 }
 
@@ -176,54 +187,7 @@ pub(crate) fn finish_plan(sessions: &mut Sessions, plan: HeldPlan) -> Reply
     }
 }
 
-/// The leader that answers a region's reads of a shard.
-fn read_leaders(topology: &Topology, region: u16, shard: u16) -> Leaders
-    ensures is { result ≡ read_leaders topology.now region shard }
-    ensures configured { region < length topology.now.regions → AreLeaders topology.now result }
-{
-    Leaders {
-        leader: topology.preferred(region, shard),
-        passed: None,
-    }
-}
-
-/// The leader that commits a region's writes of a shard, and the one of the region that they pass, where that isn't the master's.
-fn write_leaders(topology: &Topology, region: u16, shard: u16) -> Leaders
-    ensures is { result ≡ write_leaders topology.now region shard }
-    ensures configured { region < length topology.now.regions → AreLeaders topology.now result }
-{
-    let master = topology.master(shard);
-    let leader = topology.preferred(master, shard);
-    if region == master {
-        return Leaders {
-            leader,
-            passed: None,
-        };
-    }
-    Leaders {
-        leader,
-        passed: Some(topology.preferred(region, shard)),
-    }
-}
-
 impl<'c> Core<'c> {
-    /// The leaders of a plan's stages.
-    pub(crate) fn plan_leaders(&self, plan: &HeldPlan) -> Leaders
-        ensures is { result ≡ plan_leaders self.now plan.now }
-        ensures configured { IsOfRegion self.now.states plan.now → AreLeaders self.now.states result }
-    {
-        match plan {
-            HeldPlan::Read(plan) => {
-                let shard = plan.query().shard();
-                read_leaders(&self.nodes.topology, plan.region(), shard)
-            }
-            HeldPlan::Write(plan) => {
-                let shard = plan.write().shard();
-                write_leaders(&self.nodes.topology, plan.region(), shard)
-            }
-        }
-    }
-
     /// Answers a session's call: its plan does all of its stages, and its session learns what the reply tells.
     pub(crate) fn answer<K: Keeper, L: Link>(
         &mut self,
@@ -244,16 +208,17 @@ impl<'c> Core<'c> {
                 return reply;
             }
         };
-        let mut plan = begun_plan(self.config, from, call);
-        let leaders = self.plan_leaders(&plan);
-        carry_out(
-            &mut self.nodes,
-            self.config,
-            keepers,
-            link,
-            leaders,
-            &mut plan,
-        );
-        finish_plan(&mut self.sessions, plan)
+        match call {
+            CheckedCall::Read(call) => {
+                let mut plan = begun_read(self.config, from, call);
+                carry_read(&mut self.nodes, self.config, keepers, link, &mut plan);
+                plan.finish()
+            }
+            CheckedCall::Write(call) => {
+                let mut plan = begun_write(from, call);
+                carry_write(&mut self.nodes, self.config, keepers, link, &mut plan);
+                finish_write(&mut self.sessions, plan)
+            }
+        }
     }
 }

@@ -17,8 +17,8 @@ use crate::refusals::{no_message, no_refill};
 use crate::serving::Core;
 use cache_items::Item;
 use core_model::region_of;
-use core_plans::{HeldPlan, TierPlace, begin_read, carry_out};
-use core_steps::{out_of_memory, refilled_as};
+use core_plans::{begin_read, carry_read};
+use core_steps::{TierPlace, out_of_memory, refilled_as};
 use follower_cache::Refill;
 use maint_msg::Maint;
 use node_name::NodeName;
@@ -108,7 +108,7 @@ impl<'c> Core<'c> {
     {
         let message_told = told(&message);
         let dropped = self.nodes.fleet.deliver(self.config, node, message);
-        match self.nodes.fleet.mark(node, message_told.shard) {
+        match self.mark(node, message_told.shard) {
             Some(mark) => Reply::Node(NodeReply::Cache(CacheReply::Delivered(DeliveredReply {
                 word,
                 dropped,
@@ -187,7 +187,7 @@ impl<'c> Core<'c> {
         ensures { (tells : Bool) (keepers : KeeperState) (link : LinkShown) → IsConsistentCore tells keepers.told self.now
             → AnswersShow tells node key (moment self.now keepers link) result }
     {
-        let Some(mark) = self.nodes.fleet.mark(node, key.shard()) else {
+        let Some(mark) = self.mark(node, key.shard()) else {
             unreachable!()
         };
         match shown_item(alloc, self.nodes.fleet.item(node, key)) {
@@ -215,21 +215,12 @@ impl<'c> Core<'c> {
         let Refill { query, floor } = refill;
         let (region, tier) = (region_of(node), home_tier(node));
         let of = TierPlace { region, tier };
-        let read = begin_read(self.config, query, of, floor, false, node);
-        let mut plan = HeldPlan::Read(read);
-        let leaders = self.plan_leaders(&plan);
-        carry_out(
-            &mut self.nodes,
-            self.config,
-            keepers,
-            link,
-            leaders,
-            &mut plan,
-        );
-        plan.finish().reply
+        let mut plan = begin_read(self.config, query, of, floor, false, node);
+        carry_read(&mut self.nodes, self.config, keepers, link, &mut plan);
+        plan.finish()
     }
 
-    /// Takes the oldest refill of a follower out, and reads it.
+    /// Takes the oldest refill of a follower out, and reads it. None waits at one that is down.
     pub(crate) fn refill<K: Keeper, L: Link>(
         &mut self,
         keepers: &mut K,
@@ -243,6 +234,9 @@ impl<'c> Core<'c> {
         ensures leaves { LeavesCore K.TELLS (K.state keepers.old) (K.state keepers.new) self.old self.new }
         ensures same { self.new ≡ record self.old { fleet = self.new.fleet; mail = self.new.mail } }
     {
+        if !self.nodes.topology.is_up(node) {
+            return no_refill(node);
+        }
         match self.nodes.fleet.next_refill(self.config, node) {
             Some(refill) => refilled_as(self.read_refill(keepers, link, node, refill)),
             None => no_refill(node),

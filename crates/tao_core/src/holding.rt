@@ -1,7 +1,7 @@
 //! Calls that are held, and go stage by stage.
 ghost use Rattle.std.specs.Prelude.{◌≡◌, IfSome, IsSome, None, OnErr, OnOk, Some, option_and_then};
 ghost use Rattle.core_plans.specs.Held.{CanStep, IsUnderWay, OpensFirst, learner, plan_at};
-ghost use Rattle.core_plans.specs.LedBy.{led_by};
+ghost use Rattle.core_plans.specs.LedBy.{rules_of};
 ghost use Rattle.core_sessions.specs.Sessions.{HasRoomForBoth, sessions_of};
 ghost use Rattle.core_steps.specs.Posting.{CanPost, PostsOn};
 ghost use Rattle.core_steps.specs.World.{world};
@@ -12,7 +12,7 @@ ghost use Rattle.tao_core.specs.HeldCalls.{held_seen, next_at, numbered_reply};
 
 use crate::calls::{begin_plan, begun_plan, finish_plan};
 use crate::serving::Core;
-use core_plans::{HeldPlans, Led};
+use core_plans::HeldPlans;
 use core_sessions::Sessions;
 use core_steps::{Nodes, out_of_memory};
 use replies::{PlanReply, Reply, Stage};
@@ -20,6 +20,7 @@ use request_check::{CheckedCall, CheckedPlan};
 use tao_base::OutOfMemory;
 use tao_keeper::Keeper;
 use tao_link::Link;
+use topology::Config;
 use words::PlanWord;
 
 /// The reply of a plan that is over.
@@ -77,10 +78,10 @@ fn room_for_last(plans: &HeldPlans, sessions: &mut Sessions, number: u32) -> Res
     }
 }
 
-/// A stage of a held plan that is due: by what it is led, and the plan's number.
+/// A stage of a held plan that is due: the configuration by which it is done, and the plan's number.
 #[derive(Clone, Copy)]
 struct DueStage<'c> {
-    led: Led<'c>,
+    config: &'c Config,
     number: u32,
 }
 
@@ -94,28 +95,28 @@ fn step_or_give_up<K: Keeper, L: Link>(
     keepers: &mut K,
     link: &mut L,
 )
-    requires ready { CanPost K.TELLS due.now.led.config.now (world nodes.old (K.state keepers.old) (L.shown link.old)) }
-    requires can { CanStep K.TELLS due.now.led.config.now (K.state keepers.old).told nodes.old.fleet due.now.led.leaders (plan_at plans.old due.now.number) }
+    requires ready { CanPost K.TELLS due.now.config.now (world nodes.old (K.state keepers.old) (L.shown link.old)) }
+    requires can { CanStep K.TELLS due.now.config.now (K.state keepers.old).told nodes.old.fleet (plan_at plans.old due.now.number) }
     requires author { IfSome (plan_at plans.old due.now.number) (IsOfSession (sessions_of sessions.old)) }
     requires begun { IfSome (plan_at plans.old due.now.number) OpensFirst }
-    ensures steps { AdvancesPlan (led_by K.TELLS due.now.led.config.now due.now.led.leaders) due.now.number
+    ensures steps { AdvancesPlan (rules_of K.TELLS due.now.config.now) due.now.number
         plans.old (world nodes.old (K.state keepers.old) (L.shown link.old))
         plans.new (world nodes.new (K.state keepers.new) (L.shown link.new)) }
-    ensures under_way { IfSome (plan_at plans.new due.now.number) (IsUnderWay K.TELLS due.now.led.config.now (K.state keepers.new).told nodes.new.fleet) }
-    ensures on { PostsOn K.TELLS due.now.led.config.now
+    ensures under_way { IfSome (plan_at plans.new due.now.number) (IsUnderWay K.TELLS due.now.config.now (K.state keepers.new).told nodes.new.fleet) }
+    ensures on { PostsOn K.TELLS due.now.config.now
         (world nodes.old (K.state keepers.old) (L.shown link.old))
         (world nodes.new (K.state keepers.new) (L.shown link.new)) }
     ensures same { sessions_of sessions.new ≡ sessions_of sessions.old }
     ensures room { IfSome (plan_at plans.new due.now.number) (λ plan. HasRoomFor plan sessions.new) }
 {
     match room_for_last(plans, sessions, due.number) {
-        Ok(()) => plans.step(nodes, &due.led, keepers, link, due.number),
+        Ok(()) => plans.step(nodes, due.config, keepers, link, due.number),
         Err(OutOfMemory) => plans.give_up(due.number),
     }
 }
 
 impl<'c> Core<'c> {
-    /// Does the stage of a held plan that follows, with the leaders that are preferred for it.
+    /// Does the stage of a held plan that follows.
     pub(crate) fn step_plan<K: Keeper, L: Link>(
         &mut self,
         keepers: &mut K,
@@ -129,19 +130,14 @@ impl<'c> Core<'c> {
             (moment self.new (K.state keepers.new) (L.shown link.new)) }
         ensures usable { StaysUsable K.TELLS (K.state keepers.old) (K.state keepers.new) self.old self.new }
     {
-        let Some(plan) = self.plans.at(number) else {
-            unreachable!()
-        };
-        let leaders = self.plan_leaders(plan);
-        let led = Led {
-            config: self.config,
-            leaders,
-        };
         step_or_give_up(
             &mut self.plans,
             &mut self.sessions,
             &mut self.nodes,
-            &DueStage { led, number },
+            &DueStage {
+                config: self.config,
+                number,
+            },
             keepers,
             link,
         );

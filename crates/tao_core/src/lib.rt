@@ -19,23 +19,27 @@
 //! refill is the oldest of its follower, read at its floor; `hold` and `advance` do one stage each, and tell the
 //! one that follows, or the reply of the call that has ended; each open ask is that of one held read; what is
 //! shown as held is exact in its log, with the node's mark; nothing else changes a table, a session, a node or an
-//! inbox. The nodes are consistent before and after each call (`StaysUsable`), whichever are up, the stores sound and
+//! inbox. A node that goes down loses its items, asks, refills and messages, and keeps its low-water marks; one that comes
+//! up begins empty, where its region's stores are; a tier suspects a leader or trusts it; each tells whether that was a
+//! change, and where one is refused nothing changes. The nodes are consistent before and after each call (`StaysUsable`),
+//! whichever are up, the stores sound and
 //! covered; each message names an entry of its shard's log to which its node's store has come, and each key has come
-//! to the floors of the sessions. No request takes a node down yet. No low-water mark falls through a request, and who
+//! to the floors of the sessions. No low-water mark falls through a request, and who
 //! comes up is at its stores, so that after a settle each read that begins answers at the log's version until a log
-//! grows. What a node holds of a key, its mark for a shard, and a
-//! session's floor are told as they stand.
+//! grows, whichever nodes are down. What a node holds of a key, its mark for a shard, which is told as 0 where it is down,
+//! and a session's floor are told as they stand.
 //!
 //! The contracts that say so: `Core::open`, `Core::call`, `Core::settle`, `Core::item`, `Core::mark`,
 //! `Core::floor`; `AnswersRequest`, `AnswersCall`, `AnswersDeliver`, `AnswersSecond`,
 //! `AnswersLoss`, `AnswersRefill`, `AnswersShow`, `AnswersInbox`, `AnswersHold`, `AnswersAdvance`,
-//! `AnswersRepair`, `AnswersStream`, `AnswersSettle`, `IsAudit`, `IsCoreOf`; the law `settled_until_a_commit`.
+//! `AnswersRepair`, `AnswersStream`, `AnswersSettle`, `IsAudit`, `AnswersHealth`, `IsCoreOf`; the law `settled_until_a_commit`.
 #![tactic(auto)]
 
 mod audits;
 mod caches;
 mod calls;
 mod deliveries;
+mod health;
 mod holding;
 pub mod laws;
 mod links;

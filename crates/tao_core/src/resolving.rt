@@ -3,17 +3,16 @@ ghost use Rattle.std.specs.Prelude.{◌≡◌, IfOk};
 ghost use Rattle.core_sessions.specs.Sessions.{sessions_of};
 ghost use Rattle.outcomes.specs.Results.{Gives};
 ghost use Rattle.request_check.specs.Refusal.{replied, reply_unless_memory};
-ghost use Rattle.tao_core.specs.Asked.{CanBeDone, admitted, asked_of, held_plan, is_built, fresh_session, fresh_plan, not_built, open_session, plan_for};
+ghost use Rattle.tao_core.specs.Asked.{CanBeDone, admitted, asked_of, held_plan, fresh_session, fresh_plan, open_session, plan_for};
 ghost use Rattle.tao_core.specs.Asked.{named_plan, session_for, asking_session};
 
 use core_plans::HeldPlans;
 use core_sessions::Sessions;
-use replies::{LineRefused, PlanRefused, Refusal, Reply, SessionRefused};
+use replies::{PlanRefused, Refusal, Reply, SessionRefused};
 use request_check::{CheckRefusal, Checked, check};
 use requests::{Call, PlanRequest, Request};
 use std::alloc::Global;
 use topology::Config;
-use words::Word;
 
 /// The most sessions that may be open.
 const MOST_SESSIONS: usize = 1024;
@@ -21,9 +20,9 @@ const MOST_SESSIONS: usize = 1024;
 /// The most plans that may be held.
 const MOST_PLANS: usize = 512;
 
-/// What the request asks, or its first refusal: of a word that isn't built yet, then of its session,
-/// then of a name. What is asked can be done: its shard is configured, and a session is opened that
-/// isn't open yet. Costs what `request_check::check` does, and a binary search for the session.
+/// What the request asks, or its first refusal: of its plan, then of its session, then of a name.
+/// What is asked can be done: its shard is configured, and a session is opened that isn't open yet.
+/// Costs what `request_check::check` does, and a binary search for the session.
 pub(crate) fn resolve(
     alloc: Global,
     config: &Config,
@@ -40,33 +39,12 @@ pub(crate) fn resolve(
     }
 }
 
-/// Refuses a word that isn't built yet, and a plan or a session that the request may not name.
+/// Refuses a plan or a session that the request may not name.
 fn admit(sessions: &Sessions, plans: &HeldPlans, request: &Request) -> Result<(), Refusal>
     ensures { result ≡ admitted (sessions_of sessions.now) plans.now request.now }
 {
-    if !is_built(request.word()) {
-        return Err(not_built(request));
-    }
     plan_for(plans, request)?;
     session_for(sessions, request)
-}
-
-// ---- what is built
-
-/// Whether the word is served: all are but those that change the health of a node.
-fn is_built(word: Word) -> bool
-    ensures { result ≡ is_built word }
-{
-    !matches!(word, Word::Health(_))
-}
-
-/// That the request's word isn't built yet.
-fn not_built(request: &Request) -> Refusal
-    ensures { result ≡ not_built request.now }
-{
-    Refusal::Line(LineRefused::NotBuilt {
-        word: request.word(),
-    })
 }
 
 // ---- plans

@@ -1,6 +1,6 @@
 //! The core.
-ghost use Rattle.std.specs.Prelude.{◌≡◌, ◌<◌, Bool, Ok, IfOk, IfErr, false, length, option_copied};
-ghost use Rattle.core_nodes.specs.Shown.{IsHeldAt, IsMarkAt};
+ghost use Rattle.std.specs.Prelude.{◌≡◌, ◌<◌, Bool, Ok, IfOk, IfErr, if◌then◌else◌, false, length, option_copied};
+ghost use Rattle.core_nodes.specs.Shown.{IsHeldAt};
 ghost use Rattle.core_nodes.specs.Opening.{IsOpened, MayOpen, RefusesOpening};
 ghost use Rattle.graph_model.specs.Told.{WhereTold};
 ghost use Rattle.tao_core.specs.Asked.{CanBeDone, reply_as};
@@ -10,6 +10,7 @@ ghost use Rattle.core_model.specs.Stores.{AreStores, store_count};
 ghost use Rattle.core_model.specs.Consistent.{IsFleetOf};
 ghost use Rattle.core_model.specs.Evictions.{IsCacheOf};
 ghost use Rattle.tao_core.specs.CacheReplies.{AnswersEvict};
+ghost use Rattle.tao_core.specs.Deliveries.{TellsMark};
 ghost use Rattle.tao_core.specs.Replies.{AnswersAsked, AnswersOpen, AnswersRequest};
 ghost use Rattle.tao_keeper.specs.KeeperState.{KeeperState};
 ghost use Rattle.tao_link.specs.Shown.{LinkShown};
@@ -19,6 +20,7 @@ ghost use Rattle.std.specs.Option.{option_map};
 ghost use Rattle.tao_keeper.specs.Growing.{LogsGrow};
 ghost use Rattle.tao_keeper.specs.Table.{Tables};
 ghost use Rattle.tao_keeper.specs.KeeperState.{IsLater};
+ghost use Rattle.topology.specs.States.{is_up};
 
 use crate::links::perform_link;
 use crate::resolving::resolve;
@@ -107,7 +109,8 @@ impl<'c> Core<'c> {
     }
 
     /// Answers a request: opens a session, makes a write, answers a read or an audit, does a stage of a held call, delivers a message,
-    /// drops an item of a node, cuts or mends a link, streams an entry, runs a job, or settles; or refuses it. A write's one entry is committed before it is
+    /// drops an item of a node, puts a node down or up, lets a tier suspect or trust a leader, cuts or mends a link, streams an entry, runs a job, or
+    /// settles; or refuses it. A write's one entry is committed before it is
     /// answered, and its session learns it with the answer. After a refusal no log has changed, but where it tells the position of a write
     /// that stands, and but for the jobs that a repair or a settle had merged. Logs only grow.
     ///
@@ -163,7 +166,7 @@ impl<'c> Core<'c> {
             Checked::Plan(asked) => self.perform_plan(keepers, link, asked),
             Checked::Cache(asked) => self.perform_cache(alloc, keepers, link, asked),
             Checked::Store(asked) => self.perform_store(alloc, keepers, link, asked),
-            Checked::Health(_) => unreachable!(),
+            Checked::Health(asked) => self.perform_health(alloc, keepers, asked),
             Checked::Link(asked) => perform_link(link, asked),
         }
     }
@@ -177,11 +180,12 @@ impl<'c> Core<'c> {
     }
 
     /// The low-water mark of a leader or follower for the shard, up to which it has processed the shard's log; 0 where it doesn't serve
-    /// the shard. None exactly where the name is none of theirs.
+    /// the shard, or is down. None exactly where the name is none of theirs.
     pub fn mark(&self, node: NodeName, shard: u16) -> Option<u64>
-        ensures { IsMarkAt self.now.fleet node shard result }
+        ensures { TellsMark self.now node shard result }
     {
-        self.nodes.fleet.mark(node, shard)
+        let low = self.nodes.fleet.mark(node, shard)?;
+        Some(mark_told(&self.nodes.topology, node, low))
     }
 
     /// The version that a session's reads of the key have at least: the greatest that its writes which were carried out gave the key. None
@@ -224,6 +228,13 @@ impl<'c> Core<'c> {
         let evicted = self.nodes.fleet.evict(self.config, node, key);
         Reply::Node(NodeReply::Cache(CacheReply::Evicted { evicted }))
     }
+}
+
+/// What is told of the mark of a node, of which this is the low-water mark.
+fn mark_told(topology: &Topology, node: NodeName, low: u64) -> u64
+    ensures { result ≡ (if is_up topology.now node then low else 0) }
+{
+    if topology.is_up(node) { low } else { 0 }
 }
 
 /// The reply where nothing is asked.

@@ -8,7 +8,7 @@ pub returns-in-Ok-clause-steps : goal.returns-in-Ok-clause-steps
 returns-in-Ok-clause-steps g c =
     let state = g.K.Keeper.state in
     let shown = g.L.Link.shown in
-    advances g.K.Keeper.TELLS c.args.due.now.led.config.now c.args.due.now.led.leaders c.args.due.now.number c.args.plans.now c.step.new.self c.room_for_last.new.sessions
+    advances g.K.Keeper.TELLS c.args.due.now.config.now c.args.due.now.number c.args.plans.now c.step.new.self c.room_for_last.new.sessions
     (world c.args.nodes.now (state c.args.keepers.now) (shown c.args.link.now))
     (world c.step.new.nodes (state c.step.new.keepers) (shown c.step.new.link)) c.step.ensures.steps
 
@@ -16,7 +16,7 @@ pub returns-in-Ok-clause-room : goal.returns-in-Ok-clause-room
 returns-in-Ok-clause-room g c =
     let state = g.K.Keeper.state in
     let shown = g.L.Link.shown in
-    room_stepped g.K.Keeper.TELLS c.args.due.now.led.config.now c.args.due.now.led.leaders c.args.due.now.number c.args.plans.now c.step.new.self c.room_for_last.new.sessions
+    room_stepped g.K.Keeper.TELLS c.args.due.now.config.now c.args.due.now.number c.args.plans.now c.step.new.self c.room_for_last.new.sessions
     (state c.args.keepers.now).told c.args.nodes.now.fleet
     (world c.args.nodes.now (state c.args.keepers.now) (shown c.args.link.now))
     (world c.step.new.nodes (state c.step.new.keepers) (shown c.step.new.link))
@@ -26,18 +26,17 @@ pub returns-in-Err : goal.returns-in-Err
 returns-in-Err g c =
     let tells = g.K.Keeper.TELLS in
     let keepers = g.K.Keeper.state c.args.keepers.now in
-    let s = c.args.due.now.led.config.now in
+    let s = c.args.due.now.config.now in
     let fleet = c.args.nodes.now.fleet in
-    let leaders = c.args.due.now.led.leaders in
     let number = c.args.due.now.number in
     let plans = c.args.plans.now in
     let ends = c.give_up.ensures in
-    let can = can_under tells s keepers.told fleet leaders (plan_at plans number) c.requires.can in
+    let can = can_under tells s keepers.told fleet (plan_at plans number) c.requires.can in
     let now = world c.args.nodes.now keepers (g.L.Link.shown c.args.link.now) in
     record {
-      steps = ends_without tells s leaders number plans c.give_up.new.self c.room_for_last.new.sessions now ends.gives_up;
+      steps = ends_without tells s number plans c.give_up.new.self c.room_for_last.new.sessions now ends.gives_up;
       under_way = ends.under_way tells s keepers.told fleet can;
       on = posts_none tells s now c.requires.ready;
       same = c.room_for_last.ensures.same;
-      room = room_given tells s leaders number plans c.give_up.new.self c.room_for_last.new.sessions ends.gives_up;
+      room = room_given tells s number plans c.give_up.new.self c.room_for_last.new.sessions ends.gives_up;
     }

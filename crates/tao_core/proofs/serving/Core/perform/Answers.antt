@@ -1,4 +1,4 @@
-use Rattle.std.proofs.Common.{◌≡◌, Ok, ap, false, subst, sym, true}
+use Rattle.std.proofs.Common.{Ok, ap, subst, sym}
 use Rattle.tao_core.specs.Asked.{CanBeDone}
 use Rattle.tao_core.specs.Core.{moment}
 use Rattle.tao_core.specs.Replies.{AnswersAsked}
@@ -28,12 +28,12 @@ returns-in-Open g c =
           (opens_stay opened core.sessions c.open_session.result new.sessions can.0 ends.does);
     }
 
--- no word that changes the health of a node is served
-pub unreachable-requires : goal.unreachable-requires
-unreachable-requires g c =
-    let core = c.args.self.now in
-    let no : false ≡ true = subst (CanBeDone core.settings core.sessions core.plans) c.in-Health.is c.requires.can in
-    absurd (cc)
+pub returns-in-Health-clause-does : goal.returns-in-Health-clause-does
+returns-in-Health-clause-does g c =
+    let link = g.L.Link.shown c.args.link.now in
+    let old = moment c.args.self.now (g.K.Keeper.state c.args.keepers.now) link in
+    let new = moment c.perform_health.new.self (g.K.Keeper.state c.perform_health.new.keepers) link in
+    subst (λ a. AnswersAsked g.K.Keeper.TELLS old (Ok a) c.perform_health.result new) (sym c.in-Health.is) (c.perform_health.ensures.does link)
 
 pub returns-in-Link-clause-usable : goal.returns-in-Link-clause-usable
 returns-in-Link-clause-usable g c = core_unchanged g.K.Keeper.TELLS (g.K.Keeper.state c.args.keepers.now) c.args.self.now c.requires.keepers

@@ -1,10 +1,9 @@
-use Rattle.std.proofs.Common.{◌≡◌, ap, refl, subst, sym, ◌∙◌}
-use Rattle.std.specs.Prelude.{option_copied}
+use Rattle.std.proofs.Common.{refl, subst, sym, ◌∙◌}
+use Rattle.std.specs.Prelude.{IsSome}
 use Rattle.core_plans.specs.Held.{OpensFirst, plan_at}
 use Rattle.core_sessions.specs.Sessions.{sessions_of}
 use Rattle.graph_model.proofs.Members.{if_some}
 use Rattle.tao_core.specs.Core.{CoreState, IsCoreOf, IsOfSession, core_state}
-use Rattle.tao_core.specs.HeldCalls.{AreLeaders, IsOfRegion, plan_leaders}
 use Rattle.tao_core.proofs.HeldKeeping.{can_step}
 use Rattle.tao_core.proofs.Keeping.{core_can_post}
 use Rattle.tao_core.proofs.HeldStages.{end_leaves, may_here, next_leaves}
@@ -19,14 +18,9 @@ step_or_give_up-requires-clause-ready g c =
 pub step_or_give_up-requires-clause-can : goal.step_or_give_up-requires-clause-can
 step_or_give_up-requires-clause-can g c =
     let tables = (g.K.Keeper.state c.args.keepers.now).told in
-    let of = subst (IsCoreOf g.K.Keeper.TELLS tables) (sym c.self.view_is) c.requires.keepers in
-    let leaders = c.plan_leaders-leaders.result in
-    let plan = c.in-Some.plan.now in
-    can_step g.K.Keeper.TELLS tables (core_state c.self.inside) of c.args.number plan leaders
-    (sym c.at.ensures ∙ ap option_copied c.in-Some.is)
-    (subst (λ (x : CoreState). leaders ≡ plan_leaders x plan) (sym c.self.view_is) c.plan_leaders-leaders.ensures.is)
-    (subst (λ (x : CoreState). IsOfRegion x.states plan → AreLeaders x.states leaders) (sym c.self.view_is)
-    c.plan_leaders-leaders.ensures.configured)
+    can_step g.K.Keeper.TELLS tables (core_state c.self.inside) c.args.number
+    (subst (IsCoreOf g.K.Keeper.TELLS tables) (sym c.self.view_is) c.requires.keepers)
+    (subst (λ (x : CoreState). IsSome (plan_at x.plans c.args.number)) (sym c.self.view_is) c.requires.there)
 
 pub step_or_give_up-requires-clause-author : goal.step_or_give_up-requires-clause-author
 step_or_give_up-requires-clause-author g c =
@@ -44,22 +38,20 @@ end_plan-requires-clause-may g c =
     let shown = g.L.Link.shown in
     let did = c.step_or_give_up in
     may_here g.K.Keeper.TELLS c.args.number (core_state c.self.inside) c.args.self.now c.self.view_is did.new.nodes did.new.plans
-    (sessions_of did.new.sessions) (state c.args.keepers.now) (state did.new.keepers) (shown c.args.link.now) (shown did.new.link) c.in-Some.plan.now
-    c.plan_leaders-leaders.result c.requires.keepers (sym c.at.ensures ∙ ap option_copied c.in-Some.is) c.plan_leaders-leaders.ensures.is did.ensures.steps
-    did.ensures.under_way did.ensures.on did.ensures.same
+    (sessions_of did.new.sessions) (state c.args.keepers.now) (state did.new.keepers) (shown c.args.link.now) (shown did.new.link)
+    c.requires.keepers did.ensures.steps did.ensures.under_way did.ensures.on did.ensures.same
     did.new.sessions did.ensures.same did.ensures.room
 
-pub returns-in-Some-next_at : goal.returns-in-Some-next_at
-returns-in-Some-next_at g c =
+pub returns-in-Some : goal.returns-in-Some
+returns-in-Some g c =
     let state = g.K.Keeper.state in
     let shown = g.L.Link.shown in
     let did = c.step_or_give_up in
     let done =
     next_leaves g.K.Keeper.TELLS c.args.number (core_state c.self.inside) c.args.self.now c.self.view_is did.new.nodes did.new.plans
-    (sessions_of did.new.sessions) (state c.args.keepers.now) (state did.new.keepers) (shown c.args.link.now) (shown did.new.link) c.in-Some.plan.now
-    c.plan_leaders-leaders.result c.requires.keepers (sym c.at.ensures ∙ ap option_copied c.in-Some.is) c.plan_leaders-leaders.ensures.is did.ensures.steps
-    did.ensures.under_way did.ensures.on did.ensures.same
-    c.args.word c.in-Some-next_at.next _ (sym c.next_at.ensures ∙ c.in-Some-next_at.is) refl in
+    (sessions_of did.new.sessions) (state c.args.keepers.now) (state did.new.keepers) (shown c.args.link.now) (shown did.new.link)
+    c.requires.keepers did.ensures.steps did.ensures.under_way did.ensures.on did.ensures.same
+    c.args.word c.in-Some.next _ (sym c.next_at.ensures ∙ c.in-Some.is) refl in
     record { steps = done.steps; usable = done.usable }
 
 pub returns-in-None : goal.returns-in-None
@@ -69,8 +61,7 @@ returns-in-None g c =
     let did = c.step_or_give_up in
     let done =
     end_leaves g.K.Keeper.TELLS c.args.number (core_state c.self.inside) c.args.self.now c.self.view_is did.new.nodes did.new.plans
-    (sessions_of did.new.sessions) (state c.args.keepers.now) (state did.new.keepers) (shown c.args.link.now) (shown did.new.link) c.in-Some.plan.now
-    c.plan_leaders-leaders.result c.requires.keepers (sym c.at.ensures ∙ ap option_copied c.in-Some.is) c.plan_leaders-leaders.ensures.is did.ensures.steps
-    did.ensures.under_way did.ensures.on did.ensures.same
+    (sessions_of did.new.sessions) (state c.args.keepers.now) (state did.new.keepers) (shown c.args.link.now) (shown did.new.link)
+    c.requires.keepers did.ensures.steps did.ensures.under_way did.ensures.on did.ensures.same
     c.args.word c.end_plan.new.plans (sessions_of c.end_plan.new.sessions) c.end_plan.result (sym c.next_at.ensures ∙ c.in-None.is) c.end_plan.ensures in
     record { steps = done.steps; usable = done.usable }

@@ -4,7 +4,7 @@ use Rattle.tao_core.specs.Calls.{world_at}
 use Rattle.tao_core.specs.Core.{CoreState, IsConsistentCore, LeavesCore, core_state}
 use Rattle.tao_core.proofs.Keeping.{core_can_post}
 use Rattle.tao_core.proofs.Settled.{left_core}
-use Rattle.tao_core.proofs.Streamed.{posted_leaves, streamed_same, unchanged_leaves}
+use Rattle.tao_core.proofs.Streamed.{posted_leaves, streamed_same}
 use Rattle.tao_core.proofs.serving.Core.stream.Goals as goal
 
 pub stream_over-outcome-requires-clause-ready : goal.stream_over-outcome-requires-clause-ready

@@ -1,5 +1,5 @@
--- The worked run is one of the promise, and the five replies are none.
-use Rattle.std.proofs.Common.{◌≡◌, ◌<◌, ◌≤◌, ◌∷◌, [], ℕ, zero, suc, Bool, true, false, List, Option, Some, None, length, ap, sym, refl, subst, arith}
+-- The worked run is one of the promise, and the seven replies are none.
+use Rattle.std.proofs.Common.{◌≡◌, ◌<◌, ◌≤◌, ◌∷◌, [], ℕ, zero, suc, Bool, true, false, List, Option, Some, None, length, ap, sym, refl, subst, arith, ◌∙◌}
 use Rattle.std.proofs.Common.{append-nil, inl, inr}
 use Rattle.std.specs.Prelude.{Contains, filter_map, not, slice_index_or}
 use Rattle.std.proofs.lemmas.List.{take_all}
@@ -7,7 +7,7 @@ use Rattle.std.proofs.lemmas.List.Elements.{Contains-get_or}
 use Rattle.graph_model.specs.Legal.{floor}
 use Rattle.graph_model.specs.Log.{entry_at}
 use Rattle.graph_model.specs.Soundness.{EdgeUpdate, other_end, updates_of}
-use Rattle.plain_promise.specs.Example.{FiveAreRefused, SixLinesRun, added_at_1, adds, at_first, both_ends, list_from_store, list_kept}
+use Rattle.plain_promise.specs.Example.{SevenAreRefused, SixLinesRun, added_at_1, adds, at_first, both_ends, list_from_store, list_kept}
 use Rattle.plain_promise.specs.Example.{once_settled, once_written, reads_list, with_log}
 use Rattle.plain_promise.specs.Promise.{AnswersSameAgain, AreSameReplies, EachGrows, HasEachOnce, IsWellKept, KeepsPromise, Logs, RunsPlainly, Said}
 use Rattle.plain_promise.specs.Promise.{gained}
@@ -27,7 +27,7 @@ use Rattle.tao_base.specs.declared.id.Key.TheVariants.{List as Assocs}
 use Rattle.tao_base.specs.declared.query.Answer.TheVariants.{Edges as EdgesAre}
 use Rattle.write_model.proofs.Growing.{entry_at-within}
 use Rattle.write_model.specs.Examples.{edge, far, far_follow, first_add, followed_by, likes, one_type}
-use Rattle.write_model.specs.Merges.{AreThere, job_of, log_of}
+use Rattle.write_model.specs.Merges.{AreThere, Stores, job_of, log_of}
 use Rattle.write_model.specs.Writes.{is_near, when}
 
 -- ---- logs of one entry at most
@@ -222,7 +222,7 @@ six_lines_run = record {
   );
 }
 
--- ---- five replies that are refused
+-- ---- seven replies that are refused
 
 abbrev merged_entry : Entry
 merged_entry = record {
@@ -243,8 +243,8 @@ far_alone there = by there.0 there.1 there.2
     by zero within is = (let same : Client 1 1 ≡ Merge 0 1 = ap (λ (e : Entry). e.origin) is in absurd (cc (same)))
     by (suc n) within is = absurd (let one : length far_follow ≡ 1 = refl in omega (arith, one, within))
 
-pub five_are_refused : FiveAreRefused
-five_are_refused = record {
+pub seven_are_refused : SevenAreRefused
+seven_are_refused = record {
   below_floor = λ new says.
       let reached : floor first_add (query_key reads_list.query) ≤ 0 = says.says.legal.reached in
       let least : floor first_add (query_key reads_list.query) ≡ 1 = refl in
@@ -257,6 +257,12 @@ five_are_refused = record {
         absurd (cc (none)))
     | inr nothing ↦ (let place : 1 ≡ 0 = nothing.position_is in absurd (cc (place)))
   ];
+  not_there = λ new stores says.
+      let entry = says.says.0 in
+      let stands = subst (λ s. entry_at (log_of s.logs 0) entry.position ≡ Some entry) stores says.says.1.stands in
+      let none : None ≡ Some entry = subst (λ n. entry_at [] n ≡ Some entry) says.says.2 stands in
+      absurd (cc (none));
+  not_told = λ new stores says. (let same : first_add ≡ [] = ap (λ l. log_of l 0) (ap (λ (s : Stores). s.logs) (sym stores) ∙ says.says) in absurd (cc (same)));
   job_open = λ new us stores says.
       let none : Some us ≡ None = subst (λ s. s.job 0 0 ≡ None) stores (says.says.none 0 0) in
       absurd (cc (none));

@@ -1,5 +1,6 @@
--- A run of six lines, worked: a session opens, adds an edge, reads it twice, audits its list, and settles. And five replies that are no step of the promise.
+-- A run of six lines, worked: a session opens, adds an edge, reads it twice, audits its list, and settles. And seven replies that are no step of the promise.
 use Rattle.std.specs.Prelude.{◌≡◌, ◌∷◌, ◌==◌, [], true, false, List, Some, None, if◌then◌else◌}
+use Rattle.node_name.specs.declared.NodeName.TheVariants.{Follower}
 use Rattle.plain_promise.specs.Promise.{Logs, Plain, RunsPlainly, Said, SaysPlainly}
 use Rattle.replies.specs.declared.calls.CallReply.TheVariants as called
 use Rattle.replies.specs.declared.calls.InverseEnd.TheVariants as inverse
@@ -7,7 +8,12 @@ use Rattle.replies.specs.declared.calls.ReadReply.{ReadReply}
 use Rattle.replies.specs.declared.calls.WriteKind.TheVariants as kind
 use Rattle.replies.specs.declared.calls.WriteReply.{WriteReply}
 use Rattle.replies.specs.declared.nodes.KeptOrNot.TheVariants.{Kept}
-use Rattle.replies.specs.declared.reply.Reply.TheVariants.{Audited, Called, Opened, Settled}
+use Rattle.replies.specs.declared.refusals.NodeRefused.TheVariants.{NodeDown}
+use Rattle.replies.specs.declared.refusals.Refusal.TheVariants.{Node as OfNode}
+use Rattle.replies.specs.declared.refusals.When.{When}
+use Rattle.replies.specs.declared.refusals.When.TheVariants.{After, Before}
+use Rattle.replies.specs.declared.reply.Reply.{Reply}
+use Rattle.replies.specs.declared.reply.Reply.TheVariants.{Audited, Called, Opened, Refused, Settled}
 use Rattle.request_check.specs.declared.checked.Checked.{Checked}
 use Rattle.request_check.specs.declared.checked.Checked.TheVariants as asks
 use Rattle.request_check.specs.declared.stores.CheckedStore.TheVariants.{Audit, Settle}
@@ -101,12 +107,20 @@ followed_at_1 = record { kind = kind.AssocAdd; written = record { changed = true
 abbrev pub both_ends : Logs
 both_ends = far_follow ∷ after_merges 0 [] far_follow ∷ []
 
--- these five replies are no step of the promise, whatever state they lead to
-pub record FiveAreRefused : Type 0 where
+-- a write is refused since a node is down, after its entry stands or before
+abbrev pub node_is_down : When → Reply
+node_is_down when = Refused (OfNode (NodeDown (Follower 0 0 0) when))
+
+-- these seven replies are no step of the promise, whatever state they lead to
+pub record SevenAreRefused : Type 0 where
   -- a read below its session's floor
   pub below_floor : (new : Plain) → SaysPlainly one_type once_written (Some (asks.Call (Read reads_list))) (Called (called.Read list_before)) new → ⊥
   -- a write that is acknowledged and doesn't stand
   pub not_standing : (new : Plain) → new.stores ≡ with_log [] → SaysPlainly one_type at_first (Some adds) (Called (called.Write added_at_1)) new → ⊥
+  -- a write that is refused with an entry that doesn't stand
+  pub not_there : (new : Plain) → new.stores ≡ with_log [] → SaysPlainly one_type at_first (Some adds) (node_is_down (After 1)) new → ⊥
+  -- a write that is refused without the entry that its line has written
+  pub not_told : (new : Plain) → new.stores ≡ with_log first_add → SaysPlainly one_type at_first (Some adds) (node_is_down Before) new → ⊥
   -- a settle that leaves an open job
   pub job_open : (new : Plain) (us : List EdgeUpdate) → new.stores ≡ job_left us
       → SaysPlainly one_type once_written (Some (asks.Store Settle)) (Settled (1 ∷ [])) new → ⊥

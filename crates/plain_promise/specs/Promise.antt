@@ -21,8 +21,9 @@ use Rattle.replies.specs.declared.nodes.Shown.TheVariants.{Held}
 use Rattle.replies.specs.declared.nodes.ShownItem.{ShownItem}
 use Rattle.replies.specs.declared.nodes.ShownItem.TheVariants as shown
 use Rattle.replies.specs.declared.plans.PlanReply.TheVariants.{Next, Ended}
+use Rattle.replies.specs.declared.refusals.NodeRefused.TheVariants.{NodeDown}
 use Rattle.replies.specs.declared.refusals.Refusal.{Refusal}
-use Rattle.replies.specs.declared.refusals.Refusal.TheVariants.{Memory, Store}
+use Rattle.replies.specs.declared.refusals.Refusal.TheVariants.{Memory, Node as OfNode, Store}
 use Rattle.replies.specs.declared.refusals.StoreRefused.TheVariants.{LinkFault}
 use Rattle.replies.specs.declared.refusals.When.TheVariants.{After}
 use Rattle.replies.specs.declared.reply.Reply.{Reply}
@@ -165,6 +166,7 @@ pub record IsAcknowledged (types : EdgeTypes) (began : Begun) (call : CheckedWri
 abbrev pub refused_at : Refusal → ℕ
 refused_at (Memory position) = position
 refused_at (Store (LinkFault count (After position))) = position
+refused_at (OfNode (NodeDown node (After position))) = position
 refused_at other = 0
 
 -- a line of a call was refused, with this position: with 0 no log changed, and else the write's entry stands there

@@ -7,7 +7,7 @@
 #![tactic(auto)]
 
 ghost use Rattle.std.specs.Prelude.{List};
-ghost use Rattle.plain_promise.specs.Example.{FiveAreRefused, SixLinesRun};
+ghost use Rattle.plain_promise.specs.Example.{SevenAreRefused, SixLinesRun};
 ghost use Rattle.plain_promise.specs.Promise.{Plain, Said, StandsFromThenOn};
 ghost use Rattle.tao_base.specs.EdgeTypes.{EdgeTypes};
 
@@ -23,9 +23,9 @@ pub fn six_lines_run()
     ensures { SixLinesRun }
 {}
 
-/// A read below its session's floor, an acknowledged write that doesn't stand, or whose other end its session wasn't told of, a settle that leaves a job
-/// and an audit of a front are none.
-#[tactic(auto, using(crate::proofs::ExampleLemmas::five_are_refused))]
-pub fn five_are_refused()
-    ensures { FiveAreRefused }
+/// A read below its session's floor, an acknowledged write that doesn't stand, or whose other end its session wasn't told of, a write that is refused with
+/// an entry that doesn't stand, or without the one that does, a settle that leaves a job and an audit of a front are none.
+#[tactic(auto, using(crate::proofs::ExampleLemmas::seven_are_refused))]
+pub fn seven_are_refused()
+    ensures { SevenAreRefused }
 {}

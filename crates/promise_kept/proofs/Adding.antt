@@ -13,13 +13,14 @@ use Rattle.core_nodes.proofs.JobLemmas.{of_job}
 use Rattle.core_nodes.specs.Repairs.{owed_entry}
 use Rattle.core_plans.specs.Held.{learnt_here, learnt_of_write}
 use Rattle.core_plans.specs.declared.held.LearntEntries.{LearntEntries}
-use Rattle.core_steps.specs.OtherEnds.{JobWay, LeavesJob, MergesOver, TakesMerge, known_of, learnt_far}
+use Rattle.core_steps.specs.OtherEnds.{JobWay, LeavesJob, MergesAlong, MergesBy, SentJob, TakesMerge, job_way, known_of, learnt_far}
 use Rattle.core_steps.specs.Posting.{ChangesNoNode}
 use Rattle.core_steps.specs.World.{World}
 use Rattle.core_steps.specs.Writes.{StepsAs}
 use Rattle.graph_model.specs.Log.{entry_at}
 use Rattle.master_tables.proofs.Calls.{numbers_are_positions}
 use Rattle.master_tables.proofs.Each.{each_length}
+use Rattle.node_name.specs.declared.NodeName.{NodeName}
 use Rattle.plain_promise.proofs.PromiseLaws.{grown_by}
 use Rattle.plain_promise.specs.Promise.{EachGrows, Logs, gained}
 use Rattle.promise_kept.proofs.Going.{log_is, same_logs}
@@ -249,21 +250,26 @@ module _ (s : Settings) (old new : World) where
     left_adds : (way : JobWay) (why : ScheduledWhy) (wrote : Option Wrote)
         → ((w : Wrote) → wrote ≡ Some w → (e : Entry) → w.entry ≡ Some e → IsToldOf told e) → LeavesJob true s way (left.Scheduled why wrote) old new
         → AddsTold Was.logs Now.logs told
-    left_adds way why.NoServer None has h = rests (ap (λ (x : World). (stores_in s x.keepers.told).logs) h.1)
     left_adds way why.LinkFault None has h = no_node h.2
     left_adds way why.LinkFault (Some wrote) has h = taken_adds way wrote (has wrote refl) h.2
     left_adds way why.KeeperFault None has h = no_node h.1
     left_adds way why.LogFull None has h = no_node h.1
     left_adds way why.Memory None has h = no_node h.0
-    left_adds way why.NoServer (Some wrote) has h = absurd h
+    left_adds way why.NoServer wrote has h = absurd h
     left_adds way why.KeeperFault (Some wrote) has h = absurd h
     left_adds way why.LogFull (Some wrote) has h = absurd h
     left_adds way why.Memory (Some wrote) has h = absurd h
 
     -- of what a merge adds its answer tells, also where that was lost on its way back
-    pub merge_adds : (way : JobWay) (result : Result Wrote LeftOpen)
-        → ((w : Wrote) → known_of result ≡ Some w → (e : Entry) → w.entry ≡ Some e → IsToldOf told e) → MergesOver true s way result old new
-        → AddsTold Was.logs Now.logs told
-    merge_adds way (Ok wrote) has merges = taken_adds way wrote (has wrote refl) merges.0
-    merge_adds way (Err (left.Scheduled why wrote)) has merges = left_adds way why wrote has merges
-    merge_adds way (Err (left.Refused reply)) has merges = absurd merges
+    abbrev TellsKnown : Result Wrote LeftOpen → Type 0
+    TellsKnown result = (w : Wrote) → known_of result ≡ Some w → (e : Entry) → w.entry ≡ Some e → IsToldOf told e
+
+    along_adds : (way : JobWay) (result : Result Wrote LeftOpen) → TellsKnown result → MergesAlong true s way result old new → AddsTold Was.logs Now.logs told
+    along_adds way (Ok wrote) has merges = taken_adds way wrote (has wrote refl) merges.0
+    along_adds way (Err (left.Scheduled why wrote)) has merges = left_adds way why wrote has merges
+    along_adds way (Err (left.Refused reply)) has merges = absurd merges
+
+    pub merge_adds : (merging : Option NodeName) (sent : SentJob) (result : Result Wrote LeftOpen) → TellsKnown result
+        → MergesBy true s merging sent result old new → AddsTold Was.logs Now.logs told
+    merge_adds (Some merging) sent result has merges = along_adds (job_way sent merging) result has merges
+    merge_adds None sent result has none = rests (ap (λ (x : World). (stores_in s x.keepers.told).logs) none.1)

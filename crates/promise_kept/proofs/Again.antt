@@ -1,33 +1,37 @@
 -- A read that was told as kept is answered the same where the next line asks it again.
-use Rattle.std.proofs.Common.{◌≡◌, ◌≤◌, ◌||◌, ◌∙◌, ◌⊎◌, ℕ, true, false, List, refl, sym, ap, subst, inl, inr}
+use Rattle.std.proofs.Common.{◌≡◌, ◌≤◌, ◌||◌, ◌∙◌, ◌⊎◌, ℕ, true, false, List, Some, None, refl, sym, ap, subst, inl, inr}
 use Rattle.core_model.proofs.Places.{one_some}
 use Rattle.core_plans.proofs.InTurn.{IsSameRead, read_same}
 use Rattle.core_plans.proofs.WholeRuns.{OfRead, read_keeps}
 use Rattle.core_plans.specs.Held.{IsOver, StepsReadAlone, learnt_with}
-use Rattle.core_plans.specs.HeldReads.{DoesLook, DoesReadStage, EndsLegally, at_bound}
-use Rattle.core_plans.specs.LedBy.{led_by}
+use Rattle.core_plans.specs.HeldReads.{ComesOfRead, DoesLook, DoesReadStage, EndsLegally, at_bound, read_is_down}
+use Rattle.core_plans.specs.LedBy.{rules_of}
+use Rattle.core_plans.specs.Needs.{first_down, read_needs}
 use Rattle.core_plans.specs.WholeCalls.{CarriesOut, PassesStage}
 use Rattle.core_plans.specs.declared.held.HeldPlan.{HeldPlan}
 use Rattle.core_plans.specs.declared.held.HeldPlan.TheVariants as of
 use Rattle.core_plans.specs.declared.held.LearntEntries.{LearntEntries}
-use Rattle.core_plans.specs.declared.leaders.Leaders.{Leaders}
 use Rattle.core_sessions.specs.Sessions.{Session, session_at}
 use Rattle.core_steps.specs.Reads.{AnswersAgain}
 use Rattle.core_steps.specs.World.{World}
 use Rattle.hop_count.specs.Hops.{hops_after}
 use Rattle.node_name.specs.declared.NodeName.{NodeName}
 use Rattle.plain_promise.specs.Promise.{AreSameReplies}
+use Rattle.promise_kept.proofs.Refusing.{refused_standing}
 use Rattle.promise_kept.specs.Lines.{IsLine, KeptAnswersAgain}
 use Rattle.read_plan.specs.Ends.{EndsAt, EndsWith}
 use Rattle.read_plan.specs.Readings.{Reading, new_reading}
-use Rattle.read_plan.specs.Standings.{after_look}
+use Rattle.read_plan.specs.Standings.{after_look, stage_of}
+use Rattle.read_plan.specs.declared.end.ReadEnd.{ReadEnd}
 use Rattle.read_plan.specs.declared.end.ReadEnd.TheVariants as ended
 use Rattle.read_plan.specs.declared.standing.Standing.TheVariants.{Ended, Looking}
 use Rattle.replies.specs.declared.calls.CallReply.TheVariants as called
 use Rattle.replies.specs.declared.calls.ReadReply.{ReadReply}
 use Rattle.replies.specs.declared.nodes.KeptOrNot.TheVariants.{Kept}
+use Rattle.replies.specs.declared.refusals.NodeRefused.TheVariants.{NodeDown}
 use Rattle.replies.specs.declared.refusals.Refusal.{Refusal}
-use Rattle.replies.specs.declared.refusals.Refusal.TheVariants.{Memory}
+use Rattle.replies.specs.declared.refusals.Refusal.TheVariants.{Memory, Node}
+use Rattle.replies.specs.declared.refusals.When.TheVariants.{Before}
 use Rattle.replies.specs.declared.reply.Reply.{Reply}
 use Rattle.replies.specs.declared.reply.Reply.TheVariants.{Called, Refused}
 use Rattle.request_check.specs.declared.checked.Checked.TheVariants as asks
@@ -37,7 +41,7 @@ use Rattle.session_pass.specs.Floors.{floor_at}
 use Rattle.tao_base.specs.Queries.{query_key, query_shard}
 use Rattle.tao_core.specs.Calls.{world_of}
 use Rattle.tao_core.specs.Core.{CoreState, Moment}
-use Rattle.tao_core.specs.HeldCalls.{AnswersCall, CallGoes, LearnsOf, plan_leaders}
+use Rattle.tao_core.specs.HeldCalls.{AnswersCall, CallGoes, LearnsOf}
 use Rattle.tao_schema.specs.Schema.{types_of}
 use Rattle.topology.specs.Choices.{chosen_follower}
 use Rattle.topology.specs.Config.{Settings}
@@ -50,10 +54,10 @@ record IsFirst (s : Settings) (p q : Reading) (now : World) : Type 0 where
   same : IsSameRead p q
   legal : EndsLegally true s q now
 
-first_on : (s : Settings) (leaders : Leaders) (p m q : Reading) (old new : World) → IsFirst s p m old
-    → PassesStage (led_by true s leaders) (of.Read m) old (of.Read q) new → IsFirst s p q new
-first_on s leaders p m q old new so stage =
-    let next = read_same m q old new (led_by true s leaders) m.at stage.steps.steps.does in
+first_on : (s : Settings) (p m q : Reading) (old new : World) → IsFirst s p m old
+    → PassesStage (rules_of true s) (of.Read m) old (of.Read q) new → IsFirst s p q new
+first_on s p m q old new so stage =
+    let next = read_same m q old new (rules_of true s) stage.steps.steps.does in
     record {
       same = record {
         query = next.query ∙ so.same.query;
@@ -96,7 +100,7 @@ record WasRefused (q : Reading) : Type 0 where
   refusal : Refusal
   at : q.at ≡ Ended (ended.Refused (Refused refusal))
 
--- nothing was done yet, or it was a hit, or memory was wanting
+-- nothing was done yet, or it was a hit, or it was refused
 abbrev IsSecond : Reading → World → ReadReply → Reading → World → Type 0
 IsSecond p start a q now = ((q ≡ p) × (now ≡ start)) ⊎ (IsHit a q ⊎ WasRefused q)
 
@@ -104,7 +108,7 @@ abbrev read_in : ReadReply → Reply → ReadReply
 read_in other (Called (called.Read reply)) = reply
 read_in other reply = other
 
-module _ (s : Settings) (leaders : Leaders) (p : Reading) (start : World) (a : ReadReply) (plain : p.critical ≡ false) (at : p.at ≡ Looking)
+module _ (s : Settings) (p : Reading) (start : World) (a : ReadReply) (plain : p.critical ≡ false) (at : p.at ≡ Looking)
     (hops : p.hops ≡ 0) (store : p.store ≡ false)
     (again : AnswersAgain (types_of s.schema) p.follower p.query a start.fleet.followers) (least : p.floor ≤ a.version) where
   hits : (q : Reading) (new : World) → DoesLook s false p start q new → IsHit a q ⊎ WasRefused q
@@ -118,20 +122,34 @@ module _ (s : Settings) (leaders : Leaders) (p : Reading) (start : World) (a : R
       })
   hits q new (inr vain) = inr (record { refusal = Memory 0; at = ap (λ (r : Reading). r.at) vain.then })
 
-  looks_first : (q : Reading) (new : World) → StepsReadAlone (led_by true s leaders) p start q new → IsHit a q ⊎ WasRefused q
+  looks_first : (q : Reading) (new : World) → StepsReadAlone (rules_of true s) p start q new → IsHit a q ⊎ WasRefused q
   looks_first q new steps =
-      hits q new (subst (λ c. DoesLook s c p start q new) plain
-      (subst (λ x. DoesReadStage (led_by true s leaders) x p start q new) at steps.steps.does))
+      by steps.steps.does
+    where
+      by : ComesOfRead (rules_of true s) p start q new → IsHit a q ⊎ WasRefused q
+      by (inl next) = hits q new (subst (λ c. DoesLook s c p start q new) plain
+          (subst (λ x. DoesReadStage (rules_of true s) x p start q new) at next.does))
+      by (inr down) = inr (record {
+        refusal = Node (NodeDown down.node Before);
+        at = ap (λ (r : Reading). r.at) down.then ∙ refused_standing p.critical p.bound p.at (read_is_down down.node);
+      })
 
-  second_on : (m q : Reading) (old new : World) → IsSecond p start a m old → PassesStage (led_by true s leaders) (of.Read m) old (of.Read q) new
+  -- no stage is done of a read that is over
+  over_rests : (m q : Reading) (old new : World) (end : ReadEnd) → m.at ≡ Ended end → ComesOfRead (rules_of true s) m old q new → ⊥
+  over_rests m q old new end over (inl next) = absurd (subst (λ x. DoesReadStage (rules_of true s) x m old q new) over next.does)
+  over_rests m q old new end over (inr down) =
+      let none : None ≡ Some down.node = subst (λ x. first_down old.states (read_needs (stage_of x) m) ≡ Some down.node) over down.down in
+      absurd (cc (none))
+
+  second_on : (m q : Reading) (old new : World) → IsSecond p start a m old → PassesStage (rules_of true s) (of.Read m) old (of.Read q) new
       → IsSecond p start a q new
   second_on m q old new (inl none) stage =
-      inr (looks_first q new (subst (λ r. StepsReadAlone (led_by true s leaders) r start q new) none.0
-      (subst (λ x. StepsReadAlone (led_by true s leaders) m x q new) none.1 stage.steps)))
+      inr (looks_first q new (subst (λ r. StepsReadAlone (rules_of true s) r start q new) none.0
+      (subst (λ x. StepsReadAlone (rules_of true s) m x q new) none.1 stage.steps)))
   second_on m q old new (inr (inl hit)) stage =
-      absurd (subst (λ x. DoesReadStage (led_by true s leaders) x m old q new) hit.at stage.steps.steps.does)
+      absurd (over_rests m q old new _ hit.at stage.steps.steps.does)
   second_on m q old new (inr (inr refused)) stage =
-      absurd (subst (λ x. DoesReadStage (led_by true s leaders) x m old q new) refused.at stage.steps.steps.does)
+      absurd (over_rests m q old new _ refused.at stage.steps.steps.does)
 
   second_says : (after : HeldPlan) (end : World) (b : ReadReply) → OfRead (IsSecond p start a) after end → IsOver after (Called (called.Read b))
       → AreSameReplies a b
@@ -150,11 +168,11 @@ module _ (s : Settings) (leaders : Leaders) (p : Reading) (start : World) (a : R
       let told : Called (called.Read b) ≡ Refused refused.refusal = subst (λ x. EndsAt x q (Called (called.Read b))) refused.at over in
       absurd (cc (told))
 
-  second_reads : (after : HeldPlan) (end : World) (b : ReadReply) → CarriesOut (led_by true s leaders) (of.Read p) start after end
+  second_reads : (after : HeldPlan) (end : World) (b : ReadReply) → CarriesOut (rules_of true s) (of.Read p) start after end
       → IsOver after (Called (called.Read b)) → AreSameReplies a b
   second_reads after end b carries over =
       second_says after end b
-      (read_keeps (led_by true s leaders) (IsSecond p start a) second_on carries.stages p after start end (inl (refl, refl)) carries.passes) over
+      (read_keeps (rules_of true s) (IsSecond p start a) second_on carries.stages p after start end (inl (refl, refl)) carries.passes) over
 
 -- ---- both
 
@@ -173,10 +191,9 @@ module _ (old mid new : Moment) (read : CheckedRead) (a b : ReadReply) (plain : 
   done : FirstDone old.core.settings first_read a old.core.sessions mid
   done =
       let s = old.core.settings in
-      let leaders = plan_leaders old.core one.plan in
-      let carries = subst (λ plan. CarriesOut (led_by true s leaders) plan (world_of old) one.does.after (world_of mid)) one.begun.plan_is one.does.carries in
+      let carries = subst (λ plan. CarriesOut (rules_of true s) plan (world_of old) one.does.after (world_of mid)) one.begun.plan_is one.does.carries in
       first_done s first_read a old.core.sessions mid one.does.after (learnt_with (Called (called.Read a)) one.does.after)
-      (read_keeps (led_by true s leaders) (IsFirst s first_read) (first_on s leaders first_read) carries.stages first_read one.does.after (world_of old)
+      (read_keeps (rules_of true s) (IsFirst s first_read) (first_on s first_read) carries.stages first_read one.does.after (world_of old)
       (world_of mid) (record {
         same = record { query = refl; region = refl; floor = refl; critical = refl; follower = refl };
         legal = λ reply ends. absurd ends;
@@ -198,13 +215,12 @@ module _ (old mid new : Moment) (read : CheckedRead) (a b : ReadReply) (plain : 
   pub same_replies : AreSameReplies a b
   same_replies =
       let s = mid.core.settings in
-      let leaders = plan_leaders mid.core two.plan in
       let p = begun s two.begun.session two.begun.follower in
-      let carries = subst (λ plan. CarriesOut (led_by true s leaders) plan (world_of mid) two.does.after (world_of new)) two.begun.plan_is two.does.carries in
+      let carries = subst (λ plan. CarriesOut (rules_of true s) plan (world_of mid) two.does.after (world_of new)) two.begun.plan_is two.does.carries in
       let again = subst (λ (x : Settings). AnswersAgain (types_of x.schema) two.begun.follower read.query a mid.core.fleet.followers) (sym settings)
       (subst (λ name. AnswersAgain (types_of old.core.settings.schema) name read.query a mid.core.fleet.followers) same_follower done.again) in
       let least = subst (λ x. key_floor x ≤ a.version) same_session done.least in
-      second_reads s leaders p (world_of mid) a plain refl refl refl again least two.does.after (world_of new) b carries two.does.over
+      second_reads s p (world_of mid) a plain refl refl refl again least two.does.after (world_of new) b carries two.does.over
 
 pub kept_answers_again : KeptAnswersAgain
 kept_answers_again = record {

@@ -10,11 +10,10 @@ use Rattle.core_plans.proofs.WholeRuns.{OfRead, OfWrite, read_keeps, write_keeps
 use Rattle.core_plans.specs.Held.{StepsReadAlone, learnt_here, learnt_of_write, learnt_with}
 use Rattle.core_plans.specs.HeldReads.{EndsLegally, HasComeTo, version_now}
 use Rattle.core_plans.specs.HeldWrites.{IsWriteUnderWay}
-use Rattle.core_plans.specs.LedBy.{led_by}
+use Rattle.core_plans.specs.LedBy.{rules_of}
 use Rattle.core_plans.specs.WholeCalls.{CarriesOut, PassesStage}
 use Rattle.core_plans.specs.declared.held.HeldPlan.{HeldPlan}
 use Rattle.core_plans.specs.declared.held.HeldPlan.TheVariants as of
-use Rattle.core_plans.specs.declared.leaders.Leaders.{Leaders}
 use Rattle.core_steps.specs.OtherEnds.{learnt_entry_of}
 use Rattle.core_steps.specs.World.{World}
 use Rattle.graph_model.specs.Legal.{floor}
@@ -54,11 +53,11 @@ use Rattle.write_plan.specs.declared.committed.Committed.{Committed}
 -- ---- a read
 
 -- one stage of a read keeps what is so of it; that it has the last version is another matter
-pub read_steps : (s : Settings) (leaders : Leaders) (p q : Reading) (old new : World) (began : Begun) (read : CheckedRead)
-    → IsReadFor s old.keepers began read p → HasLast s new.keepers began.settled q → StepsReadAlone (led_by true s leaders) p old q new
+pub read_steps : (s : Settings) (p q : Reading) (old new : World) (began : Begun) (read : CheckedRead)
+    → IsReadFor s old.keepers began read p → HasLast s new.keepers began.settled q → StepsReadAlone (rules_of true s) p old q new
     → IsReadFor s new.keepers began read q
-read_steps s leaders p q old new began read under last steps =
-    let same = read_same p q old new (led_by true s leaders) p.at steps.steps.does in
+read_steps s p q old new began read under last steps =
+    let same = read_same p q old new (rules_of true s) steps.steps.does in
     record {
       query_is = same.query ∙ under.query_is;
       critical_is = same.critical ∙ under.critical_is;
@@ -78,12 +77,12 @@ pub record ReadsSoFar (s : Settings) (began : Begun) (read : CheckedRead) (start
   pub so : EndsRefused q.at
   pub tables : KeepsTables true start.keepers now.keepers
 
-reads_on : (s : Settings) (leaders : Leaders) (began : Begun) (read : CheckedRead) (start : World) (p q : Reading) (old new : World)
-    → ReadsSoFar s began read start p old → PassesStage (led_by true s leaders) (of.Read p) old (of.Read q) new → ReadsSoFar s began read start q new
-reads_on s leaders began read start p q old new so stage = record {
-  for_call = read_steps s leaders p q old new (record began { settled = None }) read so.for_call (unsettled_last s new.keepers q) stage.steps;
+reads_on : (s : Settings) (began : Begun) (read : CheckedRead) (start : World) (p q : Reading) (old new : World)
+    → ReadsSoFar s began read start p old → PassesStage (rules_of true s) (of.Read p) old (of.Read q) new → ReadsSoFar s began read start q new
+reads_on s began read start p q old new so stage = record {
+  for_call = read_steps s p q old new (record began { settled = None }) read so.for_call (unsettled_last s new.keepers q) stage.steps;
   legal = stage.steps.steps.legal;
-  so = stage_refuses (led_by true s leaders) p q old new stage.steps.steps.does;
+  so = stage_refuses (rules_of true s) p q old new stage.steps.steps.does;
   tables = keeps_trans true start.keepers old.keepers new.keepers so.tables stage.steps.tables;
 }
 
@@ -105,11 +104,11 @@ read_begins s keepers began read p here logs query critical least at =
       last = λ settled is same. subst (HasComeTo (version_now s p keepers) (version_now s p keepers)) (sym at) (omega arith);
     }
 
-pub reads_at_once : (s : Settings) (leaders : Leaders) (began : Begun) (read : CheckedRead) (p : Reading) (start : World) (q : HeldPlan) (end : World)
+pub reads_at_once : (s : Settings) (began : Begun) (read : CheckedRead) (p : Reading) (start : World) (q : HeldPlan) (end : World)
     → IsReadFor s start.keepers (record began { settled = None }) read p → p.at ≡ Looking
-    → CarriesOut (led_by true s leaders) (of.Read p) start q end → OfRead (ReadsSoFar s began read start) q end
-reads_at_once s leaders began read p start q end begins at carries =
-    read_keeps (led_by true s leaders) (ReadsSoFar s began read start) (reads_on s leaders began read start) carries.stages p q start end
+    → CarriesOut (rules_of true s) (of.Read p) start q end → OfRead (ReadsSoFar s began read start) q end
+reads_at_once s began read p start q end begins at carries =
+    read_keeps (rules_of true s) (ReadsSoFar s began read start) (reads_on s began read start) carries.stages p q start end
     (record {
       for_call = begins;
       legal = λ reply ends. absurd (subst (λ a. EndsAt a p (Called (called.Read reply))) at ends);
@@ -126,24 +125,24 @@ pub record WritesThrough (s : Settings) (began : Begun) (write : CheckedWrite) (
   pub are : IsConsistent true s now.keepers.told now.fleet
   pub grew : EachGrows began.logs (stores_in s now.keepers.told).logs
 
-goes_through : (s : Settings) (leaders : Leaders) (began : Begun) (write : CheckedWrite) (start : Logs) (p q : Writing) (old new : World)
-    → WritesThrough s began write start p old → PassesStage (led_by true s leaders) (of.Write p) old (of.Write q) new
+goes_through : (s : Settings) (began : Begun) (write : CheckedWrite) (start : Logs) (p q : Writing) (old new : World)
+    → WritesThrough s began write start p old → PassesStage (rules_of true s) (of.Write p) old (of.Write q) new
     → WritesThrough s began write start q new
-goes_through s leaders began write start p q old new through stage =
+goes_through s began write start p q old new through stage =
     let grows = each_grows s old.keepers.told new.keepers.told stage.on.grows.logs in
     record {
-      so = writes_on s leaders p q old new began write start through.so
+      so = writes_on s p q old new began write start through.so
           (record { grows = grows; was = through.are.stores.kept refl; now = stage.on.consistent.stores.kept refl }) through.under through.grew stage.steps;
       under = stage.under_way;
       are = stage.on.consistent;
       grew = grows_on began.logs (stores_in s old.keepers.told).logs (stores_in s new.keepers.told).logs through.grew grows;
     }
 
-pub writes_at_once : (s : Settings) (leaders : Leaders) (began : Begun) (write : CheckedWrite) (start : Logs) (p : Writing) (old : World) (q : HeldPlan)
-    (new : World) → WritesThrough s began write start p old → CarriesOut (led_by true s leaders) (of.Write p) old q new
+pub writes_at_once : (s : Settings) (began : Begun) (write : CheckedWrite) (start : Logs) (p : Writing) (old : World) (q : HeldPlan)
+    (new : World) → WritesThrough s began write start p old → CarriesOut (rules_of true s) (of.Write p) old q new
     → OfWrite (WritesThrough s began write start) q new
-writes_at_once s leaders began write start p old q new begins carries =
-    write_keeps (led_by true s leaders) (WritesThrough s began write start) (goes_through s leaders began write start) carries.stages p q old new begins
+writes_at_once s began write start p old q new begins carries =
+    write_keeps (rules_of true s) (WritesThrough s began write start) (goes_through s began write start) carries.stages p q old new begins
     carries.passes
 
 -- ---- what a write tells its session

@@ -12,8 +12,8 @@ use Rattle.plain_promise.specs.Promise.{IsShownOf, IsVersionOfSome, Logs, Plain,
 use Rattle.promise_kept.proofs.Going.{log_is, settled_rests, stores_are}
 use Rattle.promise_kept.proofs.Others.{KeepsCalls, keeps_calls, plain_with, steps_so}
 use Rattle.promise_kept.proofs.Refusing.{EndsRefused, ReadRests, read_rests}
-use Rattle.promise_kept.proofs.StoreLines.{same_stores, store_line}
-use Rattle.promise_kept.specs.Lines.{GoesOnUsable, KeepsLine, OthersKeepPromise, StepsPlainly}
+use Rattle.promise_kept.proofs.StoreLines.{same_stores}
+use Rattle.promise_kept.specs.Lines.{GoesOnUsable, KeepsLine, StepsPlainly}
 use Rattle.promise_kept.specs.Seen.{IsPlainOf, IsSettledSince, stores_at}
 use Rattle.read_plan.specs.Ends.{EndsAt}
 use Rattle.read_plan.specs.Readings.{Reading}
@@ -46,8 +46,8 @@ use Rattle.tao_core.specs.Calls.{world_of}
 use Rattle.tao_core.specs.CacheReplies.{AnswersEvict, OnlyNodesChange}
 use Rattle.tao_core.specs.Core.{CoreState, Moment}
 use Rattle.tao_core.specs.Deliveries.{AnswersDeliver, AnswersInbox, AnswersLoss, AnswersRefill, AnswersSecond, AnswersShow, IsExactNow}
-use Rattle.tao_core.specs.Deliveries.{refill_plan, shown_content, shown_item}
-use Rattle.tao_core.specs.HeldCalls.{LearnsOf, plan_leaders}
+use Rattle.tao_core.specs.Deliveries.{shown_content, shown_item}
+use Rattle.tao_core.specs.HeldCalls.{LearnsOf}
 use Rattle.tao_core.specs.LinkReplies.{AnswersSwitch}
 use Rattle.tao_keeper.specs.Table.{Stays}
 use Rattle.tao_schema.specs.Schema.{types_of}
@@ -63,7 +63,7 @@ abbrev pub IsNoSettle : Reply → Type 0
 IsNoSettle (Settled lengths) = ⊥
 IsNoSettle other = Unit {0}
 
-settled_same : (plain : Plain) (logs : Logs) (reply : Reply) → IsNoSettle reply → settled_after plain reply logs ≡ plain.settled
+pub settled_same : (plain : Plain) (logs : Logs) (reply : Reply) → IsNoSettle reply → settled_after plain reply logs ≡ plain.settled
 settled_same plain logs (Settled lengths) none = absurd none
 settled_same plain logs other none = refl
 
@@ -74,7 +74,7 @@ never_settled Says never other says = tt
 
 -- ---- lines that change no log
 
--- neither a table, a session, a held call nor who is up changes
+-- neither a table, a session nor a held call changes
 pub record Rests (old new : Moment) : Type 0 where
   pub tables : Stays old.keepers.told new.keepers.told
   pub keeps : KeepsCalls old new
@@ -104,18 +104,16 @@ evict_rests old new rest = record {
   keeps = record {
     sessions = ap (λ (m : Moment). m.core.sessions) rest;
     plans = ap (λ (m : Moment). m.core.plans) rest;
-    states = ap (λ (m : Moment). m.core.states) rest;
   };
 }
 
 -- where nothing does
-same_rests : (old new : Moment) → new ≡ old → Rests old new
+pub same_rests : (old new : Moment) → new ≡ old → Rests old new
 same_rests old new same = record {
   tables = λ at. ap (λ (m : Moment). m.keepers.told at) same;
   keeps = record {
     sessions = ap (λ (m : Moment). m.core.sessions) same;
     plans = ap (λ (m : Moment). m.core.plans) same;
-    states = ap (λ (m : Moment). m.core.states) same;
   };
 }
 
@@ -194,15 +192,13 @@ refill_rests node old new reply (inr none) =
 refill_rests node old new reply (inl goes) =
     let mid : Moment = record old { core = record old.core { fleet = record old.core.fleet { followers = goes.left } } } in
     let does = goes.does in
-    let plan = refill_plan old.core.settings node goes.refill in
-    let rests = read_rests old.core.settings (plan_leaders mid.core plan) (world_of mid) _ does.after (world_of new) refl does.carries in
+    let rests = read_rests old.core.settings (world_of mid) _ does.after (world_of new) refl does.carries in
     let leaves = read_leaves old.core.settings mid new goes.read does.after rests does.over does.learns in (
       record {
         tables = leaves.tables;
         keeps = record {
           sessions = leaves.sessions;
           plans = ap (λ (c : CoreState). c.plans) does.rest;
-          states = ap (λ (c : CoreState). c.states) does.rest;
         };
       },
       subst (SaysOfRefill (stores_in old.core.settings new.keepers.told).logs) (sym goes.reply_is) leaves.says,
@@ -244,7 +240,6 @@ switch_rests word whole place old new (Node (Link told)) answers = record {
   keeps = record {
     sessions = ap (λ (m : Moment). m.core.sessions) answers.2;
     plans = ap (λ (m : Moment). m.core.plans) answers.2;
-    states = ap (λ (m : Moment). m.core.states) answers.2;
   };
 }
 switch_rests word whole place old new (Refused (Memory position)) answers = same_rests old new answers.1
@@ -257,8 +252,3 @@ link_line (over.Cut place) old new plain reply is line =
 link_line (over.Mend place) old new plain reply is line =
     link_so old new plain is line.on (over.Mend place) reply (switch_rests link.Mend true place old new reply line.answers)
     (never_settled (λ r. AnswersSwitch link.Mend true place old r new) (λ lengths says. says) reply line.answers)
-
--- ---- all lines that are no calls
-
-pub others_keep : OthersKeepPromise
-others_keep = record { stores = store_line; caches = cache_line; links = link_line }

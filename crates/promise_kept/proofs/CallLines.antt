@@ -99,15 +99,15 @@ module _ (old new : Moment) (learnt : ℕ → List Entry) (held : ℕ → Option
   nothing_more n = ([], sym (append-nil (learnt n)))
 
   -- no session and no plan changed
-  pub rested : (stores : Now.logs ≡ Was.logs) → new.core.sessions ≡ old.core.sessions → new.core.plans ≡ old.core.plans → new.core.states ≡ old.core.states
+  pub rested : (stores : Now.logs ≡ Was.logs) → new.core.sessions ≡ old.core.sessions → new.core.plans ≡ old.core.plans
       → SaysOfCall (types_of s.schema) (begun_now Before asked) Was.logs reply (After learnt) → Steps
-  rested stores sessions plans states says =
-      call_keeps learnt nothing_more says (alone_same s old new asked stores) (plain_rests old new line.on Before was sessions plans states)
+  rested stores sessions plans says =
+      call_keeps learnt nothing_more says (alone_same s old new asked stores) (plain_rests old new line.on Before was sessions plans)
 
   pub refused_call : RefusesCall asked old reply new → Steps
   refused_call refuses =
       let same = refuses.same in
       let logs : Now.logs ≡ Was.logs = ap (λ (m : Moment). (stores_in s m.keepers.told).logs) same in
-      rested logs (ap (λ (m : Moment). m.core.sessions) same) (ap (λ (m : Moment). m.core.plans) same) (ap (λ (m : Moment). m.core.states) same)
+      rested logs (ap (λ (m : Moment). m.core.sessions) same) (ap (λ (m : Moment). m.core.plans) same)
       (unbegun_says (begun_now Before asked) Was.logs (After learnt) s reply
       (not_begun old.core.states old.core.sessions asked reply refuses.refused) logs)

@@ -10,8 +10,9 @@ use Rattle.core_plans.proofs.WholeStages.{stages_miss_nothing}
 use Rattle.core_plans.specs.Held.{IsUnderWay, OpensFirst, SetsPlan, StepsReadAlone, given_up, learner, learner_at, learnt_here}
 use Rattle.core_plans.specs.Held.{learnt_of_write, learnt_with, next_stage, plan_at}
 use Rattle.core_plans.specs.HeldReads.{HasComeTo, IsReadUnderWay, version_now}
-use Rattle.core_plans.specs.HeldWrites.{DoesWriteStage, IsBefore, IsWriteUnderWay, way_given_up}
-use Rattle.core_plans.specs.LedBy.{led_by}
+use Rattle.core_plans.specs.HeldWrites.{CommitsBy, ComesOfWrite, DoesWriteStage, IsBefore, IsWriteUnderWay, way_given_up, write_is_down}
+use Rattle.core_plans.specs.LedBy.{rules_of}
+use Rattle.core_plans.specs.Needs.{leaders_of_write}
 use Rattle.core_plans.specs.declared.held.HeldPlan.{HeldPlan}
 use Rattle.core_plans.specs.declared.held.HeldPlan.TheVariants as of
 use Rattle.core_plans.proofs.HeldWriteStages.{before_commit}
@@ -35,7 +36,7 @@ use Rattle.promise_kept.proofs.Resting.{grows_then, held_rests, kept_then, seen_
 use Rattle.promise_kept.proofs.Saying.{began_as, held_read_says, held_write_says, plain_at}
 use Rattle.promise_kept.proofs.WriteEnds.{WasDone, acknowledged, all_told, write_reply_is}
 use Rattle.promise_kept.proofs.WriteStages.{IsRefusedSo, KeepsStage, WritesSoFar, ran_alone, ran_begins}
-use Rattle.promise_kept.proofs.WritesOn.{gives_up_on, writes_on}
+use Rattle.promise_kept.proofs.WritesOn.{gives_up_on, refused_rests, writes_on}
 use Rattle.promise_kept.specs.Lines.{GoesOnUsable}
 use Rattle.promise_kept.specs.Seen.{AreBegun, FloorsAre, HasLast, HasWritten, IsAnsweredFor, IsPlainOf, IsPlanOf, IsReadFor, IsSettledSince, IsUnderWayFor}
 use Rattle.promise_kept.specs.Seen.{IsWriteFor}
@@ -57,8 +58,8 @@ use Rattle.tao_base.specs.Queries.{query_key, query_shard}
 use Rattle.tao_base.specs.declared.entry.Entry.{Entry}
 use Rattle.tao_core.proofs.WriteStages.{end_keeps, inverse_keeps, stage_left, unrefused}
 use Rattle.tao_core.specs.Calls.{world_of}
-use Rattle.tao_core.specs.Core.{CoreState, Moment, author}
-use Rattle.tao_core.specs.HeldCalls.{Advances, GoesOnHeld, Leaves, StepsAt, held_in, numbered_plan, plan_leaders}
+use Rattle.tao_core.specs.Core.{Moment, author}
+use Rattle.tao_core.specs.HeldCalls.{Advances, GoesOnHeld, Leaves, StepsAt, held_in, numbered_plan}
 use Rattle.tao_keeper.specs.declared.jobs.Job.{Job}
 use Rattle.tao_schema.specs.Schema.{types_of}
 use Rattle.topology.specs.Config.{Settings}
@@ -72,7 +73,7 @@ use Rattle.write_plan.specs.declared.stage.WriteStage.TheVariants.{Apply, Commit
 
 -- ---- what was written at the other end, as a write ends
 
-module _ (s : Settings) (leaders : Leaders) (p q : Writing) (old new : World) (before : IsBefore p.back) (over : next_stage (of.Write q) ≡ None)
+module _ (s : Settings) (p q : Writing) (old new : World) (before : IsBefore p.back) (over : next_stage (of.Write q) ≡ None)
     (open_still : q.refused ≡ None) where
   abbrev OtherSame : Type 0
   OtherSame = (learnt_far (answered_job q) q.other ≡ learnt_far (answered_job p) p.other) ⊎ (q.other ≡ None)
@@ -83,12 +84,18 @@ module _ (s : Settings) (leaders : Leaders) (p q : Writing) (old new : World) (b
   not_refused : (reply : Reply) → q.refused ≡ Some reply → ⊥
   not_refused reply is = (let e : None ≡ Some reply = sym open_still ∙ is in absurd (cc))
 
+  -- a commit leaves what was written at the other end
+  commit_last : (p.committed ≡ None → p.other ≡ None) → next_of p ≡ Commit → (chosen : Option Leaders) → CommitsBy (rules_of true s) chosen p old q new
+      → OtherSame
+  commit_last none at (Some leaders) (inl commits) = inr (ap (λ (x : Writing). x.other) commits.then ∙ none (before_commit p at))
+  commit_last none at (Some leaders) (inr refuses) = absurd (not_refused _ (ap (λ (x : Writing). x.refused) refuses.then))
+  commit_last none at None finds = absurd (not_refused _ (ap (λ (x : Writing). x.refused) finds.then))
+
   -- a write that was carried out ends with its way back, which writes nothing
-  other_last : (p.committed ≡ None → p.other ≡ None) → (at : WriteStage) → next_of p ≡ at → DoesWriteStage (led_by true s leaders) at p old q new → OtherSame
-  other_last none Commit at (inl commits) = inr (ap (λ (x : Writing). x.other) commits.then ∙ none (before_commit p at))
-  other_last none Commit at (inr refuses) = absurd (not_refused _ (ap (λ (x : Writing). x.refused) refuses.then))
+  other_last : (p.committed ≡ None → p.other ≡ None) → (at : WriteStage) → next_of p ≡ at → DoesWriteStage (rules_of true s) at p old q new → OtherSame
+  other_last none Commit at does = commit_last none at (leaders_of_write s old.states p) does
   other_last none Inverse at does =
-      let on = inverse_keeps (led_by true s leaders) p q old new does in
+      let on = inverse_keeps (rules_of true s) p q old new does in
       absurd (not_over (stage_left q on.committed open_still on.answered (subst IsBefore (sym on.keeps.back) before)))
   other_last none End at does =
       let on = end_keeps true s p q old new does in
@@ -105,8 +112,10 @@ module _ (s : Settings) (leaders : Leaders) (p q : Writing) (old new : World) (b
   no_other (Some j) other is = subst (λ o. IfSome (learnt_far (Some j) o) (λ t. HasFewTouches t.shard t.entry)) (sym is) tt
 
   pub far_few : IfSome (learnt_far (answered_job p) p.other) (λ t. HasFewTouches t.shard t.entry) → (p.committed ≡ None → p.other ≡ None)
-      → DoesWriteStage (led_by true s leaders) (next_of p) p old q new → IfSome (learnt_far (answered_job q) q.other) (λ t. HasFewTouches t.shard t.entry)
-  far_few few none does = elim (other_last none (next_of p) refl does) [
+      → ComesOfWrite (rules_of true s) p old q new → IfSome (learnt_far (answered_job q) q.other) (λ t. HasFewTouches t.shard t.entry)
+  far_few few none (inr down) = absurd (not_refused (write_is_down down.node p) (ap (λ (x : Writing). x.refused) down.then
+      ∙ (refused_rests (next_of p) p (write_is_down down.node p)).refused))
+  far_few few none (inl next) = elim (other_last none (next_of p) refl next.does) [
     | inl same ↦ subst (λ o. IfSome o (λ t. HasFewTouches t.shard t.entry)) (sym same) few
     | inr gone ↦ no_other (answered_job q) q.other gone
   ]
@@ -119,9 +128,9 @@ pub record GivesUpWrite (p q : Writing) (old new : World) : Type 0 where
   pub gone : q ≡ way_given_up p
   pub same : new ≡ old
 
--- it did the stage that follows, or ends without its last one
-abbrev pub AdvancesWrite : Settings → Leaders → Writing → World → Writing → World → Type 0
-AdvancesWrite s leaders p old q new = DoesWriteStage (led_by true s leaders) (next_of p) p old q new ⊎ GivesUpWrite p q old new
+-- its next stage was done, or a node is down that it needs; or it ends without its last one
+abbrev pub AdvancesWrite : Settings → Writing → World → Writing → World → Type 0
+AdvancesWrite s p old q new = ComesOfWrite (rules_of true s) p old q new ⊎ GivesUpWrite p q old new
 
 -- ---- what a step of a held call keeps
 
@@ -179,7 +188,7 @@ module _ (old new : Moment) (learnt : ℕ → List Entry) (held : ℕ → Option
       ]
 
   module _ (began : Begun) (since : EachGrows began.logs (stores_at old).logs) (settles : IsSettledSince old began.settled)
-      (holds : held_now number ≡ Some (Then began)) (same_states : new.core.states ≡ old.core.states) where
+      (holds : held_now number ≡ Some (Then began)) where
     held_on : (after plan : HeldPlan) → IsUnderWayFor s new.keepers (Then began) began.call after → Some after ≡ Some plan → HeldAs plan
     held_on after plan under is = (
       Then began,
@@ -201,7 +210,7 @@ module _ (old new : Moment) (learnt : ℕ → List Entry) (held : ℕ → Option
       changes = changes;
       seen = seen_then old new on Before learnt held_now was
           (λ n. subst (λ (opened : List Session). FloorsAre (learnt n) (floors_of opened n)) (sym goes.sessions) (was.learnt n))
-          (begun_sets (Some after) goes.changes.sets (λ plan is. held_on after plan under is)) same_states;
+          (begun_sets (Some after) goes.changes.sets (λ plan is. held_on after plan under is));
     }
 
     -- it ended, and is gone
@@ -214,20 +223,16 @@ module _ (old new : Moment) (learnt : ℕ → List Entry) (held : ℕ → Option
       says = says;
       changes = changes;
       seen = seen_then old new on Before learnt_now held_now was floors
-          (begun_sets None sets (λ plan is. (let gone : None ≡ Some plan = is in absurd (cc)))) same_states;
+          (begun_sets None sets (λ plan is. (let gone : None ≡ Some plan = is in absurd (cc))));
     }
 
   -- ---- a read
 
   module _ (read : CheckedRead) (first : Begun) (p q : Reading) (is_plan : IsPlanOf old (of.Read p) (began_as (call.Read read) first))
-      (holds : held_now number ≡ Some (Then (began_as (call.Read read) first))) (same_states : new.core.states ≡ old.core.states)
-      (under : IsReadUnderWay true s old.keepers.told old.core.fleet p)
-      (steps : StepsReadAlone (led_by true s (plan_leaders old.core (of.Read p))) p (world_of old) q (world_of new)) where
+      (holds : held_now number ≡ Some (Then (began_as (call.Read read) first))) (under : IsReadUnderWay true s old.keepers.told old.core.fleet p)
+      (steps : StepsReadAlone (rules_of true s) p (world_of old) q (world_of new)) where
     abbrev Began : Begun
     Began = began_as (call.Read read) first
-
-    abbrev leaders : Leaders
-    leaders = plan_leaders old.core (of.Read p)
 
     was_for : IsReadFor s old.keepers Began read p
     was_for = is_plan.under_way
@@ -236,7 +241,7 @@ module _ (old new : Moment) (learnt : ℕ → List Entry) (held : ℕ → Option
     logs = same_logs s old.keepers new.keepers steps.tables
 
     same_read : IsSameRead p q
-    same_read = read_same p q (world_of old) (world_of new) (led_by true s leaders) p.at steps.steps.does
+    same_read = read_same p q (world_of old) (world_of new) (rules_of true s) steps.steps.does
 
     version_stays : version_now s p old.keepers ≡ version_now s q new.keepers
     version_stays =
@@ -248,14 +253,12 @@ module _ (old new : Moment) (learnt : ℕ → List Entry) (held : ℕ → Option
     last_then : HasLast s new.keepers Began.settled q
     last_then settled_logs since same =
         let before : AreSameLogs settled_logs Was.logs = λ shard. ap (λ l. log_of l shard) (sym logs) ∙ same shard in
-        let come = (stages_miss_nothing s leaders p q (world_of old) (world_of new)).whole old.core.states steps.steps
-        on.before.is_consistent.consistent (is_plan.settled.rests settled_logs since before)
-        (was.up.followers p.follower under.follower.configured) (was.up.leaders p.region (query_shard p.query) under.region) on.after.grows.logs
-        (version_now s p old.keepers) (was_for.last settled_logs since before) in
+        let come = (stages_miss_nothing s p q (world_of old) (world_of new)).whole steps.steps on.before.is_consistent.consistent
+        (is_plan.settled.rests settled_logs since before) on.after.grows.logs (version_now s p old.keepers) (was_for.last settled_logs since before) in
         subst (λ n. HasComeTo n (version_now s q new.keepers) q.at) version_stays come
 
     for_then : IsReadFor s new.keepers Began read q
-    for_then = read_steps s leaders p q (world_of old) (world_of new) Began read was_for last_then steps
+    for_then = read_steps s p q (world_of old) (world_of new) Began read was_for last_then steps
 
     -- what its lines add is nothing to a read
     for_later : IsReadFor s new.keepers (Then Began) read q
@@ -268,7 +271,7 @@ module _ (old new : Moment) (learnt : ℕ → List Entry) (held : ℕ → Option
     }
 
     so : EndsRefused q.at
-    so = stage_refuses (led_by true s leaders) p q (world_of old) (world_of new) steps.steps.does
+    so = stage_refuses (rules_of true s) p q (world_of old) (world_of new) steps.steps.does
 
     here : query_shard q.query < s.shards
     here = subst (λ query. query_shard query < s.shards) (sym same_read.query) under.follower.here
@@ -285,8 +288,8 @@ module _ (old new : Moment) (learnt : ℕ → List Entry) (held : ℕ → Option
         }
 
     pub read_kept : (next : Option Stage) → Leaves asked (numbered_plan number (of.Read q)) next (held_in old.core) reply (held_in new.core) → StepKept Began
-    read_kept (Some stage) goes = goes_so Began is_plan.grows is_plan.settled holds same_states (of.Read q) stage goes for_later logs
-    read_kept None ends = ends_so Began is_plan.grows is_plan.settled holds same_states learnt ends.takes.sets nothing_more
+    read_kept (Some stage) goes = goes_so Began is_plan.grows is_plan.settled holds (of.Read q) stage goes for_later logs
+    read_kept None ends = ends_so Began is_plan.grows is_plan.settled holds learnt ends.takes.sets nothing_more
         (λ n. subst (λ (opened : List Session). FloorsAre (learnt n) (floors_of opened n)) (sym ends.learns) (was.learnt n))
         (subst (λ r. SaysOfCall (types_of s.schema) Began Was.logs r (After learnt)) (sym ends.told)
         (held_read_says (types_of s.schema) first read Was.logs (After learnt) ends.ended (read_reply_is q ends.ended so ends.over) logs
@@ -295,14 +298,11 @@ module _ (old new : Moment) (learnt : ℕ → List Entry) (held : ℕ → Option
   -- ---- a write
 
   module _ (write : CheckedWrite) (first : Begun) (p q : Writing) (is_plan : IsPlanOf old (of.Write p) (began_as (call.Write write) first))
-      (holds : held_now number ≡ Some (Then (began_as (call.Write write) first))) (same_states : new.core.states ≡ old.core.states)
+      (holds : held_now number ≡ Some (Then (began_as (call.Write write) first)))
       (under : IsWriteUnderWay true s old.keepers.told old.core.fleet p) (ahead : IsBefore p.back) (some : IsSome (next_stage (of.Write p)))
-      (does : AdvancesWrite s (plan_leaders old.core (of.Write p)) p (world_of old) q (world_of new)) where
+      (does : AdvancesWrite s p (world_of old) q (world_of new)) where
     abbrev BeganWrite : Begun
     BeganWrite = began_as (call.Write write) first
-
-    abbrev write_leaders : Leaders
-    write_leaders = plan_leaders old.core (of.Write p)
 
     write_was : IsWriteFor s old.keepers BeganWrite write p
     write_was = is_plan.under_way
@@ -328,15 +328,15 @@ module _ (old new : Moment) (learnt : ℕ → List Entry) (held : ℕ → Option
         → WritesSoFar s BeganWrite write Was.logs q new.keepers
     given_so Apply at last gives =
         let logs : Now.logs ≡ Was.logs = ap (λ (x : World). (stores_in s x.keepers.told).logs) gives.same in
-        gives_up_on s write_leaders p q (world_of old) (world_of new) BeganWrite write Was.logs so_far write_keeps logs gives.gone
+        gives_up_on s p q (world_of old) (world_of new) BeganWrite write Was.logs so_far write_keeps logs gives.gone
     given_so Commit at last gives = absurd (cc)
     given_so Inverse at last gives = absurd (cc)
     given_so End at last gives = absurd (cc)
     given_so Relay at last gives = absurd (cc)
     given_so Done at last gives = absurd (cc)
 
-    so_by : AdvancesWrite s write_leaders p (world_of old) q (world_of new) → WritesSoFar s BeganWrite write Was.logs q new.keepers
-    so_by (inl stage) = writes_on s write_leaders p q (world_of old) (world_of new) BeganWrite write Was.logs so_far write_keeps under is_plan.grows stage
+    so_by : AdvancesWrite s p (world_of old) q (world_of new) → WritesSoFar s BeganWrite write Was.logs q new.keepers
+    so_by (inl stage) = writes_on s p q (world_of old) (world_of new) BeganWrite write Was.logs so_far write_keeps under is_plan.grows stage
     so_by (inr gives) = given_so (next_of p) refl gives.last gives
 
     write_so : WritesSoFar s BeganWrite write Was.logs q new.keepers
@@ -365,9 +365,9 @@ module _ (old new : Moment) (learnt : ℕ → List Entry) (held : ℕ → Option
     few_here : IfSome (learnt_here q) (λ t. HasFewTouches t.shard t.entry)
     few_here = here_few s BeganWrite write Was.logs q new.keepers write_so (kept_then old new on)
 
-    far_by : next_stage (of.Write q) ≡ None → q.refused ≡ None → AdvancesWrite s write_leaders p (world_of old) q (world_of new)
+    far_by : next_stage (of.Write q) ≡ None → q.refused ≡ None → AdvancesWrite s p (world_of old) q (world_of new)
         → IfSome (learnt_far (answered_job q) q.other) (λ t. HasFewTouches t.shard t.entry)
-    far_by over open_still (inl stage) = far_few s write_leaders p q (world_of old) (world_of new) ahead over open_still
+    far_by over open_still (inl stage) = far_few s p q (world_of old) (world_of new) ahead over open_still
         (others_few s old.keepers.told old.core.fleet p on.before.is_consistent.masters on.before.is_consistent.consistent.stores under)
         (λ none. (under.begun none).1) stage
     far_by over open_still (inr gives) =
@@ -384,14 +384,14 @@ module _ (old new : Moment) (learnt : ℕ → List Entry) (held : ℕ → Option
     pub write_kept : (next : Option Stage) → next_stage (of.Write q) ≡ next
         → Leaves asked (numbered_plan number (of.Write q)) next (held_in old.core) reply (held_in new.core) → StepKept BeganWrite
     write_kept (Some stage) next goes =
-        goes_so BeganWrite is_plan.grows is_plan.settled holds same_states (of.Write q) stage goes write_later write_changes
+        goes_so BeganWrite is_plan.grows is_plan.settled holds (of.Write q) stage goes write_later write_changes
     write_kept None over ends =
         let ended = ends.ended in
         let told = learnt_with ended (of.Write q) in
         let who = author q.origin in
         let replies = write_reply_is s BeganWrite write Was.logs q new.keepers write_so ended ends.over in
         let learnt_now = learnt_after who told learnt in
-        ends_so BeganWrite is_plan.grows is_plan.settled holds same_states learnt_now ends.takes.sets (learnt_grows who told learnt)
+        ends_so BeganWrite is_plan.grows is_plan.settled holds learnt_now ends.takes.sets (learnt_grows who told learnt)
         (learns_both who told old.core.sessions new.core.sessions learnt (few_told ended over replies) ends.learns was.learnt)
         (subst (λ r. SaysOfCall (types_of s.schema) BeganWrite Was.logs r (After learnt_now)) (sym ends.told)
         (held_write_says s old.keepers.told new.keepers.told first write learnt_now held_now settled q ended
@@ -403,39 +403,37 @@ module _ (old new : Moment) (learnt : ℕ → List Entry) (held : ℕ → Option
 
   -- a write ends without its last stage
   given_by : (one : CheckedCall) (first : Begun) (before : HeldPlan) → IsPlanOf old before (began_as one first)
-      → held_now number ≡ Some (Then (began_as one first))
-      → new.core.states ≡ old.core.states → IsUnderWay true s old.keepers.told old.core.fleet before → OpensFirst before → IsSome (next_stage before)
-      → IsSome (learner before) → world_of new ≡ world_of old
+      → held_now number ≡ Some (Then (began_as one first)) → IsUnderWay true s old.keepers.told old.core.fleet before → OpensFirst before
+      → IsSome (next_stage before) → IsSome (learner before) → world_of new ≡ world_of old
       → Leaves asked (numbered_plan number (given_up before)) (next_stage (given_up before)) (held_in old.core) reply (held_in new.core)
       → StepKept (began_as one first)
-  given_by (call.Write write) first (of.Write p) is_plan holds states under ahead some last same leaves =
-      write_kept write first p (way_given_up p) is_plan holds states under ahead some (inr (record { last = last; gone = refl; same = same }))
+  given_by (call.Write write) first (of.Write p) is_plan holds under ahead some last same leaves =
+      write_kept write first p (way_given_up p) is_plan holds under ahead some (inr (record { last = last; gone = refl; same = same }))
       (next_stage (of.Write (way_given_up p))) refl leaves
-  given_by (call.Read read) first (of.Read p) is_plan holds states under ahead some last same leaves = (let e : false ≡ true = last in absurd (cc))
-  given_by (call.Read read) first (of.Write p) is_plan holds states under ahead some last same leaves = absurd is_plan.under_way
-  given_by (call.Write write) first (of.Read p) is_plan holds states under ahead some last same leaves = absurd is_plan.under_way
+  given_by (call.Read read) first (of.Read p) is_plan holds under ahead some last same leaves = (let e : false ≡ true = last in absurd (cc))
+  given_by (call.Read read) first (of.Write p) is_plan holds under ahead some last same leaves = absurd is_plan.under_way
+  given_by (call.Write write) first (of.Read p) is_plan holds under ahead some last same leaves = absurd is_plan.under_way
 
   kept_by : (one : CheckedCall) (first : Begun) (before after : HeldPlan) → IsPlanOf old before (began_as one first)
-      → held_now number ≡ Some (Then (began_as one first)) → new.core.states ≡ old.core.states → IsUnderWay true s old.keepers.told old.core.fleet before
-      → OpensFirst before → IsSome (next_stage before)
-      → Advances (led_by true s (plan_leaders old.core before)) before (world_of old) after (world_of new)
+      → held_now number ≡ Some (Then (began_as one first)) → IsUnderWay true s old.keepers.told old.core.fleet before → OpensFirst before
+      → IsSome (next_stage before) → Advances (rules_of true s) before (world_of old) after (world_of new)
       → Leaves asked (numbered_plan number after) (next_stage after) (held_in old.core) reply (held_in new.core) → StepKept (began_as one first)
-  kept_by one first before after is_plan holds states under ahead some (inr ends) leaves =
+  kept_by one first before after is_plan holds under ahead some (inr ends) leaves =
       subst
       (λ a. Leaves asked (numbered_plan number a) (next_stage a) (held_in old.core) reply (held_in new.core) → StepKept (began_as one first))
-      (sym ends.then) (given_by one first before is_plan holds states under ahead some ends.last ends.same) leaves
-  kept_by (call.Read read) first (of.Read p) (of.Read q) is_plan holds states under ahead some (inl steps) leaves =
-      read_kept read first p q is_plan holds states under steps (next_stage (of.Read q)) leaves
-  kept_by (call.Write write) first (of.Write p) (of.Write q) is_plan holds states under ahead some (inl steps) leaves =
-      write_kept write first p q is_plan holds states under ahead some (inl steps) (next_stage (of.Write q)) refl leaves
-  kept_by one first (of.Read p) (of.Write q) is_plan holds states under ahead some (inl steps) leaves = absurd steps
-  kept_by one first (of.Write p) (of.Read q) is_plan holds states under ahead some (inl steps) leaves = absurd steps
-  kept_by (call.Read read) first (of.Write p) (of.Write q) is_plan holds states under ahead some (inl steps) leaves = absurd is_plan.under_way
-  kept_by (call.Write write) first (of.Read p) (of.Read q) is_plan holds states under ahead some (inl steps) leaves = absurd is_plan.under_way
+      (sym ends.then) (given_by one first before is_plan holds under ahead some ends.last ends.same) leaves
+  kept_by (call.Read read) first (of.Read p) (of.Read q) is_plan holds under ahead some (inl steps) leaves =
+      read_kept read first p q is_plan holds under steps (next_stage (of.Read q)) leaves
+  kept_by (call.Write write) first (of.Write p) (of.Write q) is_plan holds under ahead some (inl steps) leaves =
+      write_kept write first p q is_plan holds under ahead some (inl steps) (next_stage (of.Write q)) refl leaves
+  kept_by one first (of.Read p) (of.Write q) is_plan holds under ahead some (inl steps) leaves = absurd steps
+  kept_by one first (of.Write p) (of.Read q) is_plan holds under ahead some (inl steps) leaves = absurd steps
+  kept_by (call.Read read) first (of.Write p) (of.Write q) is_plan holds under ahead some (inl steps) leaves = absurd is_plan.under_way
+  kept_by (call.Write write) first (of.Read p) (of.Read q) is_plan holds under ahead some (inl steps) leaves = absurd is_plan.under_way
 
   pub step_kept : (steps : StepsAt true asked number old reply new) (began : Begun) → IsPlanOf old steps.before began
       → held_now number ≡ Some (Then began) → StepKept began
   step_kept steps began is_plan holds =
-      kept_by began.call began steps.before steps.after is_plan holds (ap (λ (c : CoreState). c.states) steps.rest)
-      (on.before.plans.under_way number steps.before steps.stands) (on.before.plans.begun number steps.before steps.stands)
+      kept_by began.call began steps.before steps.after is_plan holds (on.before.plans.under_way number steps.before steps.stands)
+      (on.before.plans.begun number steps.before steps.stands)
       (on.before.plans.goes_on number steps.before steps.stands) steps.steps steps.leaves

@@ -19,7 +19,7 @@ abbrev told_plain : Moment → Plain → Plain
 told_plain m plain = plain_at m.core.settings m.keepers.told plain.learnt plain.held plain.settled
 
 told_so : (m : Moment) (plain : Plain) → IsPlainOf m plain → IsPlainOf m (told_plain m plain)
-told_so m plain is = record { stores = refl; learnt = is.learnt; held = is.held; settled = is.settled; up = is.up }
+told_so m plain is = record { stores = refl; learnt = is.learnt; held = is.held; settled = is.settled }
 
 -- a line's step from there is one from the state itself
 from_told : (asked : Checked) (old : Moment) (plain : Plain) (reply : Reply) (new : Moment) → IsPlainOf old plain

@@ -7,6 +7,7 @@ pub mod Commits
 pub mod Entries
 pub mod Floors
 pub mod Going
+pub mod HealthLines
 pub mod HeldLines
 pub mod Keeping
 pub mod Learning

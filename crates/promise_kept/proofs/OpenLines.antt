@@ -181,8 +181,7 @@ module _ (old new : Moment) (learnt : ℕ → List Entry) (held : ℕ → Option
         };
         seen = seen_then old new line.on Before learnt held was (floors_then reply line.can.0 line.answers.0)
             (λ n plan at. held_rests old new line.on held was.held n plan
-            (subst (λ ps. plan_at ps n ≡ Some plan) (ap (λ (m : Moment). m.core.plans) rest) at))
-            (ap (λ (m : Moment). m.core.states) rest);
+            (subst (λ ps. plan_at ps n ≡ Some plan) (ap (λ (m : Moment). m.core.plans) rest) at));
       }
 
   open_line_by : (reply : Reply) → IsLine (asks.Open session region tier) old reply new → AnswersOpen Place old.core.sessions reply new.core.sessions

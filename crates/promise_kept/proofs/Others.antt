@@ -11,18 +11,16 @@ use Rattle.tao_core.specs.Core.{CoreState, Moment}
 use Rattle.tao_schema.specs.Schema.{types_of}
 use Rattle.write_model.specs.Merges.{Stores}
 
--- the sessions, the calls that are held, and which nodes are up stay
+-- the sessions and the calls that are held stay
 pub record KeepsCalls (old new : Moment) : Type 0 where
   pub sessions : new.core.sessions ≡ old.core.sessions
   pub plans : new.core.plans ≡ old.core.plans
-  pub states : new.core.states ≡ old.core.states
 
 -- so they do where only nodes and their messages change
 pub keeps_calls : (old new : Moment) → new.core ≡ record old.core { fleet = new.core.fleet; mail = new.core.mail } → KeepsCalls old new
 keeps_calls old new rest = record {
   sessions = ap (λ (c : CoreState). c.sessions) rest;
   plans = ap (λ (c : CoreState). c.plans) rest;
-  states = ap (λ (c : CoreState). c.states) rest;
 }
 
 -- and where nothing of the core does
@@ -30,14 +28,12 @@ pub keeps_core : (old new : Moment) → new.core ≡ old.core → KeepsCalls old
 keeps_core old new same = record {
   sessions = ap (λ (c : CoreState). c.sessions) same;
   plans = ap (λ (c : CoreState). c.plans) same;
-  states = ap (λ (c : CoreState). c.states) same;
 }
 
 pub keeps_on : (old mid new : Moment) → KeepsCalls old mid → KeepsCalls mid new → KeepsCalls old new
 keeps_on old mid new first second = record {
   sessions = second.sessions ∙ first.sessions;
   plans = second.plans ∙ first.plans;
-  states = second.states ∙ first.states;
 }
 
 -- the plain state after it, with what is remembered of settles
@@ -47,8 +43,8 @@ plain_with plain new settled = record plain { stores = stores_at new; settled = 
 module _ (old new : Moment) (plain : Plain) (is : IsPlainOf old plain) (on : GoesOnUsable old new) (keeps : KeepsCalls old new) where
   seen_with : (settled : Option Logs) → IsSettledSince new settled → IsPlainOf new (plain_with plain new settled)
   seen_with settled since =
-      let rests = plain_rests old new on plain is keeps.sessions keeps.plans keeps.states in
-      record { stores = refl; learnt = rests.learnt; held = rests.held; settled = since; up = rests.up }
+      let rests = plain_rests old new on plain is keeps.sessions keeps.plans in
+      record { stores = refl; learnt = rests.learnt; held = rests.held; settled = since }
 
   pub steps_so : (asked : Checked) (reply : Reply)
       → SaysRightly (types_of old.core.settings.schema) plain asked reply (plain_with plain new (settled_after plain reply (stores_at new).logs))

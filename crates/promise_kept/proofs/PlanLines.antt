@@ -162,8 +162,7 @@ module _ (old new : Moment) (learnt : ℕ → List Entry) (held : ℕ → Option
         | inr apart ↦
             let rests = held_rests old new line.on held was.held n plan there in
             (rests.0, held_there Then n apart ∙ rests.1, rests.2)
-      ])
-      (ap (λ (m : Moment). m.core.states) same))
+      ]))
 
   -- ---- a plan was begun
 
@@ -247,7 +246,6 @@ module _ (old new : Moment) (learnt : ℕ → List Entry) (held : ℕ → Option
       learnt = was.learnt;
       held = begun_added;
       settled = since_added settled was.settled;
-      up = record { followers = was.up.followers; leaders = was.up.leaders };
     }
 
     own_before : plan ≡ goes.steps.before

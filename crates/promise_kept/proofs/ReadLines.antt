@@ -5,7 +5,7 @@ use Rattle.core_model.specs.Stores.{stores_in}
 use Rattle.core_plans.proofs.WholeRuns.{OfRead}
 use Rattle.core_plans.specs.Held.{IsOver, IsUnderWay, learnt_with}
 use Rattle.core_plans.specs.HeldReads.{at_bound}
-use Rattle.core_plans.specs.LedBy.{led_by}
+use Rattle.core_plans.specs.LedBy.{rules_of}
 use Rattle.core_plans.specs.WholeCalls.{CarriesOut}
 use Rattle.core_plans.specs.declared.held.HeldPlan.{HeldPlan}
 use Rattle.core_plans.specs.declared.held.HeldPlan.TheVariants as of
@@ -36,7 +36,7 @@ use Rattle.tao_core.proofs.HeldBegun.{is_under_way}
 use Rattle.tao_core.proofs.SettledLaws.{settled_until_a_commit}
 use Rattle.tao_core.specs.Calls.{world_of}
 use Rattle.tao_core.specs.Core.{CoreState, Moment}
-use Rattle.tao_core.specs.HeldCalls.{AnswersCall, CallGoes, LearnsOf, plan_leaders}
+use Rattle.tao_core.specs.HeldCalls.{AnswersCall, CallGoes, LearnsOf}
 use Rattle.tao_schema.specs.Schema.{types_of}
 use Rattle.topology.specs.Config.{Settings}
 use Rattle.write_model.specs.Merges.{Stores, log_of}
@@ -70,18 +70,18 @@ module _ (old new : Moment) (learnt : ℕ → List Entry) (held : ℕ → Option
       let answers = subst (λ r. AnswersCall true (call.Read read) old r new) is line.answers in
       let before : AreSameLogs logs Was.logs = λ shard. ap (λ l. log_of l shard) (sym logs_same) ∙ same shard in
       let shard = query_shard read.query in
-      settled_until_a_commit.reads old new read answer line.on.before.is_consistent (was.settled.rests logs since before) was.up answers
+      settled_until_a_commit.reads old new read answer line.on.before.is_consistent (was.settled.rests logs since before) answers
       ∙ ap (λ l. version l (query_key read.query)) (sym (log_is s old.keepers.told shard here))
       ∙ ap (λ l. version (log_of l shard) (query_key read.query)) (sym logs_same)
 
   read_ends : (after : HeldPlan) (told : LearntEntries) → query_shard read.query < s.shards → new.core.plans ≡ old.core.plans
-      → new.core.states ≡ old.core.states → OfRead (ReadsSoFar s Began read (world_of old)) after (world_of new) → IsOver after reply
+      → OfRead (ReadsSoFar s Began read (world_of old)) after (world_of new) → IsOver after reply
       → LearnsOf after told old.core.sessions new.core.sessions → StepsPlainly (Some (asks.Call (call.Read read))) old Before reply new
-  read_ends (of.Write q) told here plans states so over learns = absurd so
-  read_ends (of.Read q) told here plans states so over learns =
+  read_ends (of.Write q) told here plans so over learns = absurd so
+  read_ends (of.Read q) told here plans so over learns =
       let logs = same_logs s old.keepers new.keepers so.tables in
       let here_then = subst (λ query. query_shard query < s.shards) (sym so.for_call.query_is) here in
-      rested old new learnt held settled was (call.Read read) reply line logs learns plans states
+      rested old new learnt held settled was (call.Read read) reply line logs learns plans
       (read_says (types_of s.schema) Began read Was.logs After reply (read_reply_is q reply so.so over) logs
       (λ answer is.
       let ends = subst (EndsWith q) is over in
@@ -97,8 +97,7 @@ module _ (old new : Moment) (learnt : ℕ → List Entry) (held : ℕ → Option
       let session = goes.begun.session in
       let key = query_key read.query in
       let p : Reading = at_bound s (new_reading read.query session.region session.tier (floor_at session.floors key) read.critical goes.begun.follower) in
-      let leaders = plan_leaders old.core goes.plan in
-      let carries = subst (λ plan. CarriesOut (led_by true s leaders) plan (world_of old) goes.does.after (world_of new))
+      let carries = subst (λ plan. CarriesOut (rules_of true s) plan (world_of old) goes.does.after (world_of new))
       goes.begun.plan_is goes.does.carries in
       let under = subst (IsUnderWay true s old.keepers.told old.core.fleet) goes.begun.plan_is
       (is_under_way true old.keepers old.core line.on.before.is_consistent (call.Read read) goes.plan goes.begun line.can) in
@@ -107,6 +106,5 @@ module _ (old new : Moment) (learnt : ℕ → List Entry) (held : ℕ → Option
       ap (λ o. option_map_or (λ (x : Session). x.floors) o []) goes.begun.found in
       let least = subst (λ fs. floor_at fs key ≡ floor (learnt read.session) key) floors ((was.learnt read.session).at key) in
       let begins = read_begins s old.keepers (record Began { settled = None }) read p here refl refl refl least refl in
-      let so = reads_at_once s leaders Began read p (world_of old) goes.does.after (world_of new) begins refl carries in
-      read_ends goes.does.after (learnt_with reply goes.does.after) here (ap (λ (c : CoreState). c.plans) goes.does.rest)
-      (ap (λ (c : CoreState). c.states) goes.does.rest) so goes.does.over goes.does.learns
+      let so = reads_at_once s Began read p (world_of old) goes.does.after (world_of new) begins refl carries in
+      read_ends goes.does.after (learnt_with reply goes.does.after) here (ap (λ (c : CoreState). c.plans) goes.does.rest) so goes.does.over goes.does.learns

@@ -1,23 +1,22 @@
 -- A read that ends without an answer ends with a refusal, its answer's version is one that its key had, and no stage of a read changes a table.
-use Rattle.std.proofs.Common.{◌≡◌, Bool, true, false, Some, None, refl, sym, ap, ◌∙◌, subst, take, inl, inr}
+use Rattle.std.proofs.Common.{◌≡◌, ℕ, Bool, true, false, Some, None, refl, sym, ap, ◌∙◌, subst, take, inl, inr}
 use Rattle.std.specs.Prelude.{⊤}
 use Rattle.cache_items.specs.declared.look.Look.{Look}
 use Rattle.cache_items.specs.declared.look.Look.TheVariants.{Hit, Miss}
 use Rattle.core_model.specs.Stores.{stores_in}
 use Rattle.core_plans.proofs.WholeRuns.{OfRead, read_keeps}
-use Rattle.core_plans.specs.HeldReads.{DoesKeep, DoesLook, DoesReadStage}
-use Rattle.core_plans.specs.LedBy.{LedBy, led_by}
+use Rattle.core_plans.specs.HeldReads.{ComesOfRead, DoesKeep, DoesLook, DoesReadStage, read_is_down}
+use Rattle.core_plans.specs.LedBy.{Rules, rules_of}
 use Rattle.core_plans.specs.WholeCalls.{CarriesOut, PassesStage}
 use Rattle.core_plans.specs.declared.held.HeldPlan.{HeldPlan}
 use Rattle.core_plans.specs.declared.held.HeldPlan.TheVariants as of
-use Rattle.core_plans.specs.declared.leaders.Leaders.{Leaders}
 use Rattle.core_steps.specs.World.{World}
 use Rattle.graph_model.specs.Log.{version}
 use Rattle.plain_promise.specs.Promise.{IsVersionOfSome}
 use Rattle.promise_kept.proofs.Going.{log_is}
 use Rattle.read_plan.specs.Ends.{EndsAt, EndsWith}
 use Rattle.read_plan.specs.Readings.{Reading}
-use Rattle.read_plan.specs.Standings.{after_ask, after_keep, after_look, after_master}
+use Rattle.read_plan.specs.Standings.{after_ask, after_keep, after_look, after_master, read_refused, stage_of, standing_after}
 use Rattle.read_plan.specs.declared.end.ReadEnd.TheVariants as ended
 use Rattle.read_plan.specs.declared.standing.Given.{Given}
 use Rattle.read_plan.specs.declared.standing.Given.TheVariants.{Fill, HandedOut, Past}
@@ -26,6 +25,7 @@ use Rattle.read_plan.specs.declared.standing.Standing.TheVariants.{Looking, Aski
 use Rattle.replies.specs.declared.calls.CallReply.TheVariants as called
 use Rattle.replies.specs.declared.calls.ReadReply.{ReadReply}
 use Rattle.replies.specs.declared.refusals.Refusal.{Refusal}
+use Rattle.replies.specs.declared.reply.Reply.{Reply}
 use Rattle.replies.specs.declared.reply.Reply.TheVariants.{Called, Refused}
 use Rattle.shard_tables.specs.declared.leader_answer.LeaderAnswer.{LeaderAnswer}
 use Rattle.shard_tables.specs.declared.leader_answer.LeaderAnswer.TheVariants as leads
@@ -71,22 +71,33 @@ keep_so s p q (Fill fill) old new at (inr vain) = at_then q _ vain.then (_, refl
 keep_so s p q (Past answer version total seen) old new at on = at_then q _ on.then (subst (λ a. EndsRefused (after_keep p.bound a None)) (sym at) tt)
 keep_so s p q (HandedOut version) old new at on = absurd on
 
-stage_so : (led : LedBy) (at : Standing) (p q : Reading) (old new : World) → p.at ≡ at → DoesReadStage led at p old q new → EndsRefused q.at
-stage_so led Looking p q old new is does = by p.critical does
+stage_so : (rules : Rules) (at : Standing) (p q : Reading) (old new : World) → p.at ≡ at → DoesReadStage rules at p old q new → EndsRefused q.at
+stage_so rules Looking p q old new is does = by p.critical does
   where
-    by : (critical : Bool) → DoesLook led.settings critical p old q new → EndsRefused q.at
+    by : (critical : Bool) → DoesLook rules.settings critical p old q new → EndsRefused q.at
     by false (inl looks) = at_then q _ looks.then (look_so p.critical looks.look)
     by false (inr vain) = at_then q _ vain.then (_, refl)
     by true looks = at_then q _ looks.then (look_so p.critical Miss)
-stage_so led Asking p q old new is (inl asks) = at_then q _ asks.then (ask_so asks.given)
-stage_so led Asking p q old new is (inr vain) = at_then q _ vain.then (_, refl)
-stage_so led Mastering p q old new is (inl asks) = at_then q _ asks.then (master_so asks.out)
-stage_so led Mastering p q old new is (inr vain) = at_then q _ vain.then (_, refl)
-stage_so led (Keeping given) p q old new is does = keep_so led.settings p q given old new is does
-stage_so led (Ended end) p q old new is does = absurd does
+stage_so rules Asking p q old new is (inl asks) = at_then q _ asks.then (ask_so asks.given)
+stage_so rules Asking p q old new is (inr vain) = at_then q _ vain.then (_, refl)
+stage_so rules Mastering p q old new is (inl asks) = at_then q _ asks.then (master_so asks.out)
+stage_so rules Mastering p q old new is (inr vain) = at_then q _ vain.then (_, refl)
+stage_so rules (Keeping given) p q old new is does = keep_so rules.settings p q given old new is does
+stage_so rules (Ended end) p q old new is does = absurd does
 
-pub stage_refuses : (led : LedBy) (p q : Reading) (old new : World) → DoesReadStage led p.at p old q new → EndsRefused q.at
-stage_refuses led p q old new does = stage_so led p.at p q old new refl does
+-- a stage that is refused ends the read with the refusal
+pub refused_standing : (critical : Bool) (bound : ℕ) (at : Standing) (reply : Reply)
+    → standing_after critical bound at (read_refused (stage_of at) reply) ≡ Ended (ended.Refused reply)
+refused_standing critical bound Looking reply = refl
+refused_standing critical bound Asking reply = refl
+refused_standing critical bound Mastering reply = refl
+refused_standing critical bound (Keeping given) reply = refl
+refused_standing critical bound (Ended end) reply = refl
+
+pub stage_refuses : (rules : Rules) (p q : Reading) (old new : World) → ComesOfRead rules p old q new → EndsRefused q.at
+stage_refuses rules p q old new (inl next) = stage_so rules p.at p q old new refl next.does
+stage_refuses rules p q old new (inr down) = at_then q _ down.then
+    (subst EndsRefused (sym (refused_standing p.critical p.bound p.at (read_is_down down.node))) (_, refl))
 
 -- ---- all stages
 
@@ -96,12 +107,12 @@ pub record ReadRests (s : Settings) (first : World) (q : Reading) (now : World) 
   pub refused : EndsRefused q.at
   pub answers : (reply : ReadReply) → EndsWith q (Called (called.Read reply)) → IsVersionOfSome (stores_in s now.keepers.told).logs reply.version
 
-module _ (s : Settings) (leaders : Leaders) (first : World) where
-  rests_on : (p q : Reading) (old new : World) → ReadRests s first p old → PassesStage (led_by true s leaders) (of.Read p) old (of.Read q) new
+module _ (s : Settings) (first : World) where
+  rests_on : (p q : Reading) (old new : World) → ReadRests s first p old → PassesStage (rules_of true s) (of.Read p) old (of.Read q) new
       → ReadRests s first q new
   rests_on p q old new so stage = record {
     tables = λ at. stage.steps.tables refl at ∙ so.tables at;
-    refused = stage_refuses (led_by true s leaders) p q old new stage.steps.steps.does;
+    refused = stage_refuses (rules_of true s) p q old new stage.steps.steps.does;
     answers = λ reply ends.
         let legal = (stage.steps.steps.legal reply ends).0 refl in
         let log = log_is s new.keepers.told (query_shard q.query) stage.under_way.follower.here in
@@ -112,10 +123,10 @@ module _ (s : Settings) (leaders : Leaders) (first : World) where
         };
   }
 
-  pub read_rests : (p : Reading) (q : HeldPlan) (new : World) → p.at ≡ Looking → CarriesOut (led_by true s leaders) (of.Read p) first q new
+  pub read_rests : (p : Reading) (q : HeldPlan) (new : World) → p.at ≡ Looking → CarriesOut (rules_of true s) (of.Read p) first q new
       → OfRead (ReadRests s first) q new
   read_rests p q new begun out =
-      read_keeps (led_by true s leaders) (ReadRests s first) rests_on out.stages p q first new
+      read_keeps (rules_of true s) (ReadRests s first) rests_on out.stages p q first new
       (record {
         tables = λ at. refl;
         refused = subst EndsRefused (sym begun) tt;

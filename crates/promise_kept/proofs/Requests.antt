@@ -3,6 +3,7 @@ use Rattle.std.proofs.Common.{◌≡◌, true, Option, Some, None, Result, Ok, E
 use Rattle.outcomes.proofs.InTurn.{then_ok}
 use Rattle.plain_promise.specs.Promise.{Plain}
 use Rattle.promise_kept.proofs.CacheLines.{cache_line, link_line}
+use Rattle.promise_kept.proofs.HealthLines.{health_line}
 use Rattle.promise_kept.proofs.Keeping.{calls_keep_promise}
 use Rattle.promise_kept.proofs.StoreLines.{store_line}
 use Rattle.promise_kept.specs.Lines.{CallsKeepPromise, GoesOnUsable, IsLine, StepsPlainly}
@@ -69,7 +70,7 @@ module _ (calls : CallsKeepPromise) where
   each_line (asks.Cache asked) = cache_line asked
   each_line (asks.Store asked) = store_line asked
   each_line (asks.Link asked) = link_line asked
-  each_line (asks.Health asked) = λ old new plain reply is line. absurd line.answers
+  each_line (asks.Health asked) = health_line asked
 
   by_asked : (old new : Moment) (plain : Plain) (request : Request) (reply : Reply) (found : Result Checked Refusal) → IsPlainOf old plain
       → GoesOnUsable old new → asked_of old.core.settings old.core.sessions old.core.plans request ≡ found → AnswersAsked true old found reply new

@@ -1,8 +1,6 @@
 -- What stays so of a core that is seen as a plain state, where a line neither steps a plan nor teaches a session.
-use Rattle.std.proofs.Common.{◌≡◌, ◌<◌, ◌∙◌, ℕ, List, Option, Some, true, length, refl, sym, ap, subst}
+use Rattle.std.proofs.Common.{◌≡◌, ◌∙◌, ℕ, List, Option, Some, true, refl, sym, ap, subst}
 use Rattle.std.proofs.lemmas.Option.{IfSome_then}
-use Rattle.std.specs.Prelude.{Contains}
-use Rattle.core_model.specs.Fleet.{follower_names}
 use Rattle.core_model.specs.Stores.{AreKeptIn, stores_in}
 use Rattle.core_plans.proofs.Missing.{nothing_is_missed_later}
 use Rattle.core_plans.specs.Held.{IsUnderWay, plan_at}
@@ -25,10 +23,7 @@ use Rattle.request_check.specs.declared.checked.CheckedWrite.{CheckedWrite}
 use Rattle.tao_base.specs.Queries.{query_key, query_shard}
 use Rattle.tao_base.specs.declared.entry.Entry.{Entry}
 use Rattle.tao_core.specs.Core.{Moment}
-use Rattle.tao_core.specs.Laws.{AreAllUp}
-use Rattle.topology.specs.Choices.{preferred_leader}
 use Rattle.topology.specs.Config.{Settings}
-use Rattle.topology.specs.States.{NodeStates, is_up}
 use Rattle.write_model.specs.Merges.{Stores, log_of}
 use Rattle.write_plan.specs.Plans.{Writing}
 
@@ -97,29 +92,20 @@ module _ (old new : Moment) (on : GoesOnUsable old new) where
 
   -- ---- the whole state
 
-  pub up_rests : new.core.states ≡ old.core.states → AreAllUp old → AreAllUp new
-  up_rests same up = record {
-    followers = λ name among. subst (λ (states : NodeStates). is_up states name ≡ true) (sym same)
-        (up.followers name (subst (λ (s : Settings). Contains (follower_names s) name) on.after.settings among));
-    leaders = λ region shard within. subst (λ (states : NodeStates). is_up states (preferred_leader states region shard) ≡ true) (sym same)
-        (up.leaders region shard (subst (λ (s : Settings). region < length s.regions) on.after.settings within));
-  }
-
   -- the core is seen so, with what sessions have learnt then and the calls that are held then
   pub seen_then : (plain : Plain) (learnt : ℕ → List Entry) (held : ℕ → Option Begun) → IsPlainOf old plain
-      → ((number : ℕ) → FloorsAre (learnt number) (floors_of new.core.sessions number)) → AreBegun new held → new.core.states ≡ old.core.states
+      → ((number : ℕ) → FloorsAre (learnt number) (floors_of new.core.sessions number)) → AreBegun new held
       → IsPlainOf new (record { stores = stores_in Set new.keepers.told; learnt = learnt; held = held; settled = plain.settled })
-  seen_then plain learnt held was floors begun states = record {
+  seen_then plain learnt held was floors begun = record {
     stores = sym (stores_are old new on);
     learnt = floors;
     held = begun;
     settled = settled_rests old new on plain.settled was.settled;
-    up = up_rests states was.up;
   }
 
   pub plain_rests : (plain : Plain) → IsPlainOf old plain → new.core.sessions ≡ old.core.sessions → new.core.plans ≡ old.core.plans
-      → new.core.states ≡ old.core.states → IsPlainOf new (record plain { stores = stores_in Set new.keepers.told })
-  plain_rests plain was sessions plans states =
+      → IsPlainOf new (record plain { stores = stores_in Set new.keepers.told })
+  plain_rests plain was sessions plans =
       seen_then plain plain.learnt plain.held was
       (λ number. subst (λ (opened : List Session). FloorsAre (plain.learnt number) (floors_of opened number)) (sym sessions) (was.learnt number))
-      (λ number plan at. held_rests plain.held was.held number plan (subst (λ ps. plan_at ps number ≡ Some plan) plans at)) states
+      (λ number plan at. held_rests plain.held was.held number plan (subst (λ ps. plan_at ps number ≡ Some plan) plans at))

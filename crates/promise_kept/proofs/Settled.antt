@@ -85,7 +85,6 @@ module _ (old new : Moment) where
       keeps_on old stops.streamed new (streamed_keeps stops.ran stops.streamed stops.jobs stops.streams) (record {
         sessions = ap (λ (c : CoreState). c.sessions) stops.rest;
         plans = ap (λ (c : CoreState). c.plans) stops.rest;
-        states = ap (λ (c : CoreState). c.states) stops.rest;
       })
 
   -- ---- what it says

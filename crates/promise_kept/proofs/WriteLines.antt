@@ -3,7 +3,7 @@ use Rattle.std.proofs.Common.{◌≡◌, ℕ, true, List, Option, Some, None, re
 use Rattle.core_model.specs.Stores.{HaveMasterRegions, stores_in}
 use Rattle.core_plans.proofs.WholeRuns.{OfWrite}
 use Rattle.core_plans.specs.Held.{IsOver, IsUnderWay, learnt_with, next_stage, plan_at}
-use Rattle.core_plans.specs.LedBy.{led_by}
+use Rattle.core_plans.specs.LedBy.{rules_of}
 use Rattle.core_plans.specs.WholeCalls.{CarriesOut}
 use Rattle.core_plans.specs.declared.held.HeldPlan.{HeldPlan}
 use Rattle.core_plans.specs.declared.held.HeldPlan.TheVariants as of
@@ -28,7 +28,7 @@ use Rattle.tao_base.specs.declared.entry.Origin.TheVariants.{Client}
 use Rattle.tao_core.proofs.HeldBegun.{is_under_way}
 use Rattle.tao_core.specs.Calls.{world_of}
 use Rattle.tao_core.specs.Core.{CoreState, Moment, author}
-use Rattle.tao_core.specs.HeldCalls.{AnswersCall, CallGoes, LearnsOf, plan_leaders}
+use Rattle.tao_core.specs.HeldCalls.{AnswersCall, CallGoes, LearnsOf}
 use Rattle.tao_schema.specs.Schema.{types_of}
 use Rattle.topology.specs.Config.{Settings}
 use Rattle.write_model.specs.Merges.{Stores}
@@ -51,12 +51,11 @@ module _ (old new : Moment) (learnt : ℕ → List Entry) (held : ℕ → Option
   abbrev Was : Stores
   Was = stores_in old.core.settings old.keepers.told
 
-  write_ends : (after : HeldPlan) → new.core.plans ≡ old.core.plans → new.core.states ≡ old.core.states
-      → OfWrite (WritesThrough s Began write Was.logs) after (world_of new) → IsOver after reply → next_stage after ≡ None
-      → LearnsOf after (learnt_with reply after) old.core.sessions new.core.sessions
+  write_ends : (after : HeldPlan) → new.core.plans ≡ old.core.plans → OfWrite (WritesThrough s Began write Was.logs) after (world_of new)
+      → IsOver after reply → next_stage after ≡ None → LearnsOf after (learnt_with reply after) old.core.sessions new.core.sessions
       → StepsPlainly (Some (asks.Call (call.Write write))) old Before reply new
-  write_ends (of.Read q) plans states through over none learns = absurd through
-  write_ends (of.Write q) plans states through over none learns =
+  write_ends (of.Read q) plans through over none learns = absurd through
+  write_ends (of.Write q) plans through over none learns =
       let so = through.so in
       let number = author q.origin in
       let told = learnt_with reply (of.Write q) in
@@ -74,14 +73,13 @@ module _ (old new : Moment) (learnt : ℕ → List Entry) (held : ℕ → Option
       (ran_alone (types_of s.schema) Was.logs (write_of write) (stores_in s new.keepers.told).logs q.committed q.job so.ran)
       (seen_then old new line.on Before learnt_now held was
       (learns_both number told old.core.sessions new.core.sessions learnt few learns was.learnt)
-      (λ n plan at. held_rests old new line.on held was.held n plan (subst (λ ps. plan_at ps n ≡ Some plan) plans at)) states)
+      (λ n plan at. held_rests old new line.on held was.held n plan (subst (λ ps. plan_at ps n ≡ Some plan) plans at)))
 
   write_goes : CallGoes true (call.Write write) old reply new → StepsPlainly (Some (asks.Call (call.Write write))) old Before reply new
   write_goes goes =
       let session = goes.begun.session in
       let p : Writing = begun_write write.write (Client write.session write.seq) session.region session.tier goes.begun.follower in
-      let leaders = plan_leaders old.core goes.plan in
-      let carries = subst (λ plan. CarriesOut (led_by true s leaders) plan (world_of old) goes.does.after (world_of new))
+      let carries = subst (λ plan. CarriesOut (rules_of true s) plan (world_of old) goes.does.after (world_of new))
       goes.begun.plan_is goes.does.carries in
       let under = subst (IsUnderWay true s old.keepers.told old.core.fleet) goes.begun.plan_is
       (is_under_way true old.keepers old.core line.on.before.is_consistent (call.Write write) goes.plan goes.begun line.can) in
@@ -91,8 +89,8 @@ module _ (old new : Moment) (learnt : ℕ → List Entry) (held : ℕ → Option
         are = line.on.before.is_consistent.consistent;
         grew = grows_same Was.logs Was.logs refl;
       } in
-      let through = writes_at_once s leaders Began write Was.logs p (world_of old) goes.does.after (world_of new) begins carries in
-      write_ends goes.does.after (ap (λ (c : CoreState). c.plans) goes.does.rest) (ap (λ (c : CoreState). c.states) goes.does.rest) through goes.does.over
+      let through = writes_at_once s Began write Was.logs p (world_of old) goes.does.after (world_of new) begins carries in
+      write_ends goes.does.after (ap (λ (c : CoreState). c.plans) goes.does.rest) through goes.does.over
       goes.does.carries.over goes.does.learns
 
 -- ---- whatever the call

@@ -6,9 +6,9 @@ use Rattle.core_model.specs.Jobs.{ShardJob}
 use Rattle.core_model.specs.Stores.{AreKeptIn, stores_in}
 use Rattle.core_plans.specs.Held.{learnt_of_write}
 use Rattle.core_plans.specs.HeldWrites.{RefusesOnWay, RefusesWrite, call_of_plan, come_past, sent_by, way_by}
-use Rattle.core_plans.specs.LedBy.{led_by}
+use Rattle.core_plans.specs.LedBy.{led_by, rules_of}
 use Rattle.core_plans.specs.declared.leaders.Leaders.{Leaders}
-use Rattle.core_steps.specs.OtherEnds.{EndsOver, JobWay, LeavesJob, MergesOver, TakesMerge}
+use Rattle.core_steps.specs.OtherEnds.{EndsOver, JobWay, LeavesJob, MergesAlong, MergesBy, SentJob, TakesMerge, job_way}
 use Rattle.core_steps.specs.Posting.{ChangesNoNode}
 use Rattle.core_steps.specs.Relays.{RefusesPassing}
 use Rattle.core_steps.specs.declared.routes.Route.{Route}
@@ -197,10 +197,10 @@ refuses_on_way None p refusal old new h = absurd h
 refuses_on_way (Some leader) p refusal old new h = refuses_passing (way_by leader p) refusal old new h
 
 pub refuses_write : (s : Settings) (leaders : Leaders) (p : Writing) (refusal : Refusal) (old new : World)
-    → RefusesWrite (led_by true s leaders) p refusal old new → RefusesNone refusal old new
+    → RefusesWrite (led_by (rules_of true s) leaders) p refusal old new → RefusesNone refusal old new
 refuses_write s leaders p refusal old new (inl way) = refuses_on_way leaders.passed p refusal old new way
 refuses_write s leaders p refusal old new (inr there) =
-    let led = led_by true s leaders in
+    let led = led_by (rules_of true s) leaders in
     let says = refuses_none s (sent_by led p) refusal (come_past led old) new there in
     record { position_is = says.position_is; tables = says.tables }
 
@@ -257,21 +257,25 @@ module _ (s : Settings) (w : ClientWrite) (e : Entry) (j : ShardJob) (old new : 
   no_node none = rests (same_logs s old.keepers new.keepers none.tables)
 
   left_open : (way : JobWay) (why : ScheduledWhy) (wrote : Option Wrote) → way.job ≡ j → LeavesJob true s way (left.Scheduled why wrote) old new → MergesIt
-  left_open way why.NoServer None is h = rests (ap (λ (x : World). (stores_in s x.keepers.told).logs) h.1)
   left_open way why.LinkFault None is h = no_node h.2
   left_open way why.LinkFault (Some wrote) is h = taken way wrote is h.2
   left_open way why.KeeperFault None is h = no_node h.1
   left_open way why.LogFull None is h = no_node h.1
   left_open way why.Memory None is h = no_node h.0
-  left_open way why.NoServer (Some wrote) is h = absurd h
+  left_open way why.NoServer wrote is h = absurd h
   left_open way why.KeeperFault (Some wrote) is h = absurd h
   left_open way why.LogFull (Some wrote) is h = absurd h
   left_open way why.Memory (Some wrote) is h = absurd h
 
-  pub merges_over : (way : JobWay) (result : Result Wrote LeftOpen) → way.job ≡ j → MergesOver true s way result old new → MergesIt
-  merges_over way (Ok wrote) is merges = taken way wrote is merges.0
-  merges_over way (Err (left.Scheduled why wrote)) is merges = left_open way why wrote is merges
-  merges_over way (Err (left.Refused reply)) is merges = absurd merges
+  merges_along : (way : JobWay) (result : Result Wrote LeftOpen) → way.job ≡ j → MergesAlong true s way result old new → MergesIt
+  merges_along way (Ok wrote) is merges = taken way wrote is merges.0
+  merges_along way (Err (left.Scheduled why wrote)) is merges = left_open way why wrote is merges
+  merges_along way (Err (left.Refused reply)) is merges = absurd merges
+
+  pub merges_by : (merging : Option NodeName) (sent : SentJob) (result : Result Wrote LeftOpen) → sent.job ≡ j → MergesBy true s merging sent result old new
+      → MergesIt
+  merges_by (Some merging) sent result is merges = merges_along (job_way sent merging) result is merges
+  merges_by None sent result is none = rests (ap (λ (x : World). (stores_in s x.keepers.told).logs) none.1)
 
   -- once the job is ended, its records are where they are owed
   pub ended_there : EndsOver true s j (Ok tt) old new → AreThere (log_of Now.logs) (job_of (types_of s.schema) e)
@@ -282,6 +286,12 @@ module _ (s : Settings) (w : ClientWrite) (e : Entry) (j : ShardJob) (old new : 
       let there = there_of (log_of Was.logs) ended.owed.other (job_of (types_of s.schema) ended.owed.entry) owes.there ended.ends.done in
       subst (λ logs. AreThere (log_of logs) (job_of (types_of s.schema) e)) (sym ended.ends.logs)
       (subst (λ x. AreThere (log_of Was.logs) (job_of (types_of s.schema) x)) same there)
+
+-- a job that is sent is merged or left open
+pub never_refused : (s : Settings) (merging : Option NodeName) (sent : SentJob) (reply : Reply) (old new : World)
+    → MergesBy true s merging sent (Err (left.Refused reply)) old new → ⊥
+never_refused s (Some merging) sent reply old new merges = absurd merges
+never_refused s None sent reply old new none = absurd (cc (none.0))
 
 -- the end of a job changes no log
 pub end_same : (s : Settings) (j : ShardJob) (result : Result ⊤ LeftOpen) (old new : World) → EndsOver true s j result old new

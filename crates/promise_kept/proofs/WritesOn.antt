@@ -5,25 +5,31 @@ use Rattle.std.specs.Prelude.{⊤, Contains, IfSome, Result, option_and_then}
 use Rattle.core_model.specs.Stores.{master_store, stores_in}
 use Rattle.core_plans.proofs.HeldWriteStages.{at_end, at_inverse, before_commit}
 use Rattle.core_plans.specs.Held.{learnt_of_write}
-use Rattle.core_plans.specs.HeldWrites.{AppliesHeld, CommitsHeld, DoesWriteStage, IsWriteUnderWay, LosesRelay, LosesWayBack}
+use Rattle.core_plans.specs.HeldWrites.{AppliesHeld, CommitsBy, CommitsHeld, ComesOfWrite, DoesWriteStage, EndsWriteDown, IsWriteUnderWay}
+use Rattle.core_plans.specs.HeldWrites.{LosesRelay, LosesWayBack, job_sender, write_is_down}
 use Rattle.core_plans.specs.HeldWrites.{RefusesHeld, RelaysHeld, call_of_plan, entry_position, job_by, way_given_up, with_notes}
-use Rattle.core_plans.specs.LedBy.{led_by}
+use Rattle.core_plans.specs.LedBy.{led_by, rules_of}
+use Rattle.core_plans.specs.Needs.{leaders_of_write}
 use Rattle.core_plans.specs.declared.leaders.Leaders.{Leaders}
-use Rattle.core_steps.specs.OtherEnds.{EndsOver, MergesOver, job_way, known_of}
+use Rattle.core_steps.specs.OtherEnds.{EndsOver, MergesOver, SentJob, known_of, merging_leader, sent_job}
 use Rattle.core_steps.specs.Routes.{hops_between}
 use Rattle.core_steps.specs.World.{World}
 use Rattle.core_steps.specs.Writes.{StepsAs, asked_of_log}
+use Rattle.node_name.specs.declared.NodeName.{NodeName}
 use Rattle.plain_promise.specs.Promise.{Begun, EachGrows, Logs, refused_at}
 use Rattle.promise_kept.proofs.Adding.{AddsTold, adds_on, adds_same, commit_adds, merge_adds, none_told, told_far, told_here, told_still}
 use Rattle.promise_kept.proofs.Commits.{commit_job, commit_written, write_of}
 use Rattle.promise_kept.proofs.Going.{same_logs}
 use Rattle.promise_kept.proofs.Staying.{answered_stays}
 use Rattle.promise_kept.proofs.WriteStages.{IsRefusedSo, KeepsStage, Ran, RanBy, RanEntry, RefusesHere, WritesSoFar, commit_ran, end_same, end_writes}
-use Rattle.promise_kept.proofs.WriteStages.{ended_there, merges_over, open_stage, plan_write, ran_merges, refuses_write, stands_at}
+use Rattle.promise_kept.proofs.WriteStages.{ended_there, merges_by, never_refused, open_stage, plan_write, ran_merges, refuses_write, stands_at}
 use Rattle.promise_kept.specs.Seen.{HasJobOf, HasWritten, IsAnsweredFor, IsToldOf, OwesNothing}
 use Rattle.replies.specs.declared.calls.ScheduledWhy.{ScheduledWhy}
-use Rattle.replies.specs.declared.refusals.Refusal.TheVariants.{Memory, Store}
+use Rattle.replies.specs.declared.refusals.NodeRefused.TheVariants.{NodeDown}
+use Rattle.replies.specs.declared.refusals.Refusal.{Refusal}
+use Rattle.replies.specs.declared.refusals.Refusal.TheVariants.{Memory, Node, Store}
 use Rattle.replies.specs.declared.refusals.StoreRefused.TheVariants.{LinkFault}
+use Rattle.replies.specs.declared.reply.Reply.{Reply}
 use Rattle.replies.specs.declared.reply.Reply.TheVariants.{Refused}
 use Rattle.request_check.specs.declared.checked.CheckedWrite.{CheckedWrite}
 use Rattle.shard_tables.specs.Jobs.{FindsJob}
@@ -42,6 +48,7 @@ use Rattle.write_model.specs.Merges.{AreThere, Stores, job_of, log_of}
 use Rattle.write_model.specs.Writes.{FitsWrite}
 use Rattle.write_plan.specs.Committing.{kind_said}
 use Rattle.write_plan.specs.Plans.{Writing, after_stage, answered_entry, answered_job, next_of, when_of, written_there}
+use Rattle.write_plan.specs.Stages.{write_refused}
 use Rattle.write_plan.specs.declared.committed.Committed.{Committed}
 use Rattle.write_plan.specs.declared.progress.OtherEnd.{OtherEnd}
 use Rattle.write_plan.specs.declared.progress.OtherEnd.TheVariants.{Due, Ended, Merged, Open}
@@ -85,9 +92,30 @@ told_position : (faults : ℕ) (entry : Option Entry) → refused_at (Store (Lin
 told_position faults None = refl
 told_position faults (Some e) = refl
 
+down_position : (node : NodeName) (entry : Option Entry) → refused_at (Node (NodeDown node (when_of entry))) ≡ entry_position entry
+down_position node None = refl
+down_position node (Some e) = refl
+
+-- a write whose stage was refused keeps all but that
+pub record RestsRefused (p q : Writing) (reply : Reply) : Type 0 where
+  pub write : q.write ≡ p.write
+  pub origin : q.origin ≡ p.origin
+  pub committed : q.committed ≡ p.committed
+  pub job : q.job ≡ p.job
+  pub other : q.other ≡ p.other
+  pub refused : q.refused ≡ Some reply
+
+pub refused_rests : (at : WriteStage) (p : Writing) (reply : Reply) → RestsRefused p (after_stage p (write_refused at reply) 0) reply
+refused_rests Commit p reply = record { write = refl; origin = refl; committed = refl; job = refl; other = refl; refused = refl }
+refused_rests Inverse p reply = record { write = refl; origin = refl; committed = refl; job = refl; other = refl; refused = refl }
+refused_rests End p reply = record { write = refl; origin = refl; committed = refl; job = refl; other = refl; refused = refl }
+refused_rests Relay p reply = record { write = refl; origin = refl; committed = refl; job = refl; other = refl; refused = refl }
+refused_rests Apply p reply = record { write = refl; origin = refl; committed = refl; job = refl; other = refl; refused = refl }
+refused_rests Done p reply = record { write = refl; origin = refl; committed = refl; job = refl; other = refl; refused = refl }
+
 -- ---- a stage was done
 
-module _ (s : Settings) (leaders : Leaders) (p q : Writing) (old new : World) (began : Begun) (call : CheckedWrite) (start : Logs)
+module _ (s : Settings) (p q : Writing) (old new : World) (began : Begun) (call : CheckedWrite) (start : Logs)
     (so : WritesSoFar s began call start p old.keepers) (keeps : KeepsStage s old.keepers new.keepers) where
   abbrev types : EdgeTypes
   types = types_of s.schema
@@ -152,7 +180,7 @@ module _ (s : Settings) (leaders : Leaders) (p q : Writing) (old new : World) (b
     ran_none : Was.logs ≡ start
     ran_none = subst (λ c. Ran types start w Was.logs c p.job) none so.ran
 
-    module _ (is : CommitsHeld (led_by true s leaders) p old q new) (grew : EachGrows began.logs Was.logs) where
+    module _ (leaders : Leaders) (is : CommitsHeld (led_by (rules_of true s) leaders) p old q new) (grew : EachGrows began.logs Was.logs) where
       abbrev wrote : Wrote
       wrote = is.committed.wrote
 
@@ -215,13 +243,13 @@ module _ (s : Settings) (leaders : Leaders) (p q : Writing) (old new : World) (b
         refused = unrefused Commit at (λ same. absurd (cc)) taken refl;
       })
 
-    refuses_on : RefusesHeld (led_by true s leaders) p old q new → So q
-    refuses_on is =
-        let says = refuses_write s leaders p is.refusal old new is.refuses in
-        let same = same_logs s old.keepers new.keepers says.tables in
-        let gone = after_stage p (came.Commit (Err (Refused is.refusal))) hops in
+    -- it was refused at no position, and no log changed
+    refused_on : (refusal : Refusal) (took : ℕ) → refused_at refusal ≡ 0 → Now.logs ≡ Was.logs
+        → q ≡ after_stage p (came.Commit (Err (Refused refusal))) took → So q
+    refused_on refusal took position_is same then =
+        let gone = after_stage p (came.Commit (Err (Refused refusal))) took in
         let tells = tells_same gone refl refl (same_other p.other) so.for_call.due same in
-        subst So (sym is.then) (record {
+        subst So (sym then) (record {
           for_call = record {
             write_is = so.for_call.write_is;
             origin_is = so.for_call.origin_is;
@@ -231,8 +259,19 @@ module _ (s : Settings) (leaders : Leaders) (p q : Writing) (old new : World) (b
           };
           ran = subst (λ c. Ran types start w Now.logs c p.job) (sym none) (same ∙ ran_none);
           adds = adds_then gone tells;
-          refused = (is.refusal, refl, subst (RefusesHere start call Now.logs) (sym says.position_is) (same ∙ ran_none));
+          refused = (refusal, refl, subst (RefusesHere start call Now.logs) (sym position_is) (same ∙ ran_none));
         })
+
+    refuses_on : (leaders : Leaders) → RefusesHeld (led_by (rules_of true s) leaders) p old q new → So q
+    refuses_on leaders is =
+        let says = refuses_write s leaders p is.refusal old new is.refuses in
+        refused_on is.refusal hops says.position_is (same_logs s old.keepers new.keepers says.tables) is.then
+
+    -- by these leaders, or by none
+    commit_by : (chosen : Option Leaders) → CommitsBy (rules_of true s) chosen p old q new → EachGrows began.logs Was.logs → So q
+    commit_by (Some leaders) (inl commits) grew = commits_on leaders commits grew
+    commit_by (Some leaders) (inr refuses) grew = refuses_on leaders refuses
+    commit_by None none grew = refused_on _ 0 refl (ap (λ (x : World). (stores_in s x.keepers.told).logs) none.same) none.then
 
   -- ---- where nothing was written
 
@@ -308,14 +347,14 @@ module _ (s : Settings) (leaders : Leaders) (p q : Writing) (old new : World) (b
         (subst (λ entry. RanBy types start w Was.logs entry p.job) own_job.entry_is
         (subst (λ c. Ran types start w Was.logs c p.job) own_job.committed_is so.ran))
 
-    inverse_by : (result : Result Wrote LeftOpen) → next_of p ≡ Inverse → MergesOver true s (job_way leaders.leader (job_by p job)) result old new
+    inverse_by : (sent : SentJob) (result : Result Wrote LeftOpen) → sent.job ≡ job_by p job → next_of p ≡ Inverse → MergesOver true s sent result old new
         → q ≡ after_stage p (came.Inverse result) hops → So q
-    inverse_by result at merges then = by result merges then
+    inverse_by sent result own at merges then = by result merges then
       where
         may : (other : ℕ) × LeavesEntry types start Now.logs w its_entry other
         may =
-            let merged = merges_over s w its_entry (job_by p job) old new refl same_shard own_job.position_is stood.stands
-            (job_way leaders.leader (job_by p job)) result refl merges in
+            let merged = merges_by s w its_entry (job_by p job) old new refl same_shard own_job.position_is stood.stands
+            (merging_leader s old.states sent) sent result own merges in
             ran_merges types start w Was.logs Now.logs its_entry merged.0 (ran_at Due (at_inverse p at).1) merged.1
 
         unrefused_then : p.refused ≡ None
@@ -327,10 +366,10 @@ module _ (s : Settings) (leaders : Leaders) (p q : Writing) (old new : World) (b
         -- what is known to be written at the other end it tells
         merge_tells : (came_to : Result Wrote LeftOpen) (r : Writing) → r.write ≡ p.write → r.committed ≡ p.committed
             → r.other ≡ written_there p.other (known_of came_to) → (r.job ≡ Due → r.other ≡ None)
-            → MergesOver true s (job_way leaders.leader (job_by p job)) came_to old new → TellsOn r
+            → MergesOver true s sent came_to old new → TellsOn r
         merge_tells came_to r write committed other due merged = record {
           still = told_still p r (known_of came_to) write committed other;
-          adds = merge_adds s old new (learnt_of_write r) (job_way leaders.leader (job_by p job)) came_to
+          adds = merge_adds s old new (learnt_of_write r) (merging_leader s old.states sent) sent came_to
               (λ wr known e entry.
               told_far r job p.other wr (ap (option_and_then (λ (c : Committed). c.wrote.job)) committed ∙ answered) unknown
               (other ∙ ap (written_there p.other) known) e entry)
@@ -338,8 +377,7 @@ module _ (s : Settings) (leaders : Leaders) (p q : Writing) (old new : World) (b
           due = due;
         }
 
-        by : (came_to : Result Wrote LeftOpen) → MergesOver true s (job_way leaders.leader (job_by p job)) came_to old new
-            → q ≡ after_stage p (came.Inverse came_to) hops → So q
+        by : (came_to : Result Wrote LeftOpen) → MergesOver true s sent came_to old new → q ≡ after_stage p (came.Inverse came_to) hops → So q
         by (Ok wrote) merged is = subst So (sym is)
             (moved_on job own_job Merged (after_stage p (came.Inverse (Ok wrote)) hops) refl refl refl refl unrefused_then may
             (merge_tells (Ok wrote) (after_stage p (came.Inverse (Ok wrote)) hops) refl refl refl (λ is. absurd (cc (is))) merged)
@@ -349,7 +387,7 @@ module _ (s : Settings) (leaders : Leaders) (p q : Writing) (old new : World) (b
             (merge_tells (Err (left.Scheduled why wrote)) (after_stage p (came.Inverse (Err (left.Scheduled why wrote))) hops) refl refl refl
             (λ is. absurd (cc (is))) merged)
             (λ nothing. absurd nothing))
-        by (Err (left.Refused reply)) merged is = absurd merged
+        by (Err (left.Refused reply)) merged is = absurd (never_refused s (merging_leader s old.states sent) sent reply old new merged)
 
     end_by : (result : Result ⊤ LeftOpen) → next_of p ≡ End → EndsOver true s (job_by p job) result old new
         → q ≡ after_stage p (came.End result) 0 → So q
@@ -417,15 +455,26 @@ module _ (s : Settings) (leaders : Leaders) (p q : Writing) (old new : World) (b
         ap (λ o. entry_position (option_and_then (λ (c : Committed). c.wrote.entry) o)) answered ∙ sym (told_position faults entry) in
         (Store (LinkFault faults (when_of entry)), refl, subst (RefusesHere start call Now.logs) position told_then)
 
-    loses_on : LosesWayBack leaders.leader p old q new → So q
+    loses_on : LosesWayBack p old q new → So q
     loses_on loses = subst So (sym loses.then)
         (rests_on (after_stage p (came.Apply (Err (Refused (Store (LinkFault new.link.faults (when_of loses.committed.wrote.entry)))))) hops)
         refl refl refl refl refl same (lost_at loses.committed loses.answered))
 
-    loses_relay_on : LosesRelay leaders.leader p old q new → So q
+    loses_relay_on : LosesRelay p old q new → So q
     loses_relay_on loses = subst So (sym loses.then)
         (rests_on (after_stage p (came.Relay (Err (Refused (Store (LinkFault new.link.faults (when_of loses.committed.wrote.entry)))))) hops)
         refl refl refl refl refl same (lost_at loses.committed loses.answered))
+
+    -- so does the refusal of one that ended since a node is down
+    down_on : EndsWriteDown p old q new → So q
+    down_on ends =
+        let reply = write_is_down ends.node p in
+        let rests = refused_rests (next_of p) p reply in
+        let entry = answered_entry p in
+        subst So (sym ends.then)
+        (rests_on (after_stage p (write_refused (next_of p) reply) 0) rests.write rests.origin rests.committed rests.job rests.other same
+        (subst (λ r. IfSome r (IsRefusedSo start call Now.logs)) (sym rests.refused)
+        (Node (NodeDown ends.node (when_of entry)), refl, subst (RefusesHere start call Now.logs) (sym (down_position ends.node entry)) told_then)))
 
     -- it ends without its way back
     pub gives_up_on : q ≡ way_given_up p → So q
@@ -433,12 +482,12 @@ module _ (s : Settings) (leaders : Leaders) (p q : Writing) (old new : World) (b
         (rests_on (after_stage p (came.Apply (Err (Refused (Memory (entry_position (answered_entry p)))))) 0) refl refl refl refl refl same
         (Memory (entry_position (answered_entry p)), refl, told_then))
 
-    relays_on : next_of p ≡ Relay → RelaysHeld s leaders.leader p old q new → So q
+    relays_on : next_of p ≡ Relay → RelaysHeld s p old q new → So q
     relays_on at relays = subst So (sym relays.then)
         (rests_on (after_stage p (came.Relay (Ok tt)) hops) refl refl refl refl refl same
         (unrefused Relay at (λ same. absurd (cc)) (after_stage p (came.Relay (Ok tt)) hops) refl))
 
-    applies_on : next_of p ≡ Apply → AppliesHeld s leaders.leader p old q new → So q
+    applies_on : next_of p ≡ Apply → AppliesHeld s p old q new → So q
     applies_on at applies = subst So (sym applies.then)
         (rests_on (after_stage p (came.Apply (Ok tt)) hops) refl refl refl refl refl same
         (unrefused Apply at (λ same. absurd (cc)) (after_stage p (came.Apply (Ok tt)) hops) refl))
@@ -449,10 +498,10 @@ module _ (s : Settings) (leaders : Leaders) (p q : Writing) (old new : World) (b
   -- ---- whatever it was
 
   stage_on : IsWriteUnderWay true s old.keepers.told old.fleet p → EachGrows began.logs Was.logs → (at : WriteStage) → next_of p ≡ at
-      → DoesWriteStage (led_by true s leaders) at p old q new → So q
-  stage_on under grew Commit at (inl commits) = commits_on under at commits grew
-  stage_on under grew Commit at (inr refuses) = refuses_on under at refuses
-  stage_on under grew Inverse at does = inverse_by does.job does.answered does.result at does.merges does.then
+      → DoesWriteStage (rules_of true s) at p old q new → So q
+  stage_on under grew Commit at does = commit_by under at (leaders_of_write s old.states p) does grew
+  stage_on under grew Inverse at does =
+      inverse_by does.job does.answered (sent_job (job_sender p does.committed) (job_by p does.job)) does.result refl at does.merges does.then
   stage_on under grew End at does = end_by does.job does.answered does.result at does.ends does.then
   stage_on under grew Relay at (inl relays) = relays_on (kept_logs relays.rest.keepers) at relays
   stage_on under grew Relay at (inr loses) = loses_relay_on (kept_logs loses.rest.keepers) loses
@@ -461,5 +510,6 @@ module _ (s : Settings) (leaders : Leaders) (p q : Writing) (old new : World) (b
   stage_on under grew Done at does = absurd does
 
   pub writes_on : IsWriteUnderWay true s old.keepers.told old.fleet p → EachGrows began.logs Was.logs
-      → DoesWriteStage (led_by true s leaders) (next_of p) p old q new → So q
-  writes_on under grew does = stage_on under grew (next_of p) refl does
+      → ComesOfWrite (rules_of true s) p old q new → So q
+  writes_on under grew (inl next) = stage_on under grew (next_of p) refl next.does
+  writes_on under grew (inr down) = down_on (kept_logs (ap (λ (x : World). x.keepers) down.same)) down

@@ -13,6 +13,7 @@ use Rattle.request_check.specs.declared.checked.Checked.TheVariants as asks
 use Rattle.request_check.specs.declared.checked.CheckedCall.{CheckedCall}
 use Rattle.request_check.specs.declared.checked.CheckedCall.TheVariants as call
 use Rattle.request_check.specs.declared.checked.CheckedRead.{CheckedRead}
+use Rattle.request_check.specs.declared.health.CheckedHealth.{CheckedHealth}
 use Rattle.request_check.specs.declared.links.CheckedLink.{CheckedLink}
 use Rattle.request_check.specs.declared.plans.CheckedPlan.{CheckedPlan}
 use Rattle.request_check.specs.declared.stores.CheckedStore.{CheckedStore}
@@ -70,6 +71,7 @@ pub record OthersKeepPromise : Type 0 where
   pub stores : (asked : CheckedStore) → KeepsLine (asks.Store asked)
   pub caches : (asked : CheckedCache) → KeepsLine (asks.Cache asked)
   pub links : (asked : CheckedLink) → KeepsLine (asks.Link asked)
+  pub health : (asked : CheckedHealth) → KeepsLine (asks.Health asked)
 
 -- ---- two lines
 

@@ -24,7 +24,7 @@ use Rattle.tao_base.specs.declared.entry.Entry.{Entry}
 use Rattle.tao_base.specs.declared.entry.Origin.TheVariants.{Client}
 use Rattle.tao_base.specs.declared.id.Key.{Key}
 use Rattle.tao_core.specs.Core.{Moment}
-use Rattle.tao_core.specs.Laws.{AreAllUp, IsSettled}
+use Rattle.tao_core.specs.Laws.{IsSettled}
 use Rattle.tao_keeper.specs.KeeperState.{KeeperState}
 use Rattle.tao_keeper.specs.declared.jobs.Job.{Job}
 use Rattle.tao_schema.specs.Schema.{types_of}
@@ -161,8 +161,6 @@ pub record IsPlainOf (m : Moment) (plain : Plain) : Type 0 where
   pub learnt : (number : ℕ) → FloorsAre (plain.learnt number) (floors_of m.core.sessions number)
   pub held : AreBegun m plain.held
   pub settled : IsSettledSince m plain.settled
-  -- as at an opening, since no request takes a node down yet
-  pub up : AreAllUp m
 
 -- a core that was just opened: nobody has learnt of anything, no call is held, and nothing was settled
 abbrev pub opened_plain : Moment → Plain

@@ -8,8 +8,8 @@ pub fn calls_keep_promise()
     ensures { CallsKeepPromise }
 {}
 
-/// The lines of stores, of cache nodes and of the link keep the promise.
-#[tactic(auto, using(crate::proofs::CacheLines::others_keep))]
+/// The lines of stores, of cache nodes, of the link and of who is up keep the promise.
+#[tactic(auto, using(crate::proofs::HealthLines::others_keep))]
 pub fn others_keep_promise()
     ensures { OthersKeepPromise }
 {}

@@ -2,12 +2,12 @@
 use Rattle.std.proofs.Common.{◌≡◌, ◌⊎◌, Bool, true, length, Some, Ok, unwrap_or, sym, ap, subst, ◌∙◌, inl, inr, arith}
 use Rattle.std.proofs.lemmas.Bool.{cases_lt}
 use Rattle.config_json.specs.Config.{config_in}
+use Rattle.headline_kept.proofs.Keeping.{headline_kept}
 use Rattle.replies.specs.declared.reply.Reply.{Reply}
 use Rattle.requests.specs.declared.request.Request.{Request}
 use Rattle.tao_base.specs.declared.id.StoreName.{StoreName}
-use Rattle.tao_core.specs.Core.{ComeUp, CoreState, IsCoreOf, moment_of}
+use Rattle.tao_core.specs.Core.{CoreState, IsCoreOf, StaysUsable, moment_of}
 use Rattle.core_model.proofs.KeptStores.{kept_stays}
-use Rattle.core_model.specs.Consistent.{GoesOn}
 use Rattle.core_model.specs.Growing.{StoresGrow}
 use Rattle.core_model.specs.Stores.{AreKeptIn, IsConfiguredStore}
 use Rattle.core_nodes.proofs.OpenLemmas.{all_first}
@@ -17,7 +17,7 @@ use Rattle.tao_keeper.specs.declared.keeper.Opened.TheVariants.{Ready}
 use Rattle.tao_top.proofs.Configured.{taken_rules}
 use Rattle.tao_top.specs.Kept.{AreOpenedWith, LeavesTables, MayServe, StillBegin}
 use Rattle.core_nodes.specs.Outside.{Outside}
-use Rattle.tao_top.specs.Step.{AnswersLine, KeepsServing}
+use Rattle.tao_top.specs.Step.{AnswersLine}
 use Rattle.topology.specs.Config.{Settings}
 
 opened_grown : (tells : Bool) (s : Settings) (old new : Tables) → StoresGrow tells s old new → tells ≡ true → AreOpenedWith s old → AreOpenedWith s new
@@ -60,12 +60,16 @@ still_grown tells s old new only told opened kept line may t configured ready = 
 -- ---- a request that is answered, where the core stands within a value
 
 module _ (tells : Bool) (core within next : CoreState) (old new : Outside) (is : within ≡ core) (settings : next.settings ≡ within.settings) where
-  pub call_answers : (request : Request) (reply : Reply) → AnswersRequest tells (moment_of within old) request reply (moment_of next new)
-      → GoesOn within.fleet next.fleet → ComeUp tells new.keepers.told within next → StoresGrow tells within.settings old.keepers.told new.keepers.told
-      → IsCoreOf tells new.keepers.told next → AnswersLine tells (moment_of core old) (Ok request) reply (moment_of next new)
-  call_answers request reply answers goes comes grows of_core =
-      subst (λ c. AnswersRequest tells (moment_of c old) request reply (moment_of next new) × KeepsServing tells (moment_of c old) (moment_of next new)) is
-      (answers, record { settings = settings; goes = goes; comes = comes; grows = grows; of_core = of_core })
+  pub call_answers : (request : Request) (reply : Reply) → IsCoreOf tells old.keepers.told core
+      → AnswersRequest tells (moment_of within old) request reply (moment_of next new)
+      → StaysUsable tells old.keepers new.keepers within next → AnswersLine tells (moment_of core old) (Ok request) reply (moment_of next new)
+  call_answers request reply before answers usable =
+      subst (λ c. AnswersLine tells (moment_of c old) (Ok request) reply (moment_of next new)) is (
+        answers,
+        record { settings = settings; goes = usable.goes; comes = usable.comes; grows = usable.grows; of_core = usable.keepers },
+        headline_kept.kept tells (moment_of within old) (moment_of next new) request reply
+            (record { before = subst (IsCoreOf tells old.keepers.told) (sym is) before; after = usable; answers = answers }),
+      )
 
   module _ (serving : MayServe tells core old.keepers.told) (grows : StoresGrow tells within.settings old.keepers.told new.keepers.told)
       (of_core : IsCoreOf tells new.keepers.told next) where

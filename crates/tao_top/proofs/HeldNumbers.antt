@@ -5,15 +5,19 @@ use Rattle.std.proofs.lemmas.Bool.{cases_Bool, cases_eq, eq-eqb, ne_eqb}
 use Rattle.std.specs.Prelude.{◌==◌, IfSome, if◌then◌else◌, is_some, not}
 use Rattle.core_model.proofs.Places.{one_some}
 use Rattle.core_plans.specs.Held.{AddsPlan, ChangesPlan, IsOver, Plans, TakesPlan, next_stage, plan_at}
-use Rattle.core_plans.specs.HeldWrites.{DoesWriteStage}
-use Rattle.core_plans.specs.LedBy.{LedBy}
+use Rattle.core_plans.specs.HeldWrites.{CommitsBy, ComesOfWrite, DoesWriteStage, write_is_down}
+use Rattle.core_plans.specs.LedBy.{Rules}
+use Rattle.core_plans.specs.Needs.{leaders_of_write}
 use Rattle.core_plans.specs.declared.held.HeldPlan.{HeldPlan}
 use Rattle.core_plans.specs.declared.held.HeldPlan.TheVariants as of
+use Rattle.core_plans.specs.declared.leaders.Leaders.{Leaders}
 use Rattle.core_sessions.specs.Sessions.{Session}
 use Rattle.core_steps.specs.World.{World}
+use Rattle.promise_kept.proofs.HealthLines.{health_so}
 use Rattle.promise_kept.proofs.ReadLemmas.{IsReadReply, read_reply_is}
 use Rattle.promise_kept.proofs.Refusing.{stage_refuses}
 use Rattle.promise_kept.proofs.Settled.{unsettled_keeps}
+use Rattle.promise_kept.proofs.WritesOn.{refused_rests}
 use Rattle.replies.specs.declared.nodes.NodeReply.TheVariants.{Link}
 use Rattle.replies.specs.declared.plans.Stage.{Stage}
 use Rattle.replies.specs.declared.refusals.Refusal.{Refusal}
@@ -211,7 +215,7 @@ written_ends (Some own) committed job hops reply is over = refusal_ends reply (i
 written_ends None None job hops reply is over = absurd (cc)
 written_ends None (Some c) job hops reply is over = sym (ap says_next (one_some _ reply over))
 
-module _ (led : LedBy) (old new : World) where
+module _ (rules : Rules) (old new : World) where
   -- a stage of a write refuses it so, or not at all
   same_refused : (p q : Writing) → p.refused ≡ None → q.refused ≡ p.refused → IfSome q.refused IsRefusal
   same_refused p q none same = subst (λ o. IfSome o IsRefusal) (sym (same ∙ none)) tt
@@ -219,11 +223,15 @@ module _ (led : LedBy) (old new : World) where
   now_refused : (q : Writing) (refusal : Refusal) → q.refused ≡ Some (Refused refusal) → IfSome q.refused IsRefusal
   now_refused q refusal is = subst (λ o. IfSome o IsRefusal) (sym is) (refusal, refl)
 
-  stage_refusal : (at : WriteStage) (p q : Writing) → p.refused ≡ None → DoesWriteStage led at p old q new → IfSome q.refused IsRefusal
-  stage_refusal Commit p q none (inl commits) = same_refused p q none (ap (λ (x : Writing). x.refused) commits.then)
-  stage_refusal Commit p q none (inr refuses) = now_refused q _ (ap (λ (x : Writing). x.refused) refuses.then)
-  stage_refusal Inverse p q none does = same_refused p q none (inverse_keeps led p q old new does).keeps.refused
-  stage_refusal End p q none does = same_refused p q none (end_keeps led.tells led.settings p q old new does).keeps.refused
+  commit_refusal : (chosen : Option Leaders) (p q : Writing) → p.refused ≡ None → CommitsBy rules chosen p old q new → IfSome q.refused IsRefusal
+  commit_refusal (Some leaders) p q none (inl commits) = same_refused p q none (ap (λ (x : Writing). x.refused) commits.then)
+  commit_refusal (Some leaders) p q none (inr refuses) = now_refused q _ (ap (λ (x : Writing). x.refused) refuses.then)
+  commit_refusal None p q none finds = now_refused q _ (ap (λ (x : Writing). x.refused) finds.then)
+
+  stage_refusal : (at : WriteStage) (p q : Writing) → p.refused ≡ None → DoesWriteStage rules at p old q new → IfSome q.refused IsRefusal
+  stage_refusal Commit p q none does = commit_refusal (leaders_of_write rules.settings old.states p) p q none does
+  stage_refusal Inverse p q none does = same_refused p q none (inverse_keeps rules p q old new does).keeps.refused
+  stage_refusal End p q none does = same_refused p q none (end_keeps rules.tells rules.settings p q old new does).keeps.refused
   stage_refusal Relay p q none (inl relays) = same_refused p q none (ap (λ (x : Writing). x.refused) relays.then)
   stage_refusal Relay p q none (inr loses) = now_refused q _ (ap (λ (x : Writing). x.refused) loses.then)
   stage_refusal Apply p q none (inl applies) = same_refused p q none (ap (λ (x : Writing). x.refused) applies.then)
@@ -231,14 +239,20 @@ module _ (led : LedBy) (old new : World) where
   stage_refusal Done p q none does = absurd does
 
   -- one that was refused has no stage that follows
-  not_yet : (p q : Writing) (refused : Option Reply) → DoesWriteStage led (stage_by refused p.committed p.job p.back) p old q new → refused ≡ None
+  not_yet : (p q : Writing) (refused : Option Reply) → DoesWriteStage rules (stage_by refused p.committed p.job p.back) p old q new → refused ≡ None
   not_yet p q None does = refl
   not_yet p q (Some reply) does = absurd does
 
-  over_ends : (before after : HeldPlan) (reply : Reply) → Advances led before old after new → IsOver after reply → says_next reply ≡ false
-  over_ends (of.Read p) (of.Read q) reply (inl steps) over = read_ends reply (read_reply_is q reply (stage_refuses led p q old new steps.steps.does) over)
+  -- a write that did its next stage, or ended since a node is down
+  came_refusal : (p q : Writing) → ComesOfWrite rules p old q new → IfSome q.refused IsRefusal
+  came_refusal p q (inl next) = stage_refusal (next_of p) p q (not_yet p q p.refused next.does) next.does
+  came_refusal p q (inr down) = now_refused q _
+      (ap (λ (x : Writing). x.refused) down.then ∙ (refused_rests (next_of p) p (write_is_down down.node p)).refused)
+
+  over_ends : (before after : HeldPlan) (reply : Reply) → Advances rules before old after new → IsOver after reply → says_next reply ≡ false
+  over_ends (of.Read p) (of.Read q) reply (inl steps) over = read_ends reply (read_reply_is q reply (stage_refuses rules p q old new steps.steps.does) over)
   over_ends (of.Write p) (of.Write q) reply (inl steps) over =
-      written_ends q.refused q.committed q.job q.hops reply (stage_refusal (next_of p) p q (not_yet p q p.refused steps) steps) over
+      written_ends q.refused q.committed q.job q.hops reply (came_refusal p q steps) over
   over_ends (of.Read p) (of.Write q) reply (inl steps) over = absurd steps
   over_ends (of.Write p) (of.Read q) reply (inl steps) over = absurd steps
   over_ends (of.Read p) after reply (inr ends) over = (let e : false ≡ true = ends.last in absurd (cc))
@@ -332,4 +346,4 @@ module _ (old new : Moment) (held : List ℕ) (are : ArePlans held old.core.plan
   plans_then (asks.Cache asked) reply can answers = after_cache asked reply answers
   plans_then (asks.Store asked) reply can answers = after_store asked reply answers
   plans_then (asks.Link asked) reply can answers = after_link asked reply answers
-  plans_then (asks.Health asked) reply can answers = absurd answers
+  plans_then (asks.Health asked) reply can answers = same (health_so old new reply asked answers).rests.keeps.plans

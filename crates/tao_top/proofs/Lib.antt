@@ -9,5 +9,4 @@ pub mod Opened
 pub mod HeldNumbers
 pub mod RunLaws
 pub mod WholeRun
-pub mod AllUp
 pub mod Promised

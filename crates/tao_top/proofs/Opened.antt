@@ -12,6 +12,7 @@ use Rattle.core_plans.specs.declared.held.LearntEntries.{LearntEntries}
 use Rattle.core_sessions.specs.Sessions.{Session, is_open, new_session, with_session}
 use Rattle.core_sessions.specs.declared.sessions.OpenSession.{OpenSession}
 use Rattle.core_steps.specs.declared.jobs.LearntEntry.{LearntEntry}
+use Rattle.promise_kept.proofs.HealthLines.{health_so}
 use Rattle.promise_kept.proofs.Settled.{unsettled_keeps}
 use Rattle.replies.specs.declared.plans.Stage.{Stage}
 use Rattle.replies.specs.declared.nodes.NodeReply.TheVariants.{Link}
@@ -226,4 +227,4 @@ module _ (old new : Moment) (opened : List ℕ) (are : AreSessions opened old.co
   sessions_after (asks.Cache asked) reply can answers = after_cache asked reply answers
   sessions_after (asks.Store asked) reply can answers = after_store asked reply answers
   sessions_after (asks.Link asked) reply can answers = after_link asked reply answers
-  sessions_after (asks.Health asked) reply can answers = absurd answers
+  sessions_after (asks.Health asked) reply can answers = same (health_so old new reply asked answers).rests.keeps.sessions

@@ -36,7 +36,6 @@ use Rattle.tao_core.specs.Core.{CoreState, IsCoreOf, Moment, moment_of}
 use Rattle.tao_keeper.specs.KeeperState.{IsLater}
 use Rattle.tao_keeper.specs.Table.{Tables}
 use Rattle.tao_schema.specs.Schema.{types_of}
-use Rattle.tao_top.proofs.AllUp.{begun_up}
 use Rattle.tao_top.proofs.GoingOn.{IsOver, none_after}
 use Rattle.tao_top.proofs.HeldNumbers.{plans_then}
 use Rattle.tao_top.proofs.Opened.{sessions_after}
@@ -268,8 +267,7 @@ module _ (requests : RequestsKeepPromise) (kept : KeptAnswersAgain) (old : Outsi
       let keep = opened_keep s line (store_count s) old.keepers.told around.keepers.told opened.opened in
       let same = opened_stores s old.keepers.told around.keepers.told keep in
       let first : IsPlainOf m (at_first s old.keepers.told) =
-      subst (λ st. IsPlainOf m (record (opened_plain m) { stores = st })) same
-      (opened_seen m takes.begun (begun_up line m takes.configured takes.begun.states)) in
+      subst (λ st. IsPlainOf m (record (opened_plain m) { stores = st })) same (opened_seen m takes.begun) in
       let none : AreInUse none_in_use core.sessions core.plans = record {
         opened = subst (AreSessions []) (sym takes.begun.sessions) (record { numbers = λ n. refl; count = refl });
         held = subst (ArePlans []) (sym takes.begun.plans) (record { numbers = λ n. refl; count = refl; apart = tt });

@@ -8,6 +8,7 @@ use Rattle.core_model.specs.Growing.{StoresGrow}
 use Rattle.core_nodes.specs.Beginning.{AreAtStores}
 use Rattle.config_json.specs.declared.refusal.ConfigRefusal.TheVariants.{BadConfig}
 use Rattle.graph_model.specs.Told.{WhereTold}
+use Rattle.headline_kept.specs.Headline.{KeepsHeadline}
 use Rattle.reply_json.specs.Reply.{reply_text}
 use Rattle.replies.specs.declared.refusals.LineRefused.TheVariants as line
 use Rattle.replies.specs.declared.refusals.Refusal.TheVariants.{Line}
@@ -117,10 +118,11 @@ pub record KeepsServing (tells : Bool) (old new : Moment) : Type 0 where
   pub grows : StoresGrow tells old.core.settings old.keepers.told new.keepers.told
   pub of_core : IsCoreOf tells new.keepers.told new.core
 
--- what the reply to what a line asks says
+-- what the reply to what a line asks says, and what the line keeps
 abbrev pub AnswersLine : Bool → Moment → Result Request LineRefusal → Reply → Moment → Type 0
 AnswersLine tells old (Err refused) reply new = AnswersNoRequest refused reply × (new ≡ old)
-AnswersLine tells old (Ok request) reply new = AnswersRequest tells old request reply new × KeepsServing tells old new
+AnswersLine tells old (Ok request) reply new =
+    AnswersRequest tells old request reply new × KeepsServing tells old new × KeepsHeadline tells old request reply new
 
 -- ---- the run
 

@@ -9,8 +9,7 @@ returns-clause-does g c =
     call_answers g.K.Keeper.TELLS c.args.self.now c.self.inside.core c.call.new.self
     (outside (state c.args.keepers.now) (shown c.args.link.now))
     (outside (state c.call.new.keepers) (shown c.call.new.link)) c.self.view_is c.call.ensures.usable.settings
-    c.args.request.now c.call.result c.call.ensures.does c.call.ensures.usable.goes c.call.ensures.usable.comes
-    c.call.ensures.usable.grows c.call.ensures.usable.keepers
+    c.args.request.now c.call.result c.requires.serving.of_core c.call.ensures.does c.call.ensures.usable
 
 pub returns-clause-serving : goal.returns-clause-serving
 returns-clause-serving g c =

@@ -1,5 +1,5 @@
 //! The keeper in memory.
-ghost use Rattle.std.specs.Prelude.{◌≡◌, ◌≤◌, ◌<◌, IfOk, IfSome, drop, length, option_copied, take};
+ghost use Rattle.std.specs.Prelude.{◌≡◌, ◌≤◌, ◌<◌, false, IfOk, IfSome, drop, length, option_copied, take};
 ghost use Rattle.graph_model.specs.Edges.{edge_list, edge_record, number_of};
 ghost use Rattle.graph_model.specs.Log.{object, version, entry_at, additions};
 ghost use Rattle.graph_model.specs.Soundness.{CanFollow};
@@ -7,7 +7,7 @@ ghost use Rattle.tao_base.specs.declared.id.StoreName.{StoreName as Store};
 ghost use Rattle.tao_keeper.specs.Given.{AreGiven, HaveSmallStamps, IsGivenEntry, IsGivenJob, IsPosition};
 ghost use Rattle.keeper_map.specs.MapKeeper.{call_plan, shown_by, told_by};
 ghost use Rattle.counts.specs.Planned.{from_one};
-ghost use Rattle.keeper_map.specs.Plan.{CallsAsPlanned, CommitsAsPlanned};
+ghost use Rattle.keeper_map.specs.Plan.{CallsAsPlanned, CommitsAsPlanned, mended};
 ghost use Rattle.tao_keeper.specs.Table.{Changes, IsLeastJob, IsJobAt, OpensAs, StandsAt, Stays, after_commit, after_end, after_open, empty_table};
 
 use crate::log;
@@ -29,18 +29,28 @@ pub struct MapKeeper {
 }
 
 impl MapKeeper {
-    /// A keeper with no stores. The calls and the commits whose numbers are listed fail, and no others: the first
-    /// call has the number 1, and so has the first commit.
+    /// A keeper with no stores. The calls and the commits whose numbers are listed fail, and every call from `from` on, and
+    /// no others: the first call has the number 1, and so has the first commit.
     pub fn make(alloc: Global, fails: Fails) -> MapKeeper
         ensures empty { (at : Store) → told_by result at ≡ empty_table }
         ensures calls { (call_plan result).calls ≡ from_one fails.calls.items }
         ensures commits { (call_plan result).commits ≡ from_one fails.commits.items }
+        ensures from { (call_plan result).from ≡ fails.from }
+        ensures planned { (call_plan result).is_mended ≡ false }
         ensures faults { (call_plan result).faults ≡ 0 }
     {
         MapKeeper {
             stores: StoreTables::new(alloc),
             plan: FaultPlan::of(fails),
         }
+    }
+
+    /// Takes away all failures that were planned, so that no call fails from now on. Keeps all tables, and what was counted.
+    pub fn mend(&mut self)
+        ensures tables { told_by self.new ≡ told_by self.old }
+        ensures plan { call_plan self.new ≡ mended (call_plan self.old) }
+    {
+        self.plan.mend();
     }
 }
 

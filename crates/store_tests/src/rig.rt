@@ -62,6 +62,7 @@ pub(crate) fn empty_keeper(alloc: Global) -> MapKeeper
     let fails = Fails {
         calls: Vec::new(alloc),
         commits: Vec::new(alloc),
+        from: None,
     };
     MapKeeper::make(alloc, fails)
 }

@@ -2,15 +2,16 @@
 //! has the format.
 //!
 //! What it promises. A run is right exactly where it wrote the expected replies, byte for byte, and ended with
-//! the expected status.
+//! the expected status. A line that stands in some turns of a sweep stands in exactly those.
 //!
-//! The contracts that say so: `fault_of`.
+//! The contracts that say so: `fault_of`, `Turns::has`.
 #![tactic(auto)]
 
 mod compare;
 mod piece;
 mod reading;
 mod runs;
+mod turns;
 
 pub use compare::{Fault, describe, fault_of};
 pub use reading::{Unread, read};

@@ -1,6 +1,7 @@
 //! Reads a script.
 use crate::piece::{Piece, line_of, piece_of, push_piece};
 use crate::runs::{GivenLog, Run, Script};
+use crate::turns::tells_turn;
 use std::alloc::{AllocError, Global};
 
 /// Why a text is no script.
@@ -16,6 +17,9 @@ impl From<AllocError> for Unread {
         Unread::OutOfMemory
     }
 }
+
+/// The status of a run whose sink takes nothing more.
+const FULL_SINK: u8 = 5;
 
 /// Goes on with the numbers of calls by those of a text. Says whether it has numbers alone.
 fn push_numbers(fails: &mut Vec<u64>, numbers: &str) -> Result<bool, AllocError> {
@@ -123,6 +127,21 @@ fn take_run_line(alloc: Global, run: &mut Run, line: &str) -> Result<bool, Alloc
     take_piece(alloc, &mut run.input, input_of(line))
 }
 
+/// Goes on with a run by what fails in this turn of a sweep. Says whether it was told.
+fn take_run_turn(run: &mut Run, swept: &str, turn: u64) -> Result<bool, AllocError> {
+    match swept {
+        "carry" => run.carries.push(turn)?,
+        "take" => run.takes.push(turn)?,
+        "put" => run.puts.push(turn)?,
+        "byte" => {
+            run.room = usize::try_from(turn).ok();
+            run.is_cut = true;
+        }
+        _ => return Ok(false),
+    }
+    Ok(true)
+}
+
 /// The words of the run that a line begins, and whether it goes over a keeper of its own.
 fn head_of(line: &str) -> Option<(&str, bool)> {
     let (line, is_anew) = match line.strip_prefix("$$") {
@@ -137,11 +156,30 @@ fn head_of(line: &str) -> Option<(&str, bool)> {
     }
 }
 
-/// Goes on with a script by a line of its text. Says whether the line has a meaning where it stands.
-fn take_line(alloc: Global, script: &mut Script, line: &str) -> Result<bool, AllocError> {
-    if line.is_empty() || line.starts_with('#') {
-        return Ok(true);
+/// Goes on with a script by what fails in this turn of a sweep. Says whether it was told.
+fn take_turn(script: &mut Script, swept: &str, turn: u64) -> Result<bool, AllocError> {
+    script.is_swept = true;
+    match swept {
+        "call" => script.calls.push(turn)?,
+        "commit" => script.commits.push(turn)?,
+        "call on" => script.from = Some(turn),
+        _ => {
+            return match script.runs.last_mut() {
+                Some(run) => take_run_turn(run, swept, turn),
+                None => Ok(false),
+            };
+        }
     }
+    Ok(true)
+}
+
+/// Goes on with a script by a line of its text that stands in this turn. Says whether the line has a meaning where it stands.
+fn take_standing(
+    alloc: Global,
+    script: &mut Script,
+    line: &str,
+    turn: u64,
+) -> Result<bool, AllocError> {
     if line.starts_with('$') {
         let Some((words, is_anew)) = head_of(line) else {
             return Ok(false);
@@ -155,21 +193,65 @@ fn take_line(alloc: Global, script: &mut Script, line: &str) -> Result<bool, All
     if let Some(numbers) = line.strip_prefix("! commit ") {
         return push_numbers(&mut script.commits, numbers);
     }
+    if let Some(swept) = line.strip_prefix("! each ") {
+        return take_turn(script, swept, turn);
+    }
     match script.runs.last_mut() {
         Some(run) => take_run_line(alloc, run, line),
         None => Ok(false),
     }
 }
 
-/// Reads a script's text.
-pub fn read(alloc: Global, text: &str) -> Result<Script, Unread> {
+/// Goes on with a script by a line of its text. Says whether the line has a meaning where it stands.
+fn take_line(
+    alloc: Global,
+    script: &mut Script,
+    line: &str,
+    turn: u64,
+) -> Result<bool, AllocError> {
+    if line.is_empty() || line.starts_with('#') {
+        return Ok(true);
+    }
+    let Some(told) = line.strip_prefix('@') else {
+        return take_standing(alloc, script, line, turn);
+    };
+    let Some((turns, rest)) = told.split_once(' ') else {
+        return Ok(false);
+    };
+    match tells_turn(turns, turn) {
+        Some(true) => take_standing(alloc, script, rest, turn),
+        Some(false) => Ok(true),
+        None => Ok(false),
+    }
+}
+
+/// Cuts what a run has to write where its sink is full, which is what it then ends by.
+fn cut_replies(alloc: Global, run: &mut Run) -> Result<(), AllocError> {
+    let Some(room) = run.room else {
+        return Ok(());
+    };
+    if !run.is_cut || run.replies.len() <= room {
+        return Ok(());
+    }
+    if let Some(front) = run.replies.get(..room) {
+        run.replies = String::from_str(alloc, front)?;
+        run.code = FULL_SINK;
+    }
+    Ok(())
+}
+
+/// Reads a script's text as it stands in a turn, counted from 1.
+pub fn read(alloc: Global, text: &str, turn: u64) -> Result<Script, Unread> {
     let mut script = Script::new(alloc);
     let mut number: usize = 0;
     for line in text.lines() {
         number = number.saturating_add(1);
-        if !take_line(alloc, &mut script, line)? {
+        if !take_line(alloc, &mut script, line, turn)? {
             return Err(Unread::Line(number));
         }
+    }
+    for run in script.runs.iter_mut() {
+        cut_replies(alloc, run)?;
     }
     Ok(script)
 }

@@ -8,6 +8,10 @@ pub struct Script {
     pub calls: Vec<u64>,
     /// A keeper's commits that fail.
     pub commits: Vec<u64>,
+    /// From which call on each of a keeper's fails, until its first run has ended.
+    pub from: Option<u64>,
+    /// Whether it is played turn after turn, until nothing fails.
+    pub is_swept: bool,
     pub runs: Vec<Run>,
 }
 
@@ -37,6 +41,8 @@ pub struct Run {
     pub puts: Vec<u64>,
     /// How many bytes a narrow sink takes in all, one of each piece; without it the sink takes whole pieces.
     pub room: Option<usize>,
+    /// Whether its replies end where that room does.
+    pub is_cut: bool,
     /// All that it has to write.
     pub replies: String,
     pub code: u8,
@@ -48,6 +54,8 @@ impl Script {
         Script {
             calls: Vec::new(alloc),
             commits: Vec::new(alloc),
+            from: None,
+            is_swept: false,
             runs: Vec::new(alloc),
         }
     }
@@ -65,6 +73,7 @@ impl Run {
             takes: Vec::new(alloc),
             puts: Vec::new(alloc),
             room: None,
+            is_cut: false,
             replies: String::new(alloc),
             code: 0,
         };

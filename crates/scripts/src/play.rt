@@ -14,6 +14,14 @@ use tao_io::{MemorySink, MemorySource, Sink, Source, Status};
 use tao_keeper::Keeper;
 use tao_link::{Link, PlannedLink, SwitchLink};
 
+/// The statuses of a run whose source failed, or whose sink.
+const FAULTY_SOURCE: u8 = 4;
+
+const FAULTY_SINK: u8 = 5;
+
+/// The most turns of a sweep.
+const MOST_TURNS: u64 = 1000;
+
 /// The status of a run over the keeper and a link, after which another may follow.
 fn run_kept<R: Source, S: Sink, K: Keeper, L: Link>(
     alloc: Global,
@@ -30,12 +38,13 @@ fn run_kept<R: Source, S: Sink, K: Keeper, L: Link>(
 }
 
 /// The status of a run of a script, which writes to this sink. Its link fails at the carries that the script tells, or where it has none
-/// at those that the run cuts.
+/// at those that the run cuts. Notes whether a planned carry failed.
 fn run_over<S: Sink, K: Keeper>(
     alloc: Global,
     keeper: &mut K,
     run: &Run,
     output: &mut S,
+    failed: &mut bool,
 ) -> Result<Status, AllocError>
     requires { WhereTold K.TELLS (MayBeginAny (K.state keeper.old).told) }
     ensures { WhereTold K.TELLS (MayBeginAny (K.state keeper.new).told) }
@@ -47,16 +56,20 @@ fn run_over<S: Sink, K: Keeper>(
         return Ok(run_kept(alloc, &run.words, &mut source, output, keeper, &mut link));
     }
     let mut link = PlannedLink::make(run.carries.to_vec(alloc)?);
-    Ok(run_kept(alloc, &run.words, &mut source, output, keeper, &mut link))
+    let status = run_kept(alloc, &run.words, &mut source, output, keeper, &mut link);
+    *failed = *failed || link.faults() > 0;
+    Ok(status)
 }
 
-/// What is said of how a run ended, or nothing where it is right.
+/// What is said of how a run ended, or nothing where it is right. Notes whether its source or its sink failed.
 fn judge(
     alloc: Global,
     run: &Run,
     written: &[u8],
     status: Status,
+    failed: &mut bool,
 ) -> Result<Option<String>, AllocError> {
+    *failed = *failed || status.code == FAULTY_SOURCE || status.code == FAULTY_SINK;
     match fault_of(run, written, status.code) {
         Some(fault) => {
             let text = describe(alloc, fault, run, written, status.code)?;
@@ -66,23 +79,24 @@ fn judge(
     }
 }
 
-/// Plays a run over the keeper. What is said of its fault, or nothing.
+/// Plays a run over the keeper. What is said of its fault, or nothing. Notes whether a carry, its source or its sink failed.
 fn play_run<K: Keeper>(
     alloc: Global,
     keeper: &mut K,
     run: &Run,
+    failed: &mut bool,
 ) -> Result<Option<String>, AllocError>
     requires { WhereTold K.TELLS (MayBeginAny (K.state keeper.old).told) }
     ensures { WhereTold K.TELLS (MayBeginAny (K.state keeper.new).told) }
 {
     if let Some(room) = run.room {
         let mut output = NarrowSink::make(alloc, room);
-        let status = run_over(alloc, keeper, run, &mut output)?;
-        return judge(alloc, run, &output.bytes, status);
+        let status = run_over(alloc, keeper, run, &mut output, failed)?;
+        return judge(alloc, run, &output.bytes, status, failed);
     }
     let mut output = MemorySink::make(alloc, run.puts.to_vec(alloc)?);
-    let status = run_over(alloc, keeper, run, &mut output)?;
-    judge(alloc, run, output.bytes(), status)
+    let status = run_over(alloc, keeper, run, &mut output, failed)?;
+    judge(alloc, run, output.bytes(), status, failed)
 }
 
 /// Plays runs over the keeper, one after the other, of which the first has this number. What is said of the first fault, or nothing.
@@ -91,12 +105,13 @@ fn play_runs<K: Keeper>(
     keeper: &mut K,
     runs: &[Run],
     first: usize,
+    failed: &mut bool,
 ) -> Result<Option<String>, AllocError>
     requires { WhereTold K.TELLS (MayBeginAny (K.state keeper.old).told) }
 {
     let mut number = first;
     for run in runs {
-        if let Some(fault) = play_run(alloc, keeper, run)? {
+        if let Some(fault) = play_run(alloc, keeper, run, failed)? {
             let text = format!(in alloc; "run {number}, {fault}")?;
             return Ok(Some(text));
         }
@@ -112,6 +127,7 @@ fn new_keeper(alloc: Global, script: &Script) -> Result<MapKeeper, AllocError>
     let fails = Fails {
         calls: script.calls.to_vec(alloc)?,
         commits: script.commits.to_vec(alloc)?,
+        from: script.from,
     };
     Ok(MapKeeper::make(alloc, fails))
 }
@@ -121,18 +137,46 @@ fn is_for_sql(script: &Script) -> bool {
     script.runs.iter().any(|run| !run.logs.is_empty())
 }
 
+/// Plays the first of the runs over a keeper that may stop, and the others once it is mended.
+fn play_mended(
+    alloc: Global,
+    keeper: &mut MapKeeper,
+    runs: &[Run],
+    first: usize,
+    failed: &mut bool,
+) -> Result<Option<String>, AllocError>
+    requires { MayBeginAny (told_by keeper.old) }
+{
+    let Some((stopped, others)) = runs.split_first() else {
+        return Ok(None);
+    };
+    if let Some(fault) = play_run(alloc, keeper, stopped, failed)? {
+        let text = format!(in alloc; "run {first}, {fault}")?;
+        return Ok(Some(text));
+    }
+    keeper.mend();
+    play_runs(alloc, keeper, others, first.saturating_add(1), failed)
+}
+
 /// Plays runs of a script over tables in maps, unless it is for SQL alone.
 fn play_over_maps(
     alloc: Global,
     script: &Script,
     runs: &[Run],
     first: usize,
+    failed: &mut bool,
 ) -> Result<Option<String>, AllocError> {
     if is_for_sql(script) {
         return Ok(None);
     }
     let mut keeper = new_keeper(alloc, script)?;
-    play_runs(alloc, &mut keeper, runs, first)
+    let said = if script.from.is_some() {
+        play_mended(alloc, &mut keeper, runs, first, failed)?
+    } else {
+        play_runs(alloc, &mut keeper, runs, first, failed)?
+    };
+    *failed = *failed || keeper.faults() > 0;
+    Ok(said)
 }
 
 /// What is said where there are no tables to play over.
@@ -147,6 +191,7 @@ fn play_over_given(
     keeper: &mut SqlKeeper,
     runs: &[Run],
     first: usize,
+    failed: &mut bool,
 ) -> Result<Option<String>, AllocError> {
     let is_given = match runs.first() {
         Some(run) => give_logs(alloc, keeper, run)?,
@@ -155,16 +200,21 @@ fn play_over_given(
     if !is_given {
         return no_tables(alloc);
     }
-    play_runs(alloc, keeper, runs, first)
+    play_runs(alloc, keeper, runs, first, failed)
 }
 
 /// Plays runs over new tables by SQL.
-fn play_over_sql(alloc: Global, runs: &[Run], first: usize) -> Result<Option<String>, AllocError> {
+fn play_over_sql(
+    alloc: Global,
+    runs: &[Run],
+    first: usize,
+    failed: &mut bool,
+) -> Result<Option<String>, AllocError> {
     let Ok(keeper) = SqlKeeper::open_memory(alloc) else {
         return no_tables(alloc);
     };
     let mut keeper = keeper;
-    let said = play_over_given(alloc, &mut keeper, runs, first);
+    let said = play_over_given(alloc, &mut keeper, runs, first, failed);
     keeper.close();
     said
 }
@@ -176,6 +226,7 @@ const MOST_OVER_SQL: usize = 65_536;
 fn is_for_maps(script: &Script) -> bool {
     !script.calls.is_empty()
         || !script.commits.is_empty()
+        || script.from.is_some()
         || script
             .runs
             .iter()
@@ -188,47 +239,87 @@ fn play_over_each(
     script: &Script,
     runs: &[Run],
     first: usize,
+    failed: &mut bool,
 ) -> Result<Option<String>, AllocError> {
-    if let Some(fault) = play_over_maps(alloc, script, runs, first)? {
+    if let Some(fault) = play_over_maps(alloc, script, runs, first, failed)? {
         return Ok(Some(fault));
     }
     if is_for_maps(script) {
         return Ok(None);
     }
-    let Some(fault) = play_over_sql(alloc, runs, first)? else {
+    let Some(fault) = play_over_sql(alloc, runs, first, failed)? else {
         return Ok(None);
     };
     let text = format!(in alloc; "over SQL, {fault}")?;
     Ok(Some(text))
 }
 
-/// What is said of a script.
-fn play(alloc: Global, script: &Script) -> Result<String, AllocError> {
+/// Plays a script once, and says what differs first, or nothing. Notes whether anything that was planned to fail did.
+fn play_once(
+    alloc: Global,
+    script: &Script,
+    failed: &mut bool,
+) -> Result<Option<String>, AllocError> {
     let mut first: usize = 1;
     // Those that follow one another over one keeper.
     for runs in script.runs.chunk_by(|_, next| !next.is_anew) {
-        if let Some(fault) = play_over_each(alloc, script, runs, first)? {
-            return Ok(fault);
+        if let Some(fault) = play_over_each(alloc, script, runs, first, failed)? {
+            return Ok(Some(fault));
         }
         first = first.saturating_add(runs.len());
     }
-    if script.runs.is_empty() {
-        return format!(in alloc; "no run");
-    }
+    Ok(None)
+}
+
+/// Over which keepers a script was played.
+fn over_which(script: &Script) -> &'static str {
     if is_for_maps(script) {
-        return format!(in alloc; "ok, not over SQL");
+        ", not over SQL"
+    } else if is_for_sql(script) {
+        ", over SQL alone"
+    } else {
+        ""
     }
-    if is_for_sql(script) {
-        return format!(in alloc; "ok, over SQL alone");
+}
+
+/// What is said of a script of which all is right, a sweep up to this turn.
+fn praise(alloc: Global, script: &Script, turn: u64) -> Result<String, AllocError> {
+    let over = over_which(script);
+    if script.runs.is_empty() {
+        format!(in alloc; "no run")
+    } else if script.is_swept {
+        format!(in alloc; "ok in turns 1 to {turn}{over}")
+    } else {
+        format!(in alloc; "ok{over}")
     }
-    format!(in alloc; "ok")
+}
+
+/// Plays a script in a turn. What is said of it, or nothing where another turn is to come: in a sweep, after a turn in which anything failed.
+fn play(alloc: Global, script: &Script, turn: u64) -> Result<Option<String>, AllocError> {
+    let mut failed = false;
+    match play_once(alloc, script, &mut failed)? {
+        Some(fault) if script.is_swept => format!(in alloc; "turn {turn}, {fault}").map(Some),
+        Some(fault) => Ok(Some(fault)),
+        None if script.is_swept && failed => Ok(None),
+        None => praise(alloc, script, turn).map(Some),
+    }
+}
+
+/// What is said of a script's text in a turn, or nothing where another is to come.
+fn say(alloc: Global, text: &str, turn: u64) -> Result<Option<String>, AllocError> {
+    match read(alloc, text, turn) {
+        Ok(script) => play(alloc, &script, turn),
+        Err(Unread::Line(number)) => { format!(in alloc; "line {number} has no meaning").map(Some) }
+        Err(Unread::OutOfMemory) => format!(in alloc; "no memory").map(Some),
+    }
 }
 
 /// What is said of a script's text.
 pub fn verdict(alloc: Global, text: &str) -> Result<String, AllocError> {
-    match read(alloc, text) {
-        Ok(script) => play(alloc, &script),
-        Err(Unread::Line(number)) => format!(in alloc; "line {number} has no meaning"),
-        Err(Unread::OutOfMemory) => format!(in alloc; "no memory"),
+    for before in 0..MOST_TURNS {
+        if let Some(said) = say(alloc, text, before.saturating_add(1))? {
+            return Ok(said);
+        }
     }
+    format!(in alloc; "it fails in turn {MOST_TURNS}")
 }

@@ -40,6 +40,7 @@ pub fn in_memory(rt: &HostRuntime, words: &[String]) -> u8 {
     let fails = Fails {
         calls: Vec::new(alloc),
         commits: Vec::new(alloc),
+        from: None,
     };
     let mut keepers = MapKeeper::make(alloc, fails);
     over(rt, words, &mut keepers)

@@ -7,7 +7,7 @@ from pathlib import Path
 from .words import Line
 
 REPLY = "> "
-OTHER_SIGNS = ("#", "!", "=", "_", "*", ">", "<")
+OTHER_SIGNS = ("#", "!", "=", "_", "*", ">", "<", "@")
 
 
 @dataclass

@@ -100,7 +100,9 @@ class Logs:
         return self.lengths[job.far]
 
     def end(self, job: Job) -> None:
-        self.jobs[job.shard].remove(job)
+        """Ends a job, where it is still open."""
+        if job in self.jobs[job.shard]:
+            self.jobs[job.shard].remove(job)
 
     def learn(self, key: Key, version: int) -> int:
         """The version of a key in its log, which is no less than one that was answered."""

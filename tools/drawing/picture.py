@@ -28,6 +28,8 @@ MARKS = {
     "dropped": "message dropped",
     "lost": "message lost",
     "settled": "has all of its logs, no message",
+    "down": "goes down, and loses what it held",
+    "up": "comes up, empty",
     "seen": "takes place here",
 }
 
@@ -118,6 +120,8 @@ def draw_mark(sheet: Sheet, mark: Mark, x: float, y: float) -> None:
     elif mark.kind == "held":
         corners = f"{x - 5:.1f},{y:.1f} {x:.1f},{y - 5:.1f} {x + 5:.1f},{y:.1f} {x:.1f},{y + 5:.1f}"
         sheet.element("polygon", points=corners, fill="#ffffff", stroke=HELD, stroke_width=1.6)
+    elif mark.kind in ("down", "up"):
+        sheet.box(x - 5, y - 5, 10, 10, "#ffffff" if mark.kind == "up" else BAD, stroke=INK)
     elif mark.kind in ("settled", "seen"):
         sheet.element("circle", cx=x, cy=y, r=3.5, fill=GOOD if mark.kind == "settled" else "#ffffff", stroke=INK)
     else:

@@ -18,10 +18,28 @@ REFUSED_AT_STORE = ("seq_reused", "shard_full", "stamp_full", "log_full", "keepe
 
 
 @dataclass
+class Course:
+    """A call on its way: its follower is chosen when it begins, and its leaders when it is committed."""
+
+    call: Line
+    follower: str
+    passed: str | None = None
+    leader: str = ""
+
+    @property
+    def shard(self) -> int:
+        return shard_of_call(self.call)
+
+    def route(self) -> list[str]:
+        """The way of a write: its follower, the leader of a slave region, the one that commits it."""
+        return [self.follower] + ([self.passed] if self.passed else []) + [self.leader]
+
+
+@dataclass
 class Plan:
     """A held call: the stage that comes next, and how its last reply will tell what came of it."""
 
-    call: Line
+    course: Course
     stage: str
     ending: Line
     job: Job | None = None
@@ -66,120 +84,120 @@ class Run:
         """The version that a read answered, and that of the log."""
         if reply.get("ok") not in READS:
             return None
-        call = self._plans.pop(request["plan"]).call if request["do"] == "advance" else request.get("request", request)
+        call = self._plans.pop(request["plan"]).course.call if request["do"] == "advance" else request.get("request", request)
         return reply["version"], self.logs.learn(key_of(call), reply["version"])
 
     # who serves
 
-    def _follower(self, call: Line) -> str:
-        return self.topology.follower(*self.sessions[call["session"]], shard_of_call(call))
-
-    def _master_leader(self, shard: int) -> str:
-        return self.topology.leader(self.topology.master(shard), shard)
+    def _tier(self, call: Line) -> tuple[str, str]:
+        return self.sessions[call["session"]]
 
     def _master_store(self, shard: int) -> str:
         return self.topology.store(self.topology.master(shard), shard)
 
-    def _route(self, call: Line) -> list[str]:
-        """The way of a write: its follower, the leader of a slave region, the master's leader."""
-        shard = shard_of_call(call)
-        region = self.sessions[call["session"]][0]
-        own = self.topology.leader(region, shard)
-        last = self._master_leader(shard)
-        return [self._follower(call)] + ([own] if own != last else []) + [last]
+    def _told(self, shard: int, by: str) -> list[str]:
+        """Who gets a message of an entry that a leader or store wrote at the shard's master: the preferred leader, where that is another and up."""
+        preferred = self.topology.preferred(self.topology.master(shard), shard)
+        told = self.topology.told(self.topology.master(shard), shard)
+        return told if preferred in (by, *self.topology.down) else [*told, preferred]
 
-    def _enter(self, call: Line, walk: Walk) -> None:
-        walk.way(session_column(call["session"]), self._follower(call), "client")
+    def _begin(self, call: Line, walk: Walk) -> Course:
+        course = Course(call, self.topology.follower(*self._tier(call), shard_of_call(call)) or "")
+        walk.way(session_column(call["session"]), course.follower, "client")
+        return course
+
+    def _choose(self, course: Course) -> None:
+        """The leaders of a write."""
+        tier, master = self._tier(course.call), self.topology.master(course.shard)
+        course.leader = self.topology.leader(tier, master, course.shard) or ""
+        course.passed = self.topology.leader(tier, tier[0], course.shard) if tier[0] != master else None
 
     # reads
 
     def _read(self, call: Line, reply: Line, walk: Walk) -> None:
-        self._enter(call, walk)
+        course = self._begin(call, walk)
         if reply.get("hops") == 0:
-            walk.mark(self._follower(call), "answer")
+            walk.mark(course.follower, "answer")
             return
-        asked = not call.get("critical") and self._ask(call, reply, walk)
+        asked = not call.get("critical") and self._ask(course, reply, walk)
         if call.get("critical") or (asked and reply.get("hops", 2) > 2):
-            self._ask_master(call, reply, walk)
+            self._ask_master(course, reply, walk)
 
-    def _ask(self, call: Line, reply: Line, walk: Walk) -> bool:
-        """The leader of the region answers, of what it holds or from its store."""
-        region, shard = self.sessions[call["session"]][0], shard_of_call(call)
+    def _ask(self, course: Course, reply: Line, walk: Walk) -> bool:
+        return self._ask_region(course.follower, self._tier(course.call), course.shard, reply, walk)
+
+    def _ask_region(self, follower: str, tier: tuple[str, str], shard: int, reply: Line, walk: Walk) -> bool:
+        """The preferred leader of the region answers, of what it holds or from its store; or the store itself, where that leader may not be asked."""
+        leader, store = self.topology.preferred(tier[0], shard), self.topology.store(tier[0], shard)
+        asked = leader if self.topology.may_lead(tier, leader) else store
         is_last = reply.get("hops", 2) == 2
-        return self._ask_leader(self._follower(call), self.topology.leader(region, shard), self.topology.store(region, shard), reply, walk, is_last)
-
-    def _ask_leader(self, follower: str, leader: str, store: str, reply: Line, walk: Walk, is_last: bool) -> bool:
-        if not walk.hop(follower, leader):
+        if not walk.hop(follower, asked):
             return False
         calls = reply.get("store") or reply.get("no") == "keeper_fault"
-        if calls and is_last:
+        if calls and is_last and asked == leader:
             walk.way(leader, store, "call")
         if "no" not in reply and is_last:
             walk.mark(store if calls else leader, "answer")
-        return reply.get("no") != "keeper_fault" and walk.hop(leader, follower)
+        return reply.get("no") != "keeper_fault" and walk.hop(asked, follower)
 
-    def _ask_master(self, call: Line, reply: Line, walk: Walk) -> None:
-        follower, store = self._follower(call), self._master_store(shard_of_call(call))
-        if walk.hop(follower, store) and reply.get("no") != "keeper_fault":
+    def _ask_master(self, course: Course, reply: Line, walk: Walk) -> None:
+        store = self._master_store(course.shard)
+        if walk.hop(course.follower, store) and reply.get("no") != "keeper_fault":
             if "no" not in reply:
                 walk.mark(store, "answer")
-            walk.hop(store, follower)
+            walk.hop(store, course.follower)
 
     def _refill(self, request: Line, reply: Line, walk: Walk) -> None:
-        region = request["node"].split("/")[0]
-        leaders, stores = self.topology.leaders(region), self.topology.stores(region)
-        if len(leaders) == len(stores) == 1:
-            self._ask_leader(request["node"], leaders[0], stores[0], reply, walk, True)
+        region, tier = request["node"].split("/")[:2]
+        if len(self.topology.leaders(region)) == len(self.topology.stores(region)) == 1:
+            self._ask_region(request["node"], (region, tier), 0, reply, walk)
         else:
             walk.mark(request["node"], "seen")
 
     # writes
 
     def _write(self, call: Line, reply: Line, walk: Walk) -> None:
-        done = self._commit(call, reply, walk)
-        if done and done.job and self._merge(done.job, reply, walk):
-            self._end(done.job, reply, walk)
+        course = self._begin(call, walk)
+        done = self._commit(course, reply, walk)
+        if done and done.job and self._merge(course, done.job, reply, walk):
+            self._end(course, done.job, reply, walk)
         if "no" not in reply or reply["no"] == "link_fault" and walk.has_called():
-            walk.along(self._route(call)[::-1])
+            walk.along(course.route()[::-1])
 
-    def _commit(self, call: Line, reply: Line, walk: Walk) -> Committed | None:
+    def _commit(self, course: Course, reply: Line, walk: Walk) -> Committed | None:
         """The stage `commit`, in which a new entry's messages are sent."""
-        shard, route = shard_of_call(call), self._route(call)
-        self._enter(call, walk)
-        if not walk.along(route):
+        self._choose(course)
+        if not walk.along(course.route()):
             return None
-        walk.way(route[-1], self._master_store(shard), "call")
+        walk.way(course.leader, self._master_store(course.shard), "call")
         if "no" in reply and not reply.get("position"):
             return None
-        done = self.logs.commit(call)
+        done = self.logs.commit(course.call)
         if done and done.is_new:
-            self._tell(self.topology.told(self.topology.master(shard), shard), shard, done.position, walk)
+            self._tell(self._told(course.shard, course.leader), course.shard, done.position, walk)
         return done
 
-    def _merge(self, job: Job, reply: Line, walk: Walk) -> bool:
+    def _merge(self, course: Course, job: Job, reply: Line, walk: Walk) -> bool:
         """The stage `inverse`: whether the job was merged and the answer came back."""
         if job.far >= self.topology.shards:
             return False
-        leader, other = self._master_leader(job.shard), self._master_leader(job.far)
-        if not walk.hop(leader, other):
+        other = self.topology.leader(self._tier(course.call), self.topology.master(job.far), job.far)
+        if other is None or not walk.hop(course.leader, other):
             return False
         walk.way(other, self._master_store(job.far), "call")
         is_merged = reply.get("why") in (None, "link_fault")
         if is_merged:
-            self._merge_at(job, walk, self._told_of_merge(job))
-        return walk.hop(other, leader) and is_merged
+            self._merge_at(job, walk, self._told(job.far, other))
+        return walk.hop(other, course.leader) and is_merged
 
     def _merge_at(self, job: Job, walk: Walk, told: list[str]) -> None:
         position = self.logs.merge(job)
         if position:
             self._tell(told, job.far, position, walk)
 
-    def _told_of_merge(self, job: Job) -> list[str]:
-        return self.topology.told(self.topology.master(job.far), job.far) if job.far < self.topology.shards else []
-
-    def _end(self, job: Job, reply: Line, walk: Walk) -> None:
+    def _end(self, course: Course, job: Job, reply: Line, walk: Walk) -> None:
         """The stage `end`, at the job's own shard."""
-        walk.way(self._master_leader(job.shard), self._master_store(job.shard), "call")
+        walk.way(course.leader, self._master_store(job.shard), "call")
         if "why" not in reply:
             self.logs.end(job)
 
@@ -198,7 +216,7 @@ class Run:
         is_merged = not is_refused_by_store(job, reply)
         if is_merged:
             is_told = reply.get("ok") == "repair"
-            self._merge_at(job, walk, self._told_of_merge(job) + [self._master_leader(job.far)] if is_told else [])
+            self._merge_at(job, walk, self._told(job.far, end) if is_told else [])
         if not walk.hop(end, start) or not is_merged:
             return False
         self.logs.end(job)
@@ -213,7 +231,8 @@ class Run:
             return
         self.inboxes = {node: [] for node in self.inboxes}
         for node in self.topology.caches():
-            walk.mark(node, "settled")
+            if node not in self.topology.down:
+                walk.mark(node, "settled")
 
     # streams
 
@@ -231,7 +250,9 @@ class Run:
         if is_applied:
             self._taken[region, shard] += 1
             position = self._taken[region, shard]
-            walk.mark(self.topology.leader(region, shard), "delivered", str(position))
+            leader = self.topology.preferred(region, shard)
+            if leader not in self.topology.down:
+                walk.mark(leader, "delivered", str(position))
             self._tell(self.topology.told(region, shard), shard, position, walk)
         return True
 
@@ -268,17 +289,15 @@ class Run:
 
     def _hold(self, number: int, request: Line, reply: Line, walk: Walk) -> None:
         call = request["request"]
-        plan = Plan(call, reply.get("next", ""), self._ending(number, request["plan"]))
+        plan = Plan(self._begin(call, walk), reply.get("next", ""), self._ending(number, request["plan"]))
         if call["do"] in WRITES:
-            done = self._commit(call, reply, walk)
+            done = self._commit(plan.course, reply, walk)
             plan.job = done.job if done else None
-        else:
-            self._enter(call, walk)
         if plan.stage:
             self._plans[request["plan"]] = plan
             self._wait(plan, walk)
         elif reply.get("ok") in READS:
-            walk.mark(self._follower(call), "answer")
+            walk.mark(plan.course.follower, "answer")
 
     def _ending(self, number: int, plan: int) -> Line:
         """The last reply of a plan, where the run has one: it tells what its stages did."""
@@ -287,7 +306,8 @@ class Run:
 
     def _advance(self, request: Line, reply: Line, walk: Walk) -> None:
         plan = self._plans[request["plan"]]
-        self._step(plan, reply, walk)
+        if reply.get("no") != "node_down":
+            self._step(plan, reply, walk)
         if "next" in reply:
             plan.stage = reply["next"]
             self._wait(plan, walk)
@@ -297,24 +317,43 @@ class Run:
     def _step(self, plan: Plan, reply: Line, walk: Walk) -> None:
         known = reply if "no" in reply else plan.ending
         if plan.stage == "ask":
-            self._ask(plan.call, known, walk)
+            self._ask(plan.course, known, walk)
         elif plan.stage == "master":
-            self._ask_master(plan.call, known, walk)
+            self._ask_master(plan.course, known, walk)
         elif plan.stage == "keep":
-            walk.mark(self._follower(plan.call), "seen")
+            walk.mark(plan.course.follower, "seen")
         elif plan.stage == "inverse" and plan.job:
-            self._merge(plan.job, {} if reply.get("next") == "end" else known, walk)
+            self._merge(plan.course, plan.job, {} if reply.get("next") == "end" else known, walk)
         elif plan.stage == "end" and plan.job:
-            self._end(plan.job, known, walk)
+            self._end(plan.course, plan.job, known, walk)
         elif plan.stage == "relay":
-            walk.along(self._route(plan.call)[:0:-1])
+            walk.along(plan.course.route()[:0:-1])
         elif plan.stage == "apply":
-            walk.along(self._route(plan.call)[1::-1])
+            walk.along(plan.course.route()[1::-1])
 
     def _wait(self, plan: Plan, walk: Walk) -> None:
         """Marks where a held call waits."""
-        is_read = plan.call["do"] in READS
-        walk.mark(self._follower(plan.call) if is_read else self._route(plan.call)[-1], "held", plan.stage)
+        is_read = plan.course.call["do"] in READS
+        walk.mark(plan.course.follower if is_read else plan.course.leader, "held", plan.stage)
+
+    # the health of nodes
+
+    def _go_down(self, request: Line, reply: Line, walk: Walk) -> None:
+        if reply.get("changed"):
+            self.topology.down.add(request["node"])
+            self.inboxes[request["node"]] = []
+            walk.mark(request["node"], "down")
+
+    def _come_up(self, request: Line, reply: Line, walk: Walk) -> None:
+        if reply.get("changed"):
+            self.topology.down.discard(request["node"])
+            walk.mark(request["node"], "up")
+
+    def _suspect(self, request: Line, reply: Line, walk: Walk) -> None:
+        if reply.get("changed"):
+            change = self.topology.suspected.add if request["do"] == "suspect" else self.topology.suspected.discard
+            change((request["region"], request["tier"], request["node"]))
+            walk.mark(request["node"], "seen")
 
     # the rest
 
@@ -344,6 +383,7 @@ class Run:
         "audit": _audit,
         "cut": _switch,
         "deliver": _message,
+        "down": _go_down,
         "drop": _message,
         "evict": _see,
         "inbox": _see,
@@ -354,6 +394,9 @@ class Run:
         "settle": _settle,
         "show": _see,
         "stream": _stream,
+        "suspect": _suspect,
+        "trust": _suspect,
+        "up": _come_up,
     }
 
 
